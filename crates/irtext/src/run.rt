@@ -1,0 +1,136 @@
+//! What the program does with its words, its input and its outputs.
+ghost use Rattle.std.specs.Prelude.{◌≤◌, ◌≡◌};
+
+use crate::types::{Note, Pointer};
+use pliron_text::base::{Context, Operation};
+use pliron_text::ir::OperationText;
+use pliron_text::parsable::parse_from_str;
+use pliron_text::printable::Disp;
+use pliron_text::result::Error;
+use std::alloc::{AllocError, Global};
+use std::fmt;
+use std::io::{Read, Write};
+use thiserror::Error;
+
+/// Why the program could not do what its words ask.
+#[derive(Debug, Drop, Error)]
+pub enum Fault {
+    #[error("usage: irtext fmt|dbg")]
+    Usage,
+    #[error("cannot read standard input")]
+    Unreadable,
+    #[error("input is not UTF-8")]
+    NotUtf8,
+    #[error("Out of memory")]
+    Memory(#[from(alloc)] AllocError),
+    #[error("{0}")]
+    Refused(String),
+    #[error("cannot write")]
+    Unwritable,
+}
+
+impl Fault {
+    /// The status that the program ends with.
+    fn status(&self) -> u8
+        ensures { result ≤ 2 }
+    {
+        match self {
+            Fault::Usage => 2,
+            _ => 1,
+        }
+    }
+}
+
+/// All that the reader has left, as text.
+fn read_text(alloc: Global, input: &mut impl Read) -> Result<String, Fault> {
+    let mut bytes = Vec::new(alloc);
+    if let Err(e) = input.read_to_end(&mut bytes) {
+        return Err(if e.kind() == std::io::ErrorKind::OutOfMemory {
+            Fault::Memory(AllocError)
+        } else {
+            Fault::Unreadable
+        });
+    }
+    String::from_utf8(bytes).map_err(|_| Fault::NotUtf8)
+}
+
+/// The text of an error, or that memory was refused.
+fn refusal(alloc: Global, ctx: &Context<Pointer, Note>, error: &Error<Note>) -> Fault {
+    match format!(in alloc; "{}", error.disp(ctx)) {
+        Ok(text) => Fault::Refused(text),
+        Err(AllocError) => Fault::Memory(AllocError),
+    }
+}
+
+/// The text of the root that `text` spells.
+fn formatted(alloc: Global, text: &str) -> Result<String, Fault> {
+    let mut ctx = Context::new(alloc);
+    let root = match parse_from_str(|stream| Operation::top_level_parse(stream), &mut ctx, text) {
+        Ok(root) => root,
+        Err(error) => return Err(refusal(alloc, &ctx, &error)),
+    };
+    if !ctx.contains_operation(root) {
+        return Err(refusal(alloc, &ctx, &Error::from(fmt::Error)));
+    }
+    let mut printed = String::new(alloc);
+    match write!(printed, "{}", root.disp(&ctx)) {
+        Ok(()) => Ok(printed),
+        Err(_) => Err(refusal(alloc, &ctx, &Error::from(fmt::Error))),
+    }
+}
+
+/// Writes `text`, and a newline where it does not end in one.
+fn write_line(out: &mut impl Write, text: &str) -> std::io::Result<()> {
+    out.write_all(text.as_bytes())?;
+    if !text.ends_with('\n') {
+        out.write_all(b"\n")?;
+    }
+    out.flush()
+}
+
+/// The work of `run`, up to a fault.
+fn try_run(
+    alloc: Global,
+    args: &[&str],
+    input: &mut impl Read,
+    output: &mut impl Write,
+) -> Result<(), Fault> {
+    let [word] = args else {
+        return Err(Fault::Usage);
+    };
+    if *word != "fmt" {
+        return Err(Fault::Usage);
+    }
+    let text = read_text(alloc, input)?;
+    let printed = formatted(alloc, text.as_str())?;
+    write_line(output, printed.as_str()).map_err(|_| Fault::Unwritable)
+}
+
+/// Writes the fault's text, which takes no memory.
+fn tell(errors: &mut impl Write, fault: &Fault) -> std::io::Result<()> {
+    match fault {
+        Fault::Unwritable => Ok(()),
+        Fault::Refused(text) => write_line(errors, text.as_str()),
+        _ => writeln!(errors, "{fault}"),
+    }
+}
+
+/// Runs the program on its words, and answers its status.
+pub fn run(
+    alloc: Global,
+    args: &[&str],
+    input: &mut impl Read,
+    output: &mut impl Write,
+    errors: &mut impl Write,
+) -> u8
+    ensures { result ≤ 2 }
+{
+    let Err(fault) = try_run(alloc, args, input, output) else {
+        return 0;
+    };
+    let _ = tell(errors, &fault);
+    fault.status()
+}
+
+#[cfg(test)]
+mod tests;

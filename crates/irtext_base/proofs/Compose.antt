@@ -1,0 +1,167 @@
+-- One reader behind another, and a reader that is demanded.
+use Rattle.std.proofs.Common.{◌≡◌, Bool, true, false, Result, Ok, Err, [], ◌++◌, refl, ◌∙◌, ap, subst, append_assoc, append-nil, ◌⊎◌, inl, inr}
+use Rattle.irtext_base.specs.Text.{Text}
+use Rattle.irtext_base.specs.Stream.{StreamView, IsAt, behind, after_failure}
+use Rattle.irtext_base.specs.Faults.{Fault, Memory, fault_of}
+use Rattle.irtext_base.specs.Answers.{Outcome, Read, Missing, Bad, Takes, Stands, Starves, Commits, Demands, DemandsOf, Answers, Gives, Refuses, demanded, prefixed, mapped, followed, unless_failed}
+use Rattle.irtext_base.specs.declared.parsable.fault.ParseFault.{ParseFault}
+
+-- what follows characters taken is demanded already
+demanded-prefixed : {X : Type 0} (t : Text) (o : Outcome X) → demanded (prefixed t o) ≡ prefixed t o
+demanded-prefixed t (Read x taken rest) = refl
+demanded-prefixed t (Missing cause) = refl
+demanded-prefixed t (Bad cause upto) = refl
+
+module _ {S : Type 0} (view : S → StreamView) (at : S → StreamView → S) (view_at : (s : S) (v : StreamView) → view (at s v) ≡ v) (at_at : (s : S) (v w : StreamView) → at (at s v) w ≡ at s w) where
+  -- what a stream is behind the characters taken
+  pub seen_after : (old mid : S) (t r : Text) → Takes view at t r old mid → view mid ≡ behind (view old) t r
+  seen_after old mid t r k = ap view k.is ∙ view_at old (behind (view old) t r)
+
+  -- a stream that stands in what follows stands in the whole text
+  pub stands_after : (b : Bool) (old mid new : S) (t r : Text) → Takes view at t r old mid → Stands view at b mid new → Stands view at b old new
+  stands_after b old mid new t r k s =
+      let v : view mid ≡ behind (view old) t r = seen_after old mid t r k in
+      record {
+        seen = s.seen;
+        is = s.is ∙ (ap (λ z. at z s.seen) k.is ∙ at_at old (behind (view old) t r) s.seen);
+        fails = s.fails;
+        same = s.same ∙ (ap (λ w. w.passed ++ w.rest) v ∙ (append_assoc (view old).passed t r ∙ ap (λ z. (view old).passed ++ z) k.same));
+      }
+
+  -- characters taken behind others
+  pub takes_more : (old mid new : S) (t r u q : Text) → Takes view at t r old mid → Takes view at u q mid new → Takes view at (t ++ u) q old new
+  takes_more old mid new t r u q k l =
+      let v : view mid ≡ behind (view old) t r = seen_after old mid t r k in
+      let w : behind (view mid) u q ≡ behind (view old) (t ++ u) q = ap (λ z. behind z u q) v ∙ ap (λ (p : Text). let x : StreamView = record { passed = p; rest = q; failed = (view old).failed } in x) (append_assoc (view old).passed t u) in
+      record {
+        is = l.is ∙ (ap (λ z. at z (behind (view mid) u q)) k.is ∙ (at_at old (behind (view old) t r) (behind (view mid) u q) ∙ ap (at old) w));
+        same = append_assoc t u q ∙ (ap (λ z. t ++ z) (l.same ∙ ap (λ z. z.rest) v) ∙ k.same);
+      }
+
+  -- a stream that fails where it stands
+  pub stands_failed : (b : Bool) (old mid new : S) → Stands view at b old mid → new ≡ at mid (after_failure (view mid)) → Stands view at true old new
+  stands_failed b old mid new s n =
+      let v : view mid ≡ s.seen = ap view s.is ∙ view_at old s.seen in
+      record {
+        seen = after_failure s.seen;
+        is = n ∙ (ap (λ z. at z (after_failure (view mid))) s.is ∙ (at_at old s.seen (after_failure (view mid)) ∙ ap (λ z. at old (after_failure z)) v));
+        fails = refl;
+        same = s.same;
+      }
+
+  -- a stream behind characters taken stands in the text
+  pub takes_stands : (old mid : S) (t r : Text) → Takes view at t r old mid → Stands view at (view old).failed old mid
+  takes_stands old mid t r k = record { seen = behind (view old) t r; is = k.is; fails = refl; same = append_assoc (view old).passed t r ∙ ap (λ z. (view old).passed ++ z) k.same }
+
+  -- a reader whose value is seen in another way
+  pub gives_mapped : {X V : Type 0} (g : X → V) (b : Bool) (o : Outcome X) (old new : S) (x : X) (v : V) → v ≡ g x → Gives view at (unless_failed b o) old x new → Gives view at (unless_failed b (mapped g o)) old v new
+  gives_mapped g true o old new x v e h = absurd h
+  gives_mapped g false (Read y taken rest) old new x v e h = (e ∙ ap g h.0, h.1)
+  gives_mapped g false (Missing cause) old new x v e h = absurd h
+  gives_mapped g false (Bad cause upto) old new x v e h = absurd h
+
+  module _ {A : Type 0} where
+    -- memory refused to what follows is memory refused
+    pub starves_after : (old mid new : S) (t r : Text) (fault : ParseFault A) → Takes view at t r old mid → Starves view at mid fault new → Starves view at old fault new
+    starves_after old mid new t r fault k s = record { because = s.because; committed = s.committed; left = stands_after true old mid new t r k s.left }
+
+    -- a committed fault of what follows stands behind the characters taken
+    pub commits_after : (cause : Fault) (upto : Text) (old mid new : S) (t r : Text) (fault : ParseFault A) → Takes view at t r old mid → Commits view at cause upto mid fault new → Commits view at cause (t ++ upto) old fault new
+    commits_after cause upto old mid new t r fault k s =
+        let p : (view mid).passed ++ upto ≡ (view old).passed ++ (t ++ upto) = ap (λ v. v.passed ++ upto) (seen_after old mid t r k) ∙ append_assoc (view old).passed t upto in
+        record { because = s.because; committed = s.committed; place = subst (IsAt fault.pos.line fault.pos.column) p s.place; left = stands_after true old mid new t r k s.left }
+
+    -- a fault at the place before the characters taken, or memory refused
+    pub refuses_before : (cause : Fault) (old mid new : S) (t r : Text) (fault : ParseFault A) → Takes view at t r old mid → fault.committed ≡ true → IsAt fault.pos.line fault.pos.column (view old).passed → new ≡ at mid (after_failure (view mid)) → (fault_of fault.cause ≡ Memory) ⊎ (fault_of fault.cause ≡ cause) → Starves view at old fault new ⊎ Commits view at cause [] old fault new
+    refuses_before cause old mid new t r fault k c p n (inl e) = inl (record { because = e; committed = c; left = stands_failed (view old).failed old mid new (takes_stands old mid t r k) n })
+    refuses_before cause old mid new t r fault k c p n (inr e) = inr (record { because = e; committed = c; place = rw append-nil p; left = stands_failed (view old).failed old mid new (takes_stands old mid t r k) n })
+
+    -- a demanded reader behind the characters taken
+    pub answers_after : {X Y : Type 0} (see : Y → X) (o : Outcome X) (old mid new : S) (t r : Text) (a : Result Y (ParseFault A)) → Takes view at t r old mid → Answers view at see (demanded o) mid a new → Answers view at see (prefixed t o) old a new
+    answers_after see (Read x more rest) old mid new t r (Ok y) k h = (h.0, takes_more old mid new t r more rest k h.1)
+    answers_after see (Read x more rest) old mid new t r (Err fault) k (inl s) = inl (starves_after old mid new t r fault k s)
+    answers_after see (Read x more rest) old mid new t r (Err fault) k (inr e) = absurd e
+    answers_after see (Missing cause) old mid new t r (Ok y) k h = absurd h
+    answers_after see (Missing cause) old mid new t r (Err fault) k (inl s) = inl (starves_after old mid new t r fault k s)
+    answers_after see (Missing cause) old mid new t r (Err fault) k (inr e) = inr (subst (λ z. Commits view at cause z old fault new) (append-nil t) (commits_after cause [] old mid new t r fault k e))
+    answers_after see (Bad cause upto) old mid new t r (Ok y) k h = absurd h
+    answers_after see (Bad cause upto) old mid new t r (Err fault) k (inl s) = inl (starves_after old mid new t r fault k s)
+    answers_after see (Bad cause upto) old mid new t r (Err fault) k (inr e) = inr (commits_after cause upto old mid new t r fault k e)
+
+    -- where the first of two readers refuses, both do
+    pub refuses_first : {X Y V W : Type 0} (see : Y → X) (sees : W → V) (b : Bool) (o : Outcome X) (next : X → Text → Outcome V) (old new : S) (fault : ParseFault A) → Answers view at see (unless_failed b o) old (Err fault) new → Answers view at sees (unless_failed b (followed o next)) old (Err fault) new
+    refuses_first see sees true o next old new fault h = h
+    refuses_first see sees false (Read x taken rest) next old new fault (inl s) = inl s
+    refuses_first see sees false (Read x taken rest) next old new fault (inr e) = absurd e
+    refuses_first see sees false (Missing cause) next old new fault h = h
+    refuses_first see sees false (Bad cause upto) next old new fault h = h
+
+    follows : {X Y V W : Type 0} (see : Y → X) (sees : W → V) (b : Bool) (o : Outcome X) (next : X → Text → Outcome V) (old mid new : S) (y : Y) (a : Result W (ParseFault A)) → (view old).failed ≡ b → Answers view at {A = A} see (unless_failed b o) old (Ok y) mid → Answers view at sees (demanded (unless_failed (view mid).failed (next (see y) (view mid).rest))) mid a new → Answers view at sees (unless_failed b (followed o next)) old a new
+    follows see sees true o next old mid new y a e h k = absurd h
+    follows see sees false (Read x t r) next old mid new y a e h k =
+        let v : view mid ≡ behind (view old) t r = seen_after old mid t r h.1 in
+        let q : demanded (unless_failed (view mid).failed (next (see y) (view mid).rest)) ≡ demanded (next x r) = rw (h.0, v, e) refl in
+        answers_after sees (next x r) old mid new t r a h.1 (subst (λ z. Answers view at sees z mid a new) q k)
+    follows see sees false (Missing cause) next old mid new y a e h k = absurd h
+    follows see sees false (Bad cause upto) next old mid new y a e h k = absurd h
+
+    -- where the first of two readers reads, the second answers for both
+    pub answers_second : {X Y V W : Type 0} (see : Y → X) (sees : W → V) (o : Outcome X) (next : X → Text → Outcome V) (old mid new : S) (y : Y) (a : Result W (ParseFault A)) → Answers view at {A = A} see (unless_failed (view old).failed o) old (Ok y) mid → Answers view at sees (demanded (unless_failed (view mid).failed (next (see y) (view mid).rest))) mid a new → Answers view at sees (unless_failed (view old).failed (followed o next)) old a new
+    answers_second see sees o next old mid new y a h k = follows see sees (view old).failed o next old mid new y a refl h k
+
+    -- a fault is the same, however the value is seen
+    pub refuses_mapped : {X V : Type 0} (g : X → V) (b : Bool) (o : Outcome X) (old new : S) (fault : ParseFault A) → Starves view at old fault new ⊎ Refuses view at (unless_failed b o) old fault new → Starves view at old fault new ⊎ Refuses view at (unless_failed b (mapped g o)) old fault new
+    refuses_mapped g true o old new fault h = h
+    refuses_mapped g false (Read x taken rest) old new fault h = h
+    refuses_mapped g false (Missing cause) old new fault h = h
+    refuses_mapped g false (Bad cause upto) old new fault h = h
+
+    demanded_is_failed : {X : Type 0} (o : Outcome X) (old mid new : S) (fault last : ParseFault A) → Starves view at old fault mid ⊎ Refuses view at o old fault mid → Demands view at fault mid last new → Starves view at old last new ⊎ Refuses view at (demanded o) old last new
+    demanded_is_failed o old mid new fault last (inl s) d = inl (record { because = ap fault_of d.cause ∙ s.because; committed = d.committed; left = stands_failed true old mid new s.left d.left })
+    demanded_is_failed (Read x taken rest) old mid new fault last (inr e) d = absurd e
+    demanded_is_failed (Missing cause) old mid new fault last (inr p) d =
+        inr (record {
+          because = ap fault_of d.cause ∙ p.because;
+          committed = d.committed;
+          place = rw (d.place, append-nil) p.place;
+          left = record { seen = after_failure (view old); is = d.left ∙ ap (λ z. at z (after_failure (view z))) p.left; fails = refl; same = refl };
+        })
+    demanded_is_failed (Bad cause upto) old mid new fault last (inr e) d =
+        inr (record {
+          because = ap fault_of d.cause ∙ e.because;
+          committed = d.committed;
+          place = rw d.place e.place;
+          left = stands_failed true old mid new e.left d.left;
+        })
+
+    -- a demanded answer is what the reader, demanded, answers
+    pub answers_demanded : {X Y : Type 0} (see : Y → X) (o : Outcome X) (old mid new : S) (a r : Result Y (ParseFault A)) → Answers view at see o old a mid → DemandsOf view at a mid r new → Answers view at see (demanded o) old r new
+    answers_demanded see (Read x taken rest) old mid new (Ok y) r h d = rw (d.0, d.1) h
+    answers_demanded see (Missing cause) old mid new (Ok y) r h d = absurd h
+    answers_demanded see (Bad cause upto) old mid new (Ok y) r h d = absurd h
+    answers_demanded see o old mid new (Err fault) r h d = rw d.1 (demanded_is_failed o old mid new fault d.0 h d.2)
+
+    -- where the first of two readers, both demanded, refuses, both do
+    pub refuses_first_demanded : {X Y V W : Type 0} (see : Y → X) (sees : W → V) (b : Bool) (o : Outcome X) (next : X → Text → Outcome V) (old new : S) (fault : ParseFault A) → Answers view at see (demanded (unless_failed b o)) old (Err fault) new → Answers view at sees (demanded (unless_failed b (followed o next))) old (Err fault) new
+    refuses_first_demanded see sees true o next old new fault h = h
+    refuses_first_demanded see sees false (Read x taken rest) next old new fault (inl s) = inl s
+    refuses_first_demanded see sees false (Read x taken rest) next old new fault (inr e) = absurd e
+    refuses_first_demanded see sees false (Missing cause) next old new fault h = h
+    refuses_first_demanded see sees false (Bad cause upto) next old new fault h = h
+
+    follows_demanded : {X Y V W : Type 0} (see : Y → X) (sees : W → V) (b : Bool) (o : Outcome X) (next : X → Text → Outcome V) (old mid new : S) (y : Y) (a : Result W (ParseFault A)) → (view old).failed ≡ b → Answers view at {A = A} see (demanded (unless_failed b o)) old (Ok y) mid → Answers view at sees (demanded (unless_failed (view mid).failed (next (see y) (view mid).rest))) mid a new → Answers view at sees (demanded (unless_failed b (followed o next))) old a new
+    follows_demanded see sees true o next old mid new y a e h k = absurd h
+    follows_demanded see sees false (Read x t r) next old mid new y a e h k = rw (demanded-prefixed t (next x r)) (follows see sees false (Read x t r) next old mid new y a e h k)
+    follows_demanded see sees false (Missing cause) next old mid new y a e h k = absurd h
+    follows_demanded see sees false (Bad cause upto) next old mid new y a e h k = absurd h
+
+    -- where the first of two readers, both demanded, reads, the second answers for both
+    pub answers_second_demanded : {X Y V W : Type 0} (see : Y → X) (sees : W → V) (o : Outcome X) (next : X → Text → Outcome V) (old mid new : S) (y : Y) (a : Result W (ParseFault A)) → Answers view at {A = A} see (demanded (unless_failed (view old).failed o)) old (Ok y) mid → Answers view at sees (demanded (unless_failed (view mid).failed (next (see y) (view mid).rest))) mid a new → Answers view at sees (demanded (unless_failed (view old).failed (followed o next))) old a new
+    answers_second_demanded see sees o next old mid new y a h k = follows_demanded see sees (view old).failed o next old mid new y a refl h k
+
+    -- a demanded reader's fault is the same, however the value is seen
+    pub refuses_mapped_demanded : {X V : Type 0} (g : X → V) (b : Bool) (o : Outcome X) (old new : S) (fault : ParseFault A) → Starves view at old fault new ⊎ Refuses view at (demanded (unless_failed b o)) old fault new → Starves view at old fault new ⊎ Refuses view at (demanded (unless_failed b (mapped g o))) old fault new
+    refuses_mapped_demanded g true o old new fault h = h
+    refuses_mapped_demanded g false (Read x taken rest) old new fault h = h
+    refuses_mapped_demanded g false (Missing cause) old new fault h = h
+    refuses_mapped_demanded g false (Bad cause upto) old new fault h = h

@@ -1,0 +1,12 @@
+pub mod Along
+pub mod Bytes
+pub mod Compose
+pub mod Dictionaries
+pub mod Drops
+pub mod Spliced
+pub mod Pointers
+pub mod Arenas
+pub mod Characters
+pub mod Numbers
+pub mod Stores
+pub mod Contexts

@@ -1,0 +1,15 @@
+pub mod Text
+pub mod Reading
+pub mod Format
+pub mod Causes
+pub mod Faults
+pub mod Stream
+pub mod Places
+pub mod Answers
+pub mod Own
+pub mod Dictionary
+pub mod Entries
+pub mod Arena
+pub mod Lending
+pub mod Context
+pub mod Room

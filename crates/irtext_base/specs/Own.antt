@@ -1,0 +1,63 @@
+-- What a caller's types and attributes mean by their texts, and the law that reading and writing them keep.
+use Rattle.std.specs.Prelude.{◌≡◌, ℕ, true, false, ◌==◌, ◌⊎◌, ◌||◌, ◌++◌, Bool, Option, [], codes, length, ⊤}
+use Rattle.std.specs.Char.{is_whitespace}
+use Rattle.irtext_base.specs.Text.{Text, begins, after_space, begins_word}
+use Rattle.irtext_base.specs.Reading.{Reading, never, keyword}
+use Rattle.irtext_base.specs.Answers.{Outcome, Read, Missing, Bad}
+use Rattle.irtext_base.specs.Format.{Format, Id, has}
+
+-- what the grammar looks at of a reading: a value and the rest, or that no such thing begins here, or that the text is bad
+pub data Standing (X : Type 0) : Type 0 where
+  found : X → Text → Standing X
+  missing : Standing X
+  bad : Standing X
+
+-- a reader's outcome, as the grammar looks at it
+abbrev pub standing : {X : Type 0} → Outcome X → Standing X
+standing (Read x taken rest) = found x rest
+standing (Missing cause) = missing
+standing (Bad cause upto) = bad
+
+-- what a type means by its texts: what it reads at a text, and what it writes of a value
+pub record Texts (X : Type 0) : Type 0 where
+  pub outcome : Text → Standing X
+  pub written : X → Text
+
+-- the texts of a type whose readings are these
+abbrev pub texts_of : {X : Type 0} → (Text → Outcome X) → (X → Text) → Texts X
+texts_of reading written = record { outcome = λ text. standing (reading text); written = written }
+
+-- where nodes stand, what types and attributes mean by their texts, the format of each registered operation, and what is read where a region is left out
+pub record Language (P T A : Type 0) : Type 1 where
+  pub at : P → Text → Type 0
+  pub types : Texts T
+  pub owns : Texts A
+  pub format_of : Id → Option Format
+  pub left_out : Reading
+
+-- a language in which a place is the number of characters from it to the end of the text, and no region can be left out
+abbrev pub language : {T A : Type 0} → Texts T → Texts A → (Id → Option Format) → Language ℕ T A
+language types owns formats = record { at = λ place text. place ≡ length text; types = types; owns = owns; format_of = formats; left_out = never }
+
+-- the same language without places
+abbrev pub unplaced : {T A : Type 0} → Texts T → Texts A → (Id → Option Format) → Language ⊤ T A
+unplaced types owns formats = record { at = λ place text. ⊤; types = types; owns = owns; format_of = formats; left_out = never }
+
+-- a character that ends a type's or an attribute's text
+abbrev pub can_follow : ℕ → Bool
+can_follow c = is_whitespace c || has ◌==◌ c (codes ",;:)]}>")
+
+-- a type's or an attribute's text ends here: at the end, or before such a character
+abbrev pub Ends : Text → Type 0
+Ends text = (text ≡ []) ⊎ (begins can_follow text ≡ true)
+
+-- the law of reading and writing one kind of value
+pub record Lawful (X : Type 0) (texts : Texts X) : Type 0 where
+  pub starts : (x : X) (rest : Text) → begins begins_word (texts.written x ++ rest) ≡ true
+  pub misses : (text : Text) → begins begins_word text ≡ false → texts.outcome text ≡ missing
+  pub again : (x : X) (rest : Text) → Ends rest → (left : Text) × (texts.outcome (texts.written x ++ rest) ≡ found x left) × (after_space left ≡ after_space rest)
+
+-- no attribute's text begins with a word that is read before it
+pub record Unreserved (A : Type 0) (texts : Texts A) : Type 0 where
+  pub given_names : (a : A) (rest left : Text) → keyword (codes "builtin.given_names") (texts.written a ++ rest) left → ⊥
+  pub identifier : (a : A) (rest left : Text) → keyword (codes "builtin.identifier") (texts.written a ++ rest) left → ⊥

@@ -1,0 +1,306 @@
+//! Attributes, and the dictionaries that hold them under keys.
+ghost use Rattle.std.specs.Prelude.{◌≡◌, ◌≢◌, ◌<◌, [], false, Some, IfErr, OnOk, OnErr, IfSome, IsTrue, option_copied, length, slice_get, position};
+ghost use Rattle.std.specs.Map.{lookup, keys_of};
+ghost use Rattle.std.specs.Map.Iter.{deref_pair};
+ghost use Rattle.std.specs.Option.{option_map};
+ghost use Rattle.std.specs.Str.{bytes_eq};
+ghost use Rattle.std.specs.Iterator.{YieldsFirstBy, item_count};
+ghost use Rattle.indexmap.specs.IndexMap.{insert_entry, shift_remove_entry};
+ghost use Rattle.irtext_base.specs.Format.{given_names_key};
+ghost use Rattle.irtext_base.specs.Dictionary.{are_given_names, placed, moved_up, entries_of, is_reserved_for};
+ghost use Rattle.irtext_base.specs.Entries.{entries_left};
+ghost use Rattle.irtext_base.specs.declared.base.attributes.Refusal.TheVariants.{Memory, ReservedKey};
+
+use crate::base::Identifier;
+use indexmap::IndexMap;
+use std::alloc::Global;
+use std::marker::Model;
+
+/// Why a dictionary refuses an entry.
+#[derive(Clone, Copy, PartialEq, Eq, Debug)]
+pub enum Refusal {
+    /// The key `builtin_given_names` takes `AttrObj::GivenNames` alone.
+    ReservedKey,
+    /// Memory was refused.
+    Memory,
+}
+
+/// An attribute: names of results or arguments, an identifier, or one of the caller's own.
+#[derive(Drop)]
+pub enum AttrObj<A> {
+    GivenNames(Vec<Option<Identifier>>),
+    Ident(Identifier),
+    Own(A),
+}
+
+/// The given names, with their place among the other entries.
+#[derive(Drop)]
+pub(crate) struct Given<A> {
+    at: usize,
+    key: Identifier,
+    attr: AttrObj<A>,
+}
+
+type Others<A> = Option<Box<IndexMap<Identifier, AttrObj<A>>>>;
+
+/// Attributes under keys, in the order in which the keys came.
+#[derive(Drop)]
+pub struct AttributeDict<A> {
+    given: Option<Given<A>>,
+    others: Others<A>,
+    alloc: Global,
+}
+
+impl<A> Model for AttributeDict<A> {
+    ghost use Rattle.std.specs.Prelude.{List};
+    ghost use Rattle.irtext_base.specs.Text.{Text};
+    ghost use Rattle.irtext_base.specs.Dictionary.{whole, IsSound, entries_of};
+    ghost use Rattle.irtext_base.specs.declared.base.attributes.AttrObj.{AttrObj};
+
+    ghost Value = { List (Text × AttrObj A) };
+
+    ghost view = { λ d. whole d.given (entries_of d.others) };
+
+    ghost invariant = { λ d. IsSound d.given (entries_of d.others) };
+}
+
+fn is_reserved(key: &Identifier) -> bool
+    ensures { result ≡ bytes_eq given_names_key key.now }
+{
+    "builtin_given_names" == key.as_str()
+}
+
+fn given_attr<A>(given: &Option<Given<A>>) -> Option<&AttrObj<A>>
+    ensures { option_copied result ≡ option_map (λ g. g.attr) given.now }
+{
+    match given {
+        Some(given) => Some(&given.attr),
+        None => None,
+    }
+}
+
+fn put_given<A: Drop>(given: &mut Option<Given<A>>, at: usize, key: Identifier, attr: AttrObj<A>)
+    ensures { given.new ≡ Some (placed given.old at key attr) }
+{
+    match given {
+        Some(given) => given.attr = attr,
+        None => *given = Some(Given { at, key, attr }),
+    }
+}
+
+fn put<A: Drop>(
+    map: &mut IndexMap<Identifier, AttrObj<A>>,
+    key: Identifier,
+    attr: AttrObj<A>,
+) -> Result<(), Refusal>
+    ensures ok { OnOk result (map.new.entries ≡ insert_entry bytes_eq map.old.entries key attr) }
+    ensures err { OnErr result (map.new.entries ≡ map.old.entries) }
+    ensures memory { IfErr result (λ e. e ≡ Memory) }
+{
+    match map.insert(key, attr) {
+        Ok(_) => Ok(()),
+        Err(_) => Err(Refusal::Memory),
+    }
+}
+
+fn put_other<A: Drop>(
+    others: &mut Others<A>,
+    alloc: Global,
+    key: Identifier,
+    attr: AttrObj<A>,
+) -> Result<(), Refusal>
+    ensures ok { OnOk result (entries_of others.new ≡ insert_entry bytes_eq (entries_of others.old) key attr) }
+    ensures err { OnErr result (entries_of others.new ≡ entries_of others.old) }
+    ensures memory { IfErr result (λ e. e ≡ Memory) }
+{
+    if let Some(map) = others {
+        return put(map, key, attr);
+    }
+    let mut map = IndexMap::new(alloc);
+    put(&mut map, key, attr)?;
+    match Box::new(alloc, map) {
+        Ok(map) => {
+            *others = Some(map);
+            Ok(())
+        }
+        Err(_) => Err(Refusal::Memory),
+    }
+}
+
+fn get_other<'a, A: Drop>(others: &'a Others<A>, key: &Identifier) -> Option<&'a AttrObj<A>>
+    ensures { option_copied result ≡ lookup (bytes_eq key.now) (entries_of others.now) }
+{
+    match others {
+        Some(map) => map.get(key),
+        None => None,
+    }
+}
+
+fn len_other<A: Drop>(others: &Others<A>) -> usize
+    ensures len { result ≡ length (entries_of others.now) }
+    ensures small { result < 9223372036854775808 }
+{
+    match others {
+        Some(map) => map.len(),
+        None => 0,
+    }
+}
+
+fn other_at<A: Drop>(others: &Others<A>, i: usize) -> Option<(&Identifier, &AttrObj<A>)>
+    ensures { option_map deref_pair result ≡ slice_get (entries_of others.now) i }
+{
+    match others {
+        Some(map) => map.get_index(i),
+        None => None,
+    }
+}
+
+fn take_other<A: Drop>(others: &mut Others<A>, key: &Identifier) -> Option<(usize, AttrObj<A>)>
+    ensures entries { entries_of others.new ≡ shift_remove_entry (bytes_eq key.now) (entries_of others.old) }
+    ensures value { option_map (λ p. p.1) result ≡ lookup (bytes_eq key.now) (entries_of others.old) }
+    ensures index { IfSome result (λ p. position (bytes_eq key.now) (keys_of (entries_of others.old)) ≡ Some p.0) }
+{
+    match others {
+        Some(map) => {
+            let (index, _, attr) = map.shift_remove_full(key)?;
+            Some((index, attr))
+        }
+        None => None,
+    }
+}
+
+fn take_given<A: Drop>(given: &mut Option<Given<A>>) -> Option<AttrObj<A>>
+    ensures value { result ≡ option_map (λ g. g.attr) given.old }
+    ensures taken { given.new ≡ None }
+{
+    match given.take() {
+        Some(given) => Some(given.attr),
+        None => None,
+    }
+}
+
+#[tactic(auto, using(crate::proofs::Dictionaries::closed_up_before, crate::proofs::Dictionaries::closed_up_after))]
+fn move_up<A>(given: &mut Option<Given<A>>, gone: usize)
+    ensures { given.new ≡ moved_up given.old gone }
+{
+    if let Some(given) = given {
+        if gone < given.at {
+            given.at -= 1;
+        }
+    }
+}
+
+impl<A: Drop> AttributeDict<A> {
+    /// An empty dictionary. It takes no memory yet.
+    pub fn new(alloc: Global) -> Self
+        ensures { result ≡ [] }
+    {
+        AttributeDict {
+            given: None,
+            others: None,
+            alloc,
+        }
+    }
+
+    /// The attribute under a key.
+    pub fn get(&self, key: &Identifier) -> Option<&AttrObj<A>>
+        ensures { option_copied result ≡ lookup (bytes_eq key.now) self.now }
+    {
+        if is_reserved(key) {
+            return given_attr(&self.given);
+        }
+        get_other(&self.others, key)
+    }
+
+    /// Puts an attribute under a key, in place of the one that is there, or else last. A refusal changes nothing: by
+    /// `ReservedKey` where the key is `builtin_given_names` and the attribute isn't `GivenNames`, else for memory.
+    pub fn insert(&mut self, key: Identifier, attr: AttrObj<A>) -> Result<(), Refusal>
+        ensures entries { OnOk result (self.new ≡ insert_entry bytes_eq self.old key attr) }
+        ensures allowed { OnOk result (is_reserved_for key attr ≡ false) }
+        ensures err { OnErr result (self.new ≡ self.old) }
+        ensures reserved { IfErr result (λ e. e ≡ ReservedKey → IsTrue (is_reserved_for key attr)) }
+        ensures memory { IfErr result (λ e. e ≡ Memory → is_reserved_for key attr ≡ false) }
+    {
+        if !is_reserved(&key) {
+            return put_other(&mut self.others, self.alloc, key, attr);
+        }
+        if let AttrObj::Own(_) | AttrObj::Ident(_) = &attr {
+            return Err(Refusal::ReservedKey);
+        }
+        let at = len_other(&self.others);
+        put_given(&mut self.given, at, key, attr);
+        Ok(())
+    }
+
+    /// Takes the attribute under a key out. The entries behind it close up.
+    pub fn remove(&mut self, key: &Identifier) -> Option<AttrObj<A>>
+        ensures value { result ≡ lookup (bytes_eq key.now) self.old }
+        ensures entries { self.new ≡ shift_remove_entry (bytes_eq key.now) self.old }
+    {
+        if is_reserved(key) {
+            return take_given(&mut self.given);
+        }
+        let (index, attr) = take_other(&mut self.others, key)?;
+        move_up(&mut self.given, index);
+        Some(attr)
+    }
+
+    /// The entry at an index, from 0, in the order in which the keys came.
+    pub fn get_index(&self, index: usize) -> Option<(&Identifier, &AttrObj<A>)>
+        ensures { option_map deref_pair result ≡ slice_get self.now index }
+    {
+        let Some(given) = &self.given else {
+            return other_at(&self.others, index);
+        };
+        if index < given.at {
+            return other_at(&self.others, index);
+        }
+        if index == given.at {
+            return Some((&given.key, &given.attr));
+        }
+        other_at(&self.others, index - 1)
+    }
+
+    /// How many entries there are.
+    #[tactic(auto, using(crate::proofs::Spliced::length_spliced))]
+    pub fn len(&self) -> usize
+        ensures { result ≡ length self.now }
+    {
+        match &self.given {
+            Some(_) => len_other(&self.others) + 1,
+            None => len_other(&self.others),
+        }
+    }
+
+    /// The entries, in the order in which the keys came.
+    pub fn iter(&self) -> Iter<'_, A>
+        ensures { entries_left result ≡ self.now }
+    {
+        Iter { dict: self, at: 0 }
+    }
+}
+
+/// The entries of a dictionary, in the order in which the keys came.
+#[derive(Drop)]
+pub struct Iter<'a, A> {
+    pub(crate) dict: &'a AttributeDict<A>,
+    pub(crate) at: usize,
+}
+
+impl<'a, A: Drop> Iterator for Iter<'a, A> {
+    type Item = (&'a Identifier, &'a AttrObj<A>);
+
+    ghost next_gives = { YieldsFirstBy deref_pair entries_left };
+
+    ghost remaining = { item_count entries_left };
+
+    #[tactic(auto, using(crate::proofs::Drops::none_left, crate::proofs::Drops::one_left))]
+    fn next(&mut self) -> Option<(&'a Identifier, &'a AttrObj<A>)> {
+        if self.at >= self.dict.len() {
+            return None;
+        }
+        let pair = self.dict.get_index(self.at)?;
+        self.at += 1;
+        Some(pair)
+    }
+}

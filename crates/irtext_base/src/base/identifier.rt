@@ -1,0 +1,228 @@
+//! Identifiers, and the ids of operations.
+ghost use Rattle.std.specs.Prelude.{◌≡◌, ◌⊎◌, ℕ, false, IfOk, IfErr, IsTrue, nat_eq, refl, Some, OnOk, OnErr};
+ghost use Rattle.std.specs.Ordering.{nat_cmp};
+ghost use Rattle.std.specs.List.{list_all};
+ghost use Rattle.std.specs.Cmp.{on_equiv, on_total, on_po, on_per, partial_equiv_from_equiv};
+ghost use Rattle.std.specs.Cmp.Lexicographic.{pointwise, slice_cmp, bytes_decides, nat_list_eq_equiv, nat_list_cmp_total, texts_po, texts_ties};
+ghost use Rattle.std.specs.Cmp.Rules.{hashing};
+ghost use Rattle.std.specs.Hash as fed;
+ghost use Rattle.std.specs.Str.{bytes_eq};
+ghost use Rattle.std.proofs.Common.{rules, ap};
+ghost use Rattle.irtext_base.specs.Faults.{fault_of, Memory, IsUnexpected};
+ghost use Rattle.irtext_base.specs.Text.{begins_word, in_word, is_identifier};
+
+use crate::location::Location;
+use crate::result::{Cause, Error, ErrorKind, Expected};
+use indexmap::Equivalent;
+use std::alloc::{AllocError, Global};
+use std::cmp::Ordering;
+use std::fmt;
+use std::hash::{Hash, Hasher};
+use std::marker::Model;
+use std::rc::RcStr;
+
+/// A name: a letter or `_`, then letters, digits and `_`, all ASCII. A clone takes no memory.
+#[derive(Drop)]
+pub struct Identifier {
+    text: RcStr,
+}
+
+impl Model for Identifier {
+    ghost use Rattle.std.specs.Prelude.{ℕ, List, IsTrue};
+    ghost use Rattle.std.specs.Coded.{coded_list, coded_ℕ};
+    ghost use Rattle.std.specs.Rc.{rc_str_bytes};
+    ghost use Rattle.irtext_base.specs.Text.{is_identifier};
+
+    ghost Value = { List ℕ };
+
+    ghost coded = { coded_list coded_ℕ };
+
+    ghost view = { λ i. rc_str_bytes i.text };
+
+    ghost invariant = { λ i. IsTrue (is_identifier (rc_str_bytes i.text)) };
+}
+
+fn begins_word(b: u8) -> bool
+    ensures { result ≡ begins_word b }
+{
+    b.is_ascii_alphabetic() || b == b'_'
+}
+
+fn in_word(b: u8) -> bool
+    ensures { result ≡ in_word b }
+{
+    b.is_ascii_alphanumeric() || b == b'_'
+}
+
+fn all_in_word(bytes: &[u8]) -> bool
+    ensures { result ≡ list_all in_word bytes.now }
+{
+    bytes.iter().all(|b| in_word(*b))
+}
+
+/// Whether a text is the text of an identifier.
+pub fn is_identifier(text: &str) -> bool
+    ensures { result ≡ is_identifier text.now }
+{
+    match text.as_bytes().split_first() {
+        Some((first, rest)) => begins_word(*first) && all_in_word(rest),
+        None => false,
+    }
+}
+
+/// The first character of a text that an identifier can't have where it stands.
+fn stranger(text: &str) -> Option<char> {
+    let first = text.chars().next()?;
+    if !first.is_ascii_alphabetic() && first != '_' {
+        return Some(first);
+    }
+    text.chars()
+        .find(|c| !c.is_ascii_alphanumeric() && *c != '_')
+}
+
+/// An error of kind invalid argument without a location.
+fn invalid<A>(cause: Cause<A>) -> Error<A>
+    ensures kind { result.kind ≡ ErrorKind.InvalidArgument }
+    ensures cause { result.err ≡ cause }
+{
+    Error {
+        kind: ErrorKind::InvalidArgument,
+        err: cause,
+        loc: Location::Unknown,
+    }
+}
+
+impl Identifier {
+    /// The identifier of a text. Where the text isn't one it answers `Unexpected`, with the first character that an identifier
+    /// can't have there, or the end; where memory was refused, `Memory`. The error is of kind invalid argument.
+    pub fn try_new<A>(alloc: Global, text: &str) -> crate::result::Result<Identifier, A>
+        ensures ok { IfOk result (λ i. i ≡ text.now) }
+        ensures fits { IfOk result (λ _. IsTrue (is_identifier text.now)) }
+        ensures refused { IfErr result (λ e. (fault_of e.err ≡ Memory) ⊎ ((is_identifier text.now ≡ false) × IsUnexpected (fault_of e.err))) }
+        ensures kind { IfErr result (λ e. e.kind ≡ ErrorKind.InvalidArgument) }
+    {
+        if !is_identifier(text) {
+            return Err(invalid(Cause::Unexpected {
+                found: stranger(text),
+                expected: Expected::Identifier,
+            }));
+        }
+        match Identifier::from_word(alloc, text) {
+            Ok(name) => Ok(name),
+            Err(_) => Err(invalid(Cause::Memory)),
+        }
+    }
+
+    /// The identifier of a text that is one. Only memory can be refused.
+    pub fn from_word(alloc: Global, text: &str) -> Result<Identifier, AllocError>
+        requires { IsTrue (is_identifier text.now) }
+        ensures { IfOk result (λ i. i ≡ text.now) }
+    {
+        let text = RcStr::from_str(alloc, text)?;
+        Ok(Identifier { text })
+    }
+
+    /// The text of the identifier.
+    pub fn as_str(&self) -> &str
+        ensures text { result.now ≡ self.now }
+        ensures fits { IsTrue (is_identifier self.now) }
+    {
+        self.text.as_str()
+    }
+}
+
+impl fmt::Display for Identifier {
+    ghost output = { λ name. Some name };
+
+    fn fmt<W: fmt::Write>(&self, f: &mut fmt::Formatter<W>) -> fmt::Result {
+        f.write_str(self.as_str())
+    }
+}
+
+impl Clone for Identifier {
+    ghost is_clone = { λ i copy. copy ≡ i };
+
+    fn clone(&self) -> Result<Identifier, AllocError> {
+        let text = self.text.clone()?;
+        Ok(Identifier { text })
+    }
+}
+
+impl PartialEq for Identifier {
+    ghost eq = { λ x y. pointwise nat_eq x y };
+
+    ghost laws = { on_per (λ s. s) (partial_equiv_from_equiv nat_list_eq_equiv) };
+
+    fn eq(&self, other: &Self) -> bool {
+        self.as_str() == other.as_str()
+    }
+}
+
+impl Eq for Identifier {
+    ghost laws = { on_equiv (λ s. s) nat_list_eq_equiv };
+}
+
+impl PartialOrd for Identifier {
+    ghost partial_cmp = { λ x y. Some (slice_cmp nat_cmp x y) };
+
+    ghost laws = { on_po (λ s. s) texts_po };
+
+    fn partial_cmp(&self, other: &Self) -> Option<Ordering> {
+        Some(self.cmp(other))
+    }
+}
+
+impl Ord for Identifier {
+    ghost cmp = { λ x y. slice_cmp nat_cmp x y };
+
+    ghost total = { on_total (λ s. s) nat_list_cmp_total };
+
+    ghost matches_partial_cmp = { λ x y. refl };
+
+    ghost matches_eq = { λ x y. texts_ties x y };
+
+    fn cmp(&self, other: &Self) -> Ordering {
+        self.as_str().cmp(other.as_str())
+    }
+}
+
+impl Hash for Identifier {
+    ghost hash_input = { λ s. fed.str s };
+
+    ghost respects_eq = { Prim.search (hashing, rules) };
+
+    fn hash<H: Hasher>(&self, state: &mut H) {
+        self.as_str().hash(state);
+    }
+}
+
+impl Equivalent<Identifier> for &str {
+    ghost equivalent = { λ q k. bytes_eq q.now k };
+
+    ghost respects_hash = { λ q k h. ap fed.str ((bytes_decides q.now k).0 h) };
+
+    ghost respects_eq = { λ q x y. nat_list_eq_equiv.congr q.now x y };
+
+    fn equivalent(&self, key: &Identifier) -> bool {
+        *self == key.as_str()
+    }
+}
+
+/// The name of an operation: its dialect, and its name there.
+#[derive(PartialEq, Eq, Hash, Drop)]
+pub struct OpId {
+    pub dialect: Identifier,
+    pub name: Identifier,
+}
+
+impl fmt::Display for OpId {
+    ghost use Rattle.irtext_base.specs.Causes.{id_text};
+
+    ghost output = { λ id. Some (id_text id) };
+
+    fn fmt<W: fmt::Write>(&self, f: &mut fmt::Formatter<W>) -> fmt::Result {
+        let dialect = &self.dialect;
+        let name = &self.name;
+        write!(f, "{dialect}.{name}")
+    }
+}

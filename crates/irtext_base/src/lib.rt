@@ -1,0 +1,8 @@
+//! The lowest crate of the text layer: causes of refusals, locations, the stream of a text, and the objects of a context.
+#![tactic(auto)]
+
+pub mod base;
+pub mod location;
+pub mod parsable;
+pub mod result;
+pub mod text;

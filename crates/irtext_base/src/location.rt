@@ -1,0 +1,57 @@
+//! Where operations, blocks and errors come from.
+
+use crate::base::AttrObj;
+use crate::parsable::SourcePosition;
+
+/// The key of a path that a context keeps.
+#[derive(Clone, Copy, PartialEq, Eq, Hash, Debug)]
+pub struct PathKey {
+    index: u32,
+}
+
+/// What a text was read from.
+#[derive(Clone, Copy, PartialEq, Eq, Hash, Debug)]
+pub enum Source {
+    /// The file of this path.
+    File(PathKey),
+    /// A text in memory.
+    InMemory,
+}
+
+/// Where something comes from.
+#[derive(Drop)]
+#[cycle(location)]
+pub enum Location<A> {
+    /// A place of a source.
+    SrcPos {
+        src: Source,
+        pos: SourcePosition,
+    },
+    /// Several locations as one, with an attribute that says more of them.
+    Fused {
+        metadata: Box<Option<AttrObj<A>>>,
+        locations: Box<Vec<Location<A>>>,
+    },
+    /// A name for what stands at another location.
+    Named {
+        name: Box<String>,
+        child_loc: Box<Location<A>>,
+    },
+    /// A place in a function, and the place that called it.
+    CallSite {
+        callee: Box<Location<A>>,
+        caller: Box<Location<A>>,
+    },
+    /// Not known.
+    Unknown,
+}
+
+impl<A> Location<A> {
+    /// Whether the location is not known.
+    pub fn is_unknown(&self) -> bool {
+        match self {
+            Location::Unknown => true,
+            _ => false,
+        }
+    }
+}

@@ -1,0 +1,195 @@
+//! Why a call was refused: kinds, causes and errors, with their texts.
+ghost use Rattle.std.specs.Prelude.{◌≡◌, Some};
+ghost use Rattle.irtext_base.specs.Causes.{kind_text, expected_text, found_text, cause_text, error_text};
+ghost use Rattle.irtext_base.specs.declared.result.Cause.{Memory, Fmt};
+ghost use Rattle.irtext_base.specs.declared.result.ErrorKind.TheVariants.{InvalidArgument};
+ghost use Rattle.irtext_base.specs.declared.location.Location.{Unknown};
+
+use crate::base::{Identifier, OpId};
+use crate::location::Location;
+use crate::parsable::SourcePosition;
+use std::alloc::{AllocError, AllocFailed};
+use std::fmt;
+use std::fmt::Display;
+
+/// What sort of mistake an error reports.
+#[derive(Clone, Copy, Debug, PartialEq, Eq)]
+pub enum ErrorKind {
+    InvalidInput,
+    VerificationFailed,
+    InvalidArgument,
+}
+
+/// What must stand where something else stands.
+#[derive(Clone, Copy, Debug, Drop)]
+pub enum Expected {
+    /// This fixed text.
+    Text(&'static str),
+    Identifier,
+    Digit,
+    Operation,
+    Location,
+    Type,
+    Attribute,
+}
+
+/// Why a call was refused.
+#[derive(Drop)]
+#[cycle(cause)]
+pub enum Cause<A> {
+    /// Memory was refused, or a counter is full.
+    Memory,
+    /// An earlier call left the stream failed.
+    StreamFailed,
+    /// A character, or the end, stands where something else must.
+    Unexpected {
+        found: Option<char>,
+        expected: Expected,
+    },
+    /// The number with this text doesn't fit its type.
+    NumberRange(String),
+    /// No dialect has this name.
+    UnregisteredDialect(Identifier),
+    /// The dialect has no operation of this name.
+    UnregisteredOp(OpId),
+    /// A second mark with this index.
+    DuplicateIndex(usize),
+    /// An entry for an index that no mark has, or that has an entry.
+    UnknownIndex(usize),
+    /// A type or an attribute refuses its text, for this reason.
+    OwnText(String),
+    /// A printing was refused.
+    Fmt,
+    /// An inner error.
+    Nested(Box<Error<A>>),
+    /// A refused reading, and where.
+    Parse {
+        at: SourcePosition,
+        cause: Box<Cause<A>>,
+    },
+}
+
+/// A refusal with its kind, and the location that it speaks of.
+#[derive(Drop)]
+#[cycle(cause)]
+pub struct Error<A> {
+    pub kind: ErrorKind,
+    pub err: Cause<A>,
+    pub loc: Location<A>,
+}
+
+/// What a call answers that can be refused.
+pub type Result<X, A> = std::result::Result<X, Error<A>>;
+
+impl Display for ErrorKind {
+    ghost output = { λ kind. Some (kind_text kind) };
+
+    fn fmt<W: fmt::Write>(&self, f: &mut fmt::Formatter<W>) -> fmt::Result {
+        match self {
+            ErrorKind::InvalidInput => write!(f, "invalid input program"),
+            ErrorKind::VerificationFailed => write!(f, "verification failed"),
+            ErrorKind::InvalidArgument => write!(f, "invalid argument"),
+        }
+    }
+}
+
+impl Display for Expected {
+    ghost output = { λ expected. Some (expected_text expected) };
+
+    fn fmt<W: fmt::Write>(&self, f: &mut fmt::Formatter<W>) -> fmt::Result {
+        match self {
+            Expected::Text(text) => write!(f, "`{text}`"),
+            Expected::Identifier => write!(f, "identifier"),
+            Expected::Digit => write!(f, "digit"),
+            Expected::Operation => write!(f, "operation"),
+            Expected::Location => write!(f, "location"),
+            Expected::Type => write!(f, "type"),
+            Expected::Attribute => write!(f, "attribute"),
+        }
+    }
+}
+
+/// What a fault found: a character, or the end.
+#[derive(Clone, Copy)]
+struct Found(Option<char>);
+
+impl Display for Found {
+    ghost output = { λ found. Some (found_text found.0) };
+
+    fn fmt<W: fmt::Write>(&self, f: &mut fmt::Formatter<W>) -> fmt::Result {
+        match self.0 {
+            Some(c) => write!(f, "`{c}`"),
+            None => write!(f, "end of input"),
+        }
+    }
+}
+
+impl<A> Display for Cause<A> {
+    ghost output = { λ cause. Some (cause_text cause) };
+
+    #[cycle(cause)]
+    fn fmt<W: fmt::Write>(&self, f: &mut fmt::Formatter<W>) -> fmt::Result {
+        match self {
+            Cause::Memory => write!(f, "Out of memory"),
+            Cause::StreamFailed => write!(f, "The stream has failed"),
+            Cause::Unexpected { found, expected } => {
+                let found = Found(*found);
+                write!(f, "Unexpected {found}, expected {expected}")
+            }
+            Cause::NumberRange(text) => write!(f, "Number out of range: {text}"),
+            Cause::UnregisteredDialect(name) => write!(f, "Unregistered dialect {name}"),
+            Cause::UnregisteredOp(id) => write!(f, "Unregistered Op {id}"),
+            Cause::DuplicateIndex(index) => write!(f, "Duplicate outline index: {index}"),
+            Cause::UnknownIndex(index) => {
+                write!(f, "No operation or block found for outline index: {index}")
+            }
+            Cause::OwnText(text) => write!(f, "{text}"),
+            Cause::Fmt => write!(f, "an error occurred when formatting an argument"),
+            Cause::Nested(error) => (**error).fmt(f),
+            Cause::Parse { at, cause } => {
+                write!(f, "Parse error at {at}\n")?;
+                (**cause).fmt(f)?;
+                write!(f, "\n")
+            }
+        }
+    }
+}
+
+impl<A> Display for Error<A> {
+    ghost output = { λ error. Some (error_text error) };
+
+    #[cycle(cause)]
+    fn fmt<W: fmt::Write>(&self, f: &mut fmt::Formatter<W>) -> fmt::Result {
+        let kind = self.kind;
+        write!(f, "Compilation error: {kind}.\n")?;
+        self.err.fmt(f)
+    }
+}
+
+impl<A> From<AllocError> for Cause<A> {
+    ghost from_gives = { λ _ cause. cause ≡ Memory };
+
+    fn from(_: AllocError) -> Cause<A> {
+        Cause::Memory
+    }
+}
+
+impl<A> From<fmt::Error> for Error<A> {
+    ghost from_gives = { λ _ error. error ≡ record { kind = InvalidArgument; err = Fmt; loc = Unknown } };
+
+    fn from(_: fmt::Error) -> Error<A> {
+        Error {
+            kind: ErrorKind::InvalidArgument,
+            err: Cause::Fmt,
+            loc: Location::Unknown,
+        }
+    }
+}
+
+impl<X: Drop, A> From<AllocFailed<X>> for Cause<A> {
+    ghost from_gives = { λ _ cause. cause ≡ Memory };
+
+    fn from(_: AllocFailed<X>) -> Cause<A> {
+        Cause::Memory
+    }
+}

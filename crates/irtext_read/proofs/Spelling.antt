@@ -1,0 +1,104 @@
+-- How far a reader of a fixed text has come.
+use Rattle.std.proofs.Common.{◌≡◌, ℕ, Bool, true, false, Err, [], ◌∷◌, ◌++◌, refl, sym, ◌∙◌, ap, subst, append_assoc, append-nil, inr, ◌⊎◌, arith}
+use Rattle.irtext_base.specs.Text.{Text, begins}
+use Rattle.irtext_base.specs.Reading.{the}
+use Rattle.irtext_base.specs.Stream.{StreamView, first_of, advanced, advanced_by, behind}
+use Rattle.irtext_base.specs.Faults.{Unexpected, Word}
+use Rattle.irtext_base.specs.Answers.{Outcome, Read, Missing, Bad, Takes, Passes, Starves, Demands, Answers, Gives, Refuses, demanded, prefixed}
+use Rattle.irtext_base.specs.declared.parsable.fault.ParseFault.{ParseFault}
+use Rattle.irtext_base.proofs.Compose.{answers_after, answers_demanded, seen_after, takes_more}
+use Rattle.std.proofs.lemmas.Bool.Decides.{nat_tests}
+use Rattle.irtext_read.specs.Tokens.{spelled_at, text_at}
+
+-- what is left of the word decides, from before the characters taken
+abbrev pub begun_by : {X : Type 0} → Bool → Text → Outcome X → Outcome X
+begun_by false taken o = o
+begun_by true taken o = prefixed taken o
+
+-- two fronts of an outcome are one
+pub prefixed-prefixed : {X : Type 0} (t u : Text) (o : Outcome X) → prefixed t (prefixed u o) ≡ prefixed (t ++ u) o
+prefixed-prefixed t u (Read x more rest) = ap (λ z. Read x z rest) (sym (append_assoc t u more))
+prefixed-prefixed t u (Missing cause) = refl
+prefixed-prefixed t u (Bad cause upto) = ap (Bad cause) (sym (append_assoc t u upto))
+
+-- where the next character of the word doesn't come, it is what the word misses
+spelled-misses : (whole word text : Text) (c : ℕ) → begins (the c) text ≡ false → spelled_at whole (c ∷ word) text ≡ Missing (Unexpected (first_of text) (Word whole))
+spelled-misses whole word [] c e = refl
+spelled-misses whole word (d ∷ text) c e = rw e refl
+
+-- where it comes, the rest of the word follows
+spelled-more : (whole word text : Text) (c : ℕ) → the c c ≡ true → spelled_at whole (c ∷ word) (c ∷ text) ≡ prefixed (c ∷ []) (spelled_at whole word text)
+spelled-more whole word text c e = rw e refl
+
+-- the next character is this one
+pub begins_the : (c : ℕ) (text : Text) → begins (the c) text ≡ true → (rest : Text) × (text ≡ c ∷ rest)
+begins_the c [] e = absurd (cc)
+begins_the c (d ∷ text) e = let q : d ≡ c = grind (arith, nat_tests) in (text, ap (λ z. z ∷ text) q)
+
+the-same : (c : ℕ) → the c c ≡ true
+the-same c = grind (arith, nat_tests)
+
+module _ {S : Type 0} (view : S → StreamView) (at : S → StreamView → S) where
+  -- the characters taken are the word's up to what is left of it
+  pub record Spelling (word : Text) (old now : S) (begun : Bool) (taken left : Text) : Type 0 where
+    pub takes : Takes view at taken (view now).rest old now
+    pub untaken : begun ≡ false → taken ≡ []
+    pub so_far : text_at word (view old).rest ≡ begun_by begun taken (spelled_at word left (view now).rest)
+
+  module _ (view_at : (s : S) (v : StreamView) → view (at s v) ≡ v) (at_view : (s : S) → at s (view s) ≡ s) (at_at : (s : S) (v w : StreamView) → at (at s v) w ≡ at s w) where
+    -- no character is taken yet
+    pub takes_none : (s : S) → Takes view at [] (view s).rest s s
+    takes_none s = record { is = sym (at_view s) ∙ ap (λ (p : Text). at s (let v : StreamView = record { passed = p; rest = (view s).rest; failed = (view s).failed } in v)) (sym (append-nil (view s).passed)); same = refl }
+
+    -- where none is taken, the stream is as it was
+    pub takes_none_is : (old now : S) (rest : Text) → Takes view at [] rest old now → now ≡ old
+    takes_none_is old now rest k =
+        k.is ∙ (ap (λ (p : Text). at old (let v : StreamView = record { passed = p; rest = rest; failed = (view old).failed } in v)) (append-nil (view old).passed)
+        ∙ (ap (λ (r : Text). at old (let v : StreamView = record { passed = (view old).passed; rest = r; failed = (view old).failed } in v)) k.same ∙ at_view old))
+
+    -- the next character is taken
+    pub takes_next : (now next : S) (c : ℕ) (rest : Text) → (view now).rest ≡ c ∷ rest → next ≡ at now (advanced (view now)) → Takes view at (c ∷ []) rest now next
+    takes_next now next c rest e n =
+        record { is = n ∙ ap (λ z. at now (advanced_by (view now).passed z (view now).failed)) e; same = sym e }
+
+    pub spelling_start : (word : Text) (old : S) → Spelling word old old false [] word
+    spelling_start word old = record { takes = takes_none old; untaken = λ e. refl; so_far = refl }
+
+    begun_more : {X : Type 0} (begun : Bool) (taken : Text) (c : ℕ) (o : Outcome X) → (begun ≡ false → taken ≡ []) → begun_by begun taken (prefixed (c ∷ []) o) ≡ prefixed (taken ++ (c ∷ [])) o
+    begun_more true taken c o u = prefixed-prefixed taken (c ∷ []) o
+    begun_more false taken c o u = ap (λ z. prefixed (z ++ (c ∷ [])) o) (sym (u refl))
+
+    pub spelling_more : (word : Text) (old now next : S) (begun : Bool) (taken left : Text) (c : ℕ) → Spelling word old now begun taken (c ∷ left) → begins (the c) (view now).rest ≡ true → next ≡ at now (advanced (view now)) → Spelling word old next true (taken ++ (c ∷ [])) left
+    spelling_more word old now next begun taken left c s e n =
+        let f = begins_the c (view now).rest e in
+        let k = takes_next now next c f.0 f.1 n in
+        let v : view next ≡ behind (view now) (c ∷ []) f.0 = seen_after view at view_at at_at now next (c ∷ []) f.0 k in
+        let r : (view next).rest ≡ f.0 = ap (λ z. z.rest) v in
+        let t = takes_more view at view_at at_at old now next taken (view now).rest (c ∷ []) f.0 s.takes k in
+        let more : spelled_at word (c ∷ left) (view now).rest ≡ prefixed (c ∷ []) (spelled_at word left f.0) = ap (spelled_at word (c ∷ left)) f.1 ∙ spelled-more word left f.0 c (the-same c) in
+        record {
+          takes = rw r t;
+          untaken = λ e. absurd (cc);
+          so_far = s.so_far ∙ (ap (begun_by begun taken) more ∙ (begun_more begun taken c (spelled_at word left f.0) s.untaken ∙ ap (λ z. prefixed (taken ++ (c ∷ [])) (spelled_at word left z)) (sym r)));
+        }
+
+    -- all of the word was read
+    pub spelling_all : (word : Text) (old now : S) (begun : Bool) (taken : Text) → Spelling word old now begun taken [] → Gives view at (text_at word (view old).rest) old tt now
+    spelling_all word old now true taken s = rw s.so_far (refl, rw (append-nil taken) s.takes)
+    spelling_all word old now false taken s = rw s.so_far (refl, rw (sym (s.untaken refl)) s.takes)
+
+    module _ {A : Type 0} where
+      -- the first character of the word doesn't come
+      pub spelling_misses : (word : Text) (old now : S) (taken left : Text) (c : ℕ) (fault : ParseFault A) → Spelling word old now false taken (c ∷ left) → begins (the c) (view now).rest ≡ false → Passes view at (Unexpected (first_of (view now).rest) (Word word)) now fault now → Refuses view at (text_at word (view old).rest) old fault now
+      spelling_misses word old now taken left c fault s e p =
+          let q : text_at word (view old).rest ≡ Missing (Unexpected (first_of (view now).rest) (Word word)) = s.so_far ∙ spelled-misses word left (view now).rest c e in
+          let n : now ≡ old = takes_none_is old now (view now).rest (subst (λ z. Takes view at z (view now).rest old now) (s.untaken refl) s.takes) in
+          rw q (subst (λ z. Passes view at (Unexpected (first_of (view now).rest) (Word word)) z fault now) n p)
+
+      -- a later character of the word doesn't come
+      pub spelling_differs : (word : Text) (old now new : S) (taken left : Text) (c : ℕ) (fault last : ParseFault A) → Spelling word old now true taken (c ∷ left) → begins (the c) (view now).rest ≡ false → Passes view at (Unexpected (first_of (view now).rest) (Word word)) now fault now → Demands view at fault now last new → Starves view at old last new ⊎ Refuses view at (text_at word (view old).rest) old last new
+      spelling_differs word old now new taken left c fault last s e p d =
+          let o : Outcome Unit = Missing (Unexpected (first_of (view now).rest) (Word word)) in
+          let q : text_at word (view old).rest ≡ prefixed taken o = s.so_far ∙ ap (prefixed taken) (spelled-misses word left (view now).rest c e) in
+          let a : Answers view at (λ u. u) (demanded o) now (Err last) new = answers_demanded view at view_at at_at (λ u. u) o now now new (Err fault) (Err last) (inr p) (last, refl, d) in
+          rw q (answers_after view at view_at at_at (λ u. u) o old now new taken (view now).rest (Err last) s.takes a)

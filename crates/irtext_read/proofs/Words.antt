@@ -1,0 +1,55 @@
+-- Fronts of ASCII characters: their bytes, and the identifiers among them.
+use Rattle.std.proofs.Common.{◌≡◌, ℕ, ◌<◌, Bool, true, false, List, cond, [], ◌∷◌, ◌++◌, refl, sym, ap, arith}
+use Rattle.std.proofs.lemmas.Bool.Decides.{nat_tests}
+use Rattle.std.proofs.lemmas.Str.{encode_ascii}
+use Rattle.std.specs.Str.{encode_utf8_all}
+use Rattle.std.specs.Char.{is_ascii_digit}
+use Rattle.std.specs.List.{list_all}
+use Rattle.irtext_base.specs.Text.{Text, begins, front, begins_word, in_word, is_identifier}
+use Rattle.irtext_base.specs.Stream.{StreamView}
+use Rattle.irtext_base.specs.Places.{StandsBehind}
+use Rattle.irtext_base.specs.Answers.{Takes}
+use Rattle.irtext_base.specs.declared.parsable.position.Place.{Place}
+use Rattle.irtext_base.proofs.Compose.{seen_after}
+
+in_word_ascii : (c : ℕ) → in_word c ≡ true → c < 128
+in_word_ascii c e = grind (arith, nat_tests)
+
+is_ascii_digit_ascii : (c : ℕ) → is_ascii_digit c ≡ true → c < 128
+is_ascii_digit_ascii c e = grind (arith, nat_tests)
+
+begins_word_in_word : (c : ℕ) → begins_word c ≡ true → in_word c ≡ true
+begins_word_in_word c e = grind (arith, nat_tests)
+
+-- the bytes of a front whose characters are ASCII
+pub encodes-front : (p : ℕ → Bool) → ((c : ℕ) → p c ≡ true → c < 128) → (text : Text) → encode_utf8_all (front p text) ≡ front p text
+encodes-front p h [] = refl
+encodes-front p h (c ∷ text) =
+    elim (p c) as (λ b. p c ≡ b → encode_utf8_all (cond b (c ∷ front p text) []) ≡ cond b (c ∷ front p text) []) [
+      | true ↦ (λ e. rw (encode_ascii c (h c e)) (ap (λ z. c ∷ z) (encodes-front p h text)))
+      | false ↦ (λ e. refl)
+    ] refl
+
+pub encodes-front_word : (text : Text) → encode_utf8_all (front in_word text) ≡ front in_word text
+encodes-front_word = encodes-front in_word in_word_ascii
+
+pub encodes-front_digits : (text : Text) → encode_utf8_all (front is_ascii_digit text) ≡ front is_ascii_digit text
+encodes-front_digits = encodes-front is_ascii_digit is_ascii_digit_ascii
+
+-- all of a front passes
+list_all-front : (p : ℕ → Bool) (text : Text) → list_all p (front p text) ≡ true
+list_all-front p [] = refl
+list_all-front p (c ∷ text) =
+    elim (p c) as (λ b. p c ≡ b → list_all p (cond b (c ∷ front p text) []) ≡ true) [
+      | true ↦ (λ e. rw e (list_all-front p text))
+      | false ↦ (λ e. refl)
+    ] refl
+
+-- the word at the beginning of a text is an identifier
+pub is_identifier-front : (text : Text) → begins begins_word text ≡ true → is_identifier (front in_word text) ≡ true
+is_identifier-front [] e = absurd (cc)
+is_identifier-front (c ∷ text) e = rw (begins_word_in_word c e) (rw e (list_all-front in_word text))
+
+-- the text since a place is what was taken there
+pub taken_since : {S : Type 0} (view : S → StreamView) (at : S → StreamView → S) → ((s : S) (v : StreamView) → view (at s v) ≡ v) → ((s : S) (v w : StreamView) → at (at s v) w ≡ at s w) → (old mid : S) (place : Place) (bytes : List ℕ) (t r : Text) → Takes view at t r old mid → StandsBehind place (view old).passed → ((passed taken : Text) → passed ++ taken ≡ (view mid).passed → StandsBehind place passed → bytes ≡ encode_utf8_all taken) → bytes ≡ encode_utf8_all t
+taken_since view at view_at at_at old mid place bytes t r k p h = h (view old).passed t (sym (ap (λ s. s.passed) (seen_after view at view_at at_at old mid t r k))) p

@@ -1,0 +1,33 @@
+use Rattle.std.proofs.Common.{◌≡◌, None, true, false, sym, ◌∙◌}
+use Rattle.std.specs.Char.{is_ascii_digit}
+use Rattle.irtext_base.specs.Text.{begins, front}
+use Rattle.irtext_read.specs.Tokens.{sign_of, value_of, integer_of}
+use Rattle.irtext_read.proofs.Numbers.{Digits, taken_by, passed_signed, integer_refused}
+use Rattle.irtext_read.proofs.irfmt.parsers.number.i32_parse.Goals as goal
+
+pub out_of_range-requires : goal.out_of_range-requires
+out_of_range-requires g c =
+    let view = g.S.CharStream.view in
+    let m = g.met.S.CharStream in
+    let old = c.args.stream.now in
+    let mid = c.take_sign-sign.new.stream in
+    let new = c.take_digits-number.new.stream in
+    ((view old).passed, taken_by view g.S.CharStream.at m.view_at m.at_at old mid, passed_signed view g.S.CharStream.at m.view_at m.at_at old mid new (record { sign = c.take_sign-sign.ensures.takes; digits = c.take_digits-number.ensures.takes }), c.position-place.ensures)
+
+pub returns-in-None : goal.returns-in-None
+returns-in-None g c =
+    let view = g.S.CharStream.view in
+    let at = g.S.CharStream.at in
+    let m = g.met.S.CharStream in
+    let old = c.args.stream.now in
+    let mid = c.take_sign-sign.new.stream in
+    let new = c.take_digits-number.new.stream in
+    let text = (view old).rest in
+    let f : (view old).failed ≡ false = sym c.has_failed.ensures ∙ c.if-has_failed.false in
+    let d : Digits view at m.view_at m.at_at old mid new = record { sign = c.take_sign-sign.ensures.takes; digits = c.take_digits-number.ensures.takes } in
+    let b : begins is_ascii_digit (view mid).rest ≡ true = sym c.begins.ensures ∙ c.if-not-begins.false in
+    let why : integer_of (sign_of text) (value_of (front is_ascii_digit (view mid).rest)) ≡ None = rw c.take_digits-number.ensures.value at (sym (c.in-None.ensures text c.take_sign-sign.ensures.sign)) in
+    let r = c.out_of_range.ensures in
+    rw f (integer_refused view at m.view_at m.at_at old mid new c.out_of_range.new.stream c.out_of_range.result d b why
+    (r.cause (view old).passed (taken_by view at m.view_at m.at_at old mid) (passed_signed view at m.view_at m.at_at old mid new d) c.position-place.ensures)
+    r.committed (r.at (view old).passed c.position-place.ensures) r.left)

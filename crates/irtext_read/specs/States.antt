@@ -1,0 +1,30 @@
+-- What a reading carries beside its text.
+use Rattle.std.specs.Prelude.{◌≡◌, ℕ, ◌==◌, Bool, true, false, List, [], ◌∷◌, ◌++◌, None}
+use Rattle.std.specs.Map.{lookup}
+use Rattle.irtext_base.specs.Text.{Text}
+use Rattle.irtext_base.specs.Stream.{IsAt}
+use Rattle.irtext_base.specs.declared.base.arena.Ptr.{Ptr}
+use Rattle.irtext_base.specs.declared.base.operation.Operation.{Operation}
+use Rattle.irtext_base.specs.declared.location.Location.{Location, SrcPos}
+use Rattle.irtext_base.specs.declared.location.Source.{Source}
+use Rattle.irtext_base.specs.declared.parsable.position.SourcePosition.{SourcePosition}
+use Rattle.irtext_read.specs.declared.parsable.state.State.{State}
+
+-- whether two indices are one
+abbrev pub same_index : ℕ → ℕ → Bool
+same_index i j = i == j
+
+-- the marks that a state keeps, in the order in which they were seen
+abbrev pub marks_of : {T A U : Type 0} → State T A U → List (ℕ × Ptr Operation)
+marks_of s = s.marks.entries
+
+-- a mark was noted last, unless its index is noted already
+abbrev pub Marks : ℕ → Ptr Operation → Bool → List (ℕ × Ptr Operation) → List (ℕ × Ptr Operation) → Type 0
+Marks index op true old new = (lookup (same_index index) old ≡ None) × (new ≡ old ++ (index, op) ∷ [])
+Marks index op false old new = (lookup (same_index index) old ≡ None → ⊥) × (new ≡ old)
+
+-- the place behind a text, in a source
+pub record LocatesAt {A : Type 0} (src : Source) (passed : Text) (location : Location A) : Type 0 where
+  pub at : SourcePosition
+  pub is : location ≡ SrcPos src at
+  pub stands : IsAt at.line at.column passed

@@ -1,0 +1,4 @@
+//! How the parts of a text are read.
+
+pub mod faults;
+pub mod parsers;

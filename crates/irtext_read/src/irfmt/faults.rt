@@ -1,0 +1,99 @@
+//! Faults of readers, and tests of the next character.
+ghost use Rattle.std.specs.Prelude.{◌≡◌, ℕ, List, [], true};
+ghost use Rattle.irtext_base.specs.Text.{begins};
+ghost use Rattle.irtext_base.specs.Reading.{the};
+ghost use Rattle.irtext_base.specs.Stream.{IsAt, first_of, after_failure};
+ghost use Rattle.irtext_base.specs.Places.{StandsBehind};
+ghost use Rattle.irtext_base.specs.Faults.{fault_of, demand_of, Unexpected};
+ghost use Rattle.irtext_base.specs.Answers.{Commits, Passes, Demands, DemandsOf};
+ghost use Rattle.irtext_read.specs.Tokens.{has};
+
+use crate::irfmt::parsers::Class;
+use irtext_base::parsable::{CharStream, ParseFault, ParseResult, Place};
+use irtext_base::result::{Cause, Expected};
+
+/// Whether this character comes next.
+pub fn next_is<S: CharStream>(stream: &S, c: char) -> bool
+    ensures { result ≡ begins (the c) (S.view stream.now).rest }
+{
+    stream.peek() == Some(c)
+}
+
+/// Whether a character of the class comes next.
+pub fn begins<S: CharStream>(stream: &S, class: Class) -> bool
+    ensures { result ≡ begins (has class) (S.view stream.now).rest }
+{
+    match stream.peek() {
+        Some(c) => class.has(c),
+        None => false,
+    }
+}
+
+/// A committed fault of this cause where the stream stands, which leaves the stream failed.
+pub fn refuse<S: CharStream, A>(stream: &mut S, cause: Cause<A>) -> ParseFault<A>
+    ensures { Commits S.view S.at (fault_of cause) [] stream.old result stream.new }
+{
+    let place = stream.position();
+    stream.fail();
+    ParseFault {
+        pos: place.position(),
+        cause,
+        committed: true,
+    }
+}
+
+/// A committed fault of this cause at an earlier place, which leaves the stream failed where it stands.
+pub fn refuse_at<S: CharStream, A>(stream: &mut S, place: Place, cause: Cause<A>) -> ParseFault<A>
+    ensures cause { result.cause ≡ cause }
+    ensures committed { result.committed ≡ true }
+    ensures at { (passed : List ℕ) → StandsBehind place passed → IsAt result.pos.line result.pos.column passed }
+    ensures left { stream.new ≡ S.at stream.old (after_failure (S.view stream.old)) }
+{
+    stream.fail();
+    ParseFault {
+        pos: place.position(),
+        cause,
+        committed: true,
+    }
+}
+
+/// An uncommitted fault of this cause where the stream stands.
+pub fn pass<S: CharStream, A>(stream: &S, cause: Cause<A>) -> ParseFault<A>
+    ensures { Passes S.view S.at (fault_of cause) stream.now result stream.now }
+{
+    ParseFault {
+        pos: stream.position().position(),
+        cause,
+        committed: false,
+    }
+}
+
+/// An uncommitted fault at the next character, or at the end, where this is expected.
+pub fn unexpected<S: CharStream, A>(stream: &S, expected: Expected) -> ParseFault<A>
+    ensures { Passes S.view S.at (Unexpected (first_of (S.view stream.now).rest) (demand_of expected)) stream.now result stream.now }
+{
+    let found = stream.peek();
+    pass(stream, Cause::Unexpected { found, expected })
+}
+
+/// The same fault, committed, which leaves the stream failed.
+pub fn demanded<S: CharStream, A>(stream: &mut S, fault: ParseFault<A>) -> ParseFault<A>
+    ensures { Demands S.view S.at fault stream.old result stream.new }
+{
+    stream.fail();
+    ParseFault {
+        pos: fault.pos,
+        cause: fault.cause,
+        committed: true,
+    }
+}
+
+/// The same answer, its fault committed. A fault leaves the stream failed.
+pub fn demand<S: CharStream, X, A>(stream: &mut S, answer: ParseResult<X, A>) -> ParseResult<X, A>
+    ensures { DemandsOf S.view S.at answer stream.old result stream.new }
+{
+    match answer {
+        Ok(value) => Ok(value),
+        Err(fault) => Err(demanded(stream, fault)),
+    }
+}

@@ -1,0 +1,13 @@
+//! Readers of tokens. Each takes the stream first and answers what stands there, or a fault with its cause and place.
+
+pub mod class;
+pub mod fixed_text;
+pub mod identifier;
+pub mod number;
+pub mod operation_id;
+
+pub use class::{Class, skip_class, skip_white_space};
+pub use fixed_text::text_parse;
+pub use identifier::identifier_parse;
+pub use number::{i32_parse, usize_parse};
+pub use operation_id::id_parse;

@@ -1,0 +1,5 @@
+//! Readers over a stream: the tokens of the format, the state of a reading, and what composite readers are made of.
+#![tactic(auto)]
+
+pub mod irfmt;
+pub mod parsable;

@@ -1,0 +1,193 @@
+//! What a reading carries beside its text: the context, the source, the caller's data, and the marks that it has seen.
+ghost use Rattle.std.specs.Prelude.{◌≡◌, ℕ, List, [], ◌++◌, ◌∷◌, Bool, true, Some, None, refl, IfOk, OnErr, IsTrue, ◌↔◌, length, MatchResult, option_copied, IsNone, take};
+ghost use Rattle.std.specs.Str.{encode_utf8_all};
+ghost use Rattle.std.specs.Map.{lookup};
+ghost use Rattle.irtext_base.specs.Stream.{StreamView, IsAt, first_of, advanced, after_failure};
+ghost use Rattle.irtext_base.specs.Places.{StandsBehind, IsPlaceOf};
+ghost use Rattle.irtext_read.specs.States.{marks_of, same_index, LocatesAt, Marks};
+
+use indexmap::IndexMap;
+use irtext_base::base::{Context, Operation, Ptr};
+use irtext_base::location::{Location, Source};
+use irtext_base::parsable::{CharStream, Place, TextStream};
+use irtext_base::text::{AttrText, IrText};
+use std::alloc::{AllocError, Global};
+
+/// What a reading carries beside its text.
+#[derive(Drop)]
+pub struct State<'c, T, A, U> {
+    /// Where objects are made.
+    pub ctx: &'c mut Context<T, A>,
+    /// What the text was read from.
+    pub src: Source,
+    /// The caller's own.
+    pub aux_data: U,
+    // the operations that carry a mark for which no section was read yet
+    marks: IndexMap<usize, Ptr<Operation>>,
+}
+
+impl<'c, T: IrText<A>, A: AttrText, U> State<'c, T, A, U> {
+    /// A fresh state: no mark is kept.
+    pub fn new(ctx: &'c mut Context<T, A>, src: Source, aux_data: U) -> State<'c, T, A, U>
+        ensures lent { result.ctx.ghost_name ≡ ctx.entry.ghost_name }
+        ensures now { result.ctx.now ≡ ctx.old }
+        ensures src { result.src ≡ src }
+        ensures aux_data { result.aux_data ≡ aux_data }
+        ensures fresh { marks_of result ≡ [] }
+    {
+        let marks = IndexMap::new(ctx.allocator());
+        State {
+            ctx,
+            src,
+            aux_data,
+            marks,
+        }
+    }
+
+    /// Notes the mark of an operation; false, and nothing is noted, where the index is noted already.
+    pub fn mark(&mut self, index: usize, op: Ptr<Operation>) -> Result<bool, AllocError>
+        ensures lent { self.new.ctx.ghost_name ≡ self.old.ctx.ghost_name }
+        ensures ctx { self.new.ctx.now ≡ self.old.ctx.now }
+        ensures src { self.new.src ≡ self.old.src }
+        ensures aux_data { self.new.aux_data ≡ self.old.aux_data }
+        ensures marks { IfOk result (λ noted. Marks index op noted (marks_of self.old) (marks_of self.new)) }
+        ensures err { OnErr result (marks_of self.new ≡ marks_of self.old) }
+    {
+        if self.marks.contains_key(&index) {
+            return Ok(false);
+        }
+        match self.marks.insert(index, op) {
+            Ok(_) => Ok(true),
+            Err(_) => Err(AllocError),
+        }
+    }
+
+    /// The operation that carries a mark of this index, where one is noted.
+    pub fn marked(&self, index: usize) -> Option<Ptr<Operation>>
+        ensures { result ≡ lookup (same_index index) (marks_of self.now) }
+    {
+        self.marks.get(&index).copied()
+    }
+
+    /// Whether a mark is noted.
+    pub fn has_marks(&self) -> bool
+        ensures { IsTrue result ↔ (marks_of self.now ≡ [] → ⊥) }
+    {
+        !self.marks.is_empty()
+    }
+
+    /// How many marks are noted.
+    pub fn num_marks(&self) -> usize
+        ensures { result ≡ length (marks_of self.now) }
+    {
+        self.marks.len()
+    }
+
+    /// Forgets all marks but the first ones.
+    pub fn truncate_marks(&mut self, len: usize)
+        ensures lent { self.new.ctx.ghost_name ≡ self.old.ctx.ghost_name }
+        ensures ctx { self.new.ctx.now ≡ self.old.ctx.now }
+        ensures src { self.new.src ≡ self.old.src }
+        ensures aux_data { self.new.aux_data ≡ self.old.aux_data }
+        ensures marks { marks_of self.new ≡ take len (marks_of self.old) }
+    {
+        self.marks.truncate(len);
+    }
+}
+
+/// A text, and the state of its reading.
+#[derive(Drop)]
+pub struct StateStream<'c, T, A, U> {
+    pub stream: TextStream,
+    pub state: State<'c, T, A, U>,
+}
+
+impl<'c, T: IrText<A>, A: AttrText, U> StateStream<'c, T, A, U> {
+    /// A text with the state of its reading.
+    pub(crate) fn new(stream: TextStream, state: State<'c, T, A, U>) -> StateStream<'c, T, A, U>
+        ensures lent { result.state.ctx.ghost_name ≡ state.entry.ctx.ghost_name }
+        ensures now { result.state.ctx.now ≡ state.entry.ctx.now }
+        ensures stream { result.stream ≡ stream }
+        ensures state { result.state ≡ state.entry }
+    {
+        StateStream { stream, state }
+    }
+
+    /// The context, when the reading is over.
+    pub fn into_ctx(self) -> &'c mut Context<T, A>
+    where
+        U: Drop,
+        ensures lent { result.ghost_name ≡ self.entry.state.ctx.ghost_name }
+        ensures now { result.now ≡ self.entry.state.ctx.now }
+    {
+        let StateStream { stream: _, state } = self;
+        let State {
+            ctx,
+            src: _,
+            aux_data: _,
+            marks: _,
+        } = state;
+        ctx
+    }
+}
+
+impl<'c, T: IrText<A>, A: AttrText, U> CharStream for StateStream<'c, T, A, U> {
+    ghost view = { λ s. s.stream };
+
+    ghost at = { λ s v. record s { stream = v } };
+
+    ghost view_at = { λ s v. refl };
+
+    ghost at_view = { λ s. refl };
+
+    ghost at_at = { λ s v w. refl };
+
+    fn peek(&self) -> Option<char> {
+        self.stream.peek()
+    }
+
+    fn take(&mut self) -> Option<char> {
+        self.stream.take()
+    }
+
+    fn position(&self) -> Place {
+        self.stream.position()
+    }
+
+    fn reset(&mut self, place: Place) {
+        self.stream.reset(place)
+    }
+
+    fn fail(&mut self) {
+        self.stream.fail()
+    }
+
+    fn has_failed(&self) -> bool {
+        self.stream.has_failed()
+    }
+
+    fn text_since(&self, place: Place) -> &str {
+        self.stream.text_since(place)
+    }
+
+    fn allocator(&self) -> Global {
+        self.stream.allocator()
+    }
+}
+
+/// Where a stream stands, as a location.
+pub trait StreamLocation<A> {
+    /// The place of the next character, in the source that is read.
+    fn loc(&self) -> Location<A>;
+}
+
+impl<'c, T: IrText<A>, A: AttrText, U> StreamLocation<A> for StateStream<'c, T, A, U> {
+    fn loc(&self) -> Location<A>
+        ensures { LocatesAt self.now.state.src self.now.stream.passed result }
+    {
+        Location::SrcPos {
+            src: self.state.src,
+            pos: self.stream.position().position(),
+        }
+    }
+}

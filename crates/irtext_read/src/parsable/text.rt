@@ -1,0 +1,137 @@
+//! Reading from a text or from characters.
+ghost use Rattle.std.specs.Prelude.{◌≡◌, ◌⊎◌, ℕ, List, IfOk};
+ghost use Rattle.std.specs.Iterator.{Drains, IsFinite};
+ghost use Rattle.std.specs.Str.{encode_utf8_all};
+ghost use Rattle.irtext_read.specs.FromText.{at_beginning, IsErrorOf, IsStarved, Passes, Runs, Ran};
+
+use crate::parsable::{State, StateStream};
+use irtext_base::base::Context;
+use irtext_base::location::{Location, Source};
+use irtext_base::parsable::{ParseFault, ParseResult, TextStream};
+use irtext_base::result::{Cause, Error, ErrorKind, Result};
+use irtext_base::text::{AttrText, IrText};
+use std::alloc::{AllocError, Global};
+
+/// The error of a refused reading from memory.
+fn error_of<A: Drop>(alloc: Global, fault: ParseFault<A>) -> Error<A>
+    ensures { IsErrorOf fault result }
+{
+    let ParseFault {
+        pos,
+        cause,
+        committed: _,
+    } = fault;
+    let err = match Box::new(alloc, cause) {
+        Ok(cause) => Cause::Parse { at: pos, cause },
+        Err(_) => Cause::Memory,
+    };
+    Error {
+        kind: ErrorKind::InvalidInput,
+        err,
+        loc: Location::SrcPos {
+            src: Source::InMemory,
+            pos,
+        },
+    }
+}
+
+/// What a reader answers on a text in memory.
+fn run_on<T, A, R, F: FnOnce(&mut StateStream<'_, T, A, ()>) -> R>(
+    stream: TextStream,
+    ctx: &mut Context<T, A>,
+    parse: F,
+) -> R
+where
+    T: IrText<A>,
+    A: AttrText,
+    requires callable { (s : _) → F.pre parse s }
+    requires lent { (s : _) (answer : R) (t : _) → F.post parse s answer t → t.now.state.ctx.ghost_name ≡ s.now.state.ctx.ghost_name }
+    ensures { Runs (F.post parse) stream ctx.old result ctx.new }
+{
+    let state = State::new(ctx, Source::InMemory, ());
+    let mut s = StateStream::new(stream, state);
+    let answer = parse(&mut s);
+    let _ctx = s.into_ctx();
+    answer
+}
+
+/// What a reader answers, and what reading from memory makes of it.
+pub trait ParseAnswer: Sized {
+    type Answer;
+
+    // the answer that is made of the reader's
+    ghost passes: { Self → Self.Answer → Type 0 };
+    // the answer where there was no memory for the text
+    ghost starved: { Self.Answer → Type 0 };
+
+    /// The value, or the fault as an error.
+    fn into_answer(self, alloc: Global) -> Self::Answer
+        ensures { passes self result };
+
+    /// The error where there was no memory for the text.
+    fn no_memory() -> Self::Answer
+        ensures { starved result };
+}
+
+impl<X, A: Drop> ParseAnswer for ParseResult<X, A> {
+    type Answer = Result<X, A>;
+
+    ghost passes = { Passes };
+
+    ghost starved = { IsStarved };
+
+    fn into_answer(self, alloc: Global) -> Result<X, A> {
+        match self {
+            Ok(x) => Ok(x),
+            Err(fault) => Err(error_of(alloc, fault)),
+        }
+    }
+
+    fn no_memory() -> Result<X, A> {
+        Err(Error {
+            kind: ErrorKind::InvalidArgument,
+            err: Cause::Memory,
+            loc: Location::Unknown,
+        })
+    }
+}
+
+/// Reads from a text in memory, with a reader that answers a `ParseResult`. What follows behind what was read is not looked at.
+/// A fault becomes an error of kind invalid input, with the fault and its place as cause, or want of memory where there was none
+/// for it, and the place as location. The context is as the reader left it.
+pub fn parse_from_str<T, A, R, F: FnOnce(&mut StateStream<'_, T, A, ()>) -> R>(
+    parse: F,
+    ctx: &mut Context<T, A>,
+    text: &str,
+) -> R::Answer
+where
+    T: IrText<A>,
+    A: AttrText,
+    R: ParseAnswer,
+    requires callable { (s : _) → F.pre parse s }
+    requires lent { (s : _) (answer : R) (t : _) → F.post parse s answer t → t.now.state.ctx.ghost_name ≡ s.now.state.ctx.ghost_name }
+    ensures { Ran R.passes (F.post parse) text.now ctx.old result ctx.new ⊎ (R.starved result × (ctx.new ≡ ctx.old)) }
+{
+    let alloc = ctx.allocator();
+    let Ok(stream) = TextStream::new(alloc, text) else {
+        return R::no_memory();
+    };
+    let answer = run_on(stream, ctx, parse);
+    answer.into_answer(alloc)
+}
+
+/// A stream of the characters of a finite iterator, which are collected first. Only memory can be refused.
+pub fn state_stream_from_iterator<'c, T: IrText<A>, A: AttrText, U: Drop, I: Iterator<Item = char>>(
+    iterator: I,
+    state: State<'c, T, A, U>,
+) -> std::result::Result<StateStream<'c, T, A, U>, AllocError>
+    requires can { I.can_next iterator }
+    requires finite { IsFinite (I.remaining iterator) }
+    ensures text { IfOk result (λ s. (items : List ℕ) × Drains I.next_gives iterator items × (s.stream ≡ at_beginning (encode_utf8_all items))) }
+    ensures state { IfOk result (λ s. s.state ≡ state.entry) }
+{
+    let alloc = state.ctx.allocator();
+    let text: String = iterator.collect(alloc)?;
+    let stream = TextStream::new(alloc, text.as_str())?;
+    Ok(StateStream { stream, state })
+}

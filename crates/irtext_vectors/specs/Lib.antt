@@ -1,0 +1,7 @@
+pub mod Demo
+pub mod Graphs
+pub mod Trees
+pub mod Sections
+pub mod Formats
+pub mod Located
+pub mod Nothing

@@ -1,0 +1,111 @@
+-- What printing appends for an operation is what the definitions say, where they say something.
+use Rattle.std.proofs.Common.{◌≡◌, ◌++◌, ◌∙◌, ◌&&◌, ◌==◌, cond, ℕ, List, [], ◌∷◌, Bool, true, false, refl, sym, ap, subst, Option, Some, None, length, is_some, IsSomeAnd, IfSome, IsTrue, codes}
+use Rattle.std.specs.Prelude.{⊤}
+use Rattle.std.specs.Option.{option_map, option_and_then}
+use Rattle.std.specs.Str.{IsAscii, encode_utf8_all}
+use Rattle.irtext_base.proofs.Characters.{and_left, and_right}
+use Rattle.irtext_base.specs.Text.{Text, is_identifier}
+use Rattle.irtext_base.specs.Faults.{id_of}
+use Rattle.irtext_base.specs.Format.{Id, sym_name_key}
+use Rattle.irtext_base.specs.Own.{Language}
+use Rattle.irtext_base.specs.Causes.{id_text}
+use Rattle.irtext_base.specs.Context.{ContextView, OperationView, operation}
+use Rattle.irtext_base.specs.declared.base.arena.Ptr.{Ptr}
+use Rattle.irtext_base.specs.declared.base.region.Region.{Region}
+use Rattle.irtext_base.specs.declared.base.attributes.AttrObj.{AttrObj}
+use Rattle.irtext_base.specs.declared.base.attributes.AttrObj.TheVariants.{Ident}
+use Rattle.irtext_base.specs.declared.base.operation.Operation.{Operation}
+use Rattle.pliron_text.proofs.Ascii.{encodes-ascii, ascii-identifier}
+use Rattle.pliron_text.proofs.ModulesText.{same_text-is, module_graph, plain_mark, plain_section, plain_text, plain_gathered, text-plain, cond-some, one, none, there, symbol_of-some, known, ascii-plain}
+use Rattle.pliron_text.specs.Graph.{Graph}
+use Rattle.pliron_text.specs.LocationsText.{location_text, known_text}
+use Rattle.pliron_text.specs.Modules.{is_module, module_id}
+use Rattle.pliron_text.specs.PrintedModule.{printing, printed, levels, module_symbol, symbol_of, header_text, region_text, mark_text, gathered_at, both, entry_at, entry_text, section_text, root_text}
+use Rattle.pliron_text.specs.Printing.{with_gathered}
+use Rattle.pliron_text.specs.Section.{text}
+use Rattle.pliron_text.specs.Shown.{Shown}
+use Rattle.pliron_text.specs.Stands.{graph_at, entries_of, empty_regions}
+use Rattle.pliron_text.specs.Written.{Writes, Appends}
+use Rattle.irtext_base.specs.Format.{same_text}
+
+-- a claim under a test, of the entries of an empty list, and of a value that may be there
+writes-cond : {U : Type 0} (b : Bool) (x : Option (List ℕ × Shown U)) (after : Shown U) (old new : List ℕ) → (b ≡ true → Writes x after old new) → Writes (cond b x None) after old new
+writes-cond true x after old new h = h refl
+writes-cond false x after old new h = tt
+
+writes-empty : {U T X : Type 0} (F : X → List ℕ × Shown U) (ts : List T) (x : Option X) (after : Shown U) (old new : List ℕ)
+    → Writes (option_map F x) after old new → Writes (option_map F (elim ts [ [] ↦ x | _ ∷ _ ↦ None ])) after old new
+writes-empty F [] x after old new h = h
+writes-empty F (t ∷ ts) x after old new h = tt
+
+writes-some : {U X Y : Type 0} (F : X → List ℕ × Shown U) (G : Y → X) (o : Option Y) (after : Shown U) (old new : List ℕ)
+    → ((y : Y) → o ≡ Some y → Appends (F (G y)) after old new) → Writes (option_map F (option_map G o)) after old new
+writes-some F G None after old new h = tt
+writes-some F G (Some y) after old new h = h y refl
+
+-- an identifier under a value that is there
+held : {X : Type 0} (P : X → Type 0) (o : Option X) (x : X) → o ≡ Some x → IfSome o P → P x
+held P o x e h = subst (λ z. IfSome z P) e h
+
+module _ {T A U : Type 0} (L : Language ⊤ T A) (outlined once : A → Bool) (same : A → A → Bool) (ctx : ContextView T A) (p : Ptr Operation) (op : OperationView T A) (s after : Shown U) (old new : List ℕ) where
+  -- what a text is made of, as the definitions have it
+  abbrev pub made : Graph T A → List ℕ × Shown U
+  made g = (encode_utf8_all (text L (printing {T = T} outlined once same) g s.indent s.width (levels s.limit)), s)
+
+  -- the section of this operation alone
+  section-is : (l : Option Text) → operation ctx p ≡ Some op → known_text op.loc ≡ Some l → section_text ctx (plain_gathered l p) ≡ Some (plain_section l)
+  section-is None o k = refl
+  section-is (Some l) o k =
+      let entry : entry_at ctx 0 p ≡ Some (entry_text 0 (Some l)) = ap (λ z. elim z [ None ↦ Some [] | Some op ↦ option_map (entry_text 0) (known_text op.loc) ]) o ∙ ap (option_map (entry_text 0)) k in
+      ap (λ z. both (Some (codes "\n\noutlined_attributes:\n")) (both z (Some []))) entry
+
+  -- a module that has a name, and a location that is printed
+  module _ (name : Text) (l : Option Text) (o : operation ctx p ≡ Some op) (fits : module_symbol op ≡ Some name) (nothing : s.gathered ≡ []) (k : known_text op.loc ≡ Some l) where
+    parts : ((is_module (id_of op.id) && (length op.regions == 1)) ≡ true) × (symbol_of op.attributes ≡ Some name)
+    parts = cond-some (is_module (id_of op.id) && (length op.regions == 1)) (symbol_of op.attributes) name fits
+
+    module-id : id_of op.id ≡ module_id
+    module-id =
+        let is = and_left (is_module (id_of op.id)) (length op.regions == 1) parts.0 in
+        ap (λ z. record { dialect = z; name = op.id.name }) (same_text-is op.id.dialect module_id.dialect (and_left (same_text op.id.dialect module_id.dialect) (same_text op.id.name module_id.name) is))
+        ∙ ap (λ z. record { dialect = module_id.dialect; name = z }) (same_text-is op.id.name module_id.name (and_right (same_text op.id.dialect module_id.dialect) (same_text op.id.name module_id.name) is))
+
+    graph-is : graph_at op l ≡ module_graph name l
+    graph-is =
+        let r = one op.regions (and_right (is_module (id_of op.id)) (length op.regions == 1) parts.0) in
+        let make : Id → List (Text × AttrObj A) → List (Ptr Region) → Graph T A = λ id es rs. record { own = record { id = id; results = []; operands = []; successors = []; attributes = entries_of es; location = l }; regions = empty_regions rs } in
+        ap (λ z. make z op.attributes op.regions) module-id ∙ ap (λ z. make module_id z op.regions) (symbol_of-some name op.attributes parts.1) ∙ ap (λ z. make module_id ((sym_name_key, Ident name) ∷ []) z) r.1
+
+    root-is : root_text ctx p op s ≡ Some (plain_text name s l)
+    root-is =
+        let is = known p op.loc l k in
+        let header : id_text op.id ≡ codes "builtin" ++ (codes "." ++ codes "module") = ap (λ i. i.dialect ++ (codes "." ++ i.name)) module-id in
+        let section : section_text ctx (s.gathered ++ gathered_at op.loc p) ≡ Some (plain_section l) = ap (λ z. section_text ctx (z ++ gathered_at op.loc p)) nothing ∙ ap (section_text ctx) is.gathered ∙ section-is l o k in
+        let mark : mark_text op.loc (length s.gathered) ≡ plain_mark l = ap (λ z. mark_text op.loc (length z)) nothing ∙ is.mark in
+        ap (λ z. option_and_then (λ symbol. both (Some (header_text op.id symbol ++ (region_text s ++ mark_text op.loc (length s.gathered)))) (section_text ctx (s.gathered ++ gathered_at op.loc p))) z) fits
+        ∙ ap (λ z. both (Some (header_text op.id name ++ (region_text s ++ mark_text op.loc (length s.gathered)))) z) section
+        ∙ ap (λ z. Some (((z ++ (codes " @" ++ (name ++ codes " "))) ++ (region_text s ++ mark_text op.loc (length s.gathered))) ++ plain_section l)) header
+        ∙ ap (λ z. Some ((((codes "builtin" ++ (codes "." ++ codes "module")) ++ (codes " @" ++ (name ++ codes " "))) ++ (region_text s ++ z)) ++ plain_section l)) mark
+
+    pub appends : IsTrue (is_identifier name) → (IfSome (location_text op.loc) IsAscii) → IsSomeAnd (root_text ctx p op s) (λ t. new ≡ old ++ t) → after ≡ with_gathered s [] → Appends (made (graph_at op l)) after old new
+    appends identifier ascii written left =
+        let defined : text L (printing {T = T} outlined once same) (graph_at op l) s.indent s.width (levels s.limit) ≡ plain_text name s l
+        = ap (λ g. text L (printing {T = T} outlined once same) g s.indent s.width (levels s.limit)) graph-is ∙ text-plain L outlined once same name s.width s.indent s.gathered s.aux s.limit l in
+        let bytes : encode_utf8_all (text L (printing {T = T} outlined once same) (graph_at op l) s.indent s.width (levels s.limit)) ≡ plain_text name s l
+        = ap encode_utf8_all defined ∙ encodes-ascii (plain_text name s l) (ascii-plain name s l (ascii-identifier name identifier) ((known p op.loc l k).ascii ascii)) in
+        let plain : new ≡ old ++ plain_text name s l = subst (λ z. IsSomeAnd z (λ t. new ≡ old ++ t)) root-is written in
+        record { text = plain ∙ ap (λ z. old ++ z) (sym bytes); state = left ∙ ap (with_gathered s) (sym nothing) }
+
+  -- the claim, where the operation stands
+  pub writes-standing : operation ctx p ≡ Some op → IfSome (module_symbol op) (λ name. IsTrue (is_identifier name)) → IfSome (location_text op.loc) IsAscii
+      → IsSomeAnd (root_text ctx p op s) (λ t. new ≡ old ++ t) → after ≡ with_gathered s []
+      → Writes (printed L (printing {T = T} outlined once same) ctx p s) after old new
+  writes-standing o identifier ascii written left =
+      let claim : Option (OperationView T A) → Type 0 = λ z. Writes (cond (is_some (option_and_then module_symbol z) && (length s.gathered == 0)) (option_map made (option_and_then (λ v. elim v.result_types [ [] ↦ option_map (graph_at v) (known_text v.loc) | _ ∷ _ ↦ None ]) z)) None) after old new in
+      let main : claim (Some op) =
+      writes-cond (is_some (module_symbol op) && (length s.gathered == 0)) _ after old new (λ holds.
+      let n = there (module_symbol op) (and_left (is_some (module_symbol op)) (length s.gathered == 0) holds) in
+      writes-empty made op.result_types (option_map (graph_at op) (known_text op.loc)) after old new
+      (writes-some made (graph_at op) (known_text op.loc) after old new (λ l k.
+      appends n.0 l o n.1 (none s.gathered (and_right (is_some (module_symbol op)) (length s.gathered == 0) holds)) k (held (λ name. IsTrue (is_identifier name)) (module_symbol op) n.0 n.1 identifier) ascii written left))) in
+      subst claim (sym o) main

@@ -1,0 +1,85 @@
+-- Places and locations say nothing to names: a root with its section resolves where it does without them.
+use Rattle.std.proofs.Common.{◌≡◌, ℕ, Bool, true, false, cond, ◌==◌, List, [], ◌∷◌, ◌++◌, map, Option, Some, None, option_map, refl, sym, ap, ap₂, ◌∙◌}
+use Rattle.std.specs.Prelude.{⊤, flat_map, is_some}
+use Rattle.irtext_base.specs.Text.{Text}
+use Rattle.irtext_base.specs.Format.{same_text, Id}
+use Rattle.pliron_text.specs.Tree.{Name, Mark, Attribute, Tree}
+use Rattle.pliron_text.specs.Bare.{bare_mark_if, bare}
+use Rattle.pliron_text.specs.ReadSection.{Item, direct, reference, Entry, of_item, of_once}
+use Rattle.pliron_text.specs.WrittenSection.{bare_pair, bare_section_entry, bare_section}
+use Rattle.pliron_text.specs.Script as script
+use Rattle.pliron_text.specs.Script.{Act, Script, done, does_all, act_as, failure_as}
+use Rattle.pliron_text.specs.Scopes.{no_scope, failures}
+use Rattle.pliron_text.specs.Acts.{item_acts, once_at, keeps_if, entry_acts, reference_acts, late_acts, section_acts, tree_script, root_script, failures_of}
+use Rattle.pliron_text.specs.Contents.{as_text}
+use Rattle.pliron_text.specs.Build.{resolved, content_in, content}
+use Rattle.pliron_text.proofs.Natural.{map_both, failures_natural}
+use Rattle.pliron_text.proofs.BareScript.{same_itself, any_script, E, tree_bare, does_bare, nothing_left}
+
+module _ {P : Type 0} where
+  abbrev B : Act Text P → Act Text ⊤
+  B a = act_as (λ n. n) (λ p. tt) a
+
+  flat_bare : {U V : Type 0} (F : U → List (Act Text P)) (G : V → List (Act Text ⊤)) (h : U → V) → ((u : U) → G (h u) ≡ map B (F u)) → (us : List U) → flat_map G (map h us) ≡ map B (flat_map F us)
+  flat_bare F G h e [] = refl
+  flat_bare F G h e (u ∷ us) = ap₂ ◌++◌ (e u) (flat_bare F G h e us) ∙ sym (map_both B (F u) (flat_map F us))
+
+  item_bare : {A : Type 0} (e : Name P × Item P A) → item_acts (bare_pair e) ≡ map B (item_acts e)
+  item_bare (n, direct a) = refl
+  item_bare (n, reference m) = refl
+
+module _ {P A X Y : Type 0} (text : X → Y) where
+  pub once_bare : (i : ℕ) (es : List (Entry P A X)) → once_at i (bare_section text es) ≡ once_at i es
+  once_bare i [] = refl
+  once_bare i (of_item m x items ∷ es) = once_bare i es
+  once_bare i (of_once m a ∷ es) = ap (λ o. elim o [ Some b ↦ Some b | None ↦ cond (m.index == i) (Some a) None ]) (once_bare i es)
+
+  entry_bare : (e : Entry P A X) → entry_acts (bare_section_entry text e) ≡ map B (entry_acts e)
+  entry_bare (of_item m x items) = ap (λ z. script.entry m.index tt ∷ z) (flat_bare item_acts item_acts bare_pair item_bare items)
+  entry_bare (of_once m a) = refl
+
+  reference_bare : (all : List (Entry P A X)) (e : Name P × Item P A) → reference_acts (bare_section text all) (bare_pair e) ≡ map B (reference_acts all e)
+  reference_bare all (n, direct a) = refl
+  reference_bare all (n, reference m) = ap (λ o. script.claim (is_some o) (record { cause = script.UnknownPrintOnce m.index; at = Some tt }) ∷ script.claim (keeps_if n.text o) (record { cause = script.ReservedKey n.text; at = Some tt }) ∷ []) (once_bare m.index all)
+
+  late_bare : (all : List (Entry P A X)) (e : Entry P A X) → late_acts (bare_section text all) (bare_section_entry text e) ≡ map B (late_acts all e)
+  late_bare all (of_item m x items) = flat_bare (reference_acts all) (reference_acts (bare_section text all)) bare_pair (reference_bare all) items
+  late_bare all (of_once m a) = refl
+
+  section_bare : (es : List (Entry P A X)) → section_acts (bare_section text es) ≡ map B (section_acts es)
+  section_bare es = ap₂ ◌++◌ (flat_bare entry_acts entry_acts (bare_section_entry text) entry_bare es) (flat_bare (late_acts es) (late_acts (bare_section text es)) (bare_section_entry text) (late_bare es) es)
+      ∙ sym (map_both B (flat_map entry_acts es) (flat_map (late_acts es) es))
+
+  resolved_bare : (all : List (Entry P A X)) (e : Name P × Item P A) → resolved (bare_section text all) (bare_pair e) ≡ resolved all e
+  resolved_bare all (n, direct a) = refl
+  resolved_bare all (n, reference m) = ap (λ o. elim o [ Some a ↦ (n.text, a) ∷ [] | None ↦ [] ]) (once_bare m.index all)
+
+  all_resolved : (all : List (Entry P A X)) (items : List (Name P × Item P A)) → flat_map (resolved (bare_section text all)) (map bare_pair items) ≡ flat_map (resolved all) items
+  all_resolved all [] = refl
+  all_resolved all (e ∷ items) = ap₂ ◌++◌ (resolved_bare all e) (all_resolved all items)
+
+  content_in_bare : (all es : List (Entry P A X)) (i : ℕ) → content_in (bare_section text all) (bare_section text es) i ≡ option_map (as_text text) (content_in all es i)
+  content_in_bare all [] i = refl
+  content_in_bare all (of_once m a ∷ es) i = content_in_bare all es i
+  content_in_bare all (of_item m x items ∷ es) i =
+      ap₂ (λ c o. cond (m.index == i) (Some (option_map text x, c)) o) (all_resolved all items) (content_in_bare all es i) ∙ go (m.index == i) (flat_map (resolved all) items) (content_in all es i)
+    where
+      go : (b : Bool) (c : List (Text × Attribute A)) (o : Option (Option X × List (Text × Attribute A))) → cond b (Some (option_map text x, c)) (option_map (as_text text) o) ≡ option_map (as_text text) (cond b (Some (x, c)) o)
+      go true c o = refl
+      go false c o = refl
+
+  -- a mark's content without places is its content where there are none
+  pub content_bare : (es : List (Entry P A X)) (m : Option (Mark P)) → content (bare_section text es) (bare_mark_if m) ≡ option_map (as_text text) (content es m)
+  content_bare es None = refl
+  content_bare es (Some m) = content_in_bare es es m.index
+
+module _ {P T A X Y : Type 0} (text : X → Y) (isolated : Id → Bool) where
+  root_bare : (t : Tree P T A) (es : List (Entry P A X)) → E (root_script isolated t es) ≡ root_script isolated (bare t) (bare_section text es)
+  root_bare t es = tree_bare isolated t (does_all (section_acts es) done) ∙ ap (tree_script isolated (bare t)) (does_bare (section_acts es) done ∙ ap (λ z. does_all z done) (sym (section_bare text es)))
+
+  -- a root with its section resolves where it does without places
+  pub root_resolves_bare : (t : Tree P T A) (es : List (Entry P A X)) → failures_of isolated (bare t) (bare_section text es) ≡ [] → failures_of isolated t es ≡ []
+  root_resolves_bare t es e =
+      nothing_left (failure_as (λ n. n) (λ p. tt)) (failures_of isolated t es)
+      (sym (failures_natural (λ n. n) (λ (p : P). tt) same_text same_text (λ n. ⊤) same_itself no_scope (root_script isolated t es) (record { values = tt; labels = tt }) (any_script (root_script isolated t es)))
+      ∙ (ap (failures same_text no_scope) (root_bare t es) ∙ e))

@@ -1,0 +1,21 @@
+use Rattle.std.specs.Prelude.{[]}
+use Rattle.std.proofs.Common.{ap, sym, subst, ◌∙◌}
+use Rattle.irtext_base.specs.Format.{same_text}
+use Rattle.pliron_text.specs.Scopes.{no_scope, failures}
+use Rattle.pliron_text.specs.Script.{done}
+use Rattle.pliron_text.specs.Acts.{tree_script}
+use Rattle.pliron_text.specs.Build.{build}
+use Rattle.pliron_text.specs.Same.{stood, SameShapes}
+use Rattle.pliron_text.proofs.Resolved.{tree_resolves}
+use Rattle.pliron_text.proofs.Match.{same_shapes}
+use Rattle.pliron_text.proofs.BareScript.{resolves_bare}
+use Rattle.pliron_text.proofs.BareBuild.{shapes_bare}
+use Rattle.pliron_text.proofs.laws.names_come_back.Goals as goal
+
+pub returns-clause-resolves : goal.returns-clause-resolves
+returns-clause-resolves g c C isolated x t f s keys closed e =
+    resolves_bare isolated t (ap (λ z. failures same_text no_scope (tree_script isolated z done)) e ∙ tree_resolves C isolated x f s closed keys)
+
+pub returns-clause-shapes : goal.returns-clause-shapes
+returns-clause-shapes g c C isolated first es x t f s e =
+    shapes_bare isolated first es (λ p. first 0) [] (stood C isolated x) t (subst (λ z. SameShapes (stood C isolated x) (build isolated (λ p. first 0) [] z)) (sym e) (same_shapes C isolated (λ p. first 0) [] x f s))

@@ -1,0 +1,6 @@
+use Rattle.pliron_text.specs.Acts.{root_script}
+use Rattle.pliron_text.proofs.Reading.{reads_bound}
+use Rattle.pliron_text.proofs.laws.placeholders_are_two_passes.Goals as goal
+
+pub returns : goal.returns
+returns g c isolated t es = reads_bound (root_script isolated t es)

@@ -1,0 +1,37 @@
+use Rattle.std.specs.Prelude.{[], None, ◌++◌, length, refl}
+use Rattle.std.proofs.Common.{ap, sym, subst, ◌∙◌}
+use Rattle.irtext_base.specs.Own.{texts_of, unplaced, language}
+use Rattle.pliron_text.specs.Spell.{spelled}
+use Rattle.pliron_text.specs.Graph.{written}
+use Rattle.irtext_base.specs.Format.{same_text}
+use Rattle.pliron_text.specs.Scopes.{no_scope, failures}
+use Rattle.pliron_text.specs.Script.{done}
+use Rattle.pliron_text.specs.Acts.{tree_script}
+use Rattle.pliron_text.specs.Build.{build}
+use Rattle.pliron_text.specs.Same.{stood, SameShapes}
+use Rattle.pliron_text.proofs.BackTree as back
+use Rattle.pliron_text.proofs.Placed as placed
+use Rattle.pliron_text.proofs.Resolved.{tree_resolves}
+use Rattle.pliron_text.proofs.Match.{same_shapes}
+use Rattle.pliron_text.proofs.WrittenFine.{written_fine}
+use Rattle.pliron_text.proofs.BareScript.{resolves_bare}
+use Rattle.pliron_text.proofs.BareBuild.{shapes_bare}
+use Rattle.pliron_text.proofs.laws.round_trip.Goals as goal
+
+pub returns : goal.returns
+returns g c C isolated first es x width n f w fit s keys closed h =
+    let types = texts_of g.T.IrText.reading g.T.IrText.written in
+    let owns = texts_of g.A.IrText.reading g.A.IrText.written in
+    let l = unplaced types owns C.format_of in
+    let t = written C None x in
+    let fine = written_fine C isolated types owns x w fit s in
+    let r = back.reads_back l g.met.T.IrText.lawful g.met.A.IrText.lawful g.met.A.AttrText.unreserved (λ p t. tt) width n t f fine h in
+    let q = placed.placed (language types owns C.format_of) length (λ t. refl) t (spelled l width n t ++ f) r.0 r.1 in (
+      q.0,
+      r.0,
+      q.1,
+      r.2,
+      q.2,
+      resolves_bare isolated q.0 (ap (λ z. failures same_text no_scope (tree_script isolated z done)) q.2 ∙ tree_resolves C isolated x fit s closed keys),
+      shapes_bare isolated first es (λ p. first 0) [] (stood C isolated x) q.0 (subst (λ z. SameShapes (stood C isolated x) (build isolated (λ p. first 0) [] z)) (sym q.2) (same_shapes C isolated (λ p. first 0) [] x fit s)),
+    )

@@ -1,0 +1,10 @@
+use Rattle.std.proofs.lemmas.Result.{err_from_is_err_and}
+use Rattle.pliron_text.proofs.Steps.{lens, first, more, refuses_seen}
+use Rattle.pliron_text.proofs.location.read.location_demanded.Goals as goal
+
+pub returns-in_err-pos : goal.returns-in_err-pos
+returns-in_err-pos g c =
+    let m = g.met.S.CharStream in
+    let l = lens g.S.CharStream.view g.S.CharStream.at m.view_at m.at_view m.at_at in
+    let p = err_from_is_err_and c.from_residual-in_err-pos.result c.from_residual-in_err-pos.ensures.1 in
+    rw (p.1, p.2) (refuses_seen l _ (more l _ (first l _ c.in_ok-text_demanded.ensures) c.in_ok-spaced_text.ensures) c.in_err-pos.ensures)

@@ -1,0 +1,24 @@
+-- What the dictionaries of a graph keep: the reserved key has given names.
+use Rattle.std.specs.Prelude.{◌≡◌, true, List, ⊤}
+use Rattle.std.specs.List.{list_all}
+use Rattle.irtext_base.specs.Text.{Text}
+use Rattle.pliron_text.specs.Forest.{AllRegions}
+use Rattle.pliron_text.specs.Tree.{Attribute}
+use Rattle.pliron_text.specs.Graph.{Graph, GraphOp, GraphBlock}
+use Rattle.pliron_text.specs.Acts.{keeps_key}
+
+-- an entry of the dictionary under the reserved key has given names
+abbrev pub KeepsKeys : {A : Type 0} → List (Text × Attribute A) → Type 0
+KeepsKeys es = list_all (λ e. keeps_key e.0 e.1) es ≡ true
+
+-- the operation's dictionary keeps the reserved key
+abbrev pub OpKeepsKeys : {T A : Type 0} → GraphOp T A → Type 0
+OpKeepsKeys o = KeepsKeys o.attributes
+
+-- the block's dictionary keeps the reserved key
+abbrev pub BlockKeepsKeys : {T A : Type 0} → GraphBlock T A → Type 0
+BlockKeepsKeys h = KeepsKeys h.attributes
+
+-- each dictionary of the graph keeps the reserved key
+abbrev pub GraphKeepsKeys : {T A : Type 0} → Graph T A → Type 0
+GraphKeepsKeys g = OpKeepsKeys g.own × AllRegions OpKeepsKeys BlockKeepsKeys (λ r. ⊤) g.regions

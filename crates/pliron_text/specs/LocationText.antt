@@ -1,0 +1,31 @@
+-- What a text reads as, where a location stands, with each fault's cause and place.
+use Rattle.std.specs.Prelude.{ℤ, [], codes, ⊤}
+use Rattle.std.specs.Char.{is_whitespace}
+use Rattle.irtext_base.specs.Text.{Text, front, after}
+use Rattle.irtext_base.specs.Answers.{Outcome, Read, followed, mapped}
+use Rattle.irtext_read.specs.Tokens.{text_at, integer_at}
+use Rattle.irtext_base.specs.declared.parsable.position.SourcePosition.{SourcePosition}
+use Rattle.irtext_base.specs.declared.location.Location.{Location, SrcPos}
+use Rattle.irtext_base.specs.declared.location.Source.TheVariants.{InMemory}
+
+-- white space, as far as it goes
+abbrev pub space_at : Text → Outcome ⊤
+space_at text = Read tt (front is_whitespace text) (after is_whitespace text)
+
+-- a fixed text with white space round it
+abbrev pub spaced_at : Text → Text → Outcome ⊤
+spaced_at word text = followed (space_at text) (λ _ t. followed (text_at word t) (λ _ u. space_at u))
+
+-- a word, `:` and a number
+abbrev pub labelled_at : Text → Text → Outcome ℤ
+labelled_at word text = followed (text_at word text) (λ _ t. followed (spaced_at (codes ":") t) (λ _ u. integer_at u))
+
+-- a line and a column
+abbrev pub position_at : Text → Outcome SourcePosition
+position_at text = followed (labelled_at (codes "line") text) (λ line t. followed (spaced_at (codes ",") t) (λ _ u.
+    mapped (λ column. record { line = line; column = column }) (labelled_at (codes "column") u)))
+
+-- a place in memory: the only kind of location that is read so far
+abbrev pub location_at : {A : Type 0} → Text → Outcome (Location A)
+location_at text = followed (text_at (codes "<in-memory>") text) (λ _ t. followed (spaced_at (codes ":") t) (λ _ u.
+    mapped (SrcPos InMemory) (position_at u)))

@@ -1,0 +1,16 @@
+-- The printed names: with the number or the place at their end, so that distinct things have distinct names.
+use Rattle.std.specs.Prelude.{ℕ, ◌++◌, Option, Some, None, codes, decimal}
+use Rattle.irtext_base.specs.Text.{Text}
+
+-- the name that is given, `_`, and the text; or the text alone
+abbrev pub prefixed : Option Text → Text → Text
+prefixed None text = text
+prefixed (Some name) text = name ++ (codes "_" ++ text)
+
+-- of a value, by its number
+abbrev pub value_name : Option Text → ℕ → Text
+value_name given number = prefixed given (codes "v" ++ decimal number)
+
+-- of a block, by its place and generation
+abbrev pub block_name : Option Text → ℕ × ℕ → Text
+block_name label place = prefixed label (codes "block" ++ (decimal place.0 ++ (codes "v" ++ decimal place.1)))

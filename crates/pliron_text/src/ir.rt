@@ -1,0 +1,6 @@
+//! Operations and regions as text.
+
+mod print;
+mod read;
+
+pub use read::{OperationParserConfig, OperationText};

@@ -1,0 +1,263 @@
+//! Printing of roots.
+ghost use Rattle.std.specs.Prelude.{◌≡◌, ◌≢◌, ◌+◌, ◌<◌, ◌≤◌, ◌^◌, ◌++◌, ◌∷◌, [], ◌⊎◌, Some, None, OnOk, IfErr, IsSome, IsSomeAnd, IfSome, IsTrue, option_copied, string_bytes, length};
+ghost use Rattle.std.specs.Str.{IsAscii};
+ghost use Rattle.std.specs.Int.Signed.{mag};
+ghost use Rattle.irtext_base.specs.Context.{OperationView, operation};
+ghost use Rattle.irtext_base.specs.Faults.{id_of};
+ghost use Rattle.irtext_base.specs.Own.{texts_of, unplaced};
+ghost use Rattle.irtext_base.specs.Text.{is_identifier};
+ghost use Rattle.pliron_text.specs.LocationsText.{place_text, location_text, known_text};
+ghost use Rattle.pliron_text.specs.Modules as modules;
+ghost use Rattle.pliron_text.specs.PrintedModule as printed;
+ghost use Rattle.pliron_text.specs.Printing.{width_of, indent_of, gathered_of, with_gathered};
+ghost use Rattle.pliron_text.specs.Spell.{newline};
+ghost use Rattle.pliron_text.specs.declared.printable.refusal.Refusal.TheVariants as refusal;
+
+use crate::location::print::fmt_known;
+use crate::printable::state::State;
+use crate::printable::{Printable, Refusal, fmt_indented_newline};
+use irtext_base::base::{AttrObj, AttributeDict, Context, Identifier, OpId, Operation, Ptr};
+use irtext_base::location::{Location, Source};
+use irtext_base::parsable::SourcePosition;
+use irtext_base::text::{AttrText, IrText};
+use std::fmt;
+
+/// The symbol's name, where this is its entry.
+fn symbol_at<'a, A>(key: &Identifier, attribute: &'a AttrObj<A>) -> Option<&'a Identifier>
+    ensures { option_copied result ≡ printed.symbol_at key.now attribute.now }
+{
+    match attribute {
+        AttrObj::Ident(symbol) => {
+            if key.as_str() == "builtin_sym_name" {
+                Some(symbol)
+            } else {
+                None
+            }
+        }
+        _ => None,
+    }
+}
+
+/// The symbol's name, where it is all that a dictionary holds.
+fn symbol_of<A: Drop>(attributes: &AttributeDict<A>) -> Option<&Identifier>
+    ensures { option_copied result ≡ printed.symbol_of attributes.now }
+{
+    if attributes.len() != 1 {
+        return None;
+    }
+    let (key, attribute) = attributes.get_index(0)?;
+    symbol_at(key, attribute)
+}
+
+/// Whether an id is the module's.
+fn is_module(id: &OpId) -> bool
+    ensures { result ≡ modules.is_module (id_of id.now) }
+{
+    id.dialect.as_str() == "builtin" && id.name.as_str() == "module"
+}
+
+/// The symbol's name of an operation that fits the module's format: a module with one region, and nothing but the name
+/// in its dictionary.
+fn module_symbol<T: IrText<A>, A: AttrText>(
+    ctx: &Context<T, A>,
+    op: Ptr<Operation>,
+) -> Option<&Identifier>
+    requires { IsSome (operation ctx.now op) }
+    ensures { (view : OperationView T A) → operation ctx.now op ≡ Some view → option_copied result ≡ printed.module_symbol view }
+{
+    if !is_module(op.get_opid(ctx)) || op.num_regions(ctx) != 1 {
+        return None;
+    }
+    symbol_of(op.attributes(ctx))
+}
+
+/// Appends what stands in front of a module's region.
+fn fmt_header(id: &OpId, symbol: &Identifier, f: &mut String) -> Result<(), Refusal>
+    ensures text { OnOk result (string_bytes f.new ≡ string_bytes f.old ++ printed.header_text id.now symbol.now) }
+    ensures name { IsTrue (is_identifier symbol.now) }
+    ensures refused { IfErr result (λ e. e ≡ refusal.Memory) }
+{
+    let symbol = symbol.as_str();
+    write!(f, "{id} @{symbol} ")?;
+    Ok(())
+}
+
+/// Appends a newline and the indentation.
+fn fmt_newline<U>(state: &State<U>, f: &mut String) -> Result<(), Refusal>
+    ensures text { OnOk result (string_bytes f.new ≡ string_bytes f.old ++ newline (indent_of state.now)) }
+    ensures refused { IfErr result (λ e. e ≡ refusal.Memory) }
+{
+    match fmt_indented_newline(state, f) {
+        Ok(()) => Ok(()),
+        Err(_) => Err(Refusal::Memory),
+    }
+}
+
+/// Appends what stands between the braces where there is no block.
+fn fmt_no_blocks<U>(state: &mut State<U>, f: &mut String) -> Result<(), Refusal>
+    ensures text { OnOk result (string_bytes f.new ≡ string_bytes f.old ++ newline (indent_of state.old + width_of state.old)) }
+    ensures state { state.new ≡ state.old }
+    ensures refused { IfErr result (λ e. e ≢ refusal.Memory → (e ≡ refusal.Depth) × (2 ^ 16 ≤ indent_of state.old + width_of state.old)) }
+{
+    let Ok(inside) = state.indent() else {
+        return Err(Refusal::Depth);
+    };
+    fmt_newline(inside.state, f)
+}
+
+/// Appends the text of a region without blocks.
+fn fmt_region<U>(state: &mut State<U>, f: &mut String) -> Result<(), Refusal>
+    ensures text { OnOk result (string_bytes f.new ≡ string_bytes f.old ++ printed.region_text state.old) }
+    ensures state { state.new ≡ state.old }
+    ensures refused { IfErr result (λ e. e ≢ refusal.Memory → (e ≡ refusal.Depth) × (2 ^ 16 ≤ indent_of state.old + width_of state.old)) }
+{
+    let Some(region) = state.enter_region() else {
+        f.push_str("{..}")?;
+        return Ok(());
+    };
+    fmt_newline(region.state, f)?;
+    f.push_str("{")?;
+    fmt_no_blocks(region.state, f)?;
+    fmt_newline(region.state, f)?;
+    f.push_str("}")?;
+    Ok(())
+}
+
+/// Appends the mark of an operation whose location is known, and gathers the operation.
+fn fmt_mark<A, U>(
+    location: &Location<A>,
+    op: Ptr<Operation>,
+    state: &mut State<U>,
+    f: &mut String,
+) -> Result<(), Refusal>
+    ensures text { OnOk result (string_bytes f.new ≡ string_bytes f.old ++ printed.mark_text location.now (length (gathered_of state.old))) }
+    ensures state { OnOk result (state.new ≡ with_gathered state.old (gathered_of state.old ++ printed.gathered_at location.now op)) }
+    ensures refused { IfErr result (λ e. e ≡ refusal.Memory) }
+{
+    if let Location::Unknown = location {
+        return Ok(());
+    }
+    let index = state.gather(op)?;
+    write!(f, " !{index}")?;
+    Ok(())
+}
+
+/// Appends the entry of a marked operation.
+fn fmt_entry<A>(index: usize, location: &Location<A>, f: &mut String) -> Result<(), Refusal>
+    ensures text { OnOk result (IsSomeAnd (known_text location.now) (λ known. string_bytes f.new ≡ string_bytes f.old ++ printed.entry_text index known)) }
+    ensures refused { IfErr result (λ e. e ≢ refusal.Memory → (e ≡ refusal.Location) × (known_text location.now ≡ None)) }
+{
+    write!(f, "!{index} = ")?;
+    fmt_known(location, "@[", "], ", f)?;
+    f.push_str("[]\n")?;
+    Ok(())
+}
+
+/// Appends the entry of a gathered operation; one that was erased since has none.
+fn fmt_gathered<T: IrText<A>, A: AttrText>(
+    ctx: &Context<T, A>,
+    index: usize,
+    op: Ptr<Operation>,
+    f: &mut String,
+) -> Result<(), Refusal>
+    ensures text { OnOk result (IsSomeAnd (printed.entry_at ctx.now index op) (λ text. string_bytes f.new ≡ string_bytes f.old ++ text)) }
+    ensures refused { IfErr result (λ e. e ≢ refusal.Memory → (e ≡ refusal.Location) × (printed.entry_at ctx.now index op ≡ None)) }
+{
+    if !ctx.contains_operation(op) {
+        return Ok(());
+    }
+    fmt_entry(index, op.loc(ctx), f)
+}
+
+/// Appends the entries of gathered operations.
+fn fmt_entries<T: IrText<A>, A: AttrText>(
+    ctx: &Context<T, A>,
+    gathered: &[Ptr<Operation>],
+    f: &mut String,
+) -> Result<(), Refusal>
+    ensures text { OnOk result (IsSomeAnd (printed.entries_from ctx.now 0 gathered.now) (λ text. string_bytes f.new ≡ string_bytes f.old ++ text)) }
+    ensures refused { IfErr result (λ e. e ≢ refusal.Memory → (e ≡ refusal.Location) × (printed.entries_from ctx.now 0 gathered.now ≡ None)) }
+{
+    for (index, op) in gathered.iter().enumerate() {
+        fmt_gathered(ctx, index, *op, f)?;
+    }
+    Ok(())
+}
+
+/// Appends the section of the operations that were gathered, and takes them out.
+fn fmt_section<T: IrText<A>, A: AttrText, U>(
+    ctx: &Context<T, A>,
+    state: &mut State<U>,
+    f: &mut String,
+) -> Result<(), Refusal>
+    ensures text { OnOk result (IsSomeAnd (printed.section_text ctx.now (gathered_of state.old)) (λ text. string_bytes f.new ≡ string_bytes f.old ++ text)) }
+    ensures state { state.new ≡ with_gathered state.old [] }
+    ensures refused { IfErr result (λ e. e ≢ refusal.Memory → (e ≡ refusal.Location) × (printed.section_text ctx.now (gathered_of state.old) ≡ None)) }
+{
+    let gathered = state.take_gathered(ctx.allocator());
+    if gathered.is_empty() {
+        return Ok(());
+    }
+    f.push_str("\n\noutlined_attributes:\n")?;
+    fmt_entries(ctx, &gathered, f)
+}
+
+/// A number fits its type.
+fn number_fits(number: &i32)
+    ensures { mag number.now < 2 ^ 63 }
+{
+    let _number = *number;
+}
+
+/// The text of a place is ASCII.
+fn place_is_ascii(src: Source, pos: &SourcePosition)
+    ensures { IfSome (place_text src pos.now) IsAscii }
+{
+    let _src = src;
+    number_fits(&pos.line);
+    number_fits(&pos.column);
+}
+
+/// The text of a location is ASCII.
+fn is_ascii<A>(location: &Location<A>)
+    ensures { IfSome (location_text location.now) IsAscii }
+{
+    if let Location::SrcPos { src, pos } = location {
+        place_is_ascii(*src, pos);
+    }
+}
+
+/// Appends the text of a root, with the section of all that was gathered.
+fn fmt_root<T: IrText<A>, A: AttrText, U>(
+    ctx: &Context<T, A>,
+    op: Ptr<Operation>,
+    state: &mut State<U>,
+    f: &mut String,
+) -> Result<(), Refusal>
+    requires live { IsSome (operation ctx.now op) }
+    ensures text { (view : OperationView T A) → operation ctx.now op ≡ Some view → OnOk result (IsSomeAnd (printed.root_text ctx.now op view state.old) (λ text. string_bytes f.new ≡ string_bytes f.old ++ text)) }
+    ensures name { (view : OperationView T A) → operation ctx.now op ≡ Some view → OnOk result (IfSome (printed.module_symbol view) (λ symbol. IsTrue (is_identifier symbol))) }
+    ensures place { (view : OperationView T A) → operation ctx.now op ≡ Some view → IfSome (location_text view.loc) IsAscii }
+    ensures state { OnOk result (state.new ≡ with_gathered state.old []) }
+    ensures refused { (view : OperationView T A) → operation ctx.now op ≡ Some view → IfErr result (printed.Refuses ctx.now op view state.old) }
+{
+    is_ascii(op.loc(ctx));
+    let Some(symbol) = module_symbol(ctx, op) else {
+        return Err(Refusal::Misfit);
+    };
+    fmt_header(op.get_opid(ctx), symbol, f)?;
+    fmt_region(state, f)?;
+    fmt_mark(op.loc(ctx), op, state, f)?;
+    fmt_section(ctx, state, f)
+}
+
+impl<T: IrText<A>, A: AttrText, U> Printable<U, T, A> for Ptr<Operation> {
+    ghost can_print = { λ op ctx. IsSome (operation ctx op) };
+
+    ghost gives = { λ op ctx s. printed.printed (unplaced (texts_of T.reading T.written) (texts_of A.reading A.written) modules.format_of) (printed.printing A.outlined A.print_once A.eq) ctx op s };
+
+    fn fmt(&self, ctx: &Context<T, A>, state: &mut State<U>, f: &mut String) -> fmt::Result {
+        fmt_root(ctx, *self, state, f)?;
+        Ok(())
+    }
+}

@@ -1,0 +1,349 @@
+//! Reading of roots.
+ghost use Rattle.std.specs.Prelude.{◌≡◌, ◌≤◌, ℕ, List, cond, None, ◌++◌, IsSome, IfOk, IfErr, OnOk, OnErr};
+ghost use Rattle.irtext_base.specs.Answers.{Takes, DemandsOf, Starves};
+ghost use Rattle.irtext_base.specs.Context.{operation, before, KeepsOlder, MakesOperation, AddsRegion};
+ghost use Rattle.irtext_base.specs.Format.{same_text};
+ghost use Rattle.irtext_base.specs.Faults.{id_of};
+ghost use Rattle.irtext_base.specs.declared.base.region.Region.{Region};
+ghost use Rattle.irtext_read.specs.States.{marks_of};
+ghost use Rattle.pliron_text.specs.ModuleText.{symbol_at, header_at, led_id_at, braces_at, mark_at, lead_of, behind_lead, is_led};
+ghost use Rattle.pliron_text.specs.MustRead.{MustRead, MayRead};
+ghost use Rattle.pliron_text.specs.Roots.{itself, replaced, symbol_entries, made_view, fresh_mark_at, noted, KeepsRest, ReadsModule, MissesModule, Refusal, SameObjects};
+ghost use Rattle.pliron_text.specs.Registered.{Registers, header_of};
+
+use crate::irfmt::demanded::{identifier_demanded, index_demanded, text_demanded};
+use crate::irfmt::outlined::section_parse;
+use crate::parsable::{Parsable, out_of_memory};
+use irtext_base::base::{AttrObj, AttributeDict, Identifier, OpId, Operation, Ptr};
+use irtext_base::location::Location;
+use irtext_base::parsable::{CharStream, ParseResult, Place};
+use irtext_base::result::Cause;
+use irtext_base::text::{AttrText, IrText};
+use irtext_read::irfmt::faults::{demand, next_is, refuse, refuse_at};
+use irtext_read::irfmt::parsers::{id_parse, skip_white_space};
+use irtext_read::parsable::{StateStream, StreamLocation};
+use std::alloc::{AllocError, Global};
+
+/// How an operation is read.
+#[derive(Clone, Copy)]
+pub struct OperationParserConfig {
+    /// Whether the section of its marked items is read behind it.
+    pub look_for_outlined_attrs: bool,
+}
+
+/// What stands before an operation's region.
+struct Header {
+    id: OpId,
+    symbol: Identifier,
+}
+
+/// Passes white space, and `=` with white space where it stands: an operation without results may begin so.
+fn skip_lead<S: CharStream>(stream: &mut S)
+    ensures { Takes S.view S.at (lead_of (S.view stream.old).rest) (behind_lead (S.view stream.old).rest) stream.old stream.new }
+{
+    skip_white_space(stream);
+    if !next_is(stream, '=') {
+        return;
+    }
+    let _ = stream.take();
+    skip_white_space(stream);
+}
+
+/// The same, and whether anything was passed.
+fn lead_parse<S: CharStream>(stream: &mut S) -> bool
+    ensures led { result ≡ is_led (lead_of (S.view stream.old).rest) }
+    ensures takes { Takes S.view S.at (lead_of (S.view stream.old).rest) (behind_lead (S.view stream.old).rest) stream.old stream.new }
+{
+    let place = stream.position();
+    skip_lead(stream);
+    !stream.text_since(place).is_empty()
+}
+
+/// The same answer, its fault committed where this is wanted.
+fn demand_if<S: CharStream, X, A>(
+    stream: &mut S,
+    wanted: bool,
+    answer: ParseResult<X, A>,
+) -> ParseResult<X, A>
+    ensures { cond wanted (DemandsOf S.view S.at answer stream.old result stream.new) ((result ≡ answer) × (stream.new ≡ stream.old)) }
+{
+    if wanted {
+        demand(stream, answer)
+    } else {
+        answer
+    }
+}
+
+/// Whether a name is this text.
+#[tactic(auto, using(crate::proofs::Led::texts))]
+fn is_text(name: &Identifier, text: &str) -> bool
+    ensures { result ≡ same_text name.now text.now }
+{
+    name.as_str() == text
+}
+
+/// The id, where its operation is registered. `start` is where the operation begins, `at` where its id does.
+fn registered<S: CharStream, A: Drop>(
+    stream: &mut S,
+    start: Place,
+    at: Place,
+    id: OpId,
+) -> ParseResult<OpId, A>
+    ensures { Registers S.view S.at start at id stream.old result stream.new }
+{
+    if !is_text(&id.dialect, "builtin") {
+        return Err(refuse_at(stream, at, Cause::UnregisteredDialect(id.dialect)));
+    }
+    if !is_text(&id.name, "module") {
+        return Err(refuse_at(stream, start, Cause::UnregisteredOp(id)));
+    }
+    Ok(id)
+}
+
+/// The id of a registered operation, behind what may stand in front of it.
+fn led_id_parse<S: CharStream, A: Drop>(stream: &mut S) -> ParseResult<OpId, A>
+    ensures { MayRead S.view S.at id_of led_id_at stream.old result stream.new }
+{
+    if stream.has_failed() {
+        return Err(refuse(stream, Cause::StreamFailed));
+    }
+    let start = stream.position();
+    let led = lead_parse(stream);
+    let at = stream.position();
+    let answer = id_parse(stream);
+    let id = demand_if(stream, led, answer)?;
+    registered(stream, start, at, id)
+}
+
+/// `@` and a name, which must stand there.
+fn symbol_parse<S: CharStream, A>(stream: &mut S) -> ParseResult<Identifier, A>
+    ensures { MustRead S.view S.at (λ name. name) symbol_at stream.old result stream.new }
+{
+    text_demanded(stream, "@")?;
+    identifier_demanded(stream)
+}
+
+/// An operation up to its region.
+fn header_parse<S: CharStream, A: Drop>(stream: &mut S) -> ParseResult<Header, A>
+    ensures { MayRead S.view S.at header_of header_at stream.old result stream.new }
+{
+    let id = led_id_parse(stream)?;
+    skip_white_space(stream);
+    let symbol = symbol_parse(stream)?;
+    Ok(Header { id, symbol })
+}
+
+/// The braces of a region without blocks, which must stand there.
+fn braces_parse<S: CharStream, A>(stream: &mut S) -> ParseResult<(), A>
+    ensures { MustRead S.view S.at (λ u. u) braces_at stream.old result stream.new }
+{
+    text_demanded(stream, "{")?;
+    skip_white_space(stream);
+    text_demanded(stream, "}")
+}
+
+/// A mark's index, where a mark stands.
+fn mark_parse<S: CharStream, A>(stream: &mut S) -> ParseResult<Option<usize>, A>
+    ensures { MustRead S.view S.at (λ mark. mark) mark_at stream.old result stream.new }
+{
+    if stream.has_failed() {
+        return Err(refuse(stream, Cause::StreamFailed));
+    }
+    if !next_is(stream, '!') {
+        return Ok(None);
+    }
+    let index = index_demanded(stream)?;
+    Ok(Some(index))
+}
+
+/// The dictionary of a module: its symbol's name.
+fn symbol_dictionary<A: Drop>(
+    alloc: Global,
+    symbol: Identifier,
+) -> Result<AttributeDict<A>, AllocError>
+    ensures { IfOk result (λ d. d ≡ symbol_entries symbol) }
+{
+    let key = Identifier::from_word(alloc, "builtin_sym_name")?;
+    let mut attributes = AttributeDict::new(alloc);
+    match attributes.insert(key, AttrObj::Ident(symbol)) {
+        Ok(()) => Ok(attributes),
+        Err(_) => Err(AllocError),
+    }
+}
+
+/// The operation of a header, which has no region yet.
+fn make_module<T: IrText<A>, A: AttrText, U>(
+    s: &mut StateStream<'_, T, A, U>,
+    loc: Location<A>,
+    header: Header,
+) -> ParseResult<Ptr<Operation>, A>
+    ensures lent { s.new.state.ctx.ghost_name ≡ s.old.state.ctx.ghost_name }
+    ensures rest { KeepsRest s.old.state s.new.state }
+    ensures marks { marks_of s.new.state ≡ marks_of s.old.state }
+    ensures makes { IfOk result (λ op. MakesOperation s.old.state.ctx.now s.new.state.ctx.now op (made_view header.id header.symbol loc)) }
+    ensures stream { OnOk result (s.new.stream ≡ s.old.stream) }
+    ensures starved { IfErr result (λ fault. Starves itself replaced s.old.stream fault s.new.stream) }
+    ensures unmade { OnErr result (s.new.state.ctx.now ≡ s.old.state.ctx.now) }
+    ensures kept { (mark : ℕ) → mark ≤ s.old.state.ctx.now.made → KeepsOlder mark s.old.state.ctx.now s.new.state.ctx.now }
+{
+    let Header { id, symbol } = header;
+    let Ok(attributes) = symbol_dictionary(s.stream.allocator(), symbol) else {
+        return Err(out_of_memory(s));
+    };
+    match s.state.ctx.make_operation(id, attributes, loc) {
+        Ok(op) => Ok(op),
+        Err(AllocError) => Err(out_of_memory(s)),
+    }
+}
+
+/// A region without blocks, which becomes the last of the operation.
+fn region_parse<T: IrText<A>, A: AttrText, U>(
+    s: &mut StateStream<'_, T, A, U>,
+    op: Ptr<Operation>,
+) -> ParseResult<(), A>
+    requires { IsSome (operation s.old.state.ctx.now op) }
+    ensures lent { s.new.state.ctx.ghost_name ≡ s.old.state.ctx.ghost_name }
+    ensures rest { KeepsRest s.old.state s.new.state }
+    ensures marks { marks_of s.new.state ≡ marks_of s.old.state }
+    ensures read { MustRead itself replaced (λ u. u) braces_at s.old.stream result s.new.stream }
+    ensures adds { OnOk result ((region : Ptr Region) × AddsRegion s.old.state.ctx.now s.new.state.ctx.now op region) }
+    ensures kept { (mark : ℕ) → mark ≤ s.old.state.ctx.now.made → before mark s.old.state.ctx.now.operations op ≡ None → KeepsOlder mark s.old.state.ctx.now s.new.state.ctx.now }
+{
+    braces_parse(&mut s.stream)?;
+    match s.state.ctx.add_region(op) {
+        Ok(_) => Ok(()),
+        Err(AllocError) => Err(out_of_memory(s)),
+    }
+}
+
+/// The mark of an operation, where it has one. It is noted.
+fn operation_mark_parse<T: IrText<A>, A: AttrText, U>(
+    s: &mut StateStream<'_, T, A, U>,
+    op: Ptr<Operation>,
+) -> ParseResult<Option<usize>, A>
+    ensures lent { s.new.state.ctx.ghost_name ≡ s.old.state.ctx.ghost_name }
+    ensures ctx { s.new.state.ctx.now ≡ s.old.state.ctx.now }
+    ensures rest { KeepsRest s.old.state s.new.state }
+    ensures read { MustRead itself replaced (λ mark. mark) (fresh_mark_at (marks_of s.old.state)) s.old.stream result s.new.stream }
+    ensures marks { IfOk result (λ mark. marks_of s.new.state ≡ marks_of s.old.state ++ noted mark op) }
+    ensures unmarked { OnErr result (marks_of s.new.state ≡ marks_of s.old.state) }
+{
+    let at = s.stream.position();
+    let Some(index) = mark_parse(&mut s.stream)? else {
+        return Ok(None);
+    };
+    match s.state.mark(index, op) {
+        Ok(true) => Ok(Some(index)),
+        Ok(false) => Err(refuse_at(&mut s.stream, at, Cause::DuplicateIndex(index))),
+        Err(AllocError) => Err(out_of_memory(s)),
+    }
+}
+
+/// An operation with its mark. What it made stays where it is refused.
+fn operation_parse<T: IrText<A>, A: AttrText, U>(
+    s: &mut StateStream<'_, T, A, U>,
+) -> ParseResult<Ptr<Operation>, A>
+    ensures lent { s.new.state.ctx.ghost_name ≡ s.old.state.ctx.ghost_name }
+    ensures rest { KeepsRest s.old.state s.new.state }
+    ensures read { IfOk result (λ op. ReadsModule op s.old s.new) }
+    ensures refused { IfErr result (λ fault. MissesModule s.old fault s.new) }
+    ensures unmarked { OnErr result (marks_of s.new.state ≡ marks_of s.old.state) }
+    ensures kept { (mark : ℕ) → mark ≤ s.old.state.ctx.now.made → KeepsOlder mark s.old.state.ctx.now s.new.state.ctx.now }
+{
+    let loc = s.loc();
+    let header = header_parse(&mut s.stream)?;
+    let op = make_module(s, loc, header)?;
+    skip_white_space(&mut s.stream);
+    region_parse(s, op)?;
+    skip_white_space(&mut s.stream);
+    operation_mark_parse(s, op)?;
+    Ok(op)
+}
+
+/// An operation, and the section behind it where it is looked for and a mark stands. What it made stays where it is refused.
+fn root_parse<T: IrText<A>, A: AttrText, U>(
+    s: &mut StateStream<'_, T, A, U>,
+    config: OperationParserConfig,
+) -> ParseResult<Ptr<Operation>, A>
+    ensures lent { s.new.state.ctx.ghost_name ≡ s.old.state.ctx.ghost_name }
+    ensures rest { KeepsRest s.old.state s.new.state }
+    ensures refused { IfErr result (λ fault. Refusal s.old.stream fault s.new.stream) }
+    ensures marks { OnErr result ((more : List (ℕ × Ptr Operation)) × (marks_of s.new.state ≡ marks_of s.old.state ++ more)) }
+    ensures kept { OnErr result ((mark : ℕ) → mark ≤ s.old.state.ctx.now.made → KeepsOlder mark s.old.state.ctx.now s.new.state.ctx.now) }
+{
+    let op = operation_parse(s)?;
+    if !config.look_for_outlined_attrs || !s.state.has_marks() {
+        return Ok(op);
+    }
+    section_parse(s)?;
+    Ok(op)
+}
+
+/// The outermost reading: it gives back what it made where it is refused.
+fn outermost_parse<T: IrText<A>, A: AttrText, U>(
+    s: &mut StateStream<'_, T, A, U>,
+    config: OperationParserConfig,
+) -> ParseResult<Ptr<Operation>, A>
+    ensures lent { s.new.state.ctx.ghost_name ≡ s.old.state.ctx.ghost_name }
+    ensures rest { KeepsRest s.old.state s.new.state }
+    ensures refused { IfErr result (λ fault. Refusal s.old.stream fault s.new.stream) }
+    ensures objects { OnErr result (SameObjects s.old.state.ctx.now s.new.state.ctx.now) }
+    ensures marks { OnErr result (marks_of s.new.state ≡ marks_of s.old.state) }
+{
+    let ctx = &mut *s.state.ctx;
+    let made = ctx.made();
+    let marks = s.state.num_marks();
+    match root_parse(s, config) {
+        Ok(op) => Ok(op),
+        Err(fault) => {
+            s.state.ctx.roll_back(made);
+            s.state.truncate_marks(marks);
+            Err(fault)
+        }
+    }
+}
+
+/// Reading of operations.
+pub trait OperationText {
+    /// Reads a root and, where it has a mark, the section behind it.
+    fn top_level_parse<T: IrText<A>, A: AttrText, U>(
+        stream: &mut StateStream<'_, T, A, U>,
+    ) -> ParseResult<Ptr<Operation>, A>
+        ensures lent { stream.new.state.ctx.ghost_name ≡ stream.old.state.ctx.ghost_name }
+        ensures rest { KeepsRest stream.old.state stream.new.state }
+        ensures refused { IfErr result (λ fault. Refusal stream.old.stream fault stream.new.stream) }
+        ensures objects { OnErr result (SameObjects stream.old.state.ctx.now stream.new.state.ctx.now) }
+        ensures marks { OnErr result (marks_of stream.new.state ≡ marks_of stream.old.state) };
+}
+
+impl OperationText for Operation {
+    fn top_level_parse<T: IrText<A>, A: AttrText, U>(
+        stream: &mut StateStream<'_, T, A, U>,
+    ) -> ParseResult<Ptr<Operation>, A> {
+        outermost_parse(
+            stream,
+            OperationParserConfig {
+                look_for_outlined_attrs: true,
+            },
+        )
+    }
+}
+
+impl<T: IrText<A>, A: AttrText, U> Parsable<T, A, U> for Operation {
+    type Arg = OperationParserConfig;
+
+    type Parsed = Ptr<Operation>;
+
+    fn parse(
+        stream: &mut StateStream<'_, T, A, U>,
+        config: OperationParserConfig,
+    ) -> ParseResult<Ptr<Operation>, A>
+        ensures lent { stream.new.state.ctx.ghost_name ≡ stream.old.state.ctx.ghost_name }
+        ensures rest { KeepsRest stream.old.state stream.new.state }
+        ensures refused { IfErr result (λ fault. Refusal stream.old.stream fault stream.new.stream) }
+        ensures objects { OnErr result (SameObjects stream.old.state.ctx.now stream.new.state.ctx.now) }
+        ensures marks { OnErr result (marks_of stream.new.state ≡ marks_of stream.old.state) }
+    {
+        outermost_parse(stream, config)
+    }
+}

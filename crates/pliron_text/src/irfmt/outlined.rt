@@ -1,0 +1,176 @@
+//! The section behind a root: what is said of the items that carry a mark.
+ghost use Rattle.std.specs.Prelude.{◌≡◌, ◌<◌, length, [], OnOk, OnErr, IfErr};
+ghost use Rattle.irtext_read.specs.States.{marks_of};
+ghost use Rattle.pliron_text.specs.ModuleText.{index_at};
+ghost use Rattle.pliron_text.specs.MustRead.{MustRead};
+ghost use Rattle.pliron_text.specs.SectionText.{entry_location_at, content_at, known_index, entry_at};
+ghost use Rattle.pliron_text.specs.Roots.{itself, replaced, may_follow, Demand, KeepsRest};
+
+use crate::irfmt::demanded::{index_demanded, spaced_text, text_demanded};
+use crate::location::read::location_demanded;
+use crate::parsable::out_of_memory;
+use indexmap::IndexMap;
+use irtext_base::base::{Operation, Ptr};
+use irtext_base::location::Location;
+use irtext_base::parsable::{CharStream, ParseResult};
+use irtext_base::result::Cause;
+use irtext_base::text::{AttrText, IrText};
+use irtext_read::irfmt::faults::{next_is, refuse, refuse_at};
+use irtext_read::irfmt::parsers::skip_white_space;
+use irtext_read::parsable::StateStream;
+
+/// What the entries of a section say, by the index of their marks: a location, where they give one.
+type Entries<A> = IndexMap<usize, Option<Location<A>>>;
+
+/// Whether an entry may have this index.
+fn may_follow<T: IrText<A>, A: AttrText, U>(
+    s: &StateStream<'_, T, A, U>,
+    entries: &Entries<A>,
+    index: usize,
+) -> bool
+    ensures { result ≡ may_follow (marks_of s.now.state) entries.now.entries index }
+{
+    s.state.marked(index).is_some() && !entries.contains_key(&index)
+}
+
+/// The index of an entry: one that a mark has and that no earlier entry had.
+fn entry_index<T: IrText<A>, A: AttrText, U>(
+    s: &mut StateStream<'_, T, A, U>,
+    entries: &Entries<A>,
+) -> ParseResult<usize, A>
+    ensures state { s.new.state ≡ s.old.state }
+    ensures read { MustRead itself replaced (λ i. i) (λ text. known_index (may_follow (marks_of s.old.state) entries.now.entries) (index_at text)) s.old.stream result s.new.stream }
+{
+    let at = s.stream.position();
+    let index = index_demanded(&mut s.stream)?;
+    if !may_follow(s, entries, index) {
+        return Err(refuse_at(&mut s.stream, at, Cause::UnknownIndex(index)));
+    }
+    Ok(index)
+}
+
+/// The location of an entry, where it gives one.
+fn entry_location<S: CharStream, A: Drop>(stream: &mut S) -> ParseResult<Option<Location<A>>, A>
+    ensures { MustRead S.view S.at (λ l. l) entry_location_at stream.old result stream.new }
+{
+    if stream.has_failed() {
+        return Err(refuse(stream, Cause::StreamFailed));
+    }
+    if !next_is(stream, '@') {
+        return Ok(None);
+    }
+    text_demanded(stream, "@[")?;
+    skip_white_space(stream);
+    let location = location_demanded(stream)?;
+    spaced_text(stream, "]")?;
+    text_demanded(stream, ",")?;
+    skip_white_space(stream);
+    Ok(Some(location))
+}
+
+/// What an entry says behind its index.
+fn entry_content<S: CharStream, A: Drop>(stream: &mut S) -> ParseResult<Option<Location<A>>, A>
+    ensures { MustRead S.view S.at (λ l. l) content_at stream.old result stream.new }
+{
+    spaced_text(stream, "=")?;
+    let location = entry_location(stream)?;
+    text_demanded(stream, "[")?;
+    skip_white_space(stream);
+    text_demanded(stream, "]")?;
+    Ok(location)
+}
+
+/// An entry: its index, and the location where it gives one.
+fn entry_read<T: IrText<A>, A: AttrText, U>(
+    s: &mut StateStream<'_, T, A, U>,
+    entries: &Entries<A>,
+) -> ParseResult<(usize, Option<Location<A>>), A>
+    ensures state { s.new.state ≡ s.old.state }
+    ensures read { MustRead itself replaced (λ e. e) (entry_at (may_follow (marks_of s.old.state) entries.now.entries)) s.old.stream result s.new.stream }
+{
+    let index = entry_index(s, entries)?;
+    let location = entry_content(&mut s.stream)?;
+    Ok((index, location))
+}
+
+/// An entry, which is noted, and the white space behind it.
+fn entry_parse<T: IrText<A>, A: AttrText, U>(
+    s: &mut StateStream<'_, T, A, U>,
+    entries: &mut Entries<A>,
+) -> ParseResult<(), A>
+    ensures state { s.new.state ≡ s.old.state }
+    ensures shorter { OnOk result (length s.new.stream.rest < length s.old.stream.rest) }
+    ensures fine { OnOk result (s.new.stream.failed ≡ s.old.stream.failed) }
+    ensures refused { IfErr result (λ fault. Demand s.old.stream fault s.new.stream) }
+{
+    let entry = entry_read(s, entries)?;
+    if entries.insert(entry.0, entry.1).is_err() {
+        return Err(out_of_memory(s));
+    }
+    skip_white_space(&mut s.stream);
+    Ok(())
+}
+
+/// Entries as long as `!` follows, with white space behind each.
+fn entries_parse<T: IrText<A>, A: AttrText, U>(
+    s: &mut StateStream<'_, T, A, U>,
+) -> ParseResult<Entries<A>, A>
+    ensures state { s.new.state ≡ s.old.state }
+    ensures fine { OnOk result (s.new.stream.failed ≡ s.old.stream.failed) }
+    ensures refused { IfErr result (λ fault. Demand s.old.stream fault s.new.stream) }
+{
+    let mut entries = IndexMap::new(s.stream.allocator());
+    while next_is(&s.stream, '!') {
+        entry_parse(s, &mut entries)?;
+    }
+    Ok(entries)
+}
+
+/// Sets the location of an operation, where it stands.
+fn locate<T: IrText<A>, A: AttrText, U>(
+    s: &mut StateStream<'_, T, A, U>,
+    op: Ptr<Operation>,
+    location: Location<A>,
+)
+    ensures lent { s.new.state.ctx.ghost_name ≡ s.old.state.ctx.ghost_name }
+    ensures stream { s.new.stream ≡ s.old.stream }
+    ensures rest { KeepsRest s.old.state s.new.state }
+    ensures marks { marks_of s.new.state ≡ marks_of s.old.state }
+{
+    let ctx = &mut *s.state.ctx;
+    if ctx.contains_operation(op) {
+        op.set_loc(ctx, location);
+    }
+}
+
+/// Gives each marked operation the location that its entry gives.
+fn apply<T: IrText<A>, A: AttrText, U>(s: &mut StateStream<'_, T, A, U>, entries: Entries<A>)
+    ensures lent { s.new.state.ctx.ghost_name ≡ s.old.state.ctx.ghost_name }
+    ensures stream { s.new.stream ≡ s.old.stream }
+    ensures rest { KeepsRest s.old.state s.new.state }
+    ensures marks { marks_of s.new.state ≡ marks_of s.old.state }
+{
+    let mut entries = entries;
+    while let Some((index, location)) = entries.pop() {
+        if let (Some(op), Some(location)) = (s.state.marked(index), location) {
+            locate(s, op, location);
+        }
+    }
+}
+
+/// The section, which must stand there. Nothing is changed before all of it was read.
+pub(crate) fn section_parse<T: IrText<A>, A: AttrText, U>(
+    s: &mut StateStream<'_, T, A, U>,
+) -> ParseResult<(), A>
+    ensures lent { s.new.state.ctx.ghost_name ≡ s.old.state.ctx.ghost_name }
+    ensures rest { KeepsRest s.old.state s.new.state }
+    ensures fresh { OnOk result (marks_of s.new.state ≡ []) }
+    ensures refused { IfErr result (λ fault. Demand s.old.stream fault s.new.stream) }
+    ensures unchanged { OnErr result (s.new.state ≡ s.old.state) }
+{
+    spaced_text(&mut s.stream, "outlined_attributes:")?;
+    let entries = entries_parse(s)?;
+    apply(s, entries);
+    s.state.truncate_marks(0);
+    Ok(())
+}

@@ -1,0 +1,154 @@
+//! Laws of the definitions that the reader's and the printer's contracts speak of. Each function does nothing: its contract is
+//! a theorem about every text, tree and graph, proved from the definitions alone and from the laws of the caller's types.
+ghost use Rattle.std.specs.Prelude.{◌≡◌, ◌<◌, ◌^◌, ℕ, Bool, List, [], ◌++◌, ◌↔◌, Option, None, Some, ⊤};
+ghost use Rattle.irtext_base.specs.Format.{Accepted, Format, Id, same_text};
+ghost use Rattle.irtext_base.specs.Own.{language, unplaced, texts_of};
+ghost use Rattle.irtext_base.specs.Text.{after_space};
+ghost use Rattle.pliron_text.specs.Acts.{failures_of, root_script, tree_script};
+ghost use Rattle.pliron_text.specs.Bare.{bare};
+ghost use Rattle.pliron_text.specs.Build.{build};
+ghost use Rattle.pliron_text.specs.Closed.{Closed, Fit};
+ghost use Rattle.pliron_text.specs.Fillable.{GraphKeepsKeys};
+ghost use Rattle.pliron_text.specs.Graph.{Graph, Printing, entries_of, written};
+ghost use Rattle.pliron_text.specs.History.{events};
+ghost use Rattle.pliron_text.specs.LeftOut.{AllShown};
+ghost use Rattle.pliron_text.specs.Links.{Linked, links};
+ghost use Rattle.pliron_text.specs.Names.{block_name, value_name};
+ghost use Rattle.pliron_text.specs.Placeholders.{Answers, In, fresh_tracker, read};
+ghost use Rattle.pliron_text.specs.ReadSection.{Entry};
+ghost use Rattle.pliron_text.specs.Reads.{reads};
+ghost use Rattle.pliron_text.specs.Resolves.{Resolves};
+ghost use Rattle.pliron_text.specs.Same.{SameShapes, SmallGraph, stood};
+ghost use Rattle.pliron_text.specs.Scopes.{bound, failures, no_scope};
+ghost use Rattle.pliron_text.specs.Script.{Place, User, done};
+ghost use Rattle.pliron_text.specs.Section.{section, text};
+ghost use Rattle.pliron_text.specs.Spell.{spelled};
+ghost use Rattle.pliron_text.specs.TextScopes.{Script};
+ghost use Rattle.pliron_text.specs.Tree.{Tree};
+ghost use Rattle.pliron_text.specs.Wordy.{Wordy};
+ghost use Rattle.pliron_text.specs.Writable.{Behind, BehindRoot, Writable};
+
+pub mod building;
+
+use irtext_base::text::{AttrText, IrText};
+
+pub mod section;
+
+/// A text reads as one tree at most, and leaves one rest.
+pub fn one_tree<T: IrText<A>, A: AttrText>()
+    ensures { (formats : Id → Option Format) (x y : Tree ℕ T A) (t u v : List ℕ) →
+        let l = language (texts_of T.reading T.written) (texts_of A.reading A.written) formats in
+        reads l x t u → reads l y t v → (x ≡ y) × (u ≡ v) }
+{}
+
+/// What is written of a tree reads as that tree, before whatever printed IR has behind it.
+pub fn reads_back<T: IrText<A>, A: AttrText>()
+    ensures { (formats : Id → Option Format) (width n : ℕ) (t : Tree ⊤ T A) (f : List ℕ) →
+        let l = unplaced (texts_of T.reading T.written) (texts_of A.reading A.written) formats in
+        Writable l t → Behind t.own.mark f →
+        (read : Tree ℕ T A) × (u : List ℕ) × reads (language (texts_of T.reading T.written) (texts_of A.reading A.written) formats) read (spelled l width n t ++ f) u
+        × (bare read ≡ t) × (after_space u ≡ after_space f) }
+{}
+
+/// One pass with placeholders over a root and its section refuses exactly where the two passes do, by the same first failure,
+/// and else each operand and successor holds the definition that the two passes look up.
+pub fn placeholders_are_two_passes<T, A, X>()
+    ensures { (isolated : Id → Bool) (t : Tree ℕ T A) (es : List (Entry ℕ A X)) →
+        Answers (failures_of isolated t es) (bound same_text [] [] (root_script isolated t es)) (read (Ok fresh_tracker) (events (root_script isolated t es))) }
+{}
+
+/// The same of any part that is read by itself, as of regions under a parent.
+pub fn parts_alone()
+    ensures { (x : Script) → Answers (failures same_text no_scope x) (bound same_text [] [] x) (read (Ok fresh_tracker) (events x)) }
+{}
+
+/// A use means a definition, in a tree that a text reads as and its section, exactly where the operation that is built there has
+/// that definition as that operand or successor. Formats are accepted.
+pub fn uses_are_built<T: IrText<A>, A: AttrText, X>()
+    ensures { (formats : Id → Option Format) (isolated : Id → Bool) (first : ℕ → X) (es : List (Entry ℕ A X)) (t : Tree ℕ T A) (text rest : List ℕ) →
+        ((id : Id) (format : Format) → formats id ≡ Some format → Accepted format) →
+        reads (language (texts_of T.reading T.written) (texts_of A.reading A.written) formats) t text rest →
+        (u : User) (p : Place) → In (u, p) (bound same_text [] [] (root_script isolated t es)) ↔ In (u, p) (links (build isolated first es t)) }
+{}
+
+/// Where nothing is wrong with a tree that a text reads as and its section, each operand and each successor that is built holds a
+/// definition. Formats are accepted.
+pub fn operands_are_there<T: IrText<A>, A: AttrText, X>()
+    ensures { (formats : Id → Option Format) (isolated : Id → Bool) (first : ℕ → X) (es : List (Entry ℕ A X)) (t : Tree ℕ T A) (text rest : List ℕ) →
+        ((id : Id) (format : Format) → formats id ≡ Some format → Accepted format) →
+        reads (language (texts_of T.reading T.written) (texts_of A.reading A.written) formats) t text rest →
+        failures_of isolated t es ≡ [] → Linked (build isolated first es t) }
+{}
+
+/// Printed names of distinct values differ, and of distinct blocks, whatever their given names and labels.
+pub fn printed_names_differ()
+    ensures values { (g h : Option (List ℕ)) (m n : ℕ) → m < 2 ^ 64 → n < 2 ^ 64 → value_name g m ≡ value_name h n → m ≡ n }
+    ensures blocks { (l k : Option (List ℕ)) (b c : ℕ × ℕ) → b.0 < 2 ^ 64 → b.1 < 2 ^ 64 → c.0 < 2 ^ 64 → c.1 < 2 ^ 64 → block_name l b ≡ block_name k c → (b.0 ≡ c.0) × (b.1 ≡ c.1) }
+    ensures between { (g l : Option (List ℕ)) (n : ℕ) (b : ℕ × ℕ) → n < 2 ^ 64 → b.0 < 2 ^ 64 → b.1 < 2 ^ 64 → value_name g n ≡ block_name l b → ⊥ }
+{}
+
+/// Whatever tree reads as what is written of a closed root, places aside: it resolves, and what it builds has the root's ids,
+/// types, operands, successors and printed labels, place by place.
+pub fn names_come_back<T, A, X>()
+    ensures resolves { (C : Printing T A) (isolated : Id → Bool) (g : Graph T A) (t : Tree ℕ T A) →
+        Fit C isolated g → SmallGraph C isolated g → GraphKeepsKeys g → Closed C isolated g →
+        bare t ≡ written C None g → failures same_text no_scope (tree_script isolated t done) ≡ [] }
+    ensures shapes { (C : Printing T A) (isolated : Id → Bool) (first : ℕ → X) (es : List (Entry ℕ A X)) (g : Graph T A) (t : Tree ℕ T A) →
+        Fit C isolated g → SmallGraph C isolated g →
+        bare t ≡ written C None g → SameShapes (stood C isolated g) (build isolated first es t) }
+{}
+
+/// The text of a closed root whose operations fit accepted formats reads, before whatever printed IR has behind it, as a
+/// tree that resolves, and what that tree builds has the root's ids, types, operands, successors and printed labels, place by place.
+pub fn round_trip<T: IrText<A>, A: AttrText, X>()
+    ensures { (C : Printing T A) (isolated : Id → Bool) (first : ℕ → X) (es : List (Entry ℕ A X)) (g : Graph T A) (width n : ℕ) (f : List ℕ) →
+        let types = texts_of T.reading T.written in
+        let owns = texts_of A.reading A.written in
+        Wordy C g → Fit C isolated g → SmallGraph C isolated g → GraphKeepsKeys g → Closed C isolated g → Behind (written C None g).own.mark f →
+        (t : Tree ℕ T A) × (u : List ℕ) × reads (language types owns C.format_of) t (spelled (unplaced types owns C.format_of) width n (written C None g) ++ f) u
+        × (after_space u ≡ after_space f) × (bare t ≡ written C None g)
+        × (failures same_text no_scope (tree_script isolated t done) ≡ []) × SameShapes (stood C isolated g) (build isolated first es t) }
+{}
+
+/// What is written of a root reads as that tree before a section too.
+pub fn root_reads_back<T: IrText<A>, A: AttrText>()
+    ensures { (formats : Id → Option Format) (width n : ℕ) (t : Tree ⊤ T A) (f : List ℕ) →
+        let l = unplaced (texts_of T.reading T.written) (texts_of A.reading A.written) formats in
+        Writable l t → BehindRoot l t f →
+        (read : Tree ℕ T A) × (u : List ℕ) × reads (language (texts_of T.reading T.written) (texts_of A.reading A.written) formats) read (spelled l width n t ++ f) u
+        × (bare read ≡ t) × (after_space u ≡ after_space f) }
+{}
+
+/// The root of a text with its section reads as what was written of it, and what is left is the section. Where nothing was
+/// marked there is no section, and what is left is what stands behind the text.
+pub fn root_before_section<T: IrText<A>, A: AttrText>()
+    ensures { (C : Printing T A) (isolated : Id → Bool) (g : Graph T A) (width n : ℕ) (f : List ℕ) →
+        let types = texts_of T.reading T.written in
+        let owns = texts_of A.reading A.written in
+        let l = unplaced types owns C.format_of in
+        Wordy C g → Fit C isolated g → SmallGraph C isolated g → Behind (written C None g).own.mark f →
+        (t : Tree ℕ T A) × (u : List ℕ) × reads (language types owns C.format_of) t (text l C g n width None ++ f) u
+        × (bare t ≡ written C None g) × (after_space u ≡ after_space (section l C (entries_of C None g) ++ f)) }
+{}
+
+/// The text of a root that was printed under a limit reads as no tree where a region was left out, whatever printed IR has behind it.
+pub fn left_out_is_refused<T: IrText<A>, A: AttrText>()
+    ensures { (C : Printing T A) (isolated : Id → Bool) (g : Graph T A) (limit : Option ℕ) (width n : ℕ) (f : List ℕ) (t : Tree ℕ T A) (u : List ℕ) →
+        let types = texts_of T.reading T.written in
+        let owns = texts_of A.reading A.written in
+        Wordy C g → Fit C isolated g → SmallGraph C isolated g → Behind (written C limit g).own.mark f → (AllShown (written C limit g) → ⊥) →
+        reads (language types owns C.format_of) t (text (unplaced types owns C.format_of) C g n width limit ++ f) u → ⊥ }
+{}
+
+/// A root that a text reads as, with its section, is refused by nothing exactly where it resolves: each operation has as many
+/// names as result types; reserved keys have given names; nothing is used or defined outside of every region; a root with
+/// regions is isolated; no scope defines a name twice, and each defines what is used in it; no two items have one mark; and
+/// each entry is of a mark of its own, with references to attributes that are there.
+pub fn what_resolves<T: IrText<A>, A: AttrText, X>()
+    ensures is_needed { (formats : Id → Option Format) (isolated : Id → Bool) (t : Tree ℕ T A) (es : List (Entry ℕ A X)) (source rest : List ℕ) →
+        reads (language (texts_of T.reading T.written) (texts_of A.reading A.written) formats) t source rest →
+        failures_of isolated t es ≡ [] → Resolves isolated t es }
+    ensures is_enough { (formats : Id → Option Format) (isolated : Id → Bool) (t : Tree ℕ T A) (es : List (Entry ℕ A X)) (source rest : List ℕ) →
+        reads (language (texts_of T.reading T.written) (texts_of A.reading A.written) formats) t source rest →
+        Resolves isolated t es → failures_of isolated t es ≡ [] }
+{}

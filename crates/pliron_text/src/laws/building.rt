@@ -1,0 +1,63 @@
+//! Laws of the whole round trip: what is read of a written root and its section is equal to it up to fillings.
+ghost use Rattle.std.specs.Prelude.{◌≡◌, ℕ, Bool, List, [], Option, None, true};
+ghost use Rattle.irtext_base.specs.Format.{Format, Id};
+ghost use Rattle.irtext_base.specs.Own.{Standing, language, texts_of, unplaced};
+ghost use Rattle.irtext_base.specs.Text.{after_space};
+ghost use Rattle.pliron_text.specs.Acts.{failures_of};
+ghost use Rattle.pliron_text.specs.Bare.{bare};
+ghost use Rattle.pliron_text.specs.Build.{build};
+ghost use Rattle.pliron_text.specs.Closed.{Closed, Fit};
+ghost use Rattle.pliron_text.specs.Contents.{Contents};
+ghost use Rattle.pliron_text.specs.Fillable.{GraphKeepsKeys};
+ghost use Rattle.pliron_text.specs.Graph.{Graph, Printing, written};
+ghost use Rattle.pliron_text.specs.KeysDiffer.{GraphKeysDiffer};
+ghost use Rattle.pliron_text.specs.Marked.{reads_root};
+ghost use Rattle.pliron_text.specs.ReadSection.{Entry};
+ghost use Rattle.pliron_text.specs.Reads.{reads};
+ghost use Rattle.pliron_text.specs.RoundTrip.{ComesBack, GraphHeld};
+ghost use Rattle.pliron_text.specs.Same.{Locations, SmallGraph, UpToFillings, stood};
+ghost use Rattle.pliron_text.specs.Section.{text};
+ghost use Rattle.pliron_text.specs.Tree.{Tree};
+ghost use Rattle.pliron_text.specs.Wordy.{Wordy};
+ghost use Rattle.pliron_text.specs.WrittenSection.{SmallSection};
+
+use irtext_base::text::{AttrText, IrText};
+
+/// Whatever is read of a written root, places aside, and resolves, with a section in which each item finds its own location and
+/// outlined attributes, builds a graph that is equal to the root up to fillings.
+pub fn equal_up_to_fillings<T: IrText<A>, A: AttrText, X>()
+    ensures { (C : Printing T A) (isolated : Id → Bool) (K : Locations X) (first : ℕ → X) (es : List (Entry ℕ A X)) (g : Graph T A) (t : Tree ℕ T A) (text rest : List ℕ) →
+        ((p : ℕ) → K.is_position (first p) ≡ true) → Fit C isolated g → SmallGraph C isolated g → GraphKeepsKeys g → GraphKeysDiffer g →
+        bare t ≡ written C None g → reads (language (texts_of T.reading T.written) (texts_of A.reading A.written) C.format_of) t text rest →
+        failures_of isolated t es ≡ [] → Contents C K.text es g t → UpToFillings K (stood C isolated g) (build isolated first es t) }
+{}
+
+/// The printed text of a closed root whose operations fit accepted formats, with its section, reads as a tree and entries that
+/// resolve, and what they build is equal to the root up to fillings: a position stands where a location was unknown, and the
+/// printed names where there were no given names.
+pub fn text_comes_back<T: IrText<A>, A: AttrText, X>()
+    ensures { (location_at : List ℕ → Standing X) (K : Locations X) (first : ℕ → X) (C : Printing T A) (isolated : Id → Bool) (g : Graph T A) (width n : ℕ) →
+        ((p : ℕ) → K.is_position (first p) ≡ true) → ((a b : A) → C.same_own a b ≡ true → a ≡ b) → ((a : A) → C.same_own a a ≡ true) →
+        Wordy C g → Fit C isolated g → SmallGraph C isolated g → GraphKeepsKeys g → GraphHeld location_at K g → Closed C isolated g → SmallSection C g →
+        ComesBack (texts_of T.reading T.written) (texts_of A.reading A.written) location_at K first C isolated g width n }
+{}
+
+/// Whatever the printed text of such a root reads as, with its section, takes all of it but white space, resolves, and builds a
+/// graph that is equal to the root up to fillings.
+pub fn each_reading_comes_back<T: IrText<A>, A: AttrText, X>()
+    ensures { (location_at : List ℕ → Standing X) (K : Locations X) (first : ℕ → X) (C : Printing T A) (isolated : Id → Bool) (g : Graph T A) (width n : ℕ) →
+        let types = texts_of T.reading T.written in
+        let owns = texts_of A.reading A.written in
+        ((p : ℕ) → K.is_position (first p) ≡ true) → ((a b : A) → C.same_own a b ≡ true → a ≡ b) → ((a : A) → C.same_own a a ≡ true) →
+        Wordy C g → Fit C isolated g → SmallGraph C isolated g → GraphKeepsKeys g → GraphHeld location_at K g → Closed C isolated g → SmallSection C g →
+        (t : Tree ℕ T A) (es : List (Entry ℕ A X)) (rest : List ℕ) →
+        reads_root (language types owns C.format_of) location_at t es (text (unplaced types owns C.format_of) C g n width None) rest →
+        (after_space rest ≡ []) × (failures_of isolated t es ≡ []) × UpToFillings K (stood C isolated g) (build isolated first es t) }
+{}
+
+/// A text reads as one root with its section at most, and leaves one rest.
+pub fn one_root<T: IrText<A>, A: AttrText, X>()
+    ensures { (location_at : List ℕ → Standing X) (formats : Id → Option Format) (x y : Tree ℕ T A) (es fs : List (Entry ℕ A X)) (t u v : List ℕ) →
+        let l = language (texts_of T.reading T.written) (texts_of A.reading A.written) formats in
+        reads_root l location_at x es t u → reads_root l location_at y fs t v → (x ≡ y) × (es ≡ fs) × (u ≡ v) }
+{}

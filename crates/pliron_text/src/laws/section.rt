@@ -1,0 +1,61 @@
+//! Laws of the section behind a root: what is written of a root with its section is read back whole.
+ghost use Rattle.std.specs.Prelude.{◌≡◌, ℕ, ◌+◌, Bool, true, List, [], length, map, None, Option, Some};
+ghost use Rattle.irtext_base.specs.Format.{distinct, same_text, Id};
+ghost use Rattle.irtext_base.specs.Own.{language, texts_of, unplaced, Standing};
+ghost use Rattle.pliron_text.specs.Acts.{failures_of, tree_script};
+ghost use Rattle.pliron_text.specs.Bare.{bare};
+ghost use Rattle.pliron_text.specs.Build.{build};
+ghost use Rattle.pliron_text.specs.Closed.{Closed, Fit};
+ghost use Rattle.pliron_text.specs.Contents.{Contents};
+ghost use Rattle.pliron_text.specs.EmptyModule.{empty_module, module_format};
+ghost use Rattle.pliron_text.specs.Fillable.{GraphKeepsKeys};
+ghost use Rattle.pliron_text.specs.Fine.{IsWord};
+ghost use Rattle.pliron_text.specs.Graph.{entries_of, shared, written, Graph, Printing};
+ghost use Rattle.pliron_text.specs.Marked.{reads_root};
+ghost use Rattle.pliron_text.specs.ReadSection.{Entry};
+ghost use Rattle.pliron_text.specs.RoundTrip.{ComesBack, GraphHeld, LocationReads};
+ghost use Rattle.pliron_text.specs.Same.{stood, Locations, SameShapes, SmallGraph};
+ghost use Rattle.pliron_text.specs.Scopes.{facts};
+ghost use Rattle.pliron_text.specs.Script.{done};
+ghost use Rattle.pliron_text.specs.Section.{text};
+ghost use Rattle.pliron_text.specs.Tree.{Tree};
+ghost use Rattle.pliron_text.specs.Wordy.{Wordy};
+ghost use Rattle.pliron_text.specs.WrittenSection.{bare_section, index_of, numbers, written_section, SmallSection};
+
+use irtext_base::text::{AttrText, IrText};
+
+/// The printed text of an empty module, with the section of its location where that is known, reads as a tree and entries that
+/// resolve, and what they build is equal to the module: a position stands where the location was unknown, and nothing else differs.
+pub fn module_comes_back<T: IrText<A>, A: AttrText, X>()
+    ensures { (location_at : List ℕ → Standing X) (K : Locations X) (first : ℕ → X) (C : Printing T A) (isolated : Id → Bool) (id : Id) (name : List ℕ) (location : Option (List ℕ)) (width n : ℕ) →
+        ((p : ℕ) → K.is_position (first p) ≡ true) → IsWord id.dialect → IsWord id.name → IsWord name →
+        C.format_of id ≡ Some module_format → isolated id ≡ true → LocationReads location_at K location →
+        ComesBack (texts_of T.reading T.written) (texts_of A.reading A.written) location_at K first C isolated (empty_module id name location) width n }
+{}
+
+/// The text of a closed root whose operations fit accepted formats, with its section, reads as a tree and entries, which
+/// are the written ones but for their places. They resolve; each item's mark leads to the item's own location and outlined
+/// attributes; and what they build has the root's ids, types, operands, successors and printed labels, place by place.
+pub fn section_comes_back<T: IrText<A>, A: AttrText, X>()
+    ensures { (location_at : List ℕ → Standing X) (K : Locations X) (first : ℕ → X) (C : Printing T A) (isolated : Id → Bool) (g : Graph T A) (width n : ℕ) →
+        let types = texts_of T.reading T.written in
+        let owns = texts_of A.reading A.written in
+        let printing = unplaced types owns C.format_of in
+        ((a b : A) → C.same_own a b ≡ true → a ≡ b) → ((a : A) → C.same_own a a ≡ true) →
+        Wordy C g → Fit C isolated g → SmallGraph C isolated g → GraphKeepsKeys g → GraphHeld location_at K g → Closed C isolated g → SmallSection C g →
+        (t : Tree ℕ T A) × (es : List (Entry ℕ A X)) × (u : List ℕ) × reads_root (language types owns C.format_of) location_at t es (text printing C g n width None) u
+        × (bare t ≡ written C None g) × (bare_section K.text es ≡ written_section C (entries_of C None g))
+        × (failures_of isolated t es ≡ []) × Contents C K.text es g t × SameShapes (stood C isolated g) (build isolated first es t) }
+{}
+
+/// The marks of what is written of a graph, however many regions deep, are 0, 1 and so on in reading order, as many as its section
+/// has items. So are the indices of the section's entries, where what is written once follows the items without a gap, each
+/// attribute in one entry.
+pub fn indices_in_order<T, A>()
+    ensures marks { (C : Printing T A) (isolated : Id → Bool) (l : Option ℕ) (g : Graph T A) → Wordy C g → Fit C isolated g →
+        (facts same_text (tree_script isolated (written C l g) done)).marks ≡ numbers 0 (length (entries_of C l g)) }
+    ensures entries { (C : Printing T A) (l : Option ℕ) (g : Graph T A) →
+        map index_of (written_section C (entries_of C l g)) ≡ numbers 0 (length (entries_of C l g) + length (shared C (entries_of C l g))) }
+    ensures once { (C : Printing T A) (l : Option ℕ) (g : Graph T A) → ((a b : A) → C.same_own a b ≡ true → a ≡ b) → ((a : A) → C.same_own a a ≡ true) →
+        distinct C.same_own (shared C (entries_of C l g)) ≡ true }
+{}

@@ -1,0 +1,12 @@
+//! The text of IR: operations, blocks and regions are read from it and printed to it. Hands on what the lower crates offer.
+#![tactic(auto)]
+
+pub mod base;
+pub mod ir;
+pub mod irfmt;
+pub mod laws;
+pub mod location;
+pub mod parsable;
+pub mod printable;
+pub mod result;
+pub mod text;

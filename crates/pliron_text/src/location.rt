@@ -1,0 +1,6 @@
+//! Where operations and errors come from, and how that is read and printed.
+
+pub mod print;
+pub mod read;
+
+pub use irtext_base::location::{Location, PathKey, Source};

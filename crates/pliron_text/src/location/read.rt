@@ -1,0 +1,40 @@
+//! Reading of locations: so far of places in memory.
+ghost use Rattle.irtext_base.specs.Faults.{characters};
+ghost use Rattle.pliron_text.specs.MustRead.{MustRead};
+ghost use Rattle.pliron_text.specs.LocationText.{labelled_at, position_at, location_at};
+
+use crate::irfmt::demanded::{i32_demanded, spaced_text, text_demanded};
+use irtext_base::location::{Location, Source};
+use irtext_base::parsable::{CharStream, ParseResult, SourcePosition};
+
+/// A word, `:` and a number.
+fn labelled_number<S: CharStream, A>(stream: &mut S, word: &'static str) -> ParseResult<i32, A>
+    ensures { MustRead S.view S.at (λ z. z) (labelled_at (characters word.now)) stream.old result stream.new }
+{
+    text_demanded(stream, word)?;
+    spaced_text(stream, ":")?;
+    i32_demanded(stream)
+}
+
+/// A line and a column.
+fn position_parse<S: CharStream, A>(stream: &mut S) -> ParseResult<SourcePosition, A>
+    ensures { MustRead S.view S.at (λ at. at) position_at stream.old result stream.new }
+{
+    let line = labelled_number(stream, "line")?;
+    spaced_text(stream, ",")?;
+    let column = labelled_number(stream, "column")?;
+    Ok(SourcePosition { line, column })
+}
+
+/// A location, which must stand there.
+pub(crate) fn location_demanded<S: CharStream, A>(stream: &mut S) -> ParseResult<Location<A>, A>
+    ensures { MustRead S.view S.at (λ l. l) location_at stream.old result stream.new }
+{
+    text_demanded(stream, "<in-memory>")?;
+    spaced_text(stream, ":")?;
+    let pos = position_parse(stream)?;
+    Ok(Location::SrcPos {
+        src: Source::InMemory,
+        pos,
+    })
+}

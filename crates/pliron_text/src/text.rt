@@ -1,0 +1,3 @@
+//! The law of the caller's types and attributes.
+
+pub use irtext_base::text::{AttrText, IrText};
