@@ -8,6 +8,6 @@ use Rattle.pliron_text.proofs.printable.displayable.Displayable.can_be_printed.T
 
 pub can_be_printed_spec : {M : Type 1} → statement M
 can_be_printed_spec {M} =
-    tie.close (λ T1 T2 T3 L1 L2 L3 x xd t td te ted tp tpd a ad ai aid ae aed ap apd ah ahd tD aD w b1 b2 b3 b4 b5 b6 b7 b8 b9 b10 b11 𝓤 𝓛 𝓣.
-    asks_more 𝓤 𝓛 5 (lts.ps T1 T2 T3 L1 L2 L3 x xd t td te ted tp tpd a ad ai aid ae aed ap apd ah ahd tD aD) (lts.r T1 T2 T3 L1 L2 L3 x xd t td te ted tp tpd a ad ai aid ae aed ap apd ah ahd tD aD) (WpFn 𝓤 𝓛.H 𝓣.C 𝓣.Λ (lts.function T1 T2 T3 L1 L2 L3 x xd t td te ted tp tpd a ad ai aid ae aed ap apd ah ahd tD aD)) (reads.Pre T1 T2 T3 L1 L2 L3 x xd t td te ted tp tpd a ad ai aid ae aed ap apd ah ahd tD aD) (λ κs v. x.can_print v.0.now.value.now v.0.now.ctx.now) (reads.Post T1 T2 T3 L1 L2 L3 x xd t td te ted tp tpd a ad ai aid ae aed ap apd ah ahd tD aD) (λ κs v. v.0.now.printable)
-    (lts.spec T1 T2 T3 L1 L2 L3 x xd t td te ted tp tpd a ad ai aid ae aed ap apd ah ahd tD aD (λ κs v. x.can_print v.0.now.value.now v.0.now.ctx.now) (reads.Post T1 T2 T3 L1 L2 L3 x xd t td te ted tp tpd a ad ai aid ae aed ap apd ah ahd tD aD) (λ c. c.requires) 𝓤 𝓛 𝓣))
+    tie.close (λ Ta Tb Tc L1 L2 L3 x xd t td te ted tp tpd a ad ai aid ae aed ap apd ah ahd tD aD w b1 b2 b3 b4 b5 b6 b7 b8 b9 b10 b11 𝓤 𝓛 𝓣.
+    asks_more 𝓤 𝓛 5 (lts.ps Ta Tb Tc L1 L2 L3 x xd t td te ted tp tpd a ad ai aid ae aed ap apd ah ahd tD aD) (lts.r Ta Tb Tc L1 L2 L3 x xd t td te ted tp tpd a ad ai aid ae aed ap apd ah ahd tD aD) (WpFn 𝓤 𝓛.H 𝓣.C 𝓣.Λ (lts.function Ta Tb Tc L1 L2 L3 x xd t td te ted tp tpd a ad ai aid ae aed ap apd ah ahd tD aD)) (reads.Pre Ta Tb Tc L1 L2 L3 x xd t td te ted tp tpd a ad ai aid ae aed ap apd ah ahd tD aD) (λ κs v. x.can_print v.0.now.value.now v.0.now.ctx.now) (reads.Post Ta Tb Tc L1 L2 L3 x xd t td te ted tp tpd a ad ai aid ae aed ap apd ah ahd tD aD) (λ κs v. v.0.now.printable)
+    (lts.spec Ta Tb Tc L1 L2 L3 x xd t td te ted tp tpd a ad ai aid ae aed ap apd ah ahd tD aD (λ κs v. x.can_print v.0.now.value.now v.0.now.ctx.now) (reads.Post Ta Tb Tc L1 L2 L3 x xd t td te ted tp tpd a ad ai aid ae aed ap apd ah ahd tD aD) (λ c. c.requires) 𝓤 𝓛 𝓣))
