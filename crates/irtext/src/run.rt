@@ -1,7 +1,7 @@
 //! What the program does with its words, its input and its outputs.
 ghost use Rattle.std.specs.Prelude.{◌≤◌, ◌≡◌};
 
-use crate::types::{Note, Pointer};
+use irtext_types::{Note, Pointer};
 use pliron_text::base::{Context, Operation};
 use pliron_text::ir::OperationText;
 use pliron_text::parsable::parse_from_str;

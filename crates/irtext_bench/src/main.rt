@@ -1,7 +1,7 @@
 //! The program of the benchmark: reads roots in a row from one stream, and prints them where the word `print` is given.
 #![tactic(auto)]
 
-use irtext_vectors::nothing::{NoAttribute, NoType};
+use irtext_types::{Note, Pointer};
 use pliron_text::base::{Context, Operation, Ptr};
 use pliron_text::ir::OperationText;
 use pliron_text::location::Source;
@@ -17,7 +17,7 @@ use std::{env, io};
 fn read_roots(
     alloc: Global,
     text: &str,
-    ctx: &mut Context<NoType, NoAttribute>,
+    ctx: &mut Context<Pointer, Note>,
 ) -> Result<Vec<Ptr<Operation>>, AllocError> {
     let stream = TextStream::new(alloc, text)?;
     let state = State::new(ctx, Source::InMemory, ());
@@ -37,7 +37,7 @@ fn read_roots(
 fn print_roots(
     alloc: Global,
     roots: &[Ptr<Operation>],
-    ctx: &Context<NoType, NoAttribute>,
+    ctx: &Context<Pointer, Note>,
 ) -> Result<String, AllocError> {
     let mut text = String::new(alloc);
     for root in roots {

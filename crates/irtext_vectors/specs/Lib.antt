@@ -4,4 +4,3 @@ pub mod Trees
 pub mod Sections
 pub mod Formats
 pub mod Located
-pub mod Nothing

@@ -1,11 +1,10 @@
 //! Worked rows: of each definition what it says of one text, tree, graph or format; and each public call once, on a stream or a
-//! context without types and attributes.
+//! context.
 #![tactic(auto)]
 
 #[cfg(test)]
 mod contexts;
 pub mod definitions;
-pub mod nothing;
 #[cfg(test)]
 mod printing;
 #[cfg(test)]

@@ -1,9 +1,11 @@
-//! The program's own type and attribute, each with one text.
+//! The type and the attribute that the program brings, each with one text.
+#![tactic(auto)]
+
 ghost use Rattle.std.specs.Prelude.{◌≡◌, ◌⊎◌, ◌++◌, false};
 ghost use Rattle.std.specs.Str.{encode_utf8_all, bytes_eq};
 ghost use Rattle.irtext_base.specs.Answers.{Answers, unless_failed};
 ghost use Rattle.irtext_base.specs.Faults.{demand_of, fault_of, Memory, OwnText};
-ghost use Rattle.irtext.specs.Words.{dotted_at};
+ghost use Rattle.irtext_types.specs.Words.{dotted_at};
 
 use irtext_base::parsable::{CharStream, ParseResult, TextStream};
 use irtext_base::result::{Cause, Expected};
@@ -57,7 +59,7 @@ fn dotted_parse<A>(
 }
 
 impl<A> IrText<A> for Pointer {
-    ghost use Rattle.irtext.specs.Laws.{pointer_at, pointer_text, pointer_lawful};
+    ghost use Rattle.irtext_types.specs.Laws.{pointer_at, pointer_text, pointer_lawful};
 
     ghost reading = { pointer_at };
 
@@ -79,7 +81,7 @@ impl<A> IrText<A> for Pointer {
 }
 
 impl IrText<Note> for Note {
-    ghost use Rattle.irtext.specs.Laws.{note_at, note_text, note_lawful};
+    ghost use Rattle.irtext_types.specs.Laws.{note_at, note_text, note_lawful};
 
     ghost reading = { note_at };
 
@@ -106,7 +108,7 @@ impl IrText<Note> for Note {
 }
 
 impl AttrText for Note {
-    ghost use Rattle.irtext.specs.Laws.{note_unreserved};
+    ghost use Rattle.irtext_types.specs.Laws.{note_unreserved};
 
     ghost outlined = { λ _. false };
 

@@ -7,8 +7,8 @@ use Rattle.irtext_base.specs.Answers.{Stands, Takes, Gives, Refuses, Read, Bad, 
 use Rattle.irtext_base.specs.Faults.{Demand, demand_of, fault_of, OwnText}
 use Rattle.irtext_base.proofs.Compose.{stands_after}
 use Rattle.irtext_read.proofs.Words.{encodes-front, taken_since}
-use Rattle.irtext.specs.Words.{in_dotted, dotted_at}
-use Rattle.irtext.proofs.types.dotted_parse.Goals as goal
+use Rattle.irtext_types.specs.Words.{in_dotted, dotted_at}
+use Rattle.irtext_types.proofs.dotted_parse.Goals as goal
 
 in_dotted_ascii : (c : ℕ) → in_dotted c ≡ true → c < 128
 in_dotted_ascii c e = grind (arith, nat_tests)

@@ -8,9 +8,9 @@ use Rattle.irtext_base.specs.Stream.{first_of}
 use Rattle.std.specs.Str.{bytes_eq}
 use Rattle.irtext_base.specs.Answers.{Outcome, Read, Missing, Bad}
 use Rattle.irtext_base.specs.Own.{Standing, found, missing, standing, Texts, texts_of, Ends, Lawful, Unreserved}
-use Rattle.irtext.specs.Words.{in_dotted, dotted_at, pointer_word, note_word}
-use Rattle.irtext.specs.declared.types.Pointer.{Pointer}
-use Rattle.irtext.specs.declared.types.Note.{Note}
+use Rattle.irtext_types.specs.Words.{in_dotted, dotted_at, pointer_word, note_word}
+use Rattle.irtext_types.specs.declared.Pointer.{Pointer}
+use Rattle.irtext_types.specs.declared.Note.{Note}
 
 -- what a text is to the reader of the pointer type
 abbrev pub pointer_at : Text → Outcome Pointer
