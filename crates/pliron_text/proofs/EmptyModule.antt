@@ -2,9 +2,9 @@
 use Rattle.std.proofs.Common.{◌≡◌, ℕ, Bool, true, false, List, [], ◌∷◌, ◌++◌, map, Option, Some, None, option_map, refl, sym, ap, ap₂, ◌∙◌, subst, inl, inr, true≢false, arith}
 use Rattle.std.specs.Prelude.{⊤, is_some}
 use Rattle.std.specs.List.{list_all}
-use Rattle.irtext_base.specs.Text.{Text}
+use Rattle.irtext_base.specs.Text.{Text, after_space}
 use Rattle.irtext_base.specs.Format.{Id, same_text}
-use Rattle.irtext_base.specs.Own.{Texts, unplaced, Lawful, Unreserved, Standing}
+use Rattle.irtext_base.specs.Own.{Texts, language, unplaced, Lawful, Unreserved, Standing}
 use Rattle.pliron_text.specs.Forest.{Regions, no_regions, region, no_blocks, block, MatchRegions}
 use Rattle.pliron_text.specs.Tree as tree
 use Rattle.pliron_text.specs.Tree.{Name, Mark, Attribute, ident, Piece, Part, Op, Head, Brace, shown, Tree, parts_of, views, operand_names, successor_labels}
@@ -13,7 +13,7 @@ use Rattle.pliron_text.specs.Fine.{IsWord, FineMark}
 use Rattle.pliron_text.specs.Writable.{Writable, Behind}
 use Rattle.pliron_text.specs.Graph.{Graph, Printing, lookup, named, body_of, written, entries_of}
 use Rattle.pliron_text.specs.Section as section
-use Rattle.pliron_text.specs.ReadSection.{Entry, of_item}
+use Rattle.pliron_text.specs.ReadSection.{Entry, of_item, of_once}
 use Rattle.pliron_text.specs.Script.{done, does_all}
 use Rattle.pliron_text.specs.Scopes as scopes
 use Rattle.pliron_text.specs.Scopes.{no_scope, failures}
@@ -24,6 +24,8 @@ use Rattle.pliron_text.specs.RoundTrip.{LocationReads, ComesBack}
 use Rattle.pliron_text.specs.WrittenSection.{bare_section, written_section, SmallSection, mark_of}
 use Rattle.pliron_text.specs.Contents.{as_text}
 use Rattle.pliron_text.specs.EmptyModule.{module_format, empty_module}
+use Rattle.pliron_text.specs.Marked.{reads_root}
+use Rattle.pliron_text.specs.SoFar.{HaveNoBlocks, IsSoFar, AreSoFar}
 use Rattle.pliron_text.proofs.BareScript.{mapped_twice, nothing_left, bare_parts, bare_result_types, bare_operand_names, bare_successor_labels}
 use Rattle.pliron_text.proofs.SectionBare.{content_bare, root_resolves_bare}
 use Rattle.pliron_text.proofs.RootBack.{FineItems, RootRead, root_back}
@@ -54,6 +56,18 @@ inline_bare o = ap (views stored) (bare_parts o.body) ∙ stored_parts (parts_of
 -- an operation without its places has no names where it has none
 no_names : {P : Type 0} (ns : List (Name P)) → map bare_name ns ≡ [] → ns ≡ []
 no_names ns e = nothing_left bare_name ns e
+
+-- what a root comes back as, where that is of the form that is read so far
+pub record ComesBackAs {T A X : Type 0} (types : Texts T) (owns : Texts A) (location_at : Text → Standing X) (K : Locations X) (first : ℕ → X) (C : Printing T A) (isolated : Id → Bool) (g : Graph T A) (width n : ℕ) : Type 0 where
+  pub tree : Tree ℕ T A
+  pub entries : List (Entry ℕ A X)
+  pub rest : Text
+  pub reads : reads_root (language types owns C.format_of) location_at tree entries (section.text (unplaced types owns C.format_of) C g n width None) rest
+  pub ends : after_space rest ≡ []
+  pub resolves : failures_of isolated tree entries ≡ []
+  pub same : UpToFillings K (stood C isolated g) (build isolated first entries tree)
+  pub tree_form : IsSoFar tree
+  pub entries_form : AreSoFar entries
 
 module _ {T A X : Type 0} (types : Texts T) (owns : Texts A) (types_law : Lawful T types) (owns_law : Lawful A owns) (unreserved : Unreserved A owns) (location_at : Text → Standing X) (K : Locations X)
     (first : ℕ → X) (positions : (p : ℕ) → K.is_position (first p) ≡ true) (C : Printing T A) (isolated : Id → Bool) (id : Id) (name : Text)
@@ -195,7 +209,41 @@ module _ {T A X : Type 0} (types : Texts T) (owns : Texts A) (types_law : Lawful
           match_regions t.regions (ap (λ t. t.regions) same_tree),
         )
 
-  pub comes_back : (l : Option Text) (width n : ℕ) → LocationReads location_at K l → ComesBack types owns location_at K first C isolated (g l) width n
-  comes_back l width n h =
+    -- the tree has the form that is read so far
+    have_no_blocks : (rs : Regions (Op ℕ T A) (Head ℕ T A) (Brace ℕ)) → bare_regions rs ≡ (module_tree l).regions → HaveNoBlocks rs
+    have_no_blocks no_regions e = tt
+    have_no_blocks (region b no_blocks no_regions) e = tt
+    have_no_blocks (region b (block h os bs) rs) e = absurd (cc e)
+    have_no_blocks (region b no_blocks (region c bs rs)) e = absurd (cc e)
+
+    tree_so_far : IsSoFar t
+    tree_so_far = record { names = names_nothing; blocks = have_no_blocks t.regions (ap (λ t. t.regions) same_tree) }
+
+  -- entries without attributes have that form too
+  are_so_far : (l : Option Text) (es : List (Entry ℕ A X)) → bare_section K.text es ≡ module_section l → AreSoFar es
+  are_so_far None [] e = tt
+  are_so_far None (x ∷ es) e = absurd (cc e)
+  are_so_far (Some l) [] e = tt
+  are_so_far (Some l) (of_item m x [] ∷ []) e = tt
+  are_so_far (Some l) (of_item m x [] ∷ (y ∷ es)) e = absurd (cc e)
+  are_so_far (Some l) (of_item m x (i ∷ is) ∷ es) e = absurd (cc e)
+  are_so_far (Some l) (of_once m a ∷ es) e = absurd (cc e)
+
+  -- the module's text comes back, as a tree and entries of that form
+  pub comes_back_as : (l : Option Text) (width n : ℕ) → LocationReads location_at K l → ComesBackAs types owns location_at K first C isolated (g l) width n
+  comes_back_as l width n h =
       let r = read_back l width n h in
-      (r.0, r.1, r.2, r.3, r.6, resolves l r.0 r.1 r.4 r.5, same_module l r.0 r.1 r.4 r.5)
+      record {
+        tree = r.0;
+        entries = r.1;
+        rest = r.2;
+        reads = r.3;
+        ends = r.6;
+        resolves = resolves l r.0 r.1 r.4 r.5;
+        same = same_module l r.0 r.1 r.4 r.5;
+        tree_form = tree_so_far l r.0 r.1 r.4 r.5;
+        entries_form = are_so_far l r.1 r.5;
+      }
+
+  pub comes_back : (l : Option Text) (width n : ℕ) → LocationReads location_at K l → ComesBack types owns location_at K first C isolated (g l) width n
+  comes_back l width n h = let r = comes_back_as l width n h in (r.tree, r.entries, r.rest, r.reads, r.ends, r.resolves, r.same)

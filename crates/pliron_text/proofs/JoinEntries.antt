@@ -1,9 +1,9 @@
 -- What the reader of a section's entries answers, the grammar's entries, and what is refused of them.
-use Rattle.std.proofs.Common.{◌≡◌, ◌⊎◌, ℕ, Bool, true, false, cond, not, ◌==◌, ◌&&◌, ◌||◌, List, Option, Some, None, [], ◌∷◌, ◌++◌, map, length, refl, sym, ◌∙◌, ap, ap₂, subst, inl, inr, append-nil, append_assoc, true≢false, arith}
+use Rattle.std.proofs.Common.{◌≡◌, ◌⊎◌, ℕ, Bool, true, false, cond, not, ◌==◌, ◌&&◌, ◌||◌, List, Option, Some, None, [], ◌∷◌, ◌++◌, map, length, refl, sym, ◌∙◌, ap, subst, inl, inr, arith}
 use Rattle.std.proofs.lemmas.Bool.Decides.{nat_tests}
 use Rattle.std.specs.Prelude.{codes, flat_map, nat_eq}
 use Rattle.irtext_base.specs.Text.{Text, begins, after_space}
-use Rattle.irtext_base.specs.Reading.{Reading, ◌▹◌, ◌▸◌, the, literal, number, repeated}
+use Rattle.irtext_base.specs.Reading.{Reading, ◌▸◌, the, literal, number, repeated}
 use Rattle.irtext_base.specs.Format.{same_text}
 use Rattle.irtext_base.specs.Faults.{Fault}
 use Rattle.irtext_base.specs.Faults as fault
@@ -14,16 +14,16 @@ use Rattle.pliron_text.specs.Tree.{Mark}
 use Rattle.pliron_text.specs.ReadSection.{Entry, of_item, of_once, entry}
 use Rattle.pliron_text.specs.Script.{Failure, does_all, done, UnknownIndex}
 use Rattle.pliron_text.specs.Scopes.{Scopes, is_among, failures}
-use Rattle.pliron_text.specs.Acts.{entry_acts, late_acts}
+use Rattle.pliron_text.specs.Acts.{entry_acts}
 use Rattle.pliron_text.specs.ModuleText.{index_at}
 use Rattle.pliron_text.specs.SectionText.{content_at, known_index, entry_at, may_have, Entries}
-use Rattle.pliron_text.specs.SoFar.{so_far, location_standing, AreSoFar, DescribeEntries, StopsAt}
-use Rattle.pliron_text.proofs.JoinAnswers.{Followed, followed_read, followed-read, mapped_read}
+use Rattle.pliron_text.specs.SoFar.{so_far, location_standing, AreSoFar, DescribeEntries}
+use Rattle.pliron_text.proofs.JoinAnswers.{followed_read, followed-read, mapped_read}
 use Rattle.pliron_text.proofs.JoinModule.{index_read, index_found}
 use Rattle.pliron_text.proofs.JoinSection.{Content, content_read, content_found}
 
 -- ---- one entry
-known_read : (test : ℕ → Bool) (o : Outcome ℕ) (i : ℕ) (taken rest : Text) → known_index test o ≡ Read i taken rest → (o ≡ Read i taken rest) × (test i ≡ true)
+pub known_read : (test : ℕ → Bool) (o : Outcome ℕ) (i : ℕ) (taken rest : Text) → known_index test o ≡ Read i taken rest → (o ≡ Read i taken rest) × (test i ≡ true)
 known_read test (Read j a r) i taken rest e = go (test j) refl e
   where
     go : (b : Bool) → test j ≡ b → cond b (Read j a r) (Bad (fault.UnknownIndex j) []) ≡ Read i taken rest → (Read j a r ≡ Read i taken rest) × (test i ≡ true)

@@ -3,16 +3,16 @@ use Rattle.std.proofs.Common.{◌≡◌, ℕ, Bool, true, false, cond, ◌==◌,
 use Rattle.std.proofs.lemmas.Bool.Decides.{nat_tests}
 use Rattle.std.specs.Prelude.{codes}
 use Rattle.std.specs.Char.{is_whitespace}
-use Rattle.irtext_base.specs.Text.{Text, begins, front, after, after_space, begins_word, in_word}
+use Rattle.irtext_base.specs.Text.{Text, begins, front, after_space, begins_word}
 use Rattle.irtext_base.specs.Reading as reading
 use Rattle.irtext_base.specs.Reading.{◌▹◌, ◌▸◌, ends, the, literal, identifier, number, separated, more, repeated}
-use Rattle.irtext_base.specs.Faults.{Fault, UnregisteredDialect, UnregisteredOp}
+use Rattle.irtext_base.specs.Faults.{UnregisteredDialect, UnregisteredOp}
 use Rattle.irtext_base.specs.Format as format
 use Rattle.irtext_base.specs.Format.{Id, Format, same_text}
-use Rattle.irtext_base.specs.Answers.{Outcome, Read, Missing, Bad, prefixed, mapped, followed}
+use Rattle.irtext_base.specs.Answers.{Outcome, Read, Missing, Bad, mapped, followed}
 use Rattle.irtext_base.specs.Own.{Texts, Language}
 use Rattle.irtext_base.proofs.Characters.{after_twice}
-use Rattle.irtext_read.specs.Tokens.{text_at, identifier_at, id_at, number_at}
+use Rattle.irtext_read.specs.Tokens.{text_at, id_at, number_at}
 use Rattle.pliron_text.specs.Forest.{Regions, no_regions, region, no_blocks, block}
 use Rattle.pliron_text.specs.Tree as tree
 use Rattle.pliron_text.specs.Tree.{Name, Mark, Part, Body, Op, Head, Brace, shown, elided, Tree, IsOf, parts_of, directive}
@@ -21,7 +21,7 @@ use Rattle.pliron_text.specs.Modules.{module_id, module_format, format_of, is_mo
 use Rattle.pliron_text.specs.LocationText.{space_at}
 use Rattle.pliron_text.specs.ModuleText.{Module, module_with, without_first, registered, led, symbol_at, braces_at, index_at, mark_at, named_at, lead_of, behind_lead, header_at, module_at}
 use Rattle.pliron_text.specs.SoFar.{so_far, HaveNoBlocks, IsSoFar, index_of, Describes}
-use Rattle.pliron_text.proofs.JoinAnswers.{Followed, followed_read, followed-read, mapped_read, Splits, splits_followed, splits_mapped}
+use Rattle.pliron_text.proofs.JoinAnswers.{followed_read, followed-read, mapped_read, Splits, splits_followed, splits_mapped}
 use Rattle.pliron_text.proofs.JoinTokens.{front-after, text_read, text-literal, splits_text, splits_space, word_read, word-identifier, splits_word, number_read, number_found, splits_number, id_read, id_found, splits_id}
 
 -- ---- what stands in front of an operation

@@ -1,24 +1,31 @@
--- Where the readers refuse a text, the grammar reads no root there that resolves.
-use Rattle.std.proofs.Common.{◌≡◌, ◌⊎◌, ℕ, Bool, true, false, cond, not, ◌==◌, ◌&&◌, List, Option, Some, None, [], ◌∷◌, ◌++◌, refl, sym, ◌∙◌, ap, subst, inl, inr, append-nil, true≢false}
+-- Where the readers of a module and of its section stop in a text: at one place alone.
+use Rattle.std.proofs.Common.{◌≡◌, ℕ, Bool, true, false, List, Option, Some, [], ◌∷◌, ◌++◌, refl, sym, ◌∙◌, ap, ap₂, subst, append-nil, append_assoc, true≢false}
+use Rattle.std.specs.Prelude.{codes}
 use Rattle.irtext_base.specs.Text.{Text, begins, after_space}
 use Rattle.irtext_base.specs.Reading.{the}
-use Rattle.irtext_base.specs.Answers.{Outcome, Read, Missing, Bad, mapped, followed}
+use Rattle.irtext_base.specs.Faults.{Fault, UnknownIndex}
+use Rattle.irtext_base.specs.Answers.{Outcome, Read, Bad, followed}
 use Rattle.irtext_base.specs.Own.{Texts}
 use Rattle.irtext_base.specs.declared.location.Location.{Location}
-use Rattle.pliron_text.specs.Tree.{Tree}
-use Rattle.pliron_text.specs.ReadSection.{Entry}
-use Rattle.pliron_text.specs.Marked.{reads_root}
-use Rattle.pliron_text.specs.Acts.{failures_of}
-use Rattle.pliron_text.specs.Modules.{isolated}
-use Rattle.pliron_text.specs.ModuleText.{Module, index_at, module_at}
-use Rattle.pliron_text.specs.SectionText.{content_at, known_index, entry_at, may_have, Entries, heading_at}
-use Rattle.pliron_text.specs.SoFar.{so_far, location_standing, IsSoFar, AreSoFar, SectionStands, IsRefused, RootRefused, no_module, no_section, no_entry}
-use Rattle.pliron_text.proofs.JoinEntries.{onto, said_next}
-use Rattle.pliron_text.proofs.JoinRoot.{may_have-onto, root_resolves}
+use Rattle.irtext_read.specs.Tokens.{text_at}
+use Rattle.pliron_text.specs.LocationText.{space_at}
+use Rattle.pliron_text.specs.ModuleText.{Module, module_at}
+use Rattle.pliron_text.specs.SectionText.{entry_at, may_have, Entries, AllEntries, heading_at}
+use Rattle.pliron_text.specs.SoFar.{StopsAt, SectionStands, RefusedAs, EntriesRefused, SectionRefused, no_heading, no_entry, RootRefused, no_module, no_section}
+use Rattle.pliron_text.proofs.JoinAnswers.{Splits, splits_followed}
+use Rattle.pliron_text.proofs.JoinTokens.{splits_text, splits_space}
+use Rattle.pliron_text.proofs.JoinModule.{module_read}
+use Rattle.pliron_text.proofs.JoinEntries.{onto}
+use Rattle.pliron_text.proofs.JoinRoot.{may_have-onto}
 
+-- ---- two answers of one reader
 -- what is read is not refused
-not_refused : {X : Type 0} (o : Outcome X) (x : X) (taken rest : Text) → o ≡ Read x taken rest → IsRefused o → ⊥
-not_refused o x taken rest e r = subst IsRefused e r
+not_refused : {X : Type 0} (o : Outcome X) (x : X) (taken rest : Text) (cause : Fault) (upto : Text) → o ≡ Read x taken rest → RefusedAs o cause upto → ⊥
+not_refused o x taken rest cause upto e r = subst (λ o. RefusedAs o cause upto) e r
+
+-- what is bad is refused as that
+bad_refused : {X : Type 0} (o : Outcome X) (c : Fault) (u : Text) (cause : Fault) (upto : Text) → o ≡ Bad c u → RefusedAs o cause upto → (c ≡ cause) × (u ≡ upto)
+bad_refused o c u cause upto e r = subst (λ o. RefusedAs o cause upto) e r
 
 same_value : {X : Type 0} (x y : X) (a b r s : Text) → Read x a r ≡ Read y b s → x ≡ y
 same_value x y a b r s e = cc e
@@ -26,58 +33,121 @@ same_value x y a b r s e = cc e
 same_rest : {X : Type 0} (x y : X) (a b r s : Text) → Read x a r ≡ Read y b s → r ≡ s
 same_rest x y a b r s e = cc e
 
--- an entry depends on its index's test alone
-known_index-same : (test other : ℕ → Bool) → ((j : ℕ) → test j ≡ other j) → (o : Outcome ℕ) → known_index test o ≡ known_index other o
-known_index-same test other h (Read i a r) = rw (h i) refl
-known_index-same test other h (Missing cause) = refl
-known_index-same test other h (Bad cause upto) = refl
+-- what stands behind the white space in front of a heading: its word, and white space
+abbrev word_next : Unit {0} → Text → Outcome (Unit {0})
+word_next _ text = followed (text_at (codes "outlined_attributes:") text) (λ _ t. space_at t)
 
-module _ {A : Type 0} where
-  entry_at-same : (test other : ℕ → Bool) → ((j : ℕ) → test j ≡ other j) → (text : Text) → entry_at {A = A} test text ≡ entry_at other text
-  entry_at-same test other h text = ap (λ o. followed o said_next) (known_index-same test other h (index_at text))
+-- what a heading's reader takes and leaves is its text
+splits_heading : Splits heading_at
+splits_heading = splits_followed space_at word_next splits_space (λ u. splits_followed (text_at (codes "outlined_attributes:")) (λ _ t. space_at t) (splits_text (codes "outlined_attributes:")) (λ v. splits_space))
 
-  -- where entries stand up to one that is refused, no entries stand there whole
-  entries_stop : (marks : List ℕ) (earlier before es : List (ℕ × Option (Location A))) (text stop rest : Text) → Entries marks earlier before text stop → begins (the 33) stop ≡ true
-      → IsRefused (entry_at {A = A} (may_have marks (onto before earlier)) stop) → Entries marks earlier es text rest → begins (the 33) rest ≡ false → ⊥
-  entries_stop marks earlier [] [] text stop rest e b r f none = true≢false (sym b ∙ (ap (begins (the 33)) (e ∙ sym f) ∙ none))
-  entries_stop marks earlier [] (g ∷ es) text stop rest e b r (taken, mid, c, f, more) none =
-      not_refused (entry_at (may_have marks earlier) stop) g taken mid (ap (entry_at (may_have marks earlier)) e ∙ f) r
-  entries_stop marks earlier (d ∷ before) [] text stop rest (taken, mid, c, e, more) b r f none = true≢false (sym c ∙ (ap (begins (the 33)) (sym f) ∙ none))
-  entries_stop marks earlier (d ∷ before) (g ∷ es) text stop rest (taken, mid, c, e, more) b r (taken', mid', c', f, more') none =
+-- what is taken in two steps, with what is left behind both
+splits_twice : (taken last upto mid stop text : Text) → taken ++ mid ≡ text → last ++ stop ≡ mid → taken ++ last ≡ upto → upto ++ stop ≡ text
+splits_twice taken last upto mid stop text e f g = ap (λ t. t ++ stop) (sym g) ∙ (append_assoc taken last stop ∙ (ap (λ t. taken ++ t) f ∙ e))
+
+-- ---- where entries end
+module _ (A : Type 0) where
+  -- no entry whose index passes the test stands there
+  record NoEntry (test : ℕ → Bool) (text : Text) : Type 0 where
+    pub none : (e : ℕ × Option (Location A)) (taken rest : Text) → begins (the 33) text ≡ true → entry_at test text ≡ Read e taken rest → ⊥
+
+  no_mark : (test : ℕ → Bool) (text : Text) → begins (the 33) text ≡ false → NoEntry test text
+  no_mark test text e = record { none = λ g taken rest b f. true≢false (sym b ∙ e) }
+
+  refused_none : (test : ℕ → Bool) (text : Text) (cause : Fault) (upto : Text) → RefusedAs (entry_at {A = A} test text) cause upto → NoEntry test text
+  refused_none test text cause upto r = record { none = λ g taken rest b f. not_refused (entry_at test text) g taken rest cause upto f r }
+
+  bad_none : (test : ℕ → Bool) (text : Text) (cause : Fault) (upto : Text) → entry_at {A = A} test text ≡ Bad cause upto → NoEntry test text
+  bad_none test text cause upto e = refused_none test text cause upto (subst (λ o. RefusedAs o cause upto) (sym e) (refl, refl))
+
+  -- the next index may be the same, in whatever order the entries before are listed
+  may_onto : (marks : List ℕ) (before : List (ℕ × Option (Location A))) → may_have marks before ≡ may_have marks (onto before [])
+  may_onto marks before = λ i j. (ap (λ es. may_have marks es j) (sym (append-nil before)) ∙ sym (may_have-onto marks j before [])) i
+
+  onto_none : (marks : List ℕ) (before : List (ℕ × Option (Location A))) (text : Text) → NoEntry (may_have marks before) text → NoEntry (may_have marks (onto before [])) text
+  onto_none marks before text n = subst (λ test. NoEntry test text) (may_onto marks before) n
+
+  -- Two places of one text where its entries end are one place, behind the same entries.
+  ends_same : (marks : List ℕ) (earlier before es : List (ℕ × Option (Location A))) (text stop rest : Text) → Entries marks earlier before text stop → NoEntry (may_have marks (onto before earlier)) stop
+      → Entries marks earlier es text rest → NoEntry (may_have marks (onto es earlier)) rest → (before ≡ es) × (stop ≡ rest)
+  ends_same marks earlier [] [] text stop rest e n f k = (refl, e ∙ sym f)
+  ends_same marks earlier [] (g ∷ es) text stop rest e n (taken, mid, b, f, more) k = absurd (n.none g taken mid (ap (begins (the 33)) e ∙ b) (ap (entry_at (may_have marks earlier)) e ∙ f))
+  ends_same marks earlier (d ∷ before) [] text stop rest (taken, mid, b, e, more) n f k = absurd (k.none d taken mid (ap (begins (the 33)) f ∙ b) (ap (entry_at (may_have marks earlier)) f ∙ e))
+  ends_same marks earlier (d ∷ before) (g ∷ es) text stop rest (taken, mid, b, e, more) n (taken', mid', c, f, more') k =
       let same : d ≡ g = same_value d g taken taken' mid mid' (sym e ∙ f) in
-      let at : mid ≡ mid' = same_rest d g taken taken' mid mid' (sym e ∙ f) in
-      entries_stop marks (d ∷ earlier) before es (after_space mid) stop rest more b r
-      (subst (λ d. Entries marks (d ∷ earlier) es (after_space mid) rest) (sym same) (subst (λ m. Entries marks (g ∷ earlier) es (after_space m) rest) (sym at) more')) none
+      let at : mid' ≡ mid = sym (same_rest d g taken taken' mid mid' (sym e ∙ f)) in
+      let r = ends_same marks (d ∷ earlier) before es (after_space mid) stop rest more n
+      (subst (λ d. Entries marks (d ∷ earlier) es (after_space mid) rest) (sym same) (subst (λ m. Entries marks (g ∷ earlier) es (after_space m) rest) at more'))
+      (subst (λ d. NoEntry (may_have marks (onto es (d ∷ earlier))) rest) (sym same) k) in
+      (ap₂ (λ e es. e ∷ es) same r.0, r.1)
+
+  -- entries that are refused do not stand whole
+  entries_whole : (marks : List ℕ) (es : List (ℕ × Option (Location A))) (text rest : Text) (cause : Fault) (upto : Text) → EntriesRefused A marks text cause upto → AllEntries marks es text rest → ⊥
+  entries_whole marks es text rest cause upto r (stand, end) =
+      let same = ends_same marks [] r.before es text r.stop rest r.stand (onto_none marks r.before r.stop (refused_none (may_have marks r.before) r.stop cause r.last r.refused)) stand (no_mark (may_have marks (onto es [])) rest end) in
+      true≢false (sym r.more ∙ (ap (begins (the 33)) same.1 ∙ end))
+
+  -- entries are refused where one of them has an unknown index: with that cause, and at that place
+  entries_stop : (marks : List ℕ) (text stop : Text) (j : ℕ) (cause : Fault) (upto : Text) → EntriesRefused A marks text cause upto → StopsAt A marks text stop j → (cause ≡ UnknownIndex j) × (upto ++ stop ≡ text)
+  entries_stop marks text stop j cause upto r s =
+      let same = ends_same marks [] r.before s.before text r.stop stop r.stand (onto_none marks r.before r.stop (refused_none (may_have marks r.before) r.stop cause r.last r.refused)) s.entries
+      (onto_none marks s.before stop (bad_none (may_have marks s.before) stop (UnknownIndex j) [] s.unknown)) in
+      let unknown : entry_at {A = A} (may_have marks r.before) r.stop ≡ Bad (UnknownIndex j) [] = ap₂ (λ es t. entry_at {A = A} (may_have marks es) t) same.0 same.1 ∙ s.unknown in
+      let is = bad_refused (entry_at (may_have marks r.before) r.stop) (UnknownIndex j) [] cause r.last unknown r.refused in
+      (sym is.0, splits_twice r.taken r.last upto r.stop stop text r.splits (ap (λ t. t ++ stop) (sym is.1) ∙ sym same.1) r.whole)
+
+  -- ---- a section
+  -- a section that is refused does not stand whole
+  section_whole : (i : ℕ) (es : List (ℕ × Option (Location A))) (text rest : Text) (cause : Fault) (upto : Text) → SectionRefused A (i ∷ []) text cause upto → SectionStands (Some i) es text rest → ⊥
+  section_whole i es text rest cause upto (no_heading r) (taken, behind, h, all) = not_refused (heading_at text) tt taken behind cause upto h r
+  section_whole i es text rest cause upto (no_entry taken' behind' last f r w) (taken, behind, h, all) =
+      let at : behind' ≡ behind = same_rest tt tt taken' taken behind' behind (sym f ∙ h) in
+      entries_whole (i ∷ []) es behind rest cause last (subst (λ t. EntriesRefused A (i ∷ []) t cause last) at r) all
+
+  -- a section is refused where one of its entries has an unknown index
+  section_stop : (i : ℕ) (text taken behind stop : Text) (j : ℕ) (cause : Fault) (upto : Text) → SectionRefused A (i ∷ []) text cause upto → heading_at text ≡ Read tt taken behind → StopsAt A (i ∷ []) behind stop j
+      → (cause ≡ UnknownIndex j) × (upto ++ stop ≡ text)
+  section_stop i text taken behind stop j cause upto (no_heading r) h s = absurd (not_refused (heading_at text) tt taken behind cause upto h r)
+  section_stop i text taken behind stop j cause upto (no_entry taken' behind' last f r w) h s =
+      let at : behind ≡ behind' = same_rest tt tt taken taken' behind behind' (sym h ∙ f) in
+      let k = entries_stop (i ∷ []) behind' stop j cause last r (subst (λ t. StopsAt A (i ∷ []) t stop j) at s) in
+      (k.0, splits_twice taken' last upto behind' stop text (splits_heading text tt taken' behind' f) k.1 w)
 
 module _ {T A : Type 0} (types : Texts T) (owns : Texts A) where
-  -- the section that the grammar reads is the one that the readers refused
-  section_refused : (i : ℕ) (k : Option ℕ) → k ≡ Some i → (es : List (ℕ × Option (Location A))) (mid rest : Text) → SectionStands k es mid rest
-      → (taken behind : Text) × (heading_at mid ≡ Read tt taken behind) × Entries (i ∷ []) [] es behind rest × (begins (the 33) rest ≡ false)
-  section_refused i None e es mid rest s = absurd (cc e)
-  section_refused i (Some j) e es mid rest s = let f : j ≡ i = cc e in (s.0, s.1, s.2, subst (λ j. Entries (j ∷ []) [] es s.1 rest) f s.3.0, s.3.1)
+  -- ---- a root
+  -- the section that is refused behind a module, where its module reads
+  record BehindModule (m : Module) (text mid : Text) (cause : Fault) (upto : Text) : Type 0 where
+    pub mark : ℕ
+    pub is_marked : m.mark ≡ Some mark
+    pub last : Text
+    pub section : SectionRefused A (mark ∷ []) mid cause last
+    pub splits : (stop : Text) → last ++ stop ≡ mid → upto ++ stop ≡ text
 
-  -- Where the readers refuse a text, no root of this form reads there and resolves.
-  pub root_refused : (t : Tree ℕ T A) (entries : List (Entry ℕ A (Location A))) (text rest : Text) → RootRefused A text → reads_root (so_far types owns) location_standing t entries text rest
-      → IsSoFar t → AreSoFar entries → failures_of isolated t entries ≡ [] → ⊥
-  root_refused t entries text rest refused reads form entries_form resolves = go refused
-    where
-      r : (m : Module) × (taken mid : Text) × (module_at text ≡ Read m taken mid) × (es : List (ℕ × Option (Location A))) × SectionStands m.mark es mid rest
-      r = let r = root_resolves types owns t entries text rest reads form entries_form resolves in (r.0, r.1, r.2, r.3, r.5, r.6)
+  behind_module : (text : Text) (m : Module) (taken mid : Text) (cause : Fault) (upto : Text) → RootRefused A text cause upto → module_at text ≡ Read m taken mid → BehindModule m text mid cause upto
+  behind_module text m taken mid cause upto (no_module r) e = absurd (not_refused (module_at text) m taken mid cause upto e r)
+  behind_module text m taken mid cause upto (no_section m' taken' mid' i last f k r w) e =
+      let same : m ≡ m' = same_value m m' taken taken' mid mid' (sym e ∙ f) in
+      let at : mid' ≡ mid = sym (same_rest m m' taken taken' mid mid' (sym e ∙ f)) in
+      record {
+        mark = i;
+        is_marked = ap (λ m. m.mark) same ∙ k;
+        last = last;
+        section = subst (λ t. SectionRefused A (i ∷ []) t cause last) at r;
+        splits = λ stop h. splits_twice taken' last upto mid' stop text (module_read types owns text m' taken' mid' f).5 (h ∙ sym at) w;
+      }
 
-      -- the section behind the module that the readers found
-      behind_module : (m : Module) (taken mid : Text) (i : ℕ) → module_at text ≡ Read m taken mid → m.mark ≡ Some i
-          → (taken behind : Text) × (heading_at mid ≡ Read tt taken behind) × Entries (i ∷ []) [] r.4 behind rest × (begins (the 33) rest ≡ false)
-      behind_module m taken mid i e f =
-          let g : Read r.0 r.1 r.2 ≡ Read m taken mid = sym r.3 ∙ e in
-          let same : r.0 ≡ m = same_value r.0 m r.1 taken r.2 mid g in
-          section_refused i r.0.mark (ap (λ m. m.mark) same ∙ f) r.4 mid rest (subst (λ mid. SectionStands r.0.mark r.4 mid rest) (same_rest r.0 m r.1 taken r.2 mid g) r.5)
+  -- A root that is refused does not stand whole.
+  pub root_whole : (text : Text) (m : Module) (es : List (ℕ × Option (Location A))) (taken mid rest : Text) (cause : Fault) (upto : Text) → RootRefused A text cause upto
+      → module_at text ≡ Read m taken mid → SectionStands m.mark es mid rest → ⊥
+  root_whole text m es taken mid rest cause upto r e s =
+      let b = behind_module text m taken mid cause upto r e in
+      section_whole A b.mark es mid rest cause b.last b.section (subst (λ k. SectionStands k es mid rest) b.is_marked s)
 
-      go : RootRefused A text → ⊥
-      go (no_module n) = not_refused (module_at text) r.0 r.1 r.2 r.3 n
-      go (no_section m taken mid i e f n) = let s = behind_module m taken mid i e f in not_refused (heading_at mid) tt s.0 s.1 s.2 n
-      go (no_entry m taken mid i heading behind before stop e f h b c n) =
-          let s = behind_module m taken mid i e f in
-          let at : s.1 ≡ behind = same_rest tt tt s.0 heading s.1 behind (sym s.2 ∙ h) in
-          let same : entry_at {A = A} (may_have (i ∷ []) before) stop ≡ entry_at (may_have (i ∷ []) (onto before [])) stop = entry_at-same (may_have (i ∷ []) before) (may_have (i ∷ []) (onto before []))
-          (λ j. ap (λ es. may_have (i ∷ []) es j) (sym (append-nil before)) ∙ sym (may_have-onto (i ∷ []) j before [])) stop in
-          entries_stop (i ∷ []) [] before r.4 behind stop rest b c (subst IsRefused same n) (subst (λ s. Entries (i ∷ []) [] r.4 s rest) at s.3) s.4
+  -- A root is refused where an entry of its section has an unknown index: with that cause, and at that place.
+  pub root_stop : (text : Text) (m : Module) (taken mid : Text) (i : ℕ) (heading behind stop : Text) (j : ℕ) (cause : Fault) (upto : Text) → RootRefused A text cause upto → module_at text ≡ Read m taken mid
+      → m.mark ≡ Some i → heading_at mid ≡ Read tt heading behind → StopsAt A (i ∷ []) behind stop j → (cause ≡ UnknownIndex j) × (upto ++ stop ≡ text)
+  root_stop text m taken mid i heading behind stop j cause upto r e k h s =
+      let b = behind_module text m taken mid cause upto r e in
+      let same : i ≡ b.mark = let f : Some i ≡ Some b.mark = sym k ∙ b.is_marked in cc f in
+      let z = section_stop A b.mark mid heading behind stop j cause b.last b.section h (subst (λ i. StopsAt A (i ∷ []) behind stop j) same s) in
+      (z.0, b.splits stop z.1)

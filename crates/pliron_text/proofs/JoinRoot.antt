@@ -1,11 +1,11 @@
 -- What the readers of a module and of its section answer, the grammar's root, whether it resolves, and what it builds.
-use Rattle.std.proofs.Common.{◌≡◌, ◌⊎◌, ℕ, Bool, true, false, cond, not, ◌==◌, ◌&&◌, ◌||◌, List, Option, Some, None, [], ◌∷◌, ◌++◌, map, length, refl, sym, ◌∙◌, ap, ap₂, subst, inl, inr, append-nil, true≢false, arith}
+use Rattle.std.proofs.Common.{◌≡◌, ◌⊎◌, ℕ, Bool, true, false, not, ◌==◌, ◌&&◌, ◌||◌, List, Option, Some, None, [], ◌∷◌, ◌++◌, map, length, refl, sym, ◌∙◌, ap, ap₂, subst, inl, inr, append-nil, true≢false, arith}
 use Rattle.std.proofs.lemmas.Bool.Decides.{nat_tests}
 use Rattle.std.specs.Prelude.{codes, flat_map, is_some}
-use Rattle.irtext_base.specs.Text.{Text, begins, after_space}
-use Rattle.irtext_base.specs.Reading.{the, literal, repeated}
+use Rattle.irtext_base.specs.Text.{Text, after_space}
+use Rattle.irtext_base.specs.Reading.{the, repeated}
 use Rattle.irtext_base.specs.Format.{Id, same_text}
-use Rattle.irtext_base.specs.Answers.{Outcome, Read, Bad}
+use Rattle.irtext_base.specs.Answers.{Read}
 use Rattle.irtext_base.specs.Own.{Texts}
 use Rattle.irtext_base.specs.declared.location.Location.{Location}
 use Rattle.irtext_base.proofs.Numbers.{same_character}
@@ -16,17 +16,17 @@ use Rattle.pliron_text.specs.Reads as reads
 use Rattle.pliron_text.specs.ReadSection as reading
 use Rattle.pliron_text.specs.ReadSection.{Entry, of_item, of_once, section}
 use Rattle.pliron_text.specs.Marked.{regions_marked, marked, section_if, reads_root}
-use Rattle.pliron_text.specs.Script.{Act, Failure, does_all, done}
+use Rattle.pliron_text.specs.Script.{Failure, does_all, done}
 use Rattle.pliron_text.specs.Scopes.{failures, no_scope}
 use Rattle.pliron_text.specs.Acts.{entry_acts, late_acts, section_acts, region_scripts, operation_script, failures_of}
-use Rattle.pliron_text.specs.Build.{content, content_in, located, build}
-use Rattle.pliron_text.specs.Modules.{is_module, isolated}
+use Rattle.pliron_text.specs.Build.{build}
+use Rattle.pliron_text.specs.Modules.{isolated}
 use Rattle.pliron_text.specs.ModuleText.{Module, module_at}
-use Rattle.pliron_text.specs.SectionText.{may_have, entry_at, Entries, AllEntries, heading_at}
+use Rattle.pliron_text.specs.SectionText.{may_have, Entries, AllEntries, heading_at}
 use Rattle.pliron_text.specs.SoFar.{so_far, location_standing, IsSoFar, AreSoFar, index_of, Describes, DescribeEntries, StopsAt, SectionStands, location_given, module_built}
 use Rattle.pliron_text.proofs.JoinModule.{known_id, module_read, module_found}
 use Rattle.pliron_text.proofs.JoinSection.{spaced_read, spaced_found}
-use Rattle.pliron_text.proofs.JoinEntries.{swap, entry_unknown, entry_reads, allow_first, behind_entries, refused, unknown_at, onto, EntriesRead, entries_read, Accepted, Stopped, entries_found}
+use Rattle.pliron_text.proofs.JoinEntries.{swap, entry_unknown, entry_reads, allow_first, behind_entries, refused, unknown_at, onto, entries_read, Accepted, Stopped, entries_found}
 
 -- ---- the order of the entries before does not matter
 module _ {X : Type 0} (marks : List ℕ) (j : ℕ) where

@@ -1,25 +1,21 @@
 -- What the readers of a section's parts answer, and the grammar's readings of them.
-use Rattle.std.proofs.Common.{◌≡◌, ℕ, Bool, true, false, cond, not, ◌==◌, ◌&&◌, List, Option, Some, None, [], ◌∷◌, ◌++◌, map, length, refl, sym, ◌∙◌, ap, ap₂, subst, true≢false}
+use Rattle.std.proofs.Common.{◌≡◌, Bool, true, false, cond, Option, Some, None, [], ◌∷◌, ◌++◌, refl, sym, ◌∙◌, ap, ap₂, subst}
 use Rattle.std.specs.Prelude.{codes}
 use Rattle.std.specs.Char.{is_whitespace}
-use Rattle.irtext_base.specs.Text.{Text, begins, front, after, after_space, begins_word}
-use Rattle.irtext_base.specs.Reading.{Reading, ◌▹◌, ◌▸◌, ends, the, literal, number, separated, repeated}
-use Rattle.irtext_base.specs.Faults.{Fault, UnknownIndex}
-use Rattle.irtext_base.specs.Answers.{Outcome, Read, Missing, Bad, prefixed, mapped, followed}
-use Rattle.irtext_base.specs.Own.{Texts, Language, language, Standing, found, missing, bad, standing}
+use Rattle.irtext_base.specs.Text.{Text, begins, front, after_space, begins_word}
+use Rattle.irtext_base.specs.Reading.{Reading, ◌▹◌, the, literal, separated}
+use Rattle.irtext_base.specs.Answers.{Outcome, Read, Missing, Bad, mapped, followed}
+use Rattle.irtext_base.specs.Own.{Texts, found, standing}
 use Rattle.irtext_base.specs.declared.location.Location.{Location}
 use Rattle.irtext_base.proofs.Characters.{after_twice}
 use Rattle.irtext_read.specs.Tokens.{text_at}
-use Rattle.pliron_text.specs.Tree.{Name, Mark}
 use Rattle.pliron_text.specs.Reads as reads
-use Rattle.pliron_text.specs.ReadSection.{Entry, of_item, of_once, located, entry}
+use Rattle.pliron_text.specs.ReadSection.{located}
 use Rattle.pliron_text.specs.LocationText.{space_at, spaced_at, location_at}
-use Rattle.pliron_text.specs.ModuleText.{index_at}
-use Rattle.pliron_text.specs.SectionText.{entry_location_at, content_at, known_index, entry_at}
+use Rattle.pliron_text.specs.SectionText.{entry_location_at, content_at}
 use Rattle.pliron_text.specs.SoFar.{so_far, location_standing}
-use Rattle.pliron_text.proofs.JoinAnswers.{Followed, followed_read, followed-read, mapped_read}
+use Rattle.pliron_text.proofs.JoinAnswers.{followed_read, followed-read, mapped_read}
 use Rattle.pliron_text.proofs.JoinTokens.{text_read, text-literal}
-use Rattle.pliron_text.proofs.JoinModule.{index_read, index_found}
 
 -- ---- a fixed text with white space round it
 abbrev space_behind : Unit {0} → Text → Outcome (Unit {0})

@@ -1,20 +1,20 @@
 -- What the readers of tokens answer, and the grammar's readings of them.
-use Rattle.std.proofs.Common.{◌≡◌, ℕ, ◌<◌, ◌^◌, Bool, true, false, cond, ltb, ◌||◌, ◌==◌, List, Option, Some, None, [], ◌∷◌, ◌++◌, refl, sym, ◌∙◌, ap, ap₂, append_assoc, inl, inr, true≢false, arith, subst}
+use Rattle.std.proofs.Common.{◌≡◌, ℕ, ◌<◌, ◌^◌, Bool, true, false, cond, ◌||◌, Some, None, [], ◌∷◌, ◌++◌, refl, sym, ◌∙◌, ap, ap₂, inl, inr, true≢false, arith, subst}
 use Rattle.std.proofs.lemmas.Bool.Decides.{nat_tests}
 use Rattle.std.specs.Prelude.{codes, nat_lt}
 use Rattle.std.specs.Char.{is_ascii_digit, is_whitespace}
 use Rattle.std.specs.Str.Parse.{digits_value}
-use Rattle.irtext_base.specs.Text.{Text, begins, front, after, after_space, begins_word, in_word}
+use Rattle.irtext_base.specs.Text.{Text, begins, front, after, begins_word, in_word}
 use Rattle.irtext_base.specs.Reading.{the, literal, identifier, digits, number}
 use Rattle.irtext_base.specs.Faults.{Demand, Unexpected, Word, NumberRange}
 use Rattle.irtext_base.specs.Stream.{first_of}
 use Rattle.irtext_base.specs.Format.{Id}
-use Rattle.irtext_base.specs.Answers.{Outcome, Read, Missing, Bad, prefixed, mapped, followed}
+use Rattle.irtext_base.specs.Answers.{Outcome, Read, Missing, Bad, prefixed, mapped}
 use Rattle.irtext_base.proofs.Numbers.{same_character}
 use Rattle.irtext_read.specs.Tokens.{word_at, identifier_at, spelled_at, text_at, is_sign, sign_of, after_sign, fitting, value_of, numbered, no_digit, digits_at, number_at, id_with, id_at}
 use Rattle.pliron_text.specs.Reads as reads
-use Rattle.pliron_text.specs.LocationText.{space_at, spaced_at}
-use Rattle.pliron_text.proofs.JoinAnswers.{Followed, followed_read, followed-read, mapped_read, Splits, splits_followed, splits_mapped}
+use Rattle.pliron_text.specs.LocationText.{space_at}
+use Rattle.pliron_text.proofs.JoinAnswers.{followed_read, followed-read, mapped_read, Splits, splits_followed, splits_mapped}
 
 -- a front and what is left are the text
 pub front-after : (test : ℕ → Bool) (text : Text) → front test text ++ after test text ≡ text

@@ -1,8 +1,8 @@
 -- What was made before a mark is kept.
-use Rattle.std.proofs.Common.{◌≡◌, ℕ, ◌≤◌, ◌<◌, ◌+◌, Bool, true, false, cond, ltb, Option, Some, None, refl, sym, ◌∙◌, ap, arith}
+use Rattle.std.proofs.Common.{◌≡◌, ℕ, ◌≤◌, false, ltb, Some, None, refl, ◌∙◌, ap, arith}
 use Rattle.std.proofs.lemmas.Bool.Decides.{nat_tests}
 use Rattle.irtext_base.specs.Arena.{older}
-use Rattle.irtext_base.specs.Context.{ContextView, OperationView, KeepsOlder, AllOlder, RollsBack, MakesOperation, AddsRegion, before, get, operation}
+use Rattle.irtext_base.specs.Context.{ContextView, OperationView, KeepsOlder, AllOlder, RollsBack, MakesOperation, before}
 use Rattle.irtext_base.specs.declared.base.arena.Object.{Object}
 use Rattle.irtext_base.specs.declared.base.arena.Ptr.{Ptr}
 use Rattle.irtext_base.specs.declared.base.operation.Operation.{Operation}

@@ -1,10 +1,10 @@
 -- Indices of entries that may stand, and those that may not.
-use Rattle.std.proofs.Common.{◌≡◌, ℕ, ◌<◌, ◌≤◌, ◌+◌, Bool, true, false, cond, Result, Ok, Err, [], ◌∷◌, ◌++◌, List, is_some, length, length-append, Option, Some, None, codes, refl, sym, ◌∙◌, ap, subst, ◌⊎◌, inl, inr, arith}
+use Rattle.std.proofs.Common.{◌≡◌, ℕ, ◌<◌, Bool, true, false, cond, Ok, Err, [], ◌∷◌, List, is_some, length, length-append, Option, Some, None, codes, refl, sym, ◌∙◌, ap, subst, ◌⊎◌, inl, inr, arith}
 use Rattle.irtext_base.specs.Text.{Text, front, after}
 use Rattle.irtext_base.specs.Stream.{StreamView, IsAt, after_failure}
-use Rattle.irtext_base.specs.Faults.{Fault, Failed, Memory, UnknownIndex, DuplicateIndex, UnregisteredOp, UnregisteredDialect, Unexpected, NumberRange, Word, fault_of}
+use Rattle.irtext_base.specs.Faults.{Fault, Failed, UnknownIndex, DuplicateIndex, UnregisteredOp, UnregisteredDialect, Unexpected, NumberRange, Word, fault_of}
 use Rattle.irtext_base.specs.Faults.{Demand as Demanded}
-use Rattle.irtext_base.specs.Answers.{Outcome, Read, Missing, Bad, Takes, Starves, Commits, Refuses, Answers, Gives, demanded, prefixed, mapped, followed, unless_failed}
+use Rattle.irtext_base.specs.Answers.{Outcome, Read, Missing, Bad, Takes, Starves, Refuses, Gives, demanded, prefixed, mapped, followed, unless_failed}
 use Rattle.irtext_base.specs.declared.parsable.fault.ParseFault.{ParseFault}
 use Rattle.irtext_base.specs.Reading.{the}
 use Rattle.irtext_base.specs.declared.location.Location.{Location}
@@ -21,7 +21,6 @@ use Rattle.pliron_text.specs.MustRead.{MustRead, MayRead}
 use Rattle.pliron_text.specs.SectionText.{known_index, entry_at, content_at, heading_at}
 use Rattle.pliron_text.specs.Roots.{itself, replaced, Refusal, Demand, unnoted, fresh_mark_at, operation_at}
 use Rattle.pliron_text.proofs.Spares.{Spares, rest_of, spares-followed, spares-prefixed, spares-behind, spares-id, spares-rest, spares-braces, spares-mark, spares-mapped, spares-index, spares-content, spares-spaced}
-use Rattle.pliron_text.proofs.Steps.{Lens}
 use Rattle.pliron_text.proofs.Rooted.{alone}
 
 module _ (test : ℕ → Bool) where

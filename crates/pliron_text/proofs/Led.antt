@@ -4,23 +4,22 @@ use Rattle.std.specs.Str.{bytes_eq, encode_utf8_all}
 use Rattle.std.specs.Char.{is_whitespace, encode_utf8}
 use Rattle.std.proofs.lemmas.Bool.Decides.{nat_tests}
 use Rattle.std.proofs.lemmas.Str.{len_utf8_bounds, length-encode}
-use Rattle.irtext_base.specs.Text.{Text, begins, front, after, after_space, begins_word, in_word}
+use Rattle.irtext_base.specs.Text.{Text, begins, front, after_space}
 use Rattle.irtext_base.specs.Reading.{the}
-use Rattle.irtext_base.specs.Stream.{StreamView, first_of, behind as view_behind, after_failure, advanced, advanced_by, IsAt}
+use Rattle.irtext_base.specs.Stream.{advanced}
 use Rattle.irtext_base.specs.Format.{Id, same_text}
-use Rattle.irtext_base.specs.Faults.{Fault, UnregisteredOp, UnregisteredDialect, Unexpected, Demand, Word, AnOperation, AnIdentifier, id_of}
-use Rattle.irtext_base.specs.Answers.{Outcome, Read, Missing, Bad, Takes, Starves, Refuses, Commits, Answers, Gives, DemandsOf, demanded, prefixed, mapped, followed, unless_failed}
+use Rattle.irtext_base.specs.Faults.{Fault, UnregisteredOp, UnregisteredDialect, Unexpected, Demand, id_of}
+use Rattle.irtext_base.specs.Answers.{Outcome, Read, Missing, Bad, Takes, Starves, Refuses, Commits, Answers, Gives, DemandsOf, demanded, prefixed, followed, unless_failed}
 use Rattle.irtext_base.specs.Places.{StandsBehind}
 use Rattle.irtext_base.specs.declared.base.identifier.OpId.{OpId}
 use Rattle.irtext_base.specs.declared.parsable.fault.ParseFault.{ParseFault}
 use Rattle.irtext_base.specs.declared.parsable.position.Place.{Place}
 use Rattle.irtext_base.proofs.Compose.{seen_after, takes_more, answers_after, answers_demanded, takes_stands, stands_failed}
 use Rattle.irtext_read.proofs.Spelling.{begins_the, takes_next, takes_none_is}
-use Rattle.irtext_read.specs.Tokens.{text_at, spelled_at, word_at, identifier_at, id_at, id_with}
-use Rattle.pliron_text.specs.LocationText.{space_at}
+use Rattle.irtext_read.specs.Tokens.{id_at}
 use Rattle.pliron_text.specs.Modules.{module_id}
-use Rattle.pliron_text.specs.ModuleText.{registered, led, symbol_at, named_at, lead_of, behind_lead, header_at, behind, registered_behind, led_id_at, is_led}
-use Rattle.pliron_text.specs.MustRead.{MustRead, MayRead}
+use Rattle.pliron_text.specs.ModuleText.{registered, led, lead_of, behind_lead, header_at, behind, registered_behind, led_id_at, is_led}
+use Rattle.pliron_text.specs.MustRead.{MayRead}
 use Rattle.pliron_text.specs.Registered.{Registers, RefusesAt}
 use Rattle.pliron_text.proofs.Spares.{Spares, rest_of, spares-prefixed, spares-id, spares-rest}
 use Rattle.pliron_text.proofs.Steps.{Lens, prefixed-prefixed}

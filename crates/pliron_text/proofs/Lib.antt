@@ -75,6 +75,7 @@ pub mod JoinSection
 pub mod JoinEntries
 pub mod JoinRoot
 pub mod JoinRefused
+pub mod JoinTop
 mod Requirements
 mod Appended
 mod PrintedModules
@@ -89,3 +90,9 @@ pub mod Led
 pub mod Rooted
 pub mod Kept
 pub mod Known
+pub mod Answered
+pub mod SectionSteps
+pub mod LocationBack
+pub mod PrintedBack
+pub mod RootSteps
+pub mod TopLevel

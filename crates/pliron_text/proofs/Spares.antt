@@ -1,21 +1,16 @@
 -- Which causes readers never give.
-use Rattle.std.proofs.Common.{◌≡◌, ℕ, ℤ, Bool, true, false, cond, Option, Some, None, Result, Ok, Err, List, [], ◌∷◌, ◌++◌, codes, refl, sym, ◌∙◌, ◌⊎◌, inl, inr}
+use Rattle.std.proofs.Common.{ℕ, ℤ, true, false, cond, Option, Some, None, [], ◌∷◌, ◌++◌, codes}
 use Rattle.std.specs.Char.{is_ascii_digit, is_whitespace}
-use Rattle.std.specs.Str.Parse.{digits_value}
 use Rattle.irtext_base.specs.Text.{Text, begins, front, after, begins_word, in_word}
 use Rattle.irtext_base.specs.Reading.{the}
 use Rattle.irtext_base.specs.Stream.{first_of}
-use Rattle.irtext_base.specs.Format.{Id, same_text}
-use Rattle.irtext_base.specs.Faults.{Fault, Unexpected, NumberRange, UnregisteredOp, UnregisteredDialect, Demand, Word, AnOperation, AnIdentifier, ADigit}
-use Rattle.irtext_base.specs.Answers.{Outcome, Read, Missing, Bad, demanded, prefixed, mapped, followed}
-use Rattle.irtext_base.specs.declared.location.Location.{Location, SrcPos}
-use Rattle.irtext_base.specs.declared.location.Source.TheVariants.{InMemory}
-use Rattle.irtext_base.specs.declared.parsable.position.SourcePosition.{SourcePosition}
+use Rattle.irtext_base.specs.Format.{Id}
+use Rattle.irtext_base.specs.Faults.{Fault, Unexpected, NumberRange, Demand, Word, AnOperation, AnIdentifier, ADigit}
+use Rattle.irtext_base.specs.Answers.{Outcome, Read, Missing, Bad, prefixed, mapped, followed}
 use Rattle.irtext_read.specs.Tokens.{text_at, spelled_at, word_at, identifier_at, id_at, id_with, number_at, numbered, no_digit, sign_of, after_sign, value_of, integer_at, integered, integer_of, no_integer}
 use Rattle.pliron_text.specs.LocationText.{space_at, spaced_at, labelled_at, position_at, location_at}
-use Rattle.pliron_text.specs.Modules.{module_id}
-use Rattle.pliron_text.specs.ModuleText.{symbol_at, braces_at, index_at, mark_at, behind, registered_behind, led_id_at, lead_of, behind_lead}
-use Rattle.pliron_text.specs.SectionText.{entry_location_at, content_at, heading_at}
+use Rattle.pliron_text.specs.ModuleText.{symbol_at, braces_at, index_at, mark_at, behind}
+use Rattle.pliron_text.specs.SectionText.{entry_location_at, content_at}
 
 -- an outcome's cause passes the test
 abbrev pub Spares : (Fault → Type 0) → {X : Type 0} → Outcome X → Type 0

@@ -56,3 +56,6 @@ pub mod WrittenSection
 pub mod EmptyModule
 pub mod Contents
 pub mod SoFar
+pub mod SectionRead
+pub mod TopLevel
+pub mod PrintedBack

@@ -1,5 +1,5 @@
 -- What a text reads as, where a location stands, with each fault's cause and place.
-use Rattle.std.specs.Prelude.{ℤ, [], codes, ⊤}
+use Rattle.std.specs.Prelude.{ℤ, codes, ⊤}
 use Rattle.std.specs.Char.{is_whitespace}
 use Rattle.irtext_base.specs.Text.{Text, front, after}
 use Rattle.irtext_base.specs.Answers.{Outcome, Read, followed, mapped}

@@ -1,14 +1,14 @@
 -- What a text reads as, where a root of the form that is read so far stands, with each fault's cause and place.
-use Rattle.std.specs.Prelude.{◌≡◌, ℕ, Bool, true, false, cond, not, ◌&&◌, ◌==◌, Option, Some, None, List, [], ◌∷◌, ◌++◌, codes, ⊤}
+use Rattle.std.specs.Prelude.{ℕ, Bool, true, false, cond, Option, Some, None, [], ◌∷◌, ◌++◌, codes, ⊤}
 use Rattle.std.specs.Char.{is_whitespace}
 use Rattle.irtext_base.specs.Text.{Text, begins, front, after_space}
 use Rattle.irtext_base.specs.Reading.{the}
 use Rattle.irtext_base.specs.Format.{Id, same_text}
-use Rattle.irtext_base.specs.Faults.{Fault, UnregisteredDialect, UnregisteredOp, UnknownIndex}
+use Rattle.irtext_base.specs.Faults.{UnregisteredDialect, UnregisteredOp}
 use Rattle.irtext_base.specs.Answers.{Outcome, Read, Missing, Bad, prefixed, followed, mapped}
 use Rattle.irtext_read.specs.Tokens.{text_at, identifier_at, id_at, number_at}
 use Rattle.pliron_text.specs.Modules.{module_id}
-use Rattle.pliron_text.specs.LocationText.{space_at, spaced_at, location_at}
+use Rattle.pliron_text.specs.LocationText.{space_at}
 
 -- a text without its first character
 abbrev pub without_first : Text → Text

@@ -1,5 +1,5 @@
 -- Which operations are registered, as their reader answers it.
-use Rattle.std.specs.Prelude.{◌≡◌, Bool, true, false, cond, Result, Ok, Err}
+use Rattle.std.specs.Prelude.{◌≡◌, true, false, cond, Result, Ok, Err}
 use Rattle.irtext_base.specs.Text.{Text}
 use Rattle.irtext_base.specs.Format.{Id, same_text}
 use Rattle.irtext_base.specs.Stream.{StreamView, IsAt, after_failure}

@@ -1,10 +1,10 @@
 -- What reading a root does to the context, and to what a reading carries beside its text.
-use Rattle.std.specs.Prelude.{◌≡◌, ℕ, ◌≤◌, ◌+◌, Bool, true, false, cond, not, ◌&&◌, is_some, Option, Some, None, Result, Ok, Err, List, [], ◌∷◌, ◌++◌}
+use Rattle.std.specs.Prelude.{◌≡◌, ℕ, Bool, true, false, cond, not, ◌&&◌, is_some, Option, Some, None, Ok, Err, List, [], ◌∷◌, ◌++◌}
 use Rattle.std.specs.Map.{lookup}
 use Rattle.irtext_base.specs.Text.{Text}
 use Rattle.irtext_base.specs.Format.{sym_name_key}
 use Rattle.irtext_base.specs.Stream.{StreamView}
-use Rattle.irtext_base.specs.Faults.{Fault, Failed, DuplicateIndex, fault_of, id_of}
+use Rattle.irtext_base.specs.Faults.{Failed, DuplicateIndex, fault_of, id_of}
 use Rattle.irtext_base.specs.Answers.{Outcome, Read, Missing, Bad, followed, mapped}
 use Rattle.irtext_base.specs.Context.{ContextView, OperationView, MakesOperation, AddsRegion, get}
 use Rattle.irtext_base.specs.declared.base.arena.Ptr.{Ptr}
@@ -20,7 +20,7 @@ use Rattle.irtext_read.specs.declared.parsable.state.State.{State}
 use Rattle.irtext_read.specs.declared.parsable.state.StateStream.{StateStream}
 use Rattle.pliron_text.specs.LocationText.{space_at}
 use Rattle.pliron_text.specs.ModuleText.{Module, module_with, header_at, braces_at, mark_at}
-use Rattle.pliron_text.specs.MustRead.{MustRead, MayRead}
+use Rattle.pliron_text.specs.MustRead.{MayRead}
 
 -- a stream is its own view
 abbrev pub itself : StreamView → StreamView

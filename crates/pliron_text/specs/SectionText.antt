@@ -1,9 +1,9 @@
 -- What a text reads as, where a section of the form that is read so far stands, with each fault's cause and place.
-use Rattle.std.specs.Prelude.{◌≡◌, ℕ, Bool, true, false, cond, not, ◌&&◌, ◌==◌, ◌⊎◌, Option, Some, None, List, [], ◌∷◌, ◌++◌, codes, ⊤}
+use Rattle.std.specs.Prelude.{◌≡◌, ℕ, Bool, true, false, cond, not, ◌&&◌, ◌==◌, Option, Some, None, List, [], ◌∷◌, codes, ⊤}
 use Rattle.irtext_base.specs.Text.{Text, begins, after_space}
 use Rattle.irtext_base.specs.Reading.{the}
 use Rattle.irtext_base.specs.Format.{has}
-use Rattle.irtext_base.specs.Faults.{Fault, UnknownIndex}
+use Rattle.irtext_base.specs.Faults.{UnknownIndex}
 use Rattle.irtext_base.specs.Answers.{Outcome, Read, Missing, Bad, followed, mapped}
 use Rattle.irtext_read.specs.Tokens.{text_at}
 use Rattle.irtext_base.specs.declared.location.Location.{Location}

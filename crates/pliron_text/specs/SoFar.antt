@@ -1,11 +1,11 @@
 -- The form of text that is read so far: which trees and entries have it, and what a reader's answer says of them.
-use Rattle.std.specs.Prelude.{◌≡◌, ℕ, true, Option, Some, None, List, [], ◌∷◌, ⊤}
+use Rattle.std.specs.Prelude.{◌≡◌, ℕ, true, Option, Some, None, List, [], ◌∷◌, ◌++◌, ⊤}
 use Rattle.std.specs.Option.{option_map}
 use Rattle.irtext_base.specs.Text.{Text, begins}
 use Rattle.irtext_base.specs.Own.{Standing, standing, Texts, Language, language}
 use Rattle.irtext_base.specs.Reading.{the}
 use Rattle.irtext_base.specs.Format.{Id, sym_name_key}
-use Rattle.irtext_base.specs.Faults.{UnknownIndex}
+use Rattle.irtext_base.specs.Faults.{Fault, UnknownIndex}
 use Rattle.irtext_base.specs.Answers.{Outcome, Read, Missing, Bad}
 use Rattle.irtext_base.specs.declared.location.Location.{Location}
 use Rattle.pliron_text.specs.Forest.{Regions, no_regions, region, no_blocks, block}
@@ -89,19 +89,34 @@ module_built id name location = record {
   regions = region tt no_blocks no_regions;
 }
 
--- a reader finds nothing of its kind, or something bad
-abbrev pub IsRefused : {X : Type 0} → Outcome X → Type 0
-IsRefused (Read x taken rest) = ⊥
-IsRefused (Missing cause) = ⊤
-IsRefused (Bad cause upto) = ⊤
+-- a reader finds nothing of its kind where the text begins, or something bad behind these characters
+abbrev pub RefusedAs : {X : Type 0} → Outcome X → Fault → Text → Type 0
+RefusedAs (Read x taken rest) cause upto = ⊥
+RefusedAs (Missing c) cause upto = (c ≡ cause) × (upto ≡ [])
+RefusedAs (Bad c u) cause upto = (c ≡ cause) × (u ≡ upto)
 
--- the readers refuse the text where a root must stand
-pub data RootRefused (A : Type 0) (text : Text) : Type 0 where
+-- the readers refuse the text where entries must stand: one more begins, and none that may stand there
+pub record EntriesRefused (A : Type 0) (marks : List ℕ) (text : Text) (cause : Fault) (upto : Text) : Type 0 where
+  pub before : List (ℕ × Option (Location A))
+  pub stop : Text
+  pub stand : Entries marks [] before text stop
+  pub more : begins (the 33) stop ≡ true
+  pub taken : Text
+  pub splits : taken ++ stop ≡ text
+  pub last : Text
+  pub refused : RefusedAs (entry_at {A = A} (may_have marks before) stop) cause last
+  pub whole : taken ++ last ≡ upto
+
+-- the readers refuse the text where a section of these marks must stand
+pub data SectionRefused (A : Type 0) (marks : List ℕ) (text : Text) (cause : Fault) (upto : Text) : Type 0 where
+  -- no heading stands there
+  no_heading : RefusedAs (heading_at text) cause upto → SectionRefused A marks text cause upto
+  -- a heading, and entries that are refused
+  no_entry : (taken behind last : Text) → heading_at text ≡ Read tt taken behind → EntriesRefused A marks behind cause last → taken ++ last ≡ upto → SectionRefused A marks text cause upto
+
+-- the readers refuse the text where a root must stand: with this cause, behind these characters
+pub data RootRefused (A : Type 0) (text : Text) (cause : Fault) (upto : Text) : Type 0 where
   -- no module stands there
-  no_module : IsRefused (module_at text) → RootRefused A text
-  -- a module with a mark, and no section behind it
-  no_section : (m : Module) (taken mid : Text) (i : ℕ) → module_at text ≡ Read m taken mid → m.mark ≡ Some i → IsRefused (heading_at mid) → RootRefused A text
-  -- a module with a mark, its section's first entries, and where one more begins none that may stand there
-  no_entry : (m : Module) (taken mid : Text) (i : ℕ) (heading behind : Text) (before : List (ℕ × Option (Location A))) (stop : Text)
-      → module_at text ≡ Read m taken mid → m.mark ≡ Some i → heading_at mid ≡ Read tt heading behind
-      → Entries (i ∷ []) [] before behind stop → begins (the 33) stop ≡ true → IsRefused (entry_at {A = A} (may_have (i ∷ []) before) stop) → RootRefused A text
+  no_module : RefusedAs (module_at text) cause upto → RootRefused A text cause upto
+  -- a module with a mark, and a section that is refused
+  no_section : (m : Module) (taken mid : Text) (i : ℕ) (last : Text) → module_at text ≡ Read m taken mid → m.mark ≡ Some i → SectionRefused A (i ∷ []) mid cause last → taken ++ last ≡ upto → RootRefused A text cause upto

@@ -1,15 +1,18 @@
 //! Reading of roots.
-ghost use Rattle.std.specs.Prelude.{◌≡◌, ◌≤◌, ℕ, List, cond, None, ◌++◌, IsSome, IfOk, IfErr, OnOk, OnErr};
+ghost use Rattle.std.specs.Prelude.{◌≡◌, ◌≤◌, ◌⊎◌, ℕ, false, List, cond, None, ◌++◌, IsSome, IfOk, IfErr, OnOk, OnErr};
 ghost use Rattle.irtext_base.specs.Answers.{Takes, DemandsOf, Starves};
 ghost use Rattle.irtext_base.specs.Context.{operation, before, KeepsOlder, MakesOperation, AddsRegion};
 ghost use Rattle.irtext_base.specs.Format.{same_text};
-ghost use Rattle.irtext_base.specs.Faults.{id_of};
+ghost use Rattle.irtext_base.specs.Faults.{Memory, fault_of, id_of};
+ghost use Rattle.irtext_base.specs.Own.{texts_of};
 ghost use Rattle.irtext_base.specs.declared.base.region.Region.{Region};
 ghost use Rattle.irtext_read.specs.States.{marks_of};
 ghost use Rattle.pliron_text.specs.ModuleText.{symbol_at, header_at, led_id_at, braces_at, mark_at, lead_of, behind_lead, is_led};
 ghost use Rattle.pliron_text.specs.MustRead.{MustRead, MayRead};
 ghost use Rattle.pliron_text.specs.Roots.{itself, replaced, symbol_entries, made_view, fresh_mark_at, noted, KeepsRest, ReadsModule, MissesModule, Refusal, SameObjects};
 ghost use Rattle.pliron_text.specs.Registered.{Registers, header_of};
+ghost use Rattle.pliron_text.specs.SectionRead.{ReadsWith, MissesWith};
+ghost use Rattle.pliron_text.specs.TopLevel.{IsFresh, BuildsRoot, RefusesRoot};
 
 use crate::irfmt::demanded::{identifier_demanded, index_demanded, text_demanded};
 use crate::irfmt::outlined::section_parse;
@@ -268,6 +271,8 @@ fn root_parse<T: IrText<A>, A: AttrText, U>(
     ensures lent { s.new.state.ctx.ghost_name ≡ s.old.state.ctx.ghost_name }
     ensures rest { KeepsRest s.old.state s.new.state }
     ensures refused { IfErr result (λ fault. Refusal s.old.stream fault s.new.stream) }
+    ensures read { IfOk result (λ op. ReadsWith config.look_for_outlined_attrs op s.old s.new) }
+    ensures missed { s.old.stream.failed ≡ false → IfErr result (λ fault. MissesWith config.look_for_outlined_attrs s.old fault) }
     ensures marks { OnErr result ((more : List (ℕ × Ptr Operation)) × (marks_of s.new.state ≡ marks_of s.old.state ++ more)) }
     ensures kept { OnErr result ((mark : ℕ) → mark ≤ s.old.state.ctx.now.made → KeepsOlder mark s.old.state.ctx.now s.new.state.ctx.now) }
 {
@@ -287,6 +292,8 @@ fn outermost_parse<T: IrText<A>, A: AttrText, U>(
     ensures lent { s.new.state.ctx.ghost_name ≡ s.old.state.ctx.ghost_name }
     ensures rest { KeepsRest s.old.state s.new.state }
     ensures refused { IfErr result (λ fault. Refusal s.old.stream fault s.new.stream) }
+    ensures read { IfOk result (λ op. ReadsWith config.look_for_outlined_attrs op s.old s.new) }
+    ensures missed { s.old.stream.failed ≡ false → IfErr result (λ fault. MissesWith config.look_for_outlined_attrs s.old fault) }
     ensures objects { OnErr result (SameObjects s.old.state.ctx.now s.new.state.ctx.now) }
     ensures marks { OnErr result (marks_of s.new.state ≡ marks_of s.old.state) }
 {
@@ -312,6 +319,8 @@ pub trait OperationText {
         ensures lent { stream.new.state.ctx.ghost_name ≡ stream.old.state.ctx.ghost_name }
         ensures rest { KeepsRest stream.old.state stream.new.state }
         ensures refused { IfErr result (λ fault. Refusal stream.old.stream fault stream.new.stream) }
+        ensures builds { IsFresh stream.old → IfOk result (λ op. BuildsRoot (texts_of T.reading T.written) (texts_of A.reading A.written) op stream.old stream.new) }
+        ensures unresolved { IsFresh stream.old → IfErr result (λ fault. (fault_of fault.cause ≡ Memory) ⊎ RefusesRoot (texts_of T.reading T.written) (texts_of A.reading A.written) stream.old.stream fault) }
         ensures objects { OnErr result (SameObjects stream.old.state.ctx.now stream.new.state.ctx.now) }
         ensures marks { OnErr result (marks_of stream.new.state ≡ marks_of stream.old.state) };
 }
@@ -341,6 +350,8 @@ impl<T: IrText<A>, A: AttrText, U> Parsable<T, A, U> for Operation {
         ensures lent { stream.new.state.ctx.ghost_name ≡ stream.old.state.ctx.ghost_name }
         ensures rest { KeepsRest stream.old.state stream.new.state }
         ensures refused { IfErr result (λ fault. Refusal stream.old.stream fault stream.new.stream) }
+        ensures read { IfOk result (λ op. ReadsWith config.look_for_outlined_attrs op stream.old stream.new) }
+        ensures missed { stream.old.stream.failed ≡ false → IfErr result (λ fault. MissesWith config.look_for_outlined_attrs stream.old fault) }
         ensures objects { OnErr result (SameObjects stream.old.state.ctx.now stream.new.state.ctx.now) }
         ensures marks { OnErr result (marks_of stream.new.state ≡ marks_of stream.old.state) }
     {

@@ -1,8 +1,11 @@
 //! The section behind a root: what is said of the items that carry a mark.
-ghost use Rattle.std.specs.Prelude.{◌≡◌, ◌<◌, length, [], OnOk, OnErr, IfErr};
-ghost use Rattle.irtext_read.specs.States.{marks_of};
+ghost use Rattle.std.specs.Prelude.{◌≡◌, ◌<◌, false, length, OnOk, OnErr, IfOk, IfErr};
+ghost use Rattle.std.specs.Map.{lookup};
+ghost use Rattle.irtext_read.specs.States.{marks_of, same_index};
 ghost use Rattle.pliron_text.specs.ModuleText.{index_at};
 ghost use Rattle.pliron_text.specs.MustRead.{MustRead};
+ghost use Rattle.pliron_text.specs.SoFar.{RefusedAs, EntriesRefused, SectionRefused};
+ghost use Rattle.pliron_text.specs.SectionRead.{indices_of, Faults, Locates, Applies, AppliesAll, ReadsEntry, ReadsEntries, ReadsSection};
 ghost use Rattle.pliron_text.specs.SectionText.{entry_location_at, content_at, known_index, entry_at};
 ghost use Rattle.pliron_text.specs.Roots.{itself, replaced, may_follow, Demand, KeepsRest};
 
@@ -101,6 +104,8 @@ fn entry_parse<T: IrText<A>, A: AttrText, U>(
     ensures state { s.new.state ≡ s.old.state }
     ensures shorter { OnOk result (length s.new.stream.rest < length s.old.stream.rest) }
     ensures fine { OnOk result (s.new.stream.failed ≡ s.old.stream.failed) }
+    ensures read { OnOk result (ReadsEntry (marks_of s.old.state) entries.old.entries s.old.stream entries.new.entries s.new.stream) }
+    ensures missed { s.old.stream.failed ≡ false → IfErr result (λ fault. Faults (RefusedAs (entry_at {A = A} (may_follow (marks_of s.old.state) entries.old.entries) s.old.stream.rest)) s.old.stream fault) }
     ensures refused { IfErr result (λ fault. Demand s.old.stream fault s.new.stream) }
 {
     let entry = entry_read(s, entries)?;
@@ -117,6 +122,8 @@ fn entries_parse<T: IrText<A>, A: AttrText, U>(
 ) -> ParseResult<Entries<A>, A>
     ensures state { s.new.state ≡ s.old.state }
     ensures fine { OnOk result (s.new.stream.failed ≡ s.old.stream.failed) }
+    ensures read { IfOk result (λ entries. ReadsEntries (indices_of (marks_of s.old.state)) entries.entries s.old.stream s.new.stream) }
+    ensures missed { s.old.stream.failed ≡ false → IfErr result (λ fault. Faults (EntriesRefused A (indices_of (marks_of s.old.state)) s.old.stream.rest) s.old.stream fault) }
     ensures refused { IfErr result (λ fault. Demand s.old.stream fault s.new.stream) }
 {
     let mut entries = IndexMap::new(s.stream.allocator());
@@ -136,11 +143,33 @@ fn locate<T: IrText<A>, A: AttrText, U>(
     ensures stream { s.new.stream ≡ s.old.stream }
     ensures rest { KeepsRest s.old.state s.new.state }
     ensures marks { marks_of s.new.state ≡ marks_of s.old.state }
+    ensures locates { Locates op location s.old.state.ctx.now s.new.state.ctx.now }
 {
     let ctx = &mut *s.state.ctx;
     if ctx.contains_operation(op) {
         op.set_loc(ctx, location);
     }
+}
+
+/// Gives the operation that has the mark of an entry the location that the entry gives.
+fn apply_entry<T: IrText<A>, A: AttrText, U>(
+    s: &mut StateStream<'_, T, A, U>,
+    index: usize,
+    location: Option<Location<A>>,
+)
+    ensures lent { s.new.state.ctx.ghost_name ≡ s.old.state.ctx.ghost_name }
+    ensures stream { s.new.stream ≡ s.old.stream }
+    ensures rest { KeepsRest s.old.state s.new.state }
+    ensures marks { marks_of s.new.state ≡ marks_of s.old.state }
+    ensures applied { Applies (lookup (same_index index) (marks_of s.old.state)) location s.old.state.ctx.now s.new.state.ctx.now }
+{
+    let Some(op) = s.state.marked(index) else {
+        return;
+    };
+    let Some(location) = location else {
+        return;
+    };
+    locate(s, op, location);
 }
 
 /// Gives each marked operation the location that its entry gives.
@@ -149,12 +178,11 @@ fn apply<T: IrText<A>, A: AttrText, U>(s: &mut StateStream<'_, T, A, U>, entries
     ensures stream { s.new.stream ≡ s.old.stream }
     ensures rest { KeepsRest s.old.state s.new.state }
     ensures marks { marks_of s.new.state ≡ marks_of s.old.state }
+    ensures applied { AppliesAll (marks_of s.old.state) entries.entries s.old.state.ctx.now s.new.state.ctx.now }
 {
     let mut entries = entries;
     while let Some((index, location)) = entries.pop() {
-        if let (Some(op), Some(location)) = (s.state.marked(index), location) {
-            locate(s, op, location);
-        }
+        apply_entry(s, index, location);
     }
 }
 
@@ -164,7 +192,8 @@ pub(crate) fn section_parse<T: IrText<A>, A: AttrText, U>(
 ) -> ParseResult<(), A>
     ensures lent { s.new.state.ctx.ghost_name ≡ s.old.state.ctx.ghost_name }
     ensures rest { KeepsRest s.old.state s.new.state }
-    ensures fresh { OnOk result (marks_of s.new.state ≡ []) }
+    ensures read { OnOk result (ReadsSection s.old s.new) }
+    ensures missed { s.old.stream.failed ≡ false → IfErr result (λ fault. Faults (SectionRefused A (indices_of (marks_of s.old.state)) s.old.stream.rest) s.old.stream fault) }
     ensures refused { IfErr result (λ fault. Demand s.old.stream fault s.new.stream) }
     ensures unchanged { OnErr result (s.new.state ≡ s.old.state) }
 {

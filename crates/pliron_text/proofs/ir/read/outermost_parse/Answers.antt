@@ -1,4 +1,4 @@
-use Rattle.std.proofs.Common.{◌≡◌, ap, ◌∙◌, length, take, arith}
+use Rattle.std.proofs.Common.{ap, ◌∙◌, length, take, arith}
 use Rattle.std.proofs.Math.Seq.{take-append_seam}
 use Rattle.irtext_read.specs.States.{marks_of}
 use Rattle.pliron_text.proofs.Kept.{rolled_back}

@@ -1,0 +1,165 @@
+-- The printed text of a location is read back as the same location.
+use Rattle.std.proofs.Common.{◌≡◌, ℕ, suc, ◌<◌, ◌≤◌, ◌^◌, true, false, cond, Option, Some, None, [], ◌∷◌, ◌++◌, length, refl, sym, ◌∙◌, ap, ap₂, subst, append_assoc, arith}
+use Rattle.std.proofs.lemmas.Bool.Decides.{nat_tests}
+use Rattle.std.proofs.lemmas.Fmt.{decimal_is_IsNumeral}
+use Rattle.std.proofs.lemmas.Option.{none-some}
+use Rattle.std.specs.Prelude.{ℤ, pos, negsuc, codes, nat_lt, decimal, unwrap_or, FitsSigned}
+use Rattle.std.specs.Char.{is_ascii_digit, is_whitespace}
+use Rattle.std.specs.Fmt.{signed_decimal}
+use Rattle.std.specs.Int.{w32}
+use Rattle.std.specs.List.{list_all}
+use Rattle.std.specs.Str.Parse.{digits_value}
+use Rattle.irtext_base.specs.Text.{Text, begins, front, after}
+use Rattle.irtext_base.specs.Reading.{the}
+use Rattle.irtext_base.specs.Answers.{Outcome, Read, followed, prefixed, mapped}
+use Rattle.irtext_base.specs.Causes.{position_text}
+use Rattle.irtext_base.specs.Own.{standing}
+use Rattle.irtext_base.specs.declared.location.Location.{Location, SrcPos, Unknown}
+use Rattle.irtext_base.specs.declared.location.Source.TheVariants.{InMemory, File}
+use Rattle.irtext_base.specs.declared.parsable.position.SourcePosition.{SourcePosition}
+use Rattle.irtext_base.proofs.Characters.{and_left, front_all, after_all, word_no_space}
+use Rattle.irtext_base.proofs.Numbers.{digits_every, digit_in_word}
+use Rattle.irtext_read.specs.Tokens.{is_sign, sign_of, after_sign, fitting, value_of, integer_of, integered, no_integer, integer_at}
+use Rattle.pliron_text.specs.LocationsText.{location_text, known_text}
+use Rattle.pliron_text.specs.LocationText.{spaced_at, labelled_at, position_at, location_at}
+use Rattle.pliron_text.specs.PrintedBack.{locations, Fits32, PlaceFits}
+use Rattle.pliron_text.specs.RoundTrip.{LocationReads}
+use Rattle.pliron_text.specs.SoFar.{location_standing}
+use Rattle.pliron_text.proofs.JoinAnswers.{followed-read}
+use Rattle.pliron_text.proofs.JoinTokens.{text-literal}
+
+-- ---- an integer
+-- an integer behind its sign
+abbrev integer_from : Text → Text → Outcome ℤ
+integer_from sign t = cond (begins is_ascii_digit t) (integered sign (front is_ascii_digit t) (after is_ascii_digit t) (integer_of sign (value_of (front is_ascii_digit t)))) (no_integer sign t)
+
+-- an integer's sign, and what stands behind it
+integer-from : (text : Text) → integer_at text ≡ integer_from (sign_of text) (after_sign text)
+unfolding integer_at
+integer-from text = refl
+
+-- a number below 2 ^ 64 fits
+fitting-small : (n : ℕ) → n < 2 ^ 64 → fitting n ≡ Some n
+fitting-small n small = let e : nat_lt n (2 ^ 64) ≡ true = grind (arith, nat_tests) in rw e refl
+
+-- digits of a number that fits are read back behind a sign, where no digit follows
+digits-integer : (sign ds rest : Text) (n : ℕ) (z : ℤ) → 0 < length ds → list_all is_ascii_digit ds ≡ true → digits_value 10 ds ≡ n → n < 2 ^ 64 → integer_of sign (Some n) ≡ Some z
+    → begins is_ascii_digit rest ≡ false → integer_from sign (ds ++ rest) ≡ Read z (sign ++ ds) rest
+digits-integer sign [] rest n z some all v small is stop = absurd (omega (arith, some))
+digits-integer sign (c ∷ s) rest n z some all v small is stop =
+    let t = (c ∷ s) ++ rest in
+    ap (λ b. cond b (integered sign (front is_ascii_digit t) (after is_ascii_digit t) (integer_of sign (value_of (front is_ascii_digit t)))) (no_integer sign t)) (and_left (is_ascii_digit c) (list_all is_ascii_digit s) all)
+    ∙ (ap₂ (λ f a. integered sign f a (integer_of sign (value_of f))) (front_all is_ascii_digit (c ∷ s) rest all stop) (after_all is_ascii_digit (c ∷ s) rest all stop)
+    ∙ ap (integered sign (c ∷ s) rest) (ap (integer_of sign) (ap fitting v ∙ fitting-small n small) ∙ is))
+
+-- the text begins with no sign and no white space
+record Plain (text : Text) : Type 0 where
+  sign : sign_of text ≡ []
+  behind : after_sign text ≡ text
+  space : begins is_whitespace text ≡ false
+
+-- a text that begins with digits
+plain : (s rest : Text) → 0 < length s → list_all is_ascii_digit s ≡ true → Plain (s ++ rest)
+plain [] rest some all = absurd (omega (arith, some))
+plain (c ∷ s) rest some all = record {
+  sign = ap (λ b. cond b (c ∷ []) []) (no_sign c digit);
+  behind = ap (λ b. cond b (s ++ rest) (c ∷ (s ++ rest))) (no_sign c digit);
+  space = word_no_space c (digit_in_word c digit);
+}
+  where
+    digit : is_ascii_digit c ≡ true
+    digit = and_left (is_ascii_digit c) (list_all is_ascii_digit s) all
+
+    no_sign : (c : ℕ) → is_ascii_digit c ≡ true → is_sign c ≡ false
+    no_sign c e = grind (arith, nat_tests)
+
+-- a text that begins with a number
+plain_decimal : (n : ℕ) (rest : Text) → n < 2 ^ 64 → Plain (decimal n ++ rest)
+plain_decimal n rest small = let k = decimal_is_IsNumeral n small in plain (decimal n) rest k.0.0 (digits_every (decimal n) k.0.1)
+
+not_below : (m n : ℕ) → n ≤ m → nat_lt m n ≡ false
+not_below m n h = grind (arith, nat_tests)
+
+-- an integer's text is read back where no digit follows
+pub integer-here : (z : ℤ) (rest : Text) → FitsSigned w32 z → begins is_ascii_digit rest ≡ false → integer_at (signed_decimal z ++ rest) ≡ Read z (signed_decimal z) rest
+integer-here (pos n) rest fits stop =
+    let small : n < 2 ^ 64 = omega arith in
+    let k = decimal_is_IsNumeral n small in
+    let p = plain_decimal n rest small in
+    let low : nat_lt 2147483647 n ≡ false = not_below 2147483647 n (omega arith) in
+    let is : integer_of [] (Some n) ≡ Some (pos n) = ap (λ b. cond b None (Some (pos n))) low in
+    integer-from (decimal n ++ rest) ∙ (ap₂ integer_from p.sign p.behind ∙ digits-integer [] (decimal n) rest n (pos n) k.0.0 (digits_every (decimal n) k.0.1) k.1 small is stop)
+integer-here (negsuc n) rest fits stop =
+    let small : suc n < 2 ^ 64 = omega arith in
+    let k = decimal_is_IsNumeral (suc n) small in
+    let low : nat_lt 2147483648 (suc n) ≡ false = not_below 2147483648 (suc n) (omega arith) in
+    let is : integer_of (45 ∷ []) (Some (suc n)) ≡ Some (negsuc n) = ap (λ b. cond b None (Some (negsuc n))) low in
+    integer-from (45 ∷ (decimal (suc n) ++ rest)) ∙ digits-integer (45 ∷ []) (decimal (suc n)) rest (suc n) (negsuc n) k.0.0 (digits_every (decimal (suc n)) k.0.1) k.1 small is stop
+
+-- an integer's text begins with no white space
+no_space : (z : ℤ) (rest : Text) → FitsSigned w32 z → begins is_whitespace (signed_decimal z ++ rest) ≡ false
+no_space (pos n) rest fits = (plain_decimal n rest (omega arith)).space
+no_space (negsuc n) rest fits = refl
+
+-- ---- a place
+-- a colon and white space, behind which none follows
+colon : (t : Text) → begins is_whitespace t ≡ false → spaced_at (codes ":") (codes ": " ++ t) ≡ Read tt (codes ": ") t
+colon t e = ap₂ (λ f a. Read tt (58 ∷ 32 ∷ f) a) (front_all is_whitespace [] t refl e) (after_all is_whitespace [] t refl e)
+
+-- a word, a colon and an integer
+labelled-here : (word : Text) (z : ℤ) (rest : Text) → FitsSigned w32 z → begins is_ascii_digit rest ≡ false → (taken : Text) × (labelled_at word (word ++ (codes ": " ++ (signed_decimal z ++ rest))) ≡ Read z taken rest)
+labelled-here word z rest fits stop =
+    let t = signed_decimal z ++ rest in (
+      word ++ (codes ": " ++ signed_decimal z),
+      followed-read _ (λ _ t. followed (spaced_at (codes ":") t) (λ _ u. integer_at u)) tt z word (codes ": " ++ t) (codes ": " ++ signed_decimal z) rest (text-literal word (word ++ (codes ": " ++ t)) (codes ": " ++ t) refl)
+          (followed-read _ (λ _ u. integer_at u) tt z (codes ": ") t (signed_decimal z) rest (colon t (no_space z rest fits)) (integer-here z rest fits stop)),
+    )
+
+-- a line and a column
+position-here : (at : SourcePosition) (rest : Text) → Fits32 at → begins is_ascii_digit rest ≡ false → (taken : Text) × (position_at (position_text at ++ rest) ≡ Read at taken rest)
+position-here at rest fits stop =
+    let u = codes "column: " ++ (signed_decimal at.column ++ rest) in
+    let a = labelled-here (codes "line") at.line (codes ", " ++ u) fits.line refl in
+    let b = labelled-here (codes "column") at.column rest fits.column stop in
+    let see : ℤ → SourcePosition = λ column. record { line = at.line; column = column } in
+    let next : ℤ → Text → Outcome SourcePosition = λ line t. followed (spaced_at (codes ",") t) (λ _ u. mapped (λ column. record { line = line; column = column }) (labelled_at (codes "column") u)) in
+    let parts : position_text at ++ rest ≡ codes "line: " ++ (signed_decimal at.line ++ (codes ", " ++ u)) = ap (λ t. codes "line: " ++ t) (append_assoc (signed_decimal at.line) (codes ", column: " ++ signed_decimal at.column) rest) in (
+      a.0 ++ (codes ", " ++ b.0),
+      ap position_at parts ∙ (ap (λ o. followed o next) a.1 ∙ ap (λ o. prefixed a.0 (prefixed (codes ", ") (mapped see o))) b.1),
+    )
+
+-- ---- a location
+-- the text of a place in memory is read back as this place
+pub location-here : {A : Type 0} (at : SourcePosition) (rest : Text) → Fits32 at → begins is_ascii_digit rest ≡ false
+    → (taken : Text) × (location_at {A = A} ((codes "<in-memory>: " ++ position_text at) ++ rest) ≡ Read (SrcPos InMemory at) taken rest)
+location-here at rest fits stop =
+    let r = position-here at rest fits stop in
+    (codes "<in-memory>" ++ (codes ": " ++ r.0), ap (λ o. prefixed (codes "<in-memory>") (prefixed (codes ": ") (mapped (SrcPos InMemory) o))) r.1)
+
+-- a location with a text is a place in memory
+place_of : {A : Type 0} (l : Location A) (text : Text) → known_text l ≡ Some (Some text) → (at : SourcePosition) × (l ≡ SrcPos InMemory at) × (text ≡ codes "<in-memory>: " ++ position_text at)
+place_of Unknown text e = absurd (cc e)
+place_of (SrcPos InMemory at) text e = (at, refl, cc e)
+place_of (SrcPos (File key) at) text e = absurd (none-some (Some text) e)
+place_of _ text e = absurd (none-some (Some text) e)
+
+-- no digit is `]`
+stops : (rest : Text) → begins (the 93) rest ≡ true → begins is_ascii_digit rest ≡ false
+stops [] e = refl
+stops (c ∷ rest) e = grind (arith, nat_tests)
+
+-- a location's text is read back before `]`, as the same location
+pub location_same : {A : Type 0} (l : Location A) (text rest : Text) → known_text l ≡ Some (Some text) → PlaceFits l → begins (the 93) rest ≡ true → (taken : Text) × (location_at {A = A} (text ++ rest) ≡ Read l taken rest)
+location_same {A = A} l text rest e fits h =
+    let p = place_of l text e in
+    let r = location-here {A = A} p.0 rest (subst PlaceFits p.1 fits) (stops rest h) in
+    (r.0, ap (λ t. location_at (t ++ rest)) p.2 ∙ (r.1 ∙ ap (λ l. Read l r.0 rest) (sym p.1)))
+
+-- what is printed of a location is read back
+pub location_reads : {A : Type 0} (l : Location A) (text : Option Text) → known_text l ≡ Some text → PlaceFits l → LocationReads {X = Location A} location_standing locations text
+location_reads l None e fits = tt
+location_reads l (Some text) e fits =
+    let p = place_of l text e in (
+      ap (begins is_whitespace) p.2,
+      λ rest h. (l, rest, ap standing (location_same l text rest e fits h).1, ap (λ l. unwrap_or (location_text l) []) p.1 ∙ sym p.2, refl),
+    )

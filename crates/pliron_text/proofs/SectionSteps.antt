@@ -1,0 +1,155 @@
+-- A section read entry by entry, and applied entry by entry.
+use Rattle.std.proofs.Common.{◌≡◌, ℕ, Bool, true, false, cond, not, ◌&&◌, ◌||◌, ◌==◌, List, Option, Some, None, [], ◌∷◌, ◌++◌, refl, sym, ◌∙◌, ap, subst, append-nil, is_some, true≢false, Result, Ok, Err, OnOk, IsSome, IsTrue, ◌↔◌, ◌<◌, length, arith}
+use Rattle.std.proofs.lemmas.Bool.Decides.{nat_tests}
+use Rattle.std.specs.Map.{lookup}
+use Rattle.std.specs.Result.{is_err}
+use Rattle.irtext_base.specs.Text.{Text, begins, after_space}
+use Rattle.irtext_base.specs.Reading.{the}
+use Rattle.irtext_base.specs.Format.{has}
+use Rattle.irtext_base.specs.Answers.{Read}
+use Rattle.irtext_base.specs.Context.{ContextView}
+use Rattle.irtext_base.specs.Stream.{StreamView}
+use Rattle.irtext_base.specs.declared.base.arena.Ptr.{Ptr}
+use Rattle.irtext_base.specs.declared.base.operation.Operation.{Operation}
+use Rattle.irtext_base.specs.declared.location.Location.{Location}
+use Rattle.irtext_base.specs.declared.parsable.fault.ParseFault.{ParseFault}
+use Rattle.irtext_read.specs.States.{same_index}
+use Rattle.pliron_text.specs.ModuleText.{index_at}
+use Rattle.pliron_text.specs.Roots.{may_follow}
+use Rattle.pliron_text.specs.SectionText.{content_at, known_index, entry_at, may_have, Entries}
+use Rattle.pliron_text.specs.SectionRead.{indices_of, is_noted, Moves, Faults, Applies, AppliesAll, ReadsEntry}
+use Rattle.pliron_text.specs.SoFar.{RefusedAs, EntriesRefused}
+use Rattle.pliron_text.proofs.Answered.{faults_behind}
+use Rattle.pliron_text.proofs.JoinAnswers.{followed_read, mapped_read}
+use Rattle.pliron_text.proofs.JoinEntries.{known_read, said_next, onto}
+use Rattle.pliron_text.proofs.JoinRoot.{may_have-onto}
+
+-- an entry depends on its index's test alone
+pub entry_at-same : {A : Type 0} (test other : ℕ → Bool) → ((j : ℕ) → test j ≡ other j) → (text : Text) → entry_at {A = A} test text ≡ entry_at other text
+entry_at-same test other h text = ap (λ (test : ℕ → Bool). entry_at test text) (λ i j. h j i)
+
+-- ---- the indices that may follow, as the reader looks them up
+swap_sides : (i j : ℕ) → (i == j) ≡ (j == i)
+swap_sides i j = grind (arith, nat_tests)
+
+noted_index : {X : Type 0} (marks : List (ℕ × X)) (i : ℕ) → is_some (lookup (same_index i) marks) ≡ has ◌==◌ i (indices_of marks)
+noted_index [] i = refl
+noted_index (m ∷ ms) i = go (i == m.0) refl (noted_index ms i)
+  where
+    go : (b : Bool) → (i == m.0) ≡ b → is_some (lookup (same_index i) ms) ≡ has ◌==◌ i (indices_of ms) → is_some (lookup (same_index i) (m ∷ ms)) ≡ ((i == m.0) || has ◌==◌ i (indices_of ms))
+    go true e h = rw e refl
+    go false e h = rw e h
+
+-- the reader's test, of one more entry
+follow_more : {X Y : Type 0} (marks : List (ℕ × X)) (e : ℕ × Y) (es : List (ℕ × Y)) (i : ℕ) → may_follow marks (e ∷ es) i ≡ (not (e.0 == i) && may_follow marks es i)
+follow_more marks e es i = go (i == e.0) refl (is_some (lookup (same_index i) marks)) refl
+  where
+    go : (b : Bool) → (i == e.0) ≡ b → (c : Bool) → is_some (lookup (same_index i) marks) ≡ c → may_follow marks (e ∷ es) i ≡ (not (e.0 == i) && may_follow marks es i)
+    go true f true g = rw (f, swap_sides e.0 i ∙ f, g) refl
+    go true f false g = rw (f, swap_sides e.0 i ∙ f, g) refl
+    go false f true g = rw (f, swap_sides e.0 i ∙ f, g) refl
+    go false f false g = rw (f, swap_sides e.0 i ∙ f, g) refl
+
+and_true : (b : Bool) → (b && true) ≡ b
+and_true true = refl
+and_true false = refl
+
+module _ {X A : Type 0} (marks : List (ℕ × X)) where
+  -- it is the test of the definition
+  pub follow_is : (es : List (ℕ × Option (Location A))) (i : ℕ) → may_follow marks es i ≡ may_have (indices_of marks) es i
+  follow_is [] i = and_true (is_some (lookup (same_index i) marks)) ∙ noted_index marks i
+  follow_is (e ∷ es) i = follow_more marks e es i ∙ ap (λ b. not (e.0 == i) && b) (follow_is es i)
+
+-- an entry that was read has an index that passes the test
+pub entry_known : {A : Type 0} (test : ℕ → Bool) (text : Text) (e : ℕ × Option (Location A)) (taken rest : Text) → entry_at test text ≡ Read e taken rest → test e.0 ≡ true
+entry_known test text e taken rest h =
+    let a = followed_read (known_index test (index_at text)) said_next e taken rest h in
+    let b = mapped_read (λ x. (a.value, x)) (content_at a.middle) e a.more rest a.second in
+    ap test (sym (ap (λ e. e.0) b.2)) ∙ (known_read test (index_at text) a.value a.front a.middle a.first).1
+
+none_there : {X : Type 0} (b : Bool) (o : Option X) → (b && not (is_some o)) ≡ true → o ≡ None
+none_there b None e = refl
+none_there true (Some x) e = absurd (true≢false (sym e))
+none_there false (Some x) e = absurd (true≢false (sym e))
+
+-- no earlier entry has the index of one that was read
+pub entry_new : {A X : Type 0} (marks : List (ℕ × X)) (es : List (ℕ × Option (Location A))) (text : Text) (e : ℕ × Option (Location A)) (taken rest : Text) → entry_at (may_follow marks es) text ≡ Read e taken rest → lookup (same_index e.0) es ≡ None
+entry_new marks es text e taken rest h = none_there (is_some (lookup (same_index e.0) marks)) (lookup (same_index e.0) es) (entry_known (may_follow marks es) text e taken rest h)
+
+-- what holds of a success, where there is one
+pub succeeded : {X E : Type 0} (r : Result X E) (P : Type 0) → is_err r ≡ false → OnOk r P → P
+succeeded (Ok x) P e h = h
+succeeded (Err x) P e h = absurd (true≢false e)
+
+-- ---- one entry behind others
+module _ {A : Type 0} (marks : List ℕ) where
+  entries_behind : (earlier es : List (ℕ × Option (Location A))) (e : ℕ × Option (Location A)) (text mid taken left : Text) → Entries marks earlier es text mid → begins (the 33) mid ≡ true
+      → entry_at (may_have marks (onto es earlier)) mid ≡ Read e taken left → Entries marks earlier (es ++ (e ∷ [])) text (after_space left)
+  entries_behind earlier [] e text mid taken left h b r = (taken, left, subst (λ m. begins (the 33) m ≡ true) h b, subst (λ m. entry_at (may_have marks earlier) m ≡ Read e taken left) h r, refl)
+  entries_behind earlier (d ∷ es) e text mid taken left (t, m, c, f, more) b r = (t, m, c, f, entries_behind (d ∷ earlier) es e (after_space m) mid taken left more b r)
+
+  -- one entry more
+  pub entries_more : (es : List (ℕ × Option (Location A))) (e : ℕ × Option (Location A)) (text mid taken left : Text) → Entries marks [] es text mid → begins (the 33) mid ≡ true
+      → entry_at (may_have marks es) mid ≡ Read e taken left → Entries marks [] (es ++ (e ∷ [])) text (after_space left)
+  entries_more es e text mid taken left h b r =
+      entries_behind [] es e text mid taken left h b (entry_at-same (may_have marks (onto es [])) (may_have marks es) (λ j. may_have-onto marks j es [] ∙ ap (λ es. may_have marks es j) (append-nil es)) mid ∙ r)
+
+module _ {A X : Type 0} (marks : List (ℕ × X)) where
+  -- the reader's entry is one entry more
+  pub entry_noted : {old new : StreamView} (es es' : List (ℕ × Option (Location A))) (text : Text) → Entries (indices_of marks) [] es text old.rest → begins (the 33) old.rest ≡ true
+      → ReadsEntry marks es old es' new → Entries (indices_of marks) [] es' text new.rest
+  entry_noted {old = old} {new = new} es es' text h b r =
+      let s = entry_at-same (may_have (indices_of marks) es) (may_follow marks es) (λ j. sym (follow_is {A = A} marks es j)) old.rest in
+      subst (λ z. Entries (indices_of marks) [] z text new.rest) (sym r.noted) (subst (λ z. Entries (indices_of marks) [] (es ++ (r.entry ∷ [])) text z) (sym r.left)
+      (entries_more (indices_of marks) es r.entry text old.rest r.taken r.mid h b (s ∙ r.reads)))
+
+  -- the reader's refusal of one more entry refuses the entries
+  pub entries_stop : {old mid : StreamView} {fault : ParseFault A} (es : List (ℕ × Option (Location A))) (h : Moves old mid) → Entries (indices_of marks) [] es old.rest mid.rest → begins (the 33) mid.rest ≡ true
+      → Faults (RefusedAs (entry_at {A = A} (may_follow marks es) mid.rest)) mid fault → Faults (EntriesRefused A (indices_of marks) old.rest) old fault
+  entries_stop {old = old} {mid = mid} es h e b f =
+      let s = entry_at-same {A = A} (may_follow marks es) (may_have (indices_of marks) es) (follow_is {A = A} marks es) mid.rest in
+      faults_behind (RefusedAs (entry_at {A = A} (may_follow marks es) mid.rest)) (EntriesRefused A (indices_of marks) old.rest) h.taken mid.rest h.takes
+      (λ cause upto r. record { before = es; stop = mid.rest; stand = e; more = b; taken = h.taken; splits = h.takes.same; last = upto; refused = subst (λ o. RefusedAs o cause upto) s r; whole = refl }) f
+
+-- ---- entries applied, the last first
+module _ {T A : Type 0} (marks : List (ℕ × Ptr Operation)) where
+  -- the last of the entries is applied before the others
+  pub applies_last : (es : List (ℕ × Option (Location A))) (e : ℕ × Option (Location A)) (old mid new : ContextView T A) → Applies (lookup (same_index e.0) marks) e.1 old mid → AppliesAll marks es mid new → AppliesAll marks (es ++ (e ∷ [])) old new
+  applies_last [] e old mid new h k = (old, refl, subst (λ z. Applies (lookup (same_index e.0) marks) e.1 old z) (sym k) h)
+  applies_last (d ∷ es) e old mid new h k = (k.0, applies_last es e old mid k.0 h k.1, k.2)
+
+-- a map from which nothing is taken any more is empty
+pub emptied : {X : Type 0} (all : List X) (o : Option X) → (IsSome o ↔ (0 < length all)) → o ≡ None → all ≡ []
+emptied [] o h none = refl
+emptied (x ∷ xs) o h none = absurd (true≢false (sym (subst IsSome none (h.1 (omega arith)))))
+
+-- a mark is noted where the marks are not none
+pub noted_there : {X : Type 0} (marks : List X) (b : Bool) → (IsTrue b ↔ (marks ≡ [] → ⊥)) → b ≡ true → is_noted marks ≡ true
+noted_there [] b h e = absurd (h.0 (rw e refl) refl)
+noted_there (m ∷ ms) b h e = refl
+
+-- two tests that hold, of which the first does not fail
+pub both_hold : (a b : Bool) → not a ≡ false → b ≡ true → (a && b) ≡ true
+both_hold true b e f = f
+both_hold false b e f = absurd (true≢false e)
+
+-- what is said under a test that holds
+pub held_under : {P : Type 0} (Q : Type 0) (b : Bool) → b ≡ true → P → cond b P Q
+held_under Q true e p = p
+held_under Q false e p = absurd (true≢false (sym e))
+
+-- the first of two tests fails
+pub first_fails : (a b : Bool) → not a ≡ true → (a && b) ≡ false
+first_fails true b e = absurd (true≢false (sym e))
+first_fails false b e = refl
+
+-- no mark is noted, whatever else is asked
+pub none_noted : {X : Type 0} (a : Bool) (marks : List X) (b : Bool) → (IsTrue b ↔ (marks ≡ [] → ⊥)) → b ≡ false → (a && is_noted marks) ≡ false
+none_noted true [] b h e = refl
+none_noted false [] b h e = refl
+none_noted a (m ∷ ms) b h e = absurd (true≢false (sym (h.1 (λ e. absurd (cc e))) ∙ e))
+
+-- what is said under a test that fails
+pub held_beside : {Q : Type 0} (P : Type 0) (b : Bool) → b ≡ false → Q → cond b P Q
+held_beside P true e q = absurd (true≢false e)
+held_beside P false e q = q

@@ -1,0 +1,33 @@
+-- What is promised of the text of a module that is read back.
+use Rattle.std.specs.Prelude.{◌≡◌, true, false, [], Some, unwrap_or, FitsSigned, ⊤}
+use Rattle.std.specs.Int.{w32}
+use Rattle.irtext_base.specs.Text.{after_space}
+use Rattle.irtext_base.specs.declared.base.arena.Ptr.{Ptr}
+use Rattle.irtext_base.specs.declared.base.operation.Operation.{Operation}
+use Rattle.irtext_base.specs.declared.location.Location.{Location, SrcPos}
+use Rattle.irtext_base.specs.declared.parsable.position.SourcePosition.{SourcePosition}
+use Rattle.irtext_read.specs.declared.parsable.state.StateStream.{StateStream}
+use Rattle.pliron_text.specs.Build.{Built}
+use Rattle.pliron_text.specs.Graph.{Graph, Printing}
+use Rattle.pliron_text.specs.LocationsText.{location_text}
+use Rattle.pliron_text.specs.Modules.{isolated}
+use Rattle.pliron_text.specs.Same.{Locations, UpToFillings, stood}
+use Rattle.pliron_text.specs.Stands.{stands}
+
+-- a location's text, where its kind is printed, and whether it is a place of a source
+abbrev pub locations : {A : Type 0} → Locations (Location A)
+locations = record { text = λ l. unwrap_or (location_text l) []; is_position = λ l. elim l [ SrcPos source at ↦ true | _ ↦ false ] }
+
+-- a line and a column are integers of 32 bits
+pub record Fits32 (at : SourcePosition) : Type 0 where
+  pub line : FitsSigned w32 at.line
+  pub column : FitsSigned w32 at.column
+
+-- the line and the column fit, where the location is a place of a source
+abbrev pub PlaceFits : {A : Type 0} → Location A → Type 0
+PlaceFits (SrcPos source at) = Fits32 at
+PlaceFits _ = ⊤
+
+-- what stands under the answer is equal to the graph up to fillings, and only white space is left of the text
+abbrev pub StandsBack : {T A U : Type 0} → Printing T A → Graph T A → Ptr Operation → StateStream T A U → Type 0
+StandsBack {T} {A} C g q new = (b : Built T A (Location A)) × (stands new.state.ctx.now q ≡ Some b) × UpToFillings locations (stood C isolated g) b × (after_space new.stream.rest ≡ [])

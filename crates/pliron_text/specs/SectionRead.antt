@@ -1,0 +1,95 @@
+-- What reading a section does to the marked operations, and what it leaves of the stream.
+use Rattle.std.specs.Prelude.{◌≡◌, ℕ, ◌⊎◌, Bool, true, false, cond, ◌&&◌, is_some, Option, Some, None, List, [], ◌∷◌, ◌++◌, map}
+use Rattle.std.specs.Map.{lookup}
+use Rattle.irtext_base.specs.Text.{Text, after_space}
+use Rattle.irtext_base.specs.Stream.{StreamView, IsAt}
+use Rattle.irtext_base.specs.Faults.{Fault, Memory, fault_of}
+use Rattle.irtext_base.specs.Answers.{Read, Takes}
+use Rattle.irtext_base.specs.Context.{ContextView, EditsOperation, operation}
+use Rattle.irtext_base.specs.declared.base.arena.Ptr.{Ptr}
+use Rattle.irtext_base.specs.declared.base.operation.Operation.{Operation}
+use Rattle.irtext_base.specs.declared.location.Location.{Location}
+use Rattle.irtext_base.specs.declared.parsable.fault.ParseFault.{ParseFault}
+use Rattle.irtext_read.specs.States.{marks_of, same_index}
+use Rattle.irtext_read.specs.declared.parsable.state.StateStream.{StateStream}
+use Rattle.pliron_text.specs.Roots.{itself, replaced, may_follow, operation_at, ReadsModule}
+use Rattle.pliron_text.specs.SectionText.{entry_at, AllEntries, heading_at}
+use Rattle.pliron_text.specs.SoFar.{RefusedAs, SectionRefused}
+
+-- the indices of marks
+abbrev pub indices_of : {X : Type 0} → List (ℕ × X) → List ℕ
+indices_of marks = map (λ m. m.0) marks
+
+-- the stream took some characters, and is as fine as it was
+pub record Moves (old new : StreamView) : Type 0 where
+  pub taken : Text
+  pub takes : Takes itself replaced taken new.rest old new
+
+-- the fault has this cause, and stands behind these characters
+pub record FaultAt {A : Type 0} (cause : Fault) (upto : Text) (old : StreamView) (fault : ParseFault A) : Type 0 where
+  pub because : fault_of fault.cause ≡ cause
+  pub place : IsAt fault.pos.line fault.pos.column (old.passed ++ upto)
+
+-- memory was refused, or else the fault is one that is allowed there
+abbrev pub Faults : {A : Type 0} → (Fault → Text → Type 0) → StreamView → ParseFault A → Type 0
+Faults Allowed old fault = (fault_of fault.cause ≡ Memory) ⊎ ((cause : Fault) × (upto : Text) × Allowed cause upto × FaultAt cause upto old fault)
+
+module _ {T A : Type 0} where
+  -- an operation has this location from now on, where it stands
+  abbrev pub Locates : Ptr Operation → Location A → ContextView T A → ContextView T A → Type 0
+  Locates op location old new = cond (is_some (operation old op)) (EditsOperation old new op (λ o. record o { loc = location })) (new ≡ old)
+
+  -- the operation that is marked has the location that its entry gives, if it gives one
+  abbrev pub Applies : Option (Ptr Operation) → Option (Location A) → ContextView T A → ContextView T A → Type 0
+  Applies (Some op) (Some location) old new = Locates op location old new
+  Applies (Some op) None old new = new ≡ old
+  Applies None location old new = new ≡ old
+
+  -- each entry does so for the operation of its mark, the last one first
+  abbrev pub AppliesAll : List (ℕ × Ptr Operation) → List (ℕ × Option (Location A)) → ContextView T A → ContextView T A → Type 0
+  AppliesAll marks [] old new = new ≡ old
+  AppliesAll marks (e ∷ es) old new = (mid : ContextView T A) × AppliesAll marks es old mid × Applies (lookup (same_index e.0) marks) e.1 mid new
+
+-- an entry was read where the stream stood, and noted behind the earlier ones, and the white space behind it was passed
+pub record ReadsEntry {A X : Type 0} (marks : List (ℕ × X)) (earlier : List (ℕ × Option (Location A))) (old : StreamView) (entries : List (ℕ × Option (Location A))) (new : StreamView) : Type 0 where
+  pub entry : ℕ × Option (Location A)
+  pub taken : Text
+  pub mid : Text
+  pub reads : entry_at (may_follow marks earlier) old.rest ≡ Read entry taken mid
+  pub noted : entries ≡ earlier ++ (entry ∷ [])
+  pub left : new.rest ≡ after_space mid
+  pub moves : Moves old new
+
+-- all entries that stood where the stream stood were read
+pub record ReadsEntries {A : Type 0} (marks : List ℕ) (entries : List (ℕ × Option (Location A))) (old new : StreamView) : Type 0 where
+  pub stand : AllEntries marks entries old.rest new.rest
+  pub moves : Moves old new
+
+-- a section stood where the stream stood: its entries were read, and then applied
+pub record ReadsSection {T A U : Type 0} (old new : StateStream T A U) : Type 0 where
+  pub heading : Text
+  pub behind : Text
+  pub head : heading_at old.stream.rest ≡ Read tt heading behind
+  pub entries : List (ℕ × Option (Location A))
+  pub stand : AllEntries (indices_of (marks_of old.state)) entries behind new.stream.rest
+  pub moves : Moves old.stream new.stream
+  pub applied : AppliesAll (marks_of old.state) entries old.state.ctx.now new.state.ctx.now
+  pub fresh : marks_of new.state ≡ []
+
+-- whether a mark is noted
+abbrev pub is_noted : {X : Type 0} → List X → Bool
+is_noted [] = false
+is_noted (m ∷ ms) = true
+
+module _ {T A U : Type 0} where
+  -- a module was read where the stream stood, and then a section, where it is looked for and a mark is noted
+  pub record ReadsWith (look : Bool) (op : Ptr Operation) (old new : StateStream T A U) : Type 0 where
+    pub mid : StateStream T A U
+    pub operation : ReadsModule op old mid
+    pub section : cond (look && is_noted (marks_of mid.state)) (ReadsSection mid new) (new ≡ mid)
+
+  -- on a stream that has not failed no module was read where it stood, or no section behind the module
+  pub data MissesWith (look : Bool) (old : StateStream T A U) (fault : ParseFault A) : Type 0 where
+    no_module : Faults (RefusedAs (operation_at (marks_of old.state) old.stream.rest)) old.stream fault → MissesWith look old fault
+    no_section : (op : Ptr Operation) (mid : StateStream T A U) → ReadsModule op old mid → (look && is_noted (marks_of mid.state)) ≡ true
+        → Faults (SectionRefused A (indices_of (marks_of mid.state)) mid.stream.rest) mid.stream fault → MissesWith look old fault
