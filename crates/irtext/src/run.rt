@@ -69,9 +69,6 @@ fn formatted(alloc: Global, text: &str) -> Result<String, Fault> {
         Ok(root) => root,
         Err(error) => return Err(refusal(alloc, &ctx, &error)),
     };
-    if !ctx.contains_operation(root) {
-        return Err(refusal(alloc, &ctx, &Error::from(fmt::Error)));
-    }
     let mut printed = String::new(alloc);
     match write!(printed, "{}", root.disp(&ctx)) {
         Ok(()) => Ok(printed),

@@ -1,8 +1,13 @@
 //! What the definitions say of worked texts, trees, graphs and formats. Each function does nothing: its contract is a row that
 //! is computed.
-ghost use Rattle.std.specs.Prelude.{◌≡◌, ℕ, List, [], ◌∷◌, ◌++◌, codes, Some, None, true};
+ghost use Rattle.std.specs.Prelude.{◌≡◌, ◌==◌, ℕ, List, [], ◌∷◌, ◌++◌, codes, pos, Some, None, true};
+ghost use Rattle.irtext_base.specs.Answers.{Bad, Read};
+ghost use Rattle.irtext_base.specs.Faults.{Unexpected, Word};
+ghost use Rattle.irtext_base.specs.Faults as fault;
 ghost use Rattle.irtext_base.specs.Format as format;
 ghost use Rattle.irtext_base.specs.Text.{after_space, column_behind, line_behind};
+ghost use Rattle.irtext_base.specs.declared.location.Location.{SrcPos};
+ghost use Rattle.irtext_base.specs.declared.location.Source.TheVariants.{InMemory};
 ghost use Rattle.irtext_vectors.specs.Demo.{demo, inline_printing, isolated, labelled_printing, plain_printing};
 ghost use Rattle.irtext_vectors.specs.Formats.{Breaks, Kept};
 ghost use Rattle.irtext_vectors.specs.Graphs.{global_pointer, one_note_twice, two_branches, use_before_definition};
@@ -16,6 +21,8 @@ ghost use Rattle.pliron_text.specs.Closed.{Closed, Fit};
 ghost use Rattle.pliron_text.specs.Fillable.{GraphKeepsKeys};
 ghost use Rattle.pliron_text.specs.Graph.{written};
 ghost use Rattle.pliron_text.specs.Links.{Linked, links};
+ghost use Rattle.pliron_text.specs.ModuleText.{module_at, module_with};
+ghost use Rattle.pliron_text.specs.Modules.{module_id};
 ghost use Rattle.pliron_text.specs.ReadSection.{of_once};
 ghost use Rattle.pliron_text.specs.Reads.{reads};
 ghost use Rattle.pliron_text.specs.RoundTrip.{GraphHeld};
@@ -23,7 +30,9 @@ ghost use Rattle.pliron_text.specs.Same.{SmallGraph};
 ghost use Rattle.pliron_text.specs.Script as script;
 ghost use Rattle.pliron_text.specs.Script.{DuplicateIndex, MultipleDefinitions, NoActiveScope, NotIsolated, ReservedKey, ResultCount, UnknownIndex, UnknownPrintOnce, UnresolvedReference};
 ghost use Rattle.pliron_text.specs.Section.{text};
+ghost use Rattle.pliron_text.specs.SectionText.{entry_at};
 ghost use Rattle.pliron_text.specs.Spell.{spelled};
+ghost use Rattle.pliron_text.specs.TopLevel.{location_of};
 ghost use Rattle.pliron_text.specs.Tree.{Tree, own};
 ghost use Rattle.pliron_text.specs.Wordy.{Wordy};
 ghost use Rattle.pliron_text.specs.WrittenSection.{SmallSection};
@@ -175,4 +184,17 @@ pub fn premises_of_a_section()
 pub fn lines_and_columns()
     ensures beginning { (line_behind [] ≡ 1) × (column_behind [] ≡ 1) }
     ensures second_line { (line_behind (codes "ab\nc") ≡ 2) × (column_behind (codes "ab\nc") ≡ 2) }
+{}
+
+/// A module reads whole; without its brace it is bad behind its last character; an entry of another index is unknown where it begins.
+pub fn what_readers_answer()
+    ensures module { module_at (codes "builtin.module @m {}") ≡ Read (module_with module_id (codes "m") None) (codes "builtin.module @m {}") [] }
+    ensures open { module_at (codes "builtin.module @m {") ≡ Bad (Unexpected None (Word (codes "}"))) (codes "builtin.module @m {") }
+    ensures entry { entry_at {A = ⊥} (λ i. i == 5) (codes "!5 = @[<in-memory>: line: 7, column: 3], []") ≡ Read (5, Some (SrcPos InMemory (record { line = pos 7; column = pos 3 }))) (codes "!5 = @[<in-memory>: line: 7, column: 3], []") [] }
+    ensures unknown { entry_at {A = ⊥} (λ i. i == 0) (codes "!1 = []") ≡ Bad (fault.UnknownIndex 1) [] }
+{}
+
+/// The place one character before the end of two lines stands in the second.
+pub fn where_a_place_stands()
+    ensures { location_of {A = ⊥} InMemory (codes "ab\ncd") 1 ≡ SrcPos InMemory (record { line = pos 2; column = pos 2 }) }
 {}

@@ -1,0 +1,19 @@
+use Rattle.std.proofs.Common.{refl}
+use Rattle.irtext_read.specs.Tokens.{word_at, id_at, number_at, integer_at}
+use Rattle.irtext_vectors.proofs.definitions.what_readers_answer.Goals as goal
+
+pub returns-clause-module : goal.returns-clause-module
+unfolding word_at id_at
+returns-clause-module c = refl
+
+pub returns-clause-open : goal.returns-clause-open
+unfolding word_at id_at
+returns-clause-open c = refl
+
+pub returns-clause-entry : goal.returns-clause-entry
+unfolding number_at integer_at
+returns-clause-entry c = refl
+
+pub returns-clause-unknown : goal.returns-clause-unknown
+unfolding number_at
+returns-clause-unknown c = refl
