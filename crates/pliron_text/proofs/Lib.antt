@@ -96,3 +96,4 @@ pub mod LocationBack
 pub mod PrintedBack
 pub mod RootSteps
 pub mod TopLevel
+pub mod PrintedText

@@ -59,7 +59,7 @@ graph-module {T = T} {A = A} op name l fits =
     ∙ (ap (λ z. make module_id.dialect module_id.name z op.regions) (symbol_of-some name op.attributes parts.1) ∙ ap (λ z. make module_id.dialect module_id.name ((sym_name_key, Ident name) ∷ []) z) r.1))
 
 -- a graph that stands under a pointer, and the text of its location
-graph_stands : {T A : Type 0} (ctx : ContextView T A) (p : Ptr Operation) (op : OperationView T A) (name : Text) (g : Graph T A) → operation ctx p ≡ Some op → module_symbol op ≡ Some name → graph_of ctx p ≡ Some g
+pub graph_stands : {T A : Type 0} (ctx : ContextView T A) (p : Ptr Operation) (op : OperationView T A) (name : Text) (g : Graph T A) → operation ctx p ≡ Some op → module_symbol op ≡ Some name → graph_of ctx p ≡ Some g
     → (l : Option Text) × (known_text op.loc ≡ Some l) × (g ≡ empty_module module_id name l)
 graph_stands {T = T} {A = A} ctx p op name g o fits e =
     let seen : OperationView T A → Option (Graph T A) = λ v. elim v.result_types [ [] ↦ option_map (graph_at v) (known_text v.loc) | _ ∷ _ ↦ None ] in

@@ -1,7 +1,8 @@
 -- What is promised of the text of a module that is read back.
-use Rattle.std.specs.Prelude.{◌≡◌, true, false, [], Some, unwrap_or, FitsSigned, ⊤}
+use Rattle.std.specs.Prelude.{◌≡◌, true, false, [], Some, IfSome, IsTrue, unwrap_or, FitsSigned, ⊤}
 use Rattle.std.specs.Int.{w32}
-use Rattle.irtext_base.specs.Text.{after_space}
+use Rattle.irtext_base.specs.Text.{after_space, is_identifier}
+use Rattle.irtext_base.specs.Context.{OperationView}
 use Rattle.irtext_base.specs.declared.base.arena.Ptr.{Ptr}
 use Rattle.irtext_base.specs.declared.base.operation.Operation.{Operation}
 use Rattle.irtext_base.specs.declared.location.Location.{Location, SrcPos}
@@ -11,6 +12,7 @@ use Rattle.pliron_text.specs.Build.{Built}
 use Rattle.pliron_text.specs.Graph.{Graph, Printing}
 use Rattle.pliron_text.specs.LocationsText.{location_text}
 use Rattle.pliron_text.specs.Modules.{isolated}
+use Rattle.pliron_text.specs.PrintedModule.{module_symbol}
 use Rattle.pliron_text.specs.Same.{Locations, UpToFillings, stood}
 use Rattle.pliron_text.specs.Stands.{stands}
 
@@ -27,6 +29,10 @@ pub record Fits32 (at : SourcePosition) : Type 0 where
 abbrev pub PlaceFits : {A : Type 0} → Location A → Type 0
 PlaceFits (SrcPos source at) = Fits32 at
 PlaceFits _ = ⊤
+
+-- what the types of an operation's parts keep of it: a symbol's name is an identifier, and a place's line and column fit
+abbrev pub IsKept : {T A : Type 0} → OperationView T A → Type 0
+IsKept op = IfSome (module_symbol op) (λ name. IsTrue (is_identifier name)) × PlaceFits op.loc
 
 -- what stands under the answer is equal to the graph up to fillings, and only white space is left of the text
 abbrev pub StandsBack : {T A U : Type 0} → Printing T A → Graph T A → Ptr Operation → StateStream T A U → Type 0

@@ -29,6 +29,7 @@ ghost use Rattle.pliron_text.specs.Wordy.{Wordy};
 ghost use Rattle.pliron_text.specs.Writable.{Behind, BehindRoot, Writable};
 
 pub mod building;
+pub mod headline;
 
 use irtext_base::text::{AttrText, IrText};
 
