@@ -2,8 +2,9 @@
 """Roots in a row on one stream: bench/bench.py [MEGABYTES]
 
 Reads and prints texts of that many megabytes (10 where none is given) with the program of crates/irtext_bench, which `rt ci` or
-`rt run` in that folder builds. One text has newlines, one has none. Best of three runs; the start of the program is taken off.
-Instructions a root are counted by valgrind's callgrind where it is there."""
+`rt run` in that folder builds. One text has newlines, one has none. Best of five runs; the start of the program is taken off.
+All roots are printed ten times in a run, so that printing is not lost in the noise of reading. Last come the instructions a
+root and a byte, counted by valgrind's callgrind where it is there: they are the same on a busy machine."""
 import os
 import re
 import shutil
@@ -14,6 +15,7 @@ import time
 
 HERE = os.path.dirname(os.path.abspath(__file__))
 PROGRAM = os.path.join(HERE, "..", "crates", "irtext_bench", "out", "irtext_bench")
+PRINTS = 10
 LINES = "builtin.module @module_{} \n{{\n  \n}} !0\n\noutlined_attributes:\n!0 = @[<in-memory>: line: {}, column: 1], []\n"
 
 
@@ -29,9 +31,9 @@ def text(size, newlines):
 
 
 def seconds(path, words):
-    """The least wall time of three runs."""
+    """The least wall time of five runs."""
     best = None
-    for _ in range(3):
+    for _ in range(5):
         with open(path, "rb") as source:
             start = time.perf_counter()
             subprocess.run([PROGRAM] + words, stdin=source, stdout=subprocess.DEVNULL, check=True)
@@ -62,7 +64,7 @@ def main():
             with open(path, "w") as target:
                 target.write(content)
             read = seconds(path, []) - start
-            printed = seconds(path, ["print"]) - start - read
+            printed = (seconds(path, ["print"] * PRINTS) - start - read) / PRINTS
             megabytes = len(content) / 1e6
             print("| %s | %.1f | %d | %.0f | %.0f | %.0f | %.0f |" % (
                 name, megabytes, roots, megabytes / read, megabytes / printed, read / roots * 1e9, printed / roots * 1e9))
@@ -72,10 +74,12 @@ def main():
                 content, roots = text(size, True)
                 with open(path, "w") as target:
                     target.write(content)
-                counts.append((roots, instructions(path, []), instructions(path, ["print"])))
-            (a, read_a, all_a), (b, read_b, all_b) = counts
-            print("Instructions a root: %d to read, %d to read and print" % (
-                (read_b - read_a) / (b - a), (all_b - all_a) / (b - a)))
+                read = instructions(path, [])
+                printed = (instructions(path, ["print"] * PRINTS) - read) / PRINTS
+                counts.append((roots, len(content), read, printed))
+            roots, length, read, printed = (last - first for first, last in zip(*counts))
+            print("Instructions: %d a root and %.1f a byte to read, %d a root and %.1f a byte to print" % (
+                read / roots, read / length, printed / roots, printed / length))
 
 
 main()

@@ -1,4 +1,4 @@
-//! The program of the benchmark: reads roots in a row from one stream, and prints them where the word `print` is given.
+//! The program of the benchmark: reads roots in a row from one stream, and prints them all once for each word that is given.
 #![tactic(auto)]
 
 use irtext_types::{Note, Pointer};
@@ -52,7 +52,7 @@ fn print_roots(
     Ok(text)
 }
 
-/// Reads and, where it is asked for, prints. It tells how many roots and bytes there were.
+/// Reads, and prints as often as there are words. It tells how many roots and bytes there were.
 fn measure(rt: &HostRuntime) -> io::Result<()> {
     let alloc = rt.alloc();
     let mut bytes = Vec::new(alloc);
@@ -62,12 +62,10 @@ fn measure(rt: &HostRuntime) -> io::Result<()> {
     };
     let mut ctx = Context::new(alloc);
     let roots = read_roots(alloc, text.as_str(), &mut ctx)?;
-    let prints = env::args(rt)?.count() > 1;
-    let printed = if prints {
-        print_roots(alloc, roots.as_slice(), &ctx)?
-    } else {
-        String::new(alloc)
-    };
+    let mut printed = String::new(alloc);
+    for _ in 1..env::args(rt)?.count() {
+        printed = print_roots(alloc, roots.as_slice(), &ctx)?;
+    }
     println!(rt;
         "{} roots, {} bytes read, {} bytes printed",
         roots.len(),
