@@ -3,7 +3,7 @@ use Rattle.std.specs.Prelude.{ℕ, Bool, true, false, cond, [], ◌∷◌, codes
 use Rattle.irtext_base.specs.Text.{Text}
 use Rattle.irtext_base.specs.Format as format
 use Rattle.irtext_base.specs.Format.{Id, same_text}
-use Rattle.irtext_base.specs.Own.{Language, unplaced, Texts, missing}
+use Rattle.irtext_base.specs.Own.{Language, language, unplaced, Texts, missing}
 use Rattle.pliron_text.specs.Graph.{Printing}
 
 -- an id of the dialect `builtin`
@@ -35,6 +35,10 @@ texts = record { outcome = λ text. missing; written = λ text. text }
 -- the language in which the rows are written, without places
 abbrev pub demo : Language ⊤ Text Text
 demo = unplaced texts texts format_of
+
+-- the same language, in which a place is the number of characters from it to the end of the text
+abbrev pub counted_demo : Language ℕ Text Text
+counted_demo = language texts texts format_of
 
 -- no value and no block has a name, and the caller's attributes are written once, in the section
 abbrev pub plain_printing : Printing Text Text

@@ -120,7 +120,7 @@ two_unknown = module_of (labelled (at 21 (codes "a")) (alone (use_of 27 (at 36 (
 
 -- builtin.module @m { ^a(): test.br ^b; test.use x }
 abbrev pub unknown_label_and_value : TextTree
-unknown_label_and_value = module_of (labelled (at 21 (codes "a")) (alone (branch_to 27 (at 35 (codes "b"))) (alone (use_of 39 (at 48 (codes "x"))) no_operations)) no_blocks)
+unknown_label_and_value = module_of (labelled (at 21 (codes "a")) (alone (branch_to 27 (at 36 (codes "b"))) (alone (use_of 39 (at 48 (codes "x"))) no_operations)) no_blocks)
 
 -- builtin.module @m { ^a(): ^a(): }
 abbrev pub label_twice : TextTree
@@ -155,7 +155,7 @@ defined_in_both = module_of (labelled (at 21 (codes "a"))
 
 -- builtin.module @m { ^a(): test.scope { ^c(): test.br ^a } }
 abbrev pub branch_outward : TextTree
-branch_outward = module_of (labelled (at 21 (codes "a")) (scope 27 38 (labelled (at 40 (codes "c")) (alone (branch_to 46 (at 54 (codes "a"))) no_operations) no_blocks) no_operations) no_blocks)
+branch_outward = module_of (labelled (at 21 (codes "a")) (scope 27 38 (labelled (at 40 (codes "c")) (alone (branch_to 46 (at 55 (codes "a"))) no_operations) no_blocks) no_operations) no_blocks)
 
 -- x = test.make: builtin.integer si64
 abbrev pub root_with_result : TextTree
@@ -173,3 +173,7 @@ root_not_isolated = record { own = testing 1 (codes "scope") [] (tree.region 0 â
 abbrev pub one_index_twice : TextTree
 one_index_twice = module_of
     (block (record { label = at 21 (codes "a"); arguments = []; attributes = None; mark = Some (marked 26 0) }) (alone (record (nop 30) { mark = Some (marked 39 0) }) no_operations) no_blocks)
+
+-- test.br ^a, in which a place is the number of characters from it to the end
+abbrev pub branch_of_root : TextTree
+branch_of_root = root_of (branch_to 10 (at 1 (codes "a")))

@@ -1,6 +1,6 @@
 //! What the definitions say of worked texts, trees, graphs and formats. Each function does nothing: its contract is a row that
 //! is computed.
-ghost use Rattle.std.specs.Prelude.{◌≡◌, ◌==◌, ℕ, List, [], ◌∷◌, ◌++◌, codes, pos, Some, None, true};
+ghost use Rattle.std.specs.Prelude.{◌≡◌, ◌==◌, ℕ, List, [], ◌∷◌, ◌++◌, codes, length, pos, Some, None, true};
 ghost use Rattle.irtext_base.specs.Answers.{Bad, Read};
 ghost use Rattle.irtext_base.specs.Faults.{Unexpected, Word};
 ghost use Rattle.irtext_base.specs.Faults as fault;
@@ -8,7 +8,7 @@ ghost use Rattle.irtext_base.specs.Format as format;
 ghost use Rattle.irtext_base.specs.Text.{after_space, column_behind, line_behind};
 ghost use Rattle.irtext_base.specs.declared.location.Location.{SrcPos};
 ghost use Rattle.irtext_base.specs.declared.location.Source.TheVariants.{InMemory};
-ghost use Rattle.irtext_vectors.specs.Demo.{demo, inline_printing, isolated, labelled_printing, plain_printing};
+ghost use Rattle.irtext_vectors.specs.Demo.{counted_demo, demo, inline_printing, isolated, labelled_printing, plain_printing};
 ghost use Rattle.irtext_vectors.specs.Formats.{Breaks, Kept};
 ghost use Rattle.irtext_vectors.specs.Graphs.{global_pointer, one_note_twice, two_branches, use_before_definition};
 ghost use Rattle.irtext_vectors.specs.Located.{note_on_line_one, text_locations, up_to_bracket};
@@ -127,6 +127,12 @@ pub fn wrong_roots()
     ensures result { wrong trees.root_with_result ≡ failure (NoActiveScope (codes "x")) 1 ∷ [] }
     ensures no_results { wrong trees.root_without_results ≡ [] }
     ensures not_isolated { wrong trees.root_not_isolated ≡ record { cause = NotIsolated; at = None } ∷ [] }
+{}
+
+/// A label that a root uses is outside of every region. It is refused at its name, one character behind the `^`.
+pub fn a_label_of_no_region()
+    ensures is_read { reads counted_demo trees.branch_of_root (codes "test.br ^a") [] }
+    ensures is_refused { wrong trees.branch_of_root ≡ failure (NoActiveScope (codes "a")) (length (codes "a")) ∷ [] }
 {}
 
 /// One index marks two items.

@@ -97,3 +97,4 @@ pub mod PrintedBack
 pub mod RootSteps
 pub mod TopLevel
 pub mod PrintedText
+pub mod LabelPlaces

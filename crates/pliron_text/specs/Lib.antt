@@ -59,3 +59,4 @@ pub mod SoFar
 pub mod SectionRead
 pub mod TopLevel
 pub mod PrintedBack
+pub mod LabelPlaces

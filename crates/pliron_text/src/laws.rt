@@ -33,6 +33,7 @@ pub mod headline;
 
 use irtext_base::text::{AttrText, IrText};
 
+pub mod places;
 pub mod section;
 
 /// A text reads as one tree at most, and leaves one rest.
