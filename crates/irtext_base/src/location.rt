@@ -1,4 +1,6 @@
 //! Where operations, blocks and errors come from.
+ghost use Rattle.std.specs.Prelude.{◌≡◌, true, false};
+ghost use Rattle.irtext_base.specs.declared.location.Location.{Unknown};
 
 use crate::base::AttrObj;
 use crate::parsable::SourcePosition;
@@ -48,7 +50,9 @@ pub enum Location<A> {
 
 impl<A> Location<A> {
     /// Whether the location is not known.
-    pub fn is_unknown(&self) -> bool {
+    pub fn is_unknown(&self) -> bool
+        ensures { result ≡ elim self.now [ Unknown ↦ true | _ ↦ false ] }
+    {
         match self {
             Location::Unknown => true,
             _ => false,
