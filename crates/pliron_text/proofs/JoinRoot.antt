@@ -337,13 +337,3 @@ module _ {T A : Type 0} (types : Texts T) (owns : Texts A) where
             failures = a.failures;
             refused_first = refused_is ∙ a.refused_first;
           })
-
-  -- What the grammar reads as a root of this form that resolves, the readers answer.
-  pub root_resolves : (t : Tree ℕ T A) (entries : List (Entry ℕ A (Location A))) (text rest : Text) → reads_root (so_far types owns) location_standing t entries text rest → IsSoFar t → AreSoFar entries → failures_of isolated t entries ≡ []
-      → (m : Module) × (taken mid : Text) × (module_at text ≡ Read m taken mid) × Describes t m × (es : List (ℕ × Option (Location A))) × SectionStands m.mark es mid rest × Resolves t entries m es text
-  root_resolves t entries text rest r form entries_form none = let f = root_found t entries text rest r form entries_form in go f f.section
-    where
-      go : (f : RootFound t entries text rest) → ((es : List (ℕ × Option (Location A))) × SectionStands f.m.mark es f.mid rest × Resolves t entries f.m es text) ⊎ RootStops t entries f.m f.mid
-          → (m : Module) × (taken mid : Text) × (module_at text ≡ Read m taken mid) × Describes t m × (es : List (ℕ × Option (Location A))) × SectionStands m.mark es mid rest × Resolves t entries m es text
-      go f (inl a) = (f.m, f.taken, f.mid, f.is_module, f.describes, a.0, a.1, a.2)
-      go f (inr s) = let e : [] ≡ unknown_at s.index s.mid ∷ s.failures = sym none ∙ s.refused_first in absurd (cc e)

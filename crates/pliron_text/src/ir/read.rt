@@ -310,9 +310,15 @@ fn outermost_parse<T: IrText<A>, A: AttrText, U>(
     }
 }
 
-/// Reading of operations.
+/// Reading of roots.
 pub trait OperationText {
-    /// Reads a root and, where it has a mark, the section behind it.
+    /// Reads a root where the stream stands and, where it has a mark, the section behind it. What follows is not looked at, so
+    /// roots can stand one behind the other on one stream.
+    ///
+    /// The root's location is the place where it begins, unless its entry in the section gives another. A fault says why the text
+    /// is refused, and where: at which line and column, both counted from 1, in characters. It is uncommitted where nothing was
+    /// read; else the stream has failed, and each later reader on it answers that. Whatever the fault, want of memory too, the
+    /// context's objects, the marks, the source and the caller's data are as they were.
     fn top_level_parse<T: IrText<A>, A: AttrText, U>(
         stream: &mut StateStream<'_, T, A, U>,
     ) -> ParseResult<Ptr<Operation>, A>
@@ -343,6 +349,8 @@ impl<T: IrText<A>, A: AttrText, U> Parsable<T, A, U> for Operation {
 
     type Parsed = Ptr<Operation>;
 
+    /// Reads an operation with its mark and, where that is asked for and a mark is noted, the section of all marks. Without the
+    /// section its mark stays noted. Faults, and what they leave, are those of `top_level_parse`.
     fn parse(
         stream: &mut StateStream<'_, T, A, U>,
         config: OperationParserConfig,
