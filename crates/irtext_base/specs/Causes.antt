@@ -7,7 +7,12 @@ use Rattle.irtext_base.specs.declared.result.ErrorKind.{ErrorKind}
 use Rattle.irtext_base.specs.declared.result.ErrorKind.TheVariants.{InvalidInput, VerificationFailed, InvalidArgument}
 use Rattle.irtext_base.specs.declared.result.Expected.{Expected}
 use Rattle.irtext_base.specs.declared.result.Expected.TheVariants as expected
-use Rattle.irtext_base.specs.declared.result.Cause.{Cause, Memory, StreamFailed, Unexpected, NumberRange, UnregisteredDialect, UnregisteredOp, DuplicateIndex, UnknownIndex, OwnText, Fmt, Nested', Parse'}
+use Rattle.irtext_base.specs.declared.result.Cause.{Cause, Memory, StreamFailed, Unexpected, NumberRange, BadEscape, BadUnicodeEscape, EmptyItem, BadSeparator, UnregisteredDialect, UnregisteredOp, ResultCount, NoActiveScope, UnresolvedReference, ParserNameTracker, DuplicateIndex, UnknownIndex, UnknownPrintOnce, ReservedKey, OwnText, FormatFault, Text, Fmt, Nested', Parse', WrongDialect}
+use Rattle.irtext_base.specs.declared.format.FormatFault as format_fault
+use Rattle.irtext_base.specs.declared.format.FormatFault.TheVariants as condition
+use Rattle.irtext_base.specs.declared.parsable.names.UnresolvedReference as reference
+use Rattle.irtext_base.specs.declared.parsable.names.ParserNameTrackerError as tracker
+use Rattle.irtext_base.specs.declared.parsable.names.ParserNameTrackerError.TheVariants as tracked
 use Rattle.irtext_base.specs.declared.result.Error.{Error}
 use Rattle.irtext_base.specs.declared.parsable.position.SourcePosition.{SourcePosition}
 
@@ -33,10 +38,15 @@ found_text (Some c) = codes "`" ++ (encode_utf8 c ++ codes "`")
 -- a fixed text between backquotes, or the word for a thing
 abbrev pub expected_text : Expected → List ℕ
 expected_text (expected.Text text) = codes "`" ++ (text.now ++ codes "`")
+expected_text (expected.Char c) = codes "`" ++ (encode_utf8 c ++ codes "`")
 expected_text expected.Identifier = codes "identifier"
 expected_text expected.Digit = codes "digit"
+expected_text expected.HexadecimalDigit = codes "hexadecimal digit"
+expected_text expected.EscapedCharacter = codes "escaped character"
 expected_text expected.Operation = codes "operation"
+expected_text expected.Source = codes "source"
 expected_text expected.Location = codes "location"
+expected_text expected.TrueOrFalse = codes "true or false"
 expected_text expected.Type = codes "type"
 expected_text expected.Attribute = codes "attribute"
 
@@ -44,20 +54,57 @@ expected_text expected.Attribute = codes "attribute"
 abbrev pub headed : ErrorKind → List ℕ → List ℕ
 headed kind cause = codes "Compilation error: " ++ (kind_text kind ++ (codes ".\n" ++ cause))
 
+-- the name of a condition on formats
+abbrev pub condition_text : format_fault.FormatFault → List ℕ
+condition_text condition.C1 = codes "C1"
+condition_text condition.C2 = codes "C2"
+condition_text condition.C3 = codes "C3"
+condition_text condition.C4 = codes "C4"
+condition_text condition.C5 = codes "C5"
+condition_text condition.C6 = codes "C6"
+condition_text condition.C7 = codes "C7"
+condition_text condition.C8 = codes "C8"
+
+-- the text of a refused format
+abbrev pub format_fault_text : format_fault.FormatFault → List ℕ
+format_fault_text fault = codes "Format refused by condition " ++ condition_text fault
+
+-- the text of a name without definition
+abbrev pub unresolved_text : reference.UnresolvedReference → List ℕ
+unresolved_text name = codes "Identifier " ++ (name.0 ++ codes " was not resolved to any definition in the scope")
+
+-- the text of what a scope refuses
+abbrev pub name_tracker_text : tracker.ParserNameTrackerError → List ℕ
+name_tracker_text (tracked.MultipleDefinitions name) = codes "Identifier " ++ (name ++ codes " defined more than once in the scope")
+name_tracker_text tracked.TopLevelOpRegionNotIsolatedFromAbove = codes "Regions in a top-level operation must be IsolatedFromAbove"
+
 -- the text of a cause
 abbrev pub cause_text : {A : Type 0} → Cause A → List ℕ
 cause_text Memory = codes "Out of memory"
 cause_text StreamFailed = codes "The stream has failed"
 cause_text (Unexpected found expected) = codes "Unexpected " ++ (found_text found ++ (codes ", expected " ++ expected_text expected))
 cause_text (NumberRange text) = codes "Number out of range: " ++ string_bytes text
+cause_text (BadEscape c) = codes "Unexpected escaped character \\" ++ encode_utf8 c
+cause_text (BadUnicodeEscape digits) = codes "Invalid unicode escape \\u{" ++ (string_bytes digits ++ codes "}")
+cause_text EmptyItem = codes "Repeated item reads nothing"
+cause_text BadSeparator = codes "List separator is white space"
 cause_text (UnregisteredDialect name) = codes "Unregistered dialect " ++ name
 cause_text (UnregisteredOp id) = codes "Unregistered Op " ++ id_text id
+cause_text (ResultCount results names) = codes "Operation has " ++ (decimal results ++ (codes " results and " ++ (decimal names ++ codes " names")))
+cause_text (NoActiveScope name) = codes "No active scope for identifier " ++ name
+cause_text (UnresolvedReference name) = unresolved_text name
+cause_text (ParserNameTracker error) = name_tracker_text error
 cause_text (DuplicateIndex index) = codes "Duplicate outline index: " ++ decimal index
 cause_text (UnknownIndex index) = codes "No operation or block found for outline index: " ++ decimal index
+cause_text (UnknownPrintOnce index) = codes "No PrintOnceAttr found for outline index: " ++ decimal index
+cause_text (ReservedKey key) = codes "Reserved attribute key: " ++ key
 cause_text (OwnText text) = string_bytes text
+cause_text (FormatFault fault) = format_fault_text fault
+cause_text (Text text) = string_bytes text.0
 cause_text Fmt = codes "an error occurred when formatting an argument"
 cause_text (Nested' p kind err loc) = headed kind (cause_text err)
 cause_text (Parse' at p cause) = codes "Parse error at " ++ (position_text at ++ (codes "\n" ++ (cause_text cause ++ codes "\n")))
+cause_text (WrongDialect id dialect) = codes "Operation " ++ (id_text id ++ (codes " is not of dialect " ++ dialect))
 
 -- the text of an error
 abbrev pub error_text : {A : Type 0} → Error A → List ℕ

@@ -1,5 +1,5 @@
 -- Causes as definitions speak of them: without where their texts lie in memory.
-use Rattle.std.specs.Prelude.{◌≡◌, ℕ, Option, List, cond, string_bytes}
+use Rattle.std.specs.Prelude.{◌≡◌, ℕ, Option, List, [], ◌∷◌, cond, string_bytes}
 use Rattle.std.specs.List.{list_all}
 use Rattle.std.specs.Char.{is_ascii}
 use Rattle.std.specs.Str.{chars}
@@ -10,14 +10,19 @@ use Rattle.irtext_base.specs.declared.result.Expected.{Expected}
 use Rattle.irtext_base.specs.declared.result.Expected.TheVariants as expected
 use Rattle.irtext_base.specs.declared.result.Cause.{Cause}
 use Rattle.irtext_base.specs.declared.result.Cause as cause
+use Rattle.irtext_base.specs.declared.parsable.names.ParserNameTrackerError.TheVariants as tracked
 
 -- what must stand where something else stands: a fixed text, or a thing
 pub data Demand : Type 0 where
   Word : Text → Demand
   AnIdentifier : Demand
   ADigit : Demand
+  AHexadecimalDigit : Demand
+  AnEscapedCharacter : Demand
   AnOperation : Demand
+  ASource : Demand
   ALocation : Demand
+  ATrueOrFalse : Demand
   AType : Demand
   AnAttribute : Demand
 
@@ -28,10 +33,15 @@ characters bytes = cond (list_all is_ascii bytes) bytes (chars bytes)
 -- the demand, as a cause holds it
 abbrev pub demand_of : Expected → Demand
 demand_of (expected.Text text) = Word (characters text.now)
+demand_of (expected.Char c) = Word (c ∷ [])
 demand_of expected.Identifier = AnIdentifier
 demand_of expected.Digit = ADigit
+demand_of expected.HexadecimalDigit = AHexadecimalDigit
+demand_of expected.EscapedCharacter = AnEscapedCharacter
 demand_of expected.Operation = AnOperation
+demand_of expected.Source = ASource
 demand_of expected.Location = ALocation
+demand_of expected.TrueOrFalse = ATrueOrFalse
 demand_of expected.Type = AType
 demand_of expected.Attribute = AnAttribute
 
@@ -41,10 +51,21 @@ pub data Fault : Type 0 where
   Failed : Fault
   Unexpected : Option ℕ → Demand → Fault
   NumberRange : Text → Fault
+  BadEscape : ℕ → Fault
+  BadUnicodeEscape : Text → Fault
+  EmptyItem : Fault
+  BadSeparator : Fault
   UnregisteredDialect : Text → Fault
   UnregisteredOp : Id → Fault
+  ResultCount : ℕ → ℕ → Fault
+  NoActiveScope : Text → Fault
+  Unresolved : Text → Fault
+  MultipleDefinitions : Text → Fault
+  NotIsolated : Fault
   DuplicateIndex : ℕ → Fault
   UnknownIndex : ℕ → Fault
+  UnknownPrintOnce : ℕ → Fault
+  ReservedKey : Text → Fault
   OwnText : Text → Fault
   NoReader : Fault
 
@@ -58,10 +79,21 @@ fault_of cause.Memory = Memory
 fault_of cause.StreamFailed = Failed
 fault_of (cause.Unexpected found expected) = Unexpected found (demand_of expected)
 fault_of (cause.NumberRange text) = NumberRange (string_bytes text)
+fault_of (cause.BadEscape c) = BadEscape c
+fault_of (cause.BadUnicodeEscape digits) = BadUnicodeEscape (string_bytes digits)
+fault_of cause.EmptyItem = EmptyItem
+fault_of cause.BadSeparator = BadSeparator
 fault_of (cause.UnregisteredDialect name) = UnregisteredDialect name
 fault_of (cause.UnregisteredOp id) = UnregisteredOp (id_of id)
+fault_of (cause.ResultCount results names) = ResultCount results names
+fault_of (cause.NoActiveScope name) = NoActiveScope name
+fault_of (cause.UnresolvedReference name) = Unresolved name.0
+fault_of (cause.ParserNameTracker (tracked.MultipleDefinitions name)) = MultipleDefinitions name
+fault_of (cause.ParserNameTracker tracked.TopLevelOpRegionNotIsolatedFromAbove) = NotIsolated
 fault_of (cause.DuplicateIndex index) = DuplicateIndex index
 fault_of (cause.UnknownIndex index) = UnknownIndex index
+fault_of (cause.UnknownPrintOnce index) = UnknownPrintOnce index
+fault_of (cause.ReservedKey key) = ReservedKey key
 fault_of (cause.OwnText text) = OwnText (string_bytes text)
 fault_of _ = NoReader
 

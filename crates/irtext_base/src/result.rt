@@ -1,13 +1,14 @@
 //! Why a call was refused: kinds, causes and errors, with their texts.
-ghost use Rattle.std.specs.Prelude.{◌≡◌, Some};
+ghost use Rattle.std.specs.Prelude.{◌≡◌, Some, string_bytes};
 ghost use Rattle.irtext_base.specs.Causes.{kind_text, expected_text, found_text, cause_text, error_text};
 ghost use Rattle.irtext_base.specs.declared.result.Cause.{Memory, Fmt};
 ghost use Rattle.irtext_base.specs.declared.result.ErrorKind.TheVariants.{InvalidArgument};
 ghost use Rattle.irtext_base.specs.declared.location.Location.{Unknown};
 
 use crate::base::{Identifier, OpId};
+use crate::format::FormatFault;
 use crate::location::Location;
-use crate::parsable::SourcePosition;
+use crate::parsable::{ParserNameTrackerError, SourcePosition, UnresolvedReference};
 use std::alloc::{AllocError, AllocFailed};
 use std::fmt;
 use std::fmt::Display;
@@ -25,13 +26,23 @@ pub enum ErrorKind {
 pub enum Expected {
     /// This fixed text.
     Text(&'static str),
+    /// This character.
+    Char(char),
     Identifier,
     Digit,
+    HexadecimalDigit,
+    EscapedCharacter,
     Operation,
+    Source,
     Location,
+    TrueOrFalse,
     Type,
     Attribute,
 }
+
+/// A text of the caller as a cause.
+#[derive(Debug, Drop)]
+pub struct StringError(pub String);
 
 /// Why a call was refused.
 #[derive(Drop)]
@@ -48,16 +59,43 @@ pub enum Cause<A> {
     },
     /// The number with this text doesn't fit its type.
     NumberRange(String),
+    /// This character behind a backslash is no escape.
+    BadEscape(char),
+    /// These hexadecimal digits name no character.
+    BadUnicodeEscape(String),
+    /// An item of a list without separator took no character.
+    EmptyItem,
+    /// White space cannot separate items.
+    BadSeparator,
     /// No dialect has this name.
     UnregisteredDialect(Identifier),
     /// The dialect has no operation of this name.
     UnregisteredOp(OpId),
+    /// An operation with another number of results than of names for them.
+    ResultCount {
+        results: usize,
+        names: usize,
+    },
+    /// A name outside of every region.
+    NoActiveScope(Identifier),
+    /// A name or a label that its scope doesn't define.
+    UnresolvedReference(UnresolvedReference),
+    /// A scope refuses a name, or a region that has none.
+    ParserNameTracker(ParserNameTrackerError),
     /// A second mark with this index.
     DuplicateIndex(usize),
     /// An entry for an index that no mark has, or that has an entry.
     UnknownIndex(usize),
+    /// A reference to an index under which no attribute stands.
+    UnknownPrintOnce(usize),
+    /// A reserved key with a value of another kind.
+    ReservedKey(Identifier),
     /// A type or an attribute refuses its text, for this reason.
     OwnText(String),
+    /// A format that may not read uniquely, by the first condition that it fails.
+    FormatFault(FormatFault),
+    /// A text of the caller.
+    Text(StringError),
     /// A printing was refused.
     Fmt,
     /// An inner error.
@@ -66,6 +104,11 @@ pub enum Cause<A> {
     Parse {
         at: SourcePosition,
         cause: Box<Cause<A>>,
+    },
+    /// An operation's id that is not one of the dialect's.
+    WrongDialect {
+        id: OpId,
+        dialect: Identifier,
     },
 }
 
@@ -99,13 +142,27 @@ impl Display for Expected {
     fn fmt<W: fmt::Write>(&self, f: &mut fmt::Formatter<W>) -> fmt::Result {
         match self {
             Expected::Text(text) => write!(f, "`{text}`"),
+            Expected::Char(c) => write!(f, "`{c}`"),
             Expected::Identifier => write!(f, "identifier"),
             Expected::Digit => write!(f, "digit"),
+            Expected::HexadecimalDigit => write!(f, "hexadecimal digit"),
+            Expected::EscapedCharacter => write!(f, "escaped character"),
             Expected::Operation => write!(f, "operation"),
+            Expected::Source => write!(f, "source"),
             Expected::Location => write!(f, "location"),
+            Expected::TrueOrFalse => write!(f, "true or false"),
             Expected::Type => write!(f, "type"),
             Expected::Attribute => write!(f, "attribute"),
         }
+    }
+}
+
+impl Display for StringError {
+    ghost output = { λ text. Some (string_bytes text.0) };
+
+    fn fmt<W: fmt::Write>(&self, f: &mut fmt::Formatter<W>) -> fmt::Result {
+        let text = &self.0;
+        write!(f, "{text}")
     }
 }
 
@@ -137,19 +194,38 @@ impl<A> Display for Cause<A> {
                 write!(f, "Unexpected {found}, expected {expected}")
             }
             Cause::NumberRange(text) => write!(f, "Number out of range: {text}"),
+            Cause::BadEscape(c) => write!(f, "Unexpected escaped character \\{c}"),
+            Cause::BadUnicodeEscape(digits) => write!(f, "Invalid unicode escape \\u{{{digits}}}"),
+            Cause::EmptyItem => write!(f, "Repeated item reads nothing"),
+            Cause::BadSeparator => write!(f, "List separator is white space"),
             Cause::UnregisteredDialect(name) => write!(f, "Unregistered dialect {name}"),
             Cause::UnregisteredOp(id) => write!(f, "Unregistered Op {id}"),
+            Cause::ResultCount { results, names } => {
+                write!(f, "Operation has {results} results and {names} names")
+            }
+            Cause::NoActiveScope(name) => write!(f, "No active scope for identifier {name}"),
+            Cause::UnresolvedReference(reference) => write!(f, "{reference}"),
+            Cause::ParserNameTracker(error) => write!(f, "{error}"),
             Cause::DuplicateIndex(index) => write!(f, "Duplicate outline index: {index}"),
             Cause::UnknownIndex(index) => {
                 write!(f, "No operation or block found for outline index: {index}")
             }
+            Cause::UnknownPrintOnce(index) => {
+                write!(f, "No PrintOnceAttr found for outline index: {index}")
+            }
+            Cause::ReservedKey(key) => write!(f, "Reserved attribute key: {key}"),
             Cause::OwnText(text) => write!(f, "{text}"),
+            Cause::FormatFault(fault) => write!(f, "{fault}"),
+            Cause::Text(text) => write!(f, "{text}"),
             Cause::Fmt => write!(f, "an error occurred when formatting an argument"),
             Cause::Nested(error) => (**error).fmt(f),
             Cause::Parse { at, cause } => {
                 write!(f, "Parse error at {at}\n")?;
                 (**cause).fmt(f)?;
                 write!(f, "\n")
+            }
+            Cause::WrongDialect { id, dialect } => {
+                write!(f, "Operation {id} is not of dialect {dialect}")
             }
         }
     }

@@ -139,6 +139,12 @@ impl fmt::Display for Identifier {
     }
 }
 
+impl fmt::Debug for Identifier {
+    fn fmt<W: fmt::Write>(&self, f: &mut fmt::Formatter<W>) -> fmt::Result {
+        f.write_str(self.as_str())
+    }
+}
+
 impl Clone for Identifier {
     ghost is_clone = { λ i copy. copy ≡ i };
 

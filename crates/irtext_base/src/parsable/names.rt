@@ -1,0 +1,50 @@
+//! Why a name of a text is refused.
+ghost use Rattle.std.specs.Prelude.{Some, codes, ◌++◌};
+ghost use Rattle.irtext_base.specs.Causes.{name_tracker_text, unresolved_text};
+
+use crate::base::Identifier;
+use std::fmt;
+use std::fmt::Display;
+
+/// A name or a label that its scope doesn't define.
+#[derive(Debug, Drop)]
+pub struct UnresolvedReference(pub Identifier);
+
+/// Why a scope refuses a name, or a region is refused as it is entered.
+#[derive(Debug, Drop)]
+pub enum ParserNameTrackerError {
+    /// The scope defines this name already.
+    MultipleDefinitions(Identifier),
+    /// A region with no scope of names round it, whose operation is not isolated from above.
+    TopLevelOpRegionNotIsolatedFromAbove,
+}
+
+impl Display for UnresolvedReference {
+    ghost output = { λ reference. Some (unresolved_text reference) };
+
+    fn fmt<W: fmt::Write>(&self, f: &mut fmt::Formatter<W>) -> fmt::Result {
+        let name = &self.0;
+        write!(
+            f,
+            "Identifier {name} was not resolved to any definition in the scope"
+        )
+    }
+}
+
+impl Display for ParserNameTrackerError {
+    ghost output = { λ error. Some (name_tracker_text error) };
+
+    fn fmt<W: fmt::Write>(&self, f: &mut fmt::Formatter<W>) -> fmt::Result {
+        match self {
+            ParserNameTrackerError::MultipleDefinitions(name) => {
+                write!(f, "Identifier {name} defined more than once in the scope")
+            }
+            ParserNameTrackerError::TopLevelOpRegionNotIsolatedFromAbove => {
+                write!(
+                    f,
+                    "Regions in a top-level operation must be IsolatedFromAbove"
+                )
+            }
+        }
+    }
+}
