@@ -5,6 +5,7 @@ pub mod Causes
 pub mod Faults
 pub mod Stream
 pub mod Places
+pub mod Quoted
 pub mod Answers
 pub mod Own
 pub mod Dictionary
