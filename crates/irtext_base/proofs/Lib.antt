@@ -10,3 +10,4 @@ pub mod Characters
 pub mod Numbers
 pub mod Stores
 pub mod Contexts
+pub mod Formats

@@ -2,6 +2,7 @@ pub mod Text
 pub mod Reading
 pub mod Format
 pub mod Causes
+pub mod Directives
 pub mod Faults
 pub mod Stream
 pub mod Places

@@ -1,9 +1,53 @@
 //! The formats of operations, and which of them read uniquely.
-ghost use Rattle.std.specs.Prelude.{Some};
+ghost use Rattle.std.specs.Prelude.{◌≡◌, Some, MatchResult};
 ghost use Rattle.irtext_base.specs.Causes.{format_fault_text};
+ghost use Rattle.irtext_base.specs.Directives.{format_of, condition_number};
+ghost use Rattle.irtext_base.specs.Format.{first_fault};
 
+mod conditions;
+mod followers;
+mod parts;
+mod rules;
+
+use crate::base::Identifier;
 use std::fmt;
 use std::fmt::Display;
+
+/// One step of a format: a fixed text, or which part of the operation is written there.
+#[derive(Drop)]
+pub enum Directive {
+    /// This text.
+    Literal(String),
+    /// The name of the operand at this place.
+    Operand(usize),
+    /// The names of all operands behind those that have a directive of their own.
+    Operands,
+    /// `^` and the label of the successor at this place.
+    Successor(usize),
+    /// The same of all successors behind those that have a directive of their own.
+    Successors,
+    /// The attribute under this key.
+    Attr(Identifier),
+    /// A dictionary of the attributes that no other directive writes.
+    AttrDict,
+    /// The type of the result at this place.
+    ResultType(usize),
+    /// The region at this place.
+    Region(usize),
+    /// All regions behind those that have a directive of their own.
+    Regions,
+    /// `@` and the symbol's name.
+    SymbolHeader,
+}
+
+/// How an operation is written.
+#[derive(Drop)]
+pub enum OpFormat {
+    /// In the form that any operation has.
+    Canonical,
+    /// By these directives, one after the other.
+    Custom(Vec<Directive>),
+}
 
 /// The first condition that a format fails.
 #[derive(Clone, Copy, PartialEq, Eq, Debug)]
@@ -41,5 +85,16 @@ impl Display for FormatFault {
             FormatFault::C8 => "C8",
         };
         write!(f, "Format refused by condition {condition}")
+    }
+}
+
+/// Whether a format reads uniquely. `Canonical` does. Of directives it answers the first of the conditions `C1` to `C8` that they
+/// fail. It takes no memory.
+pub fn check_format(format: &OpFormat) -> Result<(), FormatFault>
+    ensures { MatchResult result (λ _. first_fault (format_of format.now) ≡ 0) (λ fault. first_fault (format_of format.now) ≡ condition_number fault) }
+{
+    match format {
+        OpFormat::Canonical => Ok(()),
+        OpFormat::Custom(directives) => conditions::check(directives),
     }
 }
