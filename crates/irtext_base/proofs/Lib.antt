@@ -11,3 +11,4 @@ pub mod Numbers
 pub mod Stores
 pub mod Contexts
 pub mod Formats
+pub mod Dialects

@@ -3,6 +3,7 @@ pub mod Reading
 pub mod Format
 pub mod Causes
 pub mod Directives
+pub mod Dialects
 pub mod Faults
 pub mod Stream
 pub mod Places

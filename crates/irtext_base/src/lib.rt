@@ -2,6 +2,7 @@
 #![tactic(auto)]
 
 pub mod base;
+pub mod dialect;
 pub mod format;
 pub mod location;
 pub mod parsable;
