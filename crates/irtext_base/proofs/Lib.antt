@@ -12,3 +12,4 @@ pub mod Stores
 pub mod Contexts
 pub mod Formats
 pub mod Dialects
+pub mod Conditions

@@ -2,6 +2,7 @@ pub mod Text
 pub mod Reading
 pub mod Format
 pub mod Causes
+pub mod Conditions
 pub mod Directives
 pub mod Dialects
 pub mod Faults

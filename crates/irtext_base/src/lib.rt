@@ -4,6 +4,7 @@
 pub mod base;
 pub mod dialect;
 pub mod format;
+pub mod laws;
 pub mod location;
 pub mod parsable;
 pub mod result;

@@ -6,6 +6,8 @@
 mod contexts;
 pub mod definitions;
 #[cfg(test)]
+mod formats;
+#[cfg(test)]
 mod printing;
 #[cfg(test)]
 mod roots;
