@@ -1,26 +1,26 @@
 -- Each condition on formats holds exactly where what its words say holds.
-use Rattle.std.proofs.Common.{◌≡◌, ℕ, zero, suc, ◌+◌, ◌<◌, ◌≤◌, Bool, true, false, cond, not, ◌&&◌, ◌||◌, ◌==◌, nat_lt, eqb, ltb, List, [], ◌∷◌, ◌++◌, length, drop, slice_get, filter_map, Option, Some, None, refl, sym, ap, ◌∙◌, subst, inl, inr, ⊎_elim, true≢false, arith}
-use Rattle.std.specs.Prelude.{codes, ◌⊎◌, nat_le}
+use Rattle.std.proofs.Common.{◌≡◌, ℕ, zero, suc, ◌+◌, ◌<◌, ◌≤◌, Bool, true, false, cond, not, ◌&&◌, ◌||◌, ◌==◌, nat_lt, eqb, List, [], ◌∷◌, length, slice_get, filter_map, Option, Some, None, refl, sym, ap, ◌∙◌, subst, inl, inr, ⊎_elim, true≢false, arith}
+use Rattle.std.specs.Prelude.{◌⊎◌, nat_le}
 use Rattle.std.specs.List.{list_all, list_any, cons_option, IsDistinct, AllByRecursion}
 use Rattle.std.specs.Char.{is_ascii_graphic}
 use Rattle.std.proofs.lemmas.Bool.{and_parts, and_from, or_cases, or_left, or_right, not-true, not_from_false, false_from_ne_true, ltb-true, lt-ltb, leb-true, le-leb, eqb-true, eq-eqb, cases_lt, or_parts}
 use Rattle.std.proofs.lemmas.Map.Steps.{length-le_from_distinct_below}
-use Rattle.irtext_base.specs.Text.{Text, begins_word}
+use Rattle.irtext_base.specs.Text.{Text}
 use Rattle.irtext_base.specs.Format as format
 use Rattle.irtext_base.specs.Format.{Directive, has, distinct, same_text, are_places, ascend, count, none_behind, word_prints, keys, operand_places, successor_places, type_places, region_places, is_operands, is_successors, is_regions, is_dictionary, is_header, is_any_region, is_list, given_names_key, sym_name_key, kind, beginnings, continuings, followers, disjoint, c1, c2, c3, c4, c5, c6, c7, c8}
 use Rattle.irtext_base.specs.Directives.{place_of, key_of, is_region, is_named}
 use Rattle.irtext_base.specs.declared.format.parts.Part.TheVariants as part
-use Rattle.irtext_base.specs.Conditions.{StandsAt, Stands, StandsOnceAtMost, NameAllBelow, C1, C2, C3, C4, C5, C6, C7, C8, WritesRegions, WritesNamesOrType, WritesList, Begins, GoesOn, StandsBehind, ListsAlone, CanFollow}
+use Rattle.irtext_base.specs.Conditions.{StandsAt, Stands, StandsOnceAtMost, NameAllBelow, C1, C2, C3, C4, C5, C6, C7, WritesRegions, WritesNamesOrType}
 
 -- ---- lists and tests
-some_inside : {X : Type 0} (x y : X) → Some x ≡ Some y → x ≡ y
+pub some_inside : {X : Type 0} (x y : X) → Some x ≡ Some y → x ≡ y
 some_inside x y e = cc
 
-nothing : {X : Type 0} (i : ℕ) (x : X) → slice_get [] i ≡ Some x → ⊥
+pub nothing : {X : Type 0} (i : ℕ) (x : X) → slice_get [] i ≡ Some x → ⊥
 nothing zero x h = cc
 nothing (suc i) x h = cc
 
-not_both : (b : Bool) → b ≡ true → not b ≡ true → ⊥
+pub not_both : (b : Bool) → b ≡ true → not b ≡ true → ⊥
 not_both b e f = true≢false (sym e ∙ not-true b f)
 
 all_at : {X : Type 0} (test : X → Bool) (xs : List X) → list_all test xs ≡ true → (i : ℕ) (x : X) → slice_get xs i ≡ Some x → test x ≡ true
@@ -238,7 +238,7 @@ module _ (named : Directive → Option ℕ) (single : ℕ → Directive) (own : 
       and_from (distinct ◌==◌ ks) (list_all (λ k. nat_lt k (length ks)) ks)
       (once_differ ◌==◌ eqb-true (λ x. eq-eqb x x refl) named single own only ds (λ k. ⊎_elim (λ (l : k < f.0). (f.1 k l).1) (λ (l : f.0 ≤ k). (λ i j h m. absurd (f.2 k l (i, h)))) (cases_lt k f.0)))
       (are_below (length ks) ks
-          (λ k h. ⊎_elim (λ (l : k < f.0). omega (arith, l, room)) (λ (l : f.0 ≤ k). absurd (f.2 k l (has_stands ◌==◌ eqb-true (λ x. eq-eqb x x refl) named single own only k ds h))) (cases_lt k f.0)))
+      (λ k h. ⊎_elim (λ (l : k < f.0). omega (arith, l, room)) (λ (l : f.0 ≤ k). absurd (f.2 k l (has_stands ◌==◌ eqb-true (λ x. eq-eqb x x refl) named single own only k ds h))) (cases_lt k f.0)))
 
 -- ---- what stands behind what
 module _ (late early : Directive → Bool) where
@@ -377,9 +377,9 @@ says_c5 ds f =
     and_from (ascend 0 (region_places ds) && nat_lt (count is_regions ds) 2) (none_behind is_regions is_region ds)
     (and_from (ascend 0 (region_places ds)) (nat_lt (count is_regions ds) 2) (ascending 0 (region_places ds) (λ j k h. omega (arith, f.0 j k h))) (is_once format.regions is_regions refl the_regions ds f.1))
     (at_none is_regions is_region ds
-        (λ i j d e h k l p q.
-            let r = region_is e q in
-            f.2 i j r.0 (subst (λ x. StandsAt x ds i) (the_regions d p) h) (subst (λ x. StandsAt x ds j) r.1 k) l))
+    (λ i j d e h k l p q.
+    let r = region_is e q in
+    f.2 i j r.0 (subst (λ x. StandsAt x ds i) (the_regions d p) h) (subst (λ x. StandsAt x ds j) r.1 k) l))
 
 -- ---- C6
 same_sound : (s t : Text) → same_text s t ≡ true → s ≡ t
@@ -428,11 +428,11 @@ says_c6 ds f =
     let o = not (nat_lt 0 (count is_header ds)) || not (has same_text sym_name_key (keys ds)) in
     and_from (a && b && m && n) o
     (and_from (a && b && m) n
-        (and_from (a && b) m
-            (and_from a b (once_differ same_text same_sound same_self key_of format.attribute (λ k. refl) is_key ds f.0)
-                (not_from_false (has same_text given_names_key (keys ds)) (false_from_ne_true (has same_text given_names_key (keys ds)) (λ q. f.1 (key_stands given_names_key ds q)))))
-            (is_once format.dictionary is_dictionary refl the_dictionary ds f.2))
-        (is_once format.header is_header refl the_header ds f.3))
+    (and_from (a && b) m
+    (and_from a b (once_differ same_text same_sound same_self key_of format.attribute (λ k. refl) is_key ds f.0)
+    (not_from_false (has same_text given_names_key (keys ds)) (false_from_ne_true (has same_text given_names_key (keys ds)) (λ q. f.1 (key_stands given_names_key ds q)))))
+    (is_once format.dictionary is_dictionary refl the_dictionary ds f.2))
+    (is_once format.header is_header refl the_header ds f.3))
     (go (nat_lt 0 (count is_header ds)) refl)
   where
     go : (x : Bool) → nat_lt 0 (count is_header ds) ≡ x → (not x || not (has same_text sym_name_key (keys ds))) ≡ true

@@ -1,11 +1,10 @@
 -- What is computed over the code's directives is what the conditions say over the theory's.
-use Rattle.std.proofs.Common.{◌≡◌, ℕ, zero, suc, ◌+◌, Bool, true, false, cond, not, ◌&&◌, ◌||◌, ◌==◌, nat_lt, List, [], ◌∷◌, ◌++◌, map, length, filter_map, Option, Some, None, is_some, option_map, refl, sym, ap, ap₂, ◌∙◌, arith}
+use Rattle.std.proofs.Common.{◌≡◌, ℕ, suc, ◌+◌, Bool, true, false, cond, not, ◌&&◌, ◌||◌, ◌==◌, nat_lt, List, [], ◌∷◌, map, length, filter_map, Option, Some, None, is_some, refl, sym, ap, arith}
 use Rattle.std.proofs.lemmas.List.Recursion.{is_count_by}
 use Rattle.std.specs.List.{list_all, list_any, count_by, cons_option}
 use Rattle.std.specs.Str.{bytes_eq}
 use Rattle.irtext_base.specs.Text.{Text}
-use Rattle.irtext_base.specs.Stream.{first_of}
-use Rattle.irtext_base.specs.Format.{Directive, has, distinct, same_text, count, none_behind, keys, kind, first_kinds, is_regions, is_any_region, beginnings, is_list, continuings, followers, disjoint, c8}
+use Rattle.irtext_base.specs.Format.{Directive, has, distinct, same_text, count, none_behind, keys, is_regions, is_any_region, continuings, followers, disjoint, c8}
 use Rattle.irtext_base.specs.Directives.{place_of, places_of, key_of, is_value, is_below, again, is_region, is_named, all_keep}
 use Rattle.irtext_base.specs.declared.format.parts.Part.{Part}
 use Rattle.irtext_base.specs.declared.format.rules.Rule.TheVariants as rule
@@ -85,28 +84,3 @@ names_first (d ∷ ds) = ap (λ b. (not (is_any_region d) || list_all (λ e. not
 pub lists_end : (ds : List Directive) → all_keep rule.ListsEnd ds ≡ c8 ds
 lists_end [] = refl
 lists_end (d ∷ ds) = ap (λ b. disjoint (continuings d) (followers ds) && b) (lists_end ds)
-
--- ---- followers
-pub begins_kind : (c : ℕ) (s : Text) → is_value ◌==◌ c (option_map kind (first_of s)) ≡ has ◌==◌ c (first_kinds s)
-begins_kind c [] = refl
-begins_kind c (d ∷ s) = sym (or_false (c == kind d))
-  where
-    or_false : (b : Bool) → (b || false) ≡ b
-    or_false true = refl
-    or_false false = refl
-
-or_both : (a b c : Bool) → ((a || b) || c) ≡ (a || (b || c))
-or_both true b c = refl
-or_both false b c = refl
-
-pub has_both : {X : Type 0} (same : X → X → Bool) (x : X) (ys zs : List X) → (has same x ys || has same x zs) ≡ has same x (ys ++ zs)
-has_both same x [] zs = refl
-has_both same x (y ∷ ys) zs = or_both (same x y) (has same x ys) (has same x zs) ∙ ap (λ b. same x y || b) (has_both same x ys zs)
-
--- a character follows where the first directive can begin with it, or writes a list and is followed by it
-pub can_follow : (c : ℕ) (d : Directive) (ds : List Directive) → has ◌==◌ c (followers (d ∷ ds)) ≡ (has ◌==◌ c (beginnings d) || (is_list d && has ◌==◌ c (followers ds)))
-can_follow c d ds = sym (has_both ◌==◌ c (beginnings d) (cond (is_list d) (followers ds) [])) ∙ ap (λ b. has ◌==◌ c (beginnings d) || b) (go (is_list d))
-  where
-    go : (b : Bool) → has ◌==◌ c (cond b (followers ds) []) ≡ (b && has ◌==◌ c (followers ds))
-    go true = refl
-    go false = refl

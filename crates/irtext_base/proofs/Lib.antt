@@ -13,3 +13,4 @@ pub mod Contexts
 pub mod Formats
 pub mod Dialects
 pub mod Conditions
+pub mod Meetings

@@ -1,7 +1,7 @@
 -- What the code's formats and directives are to the theory, and its conditions in the shape in which the code goes through them.
-use Rattle.std.specs.Prelude.{ℕ, suc, Bool, true, false, cond, not, ◌&&◌, ◌||◌, ◌==◌, nat_lt, List, [], ◌∷◌, map, Option, Some, None, string_bytes}
-use Rattle.std.specs.List.{list_all, list_any, filter_map}
-use Rattle.std.specs.Str.{chars, bytes_eq}
+use Rattle.std.specs.Prelude.{ℕ, Bool, true, false, not, ◌&&◌, ◌||◌, ◌==◌, nat_lt, List, [], ◌∷◌, map, Option, Some, None, string_bytes}
+use Rattle.std.specs.List.{list_all, filter_map}
+use Rattle.std.specs.Str.{chars}
 use Rattle.irtext_base.specs.Format as format
 use Rattle.irtext_base.specs.Format.{Format, Directive, has, is_operands, is_successors, is_regions, is_dictionary, is_header, is_any_region, keys, continuings, followers, disjoint}
 use Rattle.irtext_base.specs.Text.{Text}

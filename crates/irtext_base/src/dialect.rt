@@ -16,11 +16,10 @@ ghost use Rattle.irtext_base.specs.Text.{is_identifier};
 ghost use Rattle.irtext_base.specs.declared.location.Location.{Unknown};
 
 use crate::base::{Identifier, OpId};
-use crate::format;
 use crate::format::OpFormat;
 use crate::location::Location;
-use crate::result;
 use crate::result::{Cause, Error, ErrorKind};
+use crate::{format, result};
 use indexmap::IndexMap;
 use std::alloc::Global;
 use std::convert::AsStr;
@@ -182,11 +181,7 @@ fn wrong_dialect<A>(id: OpId, name: &DialectName) -> Cause<A>
     }
 }
 
-fn put<A>(
-    ops: &mut IndexMap<OpId, OpInfo>,
-    id: OpId,
-    info: OpInfo,
-) -> Result<(), Cause<A>>
+fn put<A>(ops: &mut IndexMap<OpId, OpInfo>, id: OpId, info: OpInfo) -> Result<(), Cause<A>>
     ensures ok { OnOk result (ops.new.entries ≡ insert_entry same_id ops.old.entries id info) }
     ensures err { OnErr result (ops.new.entries ≡ ops.old.entries) }
     ensures memory { IfErr result (λ cause. cause ≡ Cause.Memory) }

@@ -12,4 +12,5 @@ pub fn conditions_on_formats()
     ensures regions { (ds : List Directive) → (c5 ds ≡ true) ↔ C5 ds }
     ensures attributes { (ds : List Directive) → (c6 ds ≡ true) ↔ C6 ds }
     ensures order { (ds : List Directive) → (c7 ds ≡ true) ↔ C7 ds }
+    ensures lists { (ds : List Directive) → (c8 ds ≡ true) ↔ C8 ds }
 {}

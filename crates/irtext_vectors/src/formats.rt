@@ -85,9 +85,17 @@ fn operands_stand_once(rt: HostRuntime) -> Result<(), Fail> {
 #[test]
 fn operands_in_any_order(rt: HostRuntime) -> Result<(), Fail> {
     let alloc = rt.alloc();
-    let back = vec![in alloc; Directive::Operand(1), word(alloc, ",")?, Directive::Operand(0)]?;
+    let back = vec![in alloc;
+        Directive::Operand(1),
+        word(alloc, ",")?,
+        Directive::Operand(0),
+    ]?;
     assert_eq!(rt; fault(back), None);
-    let list = vec![in alloc; Directive::Operand(0), word(alloc, ",")?, Directive::Operands]?;
+    let list = vec![in alloc;
+        Directive::Operand(0),
+        word(alloc, ",")?,
+        Directive::Operands,
+    ]?;
     assert_eq!(rt; fault(list), None);
     Ok(())
 }
@@ -107,7 +115,11 @@ fn result_types_stand_once(rt: HostRuntime) -> Result<(), Fail> {
     let alloc = rt.alloc();
     let one = vec![in alloc; Directive::ResultType(1)]?;
     assert_eq!(rt; fault(one), Some(FormatFault::C4));
-    let twice = vec![in alloc; Directive::ResultType(0), word(alloc, ":")?, Directive::ResultType(0)]?;
+    let twice = vec![in alloc;
+        Directive::ResultType(0),
+        word(alloc, ":")?,
+        Directive::ResultType(0),
+    ]?;
     assert_eq!(rt; fault(twice), Some(FormatFault::C4));
     let first = vec![in alloc; Directive::ResultType(0)]?;
     assert_eq!(rt; fault(first), None);
@@ -151,7 +163,10 @@ fn keys_differ(rt: HostRuntime) -> Result<(), Fail> {
 #[test]
 fn a_header_has_the_name_alone(rt: HostRuntime) -> Result<(), Fail> {
     let alloc = rt.alloc();
-    let both = vec![in alloc; Directive::SymbolHeader, attribute(alloc, "builtin_sym_name")?]?;
+    let both = vec![in alloc;
+        Directive::SymbolHeader,
+        attribute(alloc, "builtin_sym_name")?,
+    ]?;
     assert_eq!(rt; fault(both), Some(FormatFault::C6));
     let name = vec![in alloc; attribute(alloc, "builtin_sym_name")?]?;
     assert_eq!(rt; fault(name), None);
@@ -197,7 +212,11 @@ fn a_list_of_operands_ends(rt: HostRuntime) -> Result<(), Fail> {
 #[test]
 fn a_comma_goes_on_with_a_list(rt: HostRuntime) -> Result<(), Fail> {
     let alloc = rt.alloc();
-    let comma = vec![in alloc; Directive::Operands, word(alloc, ",")?, Directive::Operand(0)]?;
+    let comma = vec![in alloc;
+        Directive::Operands,
+        word(alloc, ",")?,
+        Directive::Operand(0),
+    ]?;
     assert_eq!(rt; fault(comma), Some(FormatFault::C8));
     let arrow = vec![in alloc; Directive::Operands, word(alloc, "->")?]?;
     assert_eq!(rt; fault(arrow), None);
@@ -229,9 +248,17 @@ fn a_list_of_successors_ends(rt: HostRuntime) -> Result<(), Fail> {
 #[test]
 fn an_empty_list_is_seen_through(rt: HostRuntime) -> Result<(), Fail> {
     let alloc = rt.alloc();
-    let letter = vec![in alloc; Directive::Operands, Directive::Successors, word(alloc, "x")?]?;
+    let letter = vec![in alloc;
+        Directive::Operands,
+        Directive::Successors,
+        word(alloc, "x")?,
+    ]?;
     assert_eq!(rt; fault(letter), Some(FormatFault::C8));
-    let colon = vec![in alloc; Directive::Operands, Directive::Successors, word(alloc, ":")?]?;
+    let colon = vec![in alloc;
+        Directive::Operands,
+        Directive::Successors,
+        word(alloc, ":")?,
+    ]?;
     assert_eq!(rt; fault(colon), None);
     let operand = vec![in alloc; Directive::Successors, Directive::Operand(0)]?;
     assert_eq!(rt; fault(operand), None);
@@ -291,7 +318,10 @@ fn a_format_that_may_not_read_uniquely_is_refused(rt: HostRuntime) -> Result<(),
     let format = OpFormat::Custom(vec![in alloc; Directive::Successors]?);
     let refused: Answer<(), Note> = dialect.add_op(test_id(alloc, "z")?, format, false);
     let error = refused.err().ok_or("accepted")?;
-    assert_eq!(rt; format!(in alloc; "{error}")?.as_str(), "Compilation error: invalid argument.\nFormat refused by condition C8");
+    assert_eq!(rt;
+        format!(in alloc; "{error}")?.as_str(),
+        "Compilation error: invalid argument.\nFormat refused by condition C8"
+    );
     let id = test_id(alloc, "z")?;
     assert!(rt; dialect.op(&id).is_none());
     Ok(())
@@ -304,6 +334,9 @@ fn an_operation_of_another_dialect_is_refused(rt: HostRuntime) -> Result<(), Fai
     let format = OpFormat::Custom(Vec::new(alloc));
     let refused: Answer<(), Note> = dialect.add_op(test_id(alloc, "z")?, format, false);
     let error = refused.err().ok_or("accepted")?;
-    assert_eq!(rt; format!(in alloc; "{error}")?.as_str(), "Compilation error: invalid argument.\nOperation test.z is not of dialect builtin");
+    assert_eq!(rt;
+        format!(in alloc; "{error}")?.as_str(),
+        "Compilation error: invalid argument.\nOperation test.z is not of dialect builtin"
+    );
     Ok(())
 }

@@ -4,10 +4,8 @@ ghost use Rattle.std.specs.List.{list_all};
 ghost use Rattle.irtext_base.specs.Directives.{directives_of, places_of, condition_number};
 ghost use Rattle.irtext_base.specs.Format.{c1, c2, c3, c4, c5, c6, c7, c8, are_places, ascend, custom, first_fault, distinct, same_text, has, keys, count, is_dictionary, is_header, given_names_key, sym_name_key};
 
-use crate::format::parts;
 use crate::format::parts::{Part, Sole};
-use crate::format::rules;
-use crate::format::{Directive, FormatFault};
+use crate::format::{Directive, FormatFault, parts, rules};
 
 fn c1(directives: &[Directive]) -> bool
     ensures { result ≡ c1 (directives_of directives.now) }

@@ -4,10 +4,8 @@ ghost use Rattle.std.specs.List.{list_all};
 ghost use Rattle.irtext_base.specs.Directives.{directive_of, directives_of, place_of, places_of, key_of, again, keeps, all_keep, is_region, is_named};
 ghost use Rattle.irtext_base.specs.Format.{same_text, keys, distinct, none_behind, is_regions, is_any_region, c8};
 
-use crate::format::Directive;
-use crate::format::followers;
-use crate::format::parts;
 use crate::format::parts::{Part, Sole};
+use crate::format::{Directive, followers, parts};
 
 /// A rule on a directive and those behind it.
 #[derive(Clone, Copy)]

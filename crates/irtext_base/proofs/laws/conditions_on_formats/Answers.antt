@@ -1,4 +1,5 @@
 use Rattle.irtext_base.proofs.Conditions.{c1_says, says_c1, c2_says, says_c2, c3_says, says_c3, c4_says, says_c4, c5_says, says_c5, c6_says, says_c6, c7_says, says_c7}
+use Rattle.irtext_base.proofs.Meetings.{c8_says, says_c8}
 use Rattle.irtext_base.proofs.laws.conditions_on_formats.Goals as goal
 
 pub returns-clause-literals : goal.returns-clause-literals
@@ -21,3 +22,6 @@ returns-clause-attributes c = λ ds. (c6_says ds, says_c6 ds)
 
 pub returns-clause-order : goal.returns-clause-order
 returns-clause-order c = λ ds. (c7_says ds, says_c7 ds)
+
+pub returns-clause-lists : goal.returns-clause-lists
+returns-clause-lists c = λ ds. (c8_says ds, says_c8 ds)

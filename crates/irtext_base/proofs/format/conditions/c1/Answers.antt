@@ -11,5 +11,5 @@ use Rattle.irtext_base.proofs.format.conditions.c1.Goals as goal
 pub returns : goal.returns
 returns c =
     let e : c.all.result ≡ list_all (λ d. word_prints (directive_of d)) c.args.directives.now =
-        all_from_yields_List (λ d. word_prints (directive_of d)) _ _ c.all.result c.all.ensures.ran (YieldsList-from_slice c.args.directives.now cc) (λ x b q k. search (rules, tests)) in
+    all_from_yields_List (λ d. word_prints (directive_of d)) _ _ c.all.result c.all.ensures.ran (YieldsList-from_slice c.args.directives.now cc) (λ x b q k. search (rules, tests)) in
     e ∙ all_mapped word_prints directive_of c.args.directives.now

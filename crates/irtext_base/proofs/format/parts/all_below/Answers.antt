@@ -10,5 +10,5 @@ use Rattle.irtext_base.proofs.format.parts.all_below.Goals as goal
 pub returns : goal.returns
 returns c =
     let e : c.all.result ≡ list_all (λ d. is_below c.args.number (place_of c.args.part (directive_of d))) c.args.directives.now =
-        all_from_yields_List (λ d. is_below c.args.number (place_of c.args.part (directive_of d))) _ _ c.all.result c.all.ensures.ran (YieldsList-from_slice c.args.directives.now cc) (λ x b q k. search (rules, tests)) in
+    all_from_yields_List (λ d. is_below c.args.number (place_of c.args.part (directive_of d))) _ _ c.all.result c.all.ensures.ran (YieldsList-from_slice c.args.directives.now cc) (λ x b q k. search (rules, tests)) in
     e ∙ below_all c.args.number (place_of c.args.part) directive_of c.args.directives.now

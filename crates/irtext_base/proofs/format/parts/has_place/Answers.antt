@@ -10,5 +10,5 @@ use Rattle.irtext_base.proofs.format.parts.has_place.Goals as goal
 pub returns : goal.returns
 returns c =
     let e : c.any.result ≡ list_any (λ d. is_value ◌==◌ c.args.place (place_of c.args.part (directive_of d))) c.args.directives.now =
-        any_from_yields_List (λ d. is_value ◌==◌ c.args.place (place_of c.args.part (directive_of d))) _ _ c.any.result c.any.ensures.ran (YieldsList-from_slice c.args.directives.now cc) (λ x b q k. search (rules, tests)) in
+    any_from_yields_List (λ d. is_value ◌==◌ c.args.place (place_of c.args.part (directive_of d))) _ _ c.any.result c.any.ensures.ran (YieldsList-from_slice c.args.directives.now cc) (λ x b q k. search (rules, tests)) in
     e ∙ any_has ◌==◌ (place_of c.args.part) directive_of c.args.place c.args.directives.now

@@ -10,5 +10,5 @@ use Rattle.irtext_base.proofs.format.rules.no_name.Goals as goal
 pub returns : goal.returns
 returns c =
     let e : c.all.result ≡ list_all (λ d. not (is_named (directive_of d))) c.args.directives.now =
-        all_from_yields_List (λ d. not (is_named (directive_of d))) _ _ c.all.result c.all.ensures.ran (YieldsList-from_slice c.args.directives.now cc) (λ x b q k. search (rules, tests)) in
+    all_from_yields_List (λ d. not (is_named (directive_of d))) _ _ c.all.result c.all.ensures.ran (YieldsList-from_slice c.args.directives.now cc) (λ x b q k. search (rules, tests)) in
     e ∙ all_mapped (λ d. not (is_named d)) directive_of c.args.directives.now
