@@ -3,3 +3,4 @@ pub mod Characters
 pub mod Numbers
 pub mod Words
 pub mod Spelling
+pub mod Numerals

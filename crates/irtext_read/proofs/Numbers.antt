@@ -40,7 +40,7 @@ pub value_of-push : (digits : Text) (c : ℕ) → is_ascii_digit c ≡ true → 
 value_of-push digits c e = appended-fitting (digits_value 10 digits) (c - 48) ∙ ap fitting (ap (λ z. digits_value 10 digits * 10 + z) (sym (digit_value_is c e)) ∙ sym (digits_value_push 10 digits c))
 
 -- the bytes of a sign and digits
-encodes-sign : (text : Text) → encode_utf8_all (sign_of text) ≡ sign_of text
+pub encodes-sign : (text : Text) → encode_utf8_all (sign_of text) ≡ sign_of text
 encodes-sign [] = refl
 encodes-sign (c ∷ text) =
     elim (is_sign c) as (λ b. is_sign c ≡ b → encode_utf8_all (cond b (c ∷ []) []) ≡ cond b (c ∷ []) []) [

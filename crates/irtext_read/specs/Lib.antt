@@ -1,3 +1,4 @@
 pub mod Tokens
 pub mod States
 pub mod FromText
+pub mod Integers

@@ -2,12 +2,20 @@
 
 pub mod class;
 pub mod fixed_text;
+pub mod from_str_radix;
+pub mod hexadecimal;
 pub mod identifier;
+pub mod integer;
 pub mod number;
 pub mod operation_id;
+pub mod truth;
 
 pub use class::{Class, skip_class, skip_white_space};
 pub use fixed_text::text_parse;
+pub use from_str_radix::FromStrRadix;
+pub use hexadecimal::hex_int_parse;
 pub use identifier::identifier_parse;
+pub use integer::{int_parse, number_as_string_parse};
 pub use number::{i32_parse, usize_parse};
 pub use operation_id::id_parse;
+pub use truth::bool_parse;

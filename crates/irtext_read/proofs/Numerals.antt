@@ -1,0 +1,213 @@
+-- Digits behind what stands in front of them, and what is made of both.
+use Rattle.std.proofs.Common.{◌≡◌, ℕ, ℤ, ◌+◌, ◌*◌, ◌^◌, ◌<◌, ◌≤◌, Bool, true, false, cond, eqb, ltb, Option, Some, None, List, [], ◌∷◌, ◌++◌, refl, sym, ◌∙◌, ap, subst, append-nil, arith, ◌⊎◌, inl, inr, codes}
+use Rattle.std.proofs.lemmas.Bool.Decides.{nat_tests}
+use Rattle.std.proofs.lemmas.Int.Digits.{digits_value_push}
+use Rattle.std.proofs.lemmas.Str.{encode_ascii, encodes-append}
+use Rattle.std.specs.Char.{is_ascii_digit, is_ascii_hexdigit, digit_value}
+use Rattle.std.specs.Option.{option_eq}
+use Rattle.std.specs.Str.{encode_utf8_all}
+use Rattle.std.specs.Str.Parse.{digits_value}
+use Rattle.irtext_base.specs.Text.{Text, begins, front, after}
+use Rattle.irtext_base.specs.Reading.{the}
+use Rattle.irtext_base.specs.Stream.{StreamView, IsAt, first_of, after_failure}
+use Rattle.irtext_base.specs.Faults.{Fault, Memory, NumberRange, Unexpected, Word, AHexadecimalDigit, fault_of}
+use Rattle.irtext_base.specs.Answers.{Outcome, Read, Missing, Bad, Takes, Starves, Commits, Refuses, Gives, unless_failed, prefixed, followed}
+use Rattle.irtext_base.specs.declared.parsable.fault.ParseFault.{ParseFault}
+use Rattle.irtext_base.proofs.Compose.{seen_after, takes_more, starves_after, refuses_before}
+use Rattle.irtext_read.specs.Tokens.{sign_of, after_sign, fitting, text_at, spelled_at}
+use Rattle.irtext_read.specs.Integers.{within, within_of, signed_integer, hexadecimal_integer, signed_text, sign_text, no_digit_behind, sign_at, before_hexadecimal, hexadecimal_mark_at, hexadecimal_appended, hexadecimal_value_of, ranged, numeral_at}
+use Rattle.irtext_read.proofs.Numbers.{encodes-sign}
+use Rattle.irtext_read.proofs.Words.{encodes-front, encodes-front_digits}
+
+is_hexdigit_ascii : (c : ℕ) → is_ascii_hexdigit c ≡ true → c < 128
+is_hexdigit_ascii c e = grind (arith, nat_tests)
+
+pub encodes-front_hexadecimal : (text : Text) → encode_utf8_all (front is_ascii_hexdigit text) ≡ front is_ascii_hexdigit text
+encodes-front_hexadecimal = encodes-front is_ascii_hexdigit is_hexdigit_ascii
+
+-- a number that doesn't fit fits no better with one more digit
+too_great : (n d : ℕ) → ltb n (2 ^ 64) ≡ false → ltb (n * 16 + d) (2 ^ 64) ≡ false
+too_great n d e = grind (arith, nat_tests)
+
+hexadecimal_appended-fitting : (n d : ℕ) → hexadecimal_appended (fitting n) d ≡ fitting (n * 16 + d)
+hexadecimal_appended-fitting n d =
+    elim (ltb n (2 ^ 64)) as (λ b. ltb n (2 ^ 64) ≡ b → hexadecimal_appended (cond b (Some n) None) d ≡ fitting (n * 16 + d)) [
+      | true ↦ (λ e. refl)
+      | false ↦ (λ e. rw (too_great n d e) refl)
+    ] refl
+
+-- one more hexadecimal digit
+pub hexadecimal_value_of-push : (digits : Text) (c : ℕ) → hexadecimal_appended (hexadecimal_value_of digits) (digit_value c) ≡ hexadecimal_value_of (digits ++ (c ∷ []))
+hexadecimal_value_of-push digits c = hexadecimal_appended-fitting (digits_value 16 digits) (digit_value c) ∙ ap fitting (sym (digits_value_push 16 digits c))
+
+-- where what fits a type fits 64 bits, what doesn't fit these doesn't fit the type
+not_below : (n m : ℕ) → m ≤ 2 ^ 64 → ltb n (2 ^ 64) ≡ false → ltb n m ≡ false
+not_below n m h e = grind (arith, nat_tests)
+
+within_of-fitting : (below : Bool → ℕ) (negative : Bool) (n : ℕ) → below negative ≤ 2 ^ 64 → within_of below negative (fitting n) ≡ within below negative n
+within_of-fitting below negative n h =
+    elim (ltb n (2 ^ 64)) as (λ b. ltb n (2 ^ 64) ≡ b → within_of below negative (cond b (Some n) None) ≡ within below negative n) [
+      | true ↦ (λ e. refl)
+      | false ↦ (λ e. rw (not_below n (below negative) h e) refl)
+    ] refl
+
+-- the test for a minus is the grammar's
+is_minus : (sign : Option ℕ) → option_eq eqb sign (Some 45) ≡ begins (the 45) (sign_text sign)
+is_minus None = refl
+is_minus (Some c) = refl
+
+-- the integer of a sign and of digits that were folded
+pub signed_made : (below : Bool → ℕ) (narrow : (negative : Bool) → below negative ≤ 2 ^ 64) (sign : Option ℕ) (digits : Text) (negative : Bool) (m : Option ℕ) (v : Option ℤ) → v ≡ within_of below negative m → negative ≡ option_eq eqb sign (Some 45) → m ≡ fitting (digits_value 10 digits) → signed_integer below (sign_text sign) digits ≡ v
+signed_made below narrow sign digits negative m v e n f =
+    sym (e ∙ (ap (within_of below negative) f ∙ (within_of-fitting below negative (digits_value 10 digits) (narrow negative) ∙ ap (λ z. within below z (digits_value 10 digits)) (n ∙ is_minus sign))))
+
+-- the integer of hexadecimal digits that were folded
+pub hexadecimal_made : (below : Bool → ℕ) (narrow : (negative : Bool) → below negative ≤ 2 ^ 64) (mark : Unit {0}) (digits : Text) (m : Option ℕ) (v : Option ℤ) → v ≡ within_of below false m → m ≡ fitting (digits_value 16 digits) → hexadecimal_integer below mark digits ≡ v
+hexadecimal_made below narrow mark digits m v e f = sym (e ∙ (ap (within_of below false) f ∙ within_of-fitting below false (digits_value 16 digits) (narrow false)))
+
+-- a value read is one
+same_taken : {X : Type 0} (x y : X) (t u r s : Text) → ◌≡◌ {A = Outcome X} (Read x t r) (Read y u s) → t ≡ u
+same_taken x y t u r s e = cc
+
+same_value : {X : Type 0} (x y : X) (t u r s : Text) → ◌≡◌ {A = Outcome X} (Read x t r) (Read y u s) → x ≡ y
+same_value x y t u r s e = cc
+
+-- where no digit stands, no sign is read
+no_digit_reads : {X : Type 0} (sign text : Text) (x : X) (taken rest : Text) → no_digit_behind sign text ≡ Read x taken rest → ⊥
+no_digit_reads [] text x taken rest e = absurd (cc)
+no_digit_reads (c ∷ sign) text x taken rest e = absurd (cc)
+
+-- what is read of a sign is the sign, and its bytes
+sign_read : (text sign taken rest : Text) → sign_at text ≡ Read sign taken rest → (sign ≡ sign_of text) × (taken ≡ sign_of text)
+sign_read text sign taken rest =
+    elim (begins is_ascii_digit (after_sign text)) as (λ b. ◌≡◌ {A = Outcome Text} (cond b (Read (sign_of text) (sign_of text) (after_sign text)) (no_digit_behind (sign_of text) (after_sign text))) (Read sign taken rest) → (sign ≡ sign_of text) × (taken ≡ sign_of text)) [
+      | true ↦ (λ e. (sym (same_value (sign_of text) sign (sign_of text) taken (after_sign text) rest e), sym (same_taken (sign_of text) sign (sign_of text) taken (after_sign text) rest e)))
+      | false ↦ (λ e. absurd (no_digit_reads (sign_of text) (after_sign text) sign taken rest e))
+    ]
+
+sign_at-taken : (text sign taken rest : Text) → sign_at text ≡ Read sign taken rest → taken ≡ sign
+sign_at-taken text sign taken rest e = let p = sign_read text sign taken rest e in p.1 ∙ sym p.0
+
+pub sign_at-encodes : (text sign taken rest : Text) → sign_at text ≡ Read sign taken rest → encode_utf8_all taken ≡ taken
+sign_at-encodes text sign taken rest e = subst (λ z. encode_utf8_all z ≡ z) (sym (sign_read text sign taken rest e).1) (encodes-sign text)
+
+-- what is read behind characters taken was read there
+prefixed_took : {X : Type 0} (t : Text) (o : Outcome X) (x : X) (taken rest : Text) → prefixed t o ≡ Read x taken rest → (more : Text) × (o ≡ Read x more rest) × (taken ≡ t ++ more)
+prefixed_took t (Read y more r) x taken rest e = (more, cc, sym (same_taken y x (t ++ more) taken r rest e))
+prefixed_took t (Missing cause) x taken rest e = absurd (cc)
+prefixed_took t (Bad cause upto) x taken rest e = absurd (cc)
+
+-- where the other case reads nothing, this one reads
+read_by : {X : Type 0} (b : Bool) (o : Outcome X) (cause : Fault) (x : X) (taken rest : Text) → ◌≡◌ {A = Outcome X} (cond b o (Missing cause)) (Read x taken rest) → o ≡ Read x taken rest
+read_by true o cause x taken rest e = e
+read_by false o cause x taken rest e = absurd (cc)
+
+the_is : (c d : ℕ) → the c d ≡ true → d ≡ c
+the_is c d e = grind (arith, nat_tests)
+
+-- where the other case reads nothing, the test holds
+spells : (b : Bool) (o : Outcome Unit) (cause : Fault) (u : Unit {0}) (taken rest : Text) → ◌≡◌ {A = Outcome Unit} (cond b o (Missing cause)) (Read u taken rest) → (b ≡ true) × (o ≡ Read u taken rest)
+spells true o cause u taken rest e = (refl, e)
+spells false o cause u taken rest e = absurd (cc)
+
+-- what is read of a fixed text is that text
+word_taken : (whole word text : Text) (u : Unit {0}) (taken rest : Text) → spelled_at whole word text ≡ Read u taken rest → taken ≡ word
+word_taken whole [] text u taken rest e = sym (same_taken tt u [] taken text rest e)
+word_taken whole (c ∷ word) [] u taken rest e = absurd (cc)
+word_taken whole (c ∷ word) (d ∷ text) u taken rest e =
+    let s = spells (the c d) (prefixed (d ∷ []) (spelled_at whole word text)) (Unexpected (Some d) (Word whole)) u taken rest e in
+    let p = prefixed_took (d ∷ []) (spelled_at whole word text) u taken rest s.1 in
+    p.2 ∙ (ap (λ z. z ∷ p.0) (the_is c d s.0) ∙ ap (λ z. c ∷ z) (word_taken whole word text u p.0 rest p.1))
+
+nothing_taken : (text : Text) (u : Unit {0}) (taken rest : Text) → before_hexadecimal text ≡ Read u taken rest → taken ≡ []
+nothing_taken text u taken rest e =
+    sym (same_taken tt u [] taken text rest (read_by (begins is_ascii_hexdigit text) (Read tt [] text) (Unexpected (first_of text) AHexadecimalDigit) u taken rest e))
+
+mark_taken : (o : Outcome Unit) (word : Text) → ((u : Unit {0}) (t r : Text) → o ≡ Read u t r → t ≡ word) → (u : Unit {0}) (taken rest : Text) → followed o (λ v text. before_hexadecimal text) ≡ Read u taken rest → taken ≡ word
+mark_taken (Read v t r) word h u taken rest e =
+    let p = prefixed_took t (before_hexadecimal r) u taken rest e in
+    p.2 ∙ (ap (λ z. t ++ z) (nothing_taken r u p.0 rest p.1) ∙ (append-nil t ∙ h v t r refl))
+mark_taken (Missing cause) word h u taken rest e = absurd (cc)
+mark_taken (Bad cause upto) word h u taken rest e = absurd (cc)
+
+mark_encodes : encode_utf8_all (codes "0x") ≡ codes "0x"
+mark_encodes = rw (encode_ascii 48 (omega arith), encode_ascii 120 (omega arith)) refl
+
+-- what is read of `0x` is its bytes
+pub mark_at-encodes : (text : Text) (u : Unit {0}) (taken rest : Text) → hexadecimal_mark_at text ≡ Read u taken rest → encode_utf8_all taken ≡ taken
+mark_at-encodes text u taken rest e =
+    let t : taken ≡ codes "0x" = mark_taken (text_at (codes "0x") text) (codes "0x") (λ v t r q. word_taken (codes "0x") (codes "0x") text v t r q) u taken rest e in
+    subst (λ z. encode_utf8_all z ≡ z) (sym t) mark_encodes
+
+module _ {S : Type 0} (view : S → StreamView) (at : S → StreamView → S) where
+  -- what stands in front of the digits was read
+  pub record Led {L : Type 0} (failed : Bool) (o : Outcome L) (lead : L) (old mid : S) : Type 0 where
+    pub not_failed : failed ≡ false
+    pub taken : Text
+    pub rest : Text
+    pub is : o ≡ Read lead taken rest
+    pub takes : Takes view at taken rest old mid
+
+  pub led : {L : Type 0} (failed : Bool) (o : Outcome L) (lead : L) (old mid : S) → Gives view at (unless_failed failed o) old lead mid → Led failed o lead old mid
+  led true o lead old mid h = absurd h
+  led false (Read x t r) lead old mid h = record { not_failed = refl; taken = t; rest = r; is = ap (λ z. Read z t r) (sym h.0); takes = h.1 }
+  led false (Missing cause) lead old mid h = absurd h
+  led false (Bad cause upto) lead old mid h = absurd h
+
+  -- where that is refused, the number is
+  pub lead_refused : {L X A : Type 0} (digit : ℕ → Bool) (make : L → Text → Option X) (failed : Bool) (o : Outcome L) (old new : S) (fault : ParseFault A) → Starves view at old fault new ⊎ Refuses view at (unless_failed failed o) old fault new → Starves view at old fault new ⊎ Refuses view at (unless_failed failed (numeral_at digit make o)) old fault new
+  lead_refused digit make true o old new fault h = h
+  lead_refused digit make false o old new fault (inl s) = inl s
+  lead_refused digit make false (Read x t r) old new fault (inr e) = absurd e
+  lead_refused digit make false (Missing cause) old new fault (inr e) = inr e
+  lead_refused digit make false (Bad cause upto) old new fault (inr e) = inr e
+
+  module _ (view_at : (s : S) (v : StreamView) → view (at s v) ≡ v) (at_at : (s : S) (v w : StreamView) → at (at s v) w ≡ at s w) where
+    module _ {L : Type 0} (digit : ℕ → Bool) (failed : Bool) (o : Outcome L) (lead : L) (old mid new : S) (l : Led failed o lead old mid) (d : Takes view at (front digit (view mid).rest) (after digit (view mid).rest) mid new) where
+      -- the text of the number
+      abbrev pub number_text : Text
+      number_text = l.taken ++ front digit l.rest
+
+      left_is : (view mid).rest ≡ l.rest
+      left_is = ap (λ v. v.rest) (seen_after view at view_at at_at old mid l.taken l.rest l.takes)
+
+      number_taken : Takes view at number_text (after digit l.rest) old new
+      number_taken = takes_more view at view_at at_at old mid new l.taken l.rest (front digit l.rest) (after digit l.rest) l.takes (subst (λ z. Takes view at (front digit z) (after digit z) mid new) left_is d)
+
+      -- what was passed since the number began
+      pub number_passed : (view old).passed ++ number_text ≡ (view new).passed
+      number_passed = sym (ap (λ v. v.passed) (seen_after view at view_at at_at old new number_text (after digit l.rest) number_taken))
+
+      number_outcome : {X : Type 0} (make : L → Text → Option X) (v : Option X) → make lead (front digit (view mid).rest) ≡ v → unless_failed failed (numeral_at digit make o) ≡ ranged number_text (after digit l.rest) v
+      number_outcome make v e =
+          let q : make lead (front digit l.rest) ≡ v = subst (λ z. make lead (front digit z) ≡ v) left_is e in
+          rw (l.not_failed, l.is) (ap (ranged number_text (after digit l.rest)) q)
+
+      -- the number is read
+      pub number_read : {X : Type 0} (make : L → Text → Option X) (x : X) → make lead (front digit (view mid).rest) ≡ Some x → Gives view at (unless_failed failed (numeral_at digit make o)) old x new
+      number_read make x e = rw (number_outcome make (Some x) e) (refl, number_taken)
+
+      number_encodes : encode_utf8_all l.taken ≡ l.taken → ((text : Text) → encode_utf8_all (front digit text) ≡ front digit text) → encode_utf8_all number_text ≡ number_text
+      number_encodes a b = encodes-append l.taken (front digit l.rest) ∙ rw (a, b l.rest) refl
+
+      -- the number doesn't fit
+      pub number_refused : {X A : Type 0} (make : L → Text → Option X) (last : S) (fault : ParseFault A) → make lead (front digit (view mid).rest) ≡ None → encode_utf8_all l.taken ≡ l.taken → ((text : Text) → encode_utf8_all (front digit text) ≡ front digit text)
+          → (fault_of fault.cause ≡ Memory) ⊎ (fault_of fault.cause ≡ NumberRange (encode_utf8_all number_text)) → fault.committed ≡ true → IsAt fault.pos.line fault.pos.column (view old).passed → last ≡ at new (after_failure (view new))
+          → Starves view at old fault last ⊎ Refuses view at (unless_failed failed (numeral_at digit make o)) old fault last
+      number_refused make last fault e a b f c p n =
+          let f' : (fault_of fault.cause ≡ Memory) ⊎ (fault_of fault.cause ≡ NumberRange number_text) = subst (λ z. (fault_of fault.cause ≡ Memory) ⊎ (fault_of fault.cause ≡ NumberRange z)) (number_encodes a b) f in
+          rw (number_outcome make None e) (refuses_before view at view_at at_at (NumberRange number_text) old new last number_text (after digit l.rest) fault number_taken c p n f')
+
+      -- memory was refused behind the number
+      pub number_starves : {A : Type 0} (last : S) (fault : ParseFault A) → Commits view at Memory [] new fault last → Starves view at old fault last
+      number_starves last fault h = starves_after view at view_at at_at old new last number_text (after digit l.rest) fault number_taken (record { because = h.because; committed = h.committed; left = h.left })
+
+    -- the text of a number is read
+    pub text_read : (text : Text) (failed : Bool) (sign : Text) (old mid new : S) (l : Led failed (sign_at text) sign old mid) (d : Takes view at (front is_ascii_digit (view mid).rest) (after is_ascii_digit (view mid).rest) mid new) (bytes : List ℕ)
+        → bytes ≡ encode_utf8_all (number_text is_ascii_digit failed (sign_at text) sign old mid new l d) → Gives view at (unless_failed failed (numeral_at is_ascii_digit signed_text (sign_at text))) old bytes new
+    text_read text failed sign old mid new l d bytes e =
+        let o = sign_at text in
+        let t : l.taken ≡ sign = sign_at-taken text sign l.taken l.rest l.is in
+        let whole : bytes ≡ sign ++ front is_ascii_digit (view mid).rest =
+        e ∙ (number_encodes is_ascii_digit failed o sign old mid new l d (sign_at-encodes text sign l.taken l.rest l.is) encodes-front_digits ∙ (ap (λ z. z ++ front is_ascii_digit l.rest) t ∙ ap (λ z. sign ++ front is_ascii_digit z) (sym (left_is is_ascii_digit failed o sign old mid new l d)))) in
+        number_read is_ascii_digit failed o sign old mid new l d signed_text bytes (ap Some (sym whole))

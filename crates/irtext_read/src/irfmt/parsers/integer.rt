@@ -1,0 +1,68 @@
+//! The readers of integers of every type, and of numbers as their text.
+ghost use Rattle.std.specs.Prelude.{◌≡◌, string_bytes};
+ghost use Rattle.std.specs.Option.{option_map};
+ghost use Rattle.irtext_base.specs.Answers.{Answers, unless_failed};
+ghost use Rattle.irtext_read.specs.Integers.{within_of, sign_text, sign_at, int_at, number_text_at};
+
+use crate::irfmt::faults::{begins, demanded, refuse, unexpected};
+use crate::irfmt::parsers::class::{Class, skip_class};
+use crate::irfmt::parsers::from_str_radix::FromStrRadix;
+use crate::irfmt::parsers::number::{out_of_range, take_digits, take_sign};
+use irtext_base::parsable::{CharStream, ParseResult};
+use irtext_base::result::{Cause, Expected};
+
+/// Reads `+`, `-` or no sign, in front of a digit.
+fn sign_parse<S: CharStream, A>(stream: &mut S) -> ParseResult<Option<char>, A>
+    ensures { Answers S.view S.at sign_text (unless_failed (S.view stream.old).failed (sign_at (S.view stream.old).rest)) stream.old result stream.new }
+{
+    if stream.has_failed() {
+        return Err(refuse(stream, Cause::StreamFailed));
+    }
+    let sign = take_sign(stream);
+    if begins(stream, Class::Digit) {
+        return Ok(sign);
+    }
+    let fault = unexpected(stream, Expected::Digit);
+    if sign.is_some() {
+        return Err(demanded(stream, fault));
+    }
+    Err(fault)
+}
+
+/// The number of a magnitude that fits 64 bits or doesn't, behind a minus or not, where it fits its type.
+pub(crate) fn number_of<N: FromStrRadix>(negative: bool, magnitude: Option<usize>) -> Option<N>
+    ensures { option_map N.number result ≡ within_of N.below negative magnitude }
+{
+    N::from_magnitude(negative, magnitude? as u64)
+}
+
+/// Reads a number: `+`, `-` or no sign, and one digit or more, as far as they go. Where no digit stands, it answers that a digit is
+/// expected, uncommitted where nothing was read and committed behind a sign. A number that doesn't fit its type is refused at its
+/// beginning; behind `-` no number fits an unsigned type. An uncommitted fault leaves the stream where it was, a committed one
+/// leaves it failed.
+pub fn int_parse<S: CharStream, N: FromStrRadix, A>(stream: &mut S) -> ParseResult<N, A>
+    ensures { Answers S.view S.at N.number (unless_failed (S.view stream.old).failed (int_at N.below (S.view stream.old).rest)) stream.old result stream.new }
+{
+    let place = stream.position();
+    let sign = sign_parse(stream)?;
+    let magnitude = take_digits(stream);
+    match number_of(sign == Some('-'), magnitude) {
+        Some(number) => Ok(number),
+        None => Err(out_of_range(stream, place)),
+    }
+}
+
+/// Reads a number as its text: `+`, `-` or no sign, and one digit or more, as far as they go. Where no digit stands, it answers that
+/// a digit is expected, uncommitted where nothing was read and committed behind a sign. An uncommitted fault leaves the stream where
+/// it was, a committed one leaves it failed.
+pub fn number_as_string_parse<S: CharStream, A>(stream: &mut S) -> ParseResult<String, A>
+    ensures { Answers S.view S.at (λ text. string_bytes text) (unless_failed (S.view stream.old).failed (number_text_at (S.view stream.old).rest)) stream.old result stream.new }
+{
+    let place = stream.position();
+    let _ = sign_parse(stream)?;
+    skip_class(stream, Class::Digit);
+    match String::from_str(stream.allocator(), stream.text_since(place)) {
+        Ok(text) => Ok(text),
+        Err(_) => Err(refuse(stream, Cause::Memory)),
+    }
+}
