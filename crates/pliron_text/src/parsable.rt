@@ -4,6 +4,8 @@ ghost use Rattle.std.specs.Prelude.{◌≡◌};
 ghost use Rattle.irtext_base.specs.Answers.{Starves};
 ghost use Rattle.pliron_text.specs.Roots.{itself, replaced};
 
+mod tokens;
+
 pub use irtext_base::parsable::{
     CharStream, ParseFault, ParseResult, Place, SourcePosition, TextStream,
 };

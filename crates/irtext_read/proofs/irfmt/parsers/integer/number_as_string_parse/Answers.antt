@@ -1,10 +1,8 @@
-use Rattle.std.proofs.Common.{◌≡◌, ◌∙◌, ◌++◌, Some, refl, inl, inr, string_bytes}
+use Rattle.std.proofs.Common.{◌∙◌, inl, string_bytes}
 use Rattle.std.proofs.lemmas.Result.{err_from_is_err_and}
 use Rattle.std.specs.Char.{is_ascii_digit}
-use Rattle.irtext_base.specs.Text.{front}
 use Rattle.irtext_read.specs.Integers.{sign_text, sign_at, signed_text, number_text_at}
 use Rattle.irtext_read.proofs.Numerals.{led, lead_refused, number_text, number_passed, text_read, number_starves}
-use Rattle.irtext_read.proofs.Words.{encodes-front_digits}
 use Rattle.irtext_read.proofs.irfmt.parsers.integer.number_as_string_parse.Goals as goal
 
 pub returns-in_err-sign_parse : goal.returns-in_err-sign_parse
