@@ -8,6 +8,8 @@ pub mod definitions;
 #[cfg(test)]
 mod formats;
 #[cfg(test)]
+mod numbers;
+#[cfg(test)]
 mod printing;
 #[cfg(test)]
 mod roots;
