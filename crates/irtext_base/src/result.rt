@@ -1,5 +1,5 @@
 //! Why a call was refused: kinds, causes and errors, with their texts.
-ghost use Rattle.std.specs.Prelude.{◌≡◌, Some, string_bytes};
+ghost use Rattle.std.specs.Prelude.{◌≡◌, Some, MatchResult, string_bytes};
 ghost use Rattle.irtext_base.specs.Causes.{kind_text, expected_text, found_text, cause_text, error_text};
 ghost use Rattle.irtext_base.specs.declared.result.Cause.{Memory, Fmt};
 ghost use Rattle.irtext_base.specs.declared.result.ErrorKind.TheVariants.{InvalidArgument};
@@ -12,6 +12,8 @@ use crate::parsable::{ParserNameTrackerError, SourcePosition, UnresolvedReferenc
 use std::alloc::{AllocError, AllocFailed};
 use std::fmt;
 use std::fmt::Display;
+
+mod macros;
 
 /// What sort of mistake an error reports.
 #[derive(Clone, Copy, Debug, PartialEq, Eq)]
@@ -123,6 +125,36 @@ pub struct Error<A> {
 
 /// What a call answers that can be refused.
 pub type Result<X, A> = std::result::Result<X, Error<A>>;
+
+impl<A> Cause<A> {
+    /// A text of the caller as a cause. Where there was no memory for the text, the cause is `Memory`.
+    pub fn of_text<E: Drop>(text: std::result::Result<String, E>) -> Cause<A>
+        ensures { MatchResult text (λ s. result ≡ Cause.Text (record { 0 = s })) (λ _. result ≡ Cause.Memory) }
+    {
+        match text {
+            Ok(text) => Cause::Text(StringError(text)),
+            Err(_) => Cause::Memory,
+        }
+    }
+}
+
+impl<A> Error<A> {
+    /// The location that the error speaks of.
+    pub fn loc(&self) -> &Location<A>
+        ensures { result.now ≡ self.now.loc }
+    {
+        &self.loc
+    }
+}
+
+impl<A: Drop> Error<A> {
+    /// Says of which location the error speaks. Its kind and its cause stay.
+    pub fn set_loc(&mut self, loc: Location<A>)
+        ensures { self.new ≡ record self.old { loc = loc } }
+    {
+        self.loc = loc;
+    }
+}
 
 impl Display for ErrorKind {
     ghost output = { λ kind. Some (kind_text kind) };
@@ -239,6 +271,15 @@ impl<A> Display for Error<A> {
         let kind = self.kind;
         write!(f, "Compilation error: {kind}.\n")?;
         self.err.fmt(f)
+    }
+}
+
+/// The same text as by `Display`.
+impl<A> fmt::Debug for Error<A> {
+    ghost debug_output = { λ error. Some (error_text error) };
+
+    fn fmt<W: fmt::Write>(&self, f: &mut fmt::Formatter<W>) -> fmt::Result {
+        Display::fmt(self, f)
     }
 }
 
