@@ -2,3 +2,4 @@ pub mod Tokens
 pub mod States
 pub mod FromText
 pub mod Integers
+pub mod Committed

@@ -7,13 +7,14 @@ ghost use Rattle.pliron_text.specs.Roots.{itself, replaced};
 mod tokens;
 
 pub use irtext_base::parsable::{
-    CharStream, ParseFault, ParseResult, Place, SourcePosition, TextStream,
+    CharStream, ParseFault, ParseResult, ParserNameTrackerError, Place, SourcePosition, TextStream,
+    UnresolvedReference,
 };
 use irtext_base::result::Cause;
 use irtext_base::text::{AttrText, IrText};
 use irtext_read::irfmt::faults::refuse;
 pub use irtext_read::parsable::{
-    State, StateStream, StreamLocation, parse_from_str, state_stream_from_iterator,
+    IntoParseResult, State, StateStream, StreamLocation, parse_from_str, state_stream_from_iterator,
 };
 
 /// What is read from a stream with a context.
