@@ -60,3 +60,5 @@ pub mod SectionRead
 pub mod TopLevel
 pub mod PrintedBack
 pub mod LabelPlaces
+pub mod Printed
+pub mod Verification

@@ -2,5 +2,7 @@
 
 mod print;
 mod read;
+mod verify;
 
 pub use read::{OperationParserConfig, OperationText};
+pub use verify::{BasicBlockVerifyErr, DefUseVerifyErr};

@@ -1,6 +1,5 @@
 //! Why a call was refused, and how errors print themselves.
 ghost use Rattle.std.specs.Prelude.{◌≡◌, ◌≢◌, ◌++◌, None, OnOk, IfErr, IsSomeAnd, string_bytes};
-ghost use Rattle.std.specs.Option.{option_map};
 ghost use Rattle.pliron_text.specs.LocationsText.{located_cause, located_error};
 ghost use Rattle.pliron_text.specs.declared.printable.refusal.Refusal.TheVariants as refusal;
 
@@ -8,9 +7,11 @@ use crate::location::print::fmt_known;
 use crate::printable::state::State;
 use crate::printable::{Printable, Refusal};
 use irtext_base::base::Context;
-pub use irtext_base::result::{Cause, Error, ErrorKind, Expected, Result};
+pub use irtext_base::result::{Cause, Error, ErrorKind, Expected, Result, StringError};
 use irtext_base::text::{AttrText, IrText};
 use std::fmt;
+
+mod macros;
 
 /// Appends an error's text behind its location, where that is known; an inner error is printed so too.
 #[cycle(error)]
@@ -40,10 +41,28 @@ fn fmt_cause<A>(cause: &Cause<A>, f: &mut String) -> std::result::Result<(), Ref
 }
 
 impl<T: IrText<A>, A: AttrText, U> Printable<U, T, A> for Error<A> {
-    ghost gives = { λ error _ s. option_map (λ text. (text, s)) (located_error error) };
+    ghost use Rattle.pliron_text.specs.Printed.{given_of};
+
+    ghost gives = { λ error _ s. given_of error s };
 
     fn fmt(&self, _ctx: &Context<T, A>, _state: &mut State<U>, f: &mut String) -> fmt::Result {
         fmt_error(self, f)?;
         Ok(())
+    }
+}
+
+/// A value prints as itself, and an error as an error.
+impl<X: Printable<U, T, A>, T: IrText<A>, A: AttrText, U> Printable<U, T, A> for Result<X, A> {
+    ghost use Rattle.pliron_text.specs.Printed.{can_be, given};
+
+    ghost can_print = { can_be X.can_print };
+
+    ghost gives = { given X.gives };
+
+    fn fmt(&self, ctx: &Context<T, A>, state: &mut State<U>, f: &mut String) -> fmt::Result {
+        match self {
+            Ok(value) => value.fmt(ctx, state, f),
+            Err(error) => error.fmt(ctx, state, f),
+        }
     }
 }
