@@ -6,6 +6,8 @@
 mod contexts;
 pub mod definitions;
 #[cfg(test)]
+mod errors;
+#[cfg(test)]
 mod formats;
 #[cfg(test)]
 mod numbers;
