@@ -28,6 +28,7 @@ use Rattle.irtext_base.specs.declared.location.Location.{Location, SrcPos, Unkno
 use Rattle.irtext_base.specs.declared.location.Source.TheVariants.{InMemory, File}
 use Rattle.pliron_text.specs.LocationsText.{location_text, known_text}
 use Rattle.pliron_text.specs.PrintedModule.{printing, levels, region_text, entry_text, symbol_at, symbol_of, mark_text, gathered_at}
+use Rattle.pliron_text.specs.ConcreteText.{concrete_of}
 use Rattle.pliron_text.specs.Section.{text}
 use Rattle.pliron_text.specs.Shown.{Shown}
 use Rattle.pliron_text.specs.Tree.{ident}
@@ -58,14 +59,22 @@ abbrev pub plain_section : Option Text → Text
 plain_section None = []
 plain_section (Some location) = codes "\n\noutlined_attributes:\n" ++ (entry_text 0 (Some location) ++ [])
 
+-- what stands in front of the module's region
+abbrev pub plain_header : Text → Text
+plain_header name = (codes "builtin" ++ (codes "." ++ codes "module")) ++ (codes " @" ++ (name ++ codes " "))
+
 -- the module's text
 abbrev pub plain_text : {U : Type 0} → Text → Shown U → Option Text → Text
-plain_text name s location = ((codes "builtin" ++ (codes "." ++ codes "module")) ++ (codes " @" ++ (name ++ codes " "))) ++ (region_text s ++ plain_mark location) ++ plain_section location
+plain_text name s location = plain_header name ++ (region_text s ++ plain_mark location) ++ plain_section location
 
 -- a header, a name, a region, a mark and a section, as they stand in the definitions and as they are written
 shape : (header name braces mark section section' : Text) → section ≡ section'
     → ((header ++ (name ++ (codes " " ++ (braces ++ [])))) ++ mark) ++ section ≡ ((header ++ (name ++ codes " ")) ++ (braces ++ mark)) ++ section'
 shape header name braces mark section section' e = ap (λ z. ((header ++ (name ++ (codes " " ++ (braces ++ [])))) ++ mark) ++ z) e ∙ simp (append_assoc, append-nil)
+
+-- a header, a name and a region, as they stand in the definitions and as they are written
+concrete-shape : (header name braces : Text) → header ++ (name ++ (codes " " ++ (braces ++ []))) ≡ (header ++ (name ++ codes " ")) ++ braces
+concrete-shape header name braces = simp (append_assoc, append-nil)
 
 -- a value is known by what it is put in
 same_some : {X : Type 0} (x y : X) → Some x ≡ Some y → x ≡ y
@@ -79,6 +88,12 @@ module _ {T A U : Type 0} (L : Language ⊤ T A) (outlined once : A → Bool) (s
   -- the text by the definitions
   abbrev pub defined : RegionPrintDepthLimit → Option Text → Text
   defined limit location = text L (printing {T = T} outlined once same) (module_graph name location) indent width (levels limit)
+
+  -- the concrete text by the definitions
+  pub concrete-plain : (location : Option Text) (limit : RegionPrintDepthLimit) → concrete_of L (printing {T = T} outlined once same) (module_graph name location) indent width (levels limit) ≡ plain_header name ++ region_text (at limit)
+  concrete-plain location Unlimited = concrete-shape (codes "builtin.module @") name (region_text (at Unlimited))
+  concrete-plain location (Max zero) = concrete-shape (codes "builtin.module @") name (codes "{..}")
+  concrete-plain location (Max (suc n)) = concrete-shape (codes "builtin.module @") name (region_text (at Unlimited))
 
   section-plain : (l : Text) → codes "\n\noutlined_attributes:\n" ++ (entry_text 0 (Some l) ++ [] ++ []) ≡ plain_section (Some l)
   section-plain l = ap (λ z. codes "\n\noutlined_attributes:\n" ++ z) (append-nil (entry_text 0 (Some l) ++ []))
@@ -150,28 +165,35 @@ known {A = A} p (SrcPos InMemory place) l e = subst (λ z. Known {A = A} p (SrcP
 known p (SrcPos (File key) at) l e = absurd (none-some l e)
 known p _ l e = absurd (none-some l e)
 
+-- each piece of it is ASCII
+ascii-newline : (k : ℕ) → IsAscii (newline k)
+ascii-newline k = IsAscii-append (codes "\n") (replicate k 32) (ascii-from (codes "\n") refl) (spaces-ascii k)
+
+ascii-shown : (i j : ℕ) → IsAscii (newline i ++ (codes "{" ++ (newline j ++ (newline i ++ codes "}"))))
+ascii-shown i j = IsAscii-append (newline i) (codes "{" ++ (newline j ++ (newline i ++ codes "}"))) (ascii-newline i)
+    (IsAscii-append (codes "{") (newline j ++ (newline i ++ codes "}")) (ascii-from (codes "{") refl)
+    (IsAscii-append (newline j) (newline i ++ codes "}") (ascii-newline j) (IsAscii-append (newline i) (codes "}") (ascii-newline i) (ascii-from (codes "}") refl))))
+
+ascii-region : {U : Type 0} (s : Shown U) (limit : RegionPrintDepthLimit) → IsAscii (region_text (record s { limit = limit }))
+ascii-region s Unlimited = ascii-shown s.indent (s.indent + s.width)
+ascii-region s (Max zero) = ascii-from (codes "{..}") refl
+ascii-region s (Max (suc n)) = ascii-shown s.indent (s.indent + s.width)
+
+ascii-header : (name : Text) → IsAscii name → IsAscii (plain_header name)
+ascii-header name n = IsAscii-append (codes "builtin.module @") (name ++ codes " ") (ascii-from (codes "builtin.module @") refl) (IsAscii-append name (codes " ") n (ascii-from (codes " ") refl))
+
+-- the concrete text is ASCII
+pub ascii-concrete : {U : Type 0} (name : Text) (s : Shown U) → IsAscii name → IsAscii (plain_header name ++ region_text s)
+ascii-concrete name s n = IsAscii-append (plain_header name) (region_text s) (ascii-header name n) (ascii-region s s.limit)
+
 -- the module's text is ASCII
 pub ascii-plain : {U : Type 0} (name : Text) (s : Shown U) (l : Option Text) → IsAscii name → IfSome l IsAscii → IsAscii (plain_text name s l)
 ascii-plain name s l n a =
-    IsAscii-append ((codes "builtin.module @" ++ (name ++ codes " ")) ++ (region_text s ++ plain_mark l)) (plain_section l)
-    (IsAscii-append (codes "builtin.module @" ++ (name ++ codes " ")) (region_text s ++ plain_mark l)
-    (IsAscii-append (codes "builtin.module @") (name ++ codes " ") (ascii-from (codes "builtin.module @") refl) (IsAscii-append name (codes " ") n (ascii-from (codes " ") refl)))
+    IsAscii-append (plain_header name ++ (region_text s ++ plain_mark l)) (plain_section l)
+    (IsAscii-append (plain_header name) (region_text s ++ plain_mark l) (ascii-header name n)
     (IsAscii-append (region_text s) (plain_mark l) (ascii-region s s.limit) (ascii-mark l)))
     (ascii-section l a)
   where
-    ascii-newline : (k : ℕ) → IsAscii (newline k)
-    ascii-newline k = IsAscii-append (codes "\n") (replicate k 32) (ascii-from (codes "\n") refl) (spaces-ascii k)
-
-    ascii-shown : (i j : ℕ) → IsAscii (newline i ++ (codes "{" ++ (newline j ++ (newline i ++ codes "}"))))
-    ascii-shown i j = IsAscii-append (newline i) (codes "{" ++ (newline j ++ (newline i ++ codes "}"))) (ascii-newline i)
-        (IsAscii-append (codes "{") (newline j ++ (newline i ++ codes "}")) (ascii-from (codes "{") refl)
-        (IsAscii-append (newline j) (newline i ++ codes "}") (ascii-newline j) (IsAscii-append (newline i) (codes "}") (ascii-newline i) (ascii-from (codes "}") refl))))
-
-    ascii-region : {U : Type 0} (s : Shown U) (limit : RegionPrintDepthLimit) → IsAscii (region_text (record s { limit = limit }))
-    ascii-region s Unlimited = ascii-shown s.indent (s.indent + s.width)
-    ascii-region s (Max zero) = ascii-from (codes "{..}") refl
-    ascii-region s (Max (suc n)) = ascii-shown s.indent (s.indent + s.width)
-
     ascii-mark : (l : Option Text) → IsAscii (plain_mark l)
     ascii-mark None = IsAscii-nil
     ascii-mark (Some l) = IsAscii-append (codes " !") (decimal 0) (ascii-from (codes " !") refl) (IsAscii-decimal 0 (omega arith))

@@ -1,5 +1,6 @@
 -- What printing appends for an operation is what the definitions say, where they say something.
-use Rattle.std.proofs.Common.{◌≡◌, ◌++◌, ◌∙◌, ◌&&◌, ◌==◌, cond, ℕ, List, [], ◌∷◌, Bool, true, false, refl, sym, ap, subst, Option, Some, None, length, is_some, IsSomeAnd, IfSome, IsTrue, codes}
+use Rattle.std.proofs.lemmas.List.{append_assoc}
+use Rattle.std.proofs.Common.{◌≢◌, arith, ◌≡◌, ◌++◌, ◌∙◌, ◌&&◌, ◌==◌, cond, ℕ, List, [], ◌∷◌, Bool, true, false, refl, sym, ap, subst, Option, Some, None, length, is_some, unwrap_or, IsSomeAnd, IfSome, IsTrue, codes}
 use Rattle.std.specs.Prelude.{⊤}
 use Rattle.std.specs.Option.{option_map, option_and_then}
 use Rattle.std.specs.Str.{IsAscii, encode_utf8_all}
@@ -16,16 +17,22 @@ use Rattle.irtext_base.specs.declared.base.attributes.AttrObj.{AttrObj}
 use Rattle.irtext_base.specs.declared.base.attributes.AttrObj.TheVariants.{Ident}
 use Rattle.irtext_base.specs.declared.base.operation.Operation.{Operation}
 use Rattle.pliron_text.proofs.Ascii.{encodes-ascii, ascii-identifier}
-use Rattle.pliron_text.proofs.ModulesText.{same_text-is, module_graph, plain_mark, plain_section, plain_text, plain_gathered, text-plain, cond-some, one, none, there, symbol_of-some, known, ascii-plain}
+use Rattle.pliron_text.proofs.ModulesText.{same_text-is, module_graph, plain_header, concrete-plain, ascii-concrete, plain_mark, plain_section, plain_text, plain_gathered, text-plain, cond-some, one, none, there, symbol_of-some, known, ascii-plain}
 use Rattle.pliron_text.specs.Graph.{Graph}
 use Rattle.pliron_text.specs.LocationsText.{location_text, known_text}
 use Rattle.pliron_text.specs.Modules.{is_module, module_id}
-use Rattle.pliron_text.specs.PrintedModule.{printing, printed, levels, module_symbol, symbol_of, header_text, region_text, mark_text, gathered_at, both, entry_at, entry_text, section_text, root_text}
-use Rattle.pliron_text.specs.Printing.{with_gathered}
+use Rattle.pliron_text.specs.PrintedModule.{printing, printed, levels, module_symbol, symbol_of, header_text, region_text, mark_text, gathered_at, both, entry_at, entry_text, section_text, root_text, concrete_text, RefusesConcrete, Refuses}
+use Rattle.pliron_text.specs.ConcreteText.{concrete_of, printed_concrete, debugging, debug_text}
+use Rattle.pliron_text.specs.Printing.{gathered_of, with_gathered}
+use Rattle.irtext_base.specs.declared.location.Location.{Location}
+use Rattle.pliron_text.proofs.PrintedModules.{both-all}
+use Rattle.pliron_text.specs.declared.printable.refusal.Refusal.{Refusal}
+use Rattle.pliron_text.specs.declared.printable.refusal.Refusal.TheVariants as refusal
+use Rattle.pliron_text.specs.declared.printable.refusal.Refusal.TheVariants.{Memory, Depth, Misfit}
 use Rattle.pliron_text.specs.Section.{text}
 use Rattle.pliron_text.specs.Shown.{Shown}
 use Rattle.pliron_text.specs.Stands.{graph_at, entries_of, empty_regions}
-use Rattle.pliron_text.specs.Written.{Writes, Appends}
+use Rattle.pliron_text.specs.Written.{Writes, Appends, text_of}
 use Rattle.irtext_base.specs.Format.{same_text}
 
 -- a claim under a test, of the entries of an empty list, and of a value that may be there
@@ -52,6 +59,10 @@ module _ {T A U : Type 0} (L : Language ⊤ T A) (outlined once : A → Bool) (s
   abbrev pub made : Graph T A → List ℕ × Shown U
   made g = (encode_utf8_all (text L (printing {T = T} outlined once same) g s.indent s.width (levels s.limit)), s)
 
+  -- a concrete text, as the definitions have it
+  abbrev pub concrete_made : Graph T A → List ℕ × Shown U
+  concrete_made g = (encode_utf8_all (concrete_of L (printing {T = T} outlined once same) g s.indent s.width (levels s.limit)), s)
+
   -- the section of this operation alone
   section-is : (l : Option Text) → operation ctx p ≡ Some op → known_text op.loc ≡ Some l → section_text ctx (plain_gathered l p) ≡ Some (plain_section l)
   section-is None o k = refl
@@ -59,8 +70,8 @@ module _ {T A U : Type 0} (L : Language ⊤ T A) (outlined once : A → Bool) (s
       let entry : entry_at ctx 0 p ≡ Some (entry_text 0 (Some l)) = ap (λ z. elim z [ None ↦ Some [] | Some op ↦ option_map (entry_text 0) (known_text op.loc) ]) o ∙ ap (option_map (entry_text 0)) k in
       ap (λ z. both (Some (codes "\n\noutlined_attributes:\n")) (both z (Some []))) entry
 
-  -- a module that has a name, and a location that is printed
-  module _ (name : Text) (l : Option Text) (o : operation ctx p ≡ Some op) (fits : module_symbol op ≡ Some name) (nothing : s.gathered ≡ []) (k : known_text op.loc ≡ Some l) where
+  -- a module that has a name
+  module _ (name : Text) (fits : module_symbol op ≡ Some name) where
     parts : ((is_module (id_of op.id) && (length op.regions == 1)) ≡ true) × (symbol_of op.attributes ≡ Some name)
     parts = cond-some (is_module (id_of op.id) && (length op.regions == 1)) (symbol_of op.attributes) name fits
 
@@ -70,27 +81,45 @@ module _ {T A U : Type 0} (L : Language ⊤ T A) (outlined once : A → Bool) (s
         ap (λ z. record { dialect = z; name = op.id.name }) (same_text-is op.id.dialect module_id.dialect (and_left (same_text op.id.dialect module_id.dialect) (same_text op.id.name module_id.name) is))
         ∙ ap (λ z. record { dialect = module_id.dialect; name = z }) (same_text-is op.id.name module_id.name (and_right (same_text op.id.dialect module_id.dialect) (same_text op.id.name module_id.name) is))
 
-    graph-is : graph_at op l ≡ module_graph name l
-    graph-is =
+    graph-is : (l : Option Text) → graph_at op l ≡ module_graph name l
+    graph-is l =
         let r = one op.regions (and_right (is_module (id_of op.id)) (length op.regions == 1) parts.0) in
         let make : Id → List (Text × AttrObj A) → List (Ptr Region) → Graph T A = λ id es rs. record { own = record { id = id; results = []; operands = []; successors = []; attributes = entries_of es; location = l }; regions = empty_regions rs } in
         ap (λ z. make z op.attributes op.regions) module-id ∙ ap (λ z. make module_id z op.regions) (symbol_of-some name op.attributes parts.1) ∙ ap (λ z. make module_id ((sym_name_key, Ident name) ∷ []) z) r.1
 
+    concrete-is : concrete_text op s ≡ Some (plain_header name ++ region_text s)
+    concrete-is =
+        let header : id_text op.id ≡ codes "builtin" ++ (codes "." ++ codes "module") = ap (λ i. i.dialect ++ (codes "." ++ i.name)) module-id in
+        ap (option_map (λ symbol. header_text op.id symbol ++ region_text s)) fits
+        ∙ ap (λ z. Some ((z ++ (codes " @" ++ (name ++ codes " "))) ++ region_text s)) header
+
+  -- the concrete text, where the operation has a name
+  module _ (name : Text) (fits : module_symbol op ≡ Some name) where
+    pub appends-concrete : IsTrue (is_identifier name) → IsSomeAnd (concrete_text op s) (λ t. new ≡ old ++ t) → after ≡ s → Appends (concrete_made (graph_at op None)) after old new
+    appends-concrete identifier written left =
+        let plain : new ≡ old ++ (plain_header name ++ region_text s) = subst (λ z. IsSomeAnd z (λ t. new ≡ old ++ t)) (concrete-is name fits) written in
+        let defined : concrete_of L (printing {T = T} outlined once same) (graph_at op None) s.indent s.width (levels s.limit) ≡ plain_header name ++ region_text s
+        = ap (λ g. concrete_of L (printing {T = T} outlined once same) g s.indent s.width (levels s.limit)) (graph-is name fits None) ∙ concrete-plain L outlined once same name s.width s.indent s.gathered s.aux None s.limit in
+        let bytes : encode_utf8_all (concrete_of L (printing {T = T} outlined once same) (graph_at op None) s.indent s.width (levels s.limit)) ≡ plain_header name ++ region_text s
+        = ap encode_utf8_all defined ∙ encodes-ascii (plain_header name ++ region_text s) (ascii-concrete name s (ascii-identifier name identifier)) in
+        record { text = plain ∙ ap (λ z. old ++ z) (sym bytes); state = left }
+
+  -- a module that has a name, and a location that is printed
+  module _ (name : Text) (l : Option Text) (o : operation ctx p ≡ Some op) (fits : module_symbol op ≡ Some name) (nothing : s.gathered ≡ []) (k : known_text op.loc ≡ Some l) where
     root-is : root_text ctx p op s ≡ Some (plain_text name s l)
     root-is =
         let is = known p op.loc l k in
-        let header : id_text op.id ≡ codes "builtin" ++ (codes "." ++ codes "module") = ap (λ i. i.dialect ++ (codes "." ++ i.name)) module-id in
         let section : section_text ctx (s.gathered ++ gathered_at op.loc p) ≡ Some (plain_section l) = ap (λ z. section_text ctx (z ++ gathered_at op.loc p)) nothing ∙ ap (section_text ctx) is.gathered ∙ section-is l o k in
         let mark : mark_text op.loc (length s.gathered) ≡ plain_mark l = ap (λ z. mark_text op.loc (length z)) nothing ∙ is.mark in
-        ap (λ z. option_and_then (λ symbol. both (Some (header_text op.id symbol ++ (region_text s ++ mark_text op.loc (length s.gathered)))) (section_text ctx (s.gathered ++ gathered_at op.loc p))) z) fits
-        ∙ ap (λ z. both (Some (header_text op.id name ++ (region_text s ++ mark_text op.loc (length s.gathered)))) z) section
-        ∙ ap (λ z. Some (((z ++ (codes " @" ++ (name ++ codes " "))) ++ (region_text s ++ mark_text op.loc (length s.gathered))) ++ plain_section l)) header
-        ∙ ap (λ z. Some ((((codes "builtin" ++ (codes "." ++ codes "module")) ++ (codes " @" ++ (name ++ codes " "))) ++ (region_text s ++ z)) ++ plain_section l)) mark
+        ap (λ z. both (both z (Some (mark_text op.loc (length s.gathered)))) (section_text ctx (s.gathered ++ gathered_at op.loc p))) (concrete-is name fits)
+        ∙ ap (λ z. both (Some ((plain_header name ++ region_text s) ++ mark_text op.loc (length s.gathered))) z) section
+        ∙ ap (λ z. Some (((plain_header name ++ region_text s) ++ z) ++ plain_section l)) mark
+        ∙ ap (λ z. Some (z ++ plain_section l)) (append_assoc (plain_header name) (region_text s) (plain_mark l))
 
     pub appends : IsTrue (is_identifier name) → (IfSome (location_text op.loc) IsAscii) → IsSomeAnd (root_text ctx p op s) (λ t. new ≡ old ++ t) → after ≡ with_gathered s [] → Appends (made (graph_at op l)) after old new
     appends identifier ascii written left =
         let defined : text L (printing {T = T} outlined once same) (graph_at op l) s.indent s.width (levels s.limit) ≡ plain_text name s l
-        = ap (λ g. text L (printing {T = T} outlined once same) g s.indent s.width (levels s.limit)) graph-is ∙ text-plain L outlined once same name s.width s.indent s.gathered s.aux s.limit l in
+        = ap (λ g. text L (printing {T = T} outlined once same) g s.indent s.width (levels s.limit)) (graph-is name fits l) ∙ text-plain L outlined once same name s.width s.indent s.gathered s.aux s.limit l in
         let bytes : encode_utf8_all (text L (printing {T = T} outlined once same) (graph_at op l) s.indent s.width (levels s.limit)) ≡ plain_text name s l
         = ap encode_utf8_all defined ∙ encodes-ascii (plain_text name s l) (ascii-plain name s l (ascii-identifier name identifier) ((known p op.loc l k).ascii ascii)) in
         let plain : new ≡ old ++ plain_text name s l = subst (λ z. IsSomeAnd z (λ t. new ≡ old ++ t)) root-is written in
@@ -109,3 +138,52 @@ module _ {T A U : Type 0} (L : Language ⊤ T A) (outlined once : A → Bool) (s
       (writes-some made (graph_at op) (known_text op.loc) after old new (λ l k.
       appends n.0 l o n.1 (none s.gathered (and_right (is_some (module_symbol op)) (length s.gathered == 0) holds)) k (held (λ name. IsTrue (is_identifier name)) (module_symbol op) n.0 n.1 identifier) ascii written left))) in
       subst claim (sym o) main
+
+  -- the claim on the concrete text, where the operation stands
+  pub writes-concrete : operation ctx p ≡ Some op → IfSome (module_symbol op) (λ name. IsTrue (is_identifier name)) → IsSomeAnd (concrete_text op s) (λ t. new ≡ old ++ t) → after ≡ s
+      → Writes (printed_concrete L (printing {T = T} outlined once same) ctx p s) after old new
+  writes-concrete o identifier written left =
+      let claim : Option (OperationView T A) → Type 0 = λ z. Writes (cond (is_some (option_and_then module_symbol z)) (option_map concrete_made (option_and_then (λ v. elim v.result_types [ [] ↦ Some (graph_at v None) | _ ∷ _ ↦ None ]) z)) None) after old new in
+      let main : claim (Some op) =
+      writes-cond (is_some (module_symbol op)) _ after old new (λ holds.
+      let n = there (module_symbol op) holds in
+      writes-empty concrete_made op.result_types (Some (graph_at op None)) after old new
+      (appends-concrete n.0 n.1 (held (λ name. IsTrue (is_identifier name)) (module_symbol op) n.0 n.1 identifier) written left)) in
+      subst claim (sym o) main
+
+-- the claim on the concrete text with its regions elided
+pub writes-debug : {T A : Type 0} (L : Language ⊤ T A) (outlined once : A → Bool) (same : A → A → Bool) (ctx : ContextView T A) (p : Ptr Operation) (op : OperationView T A) (old new : List ℕ)
+    → operation ctx p ≡ Some op → IfSome (module_symbol op) (λ name. IsTrue (is_identifier name)) → IsSomeAnd (concrete_text op debugging) (λ t. new ≡ old ++ t)
+    → IfSome (debug_text L (printing {T = T} outlined once same) ctx p) (λ t. new ≡ old ++ t)
+writes-debug {T = T} L outlined once same ctx p op old new o identifier written =
+    alone (printed_concrete L (printing {T = T} outlined once same) ctx p debugging) (writes-concrete L outlined once same ctx p op debugging debugging old new o identifier written refl)
+  where
+    alone : (claim : Option (List ℕ × Shown (Unit {0}))) → Writes claim debugging old new → IfSome (text_of claim) (λ t. new ≡ old ++ t)
+    alone None w = tt
+    alone (Some x) w = w.text
+
+-- a concrete text, a mark and a section, one behind the other
+pub root-appended : {T A U : Type 0} (ctx : ContextView T A) (p : Ptr Operation) (op : OperationView T A) (location : Location A) (s first second : Shown U) (old now then new : List ℕ)
+    → operation ctx p ≡ Some op → option_map (λ o. o.loc) (operation ctx p) ≡ Some location → first ≡ s → second ≡ with_gathered first (first.gathered ++ gathered_at location p)
+    → IsSomeAnd (concrete_text op s) (λ t. now ≡ old ++ t) → then ≡ now ++ mark_text location (length first.gathered)
+    → IsSomeAnd (section_text ctx second.gathered) (λ t. new ≡ then ++ t) → IsSomeAnd (root_text ctx p op s) (λ t. new ≡ old ++ t)
+root-appended ctx p op location s first second old now then new o at kept gathered concrete mark section =
+    let located : location ≡ op.loc = ap (λ z. unwrap_or z location) (sym at ∙ ap (option_map (λ z. z.loc)) o) in
+    let gathers : second.gathered ≡ s.gathered ++ gathered_at op.loc p = ap gathered_of gathered ∙ ap (λ z. z.gathered ++ gathered_at location p) kept ∙ ap (λ l. s.gathered ++ gathered_at l p) located in
+    let marks : then ≡ now ++ mark_text op.loc (length s.gathered) = mark ∙ ap (λ z. now ++ mark_text location (length z.gathered)) kept ∙ ap (λ l. now ++ mark_text l (length s.gathered)) located in
+    both-all (both (concrete_text op s) (Some (mark_text op.loc (length s.gathered)))) (section_text ctx (s.gathered ++ gathered_at op.loc p)) old then new
+    (both-all (concrete_text op s) (Some (mark_text op.loc (length s.gathered))) old now then concrete marks) (subst (λ z. IsSomeAnd (section_text ctx z) (λ t. new ≡ then ++ t)) gathers section)
+
+-- why the text is refused whose concrete text is
+pub refuses-root : {T A U : Type 0} (ctx : ContextView T A) (p : Ptr Operation) (op : OperationView T A) (s : Shown U) (why : Refusal) → RefusesConcrete op s why → Refuses ctx p op s why
+refuses-root ctx p op s Memory r = tt
+refuses-root ctx p op s Depth r = r
+refuses-root ctx p op s Misfit r = r
+refuses-root ctx p op s refusal.Location r = absurd r
+
+-- two spaces are never too deep an indentation
+pub refuses-debugging : {T A : Type 0} (op : OperationView T A) (why : Refusal) → RefusesConcrete op debugging why → why ≢ Memory → (why ≡ Misfit) × (module_symbol op ≡ None)
+refuses-debugging op Memory r other = absurd (other refl)
+refuses-debugging op Depth r other = absurd (omega (arith, r))
+refuses-debugging op Misfit r other = (refl, r)
+refuses-debugging op refusal.Location r other = absurd r

@@ -39,6 +39,7 @@ pub mod Printing
 pub mod Written
 pub mod Shows
 pub mod PrintedModule
+pub mod ConcreteText
 pub mod LocationsText
 pub mod Modules
 pub mod LocationText

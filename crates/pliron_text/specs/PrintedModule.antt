@@ -56,6 +56,18 @@ region_text s = elim (lowered s.limit) [
   | Some _ ↦ newline s.indent ++ (codes "{" ++ (newline (s.indent + s.width) ++ (newline s.indent ++ codes "}")))
 ]
 
+module _ {T A U : Type 0} (op : OperationView T A) (s : Shown U) where
+  -- the concrete text of an operation: what is written of it in front of its mark
+  abbrev pub concrete_text : Option Text
+  concrete_text = option_map (λ symbol. header_text op.id symbol ++ region_text s) (module_symbol op)
+
+  -- what a refusal of the concrete text says: memory may be refused at any time, but all else only for this reason
+  abbrev pub RefusesConcrete : Refusal → Type 0
+  RefusesConcrete Memory = ⊤
+  RefusesConcrete Depth = 2 ^ 16 ≤ s.indent + s.width
+  RefusesConcrete Misfit = module_symbol op ≡ None
+  RefusesConcrete refusal.Location = ⊥
+
 module _ {A : Type 0} where
   -- the mark behind an operation whose location is known
   abbrev pub mark_text : Location A → ℕ → Text
@@ -91,11 +103,9 @@ module _ {T A : Type 0} (ctx : ContextView T A) where
   section_text (p ∷ ps) = both (Some (codes "\n\noutlined_attributes:\n")) (entries_from 0 (p ∷ ps))
 
   module _ {U : Type 0} (p : Ptr Operation) (op : OperationView T A) (s : Shown U) where
-    -- the text of an operation, with the section of all that was gathered
+    -- the text of an operation: its concrete text, its mark, and the section of all that was gathered
     abbrev pub root_text : Option Text
-    root_text = option_and_then (λ symbol.
-        both (Some (header_text op.id symbol ++ (region_text s ++ mark_text op.loc (length s.gathered)))) (section_text (s.gathered ++ gathered_at op.loc p)))
-        (module_symbol op)
+    root_text = both (both (concrete_text op s) (Some (mark_text op.loc (length s.gathered)))) (section_text (s.gathered ++ gathered_at op.loc p))
 
     -- what a refusal says: memory may be refused at any time, but all else only for this reason
     abbrev pub Refuses : Refusal → Type 0

@@ -1,127 +1,28 @@
 //! Printing of roots.
-ghost use Rattle.std.specs.Prelude.{◌≡◌, ◌≢◌, ◌+◌, ◌<◌, ◌≤◌, ◌^◌, ◌++◌, ◌∷◌, [], ◌⊎◌, Some, None, OnOk, IfErr, IsSome, IsSomeAnd, IfSome, IsTrue, option_copied, string_bytes, length};
+ghost use Rattle.std.specs.Prelude.{◌≡◌, ◌≢◌, ◌<◌, ◌^◌, ◌++◌, [], Some, None, OnOk, IfErr, IsSome, IsSomeAnd, IfSome, IsTrue, string_bytes, length};
 ghost use Rattle.std.specs.Str.{IsAscii};
 ghost use Rattle.std.specs.Int.Signed.{mag};
 ghost use Rattle.irtext_base.specs.Context.{OperationView, operation};
-ghost use Rattle.irtext_base.specs.Faults.{id_of};
 ghost use Rattle.irtext_base.specs.Own.{texts_of, unplaced};
 ghost use Rattle.irtext_base.specs.Text.{is_identifier};
 ghost use Rattle.pliron_text.specs.LocationsText.{place_text, location_text, known_text};
 ghost use Rattle.pliron_text.specs.Modules as modules;
 ghost use Rattle.pliron_text.specs.PrintedModule as printed;
-ghost use Rattle.pliron_text.specs.Printing.{width_of, indent_of, gathered_of, with_gathered};
-ghost use Rattle.pliron_text.specs.Spell.{newline};
+ghost use Rattle.pliron_text.specs.Printing.{gathered_of, with_gathered};
 ghost use Rattle.pliron_text.specs.declared.printable.refusal.Refusal.TheVariants as refusal;
 
+use crate::ir::print::concrete::fmt_concrete;
 use crate::location::print::fmt_known;
 use crate::printable::state::State;
-use crate::printable::{Printable, Refusal, fmt_indented_newline};
-use irtext_base::base::{AttrObj, AttributeDict, Context, Identifier, OpId, Operation, Ptr};
+use crate::printable::{Printable, Refusal};
+use irtext_base::base::{Context, Operation, Ptr};
 use irtext_base::location::{Location, Source};
 use irtext_base::parsable::SourcePosition;
 use irtext_base::text::{AttrText, IrText};
 use std::fmt;
 
-/// The symbol's name, where this is its entry.
-fn symbol_at<'a, A>(key: &Identifier, attribute: &'a AttrObj<A>) -> Option<&'a Identifier>
-    ensures { option_copied result ≡ printed.symbol_at key.now attribute.now }
-{
-    match attribute {
-        AttrObj::Ident(symbol) => {
-            if key.as_str() == "builtin_sym_name" {
-                Some(symbol)
-            } else {
-                None
-            }
-        }
-        _ => None,
-    }
-}
-
-/// The symbol's name, where it is all that a dictionary holds.
-fn symbol_of<A: Drop>(attributes: &AttributeDict<A>) -> Option<&Identifier>
-    ensures { option_copied result ≡ printed.symbol_of attributes.now }
-{
-    if attributes.len() != 1 {
-        return None;
-    }
-    let (key, attribute) = attributes.get_index(0)?;
-    symbol_at(key, attribute)
-}
-
-/// Whether an id is the module's.
-fn is_module(id: &OpId) -> bool
-    ensures { result ≡ modules.is_module (id_of id.now) }
-{
-    id.dialect.as_str() == "builtin" && id.name.as_str() == "module"
-}
-
-/// The symbol's name of an operation that fits the module's format: a module with one region, and nothing but the name
-/// in its dictionary.
-fn module_symbol<T: IrText<A>, A: AttrText>(
-    ctx: &Context<T, A>,
-    op: Ptr<Operation>,
-) -> Option<&Identifier>
-    requires { IsSome (operation ctx.now op) }
-    ensures { (view : OperationView T A) → operation ctx.now op ≡ Some view → option_copied result ≡ printed.module_symbol view }
-{
-    if !is_module(op.get_opid(ctx)) || op.num_regions(ctx) != 1 {
-        return None;
-    }
-    symbol_of(op.attributes(ctx))
-}
-
-/// Appends what stands in front of a module's region.
-fn fmt_header(id: &OpId, symbol: &Identifier, f: &mut String) -> Result<(), Refusal>
-    ensures text { OnOk result (string_bytes f.new ≡ string_bytes f.old ++ printed.header_text id.now symbol.now) }
-    ensures name { IsTrue (is_identifier symbol.now) }
-    ensures refused { IfErr result (λ e. e ≡ refusal.Memory) }
-{
-    let symbol = symbol.as_str();
-    write!(f, "{id} @{symbol} ")?;
-    Ok(())
-}
-
-/// Appends a newline and the indentation.
-fn fmt_newline<U>(state: &State<U>, f: &mut String) -> Result<(), Refusal>
-    ensures text { OnOk result (string_bytes f.new ≡ string_bytes f.old ++ newline (indent_of state.now)) }
-    ensures refused { IfErr result (λ e. e ≡ refusal.Memory) }
-{
-    match fmt_indented_newline(state, f) {
-        Ok(()) => Ok(()),
-        Err(_) => Err(Refusal::Memory),
-    }
-}
-
-/// Appends what stands between the braces where there is no block.
-fn fmt_no_blocks<U>(state: &mut State<U>, f: &mut String) -> Result<(), Refusal>
-    ensures text { OnOk result (string_bytes f.new ≡ string_bytes f.old ++ newline (indent_of state.old + width_of state.old)) }
-    ensures state { state.new ≡ state.old }
-    ensures refused { IfErr result (λ e. e ≢ refusal.Memory → (e ≡ refusal.Depth) × (2 ^ 16 ≤ indent_of state.old + width_of state.old)) }
-{
-    let Ok(inside) = state.indent() else {
-        return Err(Refusal::Depth);
-    };
-    fmt_newline(inside.state, f)
-}
-
-/// Appends the text of a region without blocks.
-fn fmt_region<U>(state: &mut State<U>, f: &mut String) -> Result<(), Refusal>
-    ensures text { OnOk result (string_bytes f.new ≡ string_bytes f.old ++ printed.region_text state.old) }
-    ensures state { state.new ≡ state.old }
-    ensures refused { IfErr result (λ e. e ≢ refusal.Memory → (e ≡ refusal.Depth) × (2 ^ 16 ≤ indent_of state.old + width_of state.old)) }
-{
-    let Some(region) = state.enter_region() else {
-        f.push_str("{..}")?;
-        return Ok(());
-    };
-    fmt_newline(region.state, f)?;
-    f.push_str("{")?;
-    fmt_no_blocks(region.state, f)?;
-    fmt_newline(region.state, f)?;
-    f.push_str("}")?;
-    Ok(())
-}
+pub mod concrete;
+pub mod debug;
 
 /// Appends the mark of an operation whose location is known, and gathers the operation.
 fn fmt_mark<A, U>(
@@ -242,11 +143,7 @@ fn fmt_root<T: IrText<A>, A: AttrText, U>(
     ensures refused { (view : OperationView T A) → operation ctx.now op ≡ Some view → IfErr result (printed.Refuses ctx.now op view state.old) }
 {
     is_ascii(op.loc(ctx));
-    let Some(symbol) = module_symbol(ctx, op) else {
-        return Err(Refusal::Misfit);
-    };
-    fmt_header(op.get_opid(ctx), symbol, f)?;
-    fmt_region(state, f)?;
+    fmt_concrete(ctx, op, state, f)?;
     fmt_mark(op.loc(ctx), op, state, f)?;
     fmt_section(ctx, state, f)
 }

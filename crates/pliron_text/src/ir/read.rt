@@ -1,4 +1,4 @@
-//! Reading of roots.
+//! Reading of roots, and the calls of operations that are about text.
 ghost use Rattle.std.specs.Prelude.{◌≡◌, ◌≤◌, ◌⊎◌, ℕ, false, List, cond, None, ◌++◌, IsSome, IfOk, IfErr, OnOk, OnErr};
 ghost use Rattle.irtext_base.specs.Answers.{Takes, DemandsOf, Starves};
 ghost use Rattle.irtext_base.specs.Context.{operation, before, KeepsOlder, MakesOperation, AddsRegion};
@@ -14,10 +14,11 @@ ghost use Rattle.pliron_text.specs.Registered.{Registers, header_of};
 ghost use Rattle.pliron_text.specs.SectionRead.{ReadsWith, MissesWith};
 ghost use Rattle.pliron_text.specs.TopLevel.{IsFresh, BuildsRoot, RefusesRoot};
 
+use crate::ir::print::concrete::OpObj;
 use crate::irfmt::demanded::{identifier_demanded, index_demanded, text_demanded};
 use crate::irfmt::outlined::section_parse;
 use crate::parsable::{Parsable, out_of_memory};
-use irtext_base::base::{AttrObj, AttributeDict, Identifier, OpId, Operation, Ptr};
+use irtext_base::base::{AttrObj, AttributeDict, Context, Identifier, OpId, Operation, Ptr};
 use irtext_base::location::Location;
 use irtext_base::parsable::{CharStream, ParseResult, Place};
 use irtext_base::result::Cause;
@@ -310,7 +311,7 @@ fn outermost_parse<T: IrText<A>, A: AttrText, U>(
     }
 }
 
-/// Reading of roots.
+/// Calls of operations that are about their text.
 pub trait OperationText {
     /// Reads a root where the stream stands and, where it has a mark, the section behind it. What follows is not looked at, so
     /// roots can stand one behind the other on one stream.
@@ -329,6 +330,11 @@ pub trait OperationText {
         ensures unresolved { IsFresh stream.old → IfErr result (λ fault. (fault_of fault.cause ≡ Memory) ⊎ RefusesRoot (texts_of T.reading T.written) (texts_of A.reading A.written) stream.old.stream fault) }
         ensures objects { OnErr result (SameObjects stream.old.state.ctx.now stream.new.state.ctx.now) }
         ensures marks { OnErr result (marks_of stream.new.state ≡ marks_of stream.old.state) };
+
+    /// The operation as a plain value that prints its concrete text: its id and its pieces, without its mark and without a
+    /// section.
+    fn get_op_dyn<T: IrText<A>, A: AttrText>(op: Ptr<Operation>, ctx: &Context<T, A>) -> OpObj
+        ensures { result ≡ record { op = op } };
 }
 
 impl OperationText for Operation {
@@ -341,6 +347,10 @@ impl OperationText for Operation {
                 look_for_outlined_attrs: true,
             },
         )
+    }
+
+    fn get_op_dyn<T: IrText<A>, A: AttrText>(op: Ptr<Operation>, _ctx: &Context<T, A>) -> OpObj {
+        OpObj { op }
     }
 }
 
