@@ -1,9 +1,10 @@
 //! What the program does with its words, its input and its outputs.
-ghost use Rattle.std.specs.Prelude.{◌≤◌, ◌≡◌};
+ghost use Rattle.std.specs.Prelude.{◌≤◌, ◌≡◌, IsSome};
+ghost use Rattle.irtext_base.specs.Context.{operation};
 
 use irtext_types::{Note, Pointer};
-use pliron_text::base::{Context, Operation};
-use pliron_text::ir::OperationText;
+use pliron_text::base::{Context, Operation, Ptr};
+use pliron_text::ir::{OperationText, print_dbg};
 use pliron_text::parsable::parse_from_str;
 use pliron_text::printable::Disp;
 use pliron_text::result::Error;
@@ -41,6 +42,27 @@ impl Fault {
     }
 }
 
+/// How a root is written.
+#[derive(Clone, Copy)]
+enum Form {
+    /// With its mark and the section.
+    Whole,
+    /// By its concrete text, with its regions elided.
+    Elided,
+}
+
+/// The form that the program's words ask for.
+fn form_of(args: &[&str]) -> Result<Form, Fault> {
+    let [word] = args else {
+        return Err(Fault::Usage);
+    };
+    match *word {
+        "fmt" => Ok(Form::Whole),
+        "dbg" => Ok(Form::Elided),
+        _ => Err(Fault::Usage),
+    }
+}
+
 /// All that the reader has left, as text.
 fn read_text(alloc: Global, input: &mut impl Read) -> Result<String, Fault> {
     let mut bytes = Vec::new(alloc);
@@ -62,15 +84,33 @@ fn refusal(alloc: Global, ctx: &Context<Pointer, Note>, error: &Error<Note>) -> 
     }
 }
 
-/// The text of the root that `text` spells.
-fn formatted(alloc: Global, text: &str) -> Result<String, Fault> {
+/// Appends the root's text in this form.
+fn write_root(
+    ctx: &Context<Pointer, Note>,
+    root: Ptr<Operation>,
+    form: Form,
+    printed: &mut String,
+) -> fmt::Result
+    requires { IsSome (operation ctx.now root) }
+{
+    match form {
+        Form::Whole => {
+            write!(printed, "{}", root.disp(ctx))?;
+            Ok(())
+        }
+        Form::Elided => print_dbg(ctx, root, printed),
+    }
+}
+
+/// The text in this form of the root that `text` spells.
+fn formatted(alloc: Global, form: Form, text: &str) -> Result<String, Fault> {
     let mut ctx = Context::new(alloc);
     let root = match parse_from_str(|stream| Operation::top_level_parse(stream), &mut ctx, text) {
         Ok(root) => root,
         Err(error) => return Err(refusal(alloc, &ctx, &error)),
     };
     let mut printed = String::new(alloc);
-    match write!(printed, "{}", root.disp(&ctx)) {
+    match write_root(&ctx, root, form, &mut printed) {
         Ok(()) => Ok(printed),
         Err(_) => Err(refusal(alloc, &ctx, &Error::from(fmt::Error))),
     }
@@ -92,14 +132,9 @@ fn try_run(
     input: &mut impl Read,
     output: &mut impl Write,
 ) -> Result<(), Fault> {
-    let [word] = args else {
-        return Err(Fault::Usage);
-    };
-    if *word != "fmt" {
-        return Err(Fault::Usage);
-    }
+    let form = form_of(args)?;
     let text = read_text(alloc, input)?;
-    let printed = formatted(alloc, text.as_str())?;
+    let printed = formatted(alloc, form, text.as_str())?;
     write_line(output, printed.as_str()).map_err(|_| Fault::Unwritable)
 }
 

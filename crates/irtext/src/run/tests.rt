@@ -137,6 +137,33 @@ fn texts_of_no_root_are_refused(rt: HostRuntime) -> Result<(), Fail> {
     )
 }
 
+/// The same row under `irtext dbg`.
+fn elided<'a>(row: Row<'a>) -> Row<'a> {
+    Row {
+        words: &["dbg"],
+        ..row
+    }
+}
+
+#[test]
+fn regions_are_elided(rt: HostRuntime) -> Result<(), Fail> {
+    check(
+        &rt,
+        &[
+            elided(accepted(b"builtin.module @bar {}", b"builtin.module @bar {..}\n")),
+            elided(accepted(FIRST, b"builtin.module @m {..}\n")),
+            refused(
+                b"builtin.module @bar {..}\n",
+                b"[<in-memory>: line: 1, column: 22] Compilation error: invalid input program.\nParse error at line: 1, column: 22\nUnexpected `.`, expected `}`\n",
+            ),
+            elided(refused(
+                b"builtin.module @bar {..}\n",
+                b"[<in-memory>: line: 1, column: 22] Compilation error: invalid input program.\nParse error at line: 1, column: 22\nUnexpected `.`, expected `}`\n",
+            )),
+        ],
+    )
+}
+
 #[test]
 fn other_words_are_told_the_usage(rt: HostRuntime) -> Result<(), Fail> {
     check(
@@ -145,6 +172,7 @@ fn other_words_are_told_the_usage(rt: HostRuntime) -> Result<(), Fail> {
             unknown(&[]),
             unknown(&["show"]),
             unknown(&["fmt", "fmt"]),
+            unknown(&["dbg", "dbg"]),
             unknown(&["FMT"]),
             unknown(&[""]),
         ],
