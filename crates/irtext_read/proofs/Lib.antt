@@ -4,3 +4,7 @@ pub mod Numbers
 pub mod Words
 pub mod Spelling
 pub mod Numerals
+pub mod QuotedNumbers
+pub mod QuotedUnits
+pub mod QuotedSteps
+pub mod QuotedBack

@@ -2,4 +2,5 @@
 #![tactic(auto)]
 
 pub mod irfmt;
+pub mod laws;
 pub mod parsable;

@@ -9,6 +9,7 @@ pub mod integer;
 pub mod number;
 pub mod operation_id;
 pub mod truth;
+pub mod quoted;
 
 pub use class::{Class, skip_class, skip_white_space};
 pub use fixed_text::text_parse;
@@ -19,3 +20,4 @@ pub use integer::{int_parse, number_as_string_parse};
 pub use number::{i32_parse, usize_parse};
 pub use operation_id::id_parse;
 pub use truth::bool_parse;
+pub use quoted::quoted_string_parse;

@@ -1,0 +1,60 @@
+use Rattle.std.proofs.Common.{◌∙◌, sym, ap}
+use Rattle.std.specs.Char.{is_ascii_hexdigit}
+use Rattle.irtext_base.specs.Text.{front, after}
+use Rattle.irtext_base.proofs.Compose.{seen_after}
+use Rattle.irtext_read.specs.QuotedTexts.{character_of}
+use Rattle.irtext_read.proofs.QuotedSteps.{Opened, opened, counted, unopened, uncounted, unclosed, unnamed, braces_closed}
+use Rattle.irtext_read.proofs.irfmt.parsers.quoted.unicode_parse.Goals as goal
+
+pub returns-then-not-next_is : goal.returns-then-not-next_is
+returns-then-not-next_is g c = λ before k p.
+    let m = g.met.S.CharStream in
+    unopened g.S.CharStream.view g.S.CharStream.at m.view_at m.at_view m.at_at before c.args.stream.now c.required.new.stream c.required.result k (sym c.next_is.ensures ∙ c.if-not-next_is.true) c.required.ensures
+
+pub returns-then-not-digit_is_next : goal.returns-then-not-digit_is_next
+returns-then-not-digit_is_next g c = λ before k p.
+    let view = g.S.CharStream.view in
+    let at = g.S.CharStream.at in
+    let m = g.met.S.CharStream in
+    let opens = c.take.new.self in
+    let o : Opened view at m.view_at m.at_view m.at_at before opens = opened view at m.view_at m.at_view m.at_at before c.args.stream.now opens k (sym c.next_is.ensures ∙ c.if-not-next_is.false) c.take.ensures.after in
+    uncounted view at m.view_at m.at_view m.at_at before opens c.required-then-not-digit_is_next.new.stream c.required-then-not-digit_is_next.result o (sym c.digit_is_next.ensures ∙ c.if-not-digit_is_next.true) c.required-then-not-digit_is_next.ensures
+
+pub returns-then-not-next_is-2 : goal.returns-then-not-next_is-2
+returns-then-not-next_is-2 g c = λ before k p.
+    let view = g.S.CharStream.view in
+    let at = g.S.CharStream.at in
+    let m = g.met.S.CharStream in
+    let opens = c.take.new.self in
+    let now = c.take_digits-number.new.stream in
+    let o : Opened view at m.view_at m.at_view m.at_at before opens = opened view at m.view_at m.at_view m.at_at before c.args.stream.now opens k (sym c.next_is.ensures ∙ c.if-not-next_is.false) c.take.ensures.after in
+    let h = counted view at m.view_at m.at_view m.at_at before opens now o (sym c.digit_is_next.ensures ∙ c.if-not-digit_is_next.false) c.take_digits-number.ensures.takes in
+    unclosed view at m.view_at m.at_view m.at_at before now c.required-then-not-next_is-2.new.stream (front is_ascii_hexdigit (view opens).rest) c.required-then-not-next_is-2.result h (sym c.next_is-2.ensures ∙ c.if-not-next_is-2.true) c.required-then-not-next_is-2.ensures
+
+pub returns-in_default : goal.returns-in_default
+returns-in_default g c = λ before k p.
+    let view = g.S.CharStream.view in
+    let at = g.S.CharStream.at in
+    let m = g.met.S.CharStream in
+    let opens = c.take.new.self in
+    let now = c.take_digits-number.new.stream in
+    let digits = front is_ascii_hexdigit (view opens).rest in
+    let o : Opened view at m.view_at m.at_view m.at_at before opens = opened view at m.view_at m.at_view m.at_at before c.args.stream.now opens k (sym c.next_is.ensures ∙ c.if-not-next_is.false) c.take.ensures.after in
+    let h = counted view at m.view_at m.at_view m.at_at before opens now o (sym c.digit_is_next.ensures ∙ c.if-not-digit_is_next.false) c.take_digits-number.ensures.takes in
+    let r = c.no_character.ensures in
+    let e = sym (ap character_of c.take_digits-number.ensures.value) ∙ (sym c.character.ensures ∙ c.in_default.is) in
+    let s = sym (ap (λ v. v.passed) (seen_after view at m.view_at m.at_at opens now digits (after is_ascii_hexdigit (view opens).rest) c.take_digits-number.ensures.takes)) in
+    unnamed view at m.view_at m.at_view m.at_at before opens now c.no_character.new.stream c.no_character.result h (sym c.next_is-2.ensures ∙ c.if-not-next_is-2.false) e
+    (r.cause (view opens).passed digits s c.position-digits.ensures) r.committed (r.at (view before).passed p) r.left
+
+pub returns : goal.returns
+returns g c = λ before k p.
+    let view = g.S.CharStream.view in
+    let at = g.S.CharStream.at in
+    let m = g.met.S.CharStream in
+    let opens = c.take.new.self in
+    let now = c.take_digits-number.new.stream in
+    let digits = front is_ascii_hexdigit (view opens).rest in
+    let o : Opened view at m.view_at m.at_view m.at_at before opens = opened view at m.view_at m.at_view m.at_at before c.args.stream.now opens k (sym c.next_is.ensures ∙ c.if-not-next_is.false) c.take.ensures.after in
+    let h = counted view at m.view_at m.at_view m.at_at before opens now o (sym c.digit_is_next.ensures ∙ c.if-not-digit_is_next.false) c.take_digits-number.ensures.takes in
+    braces_closed view at m.view_at m.at_view m.at_at before now c.take-2.new.self digits c.in-Some.c h (sym c.next_is-2.ensures ∙ c.if-not-next_is-2.false) (c.in-Some.ensures ∙ ap character_of c.take_digits-number.ensures.value) c.take-2.ensures.after

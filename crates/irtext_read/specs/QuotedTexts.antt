@@ -1,0 +1,92 @@
+-- Quoted texts: what a text is to their reader. A unit is an escape, or a character as it stands.
+use Rattle.std.specs.Prelude.{ℕ, ◌+◌, ◌*◌, ◌^◌, Bool, cond, not, ◌&&◌, ◌==◌, nat_lt, Option, Some, None, [], ◌∷◌, ◌++◌, codes}
+use Rattle.std.specs.Char.{is_ascii_hexdigit}
+use Rattle.std.specs.Str.Parse.{digits_value}
+use lib.Utf8.{scalar}
+use Rattle.irtext_base.specs.Text.{Text, front, after}
+use Rattle.irtext_base.specs.Stream.{first_of}
+use Rattle.irtext_base.specs.Faults.{Word, AHexadecimalDigit, AnEscapedCharacter, Unexpected, BadEscape, BadUnicodeEscape}
+use Rattle.irtext_base.specs.Answers.{Outcome, Read, Missing, Bad, prefixed, mapped, followed}
+use Rattle.irtext_read.specs.Tokens.{text_at}
+
+-- a character that stands for itself: neither a quotation mark nor a backslash
+abbrev pub is_plain : ℕ → Bool
+is_plain c = not (c == 34) && not (c == 92)
+
+-- the character that one behind a backslash stands for
+abbrev pub escape_of : ℕ → Option ℕ
+escape_of e = cond (e == 92) (Some 92) (cond (e == 34) (Some 34) (cond (e == 39) (Some 39) (cond (e == 48) (Some 0) (cond (e == 110) (Some 10) (cond (e == 114) (Some 13) (cond (e == 116) (Some 9) None))))))
+
+-- a character behind a backslash, with the one that it stands for; where it stands for none, the fault is at the backslash
+abbrev pub escaped : Option ℕ → ℕ → Text → Outcome ℕ
+escaped (Some c) e text = Read c (92 ∷ e ∷ []) text
+escaped None e text = Bad (BadEscape e) []
+
+-- the number, where it is less than 2 to the 32
+abbrev pub fitting_word : ℕ → Option ℕ
+fitting_word n = cond (nat_lt n (2 ^ 32)) (Some n) None
+
+-- the number with one more hexadecimal digit behind it, where it fits
+abbrev pub word_appended : Option ℕ → ℕ → Option ℕ
+word_appended None digit = None
+word_appended (Some n) digit = fitting_word (n * 16 + digit)
+
+-- the number that hexadecimal digits write, where it fits
+abbrev pub word_of : Text → Option ℕ
+word_of digits = fitting_word (digits_value 16 digits)
+
+-- the character of a number, where it is one's
+abbrev pub character_of : Option ℕ → Option ℕ
+character_of None = None
+character_of (Some n) = cond (scalar n) (Some n) None
+
+-- hexadecimal digits in braces are the character of their number; where that is no character's, the fault is at the backslash
+abbrev pub named : Text → Text → Outcome ℕ
+named digits text = cond (scalar (digits_value 16 digits)) (Read (digits_value 16 digits) (codes "\\u{" ++ (digits ++ codes "}")) text) (Bad (BadUnicodeEscape digits) [])
+
+-- behind hexadecimal digits a closing brace must stand
+abbrev pub closed : Text → Text → Outcome ℕ
+closed digits [] = Bad (Unexpected None (Word (codes "}"))) (codes "\\u{" ++ digits)
+closed digits (c ∷ text) = cond (c == 125) (named digits text) (Bad (Unexpected (Some c) (Word (codes "}"))) (codes "\\u{" ++ digits))
+
+-- behind an opening brace one hexadecimal digit or more must stand
+abbrev pub braced : Text → Text → Outcome ℕ
+braced [] text = Bad (Unexpected (first_of text) AHexadecimalDigit) (codes "\\u{")
+braced (d ∷ digits) text = closed (d ∷ digits) text
+
+-- behind a backslash and `u` an opening brace must stand
+abbrev pub unicode_at : Text → Outcome ℕ
+unicode_at [] = Bad (Unexpected None (Word (codes "{"))) (codes "\\u")
+unicode_at (c ∷ text) = cond (c == 123) (braced (front is_ascii_hexdigit text) (after is_ascii_hexdigit text)) (Bad (Unexpected (Some c) (Word (codes "{"))) (codes "\\u"))
+
+-- behind a backslash a character must stand
+abbrev pub escape_at : Text → Outcome ℕ
+escape_at [] = Bad (Unexpected None AnEscapedCharacter) (codes "\\")
+escape_at (e ∷ text) = cond (e == 117) (unicode_at text) (escaped (escape_of e) e text)
+
+-- a unit; at the end, the closing quotation mark is missing
+unfoldable pub unit_at : Text → Outcome ℕ
+unit_at [] = Bad (Unexpected None (Word (codes "\""))) []
+unit_at (c ∷ text) = cond (c == 92) (escape_at text) (Read c (c ∷ []) text)
+
+-- the text without its first character
+abbrev pub behind_first : Text → Text
+behind_first [] = []
+behind_first (c ∷ text) = text
+
+-- a unit, and the units behind it, which are given by the unit's characters but the first
+abbrev pub unit_before : Outcome ℕ → (Text → Outcome Text) → Outcome Text
+unit_before (Read c taken text) next = prefixed taken (mapped (λ cs. c ∷ cs) (next (behind_first taken)))
+unit_before (Missing cause) next = Missing cause
+unit_before (Bad cause upto) next = Bad cause upto
+
+-- the characters that the units mean, up to the first quotation mark that stands outside of a unit, which is taken too; what is left of
+-- the unit before is passed over
+abbrev pub units_at : Text → Text → Outcome Text
+units_at left [] = Bad (Unexpected None (Word (codes "\""))) []
+units_at [] (c ∷ text) = cond (c == 34) (Read [] (c ∷ []) text) (unit_before (unit_at (c ∷ text)) (λ left. units_at left text))
+units_at (d ∷ left) (c ∷ text) = units_at left text
+
+-- a quotation mark, units, and the next quotation mark
+unfoldable pub quoted_at : Text → Outcome Text
+quoted_at text = followed (text_at (codes "\"") text) (λ mark text. units_at [] text)

@@ -1,0 +1,219 @@
+//! The reader of quoted texts.
+ghost use Rattle.std.specs.Prelude.{◌≡◌, ℕ, List, [], ◌++◌, ◌⊎◌, true, codes, IfOk, MatchResult, string_bytes};
+ghost use Rattle.std.specs.Char.{is_ascii_hexdigit, digit_value};
+ghost use Rattle.std.specs.Str.{encode_utf8_all};
+ghost use Rattle.irtext_base.specs.Text.{front, after, begins};
+ghost use Rattle.irtext_base.specs.Stream.{IsAt, first_of, after_failure};
+ghost use Rattle.irtext_base.specs.Places.{StandsBehind};
+ghost use Rattle.irtext_base.specs.Faults.{fault_of, demand_of, Memory, Unexpected, BadUnicodeEscape};
+ghost use Rattle.irtext_base.specs.Answers.{Answers, Takes, Starves, Commits, mapped, demanded, unless_failed};
+ghost use Rattle.irtext_read.specs.QuotedTexts.{is_plain, escape_of, word_appended, word_of, character_of, unit_at, units_at, quoted_at};
+
+use crate::irfmt::faults::{next_is, refuse, refuse_at};
+use crate::irfmt::parsers::fixed_text::text_parse;
+use irtext_base::parsable::{CharStream, ParseFault, ParseResult, Place};
+use irtext_base::result::{Cause, Expected};
+
+/// A committed fault at the next character, or at the end, where this is expected. It leaves the stream failed.
+fn required<S: CharStream, A>(stream: &mut S, expected: Expected) -> ParseFault<A>
+    ensures { Commits S.view S.at (Unexpected (first_of (S.view stream.old).rest) (demand_of expected)) [] stream.old result stream.new }
+{
+    let found = stream.peek();
+    refuse(stream, Cause::Unexpected { found, expected })
+}
+
+/// Whether the character stands for itself in a quoted text.
+fn is_plain(c: char) -> bool
+    ensures { result ≡ is_plain c }
+{
+    c != '"' && c != '\\'
+}
+
+/// Passes characters that stand for themselves, as far as they go.
+#[tactic(auto, using(irtext_base::proofs::Along::fronts))]
+fn skip_plain<S: CharStream>(stream: &mut S)
+    ensures { Takes S.view S.at (front is_plain (S.view stream.old).rest) (after is_plain (S.view stream.old).rest) stream.old stream.new }
+{
+    while let Some(c) = stream.peek() {
+        if !is_plain(c) {
+            break;
+        }
+        let _ = stream.take();
+    }
+}
+
+/// Appends characters that stand for themselves to the text, as far as they go. Only memory can be refused.
+fn append_plain<S: CharStream, A>(stream: &mut S, text: &mut String) -> ParseResult<(), A>
+    ensures value { IfOk result (λ _. string_bytes text.new ≡ string_bytes text.old ++ encode_utf8_all (front is_plain (S.view stream.old).rest)) }
+    ensures stream { MatchResult result
+        (λ _. Takes S.view S.at (front is_plain (S.view stream.old).rest) (after is_plain (S.view stream.old).rest) stream.old stream.new)
+        (λ fault. Starves S.view S.at stream.old fault stream.new) }
+{
+    let place = stream.position();
+    skip_plain(stream);
+    match text.push_str(stream.text_since(place)) {
+        Ok(()) => Ok(()),
+        Err(_) => Err(refuse(stream, Cause::Memory)),
+    }
+}
+
+/// The value of a hexadecimal digit.
+fn digit_of(c: char) -> u32
+    ensures { is_ascii_hexdigit c ≡ true → result ≡ digit_value c }
+{
+    match c.to_digit(16) {
+        Some(digit) => digit,
+        None => 0,
+    }
+}
+
+/// The number with one more hexadecimal digit behind it, where it fits.
+fn append_digit(number: Option<u32>, digit: u32) -> Option<u32>
+    ensures { result ≡ word_appended number digit }
+{
+    number?.checked_mul(16)?.checked_add(digit)
+}
+
+/// Passes hexadecimal digits, as far as they go, and answers the number that they write, where it fits.
+#[tactic(auto, using(irtext_base::proofs::Along::fronts))]
+fn take_digits<S: CharStream>(stream: &mut S) -> Option<u32>
+    ensures value { result ≡ word_of (front is_ascii_hexdigit (S.view stream.old).rest) }
+    ensures takes { Takes S.view S.at (front is_ascii_hexdigit (S.view stream.old).rest) (after is_ascii_hexdigit (S.view stream.old).rest) stream.old stream.new }
+{
+    let mut number = Some(0);
+    while let Some(c) = stream.peek() {
+        if !c.is_ascii_hexdigit() {
+            break;
+        }
+        let _ = stream.take();
+        number = append_digit(number, digit_of(c));
+    }
+    number
+}
+
+/// The character of a number, where it is one's.
+fn character(number: Option<u32>) -> Option<char>
+    ensures { result ≡ character_of number }
+{
+    char::from_u32(number?)
+}
+
+/// Whether a hexadecimal digit comes next.
+fn digit_is_next<S: CharStream>(stream: &S) -> bool
+    ensures { result ≡ begins is_ascii_hexdigit (S.view stream.now).rest }
+{
+    match stream.peek() {
+        Some(c) => c.is_ascii_hexdigit(),
+        None => false,
+    }
+}
+
+/// The fault of hexadecimal digits since a place, which name no character, at the escape's own place. It leaves the stream failed.
+fn no_character<S: CharStream, A>(stream: &mut S, escape: Place, digits: Place) -> ParseFault<A>
+    requires { (passed taken : List ℕ) × (passed ++ taken ≡ (S.view stream.old).passed) × StandsBehind digits passed }
+    ensures cause { (passed taken : List ℕ) → passed ++ taken ≡ (S.view stream.old).passed → StandsBehind digits passed →
+        (fault_of result.cause ≡ Memory) ⊎ (fault_of result.cause ≡ BadUnicodeEscape (encode_utf8_all taken)) }
+    ensures committed { result.committed ≡ true }
+    ensures at { (passed : List ℕ) → StandsBehind escape passed → IsAt result.pos.line result.pos.column passed }
+    ensures left { stream.new ≡ S.at stream.old (after_failure (S.view stream.old)) }
+{
+    let cause = match String::from_str(stream.allocator(), stream.text_since(digits)) {
+        Ok(text) => Cause::BadUnicodeEscape(text),
+        Err(_) => Cause::Memory,
+    };
+    refuse_at(stream, escape, cause)
+}
+
+/// Reads the braces and the digits of an escape by number, whose backslash stands at the place. What it answers is what the escape is
+/// from its backslash on.
+fn unicode_parse<S: CharStream, A>(stream: &mut S, escape: Place) -> ParseResult<char, A>
+    ensures { (before : S) → Takes S.view S.at (codes "\\u") (S.view stream.old).rest before stream.old → StandsBehind escape (S.view before).passed →
+        Answers S.view S.at (λ c. c) (unit_at (S.view before).rest) before result stream.new }
+{
+    if !next_is(stream, '{') {
+        return Err(required(stream, Expected::Char('{')));
+    }
+    let _ = stream.take();
+    let digits = stream.position();
+    if !digit_is_next(stream) {
+        return Err(required(stream, Expected::HexadecimalDigit));
+    }
+    let number = take_digits(stream);
+    if !next_is(stream, '}') {
+        return Err(required(stream, Expected::Char('}')));
+    }
+    let Some(c) = character(number) else {
+        return Err(no_character(stream, escape, digits));
+    };
+    let _ = stream.take();
+    Ok(c)
+}
+
+/// The character that one behind a backslash stands for.
+fn escaped(c: char) -> Option<char>
+    ensures { result ≡ escape_of c }
+{
+    match c {
+        '\\' => Some('\\'),
+        '"' => Some('"'),
+        '\'' => Some('\''),
+        '0' => Some('\0'),
+        'n' => Some('\n'),
+        'r' => Some('\r'),
+        't' => Some('\t'),
+        _ => None,
+    }
+}
+
+/// Reads one unit: an escape, or a character as it stands.
+#[tactic(auto, unfolding(crate::specs::QuotedTexts::unit_at))]
+fn unit_parse<S: CharStream, A>(stream: &mut S) -> ParseResult<char, A>
+    ensures { Answers S.view S.at (λ c. c) (unit_at (S.view stream.old).rest) stream.old result stream.new }
+{
+    let place = stream.position();
+    let Some(c) = stream.take() else {
+        return Err(required(stream, Expected::Char('"')));
+    };
+    if c != '\\' {
+        return Ok(c);
+    }
+    let Some(c) = stream.take() else {
+        return Err(required(stream, Expected::EscapedCharacter));
+    };
+    if c == 'u' {
+        return unicode_parse(stream, place);
+    }
+    match escaped(c) {
+        Some(c) => Ok(c),
+        None => Err(refuse_at(stream, place, Cause::BadEscape(c))),
+    }
+}
+
+/// Reads units up to the first quotation mark that stands outside of a unit, and that mark.
+fn units_parse<S: CharStream, A>(stream: &mut S) -> ParseResult<String, A>
+    ensures { Answers S.view S.at (λ s. string_bytes s) (mapped encode_utf8_all (demanded (units_at [] (S.view stream.old).rest))) stream.old result stream.new }
+{
+    let mut text = String::new(stream.allocator());
+    append_plain(stream, &mut text)?;
+    while !next_is(stream, '"') {
+        let c = unit_parse(stream)?;
+        if text.push(c).is_err() {
+            return Err(refuse(stream, Cause::Memory));
+        }
+        append_plain(stream, &mut text)?;
+    }
+    let _ = stream.take();
+    Ok(text)
+}
+
+/// Reads a quoted text: a quotation mark, escapes and any other characters as they stand, and a quotation mark. It answers the
+/// characters that they mean.
+///
+/// Where no quotation mark begins it, the fault is uncommitted and the stream stands where it stood. Else a fault is committed:
+/// `BadEscape` and `BadUnicodeEscape` stand at the escape's backslash, and `Unexpected` where a character is missing.
+pub fn quoted_string_parse<S: CharStream, A>(stream: &mut S) -> ParseResult<String, A>
+    ensures { Answers S.view S.at (λ s. string_bytes s) (unless_failed (S.view stream.old).failed (mapped encode_utf8_all (quoted_at (S.view stream.old).rest))) stream.old result stream.new }
+{
+    text_parse(stream, "\"")?;
+    units_parse(stream)
+}
