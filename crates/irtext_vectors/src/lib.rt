@@ -16,6 +16,8 @@ mod numbers;
 #[cfg(test)]
 mod printing;
 #[cfg(test)]
+mod quoted;
+#[cfg(test)]
 mod roots;
 #[cfg(test)]
 mod streams;
