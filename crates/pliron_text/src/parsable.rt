@@ -5,6 +5,7 @@ ghost use Rattle.irtext_base.specs.Answers.{Starves};
 ghost use Rattle.pliron_text.specs.Roots.{itself, replaced};
 
 mod tokens;
+mod texts;
 
 pub use irtext_base::parsable::{
     CharStream, ParseFault, ParseResult, ParserNameTrackerError, Place, SourcePosition, TextStream,
