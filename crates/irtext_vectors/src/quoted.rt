@@ -1,7 +1,10 @@
 //! Quoted texts as they are read.
 use irtext_base::parsable::{CharStream, TextStream};
 use irtext_read::irfmt::parsers::quoted_string_parse;
-use irtext_types::Note;
+use irtext_types::{Note, Pointer};
+use pliron_text::base::Context;
+use pliron_text::location::Source;
+use pliron_text::parsable::{Parsable, State, StateStream};
 use std::test::Fail;
 
 /// What `quoted_string_parse` answers to a text: the characters, or the fault with its place.
@@ -113,5 +116,18 @@ fn the_text_behind_is_left(rt: HostRuntime) -> Result<(), Fail> {
         .ok_or("refused")?;
     assert_eq!(rt; text.as_str(), "'");
     assert_eq!(rt; stream.peek(), Some(' '));
+    Ok(())
+}
+
+#[test]
+fn a_quoted_text_is_read_with_a_context(rt: HostRuntime) -> Result<(), Fail> {
+    let mut ctx: Context<Pointer, Note> = Context::new(rt.alloc());
+    let stream = TextStream::new(rt.alloc(), "\"a\"")?;
+    let state = State::new(&mut ctx, Source::InMemory, ());
+    let mut s = StateStream { stream, state };
+    let text = <String as Parsable<Pointer, Note, ()>>::parse(&mut s, ())
+        .ok()
+        .ok_or("refused")?;
+    assert_eq!(rt; text.as_str(), "a");
     Ok(())
 }
