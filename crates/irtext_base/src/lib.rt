@@ -7,5 +7,6 @@ pub mod format;
 pub mod laws;
 pub mod location;
 pub mod parsable;
+pub mod printable;
 pub mod result;
 pub mod text;

@@ -8,3 +8,5 @@ pub mod QuotedNumbers
 pub mod QuotedUnits
 pub mod QuotedSteps
 pub mod QuotedBack
+pub mod ListSteps
+pub mod ListRules

@@ -4,3 +4,4 @@ pub mod States
 pub mod FromText
 pub mod Integers
 pub mod Committed
+pub mod Lists

@@ -6,6 +6,8 @@ pub mod from_str_radix;
 pub mod hexadecimal;
 pub mod identifier;
 pub mod integer;
+pub mod item;
+pub mod lists;
 pub mod number;
 pub mod operation_id;
 pub mod truth;
@@ -17,6 +19,10 @@ pub use from_str_radix::FromStrRadix;
 pub use hexadecimal::hex_int_parse;
 pub use identifier::identifier_parse;
 pub use integer::{int_parse, number_as_string_parse};
+pub use item::ItemAnswer;
+pub use lists::{
+    delimited_list_parser, list_parser, list_with_sep_parser, spaced, zero_or_more_parser,
+};
 pub use number::{i32_parse, usize_parse};
 pub use operation_id::id_parse;
 pub use truth::bool_parse;

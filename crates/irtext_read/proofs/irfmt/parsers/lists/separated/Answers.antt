@@ -1,0 +1,26 @@
+use Rattle.std.proofs.Common.{rules, of_calls, refl, ◌≡◌, Ok, Err, List, ◌++◌, ◌∷◌, [], ◌∙◌, ap, sym}
+use Rattle.irtext_read.specs.Lists.{Calls, TailAfter, no_item, bad_item, no_first_room, an_item}
+use Rattle.irtext_read.proofs.ListSteps.{called_at, rules_at}
+use Rattle.irtext_read.proofs.irfmt.parsers.lists.separated.Goals as goal
+
+pub returns-then-is_err : goal.returns-then-is_err
+returns-then-is_err g c =
+    let called : Calls g.R.ItemAnswer.seen g.F.FnMut c.args.item c.args.stream.now (Ok c.in-Ok.x) c.item.new.self c.item.new.arg2 = called_at c.item.ensures c.in-Ok.ensures in
+    let f = c.refuse.ensures in
+    no_first_room _ _ _ _ _ _ _ called (record { because = f.because; committed = f.committed; left = f.left })
+
+pub returns-then-fault : goal.returns-then-fault
+returns-then-fault g c =
+    let called : Calls g.R.ItemAnswer.seen g.F.FnMut c.args.item c.args.stream.now (Err c.in-Err.fault) c.item.new.self c.item.new.arg2 = called_at c.item.ensures c.in-Err.ensures in
+    bad_item _ _ _ _ _ called c.if-fault.true
+
+pub returns-in-Err : goal.returns-in-Err
+returns-in-Err g c =
+    let called : Calls g.R.ItemAnswer.seen g.F.FnMut c.args.item c.args.stream.now (Err c.in-Err.fault) c.item.new.self c.item.new.arg2 = called_at c.item.ensures c.in-Err.ensures in
+    rw c.new-found.ensures.items (no_item _ _ _ _ _ called c.if-fault.false)
+
+pub returns : goal.returns
+returns g c =
+    let called : Calls g.R.ItemAnswer.seen g.F.FnMut c.args.item c.args.stream.now (Ok c.in-Ok.x) c.item.new.self c.item.new.arg2 = called_at c.item.ensures c.in-Ok.ensures in
+    let grown : c.push.new.self.items ≡ c.in-Ok.x ∷ [] = search rules in
+    an_item _ _ _ _ _ _ _ _ called c.skip_white_space.ensures.is (rw grown at c.tail.ensures)

@@ -1,0 +1,41 @@
+use Rattle.std.proofs.Common.{rules, of_calls, refl, ◌≡◌, ◌<◌, Ok, Err, List, ◌++◌, ◌∷◌, [], ◌∙◌, ap, sym, append-nil, length}
+use Rattle.irtext_read.specs.Lists.{Calls, none, insisted, no_more_room, next, prepended, HandsOn, Opens}
+use Rattle.irtext_read.proofs.ListSteps.{called_at, rules_at, tail_lt, prepended-more}
+use Rattle.irtext_read.proofs.irfmt.parsers.lists.tail.Goals as goal
+
+pub returns-then-is_err : goal.returns-then-is_err
+returns-then-is_err g c =
+    let called : Calls g.R.ItemAnswer.seen g.F.FnMut c.loop-sep.item c.skip_white_space.new.stream (Ok c.in-Ok.x) c.item.new.self c.item.new.arg2 = called_at c.item.ensures c.in-Ok.ensures in
+    let opens : Opens g.S.CharStream.view g.S.CharStream.at c.args.sep c.loop-sep.stream c.skip_white_space.new.stream = record { mid = c.take.new.self; begins_so = sym c.loop-sep-test.ensures; taken = c.take.ensures.after; skips = c.skip_white_space.ensures.is } in
+    let f = c.refuse.ensures in
+    c.loop-sep.invariant.1 _ _ (_, no_more_room _ _ _ _ _ _ _ _ opens called (record { because = f.because; committed = f.committed; left = f.left }), refl)
+
+pub returns-in-Err : goal.returns-in-Err
+returns-in-Err g c =
+    let called : Calls g.R.ItemAnswer.seen g.F.FnMut c.loop-sep.item c.skip_white_space.new.stream (Err c.in-Err.fault) c.item.new.self c.item.new.arg2 = called_at c.item.ensures c.in-Err.ensures in
+    let opens : Opens g.S.CharStream.view g.S.CharStream.at c.args.sep c.loop-sep.stream c.skip_white_space.new.stream = record { mid = c.take.new.self; begins_so = sym c.loop-sep-test.ensures; taken = c.take.ensures.after; skips = c.skip_white_space.ensures.is } in
+    c.loop-sep.invariant.1 _ _ (_, insisted _ _ _ _ _ _ _ _ opens called c.insisted.ensures, refl)
+
+pub loop-sep-smaller : goal.loop-sep-smaller
+loop-sep-smaller g c =
+    let m = g.S.CharStream in
+    let called : Calls g.R.ItemAnswer.seen g.F.FnMut c.loop-sep.item c.skip_white_space.new.stream (Ok c.in-Ok.x) c.item.new.self c.item.new.arg2 = called_at c.item.ensures c.in-Ok.ensures in
+    let opens : Opens m.view m.at c.args.sep c.loop-sep.stream c.skip_white_space.new.stream = record { mid = c.take.new.self; begins_so = sym c.loop-sep-test.ensures; taken = c.take.ensures.after; skips = c.skip_white_space.ensures.is } in
+    let hands : HandsOn m.view m.at c.skip_white_space.new.stream c.item.new.arg2 = rules_at m.view m.at c.requires.rules _ _ _ _ _ called in
+    tail_lt m.view m.at g.met.S.CharStream.view_at g.met.S.CharStream.at_at _ _ _ _ _ opens hands c.skip_white_space-in-loop-sep.ensures.is
+
+pub loop-sep-preserved : goal.loop-sep-preserved
+loop-sep-preserved g c =
+    let called : Calls g.R.ItemAnswer.seen g.F.FnMut c.loop-sep.item c.skip_white_space.new.stream (Ok c.in-Ok.x) c.item.new.self c.item.new.arg2 = called_at c.item.ensures c.in-Ok.ensures in
+    let opens : Opens g.S.CharStream.view g.S.CharStream.at c.args.sep c.loop-sep.stream c.skip_white_space.new.stream = record { mid = c.take.new.self; begins_so = sym c.loop-sep-test.ensures; taken = c.take.ensures.after; skips = c.skip_white_space.ensures.is } in
+    let grown : c.push.new.self.items ≡ c.loop-sep.found.items ++ (c.in-Ok.x ∷ []) = search rules in (
+      search of_calls,
+      λ q u later. c.loop-sep.invariant.1 q u (
+        prepended (c.in-Ok.x ∷ []) later.0,
+        next _ _ _ _ _ _ _ _ _ _ opens called c.skip_white_space-in-loop-sep.ensures.is later.1 refl,
+        later.2 ∙ (ap (λ z. prepended z later.0) grown ∙ sym (prepended-more c.loop-sep.found.items c.in-Ok.x later.0)),
+      ),
+    )
+
+pub returns : goal.returns
+returns g c = c.loop-sep.invariant.1 _ _ (Ok [], none _ _ (sym c.loop-sep-test.ensures), rw append-nil refl)

@@ -1,0 +1,278 @@
+//! Readers of lists, over any item. An item keeps the rules of faults: a value stands in front of the text or a later part of it, an
+//! uncommitted fault leaves the stream as it was, and a committed one leaves it failed.
+ghost use Rattle.std.specs.Prelude.{◌≡◌, ℕ, List, [], ◌++◌, MatchResult};
+ghost use Rattle.std.specs.Bool.{MatchBool};
+ghost use Rattle.irtext_base.specs.Text.{Text};
+ghost use Rattle.irtext_base.specs.Places.{StandsBehind};
+ghost use Rattle.irtext_read.specs.Lists.{AlwaysKeepsRules, Calls, KeepsRules, Insisted, UnlessFailed, Items, SpacedItems, Separated, TailAfter, Delimited, WithSeparator, Spaced, character_of, listed};
+
+use crate::irfmt::faults::{begins, demanded, next_is, pass, refuse, unexpected};
+use crate::irfmt::parsers::class::{Class, skip_white_space};
+use crate::irfmt::parsers::item::ItemAnswer;
+use irtext_base::parsable::{CharStream, ParseFault, ParseResult, Place};
+use irtext_base::printable::ListSeparator;
+use irtext_base::result::{Cause, Expected};
+
+/// Whether no character was taken since an earlier place.
+fn is_still_at<S: CharStream>(stream: &S, place: Place) -> bool
+    requires { (passed taken : Text) × (passed ++ taken ≡ (S.view stream.now).passed) × StandsBehind place passed }
+    ensures { (passed taken : Text) → passed ++ taken ≡ (S.view stream.now).passed → StandsBehind place passed → MatchBool result (taken ≡ []) (taken ≡ [] → ⊥) }
+{
+    stream.text_since(place).is_empty()
+}
+
+/// The fault of an item that must stand. An uncommitted one is committed, and leaves the stream failed.
+fn insisted<S: CharStream, A>(stream: &mut S, fault: ParseFault<A>) -> ParseFault<A>
+    ensures { Insisted S.view S.at fault stream.old result stream.new }
+{
+    if fault.committed {
+        return fault;
+    }
+    demanded(stream, fault)
+}
+
+/// The character of a separator, where it has one.
+fn character_of(sep: ListSeparator) -> Option<char>
+    ensures { result ≡ character_of sep }
+{
+    match sep {
+        ListSeparator::None | ListSeparator::Newline => None,
+        ListSeparator::CharNewline(c) | ListSeparator::Char(c) | ListSeparator::CharSpace(c) => {
+            Some(c)
+        }
+    }
+}
+
+/// Items with white space after each, until one is missing.
+fn items<S: CharStream, R: ItemAnswer, F: FnMut(&mut S) -> R + Drop>(
+    stream: &mut S,
+    mut item: F,
+) -> ParseResult<Vec<R::Value>, R::Own>
+where
+    R::Value: Drop,
+    R::Own: Drop,
+    requires callable { F.IsAlwaysCallable item }
+    requires rules { AlwaysKeepsRules S.view S.at R.seen F.FnMut }
+    ensures { Items S.view S.at (Calls R.seen F.FnMut) item stream.old (listed result) stream.new }
+{
+    let mut found = Vec::new(stream.allocator());
+    loop {
+        let start = stream.position();
+        match item(stream).into_answer() {
+            Ok(x) => {
+                if is_still_at(stream, start) {
+                    return Err(refuse(stream, Cause::EmptyItem));
+                }
+                if found.push(x).is_err() {
+                    return Err(refuse(stream, Cause::Memory));
+                }
+                skip_white_space(stream);
+            }
+            Err(fault) => {
+                if fault.committed {
+                    return Err(fault);
+                }
+                return Ok(found);
+            }
+        }
+    }
+}
+
+/// Separators and items behind the items found, as long as a separator follows.
+fn tail<S: CharStream, R: ItemAnswer, F: FnMut(&mut S) -> R + Drop>(
+    stream: &mut S,
+    sep: char,
+    mut found: Vec<R::Value>,
+    mut item: F,
+) -> ParseResult<Vec<R::Value>, R::Own>
+where
+    R::Value: Drop,
+    R::Own: Drop,
+    requires callable { F.IsAlwaysCallable item }
+    requires rules { AlwaysKeepsRules S.view S.at R.seen F.FnMut }
+    ensures { TailAfter S.view S.at (Calls R.seen F.FnMut) sep found.items item stream.old (listed result) stream.new }
+{
+    while next_is(stream, sep) {
+        let _ = stream.take();
+        skip_white_space(stream);
+        match item(stream).into_answer() {
+            Ok(x) => {
+                if found.push(x).is_err() {
+                    return Err(refuse(stream, Cause::Memory));
+                }
+            }
+            Err(fault) => return Err(insisted(stream, fault)),
+        }
+        skip_white_space(stream);
+    }
+    Ok(found)
+}
+
+/// Items with a separator between them, white space after each item and each separator.
+fn separated<S: CharStream, R: ItemAnswer, F: FnMut(&mut S) -> R + Drop>(
+    stream: &mut S,
+    sep: char,
+    mut item: F,
+) -> ParseResult<Vec<R::Value>, R::Own>
+where
+    R::Value: Drop,
+    R::Own: Drop,
+    requires callable { F.IsAlwaysCallable item }
+    requires rules { AlwaysKeepsRules S.view S.at R.seen F.FnMut }
+    ensures { Separated S.view S.at (Calls R.seen F.FnMut) sep item stream.old (listed result) stream.new }
+{
+    let mut found = Vec::new(stream.allocator());
+    match item(stream).into_answer() {
+        Ok(x) => {
+            if found.push(x).is_err() {
+                return Err(refuse(stream, Cause::Memory));
+            }
+        }
+        Err(fault) => {
+            if fault.committed {
+                return Err(fault);
+            }
+            return Ok(found);
+        }
+    }
+    skip_white_space(stream);
+    tail(stream, sep, found, item)
+}
+
+/// Reads items with a separator between them, and white space after each item and each separator. Where the first item is missing
+/// the list is empty and the stream stays. Behind a separator an item must stand: its fault is committed, as are the faults of memory
+/// and of a failed stream.
+pub fn list_parser<S: CharStream, R: ItemAnswer, F: FnMut(&mut S) -> R + Drop>(
+    stream: &mut S,
+    sep: char,
+    item: F,
+) -> ParseResult<Vec<R::Value>, R::Own>
+where
+    R::Value: Drop,
+    R::Own: Drop,
+    requires callable { F.IsAlwaysCallable item }
+    requires rules { AlwaysKeepsRules S.view S.at R.seen F.FnMut }
+    ensures answers { UnlessFailed S.view S.at (Separated S.view S.at (Calls R.seen F.FnMut) sep item) (S.view stream.old).failed stream.old (listed result) stream.new }
+    ensures kept { KeepsRules S.view S.at stream.old result stream.new }
+{
+    if stream.has_failed() {
+        return Err(refuse(stream, Cause::StreamFailed));
+    }
+    separated(stream, sep, item)
+}
+
+/// Reads a character, white space, a list with a separator, and a character. Where the first character is missing the fault is
+/// uncommitted and the stream stays; each other fault is committed, also that of the last character.
+pub fn delimited_list_parser<S: CharStream, R: ItemAnswer, F: FnMut(&mut S) -> R + Drop>(
+    stream: &mut S,
+    left: char,
+    right: char,
+    sep: char,
+    item: F,
+) -> ParseResult<Vec<R::Value>, R::Own>
+where
+    R::Value: Drop,
+    R::Own: Drop,
+    requires callable { F.IsAlwaysCallable item }
+    requires rules { AlwaysKeepsRules S.view S.at R.seen F.FnMut }
+    ensures answers { UnlessFailed S.view S.at (Delimited S.view S.at (Calls R.seen F.FnMut) left right sep item) (S.view stream.old).failed stream.old (listed result) stream.new }
+    ensures kept { KeepsRules S.view S.at stream.old result stream.new }
+{
+    if stream.has_failed() {
+        return Err(refuse(stream, Cause::StreamFailed));
+    }
+    if !next_is(stream, left) {
+        return Err(unexpected(stream, Expected::Char(left)));
+    }
+    let _ = stream.take();
+    skip_white_space(stream);
+    let found = separated(stream, sep, item)?;
+    if !next_is(stream, right) {
+        let fault = unexpected(stream, Expected::Char(right));
+        return Err(demanded(stream, fault));
+    }
+    let _ = stream.take();
+    Ok(found)
+}
+
+/// Reads items with a separator between them as `list_parser` does, or, where the separator has no character, items with white space
+/// after each until one is missing. A separator of white space is an uncommitted fault, whatever the text. An item that takes no
+/// character is a committed fault where no separator stands between them.
+pub fn list_with_sep_parser<S: CharStream, R: ItemAnswer, F: FnMut(&mut S) -> R + Drop>(
+    stream: &mut S,
+    sep: ListSeparator,
+    item: F,
+) -> ParseResult<Vec<R::Value>, R::Own>
+where
+    R::Value: Drop,
+    R::Own: Drop,
+    requires callable { F.IsAlwaysCallable item }
+    requires rules { AlwaysKeepsRules S.view S.at R.seen F.FnMut }
+    ensures answers { UnlessFailed S.view S.at (WithSeparator S.view S.at (Calls R.seen F.FnMut) (character_of sep) item) (S.view stream.old).failed stream.old (listed result) stream.new }
+    ensures kept { KeepsRules S.view S.at stream.old result stream.new }
+{
+    if stream.has_failed() {
+        return Err(refuse(stream, Cause::StreamFailed));
+    }
+    let Some(c) = character_of(sep) else {
+        return items(stream, item);
+    };
+    if c.is_whitespace() {
+        return Err(pass(stream, Cause::BadSeparator));
+    }
+    separated(stream, c, item)
+}
+
+/// Reads white space, and items with white space after each, until one is missing. Each fault is committed: that of an item, of
+/// an item that takes no character, of memory and of a failed stream.
+pub fn zero_or_more_parser<S: CharStream, R: ItemAnswer, F: FnMut(&mut S) -> R + Drop>(
+    stream: &mut S,
+    item: F,
+) -> ParseResult<Vec<R::Value>, R::Own>
+where
+    R::Value: Drop,
+    R::Own: Drop,
+    requires callable { F.IsAlwaysCallable item }
+    requires rules { AlwaysKeepsRules S.view S.at R.seen F.FnMut }
+    ensures answers { UnlessFailed S.view S.at (SpacedItems S.view S.at (Calls R.seen F.FnMut) item) (S.view stream.old).failed stream.old (listed result) stream.new }
+    ensures kept { KeepsRules S.view S.at stream.old result stream.new }
+{
+    if stream.has_failed() {
+        return Err(refuse(stream, Cause::StreamFailed));
+    }
+    skip_white_space(stream);
+    items(stream, item)
+}
+
+/// Reads white space, the item and white space. White space counts as read: where it stands first, the item's fault is committed and
+/// the stream fails; where none does, the item's fault is the answer.
+pub fn spaced<S: CharStream, R: ItemAnswer, F: FnMut(&mut S) -> R + Drop>(
+    stream: &mut S,
+    mut item: F,
+) -> ParseResult<R::Value, R::Own>
+where
+    R::Value: Drop,
+    R::Own: Drop,
+    requires callable { F.IsAlwaysCallable item }
+    requires rules { AlwaysKeepsRules S.view S.at R.seen F.FnMut }
+    ensures answers { UnlessFailed S.view S.at (Spaced S.view S.at (Calls R.seen F.FnMut) item) (S.view stream.old).failed stream.old result stream.new }
+    ensures kept { KeepsRules S.view S.at stream.old result stream.new }
+{
+    if stream.has_failed() {
+        return Err(refuse(stream, Cause::StreamFailed));
+    }
+    let begun = begins(stream, Class::WhiteSpace);
+    skip_white_space(stream);
+    match item(stream).into_answer() {
+        Ok(x) => {
+            skip_white_space(stream);
+            Ok(x)
+        }
+        Err(fault) => {
+            if begun {
+                return Err(insisted(stream, fault));
+            }
+            Err(fault)
+        }
+    }
+}
