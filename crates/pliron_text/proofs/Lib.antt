@@ -98,3 +98,4 @@ pub mod RootSteps
 pub mod TopLevel
 pub mod PrintedText
 pub mod LabelPlaces
+pub mod MarkerSteps

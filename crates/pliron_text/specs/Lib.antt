@@ -63,3 +63,4 @@ pub mod PrintedBack
 pub mod LabelPlaces
 pub mod Printed
 pub mod Verification
+pub mod Marker

@@ -10,6 +10,7 @@ ghost use Rattle.pliron_text.specs.SectionText.{entry_location_at, content_at, k
 ghost use Rattle.pliron_text.specs.Roots.{itself, replaced, may_follow, Demand, KeepsRest};
 
 use crate::irfmt::demanded::{index_demanded, spaced_text, text_demanded};
+pub use crate::irfmt::marker::{OUTLINED_ATTR_MARKER, outlined_marker_or};
 use crate::location::read::location_demanded;
 use crate::parsable::out_of_memory;
 use indexmap::IndexMap;
