@@ -4,8 +4,8 @@ ghost use Rattle.std.specs.Prelude.{◌≡◌};
 ghost use Rattle.irtext_base.specs.Answers.{Starves};
 ghost use Rattle.pliron_text.specs.Roots.{itself, replaced};
 
-mod tokens;
 mod texts;
+mod tokens;
 
 pub use irtext_base::parsable::{
     CharStream, ParseFault, ParseResult, ParserNameTrackerError, Place, SourcePosition, TextStream,

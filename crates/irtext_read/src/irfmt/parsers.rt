@@ -10,8 +10,8 @@ pub mod item;
 pub mod lists;
 pub mod number;
 pub mod operation_id;
-pub mod truth;
 pub mod quoted;
+pub mod truth;
 
 pub use class::{Class, skip_class, skip_white_space};
 pub use fixed_text::text_parse;
@@ -25,5 +25,5 @@ pub use lists::{
 };
 pub use number::{i32_parse, usize_parse};
 pub use operation_id::id_parse;
-pub use truth::bool_parse;
 pub use quoted::quoted_string_parse;
+pub use truth::bool_parse;
