@@ -1,11 +1,16 @@
-//! What printed lists are separated by.
+//! What separates the items of a list.
 
-/// What stands between the items of a list.
+/// How the items of a list are separated.
 #[derive(Clone, Copy, Debug, PartialEq, Eq)]
 pub enum ListSeparator {
+    /// By nothing.
     None,
+    /// By a newline and the indentation.
     Newline,
+    /// By a character, a newline and the indentation.
     CharNewline(char),
+    /// By a character.
     Char(char),
+    /// By a character and a space.
     CharSpace(char),
 }

@@ -22,4 +22,6 @@ mod quoted;
 #[cfg(test)]
 mod roots;
 #[cfg(test)]
+mod separators;
+#[cfg(test)]
 mod streams;

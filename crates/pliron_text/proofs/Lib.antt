@@ -78,6 +78,9 @@ pub mod JoinRefused
 pub mod JoinTop
 mod Requirements
 mod Appended
+mod Calls
+pub mod Items
+mod QuotedText
 mod PrintedModules
 mod Ascii
 mod ModulesText

@@ -38,6 +38,10 @@ pub mod Shown
 pub mod Printing
 pub mod Written
 pub mod Shows
+pub mod Separator
+pub mod Calls
+pub mod Items
+pub mod Enclosed
 pub mod PrintedModule
 pub mod ConcreteText
 pub mod LocationsText

@@ -1,7 +1,8 @@
-//! Readers of tokens, and the section of marked items.
+//! Readers of tokens, stored printers, and the section of marked items.
 
 pub(crate) mod demanded;
 mod marker;
 pub mod outlined;
+pub mod printers;
 
 pub use irtext_read::irfmt::parsers;

@@ -11,9 +11,10 @@ use std::fmt;
 use std::marker::Model;
 
 /// How many levels of regions are printed.
-#[derive(Clone, Copy, Debug, PartialEq, Eq)]
+#[derive(Clone, Copy, Debug, Default, PartialEq, Eq)]
 pub enum RegionPrintDepthLimit {
     /// All levels.
+    #[default]
     Unlimited,
     /// At most so many levels; deeper regions are elided.
     Max(u32),

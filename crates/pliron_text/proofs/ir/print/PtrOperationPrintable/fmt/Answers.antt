@@ -6,8 +6,8 @@ use Rattle.pliron_text.proofs.ModulesText.{there}
 use Rattle.pliron_text.proofs.PrintedRoots.{writes-standing}
 use Rattle.pliron_text.proofs.ir.print.PtrOperationPrintable.fmt.Goals as goal
 
-pub returns : goal.returns
-returns g c =
+pub returns-clause-text : goal.returns-clause-text
+returns-clause-text g c =
     let v = there (operation c.args.ctx.now c.args.self.now) c.requires in
     writes-standing (unplaced (texts_of g.T.IrText.reading g.T.IrText.written) (texts_of g.A.IrText.reading g.A.IrText.written) format_of) g.A.AttrText.outlined g.A.AttrText.print_once g.A.PartialEq.eq
     c.args.ctx.now c.args.self.now v.0 c.args.state.now c.fmt_root.new.state (string_bytes c.args.f.now) (string_bytes c.fmt_root.new.f)

@@ -1,0 +1,24 @@
+-- Calls of closures that print.
+use Rattle.std.specs.Prelude.{◌≡◌, Result, Ok}
+use Rattle.std.specs.Borrow.{Bor, MutBor}
+use Rattle.std.specs.Fn.{Shared}
+
+-- a call of f, as an `Fn` is called, at a context, a state and a text, may give r and leave s' and b'
+pub record FnWrites {F C S B R : Type 0} (g : Shared F (Bor C × (MutBor S × (MutBor B × Unit {0}))) (R × (MutBor S × (MutBor B × Unit {0})))) (f : F) (c : C) (s : S) (b : B) (r : R) (s' : S) (b' : B) : Type 0 where
+  pub context : Bor C
+  pub state : MutBor S
+  pub text : MutBor B
+  pub shows : (context.now ≡ c) × (state.now ≡ s) × (text.now ≡ b)
+  pub left : MutBor S × (MutBor B × Unit {0})
+  pub met : g.post f (context, (state, (text, tt))) (r, left)
+  pub leaves : (left.0.now ≡ s') × (left.1.0.now ≡ b')
+
+-- a call of f, as an `Fn` is called, at an item, a context, a state and a text, may succeed and leave s' and b'
+pub record FnWritesItem {F X C S B E : Type 0} (g : Shared F (X × (Bor C × (MutBor S × (MutBor B × Unit {0})))) (Result (Unit {0}) E × (MutBor S × (MutBor B × Unit {0})))) (f : F) (c : C) (x : X) (s : S) (b : B) (s' : S) (b' : B) : Type 0 where
+  pub context : Bor C
+  pub state : MutBor S
+  pub text : MutBor B
+  pub shows : (context.now ≡ c) × (state.now ≡ s) × (text.now ≡ b)
+  pub left : MutBor S × (MutBor B × Unit {0})
+  pub met : g.post f (x, (context, (state, (text, tt)))) (Ok tt, left)
+  pub leaves : (left.0.now ≡ s') × (left.1.0.now ≡ b')

@@ -1,0 +1,93 @@
+//! Stored printers: values that print a closure's text, a quoted text, the items of an iterator, or a text between two others.
+ghost use Rattle.std.specs.Prelude.{◌≡◌};
+ghost use Rattle.std.specs.Slice.Iter.{iter_rest};
+
+use crate::printable::ListSeparator;
+use crate::printable::state::State;
+use irtext_base::base::Context;
+use irtext_base::text::{AttrText, IrText};
+use std::fmt;
+
+pub mod closures;
+pub mod lists;
+pub mod texts;
+
+pub use closures::PrinterFn;
+pub use lists::{IterWithSep, IterWithSepBy};
+pub use texts::{Enclosed, Quoted};
+
+/// A printer that writes what its closure writes, and leaves the state that the closure leaves. It fails where the closure does.
+pub fn printable_from_fn<
+    T: IrText<A>,
+    A: AttrText,
+    U,
+    F: Fn(&Context<T, A>, &mut State<U>, &mut String) -> fmt::Result,
+>(print: F) -> PrinterFn<F>
+    ensures { result.print ≡ print }
+{
+    PrinterFn { print }
+}
+
+/// A printer that writes the text as [`fmt_quoted`](crate::printable::fmt_quoted) does. It fails only where memory is refused.
+pub fn quoted(text: &str) -> Quoted<'_>
+    ensures { result.text.now ≡ text.now }
+{
+    Quoted { text }
+}
+
+/// A printer that writes the items of a slice, with a separator between each two. It fails where a separator or an item does.
+pub fn list_with_sep<X>(
+    items: &[X],
+    separator: ListSeparator,
+) -> IterWithSep<std::slice::Iter<'_, X>>
+    ensures iter { iter_rest result.iter ≡ items.now }
+    ensures separator { result.separator ≡ separator }
+{
+    IterWithSep {
+        iter: items.iter(),
+        separator,
+    }
+}
+
+/// A printer that writes the items of a finite iterator, with a separator between each two; the iterator is cloned at each
+/// printing. It fails where the clone, a separator or an item does.
+pub fn iter_with_sep<I: Iterator + Clone>(iter: I, separator: ListSeparator) -> IterWithSep<I>
+    ensures iter { result.iter ≡ iter }
+    ensures separator { result.separator ≡ separator }
+{
+    IterWithSep { iter, separator }
+}
+
+/// A printer that writes what its closure writes of each item of a finite iterator, with a separator between each two; the
+/// iterator is cloned at each printing. It fails where the clone, a separator or the closure does.
+pub fn iter_with_sep_by<
+    T: IrText<A>,
+    A: AttrText,
+    U,
+    I: Iterator + Clone,
+    F: Fn(I::Item, &Context<T, A>, &mut State<U>, &mut String) -> fmt::Result,
+>(iter: I, separator: ListSeparator, print_item: F) -> IterWithSepBy<I, F>
+    ensures iter { result.iter ≡ iter }
+    ensures separator { result.separator ≡ separator }
+    ensures print_item { result.print_item ≡ print_item }
+{
+    IterWithSepBy {
+        iter,
+        separator,
+        print_item,
+    }
+}
+
+/// A printer that writes the left text, what is inside and the right text. It fails where memory is refused or what is inside
+/// fails.
+pub fn enclosed<'a, P>(left: &'a str, right: &'a str, inside: P) -> Enclosed<'a, P>
+    ensures left { result.left.now ≡ left.now }
+    ensures right { result.right.now ≡ right.now }
+    ensures inside { result.inside ≡ inside }
+{
+    Enclosed {
+        left,
+        right,
+        inside,
+    }
+}

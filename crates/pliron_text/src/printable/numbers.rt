@@ -1,0 +1,90 @@
+//! Numbers print themselves in decimal digits.
+ghost use Rattle.std.specs.Prelude.{◌≡◌, Some};
+ghost use Rattle.std.specs.Fmt.{decimal, signed_decimal};
+
+use crate::printable::Printable;
+use crate::printable::state::State;
+use irtext_base::base::Context;
+use irtext_base::text::{AttrText, IrText};
+use std::fmt;
+
+impl<T: IrText<A>, A: AttrText, U> Printable<U, T, A> for usize {
+    ghost gives = { λ n _ s. Some (decimal n, s) };
+
+    fn fmt(&self, _ctx: &Context<T, A>, _state: &mut State<U>, f: &mut String) -> fmt::Result {
+        write!(f, "{}", *self)?;
+        Ok(())
+    }
+}
+
+impl<T: IrText<A>, A: AttrText, U> Printable<U, T, A> for u8 {
+    ghost gives = { λ n _ s. Some (decimal n, s) };
+
+    fn fmt(&self, _ctx: &Context<T, A>, _state: &mut State<U>, f: &mut String) -> fmt::Result {
+        write!(f, "{}", *self)?;
+        Ok(())
+    }
+}
+
+impl<T: IrText<A>, A: AttrText, U> Printable<U, T, A> for u16 {
+    ghost gives = { λ n _ s. Some (decimal n, s) };
+
+    fn fmt(&self, _ctx: &Context<T, A>, _state: &mut State<U>, f: &mut String) -> fmt::Result {
+        write!(f, "{}", *self)?;
+        Ok(())
+    }
+}
+
+impl<T: IrText<A>, A: AttrText, U> Printable<U, T, A> for u32 {
+    ghost gives = { λ n _ s. Some (decimal n, s) };
+
+    fn fmt(&self, _ctx: &Context<T, A>, _state: &mut State<U>, f: &mut String) -> fmt::Result {
+        write!(f, "{}", *self)?;
+        Ok(())
+    }
+}
+
+impl<T: IrText<A>, A: AttrText, U> Printable<U, T, A> for u64 {
+    ghost gives = { λ n _ s. Some (decimal n, s) };
+
+    fn fmt(&self, _ctx: &Context<T, A>, _state: &mut State<U>, f: &mut String) -> fmt::Result {
+        write!(f, "{}", *self)?;
+        Ok(())
+    }
+}
+
+impl<T: IrText<A>, A: AttrText, U> Printable<U, T, A> for i8 {
+    ghost gives = { λ n _ s. Some (signed_decimal n, s) };
+
+    fn fmt(&self, _ctx: &Context<T, A>, _state: &mut State<U>, f: &mut String) -> fmt::Result {
+        write!(f, "{}", *self)?;
+        Ok(())
+    }
+}
+
+impl<T: IrText<A>, A: AttrText, U> Printable<U, T, A> for i16 {
+    ghost gives = { λ n _ s. Some (signed_decimal n, s) };
+
+    fn fmt(&self, _ctx: &Context<T, A>, _state: &mut State<U>, f: &mut String) -> fmt::Result {
+        write!(f, "{}", *self)?;
+        Ok(())
+    }
+}
+
+impl<T: IrText<A>, A: AttrText, U> Printable<U, T, A> for i32 {
+    ghost gives = { λ n _ s. Some (signed_decimal n, s) };
+
+    fn fmt(&self, _ctx: &Context<T, A>, _state: &mut State<U>, f: &mut String) -> fmt::Result {
+        write!(f, "{}", *self)?;
+        Ok(())
+    }
+}
+
+impl<T: IrText<A>, A: AttrText, U> Printable<U, T, A> for i64 {
+    ghost gives = { λ n _ s. Some (signed_decimal n, s) };
+
+    fn fmt(&self, _ctx: &Context<T, A>, _state: &mut State<U>, f: &mut String) -> fmt::Result {
+        write!(f, "{}", *self)?;
+        Ok(())
+    }
+}
