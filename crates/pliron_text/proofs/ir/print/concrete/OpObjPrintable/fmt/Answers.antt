@@ -6,8 +6,8 @@ use Rattle.pliron_text.proofs.ModulesText.{there}
 use Rattle.pliron_text.proofs.PrintedRoots.{writes-concrete}
 use Rattle.pliron_text.proofs.ir.print.concrete.OpObjPrintable.fmt.Goals as goal
 
-pub returns : goal.returns
-returns g c =
+pub returns-clause-text : goal.returns-clause-text
+returns-clause-text g c =
     let v = there (operation c.args.ctx.now c.args.self.now.op) c.requires in
     writes-concrete (unplaced (texts_of g.T.IrText.reading g.T.IrText.written) (texts_of g.A.IrText.reading g.A.IrText.written) format_of) g.A.AttrText.outlined g.A.AttrText.print_once g.A.PartialEq.eq
     c.args.ctx.now c.args.self.now.op v.0 c.args.state.now c.fmt_concrete.new.state (string_bytes c.args.f.now) (string_bytes c.fmt_concrete.new.f)
