@@ -14,3 +14,4 @@ pub mod Formats
 pub mod Dialects
 pub mod Conditions
 pub mod Meetings
+pub mod Sources

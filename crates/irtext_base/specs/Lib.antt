@@ -17,3 +17,5 @@ pub mod Arena
 pub mod Lending
 pub mod Context
 pub mod Room
+pub mod Locations
+pub mod Seen

@@ -2,6 +2,8 @@
 ghost use Rattle.std.specs.Prelude.{◌≡◌, true, false};
 ghost use Rattle.irtext_base.specs.declared.location.Location.{Unknown};
 
+pub mod sources;
+
 use crate::base::AttrObj;
 use crate::parsable::SourcePosition;
 

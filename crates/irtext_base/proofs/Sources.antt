@@ -1,0 +1,47 @@
+-- A location's one source, from how many were seen of it so far.
+use Rattle.std.proofs.Common.{◌≡◌, ◌∙◌, ap, refl, sym, ℕ, Bool, true, false, cond, Option, Some, None, List, [], ◌∷◌, ◌++◌}
+use Rattle.std.specs.List.{list_any}
+use Rattle.irtext_base.specs.declared.location.Source.{Source}
+use Rattle.irtext_base.specs.declared.location.sources.Seen.{Seen}
+use Rattle.irtext_base.specs.declared.location.sources.Seen.TheVariants.{Nothing, One, Several}
+use Rattle.irtext_base.specs.Locations.{LocationView, src_pos, fused, named, call_site, unknown, LocationViews, no_location, location, same_source, noted, all_noted, row_noted, only}
+use Rattle.irtext_base.specs.Seen.{seen_of, more_seen, all_seen, row_seen, one_seen}
+
+-- one more source
+step : (found : List Source) (s : Source) → more_seen (seen_of found) s ≡ seen_of (noted found s)
+step [] s = refl
+step (f ∷ []) s = by_test (same_source s f)
+  where
+    by_test : (b : Bool) → cond b (One f) Several ≡ seen_of (cond (list_any (λ _. b) (f ∷ [])) (f ∷ []) (f ∷ s ∷ []))
+    by_test true = refl
+    by_test false = refl
+step (f ∷ g ∷ more) s = by_test (list_any (same_source s) (f ∷ g ∷ more))
+  where
+    by_test : (b : Bool) → Several ≡ seen_of (cond b (f ∷ g ∷ more) ((f ∷ g ∷ more) ++ s ∷ []))
+    by_test true = refl
+    by_test false = refl
+
+mutual
+  -- the sources of one location more
+  pub seen_is_noted : {A : Type 0} (found : List Source) (l : LocationView A) → all_seen (seen_of found) l ≡ seen_of (all_noted found l)
+  seen_is_noted found (src_pos src pos) = step found src
+  seen_is_noted found (fused metadata locations) = row_is_noted found locations
+  seen_is_noted found (named name child) = seen_is_noted found child
+  seen_is_noted found (call_site callee caller) =
+      ap (λ s. all_seen s caller) (seen_is_noted found callee) ∙ seen_is_noted (all_noted found callee) caller
+  seen_is_noted found unknown = refl
+
+  -- the same of a row
+  pub row_is_noted : {A : Type 0} (found : List Source) (ls : LocationViews A) → row_seen (seen_of found) ls ≡ seen_of (row_noted found ls)
+  row_is_noted found no_location = refl
+  row_is_noted found (location l ls) =
+      ap (λ s. row_seen s ls) (seen_is_noted found l) ∙ row_is_noted (all_noted found l) ls
+
+only_is_one : (found : List Source) → one_seen (seen_of found) ≡ only found
+only_is_one [] = refl
+only_is_one (s ∷ []) = refl
+only_is_one (s ∷ t ∷ more) = refl
+
+-- what is seen of the whole location gives its one source
+pub one_is_only : {A : Type 0} (l : LocationView A) → one_seen (all_seen Nothing l) ≡ only (all_noted [] l)
+one_is_only l = ap one_seen (seen_is_noted [] l) ∙ only_is_one (all_noted [] l)

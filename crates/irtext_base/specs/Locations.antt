@@ -1,0 +1,99 @@
+-- Locations as definitions speak of them, without where their parts lie in memory; and the sources that they mention.
+use Rattle.std.specs.Prelude.{ℕ, Bool, true, false, ◌==◌, cond, Option, Some, None, List, [], ◌∷◌, ◌++◌, string_bytes}
+use Rattle.std.specs.List.{list_any}
+use Rattle.irtext_base.specs.Text.{Text}
+use Rattle.irtext_base.specs.declared.base.attributes.AttrObj.{AttrObj}
+use Rattle.irtext_base.specs.declared.base.attributes.AttrObj.TheVariants as attr
+use Rattle.irtext_base.specs.declared.location.PathKey.{PathKey}
+use Rattle.irtext_base.specs.declared.location.Source.{Source}
+use Rattle.irtext_base.specs.declared.location.Source.TheVariants.{File, InMemory}
+use Rattle.irtext_base.specs.declared.location.Location.{Location, fold-Location}
+use Rattle.irtext_base.specs.declared.location.Location.TheOpen.{Location-F}
+use Rattle.irtext_base.specs.declared.parsable.position.SourcePosition.{SourcePosition}
+
+-- an attribute: given names, an identifier, or one of the caller's
+pub data AttrView (A : Type 0) : Type 0 where
+  given_names : List (Option Text) → AttrView A
+  ident : Text → AttrView A
+  own : A → AttrView A
+
+-- the attribute, as definitions speak of it
+abbrev pub attr_view : {A : Type 0} → AttrObj A → AttrView A
+attr_view (attr.GivenNames names) = given_names names.items
+attr_view (attr.Ident name) = ident name
+attr_view (attr.Own a) = own a
+
+-- the attribute, if there is one
+abbrev pub attr_view_in : {A : Type 0} → Option (AttrObj A) → Option (AttrView A)
+attr_view_in None = None
+attr_view_in (Some a) = Some (attr_view a)
+
+mutual
+  -- a location: a place of a source, several locations as one, a name for one, a callee's with its caller's, or none
+  pub data LocationView (A : Type 0) : Type 0 where
+    src_pos : Source → SourcePosition → LocationView A
+    fused : Option (AttrView A) → LocationViews A → LocationView A
+    named : List ℕ → LocationView A → LocationView A
+    call_site : LocationView A → LocationView A → LocationView A
+    unknown : LocationView A
+
+  -- locations in a row
+  pub data LocationViews (A : Type 0) : Type 0 where
+    no_location : LocationViews A
+    location : LocationView A → LocationViews A → LocationViews A
+
+-- a list of locations as a row
+abbrev pub in_row : {A : Type 0} → List (LocationView A) → LocationViews A
+in_row [] = no_location
+in_row (l ∷ ls) = location l (in_row ls)
+
+-- one level of a location, with each location inside already as definitions speak of it
+abbrev pub view_step : {A : Type 0} → Location-F A (LocationView A) → LocationView A
+view_step (Location-F.SrcPos src pos) = src_pos src pos
+view_step (Location-F.Fused metadata locations) = fused (attr_view_in metadata.value) (in_row locations.value.items)
+view_step (Location-F.Named name child_loc) = named (string_bytes name.value) child_loc.value
+view_step (Location-F.CallSite callee caller) = call_site callee.value caller.value
+view_step Location-F.Unknown = unknown
+
+-- the location, as definitions speak of it
+abbrev pub location_view : {A : Type 0} → Location A → LocationView A
+location_view {A} = fold-Location A (LocationView A) view_step
+
+-- the two are one source
+abbrev pub same_source : Source → Source → Bool
+same_source (File k) (File j) = k.index == j.index
+same_source InMemory InMemory = true
+same_source (File k) InMemory = false
+same_source InMemory (File j) = false
+
+-- the sources with one more, which stands last where it wasn't there
+abbrev pub noted : List Source → Source → List Source
+noted found s = cond (list_any (same_source s) found) found (found ++ s ∷ [])
+
+abbrev mutual
+  -- the sources found before, and behind them those that the location mentions, each where it is first mentioned
+  pub all_noted : {A : Type 0} → List Source → LocationView A → List Source
+  all_noted found (src_pos src pos) = noted found src
+  all_noted found (fused metadata locations) = row_noted found locations
+  all_noted found (named name child) = all_noted found child
+  all_noted found (call_site callee caller) = all_noted (all_noted found callee) caller
+  all_noted found unknown = found
+
+  -- the same of each location in a row
+  pub row_noted : {A : Type 0} → List Source → LocationViews A → List Source
+  row_noted found no_location = found
+  row_noted found (location l ls) = row_noted (all_noted found l) ls
+
+-- the distinct sources of a location, in the order in which they are first mentioned
+abbrev pub sources : {A : Type 0} → Location A → List Source
+sources l = all_noted [] (location_view l)
+
+-- the one member of a list that has one
+abbrev pub only : {X : Type 0} → List X → Option X
+only [] = None
+only (x ∷ []) = Some x
+only (x ∷ y ∷ ys) = None
+
+-- the source of a location that has one alone
+abbrev pub source : {A : Type 0} → Location A → Option Source
+source l = only (sources l)
