@@ -7,9 +7,16 @@ use Rattle.irtext_base.specs.declared.base.attributes.AttrObj.TheVariants as att
 use Rattle.irtext_base.specs.declared.location.PathKey.{PathKey}
 use Rattle.irtext_base.specs.declared.location.Source.{Source}
 use Rattle.irtext_base.specs.declared.location.Source.TheVariants.{File, InMemory}
-use Rattle.irtext_base.specs.declared.location.Location.{Location, fold-Location}
+use Rattle.irtext_base.specs.declared.location.Location.{Location, fold-Location, Unknown}
 use Rattle.irtext_base.specs.declared.location.Location.TheOpen.{Location-F}
 use Rattle.irtext_base.specs.declared.parsable.position.SourcePosition.{SourcePosition}
+use Rattle.irtext_base.specs.declared.result.Cause.{Memory}
+use Rattle.irtext_base.specs.declared.result.Error.{Error}
+use Rattle.irtext_base.specs.declared.result.ErrorKind.TheVariants.{InvalidArgument}
+
+-- the refusal of a call for want of memory
+abbrev pub out_of_memory : {A : Type 0} → Error A
+out_of_memory = record { kind = InvalidArgument; err = Memory; loc = Unknown }
 
 -- an attribute: given names, an identifier, or one of the caller's
 pub data AttrView (A : Type 0) : Type 0 where

@@ -1,11 +1,14 @@
 //! Where operations, blocks and errors come from.
 ghost use Rattle.std.specs.Prelude.{◌≡◌, true, false};
 ghost use Rattle.irtext_base.specs.declared.location.Location.{Unknown};
+ghost use Rattle.irtext_base.specs.Locations.{out_of_memory};
 
+mod copy;
 pub mod sources;
 
 use crate::base::AttrObj;
 use crate::parsable::SourcePosition;
+use crate::result::{Cause, Error, ErrorKind};
 
 /// The key of a path that a context keeps.
 #[derive(Clone, Copy, PartialEq, Eq, Hash, Debug)]
@@ -23,7 +26,7 @@ pub enum Source {
 }
 
 /// Where something comes from.
-#[derive(Drop)]
+#[derive(PartialEq, Eq, Hash, Debug, Drop)]
 #[cycle(location)]
 pub enum Location<A> {
     /// A place of a source.
@@ -48,6 +51,17 @@ pub enum Location<A> {
     },
     /// Not known.
     Unknown,
+}
+
+/// The refusal of a call for want of memory.
+pub(crate) fn out_of_memory<A>() -> Error<A>
+    ensures { result ≡ out_of_memory }
+{
+    Error {
+        kind: ErrorKind::InvalidArgument,
+        err: Cause::Memory,
+        loc: Location::Unknown,
+    }
 }
 
 impl<A> Location<A> {

@@ -11,6 +11,8 @@ ghost use Rattle.irtext_base.specs.Dictionary.{are_given_names, placed, moved_up
 ghost use Rattle.irtext_base.specs.Entries.{entries_left};
 ghost use Rattle.irtext_base.specs.declared.base.attributes.Refusal.TheVariants.{Memory, ReservedKey};
 
+mod copy;
+
 use crate::base::Identifier;
 use indexmap::IndexMap;
 use std::alloc::Global;
@@ -26,7 +28,7 @@ pub enum Refusal {
 }
 
 /// An attribute: names of results or arguments, an identifier, or one of the caller's own.
-#[derive(Drop)]
+#[derive(PartialEq, Eq, Hash, Debug, Drop)]
 pub enum AttrObj<A> {
     GivenNames(Vec<Option<Identifier>>),
     Ident(Identifier),

@@ -1,10 +1,10 @@
 //! The sources that a location mentions.
-ghost use Rattle.std.specs.Prelude.{◌≡◌, IfOk, OnOk, map};
+ghost use Rattle.std.specs.Prelude.{◌≡◌, IfOk, IfErr, OnOk, map};
 ghost use Rattle.std.specs.List.{list_any};
-ghost use Rattle.irtext_base.specs.Locations.{location_view, same_source, noted, all_noted, row_noted, in_row, sources, source};
+ghost use Rattle.irtext_base.specs.Locations.{location_view, same_source, noted, all_noted, row_noted, in_row, sources, source, out_of_memory};
 ghost use Rattle.irtext_base.specs.Seen.{more_seen, all_seen, row_seen, one_seen};
 
-use crate::location::{Location, Source};
+use crate::location::{Location, Source, out_of_memory};
 use std::alloc::{AllocError, Global};
 
 fn is_same(a: Source, b: Source) -> bool
@@ -127,12 +127,15 @@ impl<A> Location<A> {
     }
 
     /// The distinct sources of the location, in the order in which it first mentions them. What its metadata
-    /// mentions doesn't count. An `Err` means that memory was refused.
-    pub fn sources(&self, alloc: Global) -> Result<Vec<Source>, AllocError>
-        ensures { IfOk result (λ v. v.items ≡ sources self.now) }
+    /// mentions doesn't count. It is refused only for want of memory, by `Memory`, an error of kind invalid argument.
+    pub fn sources(&self, alloc: Global) -> crate::result::Result<Vec<Source>, A>
+        ensures ok { IfOk result (λ found. found.items ≡ sources self.now) }
+        ensures err { IfErr result (λ e. e ≡ out_of_memory) }
     {
         let mut found = Vec::new(alloc);
-        note_sources(self, &mut found)?;
-        Ok(found)
+        match note_sources(self, &mut found) {
+            Ok(()) => Ok(found),
+            Err(_) => Err(out_of_memory()),
+        }
     }
 }

@@ -1,0 +1,42 @@
+//! Copies of attributes.
+ghost use Rattle.std.specs.Prelude.{◌≡◌, IfOk};
+ghost use Rattle.irtext_base.specs.Locations.{attr_view};
+
+use crate::base::{AttrObj, Identifier};
+use crate::text::AttrText;
+use std::alloc::{AllocError, Global};
+
+fn copy_name(name: &Option<Identifier>) -> Result<Option<Identifier>, AllocError>
+    ensures { IfOk result (λ copy. copy ≡ name.now) }
+{
+    match name {
+        Some(name) => Ok(Some(name.clone()?)),
+        None => Ok(None),
+    }
+}
+
+fn copy_names(
+    alloc: Global,
+    names: &Vec<Option<Identifier>>,
+) -> Result<Vec<Option<Identifier>>, AllocError>
+    ensures { IfOk result (λ copies. copies.items ≡ names.now.items) }
+{
+    let mut copies = Vec::with_capacity(alloc, names.len())?;
+    for name in names {
+        copies.push(copy_name(name)?)?;
+    }
+    Ok(copies)
+}
+
+impl<A: AttrText> AttrObj<A> {
+    /// A copy that equals the attribute. It is refused only for want of memory.
+    pub fn try_clone(&self, alloc: Global) -> Result<AttrObj<A>, AllocError>
+        ensures { IfOk result (λ copy. attr_view copy ≡ attr_view self.now) }
+    {
+        match self {
+            AttrObj::GivenNames(names) => Ok(AttrObj::GivenNames(copy_names(alloc, names)?)),
+            AttrObj::Ident(name) => Ok(AttrObj::Ident(name.clone()?)),
+            AttrObj::Own(attr) => Ok(AttrObj::Own(attr.try_clone()?)),
+        }
+    }
+}
