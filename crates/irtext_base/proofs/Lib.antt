@@ -15,3 +15,5 @@ pub mod Dialects
 pub mod Conditions
 pub mod Meetings
 pub mod Sources
+pub mod KeptPaths
+pub mod StableHashes

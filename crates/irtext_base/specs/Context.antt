@@ -1,6 +1,8 @@
--- What a caller sees of a context: the operations and regions in it, under their pointers, and how many objects were made.
-use Rattle.std.specs.Prelude.{◌≡◌, ◌≢◌, ◌≤◌, ◌+◌, ◌++◌, ◌∷◌, ◌==◌, if◌then◌else◌, ℕ, Bool, List, [], length, Option, Some, None, map, slice_get, is_some, count_by, unwrap_or}
+-- What a caller sees of a context: the operations and regions in it, under their pointers, how many objects were made, and the paths of files.
+use Rattle.std.specs.Prelude.{◌≡◌, ◌≢◌, ◌≤◌, ◌+◌, ◌++◌, ◌∷◌, ◌==◌, if◌then◌else◌, ℕ, Bool, List, [], length, Option, Some, None, map, slice_get, is_some, count_by, unwrap_or, string_bytes, String}
 use Rattle.std.specs.Option.{option_map}
+use Rattle.std.specs.HashSet.{HashSet}
+use Rattle.std.specs.declared.alloc.Global.{Global}
 use Rattle.irtext_base.specs.Text.{Text}
 use Rattle.irtext_base.specs.Arena as arena
 use Rattle.irtext_base.specs.Arena.{older}
@@ -35,9 +37,10 @@ pub record OperationView (T A : Type 0) : Type 0 where
   pub loc : Location A
   pub regions : List (Ptr Region)
 
--- a context: how many objects were made in it, and those that stand
+-- a context: how many objects were made in it, those that stand, and the paths that it keeps, each in bytes
 pub record ContextView (T A : Type 0) : Type 0 where
   pub made : ℕ
+  pub paths : List (List ℕ)
   pub operations : Store (OperationView T A)
   pub regions : Store RegionData
 
@@ -63,9 +66,17 @@ module _ {X Y : Type 0} (see : X → Y) where
 abbrev pub operation_of : {T A : Type 0} → OperationData T A → OperationView T A
 operation_of d = record { id = d.id; result_types = d.result_types.items; attributes = d.attributes; loc = d.loc; regions = d.regions.items }
 
--- what is seen of a context with these objects
-abbrev pub context_of : {T A : Type 0} → ℕ → Arena (OperationData T A) → Arena RegionData → ContextView T A
-context_of made operations regions = record { made = made; operations = store_of operation_of operations; regions = store_of (λ r. r) regions }
+-- the texts of paths
+abbrev pub path_texts : {S : Type 0} → HashSet (String Global) S → List (List ℕ)
+path_texts paths = map string_bytes paths.keys
+
+-- what is seen of a context with these objects and paths
+abbrev pub context_of : {T A : Type 0} → ℕ → Arena (OperationData T A) → Arena RegionData → List (List ℕ) → ContextView T A
+context_of made operations regions paths = record { made = made; paths = paths; operations = store_of operation_of operations; regions = store_of (λ r. r) regions }
+
+-- each path stays under its key
+abbrev pub KeepsPaths : List (List ℕ) → List (List ℕ) → Type 0
+KeepsPaths old new = (i : ℕ) (path : List ℕ) → slice_get old i ≡ Some path → slice_get new i ≡ Some path
 
 module _ {X : Type 0} where
   -- the object of a place, under a generation
@@ -147,6 +158,7 @@ module _ {T A : Type 0} where
     pub operations : (p : Ptr Operation) → before mark new.operations p ≡ before mark old.operations p
     pub regions : (p : Ptr Region) → before mark new.regions p ≡ before mark old.regions p
     pub count : old.made ≤ new.made
+    pub paths : KeepsPaths old.paths new.paths
 
   -- every object is older than the mark
   pub record AllOlder (mark : ℕ) (c : ContextView T A) : Type 0 where
@@ -158,21 +170,25 @@ module _ {T A : Type 0} where
     pub operations : Returns Operation mark old.operations new.operations
     pub regions : Returns Region mark old.regions new.regions
     pub made : new.made ≡ old.made
+    pub paths : new.paths ≡ old.paths
 
   -- an operation came to stand under a new pointer
   pub record MakesOperation (old new : ContextView T A) (p : Ptr Operation) (view : OperationView T A) : Type 0 where
     pub operations : Inserts old.operations new.operations p (record { born = old.made; content = view })
     pub regions : new.regions ≡ old.regions
     pub made : new.made ≡ old.made + 1
+    pub paths : new.paths ≡ old.paths
 
   -- a region came to stand last in an operation, under a new pointer
   pub record AddsRegion (old new : ContextView T A) (op : Ptr Operation) (r : Ptr Region) : Type 0 where
     pub operations : Edits old.operations new.operations op (with_region r)
     pub regions : Inserts old.regions new.regions r (record { born = old.made; content = record { parent = op } })
     pub made : new.made ≡ old.made + 1
+    pub paths : new.paths ≡ old.paths
 
   -- an operation changed, and nothing else
   pub record EditsOperation (old new : ContextView T A) (p : Ptr Operation) (change : OperationView T A → OperationView T A) : Type 0 where
     pub operations : Edits old.operations new.operations p change
     pub regions : new.regions ≡ old.regions
     pub made : new.made ≡ old.made
+    pub paths : new.paths ≡ old.paths

@@ -19,3 +19,6 @@ pub mod Context
 pub mod Room
 pub mod Locations
 pub mod Seen
+pub mod Paths
+pub mod StableHash
+pub mod Moves

@@ -6,6 +6,7 @@ use Rattle.irtext_base.specs.Context.{ContextView, OperationView, KeepsOlder, Al
 use Rattle.irtext_base.specs.declared.base.arena.Object.{Object}
 use Rattle.irtext_base.specs.declared.base.arena.Ptr.{Ptr}
 use Rattle.irtext_base.specs.declared.base.operation.Operation.{Operation}
+use Rattle.irtext_base.proofs.Contexts.{same-paths}
 use Rattle.pliron_text.specs.Roots.{SameObjects}
 
 -- an object that is no older than a mark was not there before it
@@ -14,7 +15,7 @@ older-new mark o h = let e : ltb o.born mark ≡ false = grind (arith, nat_tests
 
 module _ {T A : Type 0} where
   pub kept_trans : {mark : ℕ} {old mid new : ContextView T A} → KeepsOlder mark old mid → KeepsOlder mark mid new → KeepsOlder mark old new
-  kept_trans h k = record { operations = λ p. k.operations p ∙ h.operations p; regions = λ p. k.regions p ∙ h.regions p; count = omega (arith, h.count, k.count) }
+  kept_trans h k = record { operations = λ p. k.operations p ∙ h.operations p; regions = λ p. k.regions p ∙ h.regions p; count = omega (arith, h.count, k.count); paths = λ i path e. k.paths i path (h.paths i path e) }
 
   -- an operation that was made stood nowhere before
   pub before_made : {old new : ContextView T A} {p : Ptr Operation} {view : OperationView T A} → (mark : ℕ) → mark ≤ old.made → MakesOperation old new p view → before mark new.operations p ≡ None
@@ -25,4 +26,5 @@ module _ {T A : Type 0} where
   rolled_back a k r = record {
     operations = λ p. r.operations.at p ∙ (k.operations p ∙ a.operations p);
     regions = λ p. r.regions.at p ∙ (k.regions p ∙ a.regions p);
+    paths = λ i path e. same-paths r.paths i path (k.paths i path e);
   }

@@ -7,7 +7,7 @@ use Rattle.irtext_base.specs.Text.{Text, after_space}
 use Rattle.irtext_base.specs.Faults.{id_of}
 use Rattle.irtext_base.specs.Stream.{StreamView}
 use Rattle.irtext_base.specs.Answers.{Outcome, Read, Missing, Bad, followed, mapped}
-use Rattle.irtext_base.specs.Context.{ContextView, OperationView, Cell, Store, Inserts, MakesOperation, AddsRegion, EditsOperation, get, object_in, object_of, drawn, operation, region, regions_in, with_region}
+use Rattle.irtext_base.specs.Context.{ContextView, OperationView, Cell, Store, Inserts, MakesOperation, AddsRegion, EditsOperation, get, object_in, object_of, drawn, operation, region, regions_in, with_region, KeepsPaths}
 use Rattle.irtext_base.specs.declared.base.arena.Object.{Object}
 use Rattle.irtext_base.specs.declared.base.arena.Ptr.{Ptr}
 use Rattle.irtext_base.specs.declared.base.identifier.OpId.{OpId}
@@ -16,6 +16,7 @@ use Rattle.irtext_base.specs.declared.base.region.Region.{Region}
 use Rattle.irtext_base.specs.declared.base.region.RegionData.{RegionData}
 use Rattle.irtext_base.specs.declared.location.Location.{Location, SrcPos}
 use Rattle.irtext_base.specs.declared.parsable.fault.ParseFault.{ParseFault}
+use Rattle.irtext_base.proofs.Contexts.{same-paths}
 use Rattle.irtext_base.proofs.Numbers.{same_character}
 use Rattle.irtext_read.specs.States.{marks_of, same_index, LocatesAt}
 use Rattle.irtext_read.specs.declared.parsable.state.StateStream.{StateStream}
@@ -75,6 +76,7 @@ module _ {T A : Type 0} where
     pub region_born : ℕ
     pub region_here : get new.regions r ≡ Some (record { born = region_born; content = record { parent = op } })
     pub regions : (q : Ptr Region) → q ≢ r → get new.regions q ≡ get old.regions q
+    pub paths : KeepsPaths old.paths new.paths
 
   made_stands : {old mid new : ContextView T A} {op : Ptr Operation} {r : Ptr Region} {view : OperationView T A} → MakesOperation old mid op view → AddsRegion mid new op r → Stood old new op r (with_region r view)
   made_stands {old = old} {mid = mid} {new = new} {op = op} {r = r} {view = view} m a =
@@ -88,6 +90,7 @@ module _ {T A : Type 0} where
         region_born = mid.made;
         region_here = a.regions.updates.changed;
         regions = λ q d. a.regions.updates.others q d ∙ ap (λ s. get s q) same;
+        paths = same-paths (a.paths ∙ m.paths);
       }
 
   edited_stands : {old mid new : ContextView T A} {op : Ptr Operation} {r : Ptr Region} {view : OperationView T A} (l : Location A) → Stood old mid op r view → EditsOperation mid new op (with_location l) → Stood old new op r (with_location l view)
@@ -100,6 +103,7 @@ module _ {T A : Type 0} where
     region_born = s.region_born;
     region_here = ap (λ s. get s r) e.regions ∙ s.region_here;
     regions = λ q d. ap (λ s. get s q) e.regions ∙ s.regions q d;
+    paths = λ i path h. same-paths e.paths i path (s.paths i path h);
   }
 
   located_stands : {old mid new : ContextView T A} {op : Ptr Operation} {r : Ptr Region} {view : OperationView T A} (l : Location A) → Stood old mid op r view → Locates op l mid new → Stood old new op r (with_location l view)
@@ -118,6 +122,7 @@ module _ {T A : Type 0} where
         regions_are_new = λ q i. let same : q ≡ r = only (subst (In q) alone i) in
             (ap (get old.regions) same ∙ s.region_new, ap (region new) same ∙ ap (option_map (λ (x : Object RegionData). x.content)) s.region_here);
         regions = λ q n. s.regions q (λ e. n (subst (In q) (sym alone) (inl e)));
+        paths = s.paths;
       }
     where
       only : {q : Ptr Region} → In q (r ∷ []) → q ≡ r

@@ -6,7 +6,7 @@ use Rattle.irtext_base.specs.Format.{sym_name_key}
 use Rattle.irtext_base.specs.Stream.{StreamView}
 use Rattle.irtext_base.specs.Faults.{Failed, DuplicateIndex, fault_of, id_of}
 use Rattle.irtext_base.specs.Answers.{Outcome, Read, Missing, Bad, followed, mapped}
-use Rattle.irtext_base.specs.Context.{ContextView, OperationView, MakesOperation, AddsRegion, get}
+use Rattle.irtext_base.specs.Context.{ContextView, OperationView, MakesOperation, AddsRegion, get, KeepsPaths}
 use Rattle.irtext_base.specs.declared.base.arena.Ptr.{Ptr}
 use Rattle.irtext_base.specs.declared.base.attributes.AttrObj.{AttrObj}
 use Rattle.irtext_base.specs.declared.base.attributes.AttrObj.TheVariants.{Ident}
@@ -99,7 +99,8 @@ module _ {T A U : Type 0} where
   abbrev pub MissesModule : StateStream T A U → ParseFault A → StateStream T A U → Type 0
   MissesModule old fault new = MayRead {Y = Module} itself replaced (λ m. m) (operation_at (marks_of old.state)) old.stream (Err fault) new.stream
 
--- every object that stood stands as it did, and none else does
+-- every object that stood stands as it did, none else does, and each path stays under its key
 pub record SameObjects {T A : Type 0} (old new : ContextView T A) : Type 0 where
   pub operations : (p : Ptr Operation) → get new.operations p ≡ get old.operations p
   pub regions : (p : Ptr Region) → get new.regions p ≡ get old.regions p
+  pub paths : KeepsPaths old.paths new.paths

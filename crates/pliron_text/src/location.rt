@@ -3,4 +3,4 @@
 pub mod print;
 pub mod read;
 
-pub use irtext_base::location::{Location, PathKey, Source};
+pub use irtext_base::location::{Location, PathKey, Source, erase_locations};

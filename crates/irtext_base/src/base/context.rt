@@ -1,6 +1,8 @@
-//! The context: all operations and regions.
+//! The context: all operations and regions, and the paths of files.
 ghost use Rattle.std.specs.Prelude.{◌≡◌, ◌≤◌, ◌+◌, ◌↔◌, ℕ, Some, None, [], IsSome, IsTrue, IfOk, OnErr};
 ghost use Rattle.irtext_base.specs.Context.{operation, region, before, count, KeepsOlder, AllOlder, RollsBack, MakesOperation, AddsRegion};
+
+mod paths;
 
 use crate::base::arena::Arena;
 use crate::base::operation::{OperationData, push_region, reserve_region};
@@ -8,14 +10,16 @@ use crate::base::region::RegionData;
 use crate::base::{AttributeDict, OpId, Operation, Ptr, Region};
 use crate::location::Location;
 use crate::text::{AttrText, IrText};
+use indexmap::IndexSet;
 use std::alloc::{AllocError, Global};
 use std::marker::Model;
 
-/// All operations and regions, under pointers.
+/// All operations and regions, under pointers, and the paths of files.
 #[derive(Drop)]
 pub struct Context<T, A> {
     pub(crate) operations: Arena<OperationData<T, A>>,
     pub(crate) regions: Arena<RegionData>,
+    paths: IndexSet<String>,
     made: u64,
     alloc: Global,
 }
@@ -23,7 +27,7 @@ pub struct Context<T, A> {
 impl<T, A> Model for Context<T, A> {
     ghost use Rattle.std.specs.Coded.{codes};
     ghost use borrow.Follows.Found.{coded as coded_row};
-    ghost use Rattle.irtext_base.specs.Context.{ContextView, context_of};
+    ghost use Rattle.irtext_base.specs.Context.{ContextView, context_of, path_texts};
     ghost use Rattle.irtext_base.specs.contracts.location.Location as location;
     ghost use Rattle.irtext_base.specs.Arena.{HasFew, AreOlder};
 
@@ -31,7 +35,7 @@ impl<T, A> Model for Context<T, A> {
 
     ghost coded = { Prim.hlevel (codes, (location.the_row (coded_row A A.code)).coded) };
 
-    ghost view = { λ c. context_of c.made c.operations c.regions };
+    ghost view = { λ c. context_of c.made c.operations c.regions (path_texts c.paths) };
 
     ghost invariant = { λ c. HasFew c.operations × HasFew c.regions × AreOlder c.made c.operations × AreOlder c.made c.regions };
 }
@@ -39,11 +43,12 @@ impl<T, A> Model for Context<T, A> {
 impl<T: IrText<A>, A: AttrText> Context<T, A> {
     /// A context without objects. It takes no memory yet.
     pub fn new(alloc: Global) -> Context<T, A>
-        ensures { result ≡ record { made = 0; operations = record { cells = []; free = None }; regions = record { cells = []; free = None } } }
+        ensures { result ≡ record { made = 0; paths = []; operations = record { cells = []; free = None }; regions = record { cells = []; free = None } } }
     {
         Context {
             operations: Arena::new(alloc),
             regions: Arena::new(alloc),
+            paths: IndexSet::new(alloc),
             made: 0,
             alloc,
         }
@@ -129,7 +134,7 @@ impl<T: IrText<A>, A: AttrText> Context<T, A> {
         Ok(r)
     }
 
-    /// Takes every object out that is no older than the mark, where `made` gave the mark. It takes no memory.
+    /// Takes every object out that is no older than the mark, where `made` gave the mark. Paths stay. It takes no memory.
     pub fn roll_back(&mut self, mark: u64)
         ensures back { RollsBack mark self.old self.new }
         ensures kept { (m : ℕ) → m ≤ mark → KeepsOlder m self.old self.new }

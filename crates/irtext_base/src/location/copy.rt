@@ -27,7 +27,10 @@ fn copy_location<A: AttrText>(
     ensures { IfOk result (λ copy. location_view copy ≡ location_view location.now) }
 {
     match location {
-        Location::SrcPos { src, pos } => Ok(Location::SrcPos { src: *src, pos: *pos }),
+        Location::SrcPos { src, pos } => Ok(Location::SrcPos {
+            src: *src,
+            pos: *pos,
+        }),
         Location::Fused {
             metadata,
             locations,

@@ -19,6 +19,7 @@ returns-clause-edits g c =
       operations = content_edits operation_of (λ op. record op { loc = c.args.loc }) c.ctx.inside.operations c.args.self c.content_mut.result.now _ c.content_mut.ensures.value refl;
       regions = refl;
       made = refl;
+      paths = refl;
     })
 
 pub returns-clause-kept : goal.returns-clause-kept

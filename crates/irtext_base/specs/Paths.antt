@@ -1,0 +1,48 @@
+-- The paths of files that a context keeps, each in bytes, and the locations whose sources are among them.
+use Rattle.std.specs.Prelude.{ℕ, Bool, true, ◌&&◌, nat_lt, Option, Some, None, List, [], ◌∷◌, ◌++◌, length, position, slice_get}
+use Rattle.std.specs.Str.{bytes_eq}
+use Rattle.irtext_base.specs.declared.location.Source.{Source}
+use Rattle.irtext_base.specs.declared.location.Source.TheVariants.{File, InMemory}
+use Rattle.irtext_base.specs.Locations.{LocationView, src_pos, fused, named, call_site, unknown, LocationViews, no_location, location}
+
+-- the index of a path that was found, or else the next one
+abbrev pub index_or_next : Option ℕ → List (List ℕ) → ℕ
+index_or_next (Some i) paths = i
+index_or_next None paths = length paths
+
+-- the paths, with one more behind them where none was found
+abbrev pub found_or_last : Option ℕ → List (List ℕ) → List ℕ → List (List ℕ)
+found_or_last (Some i) paths path = paths
+found_or_last None paths path = paths ++ path ∷ []
+
+-- the index of a path once it is kept
+abbrev pub path_index : List (List ℕ) → List ℕ → ℕ
+path_index paths path = index_or_next (position (bytes_eq path) paths) paths
+
+-- the paths once one more is kept: equal ones are kept once, and a new one is the last
+abbrev pub with_path : List (List ℕ) → List ℕ → List (List ℕ)
+with_path paths path = found_or_last (position (bytes_eq path) paths) paths path
+
+-- the path of a source, where it is a file whose path is kept
+abbrev pub path_of : List (List ℕ) → Source → Option (List ℕ)
+path_of paths (File key) = slice_get paths key.index
+path_of paths InMemory = None
+
+-- the source is in memory, or its key is that of one of so many paths
+abbrev pub is_known : ℕ → Source → Bool
+is_known count (File key) = nat_lt key.index count
+is_known count InMemory = true
+
+abbrev mutual
+  -- each source that the location mentions is so
+  pub are_known : {A : Type 0} → ℕ → LocationView A → Bool
+  are_known count (src_pos src pos) = is_known count src
+  are_known count (fused metadata locations) = row_known count locations
+  are_known count (named name child) = are_known count child
+  are_known count (call_site callee caller) = are_known count callee && are_known count caller
+  are_known count unknown = true
+
+  -- the same of each location in a row
+  pub row_known : {A : Type 0} → ℕ → LocationViews A → Bool
+  row_known count no_location = true
+  row_known count (location l ls) = are_known count l && row_known count ls

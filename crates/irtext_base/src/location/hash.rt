@@ -1,0 +1,134 @@
+//! Hashes of locations that agree in any two contexts: they are made from the texts of paths, and not from their keys.
+ghost use Rattle.std.specs.Prelude.{◌≡◌, map, length, fold, IsTrue};
+ghost use Rattle.irtext_base.specs.Locations.{location_view, attr_view, attr_view_in, in_row};
+ghost use Rattle.irtext_base.specs.Paths.{is_known, are_known, row_known};
+ghost use Rattle.irtext_base.specs.StableHash.{source_writes, position_writes, attr_writes, metadata_writes, location_writes, row_writes, row_len};
+ghost use Rattle.std.specs.Hash as fed;
+
+use crate::base::{AttrObj, Context};
+use crate::location::{Location, Source};
+use crate::parsable::SourcePosition;
+use crate::text::{AttrText, IrText};
+use std::hash::{Hash, Hasher};
+
+impl Source {
+    /// Feeds a hasher the source: 0 and the text of the path of a file, or 1 for memory.
+    pub fn stable_hash<T: IrText<A>, A: AttrText, H: Hasher>(
+        &self,
+        ctx: &Context<T, A>,
+        state: &mut H,
+    )
+        requires { IsTrue (is_known (length ctx.now.paths) self.now) }
+        ensures { state.new ≡ fold H.write state.old (source_writes ctx.now.paths self.now) }
+    {
+        match self {
+            Source::File(key) => {
+                state.write_u8(0);
+                ctx.path(*key).hash(state);
+            }
+            Source::InMemory => state.write_u8(1),
+        }
+    }
+}
+
+impl SourcePosition {
+    /// Feeds a hasher the line, and then the column.
+    pub fn stable_hash<T: IrText<A>, A: AttrText, H: Hasher>(
+        &self,
+        _ctx: &Context<T, A>,
+        state: &mut H,
+    )
+        ensures { state.new ≡ fold H.write state.old (position_writes self.now) }
+    {
+        state.write_i32(self.line);
+        state.write_i32(self.column);
+    }
+}
+
+fn hash_attr<A: AttrText, H: Hasher>(attr: &AttrObj<A>, state: &mut H)
+    ensures { state.new ≡ fold H.write state.old (attr_writes A.hash_input (attr_view attr.now)) }
+{
+    attr.hash(state);
+}
+
+fn hash_metadata<A: AttrText, H: Hasher>(metadata: &Option<AttrObj<A>>, state: &mut H)
+    ensures { state.new ≡ fold H.write state.old (metadata_writes A.hash_input (attr_view_in metadata.now)) }
+{
+    match metadata {
+        Some(attr) => {
+            state.write_u8(1);
+            hash_attr(attr, state);
+        }
+        None => state.write_u8(0),
+    }
+}
+
+#[tactic(auto, using(crate::proofs::StableHashes::row_len_seen))]
+fn hash_count<A, H: Hasher>(locations: &Vec<Location<A>>, state: &mut H)
+    ensures { state.new ≡ fold H.write state.old (fed.u64 (row_len (in_row (map location_view locations.now.items)))) }
+{
+    state.write_u64(locations.len() as u64);
+}
+
+#[cycle(stable)]
+fn hash_location<T: IrText<A>, A: AttrText, H: Hasher>(
+    location: &Location<A>,
+    ctx: &Context<T, A>,
+    state: &mut H,
+)
+    requires { IsTrue (are_known (length ctx.now.paths) (location_view location.now)) }
+    ensures { state.new ≡ fold H.write state.old (location_writes A.hash_input ctx.now.paths (location_view location.now)) }
+{
+    match location {
+        Location::SrcPos { src, pos } => {
+            state.write_u8(0);
+            src.stable_hash(ctx, state);
+            pos.stable_hash(ctx, state);
+        }
+        Location::Fused {
+            metadata,
+            locations,
+        } => {
+            state.write_u8(1);
+            hash_metadata(metadata, state);
+            hash_count(locations, state);
+            hash_locations(locations, ctx, state);
+        }
+        Location::Named { name, child_loc } => {
+            state.write_u8(2);
+            name.as_str().hash(state);
+            hash_location(child_loc, ctx, state);
+        }
+        Location::CallSite { callee, caller } => {
+            state.write_u8(3);
+            hash_location(callee, ctx, state);
+            hash_location(caller, ctx, state);
+        }
+        Location::Unknown => state.write_u8(4),
+    }
+}
+
+#[cycle(stable)]
+fn hash_locations<T: IrText<A>, A: AttrText, H: Hasher>(
+    locations: &Vec<Location<A>>,
+    ctx: &Context<T, A>,
+    state: &mut H,
+)
+    requires { IsTrue (row_known (length ctx.now.paths) (in_row (map location_view locations.now.items))) }
+    ensures { state.new ≡ fold H.write state.old (row_writes A.hash_input ctx.now.paths (in_row (map location_view locations.now.items))) }
+{
+    for location in locations {
+        hash_location(location, ctx, state);
+    }
+}
+
+impl<A: AttrText> Location<A> {
+    /// Feeds a hasher the number of the location's case, and then its parts in order: locations that are equal up to the
+    /// contexts that keep their paths are fed alike.
+    pub fn stable_hash<T: IrText<A>, H: Hasher>(&self, ctx: &Context<T, A>, state: &mut H)
+        requires { IsTrue (are_known (length ctx.now.paths) (location_view self.now)) }
+        ensures { state.new ≡ fold H.write state.old (location_writes A.hash_input ctx.now.paths (location_view self.now)) }
+    {
+        hash_location(self, ctx, state);
+    }
+}

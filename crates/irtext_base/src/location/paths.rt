@@ -1,0 +1,79 @@
+//! Files as sources, and whether the files of a location are those of a context.
+ghost use Rattle.std.specs.Prelude.{◌≡◌, map, length, nat_lt, Some, IfOk, IfErr, OnOk, OnErr};
+ghost use Rattle.irtext_base.specs.Locations.{location_view, in_row, out_of_memory};
+ghost use Rattle.irtext_base.specs.Paths.{path_index, with_path, path_of, is_known, are_known, row_known};
+
+use crate::base::Context;
+use crate::location::{Location, Source, out_of_memory};
+use crate::text::{AttrText, IrText};
+
+impl Source {
+    /// The source of a file with this path, under the key that the context has for it or gives it. It is refused only for want
+    /// of memory, by `Memory`, an error of kind invalid argument, and then changes nothing.
+    pub fn new_from_file<T: IrText<A>, A: AttrText>(
+        ctx: &mut Context<T, A>,
+        path: &str,
+    ) -> crate::result::Result<Source, A>
+        ensures source { IfOk result (λ source. source ≡ Source.File (record { index = path_index ctx.old.paths path.now })) }
+        ensures kept { OnOk result (ctx.new ≡ record ctx.old { paths = with_path ctx.old.paths path.now }) }
+        ensures err { OnErr result (ctx.new ≡ ctx.old) }
+        ensures memory { IfErr result (λ e. e ≡ out_of_memory) }
+    {
+        match ctx.keep_path(path) {
+            Ok(key) => Ok(Source::File(key)),
+            Err(_) => Err(out_of_memory()),
+        }
+    }
+
+    fn is_among(self, count: usize) -> bool
+        ensures { result ≡ is_known count self }
+    {
+        match self {
+            Source::File(key) => (key.index as usize) < count,
+            Source::InMemory => true,
+        }
+    }
+
+    /// Whether the source is in memory, or a file whose path the context keeps.
+    pub fn is_of<T: IrText<A>, A: AttrText>(self, ctx: &Context<T, A>) -> bool
+        ensures { result ≡ is_known (length ctx.now.paths) self }
+    {
+        self.is_among(ctx.num_paths())
+    }
+}
+
+#[cycle(known)]
+fn are_among<A>(location: &Location<A>, count: usize) -> bool
+    ensures { result ≡ are_known count (location_view location.now) }
+{
+    match location {
+        Location::SrcPos { src, .. } => src.is_among(count),
+        Location::Fused { locations, .. } => all_among(locations, count),
+        Location::Named { child_loc, .. } => are_among(child_loc, count),
+        Location::CallSite { callee, caller } => {
+            are_among(callee, count) && are_among(caller, count)
+        }
+        Location::Unknown => true,
+    }
+}
+
+#[cycle(known)]
+fn all_among<A>(locations: &Vec<Location<A>>, count: usize) -> bool
+    ensures { result ≡ row_known count (in_row (map location_view locations.now.items)) }
+{
+    for location in locations {
+        if !are_among(location, count) {
+            return false;
+        }
+    }
+    true
+}
+
+impl<T: IrText<A>, A: AttrText> Context<T, A> {
+    /// Whether the context keeps the paths of all files that a location mentions.
+    pub fn contains_paths(&self, location: &Location<A>) -> bool
+        ensures { result ≡ are_known (length self.now.paths) (location_view location.now) }
+    {
+        are_among(location, self.num_paths())
+    }
+}
