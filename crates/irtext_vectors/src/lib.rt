@@ -14,6 +14,8 @@ mod formats;
 #[cfg(test)]
 mod lists;
 #[cfg(test)]
+mod locations;
+#[cfg(test)]
 mod numbers;
 #[cfg(test)]
 mod printing;
