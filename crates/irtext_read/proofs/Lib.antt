@@ -10,3 +10,5 @@ pub mod QuotedSteps
 pub mod QuotedBack
 pub mod ListSteps
 pub mod ListRules
+pub mod ItemsMet
+pub mod SeparatedMet

@@ -5,3 +5,4 @@ pub mod FromText
 pub mod Integers
 pub mod Committed
 pub mod Lists
+pub mod ListTexts
