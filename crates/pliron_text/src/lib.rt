@@ -2,6 +2,8 @@
 #![tactic(auto)]
 
 pub mod base;
+pub mod dialect;
+pub mod format;
 pub mod ir;
 pub mod irfmt;
 pub mod laws;

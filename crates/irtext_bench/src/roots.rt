@@ -1,0 +1,65 @@
+//! Roots in a row: read from one stream, and printed.
+
+use irtext_types::{Note, Pointer};
+use pliron_text::base::{Context, Operation, Ptr};
+use pliron_text::ir::OperationText;
+use pliron_text::location::Source;
+use pliron_text::parsable::{State, StateStream, TextStream};
+use pliron_text::printable;
+use pliron_text::printable::Printable;
+use std::alloc::{AllocError, Global};
+
+/// All roots of a text, in a context.
+fn read_roots(
+    alloc: Global,
+    text: &str,
+    ctx: &mut Context<Pointer, Note>,
+) -> Result<Vec<Ptr<Operation>>, AllocError> {
+    let stream = TextStream::new(alloc, text)?;
+    let state = State::new(ctx, Source::InMemory, ());
+    let mut s = StateStream { stream, state };
+    let mut roots = Vec::new(alloc);
+    for _ in 0..u64::MAX {
+        match Operation::top_level_parse(&mut s) {
+            Ok(root) => roots.push(root)?,
+            Err(_) => break,
+        }
+    }
+    let _ctx = s.into_ctx();
+    Ok(roots)
+}
+
+/// The texts of roots, one behind the other.
+fn print_roots(
+    alloc: Global,
+    roots: &[Ptr<Operation>],
+    ctx: &Context<Pointer, Note>,
+) -> Result<String, AllocError> {
+    let mut text = String::new(alloc);
+    for root in roots {
+        if !ctx.contains_operation(*root) {
+            continue;
+        }
+        let mut state = printable::State::new(alloc, ());
+        if root.fmt(ctx, &mut state, &mut text).is_err() {
+            return Err(AllocError);
+        }
+    }
+    Ok(text)
+}
+
+/// Reads all roots and prints them so many times. It tells how many roots and bytes there were.
+pub fn roots(alloc: Global, text: &str, times: usize) -> Result<String, AllocError> {
+    let mut ctx = Context::new(alloc);
+    let roots = read_roots(alloc, text, &mut ctx)?;
+    let mut printed = String::new(alloc);
+    for _ in 0..times {
+        printed = print_roots(alloc, roots.as_slice(), &ctx)?;
+    }
+    format!(in alloc;
+        "{} roots, {} bytes read, {} bytes printed",
+        roots.len(),
+        text.len(),
+        printed.len()
+    )
+}
