@@ -20,15 +20,21 @@ fn told<X: Drop>(
 /// Reads a list of integers with commas between. It tells how many there were.
 pub fn numbers(alloc: Global, text: &str) -> Result<String, AllocError> {
     let mut stream = TextStream::new(alloc, text)?;
-    let items: ParseResult<Vec<i64>, Note> =
-        list_parser(&mut stream, ',', |s: &mut TextStream| int_parse(s));
+    let items: ParseResult<Vec<i64>, Note> = list_parser(
+        &mut stream,
+        ',',
+        |s: &mut TextStream| int_parse(s),
+    );
     told(alloc, items, text.len())
 }
 
 /// Reads a list of quoted texts with commas between. It tells how many there were.
 pub fn strings(alloc: Global, text: &str) -> Result<String, AllocError> {
     let mut stream = TextStream::new(alloc, text)?;
-    let items: ParseResult<Vec<String>, Note> =
-        list_parser(&mut stream, ',', |s: &mut TextStream| quoted_string_parse(s));
+    let items: ParseResult<Vec<String>, Note> = list_parser(
+        &mut stream,
+        ',',
+        |s: &mut TextStream| quoted_string_parse(s),
+    );
     told(alloc, items, text.len())
 }

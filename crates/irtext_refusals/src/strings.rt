@@ -9,7 +9,13 @@ use std::alloc::{AllocError, Global};
 
 /// The list of quoted texts in brackets that stands where the stream stands.
 fn list(stream: &mut TextStream) -> ParseResult<Vec<String>, Note> {
-    delimited_list_parser(stream, '[', ']', ',', |s: &mut TextStream| quoted_string_parse(s))
+    delimited_list_parser(
+        stream,
+        '[',
+        ']',
+        ',',
+        |s: &mut TextStream| quoted_string_parse(s),
+    )
 }
 
 /// The texts, a line each.
