@@ -2,6 +2,7 @@
 use irtext_types::{Note, Pointer};
 use pliron_text::base::{Context, Operation, Ptr};
 use pliron_text::ir::{OperationParserConfig, OperationText};
+use pliron_text::irfmt::parsers::location;
 use pliron_text::location::{Location, Source};
 use pliron_text::parsable::{
     Parsable, SourcePosition, State, StateStream, StreamLocation, TextStream, parse_from_str,
@@ -74,6 +75,7 @@ fn a_mark_without_its_section_stays_in_the_state(rt: HostRuntime) -> Result<(), 
         "line: 1, column: 46: Duplicate outline index: 0"
     );
     assert!(rt; matches!(s.loc(), Location::SrcPos { .. }));
+    assert!(rt; matches!(location(&s), Location::SrcPos { .. }));
     let ctx = s.into_ctx();
     assert_eq!(rt; ctx.num_live(), 2);
     Ok(())

@@ -11,6 +11,7 @@ pub mod lists;
 pub mod number;
 pub mod operation_id;
 pub mod quoted;
+pub mod standing;
 pub mod truth;
 
 pub use class::{Class, skip_class, skip_white_space};
@@ -26,4 +27,5 @@ pub use lists::{
 pub use number::{i32_parse, usize_parse};
 pub use operation_id::id_parse;
 pub use quoted::quoted_string_parse;
+pub use standing::location;
 pub use truth::bool_parse;
