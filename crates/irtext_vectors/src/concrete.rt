@@ -7,42 +7,7 @@ use pliron_text::printable::Disp;
 use std::test::Fail;
 
 #[test]
-fn a_concrete_text_has_no_mark(rt: HostRuntime) -> Result<(), Fail> {
-    let mut ctx: Context<Pointer, Note> = Context::new(rt.alloc());
-    let root = parse_from_str(
-        |s| Operation::top_level_parse(s),
-        &mut ctx,
-        "builtin.module @bar {}",
-    )
-    .ok()
-    .ok_or("refused")?;
-    let obj = Operation::get_op_dyn(root, &ctx);
-    assert_eq!(rt;
-        format!(in rt.alloc(); "{}", obj.disp(&ctx))?.as_str(),
-        "builtin.module @bar \n{\n  \n}"
-    );
-    Ok(())
-}
-
-#[test]
-fn print_dbg_elides_regions(rt: HostRuntime) -> Result<(), Fail> {
-    let mut ctx: Context<Pointer, Note> = Context::new(rt.alloc());
-    let root = parse_from_str(
-        |s| Operation::top_level_parse(s),
-        &mut ctx,
-        "builtin.module @bar {}",
-    )
-    .ok()
-    .ok_or("refused")?;
-    let mut text = String::new(rt.alloc());
-    text.push_str("text: ")?;
-    print_dbg(&ctx, root, &mut text).ok().ok_or("refused")?;
-    assert_eq!(rt; text.as_str(), "text: builtin.module @bar {..}");
-    Ok(())
-}
-
-#[test]
-fn op_dbg_shows_what_print_dbg_appends(rt: HostRuntime) -> Result<(), Fail> {
+fn a_root_has_a_concrete_text_and_one_without_its_regions(rt: HostRuntime) -> Result<(), Fail> {
     let mut ctx: Context<Pointer, Note> = Context::new(rt.alloc());
     let op = parse_from_str(
         |s| Operation::top_level_parse(s),
@@ -51,6 +16,15 @@ fn op_dbg_shows_what_print_dbg_appends(rt: HostRuntime) -> Result<(), Fail> {
     )
     .ok()
     .ok_or("refused")?;
+    let obj = Operation::get_op_dyn(op, &ctx);
+    assert_eq!(rt;
+        format!(in rt.alloc(); "{}", obj.disp(&ctx))?.as_str(),
+        "builtin.module @bar \n{\n  \n}"
+    );
+    let mut text = String::new(rt.alloc());
+    text.push_str("text: ")?;
+    print_dbg(&ctx, op, &mut text).ok().ok_or("refused")?;
+    assert_eq!(rt; text.as_str(), "text: builtin.module @bar {..}");
     let shown = OpDbg { op, ctx: &ctx };
     assert_eq!(rt;
         format!(in rt.alloc(); "{shown} {shown:?}")?.as_str(),
