@@ -1,11 +1,9 @@
 //! Plain values, separators, quoted texts and stored printers as texts, and the printing state's guards.
 use irtext_types::{Note, Pointer};
 use pliron_text::base::Context;
-use pliron_text::irfmt::printers::{
-    enclosed, iter_with_sep, iter_with_sep_by, list_with_sep, printable_from_fn, quoted,
-};
+use pliron_text::irfmt::printers::{enclosed, iter_with_sep_by, printable_from_fn, quoted};
 use pliron_text::printable::{
-    Disp, ListSeparator, Printable, RegionPrintDepthLimit, State, fmt_iter, fmt_quoted, indented_nl,
+    Disp, ListSeparator, Printable, RegionPrintDepthLimit, State, fmt_quoted, indented_nl,
 };
 use std::fmt;
 use std::test::Fail;
@@ -21,190 +19,83 @@ fn fmt_number(
     Ok(())
 }
 
-#[test]
-fn unsigned_numbers_print_in_digits(rt: HostRuntime) -> Result<(), Fail> {
+/// The numbers with a separator between each two, under one indent.
+fn listed(rt: &HostRuntime, numbers: &[u64], separator: ListSeparator) -> Result<String, Fail> {
     let ctx: Context<Pointer, Note> = Context::new(rt.alloc());
-    assert_eq!(rt;
-        format!(in rt.alloc();
-            "{} {} {} {} {}",
-            1usize.disp(&ctx),
-            2u8.disp(&ctx),
-            3u16.disp(&ctx),
-            4u32.disp(&ctx),
-            5u64.disp(&ctx)
-        )?
-        .as_str(),
-        "1 2 3 4 5"
-    );
-    Ok(())
-}
-
-#[test]
-fn signed_numbers_print_in_digits(rt: HostRuntime) -> Result<(), Fail> {
-    let ctx: Context<Pointer, Note> = Context::new(rt.alloc());
-    assert_eq!(rt;
-        format!(in rt.alloc();
-            "{} {} {} {}",
-            (-1i8).disp(&ctx),
-            (-2i16).disp(&ctx),
-            3i32.disp(&ctx),
-            (-4i64).disp(&ctx)
-        )?
-        .as_str(),
-        "-1 -2 3 -4"
-    );
-    Ok(())
-}
-
-#[test]
-fn plain_values_print_themselves(rt: HostRuntime) -> Result<(), Fail> {
-    let ctx: Context<Pointer, Note> = Context::new(rt.alloc());
-    let text = String::from_str(rt.alloc(), "a\"b")?;
-    assert_eq!(rt;
-        format!(in rt.alloc();
-            "{} {} {} {}",
-            true.disp(&ctx),
-            'é'.disp(&ctx),
-            (&"a\"b").disp(&ctx),
-            text.disp(&ctx)
-        )?
-        .as_str(),
-        "true é a\"b \"a\\\"b\""
-    );
-    Ok(())
-}
-
-#[test]
-fn quoted_texts_escape_controls(rt: HostRuntime) -> Result<(), Fail> {
-    let mut text = String::new(rt.alloc());
-    fmt_quoted("a\"b\\c\nd\te\u{7f}", &mut text)
-        .ok()
-        .ok_or("refused")?;
-    assert_eq!(rt; text.as_str(), "\"a\\\"b\\\\c\\nd\\te\\u{7f}\"");
-    Ok(())
-}
-
-#[test]
-fn quoted_texts_keep_other_characters(rt: HostRuntime) -> Result<(), Fail> {
-    let mut text = String::new(rt.alloc());
-    fmt_quoted("\0\r\u{1f}'é\u{1f600}\u{80}", &mut text)
-        .ok()
-        .ok_or("refused")?;
-    assert_eq!(rt; text.as_str(), "\"\\0\\r\\u{1f}'é\u{1f600}\u{80}\"");
-    Ok(())
-}
-
-#[test]
-fn separators_print_under_their_state(rt: HostRuntime) -> Result<(), Fail> {
-    let ctx: Context<Pointer, Note> = Context::new(rt.alloc());
-    let mut state = State::new(rt.alloc(), ());
-    let guard = state.indent().ok().ok_or("too deep")?;
-    let newline = ListSeparator::Newline;
-    assert_eq!(rt;
-        format!(in rt.alloc(); "{}", newline.print(&ctx, guard.state))?.as_str(),
-        "\n  "
-    );
-    assert_eq!(rt;
-        format!(in rt.alloc(); "{}", newline.disp(&ctx))?.as_str(),
-        "\n"
-    );
-    Ok(())
-}
-
-#[test]
-fn each_separator_has_its_text(rt: HostRuntime) -> Result<(), Fail> {
-    let ctx: Context<Pointer, Note> = Context::new(rt.alloc());
-    assert_eq!(rt;
-        format!(in rt.alloc();
-            "{}|{}|{}|{}",
-            ListSeparator::None.disp(&ctx),
-            ListSeparator::CharNewline(';').disp(&ctx),
-            ListSeparator::Char(',').disp(&ctx),
-            ListSeparator::CharSpace('→').disp(&ctx)
-        )?
-        .as_str(),
-        "|;\n|,|→ "
-    );
-    Ok(())
-}
-
-#[test]
-fn items_are_separated_by_a_character_and_a_space(rt: HostRuntime) -> Result<(), Fail> {
-    let ctx: Context<Pointer, Note> = Context::new(rt.alloc());
-    let numbers = [1u64, 2, 3];
-    let list = iter_with_sep_by(numbers.iter(), ListSeparator::CharSpace(','), fmt_number);
-    let mut state = State::new(rt.alloc(), ());
-    let mut text = String::new(rt.alloc());
-    list.fmt(&ctx, &mut state, &mut text).ok().ok_or("refused")?;
-    assert_eq!(rt; text.as_str(), "1, 2, 3");
-    Ok(())
-}
-
-#[test]
-fn items_are_separated_by_indented_newlines(rt: HostRuntime) -> Result<(), Fail> {
-    let ctx: Context<Pointer, Note> = Context::new(rt.alloc());
-    let numbers = [1u64, 2, 3];
-    let list = iter_with_sep_by(numbers.iter(), ListSeparator::CharNewline(';'), fmt_number);
+    let list = iter_with_sep_by(numbers.iter(), separator, fmt_number);
     let mut state = State::new(rt.alloc(), ());
     let mut text = String::new(rt.alloc());
     let guard = state.indent().ok().ok_or("too deep")?;
     list.fmt(&ctx, guard.state, &mut text)
         .ok()
         .ok_or("refused")?;
-    assert_eq!(rt; text.as_str(), "1;\n  2;\n  3");
-    Ok(())
+    Ok(text)
 }
 
-#[test]
-fn no_items_print_nothing(rt: HostRuntime) -> Result<(), Fail> {
+/// A separator under one indent, a bar, and the separator under none.
+fn shown(rt: &HostRuntime, separator: ListSeparator) -> Result<String, Fail> {
     let ctx: Context<Pointer, Note> = Context::new(rt.alloc());
-    let numbers: [u64; 0] = [];
-    let list = iter_with_sep_by(numbers.iter(), ListSeparator::CharSpace(','), fmt_number);
     let mut state = State::new(rt.alloc(), ());
-    let mut text = String::new(rt.alloc());
-    list.fmt(&ctx, &mut state, &mut text).ok().ok_or("refused")?;
-    assert_eq!(rt; text.as_str(), "");
+    let guard = state.indent().ok().ok_or("too deep")?;
+    let text = format!(in rt.alloc();
+        "{}|{}",
+        separator.print(&ctx, guard.state),
+        separator.disp(&ctx)
+    )?;
+    Ok(text)
+}
+
+#[test]
+fn plain_values_print_themselves(rt: HostRuntime) -> Result<(), Fail> {
+    let ctx: Context<Pointer, Note> = Context::new(rt.alloc());
+    let plain = format!(in rt.alloc(); "{} {}", (-1i8).disp(&ctx), (&"a\"b").disp(&ctx))?;
+    assert_eq!(rt; plain.as_str(), "-1 a\"b");
     Ok(())
 }
 
 #[test]
-fn printable_items_print_themselves(rt: HostRuntime) -> Result<(), Fail> {
-    let ctx: Context<Pointer, Note> = Context::new(rt.alloc());
-    let numbers = [1u64, 2];
-    let list = list_with_sep(&numbers, ListSeparator::Char(','));
+fn quoted_texts_escape_controls(rt: HostRuntime) -> Result<(), Fail> {
+    let mut text = String::new(rt.alloc());
+    fmt_quoted("a\"b\\c\nd\te\u{7f}\0\r\u{1f}'é\u{1f600}\u{80}", &mut text)
+        .ok()
+        .ok_or("refused")?;
     assert_eq!(rt;
-        format!(in rt.alloc(); "{}", list.disp(&ctx))?.as_str(),
-        "1,2"
+        text.as_str(),
+        "\"a\\\"b\\\\c\\nd\\te\\u{7f}\\0\\r\\u{1f}'é\u{1f600}\u{80}\""
     );
     Ok(())
 }
 
 #[test]
-fn printable_items_of_an_iterator_print_themselves(rt: HostRuntime) -> Result<(), Fail> {
-    let ctx: Context<Pointer, Note> = Context::new(rt.alloc());
-    let list = iter_with_sep(0u64..3, ListSeparator::None);
+fn each_separator_has_its_text(rt: HostRuntime) -> Result<(), Fail> {
+    assert_eq!(rt; shown(&rt, ListSeparator::None)?.as_str(), "|");
+    assert_eq!(rt; shown(&rt, ListSeparator::Newline)?.as_str(), "\n  |\n");
     assert_eq!(rt;
-        format!(in rt.alloc(); "{}", list.disp(&ctx))?.as_str(),
-        "012"
+        shown(&rt, ListSeparator::CharNewline(';'))?.as_str(),
+        ";\n  |;\n"
+    );
+    assert_eq!(rt; shown(&rt, ListSeparator::Char(','))?.as_str(), ",|,");
+    assert_eq!(rt;
+        shown(&rt, ListSeparator::CharSpace('→'))?.as_str(),
+        "→ |→ "
     );
     Ok(())
 }
 
 #[test]
-fn items_are_written_to_a_text(rt: HostRuntime) -> Result<(), Fail> {
-    let ctx: Context<Pointer, Note> = Context::new(rt.alloc());
-    let mut state = State::new(rt.alloc(), ());
-    let mut text = String::new(rt.alloc());
-    fmt_iter(
-        1u64..3,
-        &ctx,
-        &mut state,
-        ListSeparator::CharSpace('+'),
-        &mut text,
-    )
-    .ok()
-    .ok_or("refused")?;
-    assert_eq!(rt; text.as_str(), "1+ 2");
+fn items_are_separated(rt: HostRuntime) -> Result<(), Fail> {
+    assert_eq!(rt;
+        listed(&rt, &[1, 2, 3], ListSeparator::CharSpace(','))?.as_str(),
+        "1, 2, 3"
+    );
+    assert_eq!(rt;
+        listed(&rt, &[1, 2, 3], ListSeparator::CharNewline(';'))?.as_str(),
+        "1;\n  2;\n  3"
+    );
+    assert_eq!(rt;
+        listed(&rt, &[], ListSeparator::CharSpace(','))?.as_str(),
+        ""
+    );
     Ok(())
 }
 
@@ -212,10 +103,8 @@ fn items_are_written_to_a_text(rt: HostRuntime) -> Result<(), Fail> {
 fn a_text_stands_between_two_others(rt: HostRuntime) -> Result<(), Fail> {
     let ctx: Context<Pointer, Note> = Context::new(rt.alloc());
     let inside = enclosed("<", ">", quoted("a"));
-    assert_eq!(rt;
-        format!(in rt.alloc(); "{}", inside.disp(&ctx))?.as_str(),
-        "<\"a\">"
-    );
+    let text = format!(in rt.alloc(); "{}", inside.disp(&ctx))?;
+    assert_eq!(rt; text.as_str(), "<\"a\">");
     Ok(())
 }
 
@@ -263,40 +152,17 @@ fn a_guard_gives_back_the_limit_of_its_entry(rt: HostRuntime) -> Result<(), Fail
 
 #[test]
 fn a_newline_has_the_indentation_of_its_making(rt: HostRuntime) -> Result<(), Fail> {
+    let ctx: Context<Pointer, Note> = Context::new(rt.alloc());
     let mut state = State::new(rt.alloc(), ());
     {
         let guard = state.indent().ok().ok_or("too deep")?;
-        assert_eq!(rt;
-            format!(in rt.alloc(); "{}108", indented_nl(guard.state))?.as_str(),
-            "\n  108"
-        );
-        guard.state.set_indent_width(8);
+        let newline = indented_nl(guard.state);
+        let text = format!(in rt.alloc(); "{newline}108{}", newline.disp(&ctx))?;
+        assert_eq!(rt; text.as_str(), "\n  108\n  ");
+        guard.state.set_indent_width(65535);
+        assert!(rt; matches!(guard.state.indent(), Err(fmt::Error)));
     }
-    assert_eq!(rt;
-        format!(in rt.alloc(); "{}", indented_nl(&state))?.as_str(),
-        "\n"
-    );
-    Ok(())
-}
-
-#[test]
-fn a_newline_prints_itself(rt: HostRuntime) -> Result<(), Fail> {
-    let ctx: Context<Pointer, Note> = Context::new(rt.alloc());
-    let mut state = State::new(rt.alloc(), ());
-    let guard = state.indent().ok().ok_or("too deep")?;
-    let newline = indented_nl(guard.state);
-    assert_eq!(rt;
-        format!(in rt.alloc(); "{}", newline.disp(&ctx))?.as_str(),
-        "\n  "
-    );
-    Ok(())
-}
-
-#[test]
-fn the_second_indentation_is_too_deep(rt: HostRuntime) -> Result<(), Fail> {
-    let mut state = State::new(rt.alloc(), ());
-    state.set_indent_width(40000);
-    let guard = state.indent().ok().ok_or("too deep")?;
-    assert!(rt; matches!(guard.state.indent(), Err(fmt::Error)));
+    let text = format!(in rt.alloc(); "{}", indented_nl(&state))?;
+    assert_eq!(rt; text.as_str(), "\n");
     Ok(())
 }
