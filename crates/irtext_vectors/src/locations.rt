@@ -45,24 +45,24 @@ fn fused(
     })
 }
 
-#[test]
-fn equal_paths_have_one_key(rt: HostRuntime) -> Result<(), Fail> {
-    let mut ctx: Ctx = Context::new(rt.alloc());
-    let b = file(&mut ctx, "b")?;
-    let c = file(&mut ctx, "c")?;
-    assert!(rt; b == file(&mut ctx, "b")?);
-    assert!(rt; b != c);
-    assert_eq!(rt; ctx.num_paths(), 2);
-    Ok(())
+/// The hash that a new hasher has once a location of the context's paths is written to it.
+fn hash_of(ctx: &Ctx, location: &Location<Note>) -> u64 {
+    let mut state = DefaultHasher::new();
+    if ctx.contains_paths(location) {
+        location.stable_hash(ctx, &mut state);
+    }
+    state.finish()
 }
 
 #[test]
-fn a_key_gives_its_path(rt: HostRuntime) -> Result<(), Fail> {
+fn a_context_keeps_each_path_once(rt: HostRuntime) -> Result<(), Fail> {
     let mut ctx: Ctx = Context::new(rt.alloc());
     let b = file(&mut ctx, "b")?;
-    assert!(rt; b.is_of(&ctx));
+    assert!(rt; b != file(&mut ctx, "c")?);
+    assert!(rt; b == file(&mut ctx, "b")?);
+    assert_eq!(rt; ctx.num_paths(), 2);
     let other: Ctx = Context::new(rt.alloc());
-    assert!(rt; !b.is_of(&other));
+    assert!(rt; b.is_of(&ctx) && !b.is_of(&other));
     assert!(rt; !other.contains_paths(&at(b)));
     if let Source::File(key) = b {
         if b.is_of(&ctx) {
@@ -77,8 +77,10 @@ fn sources_stand_in_order_of_first_mention(rt: HostRuntime) -> Result<(), Fail> 
     let alloc = rt.alloc();
     let mut ctx: Ctx = Context::new(alloc);
     let b = file(&mut ctx, "b")?;
-    let pair = fused(alloc, at(b), at(Source::InMemory))?;
-    let all = fused(alloc, pair, at(b))?;
+    let one = fused(alloc, at(b), at(b))?;
+    assert!(rt; one.source() == Some(b));
+    let all = fused(alloc, one, at(Source::InMemory))?;
+    assert!(rt; all.source().is_none());
     let sources = all.sources(alloc).ok().ok_or("refused")?;
     assert_eq!(rt; sources.len(), 2);
     assert!(rt; sources[0] == b);
@@ -87,67 +89,27 @@ fn sources_stand_in_order_of_first_mention(rt: HostRuntime) -> Result<(), Fail> 
 }
 
 #[test]
-fn one_source_alone_is_the_source(rt: HostRuntime) -> Result<(), Fail> {
-    let alloc = rt.alloc();
-    let mut ctx: Ctx = Context::new(alloc);
-    let b = file(&mut ctx, "b")?;
-    let two = fused(alloc, at(b), at(Source::InMemory))?;
-    assert!(rt; two.source().is_none());
-    let one = fused(alloc, at(b), at(b))?;
-    assert!(rt; one.source() == Some(b));
-    let none: Location<Note> = Location::Unknown;
-    assert!(rt; none.source().is_none());
-    Ok(())
-}
-
-#[test]
 fn copies_equal_their_sources(rt: HostRuntime) -> Result<(), Fail> {
     let alloc = rt.alloc();
-    let named = Location::Named {
-        name: Box::new(alloc, String::from_str(alloc, "n")?)?,
-        child_loc: Box::new(
-            alloc,
-            fused(alloc, at(Source::InMemory), Location::Unknown)?,
-        )?,
-    };
-    let call = Location::CallSite {
-        callee: Box::new(alloc, named)?,
-        caller: Box::new(alloc, at(Source::InMemory))?,
-    };
-    let copy = call.try_clone(alloc).ok().ok_or("refused")?;
-    assert!(rt; copy == call);
-    assert!(rt; copy != at(Source::InMemory));
-    Ok(())
-}
-
-#[test]
-fn attributes_are_copied(rt: HostRuntime) -> Result<(), Fail> {
-    let alloc = rt.alloc();
-    let mut names = Vec::new(alloc);
-    names.push(Some(named(alloc, "x")?))?;
-    names.push(None)?;
-    let given: AttrObj<Note> = AttrObj::GivenNames(names);
-    assert!(rt; given.try_clone(alloc)? == given);
-    let own = AttrObj::Own(Note);
-    assert!(rt; own.try_clone(alloc)? == own);
+    let location = fused(alloc, at(Source::InMemory), Location::Unknown)?;
+    let copy = location.try_clone(alloc).ok().ok_or("refused")?;
+    assert!(rt; copy == location);
+    let attribute: AttrObj<Note> = AttrObj::Ident(named(alloc, "x")?);
+    assert!(rt; attribute.try_clone(alloc)? == attribute);
     Ok(())
 }
 
 #[test]
 fn the_hash_of_a_place_is_made_of_its_path(rt: HostRuntime) -> Result<(), Fail> {
     let mut ctx: Ctx = Context::new(rt.alloc());
-    let location = at(file(&mut ctx, "b")?);
-    let mut state = DefaultHasher::new();
-    if ctx.contains_paths(&location) {
-        location.stable_hash(&ctx, &mut state);
-    }
+    let place = at(file(&mut ctx, "b")?);
     let mut wanted = DefaultHasher::new();
     wanted.write_u8(0);
     wanted.write_u8(0);
     "b".hash(&mut wanted);
     wanted.write_i32(1);
     wanted.write_i32(2);
-    assert_eq!(rt; state.finish(), wanted.finish());
+    assert_eq!(rt; hash_of(&ctx, &place), wanted.finish());
     Ok(())
 }
 
@@ -155,19 +117,15 @@ fn the_hash_of_a_place_is_made_of_its_path(rt: HostRuntime) -> Result<(), Fail> 
 fn the_hash_counts_locations(rt: HostRuntime) -> Result<(), Fail> {
     let alloc = rt.alloc();
     let ctx: Ctx = Context::new(alloc);
-    let location: Location<Note> = Location::Fused {
+    let none: Location<Note> = Location::Fused {
         metadata: Box::new(alloc, None)?,
         locations: Box::new(alloc, Vec::new(alloc))?,
     };
-    let mut state = DefaultHasher::new();
-    if ctx.contains_paths(&location) {
-        location.stable_hash(&ctx, &mut state);
-    }
     let mut wanted = DefaultHasher::new();
     wanted.write_u8(1);
     wanted.write_u8(0);
     wanted.write_u64(0);
-    assert_eq!(rt; state.finish(), wanted.finish());
+    assert_eq!(rt; hash_of(&ctx, &none), wanted.finish());
     Ok(())
 }
 
@@ -176,23 +134,12 @@ fn sources_move_under_the_same_path(rt: HostRuntime) -> Result<(), Fail> {
     let mut from: Ctx = Context::new(rt.alloc());
     let mut to: Ctx = Context::new(rt.alloc());
     let b = file(&mut from, "b")?;
-    let a = file(&mut to, "a")?;
-    assert!(rt; a == b);
+    assert!(rt; file(&mut to, "a")? == b);
     if b.is_of(&from) {
         let moved = b.clone_into_context(&from, &mut to).ok().ok_or("refused")?;
         assert!(rt; moved != b);
         assert!(rt; moved == file(&mut to, "b")?);
     }
-    Ok(())
-}
-
-#[test]
-fn sources_and_positions_move(rt: HostRuntime) -> Result<(), Fail> {
-    let alloc = rt.alloc();
-    let from: Ctx = Context::new(alloc);
-    let mut to: Ctx = Context::new(alloc);
-    let source = Source::InMemory.clone_into_context(&from, &mut to);
-    assert!(rt; matches!(source, Ok(Source::InMemory)));
     let position = SourcePosition { line: 3, column: 4 };
     let moved = position.clone_into_context(&from, &mut to);
     assert!(rt; moved.ok() == Some(position));
