@@ -12,6 +12,8 @@ mod errors;
 #[cfg(test)]
 mod formats;
 #[cfg(test)]
+mod listed;
+#[cfg(test)]
 mod lists;
 #[cfg(test)]
 mod locations;
