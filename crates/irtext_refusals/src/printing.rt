@@ -22,7 +22,7 @@ fn is_memory(cause: &Cause<Note>) -> bool {
     }
 }
 
-/// The text of the root that stands in the text. It is printed twice; the second printing has to write it where the first did not.
+/// The text of the root that stands in the text. It is printed twice; where the first printing is refused the second has to write it.
 pub fn displayed(alloc: Global, text: &str) -> Result<String, Fault> {
     let mut ctx: Context<Pointer, Note> = Context::new(alloc);
     let root = match parse_from_str(|stream| Operation::top_level_parse(stream), &mut ctx, text) {
@@ -34,7 +34,7 @@ pub fn displayed(alloc: Global, text: &str) -> Result<String, Fault> {
     let written = write!(first, "{}", root.disp(&ctx)).is_ok();
     let mut second = String::new(alloc);
     if write!(second, "{}", root.disp(&ctx)).is_err() {
-        return Err(Fault::Wrong);
+        return Err(if written { Fault::Memory } else { Fault::Wrong });
     }
     if written && first != second {
         return Err(Fault::Wrong);
