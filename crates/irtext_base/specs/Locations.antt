@@ -36,23 +36,45 @@ attr_view_in None = None
 attr_view_in (Some a) = Some (attr_view a)
 
 mutual
-  -- a location: a place of a source, several locations as one, a name for one, a callee's with its caller's, or none
-  pub data LocationView (A : Type 0) : Type 0 where
-    src_pos : Source → SourcePosition → LocationView A
-    fused : Option (AttrView A) → LocationViews A → LocationView A
-    named : List ℕ → LocationView A → LocationView A
-    call_site : LocationView A → LocationView A → LocationView A
-    unknown : LocationView A
+  -- a location over sources S: a place of a source, several locations as one, a name for one, a callee's with its caller's, or none
+  pub data LocationOf (S A : Type 0) : Type 0 where
+    src_pos : S → SourcePosition → LocationOf S A
+    fused : Option (AttrView A) → LocationsOf S A → LocationOf S A
+    named : List ℕ → LocationOf S A → LocationOf S A
+    call_site : LocationOf S A → LocationOf S A → LocationOf S A
+    unknown : LocationOf S A
 
   -- locations in a row
-  pub data LocationViews (A : Type 0) : Type 0 where
-    no_location : LocationViews A
-    location : LocationView A → LocationViews A → LocationViews A
+  pub data LocationsOf (S A : Type 0) : Type 0 where
+    no_location : LocationsOf S A
+    location : LocationOf S A → LocationsOf S A → LocationsOf S A
+
+-- a location whose files are named by the keys of their paths
+abbrev pub LocationView : Type 0 → Type 0
+LocationView A = LocationOf Source A
+
+-- such locations in a row
+abbrev pub LocationViews : Type 0 → Type 0
+LocationViews A = LocationsOf Source A
 
 -- a list of locations as a row
-abbrev pub in_row : {A : Type 0} → List (LocationView A) → LocationViews A
+abbrev pub in_row : {S A : Type 0} → List (LocationOf S A) → LocationsOf S A
 in_row [] = no_location
 in_row (l ∷ ls) = location l (in_row ls)
+
+abbrev mutual
+  -- the location over other sources
+  pub sourced : {S R A : Type 0} → (S → R) → LocationOf S A → LocationOf R A
+  sourced see (src_pos src pos) = src_pos (see src) pos
+  sourced see (fused metadata locations) = fused metadata (row_sourced see locations)
+  sourced see (named name child) = named name (sourced see child)
+  sourced see (call_site callee caller) = call_site (sourced see callee) (sourced see caller)
+  sourced see unknown = unknown
+
+  -- the same of each location in a row
+  pub row_sourced : {S R A : Type 0} → (S → R) → LocationsOf S A → LocationsOf R A
+  row_sourced see no_location = no_location
+  row_sourced see (location l ls) = location (sourced see l) (row_sourced see ls)
 
 -- one level of a location, with each location inside already as definitions speak of it
 abbrev pub view_step : {A : Type 0} → Location-F A (LocationView A) → LocationView A

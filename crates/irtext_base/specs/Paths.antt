@@ -3,7 +3,7 @@ use Rattle.std.specs.Prelude.{ℕ, Bool, true, ◌&&◌, nat_lt, Option, Some, N
 use Rattle.std.specs.Str.{bytes_eq}
 use Rattle.irtext_base.specs.declared.location.Source.{Source}
 use Rattle.irtext_base.specs.declared.location.Source.TheVariants.{File, InMemory}
-use Rattle.irtext_base.specs.Locations.{LocationView, src_pos, fused, named, call_site, unknown, LocationViews, no_location, location}
+use Rattle.irtext_base.specs.Locations.{LocationOf, LocationView, location_view, sourced, src_pos, fused, named, call_site, unknown, LocationViews, no_location, location}
 
 -- the index of a path that was found, or else the next one
 abbrev pub index_or_next : Option ℕ → List (List ℕ) → ℕ
@@ -46,3 +46,11 @@ abbrev mutual
   pub row_known : {A : Type 0} → ℕ → LocationViews A → Bool
   row_known count no_location = true
   row_known count (location l ls) = are_known count l && row_known count ls
+
+-- a location whose files are named by the bytes of their paths; a source without a path is in memory
+abbrev pub Written : Type 0 → Type 0
+Written A = LocationOf (Option (List ℕ)) A
+
+-- the location as its text says it, where a context keeps these paths
+abbrev pub written_with : {A : Type 0} → List (List ℕ) → LocationView A → Written A
+written_with paths l = sourced (path_of paths) l
