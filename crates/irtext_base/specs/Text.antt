@@ -34,6 +34,10 @@ begins_word c = is_ascii_alphabetic c || c == 95
 abbrev pub in_word : ℕ → Bool
 in_word c = is_ascii_alphanumeric c || c == 95
 
+-- what a dotted word goes on with: a letter, a digit, `_` or `.`
+abbrev pub in_dotted : ℕ → Bool
+in_dotted c = in_word c || c == 46
+
 -- a letter or `_`, then letters, digits and `_`
 abbrev pub is_identifier : Text → Bool
 is_identifier [] = false

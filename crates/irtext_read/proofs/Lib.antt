@@ -3,6 +3,7 @@ pub mod Characters
 pub mod Numbers
 pub mod Words
 pub mod Spelling
+pub mod Steps
 pub mod Numerals
 pub mod QuotedNumbers
 pub mod QuotedUnits
@@ -12,3 +13,5 @@ pub mod ListSteps
 pub mod ListRules
 pub mod ItemsMet
 pub mod SeparatedMet
+pub mod ListOutcomes
+pub mod Attributes

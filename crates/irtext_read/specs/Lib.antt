@@ -6,3 +6,6 @@ pub mod Integers
 pub mod Committed
 pub mod Lists
 pub mod ListTexts
+pub mod MustRead
+pub mod ListOutcomes
+pub mod AttrTexts

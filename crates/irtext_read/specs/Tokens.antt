@@ -1,5 +1,5 @@
 -- Tokens: what a text is to the reader of each.
-use Rattle.std.specs.Prelude.{ℕ, zero, suc, ℤ, pos, negsuc, ◌*◌, ◌+◌, ◌^◌, Bool, cond, ◌||◌, nat_lt, Option, Some, None, [], ◌∷◌, ◌++◌, codes}
+use Rattle.std.specs.Prelude.{ℕ, zero, suc, ℤ, pos, negsuc, ◌*◌, ◌+◌, ◌^◌, Bool, cond, ◌||◌, nat_lt, Option, Some, None, [], ◌∷◌, ◌++◌, codes, ⊤}
 use Rattle.std.specs.Char.{is_ascii_digit, is_whitespace}
 use Rattle.std.specs.Str.Parse.{digits_value}
 use Rattle.irtext_base.specs.Text.{Text, begins, front, after, begins_word, in_word}
@@ -18,6 +18,10 @@ has class.Digit c = is_ascii_digit c
 has class.Beginning c = begins_word c
 has class.Word c = in_word c
 has class.Dotted c = in_word c || the 46 c
+
+-- white space, as far as it goes
+abbrev pub space_at : Text → Outcome ⊤
+space_at text = Read tt (front is_whitespace text) (after is_whitespace text)
 
 -- a letter or `_`, then letters, digits and `_`, as long as they go; where none begins, the demand is not met
 unfoldable pub word_at : Demand → Text → Outcome Text

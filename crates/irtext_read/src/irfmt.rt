@@ -1,4 +1,5 @@
 //! How the parts of a text are read.
 
+pub mod demanded;
 pub mod faults;
 pub mod parsers;

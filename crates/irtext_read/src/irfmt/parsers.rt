@@ -1,5 +1,6 @@
 //! Readers of tokens. Each takes the stream first and answers what stands there, or a fault with its cause and place.
 
+pub mod attributes;
 pub mod class;
 pub mod fixed_text;
 pub mod from_str_radix;
@@ -14,6 +15,7 @@ pub mod quoted;
 pub mod standing;
 pub mod truth;
 
+pub use attributes::{attr_from, attr_parse, type_parse};
 pub use class::{Class, skip_class, skip_white_space};
 pub use fixed_text::text_parse;
 pub use from_str_radix::FromStrRadix;
