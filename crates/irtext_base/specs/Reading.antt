@@ -2,7 +2,7 @@
 use Rattle.std.specs.Prelude.{◌≡◌, ℕ, ◌<◌, ◌^◌, Bool, true, false, ◌==◌, ◌⊎◌, List, [], ◌∷◌, ◌++◌, codes}
 use Rattle.std.specs.Char.{is_ascii_digit}
 use Rattle.std.specs.Str.Parse.{digits_value}
-use Rattle.irtext_base.specs.Text.{Text, begins, front, after, after_space, begins_word, in_word}
+use Rattle.irtext_base.specs.Text.{Text, begins, front, after, after_space, begins_word, in_word, in_dotted}
 
 -- a reading relates a text to what it leaves of it
 abbrev pub Reading : Type 1
@@ -42,9 +42,9 @@ the c d = d == c
 abbrev pub literal : Text → Reading
 literal word text rest = text ≡ word ++ rest
 
--- a word that goes no further
+-- a dotted word that goes no further
 abbrev pub keyword : Text → Reading
-keyword word text rest = (text ≡ word ++ rest) × (begins in_word rest ≡ false)
+keyword word text rest = (text ≡ word ++ rest) × (begins in_dotted rest ≡ false)
 
 -- as long as it goes
 abbrev pub identifier : Text → Reading

@@ -3,7 +3,7 @@ use Rattle.std.specs.Prelude.{◌≡◌, ℕ, zero, suc, ◌+◌, ◌<◌, Bool,
 use Rattle.std.proofs.Common.{inl, inr, sym, ◌∙◌, ap, subst, true≢false, append_assoc, arith}
 use Rattle.std.proofs.lemmas.Bool.Decides.{nat_tests}
 use Rattle.std.specs.Char.{is_whitespace, is_ascii_graphic}
-use Rattle.irtext_base.specs.Text.{Text, begins, after_space, begins_word, in_word}
+use Rattle.irtext_base.specs.Text.{Text, begins, after_space, begins_word, in_word, in_dotted}
 use Rattle.irtext_base.specs.Reading.{Reading, ◌▹◌, ◌▸◌, white, the, literal, keyword, identifier, separated, repeated}
 use Rattle.pliron_text.specs.Forest.{Regions, no_regions, region}
 use Rattle.irtext_base.specs.Format.{has, kind}
@@ -61,7 +61,7 @@ module _ {P T A : Type 0} (L : Language P T A) (types : Lawful T L.types) (owns 
   back_type x f h = let a = types.again x f h in
       record { left = a.0; reading = subst (λ t. L.types.outcome t ≡ found x a.0) (sym (word_tight (L.types.written x ++ f) (types.starts x f))) a.1; same = a.2 }
 
-  thru_keyword : (c : ℕ) (w f : Text) → is_whitespace c ≡ false → begins in_word f ≡ false → Thru (keyword (c ∷ w)) (c ∷ (w ++ f)) f
+  thru_keyword : (c : ℕ) (w f : Text) → is_whitespace c ≡ false → begins in_dotted f ≡ false → Thru (keyword (c ∷ w)) (c ∷ (w ++ f)) f
   thru_keyword c w f e h = record { left = f; reading = (after_stops is_whitespace c (w ++ f) e, h); same = refl }
 
   back_given : (n : Option Text) (f : Text) → IsGiven n → Ends f → Thru (reads.given_name n) (or_question n ++ f) f
