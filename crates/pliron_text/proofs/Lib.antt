@@ -102,3 +102,5 @@ pub mod TopLevel
 pub mod PrintedText
 pub mod LabelPlaces
 pub mod MarkerSteps
+pub mod AttrTexts
+pub mod AttrBack

@@ -12,6 +12,7 @@ pub mod Tree
 pub mod Reads
 pub mod Spell
 pub mod Fine
+pub mod AttrText
 pub mod Writable
 pub mod Names
 pub mod Graph

@@ -28,6 +28,7 @@ ghost use Rattle.pliron_text.specs.Tree.{Tree};
 ghost use Rattle.pliron_text.specs.Wordy.{Wordy};
 ghost use Rattle.pliron_text.specs.Writable.{Behind, BehindRoot, Writable};
 
+pub mod attributes;
 pub mod building;
 pub mod headline;
 

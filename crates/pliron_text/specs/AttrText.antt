@@ -1,0 +1,18 @@
+-- The text of an attribute.
+use Rattle.std.specs.Prelude.{◌++◌, map, codes, ⊤}
+use Rattle.irtext_base.specs.Text.{Text}
+use Rattle.irtext_base.specs.Locations.{AttrView, given_names, ident, own}
+use Rattle.pliron_text.specs.Spell.{joined, comma, or_question}
+use Rattle.pliron_text.specs.Fine.{Each, IsWord, IsGiven}
+
+-- given names between brackets or an identifier, each behind its word, or the text of the caller's own
+abbrev pub attr_text : {A : Type 0} → (A → Text) → AttrView A → Text
+attr_text written (given_names ns) = codes "builtin.given_names [" ++ (joined comma (map or_question ns) ++ codes "]")
+attr_text written (ident n) = codes "builtin.identifier " ++ n
+attr_text written (own a) = written a
+
+-- the names in an attribute are identifiers
+abbrev pub FineAttr : {A : Type 0} → AttrView A → Type 0
+FineAttr (given_names ns) = Each IsGiven ns
+FineAttr (ident n) = IsWord n
+FineAttr (own a) = ⊤
