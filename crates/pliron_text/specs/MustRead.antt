@@ -1,15 +1,2 @@
--- What a reader answers whose thing must stand there.
-use Rattle.std.specs.Prelude.{Result}
-use Rattle.irtext_base.specs.Text.{Text}
-use Rattle.irtext_base.specs.Stream.{StreamView}
-use Rattle.irtext_base.specs.Answers.{Outcome, Answers, demanded, unless_failed}
-use Rattle.irtext_base.specs.declared.parsable.fault.ParseFault.{ParseFault}
-
-module _ {S A X Y : Type 0} (view : S → StreamView) (at : S → StreamView → S) (see : Y → X) (outcome : Text → Outcome X) (old : S) (result : Result Y (ParseFault A)) (new : S) where
-  -- the answer to the text, seen by `see`, is what `outcome` says, and a missing thing is a committed fault
-  pub record MustRead : Type 0 where
-    pub answers : Answers view at see (demanded (unless_failed (view old).failed (outcome (view old).rest))) old result new
-
-  -- the answer to the text, seen by `see`, is what `outcome` says
-  pub record MayRead : Type 0 where
-    pub answers : Answers view at see (unless_failed (view old).failed (outcome (view old).rest)) old result new
+-- What a reader answers whose thing must stand there, or may.
+pub use Rattle.irtext_read.specs.MustRead.{MustRead, MayRead}

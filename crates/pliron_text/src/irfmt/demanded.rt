@@ -1,28 +1,15 @@
 //! Tokens that must stand where they are read: a missing one is a committed fault.
 ghost use Rattle.irtext_base.specs.Faults.{characters};
-ghost use Rattle.irtext_read.specs.Tokens.{text_at, identifier_at, number_at, integer_at};
+ghost use Rattle.irtext_read.specs.Tokens.{number_at, integer_at};
 ghost use Rattle.pliron_text.specs.MustRead.{MustRead};
 ghost use Rattle.pliron_text.specs.LocationText.{spaced_at};
 ghost use Rattle.pliron_text.specs.ModuleText.{index_at};
 
-use irtext_base::base::Identifier;
 use irtext_base::parsable::{CharStream, ParseResult};
 use irtext_base::result::Cause;
+pub(crate) use irtext_read::irfmt::demanded::{identifier_demanded, text_demanded};
 use irtext_read::irfmt::faults::{demand, refuse};
-use irtext_read::irfmt::parsers::{
-    i32_parse, identifier_parse, skip_white_space, text_parse, usize_parse,
-};
-
-/// A fixed text.
-pub(crate) fn text_demanded<S: CharStream, A>(
-    stream: &mut S,
-    text: &'static str,
-) -> ParseResult<(), A>
-    ensures { MustRead S.view S.at (λ u. u) (text_at (characters text.now)) stream.old result stream.new }
-{
-    let answer = text_parse(stream, text);
-    demand(stream, answer)
-}
+use irtext_read::irfmt::parsers::{i32_parse, skip_white_space, usize_parse};
 
 /// A fixed text with white space round it.
 pub(crate) fn spaced_text<S: CharStream, A>(
@@ -38,14 +25,6 @@ pub(crate) fn spaced_text<S: CharStream, A>(
     text_demanded(stream, text)?;
     skip_white_space(stream);
     Ok(())
-}
-
-/// An identifier.
-pub(crate) fn identifier_demanded<S: CharStream, A>(stream: &mut S) -> ParseResult<Identifier, A>
-    ensures { MustRead S.view S.at (λ name. name) identifier_at stream.old result stream.new }
-{
-    let answer = identifier_parse(stream);
-    demand(stream, answer)
 }
 
 /// An index.
