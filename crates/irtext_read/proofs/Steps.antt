@@ -29,6 +29,34 @@ prefixed-demanded t (Read x taken rest) = refl
 prefixed-demanded t (Missing cause) = ap (Bad cause) (append-nil t)
 prefixed-demanded t (Bad cause upto) = refl
 
+-- a value seen by a function is read, and then nothing
+pub mapped_is_followed : {X Y : Type 0} (f : X → Y) (o : Outcome X) → mapped f o ≡ followed o (λ x t. Read (f x) [] t)
+mapped_is_followed f (Read x taken rest) = ap (λ z. Read (f x) z rest) (sym (append-nil taken))
+mapped_is_followed f (Missing cause) = refl
+mapped_is_followed f (Bad cause upto) = refl
+
+-- a function of the value goes to the last of two things
+pub mapped_prefixed : {X Y : Type 0} (f : X → Y) (t : Text) (o : Outcome X) → mapped f (prefixed t o) ≡ prefixed t (mapped f o)
+mapped_prefixed f t (Read x taken rest) = refl
+mapped_prefixed f t (Missing cause) = refl
+mapped_prefixed f t (Bad cause upto) = refl
+
+pub mapped_followed : {X Y V : Type 0} (f : Y → V) (o : Outcome X) (k : X → Text → Outcome Y) → mapped f (followed o k) ≡ followed o (λ x t. mapped f (k x t))
+mapped_followed f (Read x taken rest) k = mapped_prefixed f taken (k x rest)
+mapped_followed f (Missing cause) k = refl
+mapped_followed f (Bad cause upto) k = refl
+
+-- two functions of the value are one
+pub mapped_mapped : {X Y V : Type 0} (f : Y → V) (g : X → Y) (h : X → V) (o : Outcome X) → ((x : X) → f (g x) ≡ h x) → mapped f (mapped g o) ≡ mapped h o
+mapped_mapped f g h (Read x taken rest) e = ap (λ y. Read y taken rest) (e x)
+mapped_mapped f g h (Missing cause) e = refl
+mapped_mapped f g h (Bad cause upto) e = refl
+
+pub mapped_as : {X Y : Type 0} (f g : X → Y) (o : Outcome X) → ((x : X) → f x ≡ g x) → mapped f o ≡ mapped g o
+mapped_as f g (Read x taken rest) e = ap (λ y. Read y taken rest) (e x)
+mapped_as f g (Missing cause) e = refl
+mapped_as f g (Bad cause upto) e = refl
+
 -- a stream's view, and the rules that it keeps
 pub record Lens (S : Type 0) : Type 0 where
   pub view : S → StreamView
@@ -75,6 +103,10 @@ module _ {S : Type 0} (l : Lens S) where
   passed outcome (Missing cause) false k old mid new taken x f t e h = absurd h
   passed outcome (Bad cause upto) false k old mid new taken x f t e h = absurd h
 
+  -- what is to be read may be said in other words
+  pub turned : {V : Type 0} {outcome next : Text → Outcome V} {old mid : S} (other : Text → Outcome V) → next (l.view mid).rest ≡ other (l.view mid).rest → Passed outcome next old mid → Passed outcome other old mid
+  turned other e p = record { fine = p.fine; taken = p.taken; takes = p.takes; so_far = p.so_far ∙ ap (prefixed p.taken) e }
+
   -- one thing more is read
   pub more : {X Y V A : Type 0} {see : Y → X} {f : Text → Outcome X} {outcome : Text → Outcome V} {old mid new : S} {y : Y} (k : X → Text → Outcome V) → Passed outcome (λ t. followed (f t) k) old mid → MustRead {A = A} l.view l.at see f mid (Ok y) new → Passed outcome (k (see y)) old new
   more {see = see} {f = f} {outcome = outcome} {old = old} {mid = mid} {new = new} {y = y} k p h = passed outcome (f (l.view mid).rest) (l.view mid).failed k old mid new p.taken (see y) p.fine p.takes p.so_far h.answers
@@ -120,10 +152,18 @@ module _ {S : Type 0} (l : Lens S) where
   seen_so sees false (Missing cause) k s new x w e h = absurd h
   seen_so sees false (Bad cause upto) k s new x w e h = absurd h
 
+  -- the last thing is read, and nothing is left to be read
+  pub more_seen : {X Y V A : Type 0} {see : Y → X} {f : Text → Outcome X} {outcome : Text → Outcome V} {old mid new : S} {y : Y} (k : X → V) → Passed outcome (λ t. mapped k (f t)) old mid → MustRead {A = A} l.view l.at see f mid (Ok y) new → Passed outcome (λ t. Read (k (see y)) [] t) old new
+  more_seen {f = f} {mid = mid} k p h = more (λ x t. Read (k x) [] t) (turned (λ t. followed (f t) (λ x u. Read (k x) [] u)) (mapped_is_followed k (f (l.view mid).rest)) p) h
+
   -- the last thing is read, and its value seen by a function
   pub last_seen : {X Y W V A : Type 0} {see : Y → X} (sees : W → V) {f : Text → Outcome X} {outcome : Text → Outcome V} {old mid new : S} {y : Y} (k : X → V) (w : W) → sees w ≡ k (see y) → Passed outcome (λ t. mapped k (f t)) old mid → MustRead {A = A} l.view l.at see f mid (Ok y) new → MustRead {A = A} l.view l.at sees outcome old (Ok w) new
   last_seen {A = A} {see = see} sees {f = f} {mid = mid} {new = new} {y = y} k w e p h =
       last p (record { answers = seen_so sees (l.view mid).failed (f (l.view mid).rest) k mid new (see y) w e h.answers })
+
+  -- the one thing is read, and its value seen by a function
+  pub seen_alone : {X Y W V A : Type 0} {see : Y → X} (sees : W → V) {f : Text → Outcome X} {old new : S} {y : Y} (k : X → V) (w : W) → sees w ≡ k (see y) → MustRead {A = A} l.view l.at see f old (Ok y) new → MustRead {A = A} l.view l.at sees (λ t. mapped k (f t)) old (Ok w) new
+  seen_alone {see = see} sees {f = f} {old = old} {new = new} {y = y} k w e h = record { answers = seen_so sees (l.view old).failed (f (l.view old).rest) k old new (see y) w e h.answers }
 
   -- behind the characters taken nothing more is to be read
   pub ends : {W V A : Type 0} (sees : W → V) {outcome : Text → Outcome V} {old mid : S} (w : W) → Passed outcome (λ t. Read (sees w) [] t) old mid → MustRead {A = A} l.view l.at sees outcome old (Ok w) mid

@@ -12,6 +12,10 @@ pub mod SameText
 pub mod Lists
 pub mod Sets
 pub mod Names
+pub mod NewPaths
+pub mod LocationViews
+pub mod LocationBegins
+pub mod LocationRows
 pub mod OnePass
 pub mod Building
 pub mod Reading

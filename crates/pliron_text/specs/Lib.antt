@@ -15,6 +15,7 @@ pub mod Fine
 pub mod AttrText
 pub mod Writable
 pub mod Names
+pub mod NewPaths
 pub mod Graph
 pub mod Section
 pub mod ReadSection
@@ -48,6 +49,7 @@ pub mod ConcreteText
 pub mod LocationsText
 pub mod Modules
 pub mod LocationText
+pub mod LocationReading
 pub mod ModuleText
 pub mod SectionText
 pub mod Stands

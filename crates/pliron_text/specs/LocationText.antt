@@ -1,16 +1,12 @@
 -- What a text reads as, where a location stands, with each fault's cause and place.
 use Rattle.std.specs.Prelude.{ℤ, codes, ⊤}
-use Rattle.std.specs.Char.{is_whitespace}
-use Rattle.irtext_base.specs.Text.{Text, front, after}
-use Rattle.irtext_base.specs.Answers.{Outcome, Read, followed, mapped}
+use Rattle.irtext_base.specs.Text.{Text}
+use Rattle.irtext_base.specs.Answers.{Outcome, followed, mapped}
+pub use Rattle.irtext_read.specs.Tokens.{space_at}
 use Rattle.irtext_read.specs.Tokens.{text_at, integer_at}
 use Rattle.irtext_base.specs.declared.parsable.position.SourcePosition.{SourcePosition}
 use Rattle.irtext_base.specs.declared.location.Location.{Location, SrcPos}
 use Rattle.irtext_base.specs.declared.location.Source.TheVariants.{InMemory}
-
--- white space, as far as it goes
-abbrev pub space_at : Text → Outcome ⊤
-space_at text = Read tt (front is_whitespace text) (after is_whitespace text)
 
 -- a fixed text with white space round it
 abbrev pub spaced_at : Text → Text → Outcome ⊤

@@ -17,7 +17,7 @@ fn labelled_number<S: CharStream, A>(stream: &mut S, word: &'static str) -> Pars
 }
 
 /// A line and a column.
-fn position_parse<S: CharStream, A>(stream: &mut S) -> ParseResult<SourcePosition, A>
+pub(crate) fn position_parse<S: CharStream, A>(stream: &mut S) -> ParseResult<SourcePosition, A>
     ensures { MustRead S.view S.at (λ at. at) position_at stream.old result stream.new }
 {
     let line = labelled_number(stream, "line")?;

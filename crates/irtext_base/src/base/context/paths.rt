@@ -63,7 +63,7 @@ fn path_at(paths: &IndexSet<String>, index: usize) -> &str
 impl<T: IrText<A>, A: AttrText> Context<T, A> {
     /// The key of a path, which the context keeps from then on: a path that it keeps already has the key that it had. Where
     /// memory is refused, or a counter is full, nothing changes.
-    pub(crate) fn keep_path(&mut self, path: &str) -> Result<PathKey, AllocError>
+    pub fn keep_path(&mut self, path: &str) -> Result<PathKey, AllocError>
         ensures key { IfOk result (λ key. key.index ≡ path_index self.old.paths path.now) }
         ensures kept { OnOk result (self.new ≡ record self.old { paths = with_path self.old.paths path.now }) }
         ensures err { OnErr result (self.new ≡ self.old) }

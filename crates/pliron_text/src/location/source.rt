@@ -1,0 +1,76 @@
+//! Reading of places: of sources, lines and columns.
+ghost use Rattle.std.specs.Prelude.{string_bytes};
+ghost use Rattle.irtext_base.specs.Paths.{path_of, is_known};
+ghost use Rattle.pliron_text.specs.LocationReading.{bytes_at, path_at, source_at, place_at};
+ghost use Rattle.pliron_text.specs.MustRead.{MustRead};
+ghost use Rattle.pliron_text.specs.NewPaths.{AddsPaths, MustReadOver, known_location, location_over};
+ghost use Rattle.pliron_text.specs.Roots.{itself, replaced};
+
+use crate::irfmt::demanded::{spaced_text, text_demanded};
+use crate::location::read::position_parse;
+use irtext_base::base::Context;
+use irtext_base::location::{Location, Source};
+use irtext_base::parsable::{CharStream, ParseResult, TextStream};
+use irtext_base::result::{Cause, Expected};
+use irtext_base::text::{AttrText, IrText};
+use irtext_read::irfmt::faults::{demand, demanded, next_is, refuse, unexpected};
+use irtext_read::irfmt::parsers::quoted_string_parse;
+
+/// A text between quotation marks.
+pub(crate) fn quoted_demanded<A>(stream: &mut TextStream) -> ParseResult<String, A>
+    ensures { MustRead itself replaced (λ s. string_bytes s) bytes_at stream.old result stream.new }
+{
+    let answer = quoted_string_parse(stream);
+    demand(stream, answer)
+}
+
+/// A path between quotation marks, which the context keeps from then on.
+fn path_read<T: IrText<A>, A: AttrText>(
+    stream: &mut TextStream,
+    ctx: &mut Context<T, A>,
+) -> ParseResult<Source, A>
+    ensures adds { AddsPaths ctx.old ctx.new }
+    ensures read { MustReadOver is_known path_of path_at ctx.new.paths stream.old result stream.new }
+{
+    let path = quoted_demanded(stream)?;
+    let Ok(key) = ctx.keep_path(&path) else {
+        return Err(refuse(stream, Cause::Memory));
+    };
+    Ok(Source::File(key))
+}
+
+/// A source, which must stand there.
+fn source_read<T: IrText<A>, A: AttrText>(
+    stream: &mut TextStream,
+    ctx: &mut Context<T, A>,
+) -> ParseResult<Source, A>
+    ensures adds { AddsPaths ctx.old ctx.new }
+    ensures read { MustReadOver is_known path_of source_at ctx.new.paths stream.old result stream.new }
+{
+    if stream.has_failed() {
+        return Err(refuse(stream, Cause::StreamFailed));
+    }
+    if next_is(stream, '"') {
+        return path_read(stream, ctx);
+    }
+    if next_is(stream, '<') {
+        text_demanded(stream, "<in-memory>")?;
+        return Ok(Source::InMemory);
+    }
+    let fault = unexpected(stream, Expected::Source);
+    Err(demanded(stream, fault))
+}
+
+/// A source, a line and a column, which must stand there.
+pub(crate) fn place_read<T: IrText<A>, A: AttrText>(
+    stream: &mut TextStream,
+    ctx: &mut Context<T, A>,
+) -> ParseResult<Location<A>, A>
+    ensures adds { AddsPaths ctx.old ctx.new }
+    ensures read { MustReadOver known_location location_over place_at ctx.new.paths stream.old result stream.new }
+{
+    let src = source_read(stream, ctx)?;
+    spaced_text(stream, ":")?;
+    let pos = position_parse(stream)?;
+    Ok(Location::SrcPos { src, pos })
+}
