@@ -100,6 +100,10 @@ pub mod Known
 pub mod Answered
 pub mod SectionSteps
 pub mod LocationBack
+mod GivesBack
+mod LocationParts
+mod LocationKinds
+mod LocationComesBack
 pub mod PrintedBack
 pub mod RootSteps
 pub mod TopLevel

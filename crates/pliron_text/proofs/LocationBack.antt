@@ -97,7 +97,7 @@ integer-here (negsuc n) rest fits stop =
     integer-from (45 ∷ (decimal (suc n) ++ rest)) ∙ digits-integer (45 ∷ []) (decimal (suc n)) rest (suc n) (negsuc n) k.0.0 (digits_every (decimal (suc n)) k.0.1) k.1 small is stop
 
 -- an integer's text begins with no white space
-no_space : (z : ℤ) (rest : Text) → FitsSigned w32 z → begins is_whitespace (signed_decimal z ++ rest) ≡ false
+pub no_space : (z : ℤ) (rest : Text) → FitsSigned w32 z → begins is_whitespace (signed_decimal z ++ rest) ≡ false
 no_space (pos n) rest fits = (plain_decimal n rest (omega arith)).space
 no_space (negsuc n) rest fits = refl
 

@@ -50,6 +50,7 @@ pub mod LocationsText
 pub mod Modules
 pub mod LocationText
 pub mod LocationReading
+pub mod LocationWriting
 pub mod ModuleText
 pub mod SectionText
 pub mod Stands
@@ -67,6 +68,7 @@ pub mod SoFar
 pub mod SectionRead
 pub mod TopLevel
 pub mod PrintedBack
+pub mod WrittenBack
 pub mod LabelPlaces
 pub mod Printed
 pub mod Verification

@@ -31,6 +31,7 @@ ghost use Rattle.pliron_text.specs.Writable.{Behind, BehindRoot, Writable};
 pub mod attributes;
 pub mod building;
 pub mod headline;
+pub mod locations;
 
 use irtext_base::text::{AttrText, IrText};
 

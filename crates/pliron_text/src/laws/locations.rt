@@ -1,0 +1,22 @@
+//! The law that ties the reading of locations to their printing: what is written of a location is read back.
+ghost use Rattle.std.specs.Prelude.{◌≡◌, ◌≤◌, ℕ, List, ◌++◌, false, length};
+ghost use Rattle.std.specs.Char.{is_whitespace};
+ghost use Rattle.irtext_base.specs.Answers.{Outcome};
+ghost use Rattle.irtext_base.specs.Locations.{AttrView};
+ghost use Rattle.irtext_base.specs.Paths.{Written};
+ghost use Rattle.irtext_base.specs.Text.{after_space, begins};
+ghost use Rattle.pliron_text.specs.LocationReading.{location_at, location_within};
+ghost use Rattle.pliron_text.specs.LocationWriting.{written_text};
+ghost use Rattle.pliron_text.specs.WrittenBack.{AllFit, AllRead, EndsLocation, GivesBack, left_behind};
+
+/// What is written of a location of any kind is read back as this location before whatever is no digit, if its metadata is read
+/// back and its paths, names, lines and columns fit: also under each bound on the nesting that the text's length meets. Of what
+/// follows, a call site takes the white space, and every other location nothing.
+pub fn location_comes_back<A>()
+    ensures reads { (attr : List ℕ → Outcome (AttrView A)) (text_of : A → List ℕ) (l : Written A) (rest : List ℕ) → AllRead attr text_of l → AllFit l → EndsLocation rest →
+        let text = written_text text_of l ++ rest in GivesBack (location_at attr text) l text (left_behind l rest) }
+    ensures within { (attr : List ℕ → Outcome (AttrView A)) (text_of : A → List ℕ) (l : Written A) (rest : List ℕ) (n : ℕ) → AllRead attr text_of l → AllFit l → EndsLocation rest →
+        let text = written_text text_of l ++ rest in length text ≤ n → GivesBack (location_within attr n text) l text (left_behind l rest) }
+    ensures leaves { (l : Written A) (rest : List ℕ) → after_space (left_behind l rest) ≡ after_space rest }
+    ensures leaves_all { (l : Written A) (rest : List ℕ) → begins is_whitespace rest ≡ false → left_behind l rest ≡ rest }
+{}
