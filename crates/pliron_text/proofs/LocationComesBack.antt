@@ -2,7 +2,7 @@
 use Rattle.std.proofs.Common.{◌≡◌, ℕ, zero, suc, ◌≤◌, Option, Some, None, List, [], ◌∷◌, ◌++◌, length, refl, sym, ◌∙◌, ap, append_assoc, arith}
 use Rattle.std.specs.Prelude.{codes, IfSome, ⊤}
 use Rattle.std.specs.Str.{chars, IsUtf8}
-use Rattle.irtext_base.specs.Text.{Text, begins, after_space}
+use Rattle.irtext_base.specs.Text.{Text, after_space}
 use Rattle.irtext_base.specs.Answers.{Outcome, followed}
 use Rattle.irtext_base.specs.Causes.{position_text}
 use Rattle.irtext_base.specs.Locations.{AttrView, src_pos, fused, named, call_site, unknown, no_location, location}
