@@ -101,6 +101,9 @@ pub mod Answered
 pub mod SectionSteps
 pub mod LocationBack
 mod GivesBack
+mod Leaves
+mod LocationLeaves
+mod LocationBound
 mod LocationParts
 mod LocationKinds
 mod LocationComesBack

@@ -50,6 +50,7 @@ pub mod LocationsText
 pub mod Modules
 pub mod LocationText
 pub mod LocationReading
+pub mod LocationBound
 pub mod LocationWriting
 pub mod ModuleText
 pub mod SectionText

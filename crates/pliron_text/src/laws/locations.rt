@@ -1,11 +1,13 @@
-//! The law that ties the reading of locations to their printing: what is written of a location is read back.
+//! Laws of the texts of locations: what is written of a location is read back, and a bound on the nesting that the text meets
+//! changes nothing.
 ghost use Rattle.std.specs.Prelude.{◌≡◌, ◌≤◌, ℕ, List, ◌++◌, false, length};
 ghost use Rattle.std.specs.Char.{is_whitespace};
 ghost use Rattle.irtext_base.specs.Answers.{Outcome};
 ghost use Rattle.irtext_base.specs.Locations.{AttrView};
 ghost use Rattle.irtext_base.specs.Paths.{Written};
 ghost use Rattle.irtext_base.specs.Text.{after_space, begins};
-ghost use Rattle.pliron_text.specs.LocationReading.{location_at, location_within};
+ghost use Rattle.pliron_text.specs.LocationBound.{LeavesNoMore};
+ghost use Rattle.pliron_text.specs.LocationReading.{location_at, location_within, more_within};
 ghost use Rattle.pliron_text.specs.LocationWriting.{written_text};
 ghost use Rattle.pliron_text.specs.WrittenBack.{AllFit, AllRead, EndsLocation, GivesBack, left_behind};
 
@@ -19,4 +21,12 @@ pub fn location_comes_back<A>()
         let text = written_text text_of l ++ rest in length text ≤ n → GivesBack (location_within attr n text) l text (left_behind l rest) }
     ensures leaves { (l : Written A) (rest : List ℕ) → after_space (left_behind l rest) ≡ after_space rest }
     ensures leaves_all { (l : Written A) (rest : List ℕ) → begins is_whitespace rest ≡ false → left_behind l rest ≡ rest }
+{}
+
+/// A bound on the nesting that is no less than the text's length changes nothing of what the text reads as, and what is read
+/// leaves no more than the text, if so does the reader of attributes.
+pub fn bound_is_enough<A>()
+    ensures locations { (attr : List ℕ → Outcome (AttrView A)) (m n : ℕ) (text : List ℕ) → LeavesNoMore attr → length text ≤ m → length text ≤ n → location_within attr m text ≡ location_within attr n text }
+    ensures rows { (attr : List ℕ → Outcome (AttrView A)) (m n : ℕ) (text : List ℕ) → LeavesNoMore attr → length text ≤ m → length text ≤ n → more_within attr m text ≡ more_within attr n text }
+    ensures leaves_no_more { (attr : List ℕ → Outcome (AttrView A)) → LeavesNoMore attr → LeavesNoMore (location_at attr) }
 {}
