@@ -1,9 +1,10 @@
 -- A location's text is read back as the same location.
 use Rattle.std.proofs.Common.{◌≡◌, ℕ, zero, suc, ◌≤◌, Option, Some, None, List, [], ◌∷◌, ◌++◌, length, refl, sym, ◌∙◌, ap, append_assoc, arith}
+use Rattle.std.proofs.Math.Nat.{le_refl}
 use Rattle.std.specs.Prelude.{codes, IfSome, ⊤}
 use Rattle.std.specs.Str.{chars, IsUtf8}
 use Rattle.irtext_base.specs.Text.{Text, after_space}
-use Rattle.irtext_base.specs.Answers.{Outcome, followed}
+use Rattle.irtext_base.specs.Answers.{Outcome, Read, followed}
 use Rattle.irtext_base.specs.Causes.{position_text}
 use Rattle.irtext_base.specs.Locations.{AttrView, src_pos, fused, named, call_site, unknown, no_location, location}
 use Rattle.irtext_base.specs.Paths.{Written}
@@ -194,3 +195,12 @@ module _ {A : Type 0} (attr : Text → Outcome (AttrView A)) (text_of : A → Te
     row_back : (ls : WrittenRow A) → RowRead attr text_of ls → RowFit ls → AreBack ls
     row_back no_location reads fits = tt
     row_back (location l ls) reads fits = (location_back l reads.0 fits.0, row_back ls reads.1 fits.1)
+
+  -- the whole text is read under one bound, so two locations with one text are one
+  pub location_same : (l k : Written A) → AllRead attr text_of l → AllFit l → AllRead attr text_of k → AllFit k → written_text text_of l ≡ written_text text_of k → l ≡ k
+  location_same l k read_l fits_l read_k fits_k e =
+      let at : Text → Outcome (Written A) = λ text. location_within attr (length (text ++ [])) (text ++ []) in
+      let a = location_back l read_l fits_l [] refl (length (written_text text_of l ++ [])) (le_refl _) in
+      let b = location_back k read_k fits_k [] refl (length (written_text text_of k ++ [])) (le_refl _) in
+      let one : Read l a.taken (left_behind l []) ≡ Read k b.taken (left_behind k []) = sym a.is ∙ (ap at e ∙ b.is) in
+      cc one

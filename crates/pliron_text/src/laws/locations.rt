@@ -23,6 +23,12 @@ pub fn location_comes_back<A>()
     ensures leaves_all { (l : Written A) (rest : List ℕ) → begins is_whitespace rest ≡ false → left_behind l rest ≡ rest }
 {}
 
+/// Two locations with one text are one location, if each is read back.
+pub fn location_texts_differ<A>()
+    ensures { (attr : List ℕ → Outcome (AttrView A)) (text_of : A → List ℕ) (l k : Written A) → AllRead attr text_of l → AllFit l → AllRead attr text_of k → AllFit k →
+        written_text text_of l ≡ written_text text_of k → l ≡ k }
+{}
+
 /// A bound on the nesting that is no less than the text's length changes nothing of what the text reads as, and what is read
 /// leaves no more than the text, if so does the reader of attributes.
 pub fn bound_is_enough<A>()
