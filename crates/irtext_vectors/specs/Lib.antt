@@ -4,3 +4,4 @@ pub mod Trees
 pub mod Sections
 pub mod Formats
 pub mod Located
+pub mod LocationRows

@@ -17,6 +17,7 @@ mod formats;
 mod listed;
 #[cfg(test)]
 mod lists;
+pub mod location_rows;
 #[cfg(test)]
 mod locations;
 #[cfg(test)]
