@@ -16,7 +16,7 @@ pub record GivesBack {X : Type 0} (o : Outcome X) (x : X) (text left : Text) : T
   pub is : o ≡ Read x taken left
   pub whole : taken ++ left ≡ text
 
--- an attribute's text begins with a letter or `_`, and is read back before an end, of which white space at most is taken or left
+-- an attribute's text begins with a letter or `_`, and is read back before an end; what is left is this end, up to white space at its front
 pub record AttrReads {A : Type 0} (attr : Text → Outcome (AttrView A)) (text_of : A → Text) (a : AttrView A) : Type 0 where
   pub starts : (rest : Text) → begins begins_word (attr_text text_of a ++ rest) ≡ true
   pub again : (rest : Text) → Ends rest → (left : Text) × GivesBack (attr (attr_text text_of a ++ rest)) a (attr_text text_of a ++ rest) left × (after_space left ≡ after_space rest)
