@@ -107,6 +107,7 @@ mod LocationBound
 mod LocationParts
 mod LocationKinds
 mod LocationComesBack
+pub mod LocationTexts
 pub mod PrintedBack
 pub mod RootSteps
 pub mod TopLevel

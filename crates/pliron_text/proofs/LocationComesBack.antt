@@ -14,7 +14,7 @@ use Rattle.irtext_base.proofs.Characters.{after_twice}
 use Rattle.irtext_read.specs.Tokens.{text_at}
 use Rattle.pliron_text.specs.LocationText.{space_at}
 use Rattle.pliron_text.specs.LocationReading.{WrittenRow, row_at, behind_location, location_within, more_within}
-use Rattle.pliron_text.specs.LocationWriting.{attr_text, source_text, written_text, row_texts}
+use Rattle.pliron_text.specs.LocationWriting.{source_text, written_text, row_texts}
 use Rattle.pliron_text.specs.PrintedBack.{Fits32}
 use Rattle.pliron_text.specs.Spell.{joined, joined_from, comma}
 use Rattle.pliron_text.specs.WrittenBack.{GivesBack, AttrReads, AllRead, RowRead, AllFit, RowFit, left_behind, EndsLocation}

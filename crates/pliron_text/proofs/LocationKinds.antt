@@ -13,7 +13,7 @@ use Rattle.irtext_base.proofs.Characters.{word_tight}
 use Rattle.irtext_read.specs.Tokens.{text_at}
 use Rattle.pliron_text.specs.LocationText.{space_at, spaced_at, position_at}
 use Rattle.pliron_text.specs.LocationReading.{bytes_at, source_at, WrittenRow, place_at, metadata_at, behind_location, row_at, row_of, kind_at}
-use Rattle.pliron_text.specs.LocationWriting.{attr_text, source_text}
+use Rattle.pliron_text.specs.LocationWriting.{source_text}
 use Rattle.pliron_text.specs.PrintedBack.{Fits32}
 use Rattle.pliron_text.specs.WrittenBack.{GivesBack, AttrReads, EndsLocation}
 use Rattle.pliron_text.proofs.GivesBack.{gives_followed, gives_mapped, gives_nothing, gives_text, gives_space, gives_spaced}

@@ -1,20 +1,24 @@
--- What definitions see of each kind of location, and of its paths.
-use Rattle.std.proofs.Common.{◌≡◌, ◌∙◌, ap, refl, ℕ, Bool, Option, List, map, Box, Vec, String, Global, string_bytes, length}
-use Rattle.irtext_base.specs.Locations.{LocationView, location_view, view_step, attr_view_in, in_row, src_pos, fused, named, call_site, unknown, row_sourced, sourced}
-use Rattle.irtext_base.specs.Paths.{Written, is_known, are_known, row_known, path_of, written_with}
+-- What definitions see of a location of each kind.
+use Rattle.std.proofs.Common.{◌≡◌, ◌∙◌, ap, sym, map, string_bytes, Box, Global, String, Vec, Option, List}
 use Rattle.irtext_base.specs.declared.base.attributes.AttrObj.{AttrObj}
-use Rattle.irtext_base.specs.declared.location.Source.{Source}
-use Rattle.irtext_base.specs.declared.location.Location as kinds
-use Rattle.irtext_base.specs.declared.location.Location.{Location, SrcPos, Fused, Named, CallSite, Unknown}
+use Rattle.irtext_base.specs.declared.location.Location.{Location, fold-roll-Location}
 use Rattle.irtext_base.specs.declared.location.Location.TheOpen.{Location-F}
-use Rattle.irtext_base.specs.declared.location.Location.TheFolds.{fold-roll-Location}
+use Rattle.irtext_base.specs.declared.location.Location.TheVariants.{SrcPos, Fused, Named, CallSite, Unknown, rolls-SrcPos, rolls-Fused, rolls-Named, rolls-CallSite, rolls-Unknown}
+use Rattle.irtext_base.specs.declared.location.Source.{Source}
 use Rattle.irtext_base.specs.declared.parsable.position.SourcePosition.{SourcePosition}
+use Rattle.irtext_base.specs.Locations.{LocationView, location_view, view_step, attr_view_in, in_row, src_pos, fused, named, call_site, unknown}
 
-module _ {A : Type 0} where
-  pub view_src_pos : (s : Source) (at : SourcePosition) → location_view {A = A} (SrcPos s at) ≡ src_pos s at
-  unfolding kinds.roll-Location denote.Hole.Carrier.roll
-  view_src_pos s at = fold-roll-Location A (LocationView A) view_step (Location-F.SrcPos s at)
+pub seen-src_pos : {A : Type 0} (src : Source) (pos : SourcePosition) → location_view {A = A} (SrcPos src pos) ≡ src_pos src pos
+seen-src_pos {A} src pos = ap location_view (sym (rolls-SrcPos src pos)) ∙ fold-roll-Location A (LocationView A) view_step (Location-F.SrcPos src pos)
 
-  pub view_unknown : location_view {A = A} Unknown ≡ unknown
-  unfolding kinds.roll-Location denote.Hole.Carrier.roll
-  view_unknown = fold-roll-Location A (LocationView A) view_step Location-F.Unknown
+pub seen-fused : {A : Type 0} (m : Box (Option (AttrObj A)) Global) (ls : Box (Vec (Location A) Global) Global) → location_view (Fused m ls) ≡ fused (attr_view_in m.value) (in_row (map location_view ls.value.items))
+seen-fused {A} m ls = ap location_view (sym (rolls-Fused m ls)) ∙ fold-roll-Location A (LocationView A) view_step (Location-F.Fused m ls)
+
+pub seen-named : {A : Type 0} (name : Box (String Global) Global) (child : Box (Location A) Global) → location_view (Named name child) ≡ named (string_bytes name.value) (location_view child.value)
+seen-named {A} name child = ap location_view (sym (rolls-Named name child)) ∙ fold-roll-Location A (LocationView A) view_step (Location-F.Named name child)
+
+pub seen-call_site : {A : Type 0} (callee caller : Box (Location A) Global) → location_view (CallSite callee caller) ≡ call_site (location_view callee.value) (location_view caller.value)
+seen-call_site {A} callee caller = ap location_view (sym (rolls-CallSite callee caller)) ∙ fold-roll-Location A (LocationView A) view_step (Location-F.CallSite callee caller)
+
+pub seen-unknown : {A : Type 0} → location_view {A = A} Unknown ≡ unknown
+seen-unknown {A} = ap location_view (sym rolls-Unknown) ∙ fold-roll-Location A (LocationView A) view_step Location-F.Unknown

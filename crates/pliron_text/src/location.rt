@@ -2,6 +2,7 @@
 
 mod made;
 pub mod nested;
+pub mod entry;
 pub mod print;
 pub mod read;
 pub mod source;

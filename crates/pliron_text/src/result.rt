@@ -3,7 +3,7 @@ ghost use Rattle.std.specs.Prelude.{◌≡◌, ◌≢◌, ◌++◌, None, OnOk, 
 ghost use Rattle.pliron_text.specs.LocationsText.{located_cause, located_error};
 ghost use Rattle.pliron_text.specs.declared.printable.refusal.Refusal.TheVariants as refusal;
 
-use crate::location::print::fmt_known;
+use crate::location::entry::fmt_known;
 use crate::printable::state::State;
 use crate::printable::{Printable, Refusal};
 use irtext_base::base::Context;

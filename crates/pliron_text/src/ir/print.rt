@@ -12,7 +12,7 @@ ghost use Rattle.pliron_text.specs.Printing.{gathered_of, with_gathered};
 ghost use Rattle.pliron_text.specs.declared.printable.refusal.Refusal.TheVariants as refusal;
 
 use crate::ir::print::concrete::fmt_concrete;
-use crate::location::print::fmt_known;
+use crate::location::entry::fmt_known;
 use crate::printable::state::State;
 use crate::printable::{Printable, Refusal};
 use irtext_base::base::{Context, Operation, Ptr};

@@ -1,56 +1,234 @@
-//! Printing of locations: so far of places in memory, and of no location.
-ghost use Rattle.std.specs.Prelude.{◌≡◌, ◌≢◌, ◌++◌, None, OnOk, IfErr, IsSomeAnd, string_bytes};
-ghost use Rattle.pliron_text.specs.LocationsText.{place_text, location_text, known_text, between};
-ghost use Rattle.pliron_text.specs.declared.printable.refusal.Refusal.TheVariants as refusal;
+//! Printing of locations: files by the paths that a context keeps for them.
+ghost use Rattle.std.specs.Prelude.{◌≡◌, ◌<◌, ◌^◌, ◌++◌, Some, OnOk, IfSome, cond, [], codes, map, option_copied, string_bytes};
+ghost use Rattle.std.specs.Fmt.{signed_decimal};
+ghost use Rattle.std.specs.Int.Signed.{mag};
+ghost use Rattle.std.specs.Str.{encode_utf8_all};
+ghost use Rattle.irtext_base.specs.Causes.{position_text};
+ghost use Rattle.irtext_base.specs.Locations.{attr_view, attr_view_in, location_view, in_row, row_sourced};
+ghost use Rattle.irtext_base.specs.Paths.{path_of, written_with};
+ghost use Rattle.pliron_text.specs.LocationWriting.{source_text, metadata_text, location_text, row_texts};
+ghost use Rattle.pliron_text.specs.Spell.{joined, comma, or_question};
 
-use crate::printable::Refusal;
+use crate::printable::Printable;
+use crate::printable::quoted::fmt_quoted;
+use crate::printable::state::State;
+use irtext_base::base::{AttrObj, Context, Identifier};
 use irtext_base::location::{Location, Source};
 use irtext_base::parsable::SourcePosition;
+use irtext_base::text::{AttrText, IrText};
+use std::fmt;
 
-/// Appends the text of a place of a source. It fails where memory is refused, and at files, which are not printed yet.
-fn fmt_place(src: Source, pos: SourcePosition, f: &mut String) -> Result<(), Refusal>
-    ensures text { OnOk result (IsSomeAnd (place_text src pos) (λ text. string_bytes f.new ≡ string_bytes f.old ++ text)) }
-    ensures refused { IfErr result (λ e. e ≢ refusal.Memory → (e ≡ refusal.Location) × (place_text src pos ≡ None)) }
+/// The path of a file that the context keeps.
+fn path_of<'c, T: IrText<A>, A: AttrText>(src: Source, ctx: &'c Context<T, A>) -> Option<&'c str>
+    ensures { option_copied result ≡ path_of ctx.now.paths src }
 {
+    if !src.is_of(ctx) {
+        return None;
+    }
     match src {
-        Source::InMemory => {
-            write!(f, "<in-memory>: {pos}")?;
-            Ok(())
-        }
-        Source::File(_) => Err(Refusal::Location),
+        Source::File(key) => Some(ctx.path(key)),
+        Source::InMemory => None,
     }
 }
 
-/// Appends the text of a location. It fails where memory is refused, and at the kinds that are not printed yet.
-pub(crate) fn fmt_location<A>(location: &Location<A>, f: &mut String) -> Result<(), Refusal>
-    ensures text { OnOk result (IsSomeAnd (location_text location.now) (λ text. string_bytes f.new ≡ string_bytes f.old ++ text)) }
-    ensures refused { IfErr result (λ e. e ≢ refusal.Memory → (e ≡ refusal.Location) × (location_text location.now ≡ None)) }
+/// Appends the path of a file between quotation marks, or `<in-memory>`.
+fn fmt_source<T: IrText<A>, A: AttrText>(
+    src: Source,
+    ctx: &Context<T, A>,
+    f: &mut String,
+) -> fmt::Result
+    ensures { OnOk result (string_bytes f.new ≡ string_bytes f.old ++ encode_utf8_all (source_text (path_of ctx.now.paths src))) }
+{
+    match path_of(src, ctx) {
+        Some(path) => fmt_quoted(path, f),
+        None => {
+            f.push_str("<in-memory>")?;
+            Ok(())
+        }
+    }
+}
+
+/// A number fits its type.
+fn number_fits(number: &i32)
+    ensures { mag number.now < 2 ^ 63 }
+{
+    let _number = *number;
+}
+
+/// Appends the line and the column.
+fn fmt_position(pos: &SourcePosition, f: &mut String) -> fmt::Result
+    ensures { OnOk result (string_bytes f.new ≡ string_bytes f.old ++ encode_utf8_all (position_text pos.now)) }
+{
+    number_fits(&pos.line);
+    number_fits(&pos.column);
+    write!(f, "{pos}")?;
+    Ok(())
+}
+
+/// Appends `, `, but not in front of the first item.
+fn fmt_comma(first: bool, f: &mut String) -> fmt::Result
+    ensures { OnOk result (string_bytes f.new ≡ string_bytes f.old ++ cond first [] comma) }
+{
+    if !first {
+        f.push_str(", ")?;
+    }
+    Ok(())
+}
+
+/// Appends a given name, or `?` where there is none.
+fn fmt_name(name: &Option<Identifier>, f: &mut String) -> fmt::Result
+    ensures { OnOk result (string_bytes f.new ≡ string_bytes f.old ++ encode_utf8_all (or_question name.now)) }
+{
+    match name {
+        Some(name) => f.push_str(name.as_str())?,
+        None => f.push_str("?")?,
+    }
+    Ok(())
+}
+
+/// Appends given names with `, ` between.
+fn fmt_names(names: &Vec<Option<Identifier>>, f: &mut String) -> fmt::Result
+    ensures { OnOk result (string_bytes f.new ≡ string_bytes f.old ++ encode_utf8_all (joined comma (map or_question names.now.items))) }
+{
+    let mut first = true;
+    for name in names {
+        fmt_comma(first, f)?;
+        fmt_name(name, f)?;
+        first = false;
+    }
+    Ok(())
+}
+
+/// Appends the text of an attribute.
+fn fmt_attr<A: AttrText>(attr: &AttrObj<A>, f: &mut String) -> fmt::Result
+    ensures { OnOk result (string_bytes f.new ≡ string_bytes f.old ++ encode_utf8_all (attr_text A.written (attr_view attr.now))) }
+{
+    match attr {
+        AttrObj::GivenNames(names) => {
+            f.push_str("builtin.given_names [")?;
+            fmt_names(names, f)?;
+            f.push_str("]")?;
+            Ok(())
+        }
+        AttrObj::Ident(name) => {
+            f.push_str("builtin.identifier ")?;
+            f.push_str(name.as_str())?;
+            Ok(())
+        }
+        AttrObj::Own(attr) => attr.write_text(f),
+    }
+}
+
+/// Appends an attribute between `<` and `>`, if there is one.
+fn fmt_metadata<A: AttrText>(metadata: &Option<AttrObj<A>>, f: &mut String) -> fmt::Result
+    ensures { OnOk result (string_bytes f.new ≡ string_bytes f.old ++ encode_utf8_all (metadata_text A.written (attr_view_in metadata.now))) }
+{
+    if let Some(attr) = metadata {
+        f.push_str("<")?;
+        fmt_attr(attr, f)?;
+        f.push_str(">")?;
+    }
+    Ok(())
+}
+
+/// Appends a source, a line and a column.
+fn fmt_place<T: IrText<A>, A: AttrText>(
+    src: Source,
+    pos: &SourcePosition,
+    ctx: &Context<T, A>,
+    f: &mut String,
+) -> fmt::Result
+    ensures { OnOk result (string_bytes f.new ≡ string_bytes f.old ++ encode_utf8_all (source_text (path_of ctx.now.paths src) ++ (codes ": " ++ position_text pos.now))) }
+{
+    fmt_source(src, ctx, f)?;
+    f.push_str(": ")?;
+    fmt_position(pos, f)
+}
+
+/// Appends the text of a location. It fails only where memory is refused; what was written until then stays.
+#[cycle(printed)]
+pub(crate) fn fmt_location<T: IrText<A>, A: AttrText>(
+    location: &Location<A>,
+    ctx: &Context<T, A>,
+    f: &mut String,
+) -> fmt::Result
+    ensures { OnOk result (string_bytes f.new ≡ string_bytes f.old ++ encode_utf8_all (location_text A.written ctx.now.paths location.now)) }
 {
     match location {
-        Location::SrcPos { src, pos } => fmt_place(*src, *pos, f),
+        Location::SrcPos { src, pos } => fmt_place(*src, pos, ctx, f),
+        Location::Fused {
+            metadata,
+            locations,
+        } => {
+            f.push_str("fused")?;
+            fmt_metadata(metadata, f)?;
+            f.push_str("[")?;
+            fmt_locations(locations, ctx, f)?;
+            f.push_str("]")?;
+            Ok(())
+        }
+        Location::Named { name, child_loc } => {
+            f.push_str("name: ")?;
+            fmt_quoted(name.as_str(), f)?;
+            f.push_str(", loc: (")?;
+            fmt_location(child_loc, ctx, f)?;
+            f.push_str(")")?;
+            Ok(())
+        }
+        Location::CallSite { callee, caller } => {
+            f.push_str("callsite(")?;
+            fmt_location(callee, ctx, f)?;
+            f.push_str(" at ")?;
+            fmt_location(caller, ctx, f)?;
+            f.push_str(")")?;
+            Ok(())
+        }
         Location::Unknown => {
             f.push_str("?")?;
             Ok(())
         }
-        _ => Err(Refusal::Location),
     }
 }
 
-/// Appends the text of a location between these two, where the location is known.
-pub(crate) fn fmt_known<A>(
-    location: &Location<A>,
-    before: &str,
-    after: &str,
+/// Appends the texts of locations with `, ` between.
+#[cycle(printed)]
+fn fmt_locations<T: IrText<A>, A: AttrText>(
+    locations: &Vec<Location<A>>,
+    ctx: &Context<T, A>,
     f: &mut String,
-) -> Result<(), Refusal>
-    ensures text { OnOk result (IsSomeAnd (known_text location.now) (λ known. string_bytes f.new ≡ string_bytes f.old ++ between before.now after.now known)) }
-    ensures refused { IfErr result (λ e. e ≢ refusal.Memory → (e ≡ refusal.Location) × (known_text location.now ≡ None)) }
+) -> fmt::Result
+    ensures { OnOk result (string_bytes f.new ≡ string_bytes f.old ++ encode_utf8_all (joined comma (row_texts A.written (row_sourced (path_of ctx.now.paths) (in_row (map location_view locations.now.items)))))) }
 {
-    if let Location::Unknown = location {
-        return Ok(());
+    let mut first = true;
+    for location in locations {
+        fmt_comma(first, f)?;
+        fmt_location(location, ctx, f)?;
+        first = false;
     }
-    f.push_str(before)?;
-    fmt_location(location, f)?;
-    f.push_str(after)?;
     Ok(())
+}
+
+impl<T: IrText<A>, A: AttrText, U> Printable<U, T, A> for Source {
+    ghost gives = { λ src ctx s. Some (encode_utf8_all (source_text (path_of ctx.paths src)), s) };
+
+    fn fmt(&self, ctx: &Context<T, A>, _state: &mut State<U>, f: &mut String) -> fmt::Result {
+        fmt_source(*self, ctx, f)
+    }
+}
+
+impl<T: IrText<A>, A: AttrText, U> Printable<U, T, A> for SourcePosition {
+    ghost gives = { λ pos _ s. Some (position_text pos, s) };
+
+    fn fmt(&self, _ctx: &Context<T, A>, _state: &mut State<U>, f: &mut String) -> fmt::Result {
+        write!(f, "{self}")?;
+        Ok(())
+    }
+}
+
+impl<T: IrText<A>, A: AttrText, U> Printable<U, T, A> for Location<A> {
+    ghost gives = { λ location ctx s. Some (encode_utf8_all (location_text A.written ctx.paths location), s) };
+
+    fn fmt(&self, ctx: &Context<T, A>, _state: &mut State<U>, f: &mut String) -> fmt::Result {
+        fmt_location(self, ctx, f)
+    }
 }

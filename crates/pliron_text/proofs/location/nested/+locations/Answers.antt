@@ -13,7 +13,7 @@ use Rattle.irtext_read.specs.Tokens.{text_at}
 use Rattle.pliron_text.specs.LocationText.{space_at}
 use Rattle.pliron_text.proofs.LocationBegins.{is_place, is_fused, is_named, is_call_site, is_unknown, is_none, none_begins, one_begins, nowhere}
 use Rattle.pliron_text.proofs.LocationRows.{IsPushed, row_begun, first_one, at_comma, behind_comma, behind_one, ended, row_begins, not_there, fine_after, all_known, all_over, pushed_one, no_longer, shorter, space_no_longer, refused_inside, refused_within, known_of, made, by_kind}
-use Rattle.pliron_text.proofs.LocationViews.{view_unknown}
+use Rattle.pliron_text.proofs.LocationViews.{seen-unknown}
 use Rattle.pliron_text.proofs.NewPaths.{adds_none, adds_more, stays_known, written_same, both_true}
 use Rattle.pliron_text.proofs.Rooted.{alone}
 use Rattle.pliron_text.proofs.Steps.{first, more, spaced, turned, more_seen, refuses, refuses_seen, starved, last, last_seen, starts}

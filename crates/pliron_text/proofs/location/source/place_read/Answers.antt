@@ -4,7 +4,7 @@ use Rattle.irtext_base.specs.Locations.{src_pos}
 use Rattle.irtext_base.specs.Paths.{path_of, written_with}
 use Rattle.irtext_base.specs.declared.location.Location.{SrcPos}
 use Rattle.pliron_text.specs.NewPaths.{location_over}
-use Rattle.pliron_text.proofs.LocationViews.{view_src_pos}
+use Rattle.pliron_text.proofs.LocationViews.{seen-src_pos}
 use Rattle.pliron_text.proofs.Rooted.{alone}
 use Rattle.pliron_text.proofs.Steps.{first, more, refuses, refuses_seen, last_seen}
 use Rattle.pliron_text.proofs.location.source.place_read.Goals as goal
@@ -23,7 +23,7 @@ pub returns-clause-read : goal.returns-clause-read
 returns-clause-read g c =
     let r = c.in_ok-src.ensures.read in
     let paths = c.source_read.new.ctx.paths in
-    let seen = view_src_pos {A = g.row.A.Denot} c.in_ok-src.src c.in_ok-pos.pos in
+    let seen = seen-src_pos {A = g.row.A.Denot} c.in_ok-src.src c.in_ok-pos.pos in
     record {
       known = rw seen r.known;
       read = last_seen alone (location_over paths) (src_pos (path_of paths c.in_ok-src.src)) (SrcPos c.in_ok-src.src c.in_ok-pos.pos) (ap (written_with paths) seen) (more alone _ (first alone _ r.read) c.in_ok-spaced_text.ensures) c.in_ok-pos.ensures;
