@@ -4,7 +4,7 @@ use Rattle.std.specs.Fmt.{decimal}
 use Rattle.std.specs.Str.{IsAscii}
 use Rattle.std.proofs.lemmas.List.{append_assoc, replicate-append-replicate, take-replicate}
 use Rattle.std.specs.List.{slice_range}
-use Rattle.std.specs.Option.{option_map, option_and_then}
+use Rattle.irtext_base.specs.Text.{Text}
 use Rattle.std.proofs.Common.{Box, Global}
 use Rattle.irtext_base.specs.Causes.{headed, kind_text, cause_text}
 use Rattle.irtext_base.specs.declared.result.Error.{Error}
@@ -24,18 +24,17 @@ then-err (Ok x) f p = tt
 then-err (Err e) f p = f e p
 
 -- a location, a headline and a cause, as the text of an error
-pub error_appended : (known : Option (Option (List ℕ))) (kind : ErrorKind) (cause : Option (List ℕ)) (old first second new : List ℕ)
-    → IsSomeAnd known (λ l. first ≡ old ++ between (codes "[") (codes "] ") l)
+pub error_appended : (known : List ℕ) (kind : ErrorKind) (cause : List ℕ) (old first second new : List ℕ)
+    → first ≡ old ++ known
     → second ≡ first ++ (codes "Compilation error: " ++ (kind_text kind ++ codes ".\n"))
-    → IsSomeAnd cause (λ t. new ≡ second ++ t)
-    → IsSomeAnd (option_and_then (λ l. option_map (λ t. between (codes "[") (codes "] ") l ++ headed kind t) cause) known) (λ t. new ≡ old ++ t)
-error_appended None kind cause old first second new p q r = absurd p
-error_appended (Some l) kind None old first second new p q r = absurd r
-error_appended (Some l) kind (Some t) old first second new p q r = r ∙ ap (λ z. z ++ t) (q ∙ ap (λ z. z ++ (codes "Compilation error: " ++ (kind_text kind ++ codes ".\n"))) p) ∙ simp append_assoc
+    → new ≡ second ++ cause
+    → new ≡ old ++ (known ++ headed kind cause)
+error_appended known kind cause old first second new p q r =
+    r ∙ ap (λ z. z ++ cause) (q ∙ ap (λ z. z ++ (codes "Compilation error: " ++ (kind_text kind ++ codes ".\n"))) p) ∙ simp append_assoc
 
 -- a cause that holds no error prints as it shows itself
-pub located_cause-plain : {A : Type 0} (cause : Cause A) → ((e : Box (Error A) Global) → cause ≡ Nested e → ⊥) → located_cause cause ≡ Some (cause_text cause)
-located_cause-plain {A = A} cause none = elim cause as (λ z. ((e : Box (Error A) Global) → z ≡ Nested e → ⊥) → located_cause z ≡ Some (cause_text z)) [
+pub located_cause-plain : {A : Type 0} (written : A → Text) (paths : List (List ℕ)) (cause : Cause A) → ((e : Box (Error A) Global) → cause ≡ Nested e → ⊥) → located_cause written paths cause ≡ cause_text cause
+located_cause-plain {A = A} written paths cause none = elim cause as (λ z. ((e : Box (Error A) Global) → z ≡ Nested e → ⊥) → located_cause written paths z ≡ cause_text z) [
   | Nested' p kind err loc ↦ λ n. absurd (n (record { ptr = p.ptr; alloc = p.alloc; value = record { kind = kind; err = err; loc = loc } }) refl)
   | _ ↦ λ n. refl
 ] none

@@ -5,7 +5,7 @@ use Rattle.irtext_base.specs.Causes.{position_text}
 use Rattle.irtext_base.specs.Quoted.{quoted}
 use Rattle.irtext_base.specs.Locations.{AttrView, location_view, src_pos, fused, named, call_site, unknown, LocationsOf, no_location, location}
 use Rattle.irtext_base.specs.Paths.{Written, written_with}
-use Rattle.irtext_base.specs.declared.location.Location.{Location}
+use Rattle.irtext_base.specs.declared.location.Location.{Location, Unknown}
 use Rattle.pliron_text.specs.AttrText.{attr_text}
 use Rattle.pliron_text.specs.Spell.{joined, comma}
 
@@ -37,3 +37,8 @@ module _ {A : Type 0} (written : A → Text) where
   -- the text of a location where a context keeps these paths; a file whose path isn't among them is written as memory
   abbrev pub location_text : List (List ℕ) → Location A → Text
   location_text paths l = written_text (written_with paths (location_view l))
+
+  -- the text of a location that is known
+  abbrev pub known_text : List (List ℕ) → Location A → Option Text
+  known_text paths Unknown = None
+  known_text paths l = Some (location_text paths l)

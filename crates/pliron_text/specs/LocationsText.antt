@@ -1,6 +1,9 @@
 -- What locations and errors print as, in bytes. Some kinds of locations are not printed yet.
 use Rattle.std.specs.Prelude.{List, ℕ, [], ◌++◌, Option, Some, None, codes}
-use Rattle.std.specs.Option.{option_map, option_and_then}
+use Rattle.std.specs.Option.{option_map}
+use Rattle.std.specs.Str.{encode_utf8_all}
+use Rattle.irtext_base.specs.Text.{Text}
+use Rattle.pliron_text.specs.LocationWriting as writing
 use Rattle.irtext_base.specs.Causes.{position_text, cause_text, headed}
 use Rattle.irtext_base.specs.declared.location.Location.{Location, SrcPos, Unknown}
 use Rattle.irtext_base.specs.declared.location.Source.{Source}
@@ -32,15 +35,20 @@ module _ {A : Type 0} where
   known_text Unknown = Some None
   known_text location = option_map Some (location_text location)
 
+-- the bytes of a text between two others, where there is one
+abbrev pub framed : List ℕ → List ℕ → Option Text → List ℕ
+framed before after text = between before after (option_map encode_utf8_all text)
+
+module _ {A : Type 0} (written : A → Text) (paths : List (List ℕ)) where
   -- an error's text behind its location, where that is known
-  abbrev pub located : Location A → ErrorKind → Option (List ℕ) → Option (List ℕ)
-  located location kind cause = option_and_then (λ l. option_map (λ c. between (codes "[") (codes "] ") l ++ headed kind c) cause) (known_text location)
+  abbrev pub located : Location A → ErrorKind → List ℕ → List ℕ
+  located location kind cause = framed (codes "[") (codes "] ") (writing.known_text written paths location) ++ headed kind cause
 
   -- the text of a cause; an inner error's has its location in front
-  abbrev pub located_cause : Cause A → Option (List ℕ)
+  abbrev pub located_cause : Cause A → List ℕ
   located_cause (Nested' p kind err loc) = located loc kind (located_cause err)
-  located_cause cause = Some (cause_text cause)
+  located_cause cause = cause_text cause
 
   -- the text of an error, with its location in front
-  abbrev pub located_error : Error A → Option (List ℕ)
+  abbrev pub located_error : Error A → List ℕ
   located_error error = located error.loc error.kind (located_cause error.err)

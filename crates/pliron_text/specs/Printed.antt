@@ -1,14 +1,14 @@
 -- What errors and answers print as.
-use Rattle.std.specs.Prelude.{List, ℕ, Option, Result, Ok, Err, ⊤}
-use Rattle.std.specs.Option.{option_map}
+use Rattle.std.specs.Prelude.{List, ℕ, Option, Some, Result, Ok, Err, ⊤}
+use Rattle.irtext_base.specs.Text.{Text}
 use Rattle.irtext_base.specs.declared.base.context.Context.{Context}
 use Rattle.irtext_base.specs.declared.result.Error.{Error}
 use Rattle.pliron_text.specs.LocationsText.{located_error}
 use Rattle.pliron_text.specs.Shown.{Shown}
 
--- an error's text, which leaves the printing state as it is
-abbrev pub given_of : {A U : Type 0} → Error A → Shown U → Option (List ℕ × Shown U)
-given_of error s = option_map (λ text. (text, s)) (located_error error)
+-- an error's text over these paths, which leaves the printing state as it is
+abbrev pub given_of : {A U : Type 0} → (A → Text) → List (List ℕ) → Error A → Shown U → Option (List ℕ × Shown U)
+given_of written paths error s = Some (located_error written paths error, s)
 
 module _ {X T A : Type 0} where
   -- an answer may be printed where its value may, and where it is an error
@@ -17,6 +17,6 @@ module _ {X T A : Type 0} where
   can_be can (Err error) ctx = ⊤
 
   -- an answer gives what its value gives, or its error's text
-  abbrev pub given : {U : Type 0} → (X → Context T A → Shown U → Option (List ℕ × Shown U)) → Result X (Error A) → Context T A → Shown U → Option (List ℕ × Shown U)
-  given gives (Ok x) ctx s = gives x ctx s
-  given gives (Err error) ctx s = given_of error s
+  abbrev pub given : {U : Type 0} → (A → Text) → (X → Context T A → Shown U → Option (List ℕ × Shown U)) → Result X (Error A) → Context T A → Shown U → Option (List ℕ × Shown U)
+  given written gives (Ok x) ctx s = gives x ctx s
+  given written gives (Err error) ctx s = given_of written ctx.paths error s

@@ -1,11 +1,10 @@
 //! Why a call was refused, and how errors print themselves.
-ghost use Rattle.std.specs.Prelude.{◌≡◌, ◌≢◌, ◌++◌, None, OnOk, IfErr, IsSomeAnd, string_bytes};
+ghost use Rattle.std.specs.Prelude.{◌≡◌, ◌++◌, OnOk, string_bytes};
 ghost use Rattle.pliron_text.specs.LocationsText.{located_cause, located_error};
-ghost use Rattle.pliron_text.specs.declared.printable.refusal.Refusal.TheVariants as refusal;
 
-use crate::location::entry::fmt_known;
+use crate::location::print::fmt_known;
+use crate::printable::Printable;
 use crate::printable::state::State;
-use crate::printable::{Printable, Refusal};
 use irtext_base::base::Context;
 pub use irtext_base::result::{Cause, Error, ErrorKind, Expected, Result, StringError};
 use irtext_base::text::{AttrText, IrText};
@@ -15,24 +14,30 @@ mod macros;
 
 /// Appends an error's text behind its location, where that is known; an inner error is printed so too.
 #[cycle(error)]
-fn fmt_error<A>(error: &Error<A>, f: &mut String) -> std::result::Result<(), Refusal>
-    ensures text { OnOk result (IsSomeAnd (located_error error.now) (λ text. string_bytes f.new ≡ string_bytes f.old ++ text)) }
-    ensures refused { IfErr result (λ e. e ≢ refusal.Memory → (e ≡ refusal.Location) × (located_error error.now ≡ None)) }
+fn fmt_error<T: IrText<A>, A: AttrText>(
+    error: &Error<A>,
+    ctx: &Context<T, A>,
+    f: &mut String,
+) -> fmt::Result
+    ensures { OnOk result (string_bytes f.new ≡ string_bytes f.old ++ located_error A.written ctx.now.paths error.now) }
 {
-    fmt_known(&error.loc, "[", "] ", f)?;
+    fmt_known(&error.loc, "[", "] ", ctx, f)?;
     let kind = error.kind;
     write!(f, "Compilation error: {kind}.\n")?;
-    fmt_cause(&error.err, f)
+    fmt_cause(&error.err, ctx, f)
 }
 
 /// Appends a cause's text.
 #[cycle(error)]
-fn fmt_cause<A>(cause: &Cause<A>, f: &mut String) -> std::result::Result<(), Refusal>
-    ensures text { OnOk result (IsSomeAnd (located_cause cause.now) (λ text. string_bytes f.new ≡ string_bytes f.old ++ text)) }
-    ensures refused { IfErr result (λ e. e ≢ refusal.Memory → (e ≡ refusal.Location) × (located_cause cause.now ≡ None)) }
+fn fmt_cause<T: IrText<A>, A: AttrText>(
+    cause: &Cause<A>,
+    ctx: &Context<T, A>,
+    f: &mut String,
+) -> fmt::Result
+    ensures { OnOk result (string_bytes f.new ≡ string_bytes f.old ++ located_cause A.written ctx.now.paths cause.now) }
 {
     match cause {
-        Cause::Nested(error) => fmt_error(error, f),
+        Cause::Nested(error) => fmt_error(error, ctx, f),
         _ => {
             write!(f, "{cause}")?;
             Ok(())
@@ -43,11 +48,10 @@ fn fmt_cause<A>(cause: &Cause<A>, f: &mut String) -> std::result::Result<(), Ref
 impl<T: IrText<A>, A: AttrText, U> Printable<U, T, A> for Error<A> {
     ghost use Rattle.pliron_text.specs.Printed.{given_of};
 
-    ghost gives = { λ error _ s. given_of error s };
+    ghost gives = { λ error ctx s. given_of A.written ctx.paths error s };
 
-    fn fmt(&self, _ctx: &Context<T, A>, _state: &mut State<U>, f: &mut String) -> fmt::Result {
-        fmt_error(self, f)?;
-        Ok(())
+    fn fmt(&self, ctx: &Context<T, A>, _state: &mut State<U>, f: &mut String) -> fmt::Result {
+        fmt_error(self, ctx, f)
     }
 }
 
@@ -57,7 +61,7 @@ impl<X: Printable<U, T, A>, T: IrText<A>, A: AttrText, U> Printable<U, T, A> for
 
     ghost can_print = { can_be X.can_print };
 
-    ghost gives = { given X.gives };
+    ghost gives = { given A.written X.gives };
 
     fn fmt(&self, ctx: &Context<T, A>, state: &mut State<U>, f: &mut String) -> fmt::Result {
         match self {

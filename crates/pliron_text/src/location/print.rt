@@ -6,7 +6,8 @@ ghost use Rattle.std.specs.Str.{encode_utf8_all};
 ghost use Rattle.irtext_base.specs.Causes.{position_text};
 ghost use Rattle.irtext_base.specs.Locations.{attr_view, attr_view_in, location_view, in_row, row_sourced};
 ghost use Rattle.irtext_base.specs.Paths.{path_of, written_with};
-ghost use Rattle.pliron_text.specs.LocationWriting.{source_text, metadata_text, location_text, row_texts};
+ghost use Rattle.pliron_text.specs.LocationWriting.{source_text, attr_text, metadata_text, location_text, known_text, row_texts};
+ghost use Rattle.pliron_text.specs.LocationsText.{framed};
 ghost use Rattle.pliron_text.specs.Spell.{joined, comma, or_question};
 
 use crate::printable::Printable;
@@ -188,6 +189,25 @@ pub(crate) fn fmt_location<T: IrText<A>, A: AttrText>(
             Ok(())
         }
     }
+}
+
+/// Appends the text of a location between these two, where the location is known. It fails only where memory is refused.
+pub(crate) fn fmt_known<T: IrText<A>, A: AttrText>(
+    location: &Location<A>,
+    before: &str,
+    after: &str,
+    ctx: &Context<T, A>,
+    f: &mut String,
+) -> fmt::Result
+    ensures { OnOk result (string_bytes f.new ≡ string_bytes f.old ++ framed before.now after.now (known_text A.written ctx.now.paths location.now)) }
+{
+    if let Location::Unknown = location {
+        return Ok(());
+    }
+    f.push_str(before)?;
+    fmt_location(location, ctx, f)?;
+    f.push_str(after)?;
+    Ok(())
 }
 
 /// Appends the texts of locations with `, ` between.
