@@ -39,16 +39,6 @@ located_cause-plain {A = A} written paths cause none = elim cause as (λ z. ((e 
   | _ ↦ λ n. refl
 ] none
 
--- an index, a location and brackets, as the text of an entry
-pub entry_appended : (known : Option (Option (List ℕ))) (index : ℕ) (old first second new : List ℕ)
-    → first ≡ old ++ (codes "!" ++ (decimal index ++ codes " = "))
-    → IsSomeAnd known (λ l. second ≡ first ++ between (codes "@[") (codes "], ") l)
-    → new ≡ second ++ codes "[]\n"
-    → IsSomeAnd known (λ l. new ≡ old ++ entry_text index l)
-entry_appended None index old first second new p q r = q
-entry_appended (Some l) index old first second new p q r =
-    r ∙ ap (λ z. z ++ codes "[]\n") (q ∙ ap (λ z. z ++ between (codes "@[") (codes "], ") l) p) ∙ simp append_assoc
-
 -- one more block of spaces
 pub spaces-more : (blocks : ℕ) (old now new : List ℕ) → now ≡ old ++ replicate (64 * blocks) 32 → new ≡ now ++ replicate 64 32 → new ≡ old ++ replicate (64 * (blocks + 1)) 32
 spaces-more blocks old now new p q =

@@ -1,9 +1,8 @@
 -- The printed text of a location is read back as the same location.
-use Rattle.std.proofs.Common.{◌≡◌, ℕ, suc, ◌<◌, ◌≤◌, ◌^◌, true, false, cond, Option, Some, None, [], ◌∷◌, ◌++◌, length, refl, sym, ◌∙◌, ap, ap₂, subst, append_assoc, arith}
+use Rattle.std.proofs.Common.{◌≡◌, ℕ, suc, ◌<◌, ◌≤◌, ◌^◌, true, false, cond, Option, Some, None, List, [], ◌∷◌, ◌++◌, length, refl, sym, ◌∙◌, ap, ap₂, subst, append_assoc, arith}
 use Rattle.std.proofs.lemmas.Bool.Decides.{nat_tests}
 use Rattle.std.proofs.lemmas.Fmt.{decimal_is_IsNumeral}
-use Rattle.std.proofs.lemmas.Option.{none-some}
-use Rattle.std.specs.Prelude.{ℤ, pos, negsuc, codes, nat_lt, decimal, unwrap_or, FitsSigned}
+use Rattle.std.specs.Prelude.{ℤ, pos, negsuc, codes, nat_lt, decimal, FitsSigned}
 use Rattle.std.specs.Char.{is_ascii_digit, is_whitespace}
 use Rattle.std.specs.Fmt.{signed_decimal}
 use Rattle.std.specs.Int.{w32}
@@ -20,12 +19,13 @@ use Rattle.irtext_base.specs.declared.parsable.position.SourcePosition.{SourcePo
 use Rattle.irtext_base.proofs.Characters.{and_left, front_all, after_all, word_no_space}
 use Rattle.irtext_base.proofs.Numbers.{digits_every, digit_in_word}
 use Rattle.irtext_read.specs.Tokens.{is_sign, sign_of, after_sign, fitting, value_of, integer_of, integered, no_integer, integer_at}
-use Rattle.pliron_text.specs.LocationsText.{location_text, known_text}
+use Rattle.pliron_text.specs.LocationWriting.{known_text}
 use Rattle.pliron_text.specs.LocationText.{spaced_at, labelled_at, position_at, location_at}
-use Rattle.pliron_text.specs.PrintedBack.{locations, Fits32, PlaceFits}
+use Rattle.pliron_text.specs.PrintedBack.{locations, Fits32, IsReadSoFar}
 use Rattle.pliron_text.specs.RoundTrip.{LocationReads}
 use Rattle.pliron_text.specs.SoFar.{location_standing}
 use Rattle.pliron_text.proofs.JoinAnswers.{followed-read}
+use Rattle.pliron_text.proofs.LocationViews.{place_in_memory}
 use Rattle.pliron_text.proofs.JoinTokens.{text-literal}
 
 -- ---- an integer
@@ -136,30 +136,16 @@ location-here at rest fits stop =
     let r = position-here at rest fits stop in
     (codes "<in-memory>" ++ (codes ": " ++ r.0), ap (λ o. prefixed (codes "<in-memory>") (prefixed (codes ": ") (mapped (SrcPos InMemory) o))) r.1)
 
--- a location with a text is a place in memory
-place_of : {A : Type 0} (l : Location A) (text : Text) → known_text l ≡ Some (Some text) → (at : SourcePosition) × (l ≡ SrcPos InMemory at) × (text ≡ codes "<in-memory>: " ++ position_text at)
-place_of Unknown text e = absurd (cc e)
-place_of (SrcPos InMemory at) text e = (at, refl, cc e)
-place_of (SrcPos (File key) at) text e = absurd (none-some (Some text) e)
-place_of _ text e = absurd (none-some (Some text) e)
-
 -- no digit is `]`
 stops : (rest : Text) → begins (the 93) rest ≡ true → begins is_ascii_digit rest ≡ false
 stops [] e = refl
 stops (c ∷ rest) e = grind (arith, nat_tests)
 
--- a location's text is read back before `]`, as the same location
-pub location_same : {A : Type 0} (l : Location A) (text rest : Text) → known_text l ≡ Some (Some text) → PlaceFits l → begins (the 93) rest ≡ true → (taken : Text) × (location_at {A = A} (text ++ rest) ≡ Read l taken rest)
-location_same {A = A} l text rest e fits h =
-    let p = place_of l text e in
-    let r = location-here {A = A} p.0 rest (subst PlaceFits p.1 fits) (stops rest h) in
-    (r.0, ap (λ t. location_at (t ++ rest)) p.2 ∙ (r.1 ∙ ap (λ l. Read l r.0 rest) (sym p.1)))
-
--- what is printed of a location is read back
-pub location_reads : {A : Type 0} (l : Location A) (text : Option Text) → known_text l ≡ Some text → PlaceFits l → LocationReads {X = Location A} location_standing locations text
-location_reads l None e fits = tt
-location_reads l (Some text) e fits =
-    let p = place_of l text e in (
-      ap (begins is_whitespace) p.2,
-      λ rest h. (l, rest, ap standing (location_same l text rest e fits h).1, ap (λ l. unwrap_or (location_text l) []) p.1 ∙ sym p.2, refl),
-    )
+-- what is printed of a location is read back, whatever paths each context keeps
+pub location_reads : {A : Type 0} (written : A → Text) (paths others : List (List ℕ)) (l : Location A) → IsReadSoFar l → LocationReads {X = Location A} location_standing (locations written others) (known_text written paths l)
+location_reads written paths others (SrcPos InMemory at) fits =
+    subst (λ t. LocationReads location_standing (locations written others) (Some t)) (sym (place_in_memory written paths at))
+    (refl, λ rest h. (SrcPos InMemory at, rest, ap standing (location-here at rest fits (stops rest h)).1, place_in_memory written others at, refl))
+location_reads written paths others (SrcPos (File key) at) fits = absurd fits
+location_reads written paths others Unknown fits = tt
+location_reads written paths others _ fits = absurd fits

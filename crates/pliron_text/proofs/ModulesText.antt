@@ -21,12 +21,10 @@ use Rattle.irtext_base.proofs.Numbers.{same_character}
 use Rattle.pliron_text.specs.Forest.{region, no_regions, no_blocks}
 use Rattle.pliron_text.specs.Graph.{Graph}
 use Rattle.pliron_text.specs.Modules.{module_id}
-use Rattle.irtext_base.specs.Causes.{position_text}
 use Rattle.irtext_base.specs.declared.base.attributes.AttrObj.{AttrObj}
 use Rattle.irtext_base.specs.declared.base.attributes.AttrObj.TheVariants.{GivenNames, Ident, Own}
-use Rattle.irtext_base.specs.declared.location.Location.{Location, SrcPos, Unknown}
-use Rattle.irtext_base.specs.declared.location.Source.TheVariants.{InMemory, File}
-use Rattle.pliron_text.specs.LocationsText.{location_text, known_text}
+use Rattle.irtext_base.specs.declared.location.Location.{Location, Unknown}
+use Rattle.pliron_text.specs.LocationWriting.{known_text}
 use Rattle.pliron_text.specs.PrintedModule.{printing, levels, region_text, entry_text, symbol_at, symbol_of, mark_text, gathered_at}
 use Rattle.pliron_text.specs.ConcreteText.{concrete_of}
 use Rattle.pliron_text.specs.Section.{text}
@@ -63,9 +61,13 @@ plain_section (Some location) = codes "\n\noutlined_attributes:\n" ++ (entry_tex
 abbrev pub plain_header : Text → Text
 plain_header name = (codes "builtin" ++ (codes "." ++ codes "module")) ++ (codes " @" ++ (name ++ codes " "))
 
+-- the module's text in front of its section
+abbrev pub plain_front : {U : Type 0} → Text → Shown U → Option Text → Text
+plain_front name s location = plain_header name ++ (region_text s ++ plain_mark location)
+
 -- the module's text
 abbrev pub plain_text : {U : Type 0} → Text → Shown U → Option Text → Text
-plain_text name s location = plain_header name ++ (region_text s ++ plain_mark location) ++ plain_section location
+plain_text name s location = plain_front name s location ++ plain_section location
 
 -- a header, a name, a region, a mark and a section, as they stand in the definitions and as they are written
 shape : (header name braces mark section section' : Text) → section ≡ section'
@@ -157,13 +159,10 @@ plain_gathered (Some l) p = p ∷ []
 pub record Known {A : Type 0} (p : Ptr Operation) (location : Location A) (l : Option Text) : Type 0 where
   pub mark : mark_text location 0 ≡ plain_mark l
   pub gathered : gathered_at location p ≡ plain_gathered l p
-  pub ascii : IfSome (location_text location) IsAscii → IfSome l IsAscii
 
-pub known : {A : Type 0} (p : Ptr Operation) (location : Location A) (l : Option Text) → known_text location ≡ Some l → Known p location l
-known {A = A} p Unknown l e = subst (λ z. Known {A = A} p Unknown z) (same_some None l e) (record { mark = refl; gathered = refl; ascii = λ a. tt })
-known {A = A} p (SrcPos InMemory place) l e = subst (λ z. Known {A = A} p (SrcPos InMemory place) z) (same_some (Some (codes "<in-memory>: " ++ position_text place)) l e) (record { mark = refl; gathered = refl; ascii = λ a. a })
-known p (SrcPos (File key) at) l e = absurd (none-some l e)
-known p _ l e = absurd (none-some l e)
+pub known : {A : Type 0} (written : A → Text) (paths : List (List ℕ)) (p : Ptr Operation) (location : Location A) → Known p location (known_text written paths location)
+known written paths p Unknown = record { mark = refl; gathered = refl }
+known written paths p _ = record { mark = refl; gathered = refl }
 
 -- each piece of it is ASCII
 ascii-newline : (k : ℕ) → IsAscii (newline k)
@@ -186,27 +185,28 @@ ascii-header name n = IsAscii-append (codes "builtin.module @") (name ++ codes "
 pub ascii-concrete : {U : Type 0} (name : Text) (s : Shown U) → IsAscii name → IsAscii (plain_header name ++ region_text s)
 ascii-concrete name s n = IsAscii-append (plain_header name) (region_text s) (ascii-header name n) (ascii-region s s.limit)
 
--- the module's text is ASCII
-pub ascii-plain : {U : Type 0} (name : Text) (s : Shown U) (l : Option Text) → IsAscii name → IfSome l IsAscii → IsAscii (plain_text name s l)
-ascii-plain name s l n a =
-    IsAscii-append (plain_header name ++ (region_text s ++ plain_mark l)) (plain_section l)
-    (IsAscii-append (plain_header name) (region_text s ++ plain_mark l) (ascii-header name n)
-    (IsAscii-append (region_text s) (plain_mark l) (ascii-region s s.limit) (ascii-mark l)))
-    (ascii-section l a)
+-- the module's text in front of its section is ASCII
+pub ascii-front : {U : Type 0} (name : Text) (s : Shown U) (l : Option Text) → IsAscii name → IsAscii (plain_front name s l)
+ascii-front name s l n =
+    IsAscii-append (plain_header name) (region_text s ++ plain_mark l) (ascii-header name n) (IsAscii-append (region_text s) (plain_mark l) (ascii-region s s.limit) (ascii-mark l))
   where
     ascii-mark : (l : Option Text) → IsAscii (plain_mark l)
     ascii-mark None = IsAscii-nil
     ascii-mark (Some l) = IsAscii-append (codes " !") (decimal 0) (ascii-from (codes " !") refl) (IsAscii-decimal 0 (omega arith))
 
-    ascii-section : (l : Option Text) → IfSome l IsAscii → IsAscii (plain_section l)
-    ascii-section None a = IsAscii-nil
-    ascii-section (Some l) a =
-        IsAscii-append (codes "\n\noutlined_attributes:\n") (entry_text 0 (Some l) ++ []) (ascii-from (codes "\n\noutlined_attributes:\n") refl)
-        (IsAscii-append (entry_text 0 (Some l)) []
-        (IsAscii-append (codes "!") (decimal 0 ++ (codes " = " ++ ((codes "@[" ++ (l ++ codes "], ")) ++ codes "[]\n"))) (ascii-from (codes "!") refl)
-        (IsAscii-append (decimal 0) (codes " = " ++ ((codes "@[" ++ (l ++ codes "], ")) ++ codes "[]\n")) (IsAscii-decimal 0 (omega arith))
-        (IsAscii-append (codes " = ") ((codes "@[" ++ (l ++ codes "], ")) ++ codes "[]\n") (ascii-from (codes " = ") refl)
-        (IsAscii-append (codes "@[" ++ (l ++ codes "], ")) (codes "[]\n")
-        (IsAscii-append (codes "@[") (l ++ codes "], ") (ascii-from (codes "@[") refl) (IsAscii-append l (codes "], ") a (ascii-from (codes "], ") refl)))
-        (ascii-from (codes "[]\n") refl)))))
-        IsAscii-nil)
+ascii-section : (l : Option Text) → IfSome l IsAscii → IsAscii (plain_section l)
+ascii-section None a = IsAscii-nil
+ascii-section (Some l) a =
+    IsAscii-append (codes "\n\noutlined_attributes:\n") (entry_text 0 (Some l) ++ []) (ascii-from (codes "\n\noutlined_attributes:\n") refl)
+    (IsAscii-append (entry_text 0 (Some l)) []
+    (IsAscii-append (codes "!") (decimal 0 ++ (codes " = " ++ ((codes "@[" ++ (l ++ codes "], ")) ++ codes "[]\n"))) (ascii-from (codes "!") refl)
+    (IsAscii-append (decimal 0) (codes " = " ++ ((codes "@[" ++ (l ++ codes "], ")) ++ codes "[]\n")) (IsAscii-decimal 0 (omega arith))
+    (IsAscii-append (codes " = ") ((codes "@[" ++ (l ++ codes "], ")) ++ codes "[]\n") (ascii-from (codes " = ") refl)
+    (IsAscii-append (codes "@[" ++ (l ++ codes "], ")) (codes "[]\n")
+    (IsAscii-append (codes "@[") (l ++ codes "], ") (ascii-from (codes "@[") refl) (IsAscii-append l (codes "], ") a (ascii-from (codes "], ") refl)))
+    (ascii-from (codes "[]\n") refl)))))
+    IsAscii-nil)
+
+-- the module's text is ASCII, where its location's is
+pub ascii-plain : {U : Type 0} (name : Text) (s : Shown U) (l : Option Text) → IsAscii name → IfSome l IsAscii → IsAscii (plain_text name s l)
+ascii-plain name s l n a = IsAscii-append (plain_front name s l) (plain_section l) (ascii-front name s l n) (ascii-section l a)

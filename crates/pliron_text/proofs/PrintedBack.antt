@@ -1,5 +1,5 @@
 -- The text that was written of a module is read back: what is built of it is the module, and it is never refused.
-use Rattle.std.proofs.Common.{◌≡◌, Bool, List, [], ◌∷◌, length, Option, Some, None, IsTrue, ◌&&◌, ◌==◌, option_map, refl, sym, ap, ◌∙◌, subst}
+use Rattle.std.proofs.Common.{◌≡◌, Bool, ℕ, List, [], ◌∷◌, length, Option, Some, None, IsTrue, ◌&&◌, ◌==◌, option_map, refl, sym, ap, ◌∙◌, subst}
 use Rattle.std.specs.Prelude.{⊤}
 use Rattle.std.proofs.lemmas.Option.{none-some}
 use Rattle.std.specs.Option.{option_and_then}
@@ -20,10 +20,10 @@ use Rattle.irtext_read.specs.declared.parsable.state.StateStream.{StateStream}
 use Rattle.pliron_text.specs.Build.{build}
 use Rattle.pliron_text.specs.EmptyModule.{empty_module}
 use Rattle.pliron_text.specs.Graph.{Graph, Printing}
-use Rattle.pliron_text.specs.LocationsText.{known_text}
+use Rattle.pliron_text.specs.LocationWriting.{known_text}
 use Rattle.pliron_text.specs.Marked.{reads_root}
 use Rattle.pliron_text.specs.Modules.{is_module, module_id, format_of, isolated}
-use Rattle.pliron_text.specs.PrintedBack.{locations, PlaceFits, StandsBack}
+use Rattle.pliron_text.specs.PrintedBack.{locations, IsReadSoFar, StandsBack}
 use Rattle.pliron_text.specs.PrintedModule.{printing, module_symbol, symbol_of}
 use Rattle.pliron_text.specs.Same.{UpToFillings, stood}
 use Rattle.pliron_text.specs.Section.{text}
@@ -41,11 +41,6 @@ where_none : {X Y : Type 0} (xs : List X) (o : Option Y) (y : Y) → elim xs [ [
 where_none [] o y e = e
 where_none (x ∷ xs) o y e = absurd (none-some y e)
 
--- a value that a function gives, where there is one
-mapped_some : {X Y : Type 0} (F : X → Y) (o : Option X) (y : Y) → option_map F o ≡ Some y → (x : X) × (o ≡ Some x) × (y ≡ F x)
-mapped_some F None y e = absurd (none-some y e)
-mapped_some F (Some x) y e = (x, refl, cc e)
-
 -- a module with this name, as printing sees it
 graph-module : {T A : Type 0} (op : OperationView T A) (name : Text) (l : Option Text) → module_symbol op ≡ Some name → graph_at op l ≡ empty_module module_id name l
 graph-module {T = T} {A = A} op name l fits =
@@ -58,14 +53,14 @@ graph-module {T = T} {A = A} op name l fits =
     ap (λ z. make z op.id.name op.attributes op.regions) dialect ∙ (ap (λ z. make module_id.dialect z op.attributes op.regions) its_name
     ∙ (ap (λ z. make module_id.dialect module_id.name z op.regions) (symbol_of-some name op.attributes parts.1) ∙ ap (λ z. make module_id.dialect module_id.name ((sym_name_key, Ident name) ∷ []) z) r.1))
 
--- a graph that stands under a pointer, and the text of its location
-pub graph_stands : {T A : Type 0} (ctx : ContextView T A) (p : Ptr Operation) (op : OperationView T A) (name : Text) (g : Graph T A) → operation ctx p ≡ Some op → module_symbol op ≡ Some name → graph_of ctx p ≡ Some g
-    → (l : Option Text) × (known_text op.loc ≡ Some l) × (g ≡ empty_module module_id name l)
-graph_stands {T = T} {A = A} ctx p op name g o fits e =
-    let seen : OperationView T A → Option (Graph T A) = λ v. elim v.result_types [ [] ↦ option_map (graph_at v) (known_text v.loc) | _ ∷ _ ↦ None ] in
+-- a graph that stands under a pointer, with the text of its location
+pub graph_stands : {T A : Type 0} (written : A → Text) (ctx : ContextView T A) (p : Ptr Operation) (op : OperationView T A) (name : Text) (g : Graph T A)
+    → operation ctx p ≡ Some op → module_symbol op ≡ Some name → graph_of written ctx p ≡ Some g → g ≡ empty_module module_id name (known_text written ctx.paths op.loc)
+graph_stands {T = T} {A = A} written ctx p op name g o fits e =
+    let seen : OperationView T A → Option (Graph T A) = λ v. elim v.result_types [ [] ↦ Some (graph_at v (known_text written ctx.paths v.loc)) | _ ∷ _ ↦ None ] in
     let here : seen op ≡ Some g = sym (ap (option_and_then seen) o) ∙ e in
-    let k = mapped_some (graph_at op) (known_text op.loc) g (where_none op.result_types (option_map (graph_at op) (known_text op.loc)) g here) in
-    (k.0, k.1, k.2 ∙ graph-module op name k.0 fits)
+    let is : g ≡ graph_at op (known_text written ctx.paths op.loc) = cc (where_none op.result_types (Some (graph_at op (known_text written ctx.paths op.loc))) g here) in
+    is ∙ graph-module op name (known_text written ctx.paths op.loc) fits
 
 module _ {T A : Type 0} (types : Texts T) (owns : Texts A) (types_law : Lawful T types) (owns_law : Lawful A owns) (unreserved : Unreserved A owns) (outlined once : A → Bool) (same : A → A → Bool) where
   -- what printing asks
@@ -77,34 +72,35 @@ module _ {T A : Type 0} (types : Texts T) (owns : Texts A) (types_law : Lawful T
   L = unplaced types owns format_of
 
   module _ {V : Type 0} (ctx : ContextView T A) (p : Ptr Operation) (op : OperationView T A) (name : Text) (s : Shown V) (g : Graph T A)
-      (stands_there : operation ctx p ≡ Some op) (fits : module_symbol op ≡ Some name) (identifier : IsTrue (is_identifier name)) (sees : graph_of ctx p ≡ Some g) (place_fits : PlaceFits op.loc) where
-    -- the graph's text reads as a root that builds it, whatever source and text its places are in
-    back : (source : Source) (t : Text) → ComesBackAs types owns (location_standing {A = A}) locations (location_of source t) C isolated g s.width s.indent
-    back source t =
-        let k = graph_stands ctx p op name g stands_there fits sees in
-        subst (λ g. ComesBackAs types owns (location_standing {A = A}) locations (location_of source t) C isolated g s.width s.indent) (sym k.2)
-        (comes_back_as types owns types_law owns_law unreserved (location_standing {A = A}) locations (location_of source t) (λ p. refl) C isolated module_id name refl refl identifier refl refl
-        k.0 s.width s.indent (location_reads op.loc k.0 k.1 place_fits))
+      (stands_there : operation ctx p ≡ Some op) (fits : module_symbol op ≡ Some name) (identifier : IsTrue (is_identifier name)) (sees : graph_of owns.written ctx p ≡ Some g) (is_read : IsReadSoFar op.loc) where
+    -- the graph's text reads as a root that builds it, whatever source and text its places are in, and whatever paths there are
+    back : (source : Source) (t : Text) (paths : List (List ℕ)) → ComesBackAs types owns (location_standing {A = A}) (locations owns.written paths) (location_of source t) C isolated g s.width s.indent
+    back source t paths =
+        let l = known_text owns.written ctx.paths op.loc in
+        subst (λ g. ComesBackAs types owns (location_standing {A = A}) (locations owns.written paths) (location_of source t) C isolated g s.width s.indent) (sym (graph_stands owns.written ctx p op name g stands_there fits sees))
+        (comes_back_as types owns types_law owns_law unreserved (location_standing {A = A}) (locations owns.written paths) (location_of source t) (λ p. refl) C isolated module_id name refl refl identifier refl refl
+        l s.width s.indent (location_reads owns.written ctx.paths paths op.loc is_read))
 
     module _ {U : Type 0} (old : StateStream T A U) (is_text : old.stream.rest ≡ text L C g s.indent s.width None) where
       -- what was built of the text is the module, up to fillings
-      pub builds_back : (q : Ptr Operation) (new : StateStream T A U) → BuildsRoot types owns q old new → StandsBack C g q new
+      pub builds_back : (q : Ptr Operation) (new : StateStream T A U) → BuildsRoot types owns q old new → StandsBack owns.written C g q new
       builds_back q new b =
           let first = location_of {A = A} old.state.src (whole old.stream) in
-          let r = back old.state.src (whole old.stream) in
+          let paths = new.state.ctx.now.paths in
+          let r = back old.state.src (whole old.stream) paths in
           let there = subst (λ t. reads_root (so_far types owns) (location_standing {A = A}) b.tree b.entries t new.stream.rest) is_text b.reads in
           let o = one_root (so_far types owns) types_law owns_law (λ p q t e f. e ∙ sym f) (λ t u e. absurd e) (location_standing {A = A}) b.tree r.tree b.entries r.entries
           (text L C g s.indent s.width None) new.stream.rest r.rest there r.reads in (
             build isolated first b.entries b.tree,
             b.builds,
-            subst (λ z. UpToFillings (locations {A = A}) (stood C isolated g) (build isolated first z b.tree)) (sym o.1)
-                (subst (λ z. UpToFillings (locations {A = A}) (stood C isolated g) (build isolated first r.entries z)) (sym o.0) r.same),
+            subst (λ z. UpToFillings (locations owns.written paths) (stood C isolated g) (build isolated first z b.tree)) (sym o.1)
+                (subst (λ z. UpToFillings (locations owns.written paths) (stood C isolated g) (build isolated first r.entries z)) (sym o.0) r.same),
             ap after_space o.2 ∙ r.ends,
           )
 
       -- the text is not refused
       pub never_refused : (fault : ParseFault A) → RefusesRoot types owns old.stream fault → ⊥
       never_refused fault f =
-          let r = back old.state.src (whole old.stream) in
+          let r = back old.state.src (whole old.stream) ctx.paths in
           let here = subst (λ t. reads_root (so_far types owns) (location_standing {A = A}) r.tree r.entries t r.rest) (sym is_text) r.reads in
           subst (λ z. IsFirst (whole old.stream) z fault) r.resolves (f.first r.tree r.entries r.rest here r.tree_form r.entries_form)

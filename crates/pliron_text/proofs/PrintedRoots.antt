@@ -1,9 +1,10 @@
 -- What printing appends for an operation is what the definitions say, where they say something.
 use Rattle.std.proofs.lemmas.List.{append_assoc}
+use Rattle.std.proofs.lemmas.Str.{encodes-append}
 use Rattle.std.proofs.Common.{◌≢◌, arith, ◌≡◌, ◌++◌, ◌∙◌, ◌&&◌, ◌==◌, cond, ℕ, List, [], ◌∷◌, Bool, true, false, refl, sym, ap, subst, Option, Some, None, length, is_some, unwrap_or, IsSomeAnd, IfSome, IsTrue, codes}
 use Rattle.std.specs.Prelude.{⊤}
 use Rattle.std.specs.Option.{option_map, option_and_then}
-use Rattle.std.specs.Str.{IsAscii, encode_utf8_all}
+use Rattle.std.specs.Str.{encode_utf8_all}
 use Rattle.irtext_base.proofs.Characters.{and_left, and_right}
 use Rattle.irtext_base.specs.Text.{Text, is_identifier}
 use Rattle.irtext_base.specs.Faults.{id_of}
@@ -17,17 +18,15 @@ use Rattle.irtext_base.specs.declared.base.attributes.AttrObj.{AttrObj}
 use Rattle.irtext_base.specs.declared.base.attributes.AttrObj.TheVariants.{Ident}
 use Rattle.irtext_base.specs.declared.base.operation.Operation.{Operation}
 use Rattle.pliron_text.proofs.Ascii.{encodes-ascii, ascii-identifier}
-use Rattle.pliron_text.proofs.ModulesText.{same_text-is, module_graph, plain_header, concrete-plain, ascii-concrete, plain_mark, plain_section, plain_text, plain_gathered, text-plain, cond-some, one, none, there, symbol_of-some, known, ascii-plain}
+use Rattle.pliron_text.proofs.ModulesText.{same_text-is, module_graph, plain_header, concrete-plain, ascii-concrete, plain_mark, plain_section, plain_front, plain_text, plain_gathered, text-plain, cond-some, one, none, there, symbol_of-some, known, ascii-front}
 use Rattle.pliron_text.specs.Graph.{Graph}
-use Rattle.pliron_text.specs.LocationsText.{location_text, known_text}
+use Rattle.pliron_text.specs.LocationWriting.{known_text}
 use Rattle.pliron_text.specs.Modules.{is_module, module_id}
-use Rattle.pliron_text.specs.PrintedModule.{printing, printed, levels, module_symbol, symbol_of, header_text, region_text, mark_text, gathered_at, both, entry_at, entry_text, section_text, root_text, concrete_text, RefusesConcrete, Refuses}
+use Rattle.pliron_text.specs.PrintedModule.{printing, printed, levels, module_symbol, symbol_of, header_text, region_text, mark_text, gathered_at, entry_at, entry_text, section_text, root_text, concrete_text, RefusesConcrete}
 use Rattle.pliron_text.specs.ConcreteText.{concrete_of, printed_concrete, debugging, debug_text}
 use Rattle.pliron_text.specs.Printing.{gathered_of, with_gathered}
 use Rattle.irtext_base.specs.declared.location.Location.{Location}
-use Rattle.pliron_text.proofs.PrintedModules.{both-all}
 use Rattle.pliron_text.specs.declared.printable.refusal.Refusal.{Refusal}
-use Rattle.pliron_text.specs.declared.printable.refusal.Refusal.TheVariants as refusal
 use Rattle.pliron_text.specs.declared.printable.refusal.Refusal.TheVariants.{Memory, Depth, Misfit}
 use Rattle.pliron_text.specs.Section.{text}
 use Rattle.pliron_text.specs.Shown.{Shown}
@@ -45,11 +44,6 @@ writes-empty : {U T X : Type 0} (F : X → List ℕ × Shown U) (ts : List T) (x
 writes-empty F [] x after old new h = h
 writes-empty F (t ∷ ts) x after old new h = tt
 
-writes-some : {U X Y : Type 0} (F : X → List ℕ × Shown U) (G : Y → X) (o : Option Y) (after : Shown U) (old new : List ℕ)
-    → ((y : Y) → o ≡ Some y → Appends (F (G y)) after old new) → Writes (option_map F (option_map G o)) after old new
-writes-some F G None after old new h = tt
-writes-some F G (Some y) after old new h = h y refl
-
 -- an identifier under a value that is there
 held : {X : Type 0} (P : X → Type 0) (o : Option X) (x : X) → o ≡ Some x → IfSome o P → P x
 held P o x e h = subst (λ z. IfSome z P) e h
@@ -63,12 +57,17 @@ module _ {T A U : Type 0} (L : Language ⊤ T A) (outlined once : A → Bool) (s
   abbrev pub concrete_made : Graph T A → List ℕ × Shown U
   concrete_made g = (encode_utf8_all (concrete_of L (printing {T = T} outlined once same) g s.indent s.width (levels s.limit)), s)
 
+  -- the text of the operation's location, where it is known
+  abbrev pub location : Option Text
+  location = known_text L.owns.written ctx.paths op.loc
+
   -- the section of this operation alone
-  section-is : (l : Option Text) → operation ctx p ≡ Some op → known_text op.loc ≡ Some l → section_text ctx (plain_gathered l p) ≡ Some (plain_section l)
+  section-is : (l : Option Text) → operation ctx p ≡ Some op → location ≡ l → section_text L.owns.written ctx (plain_gathered l p) ≡ plain_section l
   section-is None o k = refl
   section-is (Some l) o k =
-      let entry : entry_at ctx 0 p ≡ Some (entry_text 0 (Some l)) = ap (λ z. elim z [ None ↦ Some [] | Some op ↦ option_map (entry_text 0) (known_text op.loc) ]) o ∙ ap (option_map (entry_text 0)) k in
-      ap (λ z. both (Some (codes "\n\noutlined_attributes:\n")) (both z (Some []))) entry
+      let entry : entry_at L.owns.written ctx 0 p ≡ entry_text 0 (Some l)
+      = ap (λ z. elim z [ None ↦ [] | Some op ↦ entry_text 0 (known_text L.owns.written ctx.paths op.loc) ]) o ∙ ap (entry_text 0) k in
+      ap (λ z. codes "\n\noutlined_attributes:\n" ++ (z ++ [])) entry
 
   -- a module that has a name
   module _ (name : Text) (fits : module_symbol op ≡ Some name) where
@@ -104,39 +103,42 @@ module _ {T A U : Type 0} (L : Language ⊤ T A) (outlined once : A → Bool) (s
         = ap encode_utf8_all defined ∙ encodes-ascii (plain_header name ++ region_text s) (ascii-concrete name s (ascii-identifier name identifier)) in
         record { text = plain ∙ ap (λ z. old ++ z) (sym bytes); state = left }
 
-  -- a module that has a name, and a location that is printed
-  module _ (name : Text) (l : Option Text) (o : operation ctx p ≡ Some op) (fits : module_symbol op ≡ Some name) (nothing : s.gathered ≡ []) (k : known_text op.loc ≡ Some l) where
-    root-is : root_text ctx p op s ≡ Some (plain_text name s l)
+  -- a module that has a name
+  module _ (name : Text) (o : operation ctx p ≡ Some op) (fits : module_symbol op ≡ Some name) (nothing : s.gathered ≡ []) where
+    root-is : root_text L.owns.written ctx p op s ≡ Some (plain_front name s location ++ encode_utf8_all (plain_section location))
     root-is =
-        let is = known p op.loc l k in
-        let section : section_text ctx (s.gathered ++ gathered_at op.loc p) ≡ Some (plain_section l) = ap (λ z. section_text ctx (z ++ gathered_at op.loc p)) nothing ∙ ap (section_text ctx) is.gathered ∙ section-is l o k in
-        let mark : mark_text op.loc (length s.gathered) ≡ plain_mark l = ap (λ z. mark_text op.loc (length z)) nothing ∙ is.mark in
-        ap (λ z. both (both z (Some (mark_text op.loc (length s.gathered)))) (section_text ctx (s.gathered ++ gathered_at op.loc p))) (concrete-is name fits)
-        ∙ ap (λ z. both (Some ((plain_header name ++ region_text s) ++ mark_text op.loc (length s.gathered))) z) section
-        ∙ ap (λ z. Some (((plain_header name ++ region_text s) ++ z) ++ plain_section l)) mark
-        ∙ ap (λ z. Some (z ++ plain_section l)) (append_assoc (plain_header name) (region_text s) (plain_mark l))
+        let is = known L.owns.written ctx.paths p op.loc in
+        let section : section_text L.owns.written ctx (s.gathered ++ gathered_at op.loc p) ≡ plain_section location
+        = ap (λ z. section_text L.owns.written ctx (z ++ gathered_at op.loc p)) nothing ∙ ap (section_text L.owns.written ctx) is.gathered ∙ section-is location o refl in
+        let mark : mark_text op.loc (length s.gathered) ≡ plain_mark location = ap (λ z. mark_text op.loc (length z)) nothing ∙ is.mark in
+        let behind : List ℕ = encode_utf8_all (section_text L.owns.written ctx (s.gathered ++ gathered_at op.loc p)) in
+        ap (option_map (λ t. (t ++ mark_text op.loc (length s.gathered)) ++ behind)) (concrete-is name fits)
+        ∙ ap (λ z. Some (((plain_header name ++ region_text s) ++ mark_text op.loc (length s.gathered)) ++ encode_utf8_all z)) section
+        ∙ ap (λ z. Some (((plain_header name ++ region_text s) ++ z) ++ encode_utf8_all (plain_section location))) mark
+        ∙ ap (λ z. Some (z ++ encode_utf8_all (plain_section location))) (append_assoc (plain_header name) (region_text s) (plain_mark location))
 
-    pub appends : IsTrue (is_identifier name) → (IfSome (location_text op.loc) IsAscii) → IsSomeAnd (root_text ctx p op s) (λ t. new ≡ old ++ t) → after ≡ with_gathered s [] → Appends (made (graph_at op l)) after old new
-    appends identifier ascii written left =
-        let defined : text L (printing {T = T} outlined once same) (graph_at op l) s.indent s.width (levels s.limit) ≡ plain_text name s l
-        = ap (λ g. text L (printing {T = T} outlined once same) g s.indent s.width (levels s.limit)) (graph-is name fits l) ∙ text-plain L outlined once same name s.width s.indent s.gathered s.aux s.limit l in
-        let bytes : encode_utf8_all (text L (printing {T = T} outlined once same) (graph_at op l) s.indent s.width (levels s.limit)) ≡ plain_text name s l
-        = ap encode_utf8_all defined ∙ encodes-ascii (plain_text name s l) (ascii-plain name s l (ascii-identifier name identifier) ((known p op.loc l k).ascii ascii)) in
-        let plain : new ≡ old ++ plain_text name s l = subst (λ z. IsSomeAnd z (λ t. new ≡ old ++ t)) root-is written in
+    pub appends : IsTrue (is_identifier name) → IsSomeAnd (root_text L.owns.written ctx p op s) (λ t. new ≡ old ++ t) → after ≡ with_gathered s [] → Appends (made (graph_at op location)) after old new
+    appends identifier written left =
+        let defined : text L (printing {T = T} outlined once same) (graph_at op location) s.indent s.width (levels s.limit) ≡ plain_text name s location
+        = ap (λ g. text L (printing {T = T} outlined once same) g s.indent s.width (levels s.limit)) (graph-is name fits location) ∙ text-plain L outlined once same name s.width s.indent s.gathered s.aux s.limit location in
+        let bytes : encode_utf8_all (text L (printing {T = T} outlined once same) (graph_at op location) s.indent s.width (levels s.limit)) ≡ plain_front name s location ++ encode_utf8_all (plain_section location)
+        = ap encode_utf8_all defined ∙ encodes-append (plain_front name s location) (plain_section location)
+        ∙ ap (λ z. z ++ encode_utf8_all (plain_section location)) (encodes-ascii (plain_front name s location) (ascii-front name s location (ascii-identifier name identifier))) in
+        let plain : new ≡ old ++ (plain_front name s location ++ encode_utf8_all (plain_section location)) = subst (λ z. IsSomeAnd z (λ t. new ≡ old ++ t)) root-is written in
         record { text = plain ∙ ap (λ z. old ++ z) (sym bytes); state = left ∙ ap (with_gathered s) (sym nothing) }
 
   -- the claim, where the operation stands
-  pub writes-standing : operation ctx p ≡ Some op → IfSome (module_symbol op) (λ name. IsTrue (is_identifier name)) → IfSome (location_text op.loc) IsAscii
-      → IsSomeAnd (root_text ctx p op s) (λ t. new ≡ old ++ t) → after ≡ with_gathered s []
+  pub writes-standing : operation ctx p ≡ Some op → IfSome (module_symbol op) (λ name. IsTrue (is_identifier name))
+      → IsSomeAnd (root_text L.owns.written ctx p op s) (λ t. new ≡ old ++ t) → after ≡ with_gathered s []
       → Writes (printed L (printing {T = T} outlined once same) ctx p s) after old new
-  writes-standing o identifier ascii written left =
-      let claim : Option (OperationView T A) → Type 0 = λ z. Writes (cond (is_some (option_and_then module_symbol z) && (length s.gathered == 0)) (option_map made (option_and_then (λ v. elim v.result_types [ [] ↦ option_map (graph_at v) (known_text v.loc) | _ ∷ _ ↦ None ]) z)) None) after old new in
+  writes-standing o identifier written left =
+      let claim : Option (OperationView T A) → Type 0 = λ z. Writes (cond (is_some (option_and_then module_symbol z) && (length s.gathered == 0))
+      (option_map made (option_and_then (λ v. elim v.result_types [ [] ↦ Some (graph_at v (known_text L.owns.written ctx.paths v.loc)) | _ ∷ _ ↦ None ]) z)) None) after old new in
       let main : claim (Some op) =
       writes-cond (is_some (module_symbol op) && (length s.gathered == 0)) _ after old new (λ holds.
       let n = there (module_symbol op) (and_left (is_some (module_symbol op)) (length s.gathered == 0) holds) in
-      writes-empty made op.result_types (option_map (graph_at op) (known_text op.loc)) after old new
-      (writes-some made (graph_at op) (known_text op.loc) after old new (λ l k.
-      appends n.0 l o n.1 (none s.gathered (and_right (is_some (module_symbol op)) (length s.gathered == 0) holds)) k (held (λ name. IsTrue (is_identifier name)) (module_symbol op) n.0 n.1 identifier) ascii written left))) in
+      writes-empty made op.result_types (Some (graph_at op location)) after old new
+      (appends n.0 o n.1 (none s.gathered (and_right (is_some (module_symbol op)) (length s.gathered == 0) holds)) (held (λ name. IsTrue (is_identifier name)) (module_symbol op) n.0 n.1 identifier) written left)) in
       subst claim (sym o) main
 
   -- the claim on the concrete text, where the operation stands
@@ -162,28 +164,26 @@ writes-debug {T = T} L outlined once same ctx p op old new o identifier written 
     alone None w = tt
     alone (Some x) w = w.text
 
+-- three texts are written, where there is a first
+three_appended : (o : Option (List ℕ)) (mark section old now then new : List ℕ) → IsSomeAnd o (λ t. now ≡ old ++ t) → then ≡ now ++ mark → new ≡ then ++ section
+    → IsSomeAnd (option_map (λ t. (t ++ mark) ++ section) o) (λ t. new ≡ old ++ t)
+three_appended None mark section old now then new p q r = absurd p
+three_appended (Some t) mark section old now then new p q r = r ∙ ap (λ z. z ++ section) (q ∙ ap (λ z. z ++ mark) p) ∙ simp append_assoc
+
 -- a concrete text, a mark and a section, one behind the other
-pub root-appended : {T A U : Type 0} (ctx : ContextView T A) (p : Ptr Operation) (op : OperationView T A) (location : Location A) (s first second : Shown U) (old now then new : List ℕ)
+pub root-appended : {T A U : Type 0} (text_of_own : A → Text) (ctx : ContextView T A) (p : Ptr Operation) (op : OperationView T A) (location : Location A) (s first second : Shown U) (old now then new : List ℕ)
     → operation ctx p ≡ Some op → option_map (λ o. o.loc) (operation ctx p) ≡ Some location → first ≡ s → second ≡ with_gathered first (first.gathered ++ gathered_at location p)
     → IsSomeAnd (concrete_text op s) (λ t. now ≡ old ++ t) → then ≡ now ++ mark_text location (length first.gathered)
-    → IsSomeAnd (section_text ctx second.gathered) (λ t. new ≡ then ++ t) → IsSomeAnd (root_text ctx p op s) (λ t. new ≡ old ++ t)
-root-appended ctx p op location s first second old now then new o at kept gathered concrete mark section =
+    → new ≡ then ++ encode_utf8_all (section_text text_of_own ctx second.gathered) → IsSomeAnd (root_text text_of_own ctx p op s) (λ t. new ≡ old ++ t)
+root-appended text_of_own ctx p op location s first second old now then new o at kept gathered concrete mark section =
     let located : location ≡ op.loc = ap (λ z. unwrap_or z location) (sym at ∙ ap (option_map (λ z. z.loc)) o) in
     let gathers : second.gathered ≡ s.gathered ++ gathered_at op.loc p = ap gathered_of gathered ∙ ap (λ z. z.gathered ++ gathered_at location p) kept ∙ ap (λ l. s.gathered ++ gathered_at l p) located in
     let marks : then ≡ now ++ mark_text op.loc (length s.gathered) = mark ∙ ap (λ z. now ++ mark_text location (length z.gathered)) kept ∙ ap (λ l. now ++ mark_text l (length s.gathered)) located in
-    both-all (both (concrete_text op s) (Some (mark_text op.loc (length s.gathered)))) (section_text ctx (s.gathered ++ gathered_at op.loc p)) old then new
-    (both-all (concrete_text op s) (Some (mark_text op.loc (length s.gathered))) old now then concrete marks) (subst (λ z. IsSomeAnd (section_text ctx z) (λ t. new ≡ then ++ t)) gathers section)
-
--- why the text is refused whose concrete text is
-pub refuses-root : {T A U : Type 0} (ctx : ContextView T A) (p : Ptr Operation) (op : OperationView T A) (s : Shown U) (why : Refusal) → RefusesConcrete op s why → Refuses ctx p op s why
-refuses-root ctx p op s Memory r = tt
-refuses-root ctx p op s Depth r = r
-refuses-root ctx p op s Misfit r = r
-refuses-root ctx p op s refusal.Location r = absurd r
+    three_appended (concrete_text op s) (mark_text op.loc (length s.gathered)) (encode_utf8_all (section_text text_of_own ctx (s.gathered ++ gathered_at op.loc p))) old now then new
+    concrete marks (section ∙ ap (λ z. then ++ encode_utf8_all (section_text text_of_own ctx z)) gathers)
 
 -- two spaces are never too deep an indentation
 pub refuses-debugging : {T A : Type 0} (op : OperationView T A) (why : Refusal) → RefusesConcrete op debugging why → why ≢ Memory → (why ≡ Misfit) × (module_symbol op ≡ None)
 refuses-debugging op Memory r other = absurd (other refl)
 refuses-debugging op Depth r other = absurd (omega (arith, r))
 refuses-debugging op Misfit r other = (refl, r)
-refuses-debugging op refusal.Location r other = absurd r

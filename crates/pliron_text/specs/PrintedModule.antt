@@ -15,7 +15,8 @@ use Rattle.irtext_base.specs.declared.base.identifier.OpId.{OpId}
 use Rattle.irtext_base.specs.declared.base.operation.Operation.{Operation}
 use Rattle.irtext_base.specs.declared.location.Location.{Location, Unknown}
 use Rattle.pliron_text.specs.Graph.{Printing, Limit}
-use Rattle.pliron_text.specs.LocationsText.{known_text, between}
+use Rattle.pliron_text.specs.LocationWriting.{known_text}
+use Rattle.pliron_text.specs.LocationsText.{between}
 use Rattle.pliron_text.specs.Modules.{is_module, format_of}
 use Rattle.pliron_text.specs.Printing.{lowered}
 use Rattle.pliron_text.specs.Section.{text}
@@ -23,7 +24,6 @@ use Rattle.pliron_text.specs.Shown.{Shown}
 use Rattle.pliron_text.specs.Spell.{newline}
 use Rattle.pliron_text.specs.Stands.{graph_of}
 use Rattle.pliron_text.specs.declared.printable.refusal.Refusal.{Refusal}
-use Rattle.pliron_text.specs.declared.printable.refusal.Refusal.TheVariants as refusal
 use Rattle.pliron_text.specs.declared.printable.refusal.Refusal.TheVariants.{Memory, Depth, Misfit}
 use Rattle.pliron_text.specs.declared.printable.state.RegionPrintDepthLimit.{RegionPrintDepthLimit}
 use Rattle.pliron_text.specs.declared.printable.state.RegionPrintDepthLimit.TheVariants.{Unlimited, Max}
@@ -66,7 +66,6 @@ module _ {T A U : Type 0} (op : OperationView T A) (s : Shown U) where
   RefusesConcrete Memory = ⊤
   RefusesConcrete Depth = 2 ^ 16 ≤ s.indent + s.width
   RefusesConcrete Misfit = module_symbol op ≡ None
-  RefusesConcrete refusal.Location = ⊥
 
 module _ {A : Type 0} where
   -- the mark behind an operation whose location is known
@@ -83,36 +82,24 @@ module _ {A : Type 0} where
 abbrev pub entry_text : ℕ → Option Text → Text
 entry_text index location = codes "!" ++ (decimal index ++ (codes " = " ++ (between (codes "@[") (codes "], ") location ++ codes "[]\n")))
 
--- two texts, one behind the other
-abbrev pub both : Option Text → Option Text → Option Text
-both first second = option_and_then (λ t. option_map (λ u. t ++ u) second) first
-
-module _ {T A : Type 0} (ctx : ContextView T A) where
+module _ {T A : Type 0} (written : A → Text) (ctx : ContextView T A) where
   -- the entry of an operation; one that doesn't stand has none
-  abbrev pub entry_at : ℕ → Ptr Operation → Option Text
-  entry_at index p = elim (operation ctx p) [ None ↦ Some [] | Some op ↦ option_map (entry_text index) (known_text op.loc) ]
+  abbrev pub entry_at : ℕ → Ptr Operation → Text
+  entry_at index p = elim (operation ctx p) [ None ↦ [] | Some op ↦ entry_text index (known_text written ctx.paths op.loc) ]
 
   -- the entries of gathered operations, numbered from n on
-  abbrev pub entries_from : ℕ → List (Ptr Operation) → Option Text
-  entries_from n [] = Some []
-  entries_from n (p ∷ ps) = both (entry_at n p) (entries_from (suc n) ps)
+  abbrev pub entries_from : ℕ → List (Ptr Operation) → Text
+  entries_from n [] = []
+  entries_from n (p ∷ ps) = entry_at n p ++ entries_from (suc n) ps
 
   -- the section of gathered operations, if there are any
-  abbrev pub section_text : List (Ptr Operation) → Option Text
-  section_text [] = Some []
-  section_text (p ∷ ps) = both (Some (codes "\n\noutlined_attributes:\n")) (entries_from 0 (p ∷ ps))
+  abbrev pub section_text : List (Ptr Operation) → Text
+  section_text [] = []
+  section_text (p ∷ ps) = codes "\n\noutlined_attributes:\n" ++ entries_from 0 (p ∷ ps)
 
-  module _ {U : Type 0} (p : Ptr Operation) (op : OperationView T A) (s : Shown U) where
-    -- the text of an operation: its concrete text, its mark, and the section of all that was gathered
-    abbrev pub root_text : Option Text
-    root_text = both (both (concrete_text op s) (Some (mark_text op.loc (length s.gathered)))) (section_text (s.gathered ++ gathered_at op.loc p))
-
-    -- what a refusal says: memory may be refused at any time, but all else only for this reason
-    abbrev pub Refuses : Refusal → Type 0
-    Refuses Memory = ⊤
-    Refuses Depth = 2 ^ 16 ≤ s.indent + s.width
-    Refuses Misfit = module_symbol op ≡ None
-    Refuses refusal.Location = section_text (s.gathered ++ gathered_at op.loc p) ≡ None
+  -- the bytes of an operation's text: its concrete text and its mark, which are ASCII, and the section of all that was gathered
+  abbrev pub root_text : {U : Type 0} → Ptr Operation → OperationView T A → Shown U → Option (List ℕ)
+  root_text p op s = option_map (λ t. (t ++ mark_text op.loc (length s.gathered)) ++ encode_utf8_all (section_text (s.gathered ++ gathered_at op.loc p))) (concrete_text op s)
 
 -- what printing asks of a context that gives no names, and of the attributes of the caller
 abbrev pub printing : {T A : Type 0} → (A → Bool) → (A → Bool) → (A → A → Bool) → Printing T A
@@ -127,4 +114,4 @@ module _ {T A U : Type 0} (L : Language ⊤ T A) (C : Printing T A) where
   -- the text of what a context holds under a pointer, where operations of its form are printed, and nothing was gathered before
   abbrev pub printed : ContextView T A → Ptr Operation → Shown U → Option (List ℕ × Shown U)
   printed ctx p s = cond (is_some (option_and_then module_symbol (operation ctx p)) && (length s.gathered == 0))
-      (option_map (λ g. (encode_utf8_all (text L C g s.indent s.width (levels s.limit)), s)) (graph_of ctx p)) None
+      (option_map (λ g. (encode_utf8_all (text L C g s.indent s.width (levels s.limit)), s)) (graph_of L.owns.written ctx p)) None

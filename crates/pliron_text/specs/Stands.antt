@@ -1,5 +1,5 @@
 -- What a context holds under an operation, as the tree of a text builds it and as printing sees it.
-use Rattle.std.specs.Prelude.{ℕ, ◌-◌, List, [], ◌∷◌, ◌++◌, length, take, map, Option, None, ⊤}
+use Rattle.std.specs.Prelude.{ℕ, ◌-◌, List, [], ◌∷◌, ◌++◌, length, take, map, Option, Some, None, ⊤}
 use Rattle.std.specs.Option.{option_map, option_and_then}
 use Rattle.irtext_base.specs.Text.{Text}
 use Rattle.irtext_base.specs.Stream.{StreamView, IsAt}
@@ -16,7 +16,7 @@ use Rattle.pliron_text.specs.Forest.{Regions, region, no_regions, no_blocks}
 use Rattle.pliron_text.specs.Tree.{Attribute, given_names, ident, own}
 use Rattle.pliron_text.specs.Build.{Built, BuiltOp}
 use Rattle.pliron_text.specs.Graph.{Graph}
-use Rattle.pliron_text.specs.LocationsText.{known_text}
+use Rattle.pliron_text.specs.LocationWriting.{known_text}
 
 -- an attribute as definitions speak of it
 abbrev pub attribute_of : {A : Type 0} → AttrObj A → Attribute A
@@ -53,9 +53,9 @@ module _ {T A : Type 0} where
     regions = empty_regions op.regions;
   }
 
-  -- what printing sees under a pointer, where there are no results, and the location is of a kind that is printed
-  abbrev pub graph_of : ContextView T A → Ptr Operation → Option (Graph T A)
-  graph_of ctx p = option_and_then (λ op. elim op.result_types [ [] ↦ option_map (graph_at op) (known_text op.loc) | _ ∷ _ ↦ None ]) (operation ctx p)
+  -- what printing sees under a pointer, where there are no results
+  abbrev pub graph_of : (A → Text) → ContextView T A → Ptr Operation → Option (Graph T A)
+  graph_of written ctx p = option_and_then (λ op. elim op.result_types [ [] ↦ Some (graph_at op (known_text written ctx.paths op.loc)) | _ ∷ _ ↦ None ]) (operation ctx p)
 
 -- the line and the column of a place in a stream's text, where a place is the number of characters from it to the end
 abbrev pub whole : StreamView → Text

@@ -2,7 +2,6 @@
 
 mod made;
 pub mod nested;
-pub mod entry;
 pub mod print;
 pub mod read;
 pub mod source;

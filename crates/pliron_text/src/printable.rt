@@ -44,7 +44,7 @@ pub trait Printable<U, T: IrText<A>, A: AttrText> {
     ghost prints: { Self → Context T A → Shown U → String Global → Shown U → String Global → Type 0 } = { λ _ _ _ _ _ _. ⊤ };
 
     /// Appends the text. It fails where memory is refused, the indentation is too deep, an operation doesn't fit its format,
-    /// a location is of a kind that isn't printed yet, or a stored closure fails; what was written until then stays.
+    /// or a stored closure fails; what was written until then stays.
     fn fmt(&self, ctx: &Context<T, A>, state: &mut State<U>, f: &mut String) -> fmt::Result
         requires { can_print self.now ctx.now }
         ensures prints { OnOk result (prints self.now ctx.now state.old f.old state.new f.new) }

@@ -1,23 +1,21 @@
 //! Printing of roots.
-ghost use Rattle.std.specs.Prelude.{◌≡◌, ◌≢◌, ◌<◌, ◌^◌, ◌++◌, [], Some, None, OnOk, IfErr, IsSome, IsSomeAnd, IfSome, IsTrue, string_bytes, length};
-ghost use Rattle.std.specs.Str.{IsAscii};
-ghost use Rattle.std.specs.Int.Signed.{mag};
+ghost use Rattle.std.specs.Prelude.{◌≡◌, ◌++◌, [], Some, OnOk, IfErr, IsSome, IsSomeAnd, IfSome, IsTrue, string_bytes, length};
+ghost use Rattle.std.specs.Str.{encode_utf8_all};
 ghost use Rattle.irtext_base.specs.Context.{OperationView, operation};
 ghost use Rattle.irtext_base.specs.Own.{texts_of, unplaced};
 ghost use Rattle.irtext_base.specs.Text.{is_identifier};
-ghost use Rattle.pliron_text.specs.LocationsText.{place_text, location_text, known_text};
+ghost use Rattle.pliron_text.specs.LocationWriting.{known_text};
 ghost use Rattle.pliron_text.specs.Modules as modules;
 ghost use Rattle.pliron_text.specs.PrintedModule as printed;
 ghost use Rattle.pliron_text.specs.Printing.{gathered_of, with_gathered};
 ghost use Rattle.pliron_text.specs.declared.printable.refusal.Refusal.TheVariants as refusal;
 
 use crate::ir::print::concrete::fmt_concrete;
-use crate::location::entry::fmt_known;
+use crate::location::print::fmt_known;
 use crate::printable::state::State;
 use crate::printable::{Printable, Refusal};
 use irtext_base::base::{Context, Operation, Ptr};
-use irtext_base::location::{Location, Source};
-use irtext_base::parsable::SourcePosition;
+use irtext_base::location::Location;
 use irtext_base::text::{AttrText, IrText};
 use std::fmt;
 
@@ -43,13 +41,17 @@ fn fmt_mark<A, U>(
     Ok(())
 }
 
-/// Appends the entry of a marked operation.
-fn fmt_entry<A>(index: usize, location: &Location<A>, f: &mut String) -> Result<(), Refusal>
-    ensures text { OnOk result (IsSomeAnd (known_text location.now) (λ known. string_bytes f.new ≡ string_bytes f.old ++ printed.entry_text index known)) }
-    ensures refused { IfErr result (λ e. e ≢ refusal.Memory → (e ≡ refusal.Location) × (known_text location.now ≡ None)) }
+/// Appends the entry of a marked operation. It fails only where memory is refused.
+fn fmt_entry<T: IrText<A>, A: AttrText>(
+    ctx: &Context<T, A>,
+    index: usize,
+    location: &Location<A>,
+    f: &mut String,
+) -> fmt::Result
+    ensures { OnOk result (string_bytes f.new ≡ string_bytes f.old ++ encode_utf8_all (printed.entry_text index (known_text A.written ctx.now.paths location.now))) }
 {
     write!(f, "!{index} = ")?;
-    fmt_known(location, "@[", "], ", f)?;
+    fmt_known(location, "@[", "], ", ctx, f)?;
     f.push_str("[]\n")?;
     Ok(())
 }
@@ -60,14 +62,13 @@ fn fmt_gathered<T: IrText<A>, A: AttrText>(
     index: usize,
     op: Ptr<Operation>,
     f: &mut String,
-) -> Result<(), Refusal>
-    ensures text { OnOk result (IsSomeAnd (printed.entry_at ctx.now index op) (λ text. string_bytes f.new ≡ string_bytes f.old ++ text)) }
-    ensures refused { IfErr result (λ e. e ≢ refusal.Memory → (e ≡ refusal.Location) × (printed.entry_at ctx.now index op ≡ None)) }
+) -> fmt::Result
+    ensures { OnOk result (string_bytes f.new ≡ string_bytes f.old ++ encode_utf8_all (printed.entry_at A.written ctx.now index op)) }
 {
     if !ctx.contains_operation(op) {
         return Ok(());
     }
-    fmt_entry(index, op.loc(ctx), f)
+    fmt_entry(ctx, index, op.loc(ctx), f)
 }
 
 /// Appends the entries of gathered operations.
@@ -75,9 +76,8 @@ fn fmt_entries<T: IrText<A>, A: AttrText>(
     ctx: &Context<T, A>,
     gathered: &[Ptr<Operation>],
     f: &mut String,
-) -> Result<(), Refusal>
-    ensures text { OnOk result (IsSomeAnd (printed.entries_from ctx.now 0 gathered.now) (λ text. string_bytes f.new ≡ string_bytes f.old ++ text)) }
-    ensures refused { IfErr result (λ e. e ≢ refusal.Memory → (e ≡ refusal.Location) × (printed.entries_from ctx.now 0 gathered.now ≡ None)) }
+) -> fmt::Result
+    ensures { OnOk result (string_bytes f.new ≡ string_bytes f.old ++ encode_utf8_all (printed.entries_from A.written ctx.now 0 gathered.now)) }
 {
     for (index, op) in gathered.iter().enumerate() {
         fmt_gathered(ctx, index, *op, f)?;
@@ -85,15 +85,14 @@ fn fmt_entries<T: IrText<A>, A: AttrText>(
     Ok(())
 }
 
-/// Appends the section of the operations that were gathered, and takes them out.
+/// Appends the section of the operations that were gathered, and takes them out. It fails only where memory is refused.
 fn fmt_section<T: IrText<A>, A: AttrText, U>(
     ctx: &Context<T, A>,
     state: &mut State<U>,
     f: &mut String,
-) -> Result<(), Refusal>
-    ensures text { OnOk result (IsSomeAnd (printed.section_text ctx.now (gathered_of state.old)) (λ text. string_bytes f.new ≡ string_bytes f.old ++ text)) }
+) -> fmt::Result
+    ensures text { OnOk result (string_bytes f.new ≡ string_bytes f.old ++ encode_utf8_all (printed.section_text A.written ctx.now (gathered_of state.old))) }
     ensures state { state.new ≡ with_gathered state.old [] }
-    ensures refused { IfErr result (λ e. e ≢ refusal.Memory → (e ≡ refusal.Location) × (printed.section_text ctx.now (gathered_of state.old) ≡ None)) }
 {
     let gathered = state.take_gathered(ctx.allocator());
     if gathered.is_empty() {
@@ -101,31 +100,6 @@ fn fmt_section<T: IrText<A>, A: AttrText, U>(
     }
     f.push_str("\n\noutlined_attributes:\n")?;
     fmt_entries(ctx, &gathered, f)
-}
-
-/// A number fits its type.
-fn number_fits(number: &i32)
-    ensures { mag number.now < 2 ^ 63 }
-{
-    let _number = *number;
-}
-
-/// The text of a place is ASCII.
-fn place_is_ascii(src: Source, pos: &SourcePosition)
-    ensures { IfSome (place_text src pos.now) IsAscii }
-{
-    let _src = src;
-    number_fits(&pos.line);
-    number_fits(&pos.column);
-}
-
-/// The text of a location is ASCII.
-fn is_ascii<A>(location: &Location<A>)
-    ensures { IfSome (location_text location.now) IsAscii }
-{
-    if let Location::SrcPos { src, pos } = location {
-        place_is_ascii(*src, pos);
-    }
 }
 
 /// Appends the text of a root, with the section of all that was gathered.
@@ -136,16 +110,17 @@ fn fmt_root<T: IrText<A>, A: AttrText, U>(
     f: &mut String,
 ) -> Result<(), Refusal>
     requires live { IsSome (operation ctx.now op) }
-    ensures text { (view : OperationView T A) → operation ctx.now op ≡ Some view → OnOk result (IsSomeAnd (printed.root_text ctx.now op view state.old) (λ text. string_bytes f.new ≡ string_bytes f.old ++ text)) }
+    ensures text { (view : OperationView T A) → operation ctx.now op ≡ Some view → OnOk result (IsSomeAnd (printed.root_text A.written ctx.now op view state.old) (λ text. string_bytes f.new ≡ string_bytes f.old ++ text)) }
     ensures name { (view : OperationView T A) → operation ctx.now op ≡ Some view → OnOk result (IfSome (printed.module_symbol view) (λ symbol. IsTrue (is_identifier symbol))) }
-    ensures place { (view : OperationView T A) → operation ctx.now op ≡ Some view → IfSome (location_text view.loc) IsAscii }
     ensures state { OnOk result (state.new ≡ with_gathered state.old []) }
-    ensures refused { (view : OperationView T A) → operation ctx.now op ≡ Some view → IfErr result (printed.Refuses ctx.now op view state.old) }
+    ensures refused { (view : OperationView T A) → operation ctx.now op ≡ Some view → IfErr result (printed.RefusesConcrete view state.old) }
 {
-    is_ascii(op.loc(ctx));
     fmt_concrete(ctx, op, state, f)?;
     fmt_mark(op.loc(ctx), op, state, f)?;
-    fmt_section(ctx, state, f)
+    match fmt_section(ctx, state, f) {
+        Ok(()) => Ok(()),
+        Err(_) => Err(Refusal::Memory),
+    }
 }
 
 impl<T: IrText<A>, A: AttrText, U> Printable<U, T, A> for Ptr<Operation> {

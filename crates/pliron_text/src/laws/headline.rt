@@ -25,14 +25,14 @@ pub fn printed_root_comes_back<T: IrText<A>, A: AttrText, U, V>()
         let types = texts_of T.reading T.written in
         let owns = texts_of A.reading A.written in
         let C = printing A.outlined A.print_once A.eq in
-        operation ctx p ≡ Some op → IsKept op → graph_of ctx p ≡ Some g → levels s.limit ≡ None →
+        operation ctx p ≡ Some op → IsKept op → graph_of A.written ctx p ≡ Some g → levels s.limit ≡ None →
         printed (unplaced types owns format_of) C ctx p s ≡ Some (bytes, after) →
-        (q : Ptr Operation) (old new : StateStream T A U) → old.stream.rest ≡ chars bytes → BuildsRoot types owns q old new → StandsBack C g q new }
+        (q : Ptr Operation) (old new : StateStream T A U) → old.stream.rest ≡ chars bytes → BuildsRoot types owns q old new → StandsBack A.written C g q new }
     ensures never_refused { (ctx : ContextView T A) (p : Ptr Operation) (op : OperationView T A) (s after : Shown V) (bytes : List ℕ) (g : Graph T A) →
         let types = texts_of T.reading T.written in
         let owns = texts_of A.reading A.written in
         let C = printing A.outlined A.print_once A.eq in
-        operation ctx p ≡ Some op → IsKept op → graph_of ctx p ≡ Some g → levels s.limit ≡ None →
+        operation ctx p ≡ Some op → IsKept op → graph_of A.written ctx p ≡ Some g → levels s.limit ≡ None →
         printed (unplaced types owns format_of) C ctx p s ≡ Some (bytes, after) →
         (old : StateStream T A U) (fault : ParseFault A) → old.stream.rest ≡ chars bytes → RefusesRoot types owns old.stream fault → ⊥ }
 {}

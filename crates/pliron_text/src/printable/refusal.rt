@@ -14,8 +14,6 @@ pub enum Refusal {
     Depth,
     /// The operation doesn't fit its format.
     Misfit,
-    /// A location is of a kind that isn't printed yet.
-    Location,
 }
 
 impl From<AllocError> for Refusal {

@@ -5,27 +5,27 @@ use Rattle.irtext_base.specs.Locations.{attr_view_in, location_view, in_row, row
 use Rattle.irtext_base.specs.Paths.{path_of}
 use Rattle.pliron_text.specs.LocationWriting.{metadata_text, row_texts, location_text}
 use Rattle.pliron_text.specs.Spell.{joined, comma}
-use Rattle.pliron_text.proofs.LocationTexts.{framed, word, next_written}
+use Rattle.pliron_text.proofs.LocationTexts.{two_framed, word, next_written}
 use Rattle.pliron_text.proofs.LocationViews.{seen-fused, seen-named, seen-call_site, seen-unknown}
 use Rattle.pliron_text.proofs.location.print.+printed.Goals as goal
 
 pub fmt_location-returns-in_ok-push_str-in-Fused-3 : goal.fmt_location-returns-in_ok-push_str-in-Fused-3
 fmt_location-returns-in_ok-push_str-in-Fused-3 g t c =
-    rw (c.in-Fused.is, seen-fused c.in-Fused.metadata c.in-Fused.locations) (framed (codes "fused") (metadata_text g.A.IrText.written (attr_view_in c.in-Fused.metadata.value)) (codes "[")
+    rw (c.in-Fused.is, seen-fused c.in-Fused.metadata c.in-Fused.locations) (two_framed (codes "fused") (metadata_text g.A.IrText.written (attr_view_in c.in-Fused.metadata.value)) (codes "[")
     (joined comma (row_texts g.A.IrText.written (row_sourced (path_of c.args.ctx.now.paths) (in_row (map location_view c.in-Fused.locations.value.items))))) (codes "]")
     (string_bytes c.args.f.now) (string_bytes c.push_str.new.self) (string_bytes c.fmt_metadata.new.f) (string_bytes c.push_str-in-Fused.new.self) (string_bytes c.fmt_locations.new.f) (string_bytes c.push_str-in-Fused-2.new.self)
     refl refl refl c.in_ok-push_str-in-Fused.ensures.bytes (c.in_ok-fmt_metadata-in-Fused.ensures ∙ ap (λ z. string_bytes c.push_str.new.self ++ encode_utf8_all (metadata_text g.A.IrText.written (attr_view_in z))) c.deref.ensures) c.in_ok-push_str-in-Fused-2.ensures.bytes (c.in_ok-fmt_locations-in-Fused.ensures ∙ ap (λ z. string_bytes c.push_str-in-Fused.new.self ++ encode_utf8_all (joined comma (row_texts g.A.IrText.written (row_sourced (path_of c.args.ctx.now.paths) (in_row (map location_view z.items)))))) c.deref-in-Fused.ensures) c.in_ok-push_str-in-Fused-3.ensures.bytes)
 
 pub fmt_location-returns-in_ok-push_str-in-Named-3 : goal.fmt_location-returns-in_ok-push_str-in-Named-3
 fmt_location-returns-in_ok-push_str-in-Named-3 g t c =
-    rw (c.in-Named.is, seen-named c.in-Named.name c.in-Named.child_loc) (framed (codes "name: ") (quoted (chars (string_bytes c.in-Named.name.value))) (codes ", loc: (")
+    rw (c.in-Named.is, seen-named c.in-Named.name c.in-Named.child_loc) (two_framed (codes "name: ") (quoted (chars (string_bytes c.in-Named.name.value))) (codes ", loc: (")
     (location_text g.A.IrText.written c.args.ctx.now.paths c.in-Named.child_loc.value) (codes ")")
     (string_bytes c.args.f.now) (string_bytes c.push_str-in-Named.new.self) (string_bytes c.fmt_quoted.new.f) (string_bytes c.push_str-in-Named-2.new.self) (string_bytes c.fmt_location.new.f) (string_bytes c.push_str-in-Named-3.new.self)
     refl refl refl c.in_ok-push_str-in-Named.ensures.bytes (c.in_ok-fmt_quoted-in-Named.ensures ∙ ap (λ z. string_bytes c.push_str-in-Named.new.self ++ encode_utf8_all (quoted (chars z))) (c.as_str.ensures.value ∙ ap string_bytes c.deref-in-Named.ensures)) c.in_ok-push_str-in-Named-2.ensures.bytes (c.in_ok-fmt_location-in-Named.ensures ∙ ap (λ z. string_bytes c.push_str-in-Named-2.new.self ++ encode_utf8_all (location_text g.A.IrText.written c.args.ctx.now.paths z)) c.deref-in-Named-2.ensures) c.in_ok-push_str-in-Named-3.ensures.bytes)
 
 pub fmt_location-returns-in_ok-push_str-in-CallSite-3 : goal.fmt_location-returns-in_ok-push_str-in-CallSite-3
 fmt_location-returns-in_ok-push_str-in-CallSite-3 g t c =
-    rw (c.in-CallSite.is, seen-call_site c.in-CallSite.callee c.in-CallSite.caller) (framed (codes "callsite(") (location_text g.A.IrText.written c.args.ctx.now.paths c.in-CallSite.callee.value) (codes " at ")
+    rw (c.in-CallSite.is, seen-call_site c.in-CallSite.callee c.in-CallSite.caller) (two_framed (codes "callsite(") (location_text g.A.IrText.written c.args.ctx.now.paths c.in-CallSite.callee.value) (codes " at ")
     (location_text g.A.IrText.written c.args.ctx.now.paths c.in-CallSite.caller.value) (codes ")")
     (string_bytes c.args.f.now) (string_bytes c.push_str-in-CallSite.new.self) (string_bytes c.fmt_location-in-CallSite.new.f) (string_bytes c.push_str-in-CallSite-2.new.self) (string_bytes c.fmt_location-in-CallSite-2.new.f) (string_bytes c.push_str-in-CallSite-3.new.self)
     refl refl refl c.in_ok-push_str-in-CallSite.ensures.bytes (c.in_ok-fmt_location-in-CallSite.ensures ∙ ap (λ z. string_bytes c.push_str-in-CallSite.new.self ++ encode_utf8_all (location_text g.A.IrText.written c.args.ctx.now.paths z)) c.deref-in-CallSite.ensures) c.in_ok-push_str-in-CallSite-2.ensures.bytes (c.in_ok-fmt_location-in-CallSite-2.ensures ∙ ap (λ z. string_bytes c.push_str-in-CallSite-2.new.self ++ encode_utf8_all (location_text g.A.IrText.written c.args.ctx.now.paths z)) c.deref-in-CallSite-2.ensures) c.in_ok-push_str-in-CallSite-3.ensures.bytes)
