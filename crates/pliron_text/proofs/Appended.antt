@@ -1,6 +1,5 @@
 -- What was appended piece by piece, as one text.
-use Rattle.std.proofs.Common.{◌≡◌, ◌++◌, ◌∙◌, ℕ, List, refl, ap, Option, Some, None, Result, Ok, Err, OnOk, IfErr, IsSomeAnd, codes, ◌+◌, ◌*◌, ◌/◌, ◌%◌, replicate, take, ◌-◌, ◌≤◌, zero, suc, arith}
-use Rattle.std.specs.Fmt.{decimal}
+use Rattle.std.proofs.Common.{◌≡◌, ◌++◌, ◌∙◌, ℕ, List, refl, ap, Result, Ok, Err, OnOk, IfErr, codes, ◌+◌, ◌*◌, ◌/◌, ◌%◌, replicate, take, ◌-◌, ◌≤◌, zero, suc, arith}
 use Rattle.std.specs.Str.{IsAscii}
 use Rattle.std.proofs.lemmas.List.{append_assoc, replicate-append-replicate, take-replicate}
 use Rattle.std.specs.List.{slice_range}
@@ -10,8 +9,7 @@ use Rattle.irtext_base.specs.Causes.{headed, kind_text, cause_text}
 use Rattle.irtext_base.specs.declared.result.Error.{Error}
 use Rattle.irtext_base.specs.declared.result.ErrorKind.{ErrorKind}
 use Rattle.irtext_base.specs.declared.result.Cause.{Cause, Nested, Nested'}
-use Rattle.pliron_text.specs.LocationsText.{between, located_cause}
-use Rattle.pliron_text.specs.PrintedModule.{entry_text}
+use Rattle.pliron_text.specs.LocationsText.{located_cause}
 
 -- what follows where a call succeeded
 pub then : {X E P Q : Type 0} (r : Result X E) → (P → Q) → OnOk r P → OnOk r Q

@@ -1,6 +1,6 @@
 -- What was appended piece by piece, as the text of a location.
 use Rattle.std.proofs.Math.Seq.{drop-cons}
-use Rattle.std.proofs.Common.{◌≡◌, ◌++◌, ◌∙◌, ◌<◌, ◌^◌, ◌+◌, length, get_or, drop, suc, ℕ, Bool, IsTrue, true, false, cond, List, [], ◌∷◌, refl, sym, ap, codes, Option, Some, None, arith, OnOk}
+use Rattle.std.proofs.Common.{◌≡◌, ◌++◌, ◌∙◌, ◌<◌, ◌^◌, ◌+◌, length, get_or, drop, suc, ℕ, Bool, IsTrue, true, false, cond, List, [], ◌∷◌, refl, sym, ap, codes, Option, Some, None, arith}
 use Rattle.std.proofs.lemmas.List.{append_assoc, append-nil}
 use Rattle.std.proofs.lemmas.Str.{encodes-append, IsAscii-append}
 use Rattle.std.proofs.lemmas.Fmt.{IsAscii-decimal}

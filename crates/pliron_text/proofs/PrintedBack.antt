@@ -1,5 +1,5 @@
 -- The text that was written of a module is read back: what is built of it is the module, and it is never refused.
-use Rattle.std.proofs.Common.{◌≡◌, Bool, ℕ, List, [], ◌∷◌, length, Option, Some, None, IsTrue, ◌&&◌, ◌==◌, option_map, refl, sym, ap, ◌∙◌, subst}
+use Rattle.std.proofs.Common.{◌≡◌, Bool, ℕ, List, [], ◌∷◌, length, Option, Some, None, IsTrue, ◌&&◌, ◌==◌, refl, sym, ap, ◌∙◌, subst}
 use Rattle.std.specs.Prelude.{⊤}
 use Rattle.std.proofs.lemmas.Option.{none-some}
 use Rattle.std.specs.Option.{option_and_then}

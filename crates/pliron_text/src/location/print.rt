@@ -1,11 +1,10 @@
 //! Printing of locations: files by the paths that a context keeps for them.
-ghost use Rattle.std.specs.Prelude.{◌≡◌, ◌<◌, ◌^◌, ◌++◌, Some, OnOk, IfSome, cond, [], codes, map, option_copied, string_bytes};
-ghost use Rattle.std.specs.Fmt.{signed_decimal};
+ghost use Rattle.std.specs.Prelude.{◌≡◌, ◌<◌, ◌^◌, ◌++◌, Some, OnOk, cond, [], codes, map, option_copied, string_bytes};
 ghost use Rattle.std.specs.Int.Signed.{mag};
 ghost use Rattle.std.specs.Str.{encode_utf8_all};
 ghost use Rattle.irtext_base.specs.Causes.{position_text};
 ghost use Rattle.irtext_base.specs.Locations.{attr_view, attr_view_in, location_view, in_row, row_sourced};
-ghost use Rattle.irtext_base.specs.Paths.{path_of, written_with};
+ghost use Rattle.irtext_base.specs.Paths.{path_of};
 ghost use Rattle.pliron_text.specs.LocationWriting.{source_text, attr_text, metadata_text, location_text, known_text, row_texts};
 ghost use Rattle.pliron_text.specs.LocationsText.{framed};
 ghost use Rattle.pliron_text.specs.Spell.{joined, comma, or_question};

@@ -1,4 +1,4 @@
-use Rattle.std.proofs.Common.{◌≡◌, ◌∙◌, ◌++◌, ap, sym, refl, codes, chars, map, string_bytes}
+use Rattle.std.proofs.Common.{◌∙◌, ◌++◌, ap, refl, codes, chars, map, string_bytes}
 use Rattle.std.specs.Str.{encode_utf8_all}
 use Rattle.irtext_base.specs.Quoted.{quoted}
 use Rattle.irtext_base.specs.Locations.{attr_view_in, location_view, in_row, row_sourced}

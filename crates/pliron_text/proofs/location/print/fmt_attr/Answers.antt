@@ -1,4 +1,4 @@
-use Rattle.std.proofs.Common.{◌≡◌, ◌∙◌, ◌++◌, ap, sym, refl, codes, map, string_bytes}
+use Rattle.std.proofs.Common.{refl, codes, map, string_bytes}
 use Rattle.pliron_text.specs.Spell.{joined, comma, or_question}
 use Rattle.pliron_text.proofs.LocationTexts.{enclosed, worded, name_appended}
 use Rattle.pliron_text.proofs.location.print.fmt_attr.Goals as goal

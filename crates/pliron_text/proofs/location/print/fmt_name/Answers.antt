@@ -1,7 +1,4 @@
-use Rattle.std.proofs.Common.{◌≡◌, ◌∙◌, ◌++◌, Some, ap, sym, refl, subst, string_bytes, IsTrue}
-use Rattle.std.specs.Str.{encode_utf8_all}
-use Rattle.irtext_base.specs.Text.{is_identifier}
-use Rattle.pliron_text.specs.Spell.{or_question}
+use Rattle.std.proofs.Common.{string_bytes}
 use Rattle.pliron_text.proofs.LocationTexts.{name_appended}
 use Rattle.pliron_text.proofs.location.print.fmt_name.Goals as goal
 
