@@ -19,6 +19,8 @@ mod listed;
 mod lists;
 pub mod location_rows;
 #[cfg(test)]
+mod location_texts;
+#[cfg(test)]
 mod locations;
 #[cfg(test)]
 mod numbers;
