@@ -1,9 +1,10 @@
 //! Locations of each kind as texts, and errors behind theirs: files by the paths that the context keeps.
 use irtext_base::base::{AttrObj, Identifier};
 use irtext_types::{Note, Pointer};
-use pliron_text::base::Context;
+use pliron_text::base::{Context, Operation};
+use pliron_text::ir::OperationText;
 use pliron_text::location::{Location, Source};
-use pliron_text::parsable::SourcePosition;
+use pliron_text::parsable::{SourcePosition, parse_from_str};
 use pliron_text::printable::Disp;
 use pliron_text::result::{Cause, Error};
 use std::alloc::Global;
@@ -113,6 +114,27 @@ fn an_error_prints_behind_its_file(rt: HostRuntime) -> Result<(), Fail> {
         format!(in rt.alloc(); "{}", error.disp(&ctx))?.as_str(),
         "[\"/tmp/test.pliron\": line: 1, column: 1] Compilation error: invalid input program.
 [\"/tmp/test.pliron\": line: 1, column: 2] Compilation error: invalid input program.\nTest error"
+    );
+    Ok(())
+}
+
+#[test]
+fn a_root_shows_its_location(rt: HostRuntime) -> Result<(), Fail> {
+    let mut ctx: Ctx = Context::new(rt.alloc());
+    let root = parse_from_str(
+        |s| Operation::top_level_parse(s),
+        &mut ctx,
+        "builtin.module @bar {}",
+    )
+    .ok()
+    .ok_or("refused")?;
+    let place = in_file(&mut ctx, "é.mlir", 1, 2)?;
+    assert!(rt; ctx.contains_operation(root));
+    root.set_loc(&mut ctx, place);
+    assert!(rt; ctx.contains_operation(root));
+    assert_eq!(rt;
+        format!(in rt.alloc(); "{}", root.disp(&ctx))?.as_str(),
+        "builtin.module @bar \n{\n  \n} !0\n\noutlined_attributes:\n!0 = @[\"é.mlir\": line: 1, column: 2], []\n"
     );
     Ok(())
 }
