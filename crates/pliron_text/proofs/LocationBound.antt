@@ -12,8 +12,8 @@ use Rattle.irtext_read.specs.Tokens.{text_at}
 use Rattle.pliron_text.specs.LocationBound.{Leaves, LeavesNoMore}
 use Rattle.pliron_text.specs.LocationText.{space_at, spaced_at}
 use Rattle.pliron_text.specs.LocationReading.{WrittenRow, begins_source, behind_location, row_of, row_at, more_at, fused_at, named_at, call_site_at, kind_at, location_within, more_within}
-use Rattle.pliron_text.proofs.Leaves.{followed_same, first_same, leaves_text, leaves_word, space_bound, leaves_spaced}
-use Rattle.pliron_text.proofs.LocationLeaves.{leaves_bytes, leaves_metadata, leaves_within}
+use Rattle.pliron_text.proofs.Leaves.{leaves_followed, followed_same, first_same, leaves_text, leaves_word, space_bound, leaves_spaced}
+use Rattle.pliron_text.proofs.LocationLeaves.{leaves_title, leaves_bytes, leaves_metadata, leaves_within}
 
 -- ---- two readers of inner locations that agree on texts of so many characters
 module _ {A : Type 0} (inner other : Text → Outcome (Written A)) (more others : Text → Outcome (WrittenRow A)) (b : ℕ)
@@ -44,14 +44,8 @@ module _ {A : Type 0} (inner other : Text → Outcome (Written A)) (more others 
     fused_same text h = followed_same b _ _ _ (leaves_word b 102 (codes "used") text h)
         (λ _ t i. ap (prefixed (front is_whitespace t)) (followed_same b _ _ _ (leaves_metadata attr no_more b (after_space t) (space_bound b t i)) listed_same))
 
-    child_same : (name : List ℕ) (v : Text) → length v ≤ b
-        → followed (spaced_at (codes ",") v) (λ _ w. followed (text_at (codes "loc") w) (λ _ x. followed (spaced_at (codes ":") x) (λ _ y. followed (text_at (codes "(") y) (λ _ z. followed (inner z) (λ l end. mapped (λ _. named name l) (text_at (codes ")") end))))))
-        ≡ followed (spaced_at (codes ",") v) (λ _ w. followed (text_at (codes "loc") w) (λ _ x. followed (spaced_at (codes ":") x) (λ _ y. followed (text_at (codes "(") y) (λ _ z. followed (other z) (λ l end. mapped (λ _. named name l) (text_at (codes ")") end))))))
-    child_same name v h = followed_same b _ _ _ (leaves_spaced b (codes ",") v h) (λ _ w i. followed_same b _ _ _ (leaves_text b (codes "loc") w i) (λ _ x j. followed_same b _ _ _ (leaves_spaced b (codes ":") x j) (λ _ y k.
-        followed_same b _ _ _ (leaves_text b (codes "(") y k) (λ _ z l. first_same _ _ _ (same z l)))))
-
     named_same : (text : Text) → length text ≤ suc b → named_at inner more text ≡ named_at other others text
-    named_same text h = followed_same b _ _ _ (leaves_word b 110 (codes "ame") text h) (λ _ t i. followed_same b _ _ _ (leaves_spaced b (codes ":") t i) (λ _ u j. followed_same b _ _ _ (leaves_bytes b u j) child_same))
+    named_same text h = followed_same b _ _ _ (leaves_followed b _ _ (leaves_word b 110 (codes "ame") text h) (λ _ t i. leaves_title b t i)) (λ name t i. first_same _ _ _ (same t i))
 
     caller_same : (callee : Written A) (v : Text) → length v ≤ b
         → followed (spaced_at (codes "at") v) (λ _ w. followed (inner w) (λ caller x. mapped (λ _. call_site callee caller) (spaced_at (codes ")") x)))

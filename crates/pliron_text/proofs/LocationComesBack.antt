@@ -14,6 +14,7 @@ use Rattle.irtext_base.proofs.Characters.{after_twice}
 use Rattle.irtext_read.specs.Tokens.{text_at}
 use Rattle.pliron_text.specs.LocationText.{space_at}
 use Rattle.pliron_text.specs.LocationReading.{WrittenRow, row_at, behind_location, location_within, more_within}
+use Rattle.pliron_text.specs.AttrText.{attr_text}
 use Rattle.pliron_text.specs.LocationWriting.{source_text, written_text, row_texts}
 use Rattle.pliron_text.specs.PrintedBack.{Fits32}
 use Rattle.pliron_text.specs.Spell.{joined, joined_from, comma}
@@ -140,7 +141,7 @@ module _ {A : Type 0} (attr : Text → Outcome (AttrView A)) (text_of : A → Te
       let text = codes "fused<" ++ (attr_text text_of a ++ (codes ">[" ++ items)) in
       let whole = fused (Some a) ls in
       let parts : written_text text_of whole ++ rest ≡ text =
-      ap (λ t. codes "fused<" ++ t) (append_assoc (attr_text text_of a) (codes ">[" ++ (row ++ codes "]")) rest ∙ ap (λ t. attr_text text_of a ++ (codes ">[" ++ t)) (append_assoc row (codes "]") rest)) in
+      ap (λ t. codes "fused<" ++ t) (ap (λ t. t ++ rest) (append_assoc (attr_text text_of a) (codes ">") (codes "[" ++ (row ++ codes "]"))) ∙ append_assoc (attr_text text_of a) (codes ">[" ++ (row ++ codes "]")) rest ∙ ap (λ t. attr_text text_of a ++ (codes ">[" ++ t)) (append_assoc row (codes "]") rest)) in
       let split : text ≡ 102 ∷ (front ++ items) = ap (λ t. codes "fused<" ++ t) (sym (append_assoc (attr_text text_of a) (codes ">[") items)) in
       let fits : length items ≤ n = shorter_behind 102 front items (written_text text_of whole ++ rest) n (parts ∙ split) small in
       gives_at (location_within attr (suc n)) whole (written_text text_of whole ++ rest) text rest parts

@@ -12,12 +12,40 @@ use Rattle.irtext_base.specs.declared.parsable.position.SourcePosition.{SourcePo
 use Rattle.irtext_base.proofs.Characters.{word_tight}
 use Rattle.irtext_read.specs.Tokens.{text_at}
 use Rattle.pliron_text.specs.LocationText.{space_at, spaced_at, position_at}
-use Rattle.pliron_text.specs.LocationReading.{bytes_at, source_at, WrittenRow, place_at, metadata_at, behind_location, row_at, row_of, kind_at}
+use Rattle.pliron_text.specs.LocationReading.{bytes_at, name_at, source_at, WrittenRow, place_at, metadata_at, behind_location, row_at, row_of, kind_at}
+use Rattle.pliron_text.specs.AttrText.{attr_text}
 use Rattle.pliron_text.specs.LocationWriting.{source_text}
 use Rattle.pliron_text.specs.PrintedBack.{Fits32}
 use Rattle.pliron_text.specs.WrittenBack.{GivesBack, AttrReads, EndsLocation}
 use Rattle.pliron_text.proofs.GivesBack.{gives_followed, gives_mapped, gives_nothing, gives_text, gives_space, gives_spaced}
 use Rattle.pliron_text.proofs.LocationParts.{gives_position, gives_bytes, gives_source}
+
+-- what stands in front of the location that a name is for, and gives the name
+abbrev behind_name : List ℕ → Text → Outcome (List ℕ)
+behind_name name v = followed (spaced_at (codes ",") v) (λ _ w. followed (text_at (codes "loc") w) (λ _ x. followed (spaced_at (codes ":") x) (λ _ y. mapped (λ _. name) (text_at (codes "(") y))))
+
+gives_behind_name : (name : List ℕ) (z : Text) → GivesBack (behind_name name (codes ", loc: (" ++ z)) name (codes ", loc: (" ++ z) z
+gives_behind_name name z =
+    let v = codes ", loc: (" ++ z in
+    let w = codes "loc: (" ++ z in
+    let x = codes ": (" ++ z in
+    let y = codes "(" ++ z in
+    let bracket : Unit → Text → Outcome (List ℕ) = λ _ y. mapped (λ _. name) (text_at (codes "(") y) in
+    let colon : Unit → Text → Outcome (List ℕ) = λ _ x. followed (spaced_at (codes ":") x) bracket in
+    gives_followed (spaced_at (codes ",") v) (λ _ w. followed (text_at (codes "loc") w) colon) tt name v w z (gives_spaced (codes ",") v (codes " " ++ w) w refl refl)
+    (gives_followed (text_at (codes "loc") w) colon tt name w x z (gives_text (codes "loc") x)
+    (gives_followed (spaced_at (codes ":") x) bracket tt name x y z (gives_spaced (codes ":") x (codes " " ++ y) y refl refl)
+    (gives_mapped (λ _. name) (text_at (codes "(") y) tt y z (gives_text (codes "(") z))))
+
+gives_name : (name : List ℕ) (z : Text) → IsUtf8 name → GivesBack (name_at (codes "name: " ++ (quoted (chars name) ++ (codes ", loc: (" ++ z)))) name (codes "name: " ++ (quoted (chars name) ++ (codes ", loc: (" ++ z))) z
+gives_name name z fine =
+    let v = codes ", loc: (" ++ z in
+    let u = quoted (chars name) ++ v in
+    let t = codes ": " ++ u in
+    let quote : Unit → Text → Outcome (List ℕ) = λ _ u. followed (bytes_at u) behind_name in
+    gives_followed (text_at (codes "name") (codes "name" ++ t)) (λ _ t. followed (spaced_at (codes ":") t) quote) tt name (codes "name" ++ t) t z (gives_text (codes "name") t)
+    (gives_followed (spaced_at (codes ":") t) quote tt name t u z (gives_spaced (codes ":") t (codes " " ++ u) u refl refl)
+    (gives_followed (bytes_at u) behind_name name name u v z (gives_bytes name v fine) (gives_behind_name name z)))
 
 module _ {A : Type 0} where
   -- a place of a source
@@ -102,40 +130,16 @@ module _ {A : Type 0} where
           (gives_followed (space_at t) next tt (fused (Some a) ls) t t rest (gives_space t t refl)
           (gives_followed (metadata_at attr t) listed (Some a) (fused (Some a) ls) t v rest (gives_metadata attr text_of a v reads) (gives_listed (Some a) ls items rest tight h)))
 
-      -- the location that a name is for
-      abbrev child_at : List ℕ → Text → Outcome (Written A)
-      child_at name v = followed (spaced_at (codes ",") v) (λ _ w. followed (text_at (codes "loc") w) (λ _ x. followed (spaced_at (codes ":") x) (λ _ y.
-          followed (text_at (codes "(") y) (λ _ z. followed (inner z) (λ l end. mapped (λ _. named name l) (text_at (codes ")") end))))))
-
-      gives_child : (name : List ℕ) (l : Written A) (z rest : Text) → GivesBack (inner z) l z (codes ")" ++ rest) → GivesBack (child_at name (codes ", loc: (" ++ z)) (named name l) (codes ", loc: (" ++ z) rest
-      gives_child name l z rest h =
-          let end = codes ")" ++ rest in
-          let whole = named name l in
-          let v = codes ", loc: (" ++ z in
-          let w = codes "loc: (" ++ z in
-          let x = codes ": (" ++ z in
-          let y = codes "(" ++ z in
-          let close : Written A → Text → Outcome (Written A) = λ l end. mapped (λ _. named name l) (text_at (codes ")") end) in
-          let child : Unit → Text → Outcome (Written A) = λ _ z. followed (inner z) close in
-          let bracket : Unit → Text → Outcome (Written A) = λ _ y. followed (text_at (codes "(") y) child in
-          let colon : Unit → Text → Outcome (Written A) = λ _ x. followed (spaced_at (codes ":") x) bracket in
-          gives_followed (spaced_at (codes ",") v) (λ _ w. followed (text_at (codes "loc") w) colon) tt whole v w rest (gives_spaced (codes ",") v (codes " " ++ w) w refl refl)
-          (gives_followed (text_at (codes "loc") w) colon tt whole w x rest (gives_text (codes "loc") x)
-          (gives_followed (spaced_at (codes ":") x) bracket tt whole x y rest (gives_spaced (codes ":") x (codes " " ++ y) y refl refl)
-          (gives_followed (text_at (codes "(") y) child tt whole y z rest (gives_text (codes "(") z)
-          (gives_followed (inner z) close l whole z end rest h (gives_mapped (λ _. whole) (text_at (codes ")") end) tt end rest (gives_text (codes ")") rest))))))
-
       -- a name for a location
       pub kind_named : (name : List ℕ) (l : Written A) (z rest : Text) → IsUtf8 name → GivesBack (inner z) l z (codes ")" ++ rest)
           → GivesBack (kind_at inner more attr (codes "name: " ++ (quoted (chars name) ++ (codes ", loc: (" ++ z)))) (named name l) (codes "name: " ++ (quoted (chars name) ++ (codes ", loc: (" ++ z))) rest
       kind_named name l z rest fine h =
-          let v = codes ", loc: (" ++ z in
-          let u = quoted (chars name) ++ v in
-          let t = codes ": " ++ u in
-          let quote : Unit → Text → Outcome (Written A) = λ _ u. followed (bytes_at u) child_at in
-          gives_followed (text_at (codes "name") (codes "name" ++ t)) (λ _ t. followed (spaced_at (codes ":") t) quote) tt (named name l) (codes "name" ++ t) t rest (gives_text (codes "name") t)
-          (gives_followed (spaced_at (codes ":") t) quote tt (named name l) t u rest (gives_spaced (codes ":") t (codes " " ++ u) u refl refl)
-          (gives_followed (bytes_at u) child_at name (named name l) u v rest (gives_bytes name v fine) (gives_child name l z rest h)))
+          let text = codes "name: " ++ (quoted (chars name) ++ (codes ", loc: (" ++ z)) in
+          let end = codes ")" ++ rest in
+          let whole = named name l in
+          let close : Written A → Text → Outcome (Written A) = λ l end. mapped (λ _. named name l) (text_at (codes ")") end) in
+          gives_followed (name_at text) (λ name t. followed (inner t) (λ l u. mapped (λ _. named name l) (text_at (codes ")") u))) name whole text z rest (gives_name name z fine)
+          (gives_followed (inner z) close l whole z end rest h (gives_mapped (λ _. whole) (text_at (codes ")") end) tt end rest (gives_text (codes ")") rest)))
 
       -- the location of a callee's caller
       abbrev caller_at : Written A → Text → Outcome (Written A)

@@ -8,12 +8,21 @@ use Rattle.irtext_base.specs.Paths.{Written}
 use Rattle.irtext_read.specs.Tokens.{text_at}
 use Rattle.pliron_text.specs.LocationBound.{Leaves, LeavesNoMore}
 use Rattle.pliron_text.specs.LocationText.{space_at, spaced_at}
-use Rattle.pliron_text.specs.LocationReading.{WrittenRow, bytes_at, source_at, place_at, metadata_at, behind_location, row_of, row_at, more_at, fused_at, named_at, call_site_at, kind_at, location_within, more_within}
+use Rattle.pliron_text.specs.LocationReading.{WrittenRow, bytes_at, name_at, source_at, place_at, metadata_at, behind_location, row_of, row_at, more_at, fused_at, named_at, call_site_at, kind_at, location_within, more_within}
 use Rattle.pliron_text.proofs.Leaves.{leaves_up_to, leaves_read, leaves_missing, leaves_bad, leaves_either, leaves_prefixed, leaves_followed, leaves_mapped, leaves_text, space_bound, leaves_spaced, leaves_position, leaves_quoted}
 
 -- the bytes of a text between quotation marks
 pub leaves_bytes : (b : ℕ) (text : Text) → length text ≤ b → Leaves b (bytes_at text)
 leaves_bytes b text h = leaves_mapped b _ _ (leaves_quoted b text h)
+
+-- what stands behind the word `name`, up to the location that it is for
+pub leaves_title : (b : ℕ) (text : Text) → length text ≤ b → Leaves b (followed (spaced_at (codes ":") text) (λ _ u. followed (bytes_at u) (λ name v. followed (spaced_at (codes ",") v) (λ _ w.
+    followed (text_at (codes "loc") w) (λ _ x. followed (spaced_at (codes ":") x) (λ _ y. mapped (λ _. name) (text_at (codes "(") y)))))))
+leaves_title b text h = leaves_followed b _ _ (leaves_spaced b (codes ":") text h) (λ _ u i. leaves_followed b _ _ (leaves_bytes b u i) (λ name v j. leaves_followed b _ _ (leaves_spaced b (codes ",") v j) (λ _ w k.
+    leaves_followed b _ _ (leaves_text b (codes "loc") w k) (λ _ x l. leaves_followed b _ _ (leaves_spaced b (codes ":") x l) (λ _ y e. leaves_mapped b _ _ (leaves_text b (codes "(") y e))))))
+
+leaves_name : (b : ℕ) (text : Text) → length text ≤ b → Leaves b (name_at text)
+leaves_name b text h = leaves_followed b _ _ (leaves_text b (codes "name") text h) (λ _ t i. leaves_title b t i)
 
 -- a source
 leaves_source : (b : ℕ) (text : Text) → length text ≤ b → Leaves b (source_at text)
@@ -62,13 +71,8 @@ module _ {A : Type 0} (inner : Text → Outcome (Written A)) (more : Text → Ou
     leaves_fused text h = leaves_followed b _ _ (leaves_text b (codes "fused") text h)
         (λ _ t i. leaves_prefixed b _ _ (leaves_followed b _ _ (leaves_metadata attr no_more b (after_space t) (space_bound b t i)) leaves_listed))
 
-    leaves_child : (name : List ℕ) (v : Text) → length v ≤ b → Leaves b (followed (spaced_at (codes ",") v) (λ _ w. followed (text_at (codes "loc") w) (λ _ x. followed (spaced_at (codes ":") x) (λ _ y.
-        followed (text_at (codes "(") y) (λ _ z. followed (inner z) (λ l end. mapped (λ _. named name l) (text_at (codes ")") end)))))))
-    leaves_child name v h = leaves_followed b _ _ (leaves_spaced b (codes ",") v h) (λ _ w i. leaves_followed b _ _ (leaves_text b (codes "loc") w i) (λ _ x j. leaves_followed b _ _ (leaves_spaced b (codes ":") x j) (λ _ y k.
-        leaves_followed b _ _ (leaves_text b (codes "(") y k) (λ _ z l. leaves_followed b _ _ (inner_leaves z l) (λ l end e. leaves_mapped b _ _ (leaves_text b (codes ")") end e))))))
-
     leaves_named : (text : Text) → length text ≤ b → Leaves b (named_at inner more text)
-    leaves_named text h = leaves_followed b _ _ (leaves_text b (codes "name") text h) (λ _ t i. leaves_followed b _ _ (leaves_spaced b (codes ":") t i) (λ _ u j. leaves_followed b _ _ (leaves_bytes b u j) leaves_child))
+    leaves_named text h = leaves_followed b _ _ (leaves_name b text h) (λ name t i. leaves_followed b _ _ (inner_leaves t i) (λ l end e. leaves_mapped b _ _ (leaves_text b (codes ")") end e)))
 
     leaves_call_site : (text : Text) → length text ≤ b → Leaves b (call_site_at inner more text)
     leaves_call_site text h = leaves_followed b _ _ (leaves_text b (codes "callsite") text h) (λ _ t i. leaves_followed b _ _ (leaves_spaced b (codes "(") t i) (λ _ u j. leaves_followed b _ _ (inner_leaves u j) (λ callee v k.

@@ -7,7 +7,7 @@ use Rattle.irtext_base.specs.Answers.{Outcome, Read}
 use Rattle.irtext_base.specs.Locations.{AttrView, src_pos, fused, named, call_site, unknown, LocationsOf, no_location, location}
 use Rattle.irtext_base.specs.Own.{Ends}
 use Rattle.irtext_base.specs.Paths.{Written}
-use Rattle.pliron_text.specs.LocationWriting.{attr_text}
+use Rattle.pliron_text.specs.AttrText.{attr_text}
 use Rattle.pliron_text.specs.PrintedBack.{Fits32}
 
 -- the value is read from the text, of which this is left

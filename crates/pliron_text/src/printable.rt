@@ -13,7 +13,7 @@ pub use irtext_base::printable::ListSeparator;
 use irtext_base::text::{AttrText, IrText};
 use std::fmt;
 
-mod attributes;
+pub(crate) mod attributes;
 pub mod displayable;
 pub mod guards;
 pub mod indented;

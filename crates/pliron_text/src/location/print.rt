@@ -3,16 +3,17 @@ ghost use Rattle.std.specs.Prelude.{◌≡◌, ◌<◌, ◌^◌, ◌++◌, Some,
 ghost use Rattle.std.specs.Int.Signed.{mag};
 ghost use Rattle.std.specs.Str.{encode_utf8_all};
 ghost use Rattle.irtext_base.specs.Causes.{position_text};
-ghost use Rattle.irtext_base.specs.Locations.{attr_view, attr_view_in, location_view, in_row, row_sourced};
+ghost use Rattle.irtext_base.specs.Locations.{attr_view_in, location_view, in_row, row_sourced};
 ghost use Rattle.irtext_base.specs.Paths.{path_of};
-ghost use Rattle.pliron_text.specs.LocationWriting.{source_text, attr_text, metadata_text, location_text, known_text, row_texts};
+ghost use Rattle.pliron_text.specs.LocationWriting.{source_text, metadata_text, location_text, known_text, row_texts};
 ghost use Rattle.pliron_text.specs.LocationsText.{framed};
-ghost use Rattle.pliron_text.specs.Spell.{joined, comma, or_question};
+ghost use Rattle.pliron_text.specs.Spell.{joined, comma};
 
 use crate::printable::Printable;
+use crate::printable::attributes::fmt_attr;
 use crate::printable::quoted::fmt_quoted;
 use crate::printable::state::State;
-use irtext_base::base::{AttrObj, Context, Identifier};
+use irtext_base::base::{AttrObj, Context};
 use irtext_base::location::{Location, Source};
 use irtext_base::parsable::SourcePosition;
 use irtext_base::text::{AttrText, IrText};
@@ -73,50 +74,6 @@ fn fmt_comma(first: bool, f: &mut String) -> fmt::Result
         f.push_str(", ")?;
     }
     Ok(())
-}
-
-/// Appends a given name, or `?` where there is none.
-fn fmt_name(name: &Option<Identifier>, f: &mut String) -> fmt::Result
-    ensures { OnOk result (string_bytes f.new ≡ string_bytes f.old ++ encode_utf8_all (or_question name.now)) }
-{
-    match name {
-        Some(name) => f.push_str(name.as_str())?,
-        None => f.push_str("?")?,
-    }
-    Ok(())
-}
-
-/// Appends given names with `, ` between.
-fn fmt_names(names: &Vec<Option<Identifier>>, f: &mut String) -> fmt::Result
-    ensures { OnOk result (string_bytes f.new ≡ string_bytes f.old ++ encode_utf8_all (joined comma (map or_question names.now.items))) }
-{
-    let mut first = true;
-    for name in names {
-        fmt_comma(first, f)?;
-        fmt_name(name, f)?;
-        first = false;
-    }
-    Ok(())
-}
-
-/// Appends the text of an attribute.
-fn fmt_attr<A: AttrText>(attr: &AttrObj<A>, f: &mut String) -> fmt::Result
-    ensures { OnOk result (string_bytes f.new ≡ string_bytes f.old ++ encode_utf8_all (attr_text A.written (attr_view attr.now))) }
-{
-    match attr {
-        AttrObj::GivenNames(names) => {
-            f.push_str("builtin.given_names [")?;
-            fmt_names(names, f)?;
-            f.push_str("]")?;
-            Ok(())
-        }
-        AttrObj::Ident(name) => {
-            f.push_str("builtin.identifier ")?;
-            f.push_str(name.as_str())?;
-            Ok(())
-        }
-        AttrObj::Own(attr) => attr.write_text(f),
-    }
 }
 
 /// Appends an attribute between `<` and `>`, if there is one.

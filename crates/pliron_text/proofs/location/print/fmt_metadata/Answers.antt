@@ -1,6 +1,6 @@
 use Rattle.std.proofs.Common.{refl, codes, string_bytes}
 use Rattle.irtext_base.specs.Locations.{attr_view}
-use Rattle.pliron_text.specs.LocationWriting.{attr_text}
+use Rattle.pliron_text.specs.AttrText.{attr_text}
 use Rattle.pliron_text.proofs.LocationTexts.{enclosed}
 use Rattle.pliron_text.proofs.location.print.fmt_metadata.Goals as goal
 
