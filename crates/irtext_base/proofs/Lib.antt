@@ -12,6 +12,7 @@ pub mod Stores
 pub mod Contexts
 pub mod Formats
 pub mod Dialects
+pub mod DialectTables
 pub mod Conditions
 pub mod Meetings
 pub mod Sources

@@ -1,9 +1,10 @@
--- What a caller sees of a context: the operations and regions in it, under their pointers, how many objects were made, and the paths of files.
+-- What a caller sees of a context: the operations and regions in it, under their pointers, how many objects were made, the paths of files, and the dialects.
 use Rattle.std.specs.Prelude.{◌≡◌, ◌≢◌, ◌≤◌, ◌+◌, ◌++◌, ◌∷◌, ◌==◌, if◌then◌else◌, ℕ, Bool, List, [], length, Option, Some, None, map, slice_get, is_some, count_by, unwrap_or, string_bytes, String}
 use Rattle.std.specs.Option.{option_map}
 use Rattle.std.specs.HashSet.{HashSet}
 use Rattle.std.specs.declared.alloc.Global.{Global}
 use Rattle.irtext_base.specs.Text.{Text}
+use Rattle.irtext_base.specs.Dialects.{Table}
 use Rattle.irtext_base.specs.Arena as arena
 use Rattle.irtext_base.specs.Arena.{older}
 use Rattle.irtext_base.specs.declared.base.arena.Slot.{Slot}
@@ -37,10 +38,11 @@ pub record OperationView (T A : Type 0) : Type 0 where
   pub loc : Location A
   pub regions : List (Ptr Region)
 
--- a context: how many objects were made in it, those that stand, and the paths that it keeps, each in bytes
+-- a context: how many objects were made in it, those that stand, the paths that it keeps, each in bytes, and the dialects that are registered, under their names
 pub record ContextView (T A : Type 0) : Type 0 where
   pub made : ℕ
   pub paths : List (List ℕ)
+  pub dialects : List (Text × Table)
   pub operations : Store (OperationView T A)
   pub regions : Store RegionData
 
@@ -70,9 +72,9 @@ operation_of d = record { id = d.id; result_types = d.result_types.items; attrib
 abbrev pub path_texts : {S : Type 0} → HashSet (String Global) S → List (List ℕ)
 path_texts paths = map string_bytes paths.keys
 
--- what is seen of a context with these objects and paths
-abbrev pub context_of : {T A : Type 0} → ℕ → Arena (OperationData T A) → Arena RegionData → List (List ℕ) → ContextView T A
-context_of made operations regions paths = record { made = made; paths = paths; operations = store_of operation_of operations; regions = store_of (λ r. r) regions }
+-- what is seen of a context with these objects, paths and dialects
+abbrev pub context_of : {T A : Type 0} → ℕ → Arena (OperationData T A) → Arena RegionData → List (List ℕ) → List (Text × Table) → ContextView T A
+context_of made operations regions paths dialects = record { made = made; paths = paths; dialects = dialects; operations = store_of operation_of operations; regions = store_of (λ r. r) regions }
 
 -- each path stays under its key
 abbrev pub KeepsPaths : List (List ℕ) → List (List ℕ) → Type 0
@@ -159,6 +161,7 @@ module _ {T A : Type 0} where
     pub regions : (p : Ptr Region) → before mark new.regions p ≡ before mark old.regions p
     pub count : old.made ≤ new.made
     pub paths : KeepsPaths old.paths new.paths
+    pub dialects : new.dialects ≡ old.dialects
 
   -- every object is older than the mark
   pub record AllOlder (mark : ℕ) (c : ContextView T A) : Type 0 where
@@ -171,6 +174,7 @@ module _ {T A : Type 0} where
     pub regions : Returns Region mark old.regions new.regions
     pub made : new.made ≡ old.made
     pub paths : new.paths ≡ old.paths
+    pub dialects : new.dialects ≡ old.dialects
 
   -- an operation came to stand under a new pointer
   pub record MakesOperation (old new : ContextView T A) (p : Ptr Operation) (view : OperationView T A) : Type 0 where
@@ -178,6 +182,7 @@ module _ {T A : Type 0} where
     pub regions : new.regions ≡ old.regions
     pub made : new.made ≡ old.made + 1
     pub paths : new.paths ≡ old.paths
+    pub dialects : new.dialects ≡ old.dialects
 
   -- a region came to stand last in an operation, under a new pointer
   pub record AddsRegion (old new : ContextView T A) (op : Ptr Operation) (r : Ptr Region) : Type 0 where
@@ -185,6 +190,7 @@ module _ {T A : Type 0} where
     pub regions : Inserts old.regions new.regions r (record { born = old.made; content = record { parent = op } })
     pub made : new.made ≡ old.made + 1
     pub paths : new.paths ≡ old.paths
+    pub dialects : new.dialects ≡ old.dialects
 
   -- an operation changed, and nothing else
   pub record EditsOperation (old new : ContextView T A) (p : Ptr Operation) (change : OperationView T A → OperationView T A) : Type 0 where
@@ -192,3 +198,4 @@ module _ {T A : Type 0} where
     pub regions : new.regions ≡ old.regions
     pub made : new.made ≡ old.made
     pub paths : new.paths ≡ old.paths
+    pub dialects : new.dialects ≡ old.dialects

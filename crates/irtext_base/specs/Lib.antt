@@ -16,6 +16,8 @@ pub mod Entries
 pub mod Arena
 pub mod Lending
 pub mod Context
+pub mod DialectTable
+pub mod DialectLends
 pub mod Room
 pub mod Locations
 pub mod Seen

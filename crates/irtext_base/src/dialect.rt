@@ -1,13 +1,13 @@
 //! Dialects: their names, and their operations, each with the format in which it is written.
 ghost use Rattle.std.specs.Prelude.{◌≡◌, ◌⊎◌, [], false, nat_eq, IfOk, IfErr, IfSome, IsTrue, OnOk, OnErr, Some, option_copied};
 ghost use Rattle.std.specs.Cmp.{on_equiv, on_per, partial_equiv_from_equiv};
-ghost use Rattle.std.specs.Cmp.Lexicographic.{pointwise, nat_list_eq_equiv};
+ghost use Rattle.std.specs.Cmp.Lexicographic.{pointwise, bytes_decides, nat_list_eq_equiv};
 ghost use Rattle.std.specs.Cmp.Rules.{hashing};
 ghost use Rattle.std.specs.Hash as fed;
 ghost use Rattle.std.specs.Map.{lookup};
 ghost use Rattle.std.specs.Str.{bytes_eq};
 ghost use Rattle.indexmap.specs.IndexMap.{insert_entry};
-ghost use Rattle.std.proofs.Common.{rules};
+ghost use Rattle.std.proofs.Common.{rules, ap};
 ghost use Rattle.irtext_base.specs.Dialects.{same_id, with_op, IsRefusedBy};
 ghost use Rattle.irtext_base.specs.Directives.{format_of};
 ghost use Rattle.irtext_base.specs.Faults.{fault_of, Memory, IsUnexpected};
@@ -15,12 +15,14 @@ ghost use Rattle.irtext_base.specs.Format.{Accepted};
 ghost use Rattle.irtext_base.specs.Text.{is_identifier};
 ghost use Rattle.irtext_base.specs.declared.location.Location.{Unknown};
 
+mod table;
+
 use crate::base::{Identifier, OpId};
 use crate::format::OpFormat;
 use crate::location::Location;
 use crate::result::{Cause, Error, ErrorKind};
 use crate::{format, result};
-use indexmap::IndexMap;
+use indexmap::{Equivalent, IndexMap};
 use std::alloc::Global;
 use std::convert::AsStr;
 use std::fmt;
@@ -130,6 +132,18 @@ impl Hash for DialectName {
 
     fn hash<H: Hasher>(&self, state: &mut H) {
         self.name.hash(state);
+    }
+}
+
+impl Equivalent<DialectName> for &Identifier {
+    ghost equivalent = { λ q k. bytes_eq q.now k };
+
+    ghost respects_hash = { λ q k h. ap fed.str ((bytes_decides q.now k).0 h) };
+
+    ghost respects_eq = { λ q x y. nat_list_eq_equiv.congr q.now x y };
+
+    fn equivalent(&self, key: &DialectName) -> bool {
+        **self == key.name
     }
 }
 

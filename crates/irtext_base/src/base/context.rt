@@ -1,4 +1,4 @@
-//! The context: all operations and regions, and the paths of files.
+//! The context: all operations and regions, the paths of files, and the dialects.
 ghost use Rattle.std.specs.Prelude.{◌≡◌, ◌≤◌, ◌+◌, ◌↔◌, ℕ, Some, None, [], IsSome, IsTrue, IfOk, OnErr};
 ghost use Rattle.irtext_base.specs.Context.{operation, region, before, count, KeepsOlder, AllOlder, RollsBack, MakesOperation, AddsRegion};
 
@@ -8,18 +8,20 @@ use crate::base::arena::Arena;
 use crate::base::operation::{OperationData, push_region, reserve_region};
 use crate::base::region::RegionData;
 use crate::base::{AttributeDict, OpId, Operation, Ptr, Region};
+use crate::dialect::{Dialect, DialectName};
 use crate::location::Location;
 use crate::text::{AttrText, IrText};
-use indexmap::IndexSet;
+use indexmap::{IndexMap, IndexSet};
 use std::alloc::{AllocError, Global};
 use std::marker::Model;
 
-/// All operations and regions, under pointers, and the paths of files.
+/// All operations and regions, under pointers, the paths of files, and the dialects, under their names.
 #[derive(Drop)]
 pub struct Context<T, A> {
     pub(crate) operations: Arena<OperationData<T, A>>,
     pub(crate) regions: Arena<RegionData>,
     paths: IndexSet<String>,
+    pub(crate) dialects: IndexMap<DialectName, Dialect>,
     made: u64,
     alloc: Global,
 }
@@ -35,20 +37,21 @@ impl<T, A> Model for Context<T, A> {
 
     ghost coded = { Prim.hlevel (codes, (location.the_row (coded_row A A.code)).coded) };
 
-    ghost view = { λ c. context_of c.made c.operations c.regions (path_texts c.paths) };
+    ghost view = { λ c. context_of c.made c.operations c.regions (path_texts c.paths) c.dialects.entries };
 
     ghost invariant = { λ c. HasFew c.operations × HasFew c.regions × AreOlder c.made c.operations × AreOlder c.made c.regions };
 }
 
 impl<T: IrText<A>, A: AttrText> Context<T, A> {
-    /// A context without objects. It takes no memory yet.
+    /// A context without objects and dialects. It takes no memory yet.
     pub fn new(alloc: Global) -> Context<T, A>
-        ensures { result ≡ record { made = 0; paths = []; operations = record { cells = []; free = None }; regions = record { cells = []; free = None } } }
+        ensures { result ≡ record { made = 0; paths = []; dialects = []; operations = record { cells = []; free = None }; regions = record { cells = []; free = None } } }
     {
         Context {
             operations: Arena::new(alloc),
             regions: Arena::new(alloc),
             paths: IndexSet::new(alloc),
+            dialects: IndexMap::new(alloc),
             made: 0,
             alloc,
         }
@@ -134,7 +137,7 @@ impl<T: IrText<A>, A: AttrText> Context<T, A> {
         Ok(r)
     }
 
-    /// Takes every object out that is no older than the mark, where `made` gave the mark. Paths stay. It takes no memory.
+    /// Takes every object out that is no older than the mark, where `made` gave the mark. Paths and dialects stay. It takes no memory.
     pub fn roll_back(&mut self, mark: u64)
         ensures back { RollsBack mark self.old self.new }
         ensures kept { (m : ℕ) → m ≤ mark → KeepsOlder m self.old self.new }

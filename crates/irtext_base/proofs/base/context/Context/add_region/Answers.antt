@@ -20,7 +20,7 @@ invariant_of-self g c =
 pub returns-in_err-reserve_region-clause-kept : goal.returns-in_err-reserve_region-clause-kept
 returns-in_err-reserve_region-clause-kept g c = λ mark up none.
     let i = c.self.inside in
-    same-keeps mark _ _ (context_same i.made i.operations c.reserve_region.new.operations i.regions i.regions c.reserve_region.ensures.same refl refl (path_texts i.paths) ∙ c.self.view_is)
+    same-keeps mark _ _ (context_same i.made i.operations c.reserve_region.new.operations i.regions i.regions c.reserve_region.ensures.same refl refl (path_texts i.paths) i.dialects.entries ∙ c.self.view_is)
 
 pub invariant_of-self-in_err-r : goal.invariant_of-self-in_err-r
 invariant_of-self-in_err-r g c =
@@ -33,13 +33,13 @@ returns-in_err-r-clause-err g c =
     let i = c.self.inside in
     let f = c.in_err-r.ensures in
     on_err c.from_residual-in_err-r.result
-    (context_same i.made i.operations c.reserve_region.new.operations i.regions c.insert.new.self c.reserve_region.ensures.same f.err f.err_free (path_texts i.paths) ∙ c.self.view_is)
+    (context_same i.made i.operations c.reserve_region.new.operations i.regions c.insert.new.self c.reserve_region.ensures.same f.err f.err_free (path_texts i.paths) i.dialects.entries ∙ c.self.view_is)
 
 pub returns-in_err-r-clause-kept : goal.returns-in_err-r-clause-kept
 returns-in_err-r-clause-kept g c = λ mark up none.
     let i = c.self.inside in
     let f = c.in_err-r.ensures in
-    same-keeps mark _ _ (context_same i.made i.operations c.reserve_region.new.operations i.regions c.insert.new.self c.reserve_region.ensures.same f.err f.err_free (path_texts i.paths) ∙ c.self.view_is)
+    same-keeps mark _ _ (context_same i.made i.operations c.reserve_region.new.operations i.regions c.insert.new.self c.reserve_region.ensures.same f.err f.err_free (path_texts i.paths) i.dialects.entries ∙ c.self.view_is)
 
 pub invariant_of-self-2 : goal.invariant_of-self-2
 invariant_of-self-2 g c =
@@ -57,7 +57,7 @@ pub returns-clause-added : goal.returns-clause-added
 returns-clause-added g c =
     let i = c.self.inside in
     rw (← c.self.view_is)
-    (adds_seen i.made i.operations c.reserve_region.new.operations c.push_region.new.operations i.regions c.insert.new.self c.args.op c.in_ok-r.r c.reserve_region.ensures.same c.push_region.ensures.edits c.in_ok-r.ensures.inserts (path_texts i.paths))
+    (adds_seen i.made i.operations c.reserve_region.new.operations c.push_region.new.operations i.regions c.insert.new.self c.args.op c.in_ok-r.r c.reserve_region.ensures.same c.push_region.ensures.edits c.in_ok-r.ensures.inserts (path_texts i.paths) i.dialects.entries)
 
 pub returns-clause-kept : goal.returns-clause-kept
 returns-clause-kept g c = λ mark up none. adds-keeps mark _ _ c.args.op c.in_ok-r.r up none (returns-clause-added g c)

@@ -14,7 +14,7 @@ pub returns-in_err-p-clause-kept : goal.returns-in_err-p-clause-kept
 returns-in_err-p-clause-kept g c = λ mark up.
     let i = c.self.inside in
     let e = c.in_err-p.ensures in
-    same-keeps mark _ _ (context_same i.made i.operations c.insert.new.self i.regions i.regions (store_same operation_of i.operations c.insert.new.self e.err e.err_free) refl refl (path_texts i.paths) ∙ c.self.view_is)
+    same-keeps mark _ _ (context_same i.made i.operations c.insert.new.self i.regions i.regions (store_same operation_of i.operations c.insert.new.self e.err e.err_free) refl refl (path_texts i.paths) i.dialects.entries ∙ c.self.view_is)
 
 pub invariant_of-self-2 : goal.invariant_of-self-2
 invariant_of-self-2 g c =
@@ -29,7 +29,7 @@ invariant_of-self-2 g c =
 pub returns-clause-made : goal.returns-clause-made
 returns-clause-made g c =
     let i = c.self.inside in
-    rw (← c.self.view_is) (makes_seen i.made i.operations c.insert.new.self i.regions c.in_ok-p.p _ c.new.ensures.items c.new-2.ensures.items c.in_ok-p.ensures.inserts (path_texts i.paths))
+    rw (← c.self.view_is) (makes_seen i.made i.operations c.insert.new.self i.regions c.in_ok-p.p _ c.new.ensures.items c.new-2.ensures.items c.in_ok-p.ensures.inserts (path_texts i.paths) i.dialects.entries)
 
 pub returns-clause-kept : goal.returns-clause-kept
 returns-clause-kept g c = λ mark up. makes-keeps mark _ _ c.in_ok-p.p _ up (returns-clause-made g c)

@@ -16,7 +16,7 @@ returns-clause-back g c =
     let v = c.vacate_since in
     let w = c.vacate_since-2 in
     rw (← c.self.view_is)
-    (rolls_back_seen i.made c.args.mark i.operations v.new.self i.regions w.new.self (v.ensures.at, v.ensures.generations) (w.ensures.at, w.ensures.generations) (path_texts i.paths))
+    (rolls_back_seen i.made c.args.mark i.operations v.new.self i.regions w.new.self (v.ensures.at, v.ensures.generations) (w.ensures.at, w.ensures.generations) (path_texts i.paths) i.dialects.entries)
 
 pub returns-clause-kept : goal.returns-clause-kept
 returns-clause-kept g c = λ m up. rolls_back-keeps m _ _ c.args.mark up (returns-clause-back g c)

@@ -20,6 +20,7 @@ returns-clause-edits g c =
       regions = refl;
       made = refl;
       paths = refl;
+      dialects = refl;
     })
 
 pub returns-clause-kept : goal.returns-clause-kept
