@@ -15,7 +15,7 @@ older-new mark o h = let e : ltb o.born mark ≡ false = grind (arith, nat_tests
 
 module _ {T A : Type 0} where
   pub kept_trans : {mark : ℕ} {old mid new : ContextView T A} → KeepsOlder mark old mid → KeepsOlder mark mid new → KeepsOlder mark old new
-  kept_trans h k = record { operations = λ p. k.operations p ∙ h.operations p; regions = λ p. k.regions p ∙ h.regions p; count = omega (arith, h.count, k.count); paths = λ i path e. k.paths i path (h.paths i path e) }
+  kept_trans h k = record { operations = λ p. k.operations p ∙ h.operations p; regions = λ p. k.regions p ∙ h.regions p; count = omega (arith, h.count, k.count); paths = λ i path e. k.paths i path (h.paths i path e); dialects = k.dialects ∙ h.dialects }
 
   -- an operation that was made stood nowhere before
   pub before_made : {old new : ContextView T A} {p : Ptr Operation} {view : OperationView T A} → (mark : ℕ) → mark ≤ old.made → MakesOperation old new p view → before mark new.operations p ≡ None
@@ -27,4 +27,5 @@ module _ {T A : Type 0} where
     operations = λ p. r.operations.at p ∙ (k.operations p ∙ a.operations p);
     regions = λ p. r.regions.at p ∙ (k.regions p ∙ a.regions p);
     paths = λ i path e. same-paths r.paths i path (k.paths i path e);
+    dialects = r.dialects ∙ k.dialects;
   }

@@ -77,6 +77,7 @@ module _ {T A : Type 0} where
     pub region_here : get new.regions r ≡ Some (record { born = region_born; content = record { parent = op } })
     pub regions : (q : Ptr Region) → q ≢ r → get new.regions q ≡ get old.regions q
     pub paths : KeepsPaths old.paths new.paths
+    pub dialects : new.dialects ≡ old.dialects
 
   made_stands : {old mid new : ContextView T A} {op : Ptr Operation} {r : Ptr Region} {view : OperationView T A} → MakesOperation old mid op view → AddsRegion mid new op r → Stood old new op r (with_region r view)
   made_stands {old = old} {mid = mid} {new = new} {op = op} {r = r} {view = view} m a =
@@ -91,6 +92,7 @@ module _ {T A : Type 0} where
         region_here = a.regions.updates.changed;
         regions = λ q d. a.regions.updates.others q d ∙ ap (λ s. get s q) same;
         paths = same-paths (a.paths ∙ m.paths);
+        dialects = a.dialects ∙ m.dialects;
       }
 
   edited_stands : {old mid new : ContextView T A} {op : Ptr Operation} {r : Ptr Region} {view : OperationView T A} (l : Location A) → Stood old mid op r view → EditsOperation mid new op (with_location l) → Stood old new op r (with_location l view)
@@ -104,6 +106,7 @@ module _ {T A : Type 0} where
     region_here = ap (λ s. get s r) e.regions ∙ s.region_here;
     regions = λ q d. ap (λ s. get s q) e.regions ∙ s.regions q d;
     paths = λ i path h. same-paths e.paths i path (s.paths i path h);
+    dialects = e.dialects ∙ s.dialects;
   }
 
   located_stands : {old mid new : ContextView T A} {op : Ptr Operation} {r : Ptr Region} {view : OperationView T A} (l : Location A) → Stood old mid op r view → Locates op l mid new → Stood old new op r (with_location l view)
@@ -123,6 +126,7 @@ module _ {T A : Type 0} where
             (ap (get old.regions) same ∙ s.region_new, ap (region new) same ∙ ap (option_map (λ (x : Object RegionData). x.content)) s.region_here);
         regions = λ q n. s.regions q (λ e. n (subst (In q) (sym alone) (inl e)));
         paths = s.paths;
+        dialects = s.dialects;
       }
     where
       only : {q : Ptr Region} → In q (r ∷ []) → q ≡ r

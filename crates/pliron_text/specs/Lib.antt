@@ -74,3 +74,4 @@ pub mod LabelPlaces
 pub mod Printed
 pub mod Verification
 pub mod Marker
+pub mod DialectNames

@@ -99,8 +99,9 @@ module _ {T A U : Type 0} where
   abbrev pub MissesModule : StateStream T A U → ParseFault A → StateStream T A U → Type 0
   MissesModule old fault new = MayRead {Y = Module} itself replaced (λ m. m) (operation_at (marks_of old.state)) old.stream (Err fault) new.stream
 
--- every object that stood stands as it did, none else does, and each path stays under its key
+-- every object that stood stands as it did, none else does, each path stays under its key, and the dialects are the same
 pub record SameObjects {T A : Type 0} (old new : ContextView T A) : Type 0 where
   pub operations : (p : Ptr Operation) → get new.operations p ≡ get old.operations p
   pub regions : (p : Ptr Region) → get new.regions p ≡ get old.regions p
   pub paths : KeepsPaths old.paths new.paths
+  pub dialects : new.dialects ≡ old.dialects

@@ -38,13 +38,14 @@ position_behind text = record { line = cut (line_behind text); column = cut (col
 abbrev pub location_of : {A : Type 0} → Source → Text → ℕ → Location A
 location_of source text place = SrcPos source (position_behind (take (length text - place) text))
 
--- only the operation and its regions came to the context, all else stands as it stood, and each path stays under its key
+-- only the operation and its regions came to the context, all else stands as it stood, each path stays under its key, and the dialects are the same
 pub record OnlyNew {T A : Type 0} (op : Ptr Operation) (old new : ContextView T A) : Type 0 where
   pub op_is_new : get old.operations op ≡ None
   pub operations : (p : Ptr Operation) → p ≢ op → get new.operations p ≡ get old.operations p
   pub regions_are_new : (r : Ptr Region) → In r (regions_in (operation new op)) → (get old.regions r ≡ None) × (region new r ≡ Some (record { parent = op }))
   pub regions : (r : Ptr Region) → (In r (regions_in (operation new op)) → ⊥) → get new.regions r ≡ get old.regions r
   pub paths : KeepsPaths old.paths new.paths
+  pub dialects : new.dialects ≡ old.dialects
 
 module _ {T A U : Type 0} where
   -- no mark is noted, and the stream has not failed

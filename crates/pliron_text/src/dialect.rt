@@ -1,3 +1,49 @@
-//! Dialects: their names, and their operations with the formats by which these are written.
+//! Dialects: their names, and their operations with the formats by which these are written. A name is read, and a dialect printed.
+ghost use Rattle.std.specs.Prelude.{◌≡◌, Some};
+ghost use Rattle.pliron_text.specs.DialectNames.{dialect_name_at};
+ghost use Rattle.pliron_text.specs.MustRead.{MayRead};
+ghost use Rattle.pliron_text.specs.Roots.{itself, replaced};
 
+use crate::parsable::{Parsable, ParseResult, StateStream};
+use crate::printable::Printable;
+use crate::printable::state::State;
+use irtext_base::base::{Context, Identifier};
 pub use irtext_base::dialect::{Dialect, DialectName, OpInfo};
+use irtext_base::parsable::CharStream;
+use irtext_base::result::Cause;
+use irtext_base::text::{AttrText, IrText};
+use irtext_read::irfmt::faults::refuse_at;
+use irtext_read::irfmt::parsers::identifier_parse;
+use std::convert::AsStr;
+use std::fmt;
+
+impl<T: IrText<A>, A: AttrText, U> Parsable<T, A, U> for DialectName {
+    type Arg = ();
+
+    type Parsed = DialectName;
+
+    /// Reads the name of a dialect that is registered. Where no identifier begins it answers as `identifier_parse` does,
+    /// uncommitted; where no dialect has the name, `UnregisteredDialect` at the name's beginning, committed. Nothing but the stream
+    /// changes.
+    fn parse(stream: &mut StateStream<'_, T, A, U>, _arg: ()) -> ParseResult<DialectName, A>
+        ensures read { MayRead itself replaced (λ name. name) (dialect_name_at stream.old.state.ctx.now.dialects) stream.old.stream result stream.new.stream }
+        ensures state { stream.new.state ≡ stream.old.state }
+    {
+        let at = stream.stream.position();
+        let name: Identifier = identifier_parse(&mut stream.stream)?;
+        let ctx = &mut *stream.state.ctx;
+        if !ctx.has_dialect(&name) {
+            return Err(refuse_at(&mut stream.stream, at, Cause::UnregisteredDialect(name)));
+        }
+        Ok(DialectName::from(name))
+    }
+}
+
+impl<T: IrText<A>, A: AttrText, U> Printable<U, T, A> for Dialect {
+    ghost gives = { λ dialect _ s. Some (dialect.name, s) };
+
+    fn fmt(&self, _ctx: &Context<T, A>, _state: &mut State<U>, f: &mut String) -> fmt::Result {
+        f.push_str(self.name().as_str())?;
+        Ok(())
+    }
+}
