@@ -30,6 +30,7 @@ mod numbers;
 mod printing;
 #[cfg(test)]
 mod quoted;
+pub mod registering;
 #[cfg(test)]
 mod roots;
 #[cfg(test)]
