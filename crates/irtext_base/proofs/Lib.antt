@@ -10,6 +10,8 @@ pub mod Characters
 pub mod Numbers
 pub mod Stores
 pub mod Contexts
+pub mod Kept
+pub mod Made
 pub mod Formats
 pub mod Dialects
 pub mod DialectTables

@@ -18,6 +18,7 @@ pub mod Lending
 pub mod Context
 pub mod DialectTable
 pub mod DialectLends
+pub mod Made
 pub mod Room
 pub mod Locations
 pub mod Seen

@@ -174,7 +174,7 @@ impl Model for Dialect {
 }
 
 /// An error of kind invalid argument without a location.
-fn invalid<A>(cause: Cause<A>) -> Error<A>
+pub(crate) fn invalid<A>(cause: Cause<A>) -> Error<A>
     ensures { result ≡ record { kind = ErrorKind.InvalidArgument; err = cause; loc = Unknown } }
 {
     Error {

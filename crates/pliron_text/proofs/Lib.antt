@@ -95,7 +95,6 @@ pub mod Steps
 pub mod Spares
 pub mod Led
 pub mod Rooted
-pub mod Kept
 pub mod Known
 pub mod Answered
 pub mod SectionSteps

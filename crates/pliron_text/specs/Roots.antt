@@ -6,7 +6,7 @@ use Rattle.irtext_base.specs.Format.{sym_name_key}
 use Rattle.irtext_base.specs.Stream.{StreamView}
 use Rattle.irtext_base.specs.Faults.{Failed, DuplicateIndex, fault_of, id_of}
 use Rattle.irtext_base.specs.Answers.{Outcome, Read, Missing, Bad, followed, mapped}
-use Rattle.irtext_base.specs.Context.{ContextView, OperationView, MakesOperation, AddsRegion, get, KeepsPaths}
+use Rattle.irtext_base.specs.Context.{ContextView, OperationView, MakesOperation, AddsRegion}
 use Rattle.irtext_base.specs.declared.base.arena.Ptr.{Ptr}
 use Rattle.irtext_base.specs.declared.base.attributes.AttrObj.{AttrObj}
 use Rattle.irtext_base.specs.declared.base.attributes.AttrObj.TheVariants.{Ident}
@@ -98,10 +98,3 @@ module _ {T A U : Type 0} where
   -- no module is read where the stream stood
   abbrev pub MissesModule : StateStream T A U → ParseFault A → StateStream T A U → Type 0
   MissesModule old fault new = MayRead {Y = Module} itself replaced (λ m. m) (operation_at (marks_of old.state)) old.stream (Err fault) new.stream
-
--- every object that stood stands as it did, none else does, each path stays under its key, and the dialects are the same
-pub record SameObjects {T A : Type 0} (old new : ContextView T A) : Type 0 where
-  pub operations : (p : Ptr Operation) → get new.operations p ≡ get old.operations p
-  pub regions : (p : Ptr Region) → get new.regions p ≡ get old.regions p
-  pub paths : KeepsPaths old.paths new.paths
-  pub dialects : new.dialects ≡ old.dialects

@@ -4,6 +4,8 @@ ghost use Rattle.irtext_base.specs.Arena as arena;
 ghost use Rattle.irtext_base.specs.Room.{HasRoom};
 ghost use Rattle.irtext_base.specs.Context.{store_of, operation_of, with_region, Edits, operation, regions_in, before, EditsOperation, KeepsOlder};
 
+mod make;
+
 use crate::base::arena::Arena;
 use crate::base::{AttributeDict, Context, OpId, Ptr, Region};
 use crate::location::Location;

@@ -1,11 +1,12 @@
 //! The dialects of a context: how one is registered, and what is known of an operation.
-ghost use Rattle.std.specs.Prelude.{◌≡◌, ◌<◌, ◌∷◌, ◌++◌, [], Some, None, IfOk, IfErr, IfSome, OnOk, OnErr, length, slice_get, is_some, option_copied};
+ghost use Rattle.std.specs.Prelude.{◌≡◌, ◌<◌, ◌∷◌, ◌++◌, [], Some, None, IsSome, IfOk, IfErr, IfSome, OnOk, OnErr, length, slice_get, is_some, option_copied};
 ghost use Rattle.std.specs.Borrow.{sem};
 ghost use Rattle.std.specs.Map.{lookup, values_of};
 ghost use Rattle.std.specs.Str.{bytes_eq};
 ghost use Rattle.irtext_base.specs.DialectTable.{IsKeptAt, no_operations, dialect_of, dialect_or_new, registered};
 ghost use Rattle.irtext_base.specs.Directives.{format_of};
 ghost use Rattle.irtext_base.specs.Format.{Accepted};
+ghost use Rattle.irtext_base.specs.Made.{IsUnregistered};
 ghost use Rattle.irtext_base.specs.declared.location.Location.{Unknown};
 
 use crate::base::{Context, Identifier, OpId};
@@ -102,6 +103,21 @@ impl<T: IrText<A>, A: AttrText> Context<T, A> {
     {
         let dialect = self.dialects.get(&id.dialect)?;
         dialect.op(id)
+    }
+
+    /// The same id, where its operation is registered with a dialect of the context. Else it answers `UnregisteredDialect` where
+    /// the dialect isn't registered, and `UnregisteredOp` where it is. It takes no memory.
+    pub fn known_id(&self, id: OpId) -> Result<OpId, Cause<A>>
+        ensures ok { IfOk result (λ i. (i ≡ id) × IsSome (registered self.now.dialects id)) }
+        ensures refused { IfErr result (λ cause. IsUnregistered self.now.dialects id cause) }
+    {
+        if !self.has_dialect(&id.dialect) {
+            return Err(Cause::UnregisteredDialect(id.dialect));
+        }
+        if self.op_info(&id).is_none() {
+            return Err(Cause::UnregisteredOp(id));
+        }
+        Ok(id)
     }
 }
 

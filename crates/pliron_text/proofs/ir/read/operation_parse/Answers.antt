@@ -8,7 +8,7 @@ use Rattle.pliron_text.specs.LocationText.{space_at}
 use Rattle.pliron_text.specs.ModuleText.{Module, module_with, braces_at}
 use Rattle.pliron_text.specs.Registered.{header_of}
 use Rattle.pliron_text.specs.Roots.{fresh_mark_at, operation_at, noted}
-use Rattle.pliron_text.proofs.Kept.{kept_trans, before_made}
+use Rattle.irtext_base.proofs.Kept.{kept_trans, before_made}
 use Rattle.pliron_text.proofs.Rooted.{alone}
 use Rattle.pliron_text.proofs.Steps.{Passed, begins_with, begun_by, spaced, more, refuses, refuses_seen, last_seen, starved}
 use Rattle.pliron_text.proofs.ir.read.operation_parse.Goals as goal

@@ -7,7 +7,7 @@ use Rattle.irtext_base.specs.declared.base.arena.Object.{Object}
 use Rattle.irtext_base.specs.declared.base.arena.Ptr.{Ptr}
 use Rattle.irtext_base.specs.declared.base.operation.Operation.{Operation}
 use Rattle.irtext_base.proofs.Contexts.{same-paths}
-use Rattle.pliron_text.specs.Roots.{SameObjects}
+use Rattle.irtext_base.specs.Made.{SameObjects}
 
 -- an object that is no older than a mark was not there before it
 older-new : {X : Type 0} (mark : ℕ) (o : Object X) → mark ≤ o.born → older mark (Some o) ≡ None
