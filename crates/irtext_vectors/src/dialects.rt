@@ -1,6 +1,6 @@
 //! The dialects of a context: how they are registered and looked up, and how their names are read and printed.
 use irtext_types::{Note, Pointer};
-use pliron_text::base::{Context, Identifier, OpId};
+use pliron_text::base::{Context, Identifier, OpId, Operation, Ptr};
 use pliron_text::dialect::{Dialect, DialectName};
 use pliron_text::format::OpFormat;
 use pliron_text::parsable::{Parsable, parse_from_str};
@@ -87,5 +87,48 @@ fn names_of_registered_dialects_are_read(rt: HostRuntime) -> Result<(), Fail> {
     ] {
         assert_eq!(rt; read(alloc, &mut ctx, text)?.as_str(), answer);
     }
+    Ok(())
+}
+
+/// What making an operation of this name with two regions answers: its regions, or why it is refused.
+fn made(alloc: Global, ctx: &mut Context<Pointer, Note>, id: OpId) -> Result<String, Fail> {
+    match Operation::new(ctx, id, 2) {
+        Ok(op) => regions(alloc, ctx, op),
+        Err(error) => Ok(format!(in alloc; "{error}")?),
+    }
+}
+
+/// How many regions an operation has, as a text.
+fn regions(
+    alloc: Global,
+    ctx: &Context<Pointer, Note>,
+    op: Ptr<Operation>,
+) -> Result<String, Fail> {
+    if !ctx.contains_operation(op) {
+        return Err(Fail::from("no such operation"));
+    }
+    Ok(format!(in alloc; "{}", op.num_regions(ctx))?)
+}
+
+#[test]
+fn registered_operations_are_made(rt: HostRuntime) -> Result<(), Fail> {
+    let alloc = rt.alloc();
+    let name = DialectName::from(named(alloc, "test")?);
+    let mut ctx: Context<Pointer, Note> = Context::new(alloc);
+    assert_eq!(rt;
+        made(alloc, &mut ctx, id(alloc, "z")?)?.as_str(),
+        "Compilation error: invalid argument.\nUnregistered dialect test"
+    );
+    add(
+        alloc,
+        Dialect::register(&mut ctx, &name).ok().ok_or("refused")?,
+    )?;
+    assert_eq!(rt;
+        made(alloc, &mut ctx, id(alloc, "y")?)?.as_str(),
+        "Compilation error: invalid argument.\nUnregistered Op test.y"
+    );
+    assert_eq!(rt; ctx.num_live(), 0);
+    assert_eq!(rt; made(alloc, &mut ctx, id(alloc, "z")?)?.as_str(), "2");
+    assert_eq!(rt; ctx.num_live(), 3);
     Ok(())
 }
