@@ -1,5 +1,5 @@
 -- Where the dialect of a name stands among those of a context.
-use Rattle.std.proofs.Common.{◌≡◌, ◌∙◌, ◌<◌, ◌+◌, ℕ, Bool, true, false, if◌then◌else◌, List, [], ◌∷◌, ◌++◌, length, length-append, slice_get, Option, Some, None, refl, sym, ap, arith, position, unwrap_or, is_some, true≢false, Result, Ok, Err}
+use Rattle.std.proofs.Common.{◌≡◌, ◌∙◌, ℕ, true, List, [], ◌∷◌, ◌++◌, length, length-append, slice_get, Option, Some, None, refl, sym, ap, arith, position, unwrap_or, is_some, true≢false, Result, Ok, Err}
 use Rattle.std.specs.Prelude.{OnOk, OnErr}
 use Rattle.std.specs.Map.{lookup, keys_of, values_of}
 use Rattle.std.specs.Str.{bytes_eq}
@@ -8,7 +8,7 @@ use Rattle.indexmap.specs.Layout.{set_value_at}
 use Rattle.indexmap.proofs.MapLemmas.{Found-position, some_index, absent_from_lookup, insert_entry-absent, insert_entry-first}
 use Rattle.irtext_base.specs.Text.{Text}
 use Rattle.irtext_base.specs.Dialects.{Table}
-use Rattle.irtext_base.specs.DialectTable.{IsKeptAt, no_operations, dialect_or_new}
+use Rattle.irtext_base.specs.DialectTable.{IsKeptAt, no_operations}
 
 module _ {K X : Type 0} (k : K) where
   -- another value at the last entry

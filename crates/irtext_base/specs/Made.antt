@@ -1,5 +1,5 @@
 -- An operation that is made with its regions: whether it is registered, what comes to the context, and what a refusal leaves.
-use Rattle.std.specs.Prelude.{◌≡◌, ℕ, zero, suc, List, [], Option, None, IsSome}
+use Rattle.std.specs.Prelude.{◌≡◌, ℕ, zero, suc, List, [], None, IsSome}
 use Rattle.irtext_base.specs.Text.{Text}
 use Rattle.irtext_base.specs.Dialects.{Table}
 use Rattle.irtext_base.specs.DialectTable.{dialect_of, registered}

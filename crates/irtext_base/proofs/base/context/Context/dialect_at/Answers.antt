@@ -1,5 +1,4 @@
-use Rattle.std.proofs.Common.{◌≡◌, ◌∙◌, refl, sym, ap, subst, rules}
-use Rattle.irtext_base.specs.Context.{ContextView}
+use Rattle.std.proofs.Common.{refl}
 use Rattle.irtext_base.proofs.base.context.Context.dialect_at.Goals as goal
 
 pub index_mut-requires : goal.index_mut-requires
