@@ -3,6 +3,7 @@
 #![tactic(auto)]
 
 mod printing;
+mod registering;
 mod strings;
 
 use std::alloc::AllocError;
@@ -42,6 +43,9 @@ fn answer(rt: &HostRuntime) -> io::Result<Result<String, Fault>> {
     for word in env::args(rt)?.skip(1) {
         if word.as_str() == "disp" {
             return Ok(printing::displayed(alloc, text.as_str()));
+        }
+        if word.as_str() == "objects" {
+            return Ok(registering::objects(alloc, text.as_str()));
         }
         if word.as_str() == "strings" {
             return Ok(strings::read(alloc, text.as_str()));
