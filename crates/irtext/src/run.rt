@@ -2,7 +2,7 @@
 ghost use Rattle.std.specs.Prelude.{◌≤◌, ◌≡◌, IsSome};
 ghost use Rattle.irtext_base.specs.Context.{operation};
 
-use irtext_types::{Note, Pointer};
+use irtext_types::{DemoAttr, DemoType};
 use pliron_text::base::{Context, Operation, Ptr};
 use pliron_text::ir::{OperationText, print_dbg};
 use pliron_text::parsable::parse_from_str;
@@ -77,7 +77,7 @@ fn read_text(alloc: Global, input: &mut impl Read) -> Result<String, Fault> {
 }
 
 /// The text of an error, or that memory was refused.
-fn refusal(alloc: Global, ctx: &Context<Pointer, Note>, error: &Error<Note>) -> Fault {
+fn refusal(alloc: Global, ctx: &Context<DemoType, DemoAttr>, error: &Error<DemoAttr>) -> Fault {
     match format!(in alloc; "{}", error.disp(ctx)) {
         Ok(text) => Fault::Refused(text),
         Err(AllocError) => Fault::Memory(AllocError),
@@ -86,7 +86,7 @@ fn refusal(alloc: Global, ctx: &Context<Pointer, Note>, error: &Error<Note>) -> 
 
 /// Appends the root's text in this form.
 fn write_root(
-    ctx: &Context<Pointer, Note>,
+    ctx: &Context<DemoType, DemoAttr>,
     root: Ptr<Operation>,
     form: Form,
     printed: &mut String,

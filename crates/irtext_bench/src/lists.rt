@@ -1,6 +1,6 @@
 //! Lists of tokens, read from a text.
 
-use irtext_types::Note;
+use irtext_types::DemoAttr;
 use pliron_text::irfmt::parsers::{int_parse, list_parser, quoted_string_parse};
 use pliron_text::parsable::{ParseResult, TextStream};
 use std::alloc::{AllocError, Global};
@@ -8,7 +8,7 @@ use std::alloc::{AllocError, Global};
 /// What is told of a list: how many items it has, or that the text is none.
 fn told<X: Drop>(
     alloc: Global,
-    items: ParseResult<Vec<X>, Note>,
+    items: ParseResult<Vec<X>, DemoAttr>,
     bytes: usize,
 ) -> Result<String, AllocError> {
     match items {
@@ -20,7 +20,7 @@ fn told<X: Drop>(
 /// Reads a list of integers with commas between. It tells how many there were.
 pub fn numbers(alloc: Global, text: &str) -> Result<String, AllocError> {
     let mut stream = TextStream::new(alloc, text)?;
-    let items: ParseResult<Vec<i64>, Note> = list_parser(
+    let items: ParseResult<Vec<i64>, DemoAttr> = list_parser(
         &mut stream,
         ',',
         |s: &mut TextStream| int_parse(s),
@@ -31,7 +31,7 @@ pub fn numbers(alloc: Global, text: &str) -> Result<String, AllocError> {
 /// Reads a list of quoted texts with commas between. It tells how many there were.
 pub fn strings(alloc: Global, text: &str) -> Result<String, AllocError> {
     let mut stream = TextStream::new(alloc, text)?;
-    let items: ParseResult<Vec<String>, Note> = list_parser(
+    let items: ParseResult<Vec<String>, DemoAttr> = list_parser(
         &mut stream,
         ',',
         |s: &mut TextStream| quoted_string_parse(s),

@@ -1,6 +1,6 @@
 //! Roots in a row: read from one stream, and printed.
 
-use irtext_types::{Note, Pointer};
+use irtext_types::{DemoAttr, DemoType};
 use pliron_text::base::{Context, Operation, Ptr};
 use pliron_text::ir::OperationText;
 use pliron_text::location::Source;
@@ -13,7 +13,7 @@ use std::alloc::{AllocError, Global};
 fn read_roots(
     alloc: Global,
     text: &str,
-    ctx: &mut Context<Pointer, Note>,
+    ctx: &mut Context<DemoType, DemoAttr>,
 ) -> Result<Vec<Ptr<Operation>>, AllocError> {
     let stream = TextStream::new(alloc, text)?;
     let state = State::new(ctx, Source::InMemory, ());
@@ -33,7 +33,7 @@ fn read_roots(
 fn print_roots(
     alloc: Global,
     roots: &[Ptr<Operation>],
-    ctx: &Context<Pointer, Note>,
+    ctx: &Context<DemoType, DemoAttr>,
 ) -> Result<String, AllocError> {
     let mut text = String::new(alloc);
     for root in roots {

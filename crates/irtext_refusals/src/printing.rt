@@ -1,7 +1,7 @@
 //! Printing a root where a request for memory is refused: the first printing fails, and a second one writes the text.
 
 use crate::Fault;
-use irtext_types::{Note, Pointer};
+use irtext_types::{DemoAttr, DemoType};
 use pliron_text::base::{Context, Operation};
 use pliron_text::ir::OperationText;
 use pliron_text::parsable::parse_from_str;
@@ -11,7 +11,7 @@ use std::alloc::Global;
 use std::fmt::Write;
 
 /// Whether the cause is that memory was refused, to the reading or to its fault.
-fn is_memory(cause: &Cause<Note>) -> bool {
+fn is_memory(cause: &Cause<DemoAttr>) -> bool {
     match cause {
         Cause::Memory => true,
         Cause::Parse { at: _, cause } => match **cause {
@@ -24,7 +24,7 @@ fn is_memory(cause: &Cause<Note>) -> bool {
 
 /// The text of the root that stands in the text. It is printed twice; where the first printing is refused the second has to write it.
 pub fn displayed(alloc: Global, text: &str) -> Result<String, Fault> {
-    let mut ctx: Context<Pointer, Note> = Context::new(alloc);
+    let mut ctx: Context<DemoType, DemoAttr> = Context::new(alloc);
     let root = match parse_from_str(|stream| Operation::top_level_parse(stream), &mut ctx, text) {
         Ok(root) => root,
         Err(error) if is_memory(&error.err) => return Err(Fault::Memory),

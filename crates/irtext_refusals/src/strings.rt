@@ -1,14 +1,14 @@
 //! Reading a list of texts where a request for memory is refused: the fault says so, and the stream has failed from then on.
 
 use crate::Fault;
-use irtext_types::Note;
+use irtext_types::DemoAttr;
 use pliron_text::irfmt::parsers::{delimited_list_parser, quoted_string_parse};
 use pliron_text::parsable::{ParseResult, TextStream};
 use pliron_text::result::Cause;
 use std::alloc::{AllocError, Global};
 
 /// The list of quoted texts in brackets that stands where the stream stands.
-fn list(stream: &mut TextStream) -> ParseResult<Vec<String>, Note> {
+fn list(stream: &mut TextStream) -> ParseResult<Vec<String>, DemoAttr> {
     delimited_list_parser(
         stream,
         '[',

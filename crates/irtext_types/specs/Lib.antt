@@ -1,2 +1,10 @@
+pub mod Widths
+pub mod WidthOf
+pub mod WidthLaws
 pub mod Words
-pub mod Laws
+pub mod IntegerTypes
+pub mod Types
+pub mod TypesBack
+pub mod TypeLaws
+pub mod Attributes
+pub mod AttributeLaws

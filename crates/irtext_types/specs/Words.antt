@@ -1,26 +1,26 @@
--- The texts of the program's own type and attribute.
-use Rattle.std.specs.Prelude.{ℕ, Bool, cond, List, [], ◌∷◌, ◌++◌, codes}
-use Rattle.irtext_base.specs.Text.{Text, begins, front, after, begins_word}
-use Rattle.std.specs.Str.{bytes_eq}
+-- Dotted words, which types and attributes begin with.
+use Rattle.std.specs.Prelude.{ℕ, Bool, cond, Option, Some, None, [], ◌++◌}
+use Rattle.std.specs.Char.{is_whitespace}
+use Rattle.irtext_base.specs.Text.{Text, begins, front, after, after_space, begins_word}
 use Rattle.irtext_read.specs.Tokens.{has}
 use Rattle.irtext_read.specs.declared.irfmt.parsers.class.Class.TheVariants.{Dotted}
 use Rattle.irtext_base.specs.Stream.{first_of}
-use Rattle.irtext_base.specs.Faults.{Demand, AType, AnAttribute, Unexpected, OwnText}
-use Rattle.irtext_base.specs.Answers.{Outcome, Read, Missing, Bad}
+use Rattle.irtext_base.specs.Faults.{Demand, Unexpected, OwnText}
+use Rattle.irtext_base.specs.Answers.{Outcome, Read, Missing, Bad, prefixed}
 
 -- a letter, a digit, `_` or `.`
 abbrev pub in_dotted : ℕ → Bool
 in_dotted = has Dotted
 
--- a dotted word, as long as it goes, that is this one; another is refused by a text that ends in it
-abbrev pub dotted_at : {X : Type 0} → X → Text → Text → Demand → Text → Outcome X
-dotted_at value word refusal demand text = cond (begins begins_word text)
-    (cond (bytes_eq (front in_dotted text) word) (Read value (front in_dotted text) (after in_dotted text)) (Bad (OwnText (refusal ++ front in_dotted text)) []))
-    (Missing (Unexpected (first_of text) demand))
+-- what a word was found to be; one that is nothing is refused by a text that ends in it
+abbrev pub chosen : {X : Type 0} → Text → Text → Text → Option X → Outcome X
+chosen refusal found rest (Some x) = Read x found rest
+chosen refusal found rest None = Bad (OwnText (refusal ++ found)) []
 
--- the word of the pointer type, and of the note
-abbrev pub pointer_word : Text
-pointer_word = codes "test.ptr"
+-- a dotted word, as long as it goes, and what it is
+abbrev pub dotted_at : {X : Type 0} → (Text → Option X) → Text → Demand → Text → Outcome X
+dotted_at word refusal demand text = cond (begins begins_word text) (chosen refusal (front in_dotted text) (after in_dotted text) (word (front in_dotted text))) (Missing (Unexpected (first_of text) demand))
 
-abbrev pub note_word : Text
-note_word = codes "test.note"
+-- white space, and behind it what must stand there
+abbrev pub behind_space : {X : Type 0} → (Text → Outcome X) → Text → Outcome X
+behind_space item text = prefixed (front is_whitespace text) (item (after_space text))

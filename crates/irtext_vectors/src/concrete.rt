@@ -1,5 +1,5 @@
 //! The concrete text of a root, and its text for those who debug.
-use irtext_types::{Note, Pointer};
+use irtext_types::{DemoAttr, DemoType};
 use pliron_text::base::{Context, Operation};
 use pliron_text::ir::{OpDbg, OperationText, print_dbg};
 use pliron_text::parsable::parse_from_str;
@@ -8,7 +8,7 @@ use std::test::Fail;
 
 #[test]
 fn a_root_has_a_concrete_text_and_one_without_its_regions(rt: HostRuntime) -> Result<(), Fail> {
-    let mut ctx: Context<Pointer, Note> = Context::new(rt.alloc());
+    let mut ctx: Context<DemoType, DemoAttr> = Context::new(rt.alloc());
     let op = parse_from_str(
         |s| Operation::top_level_parse(s),
         &mut ctx,

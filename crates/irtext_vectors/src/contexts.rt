@@ -2,13 +2,13 @@
 use irtext_base::base::{AttrObj, AttributeDict, Context, Identifier, OpId, Refusal};
 use irtext_base::location::Location;
 use irtext_base::result::Result as Answer;
-use irtext_types::{Note, Pointer};
+use irtext_types::{DemoAttr, DemoType};
 use std::alloc::Global;
 use std::test::Fail;
 
 /// The identifier of a text that is one.
 fn named(alloc: Global, text: &str) -> Result<Identifier, Fail> {
-    let name: Answer<Identifier, Note> = Identifier::try_new(alloc, text);
+    let name: Answer<Identifier, DemoAttr> = Identifier::try_new(alloc, text);
     Ok(name.ok().ok_or("no identifier")?)
 }
 
@@ -29,7 +29,7 @@ fn identifiers_are_words(rt: HostRuntime) -> Result<(), Fail> {
         ("1a", "Unexpected `1`, expected identifier"),
         ("a-b", "Unexpected `-`, expected identifier"),
     ] {
-        let refused: Answer<Identifier, Note> = Identifier::try_new(rt.alloc(), text);
+        let refused: Answer<Identifier, DemoAttr> = Identifier::try_new(rt.alloc(), text);
         let error = refused.err().ok_or("accepted")?;
         assert_eq!(rt; format!(in rt.alloc(); "{}", error.err)?.as_str(), fault);
     }
@@ -39,7 +39,7 @@ fn identifiers_are_words(rt: HostRuntime) -> Result<(), Fail> {
 #[test]
 fn a_dictionary_keeps_the_order_of_insertion(rt: HostRuntime) -> Result<(), Fail> {
     let alloc = rt.alloc();
-    let mut dictionary: AttributeDict<Note> = AttributeDict::new(alloc);
+    let mut dictionary: AttributeDict<DemoAttr> = AttributeDict::new(alloc);
     let given = named(alloc, "builtin_given_names")?;
     let key = named(alloc, "k")?;
     let refused = dictionary.insert(given.clone()?, AttrObj::Ident(named(alloc, "x")?));
@@ -68,7 +68,7 @@ fn a_dictionary_keeps_the_order_of_insertion(rt: HostRuntime) -> Result<(), Fail
 #[test]
 fn objects_are_made_and_given_back(rt: HostRuntime) -> Result<(), Fail> {
     let alloc = rt.alloc();
-    let mut ctx: Context<Pointer, Note> = Context::new(alloc);
+    let mut ctx: Context<DemoType, DemoAttr> = Context::new(alloc);
     let first = ctx.make_operation(
         module_id(alloc)?,
         AttributeDict::new(alloc),

@@ -1,7 +1,7 @@
 //! Errors: what the macros make (those of the text layer and those of the lowest crate), the texts of causes and of the small error
 //! types, and errors as faults of a reading.
 use irtext_base::format::FormatFault;
-use irtext_types::{Note, Pointer};
+use irtext_types::{DemoAttr, DemoType};
 use pliron_text::base::{Context, Identifier, OpId};
 use pliron_text::ir::{BasicBlockVerifyErr, DefUseVerifyErr};
 use pliron_text::location::{Location, Source};
@@ -14,7 +14,7 @@ use pliron_text::result::{Cause, Error, ErrorKind, Expected, StringError};
 use std::test::Fail;
 
 /// What a call answers here: an error either way.
-type Answer = Result<Error<Note>, Error<Note>>;
+type Answer = Result<Error<DemoAttr>, Error<DemoAttr>>;
 
 /// What the macros make, as `told` tells it.
 const MADE: &str = "\
@@ -28,7 +28,7 @@ Compilation error: invalid argument.\nalone 3
 ";
 
 /// A place in memory.
-fn at(line: i32, column: i32) -> Location<Note> {
+fn at(line: i32, column: i32) -> Location<DemoAttr> {
     Location::SrcPos {
         src: Source::InMemory,
         pos: SourcePosition { line, column },
@@ -37,11 +37,11 @@ fn at(line: i32, column: i32) -> Location<Note> {
 
 /// A name.
 fn name(rt: &HostRuntime, text: &str) -> Result<Identifier, Fail> {
-    Ok(Identifier::try_new::<Note>(rt.alloc(), text)?)
+    Ok(Identifier::try_new::<DemoAttr>(rt.alloc(), text)?)
 }
 
 /// The texts of these causes, each with a line end behind it.
-fn texts(rt: &HostRuntime, causes: &[Cause<Note>]) -> Result<String, Fail> {
+fn texts(rt: &HostRuntime, causes: &[Cause<DemoAttr>]) -> Result<String, Fail> {
     let mut text = String::new(rt.alloc());
     for cause in causes {
         write!(text, "{cause}\n")?;
@@ -51,7 +51,7 @@ fn texts(rt: &HostRuntime, causes: &[Cause<Note>]) -> Result<String, Fail> {
 
 /// What these answers print, each with a line end behind it: an error with its location.
 fn told(rt: &HostRuntime, answers: &[Answer]) -> Result<String, Fail> {
-    let ctx: Context<Pointer, Note> = Context::new(rt.alloc());
+    let ctx: Context<DemoType, DemoAttr> = Context::new(rt.alloc());
     let mut text = String::new(rt.alloc());
     for answer in answers {
         write!(text, "{}\n", answer.disp(&ctx))?;
@@ -121,7 +121,7 @@ fn what_the_lowest_macros_answer(rt: HostRuntime) -> Result<(), Fail> {
 
 #[test]
 fn causes_without_names(rt: HostRuntime) -> Result<(), Fail> {
-    let causes: [Cause<Note>; 12] = [
+    let causes: [Cause<DemoAttr>; 12] = [
         Cause::Memory,
         Cause::StreamFailed,
         Cause::Fmt,
@@ -153,7 +153,7 @@ Format refused by condition C8\n"
 }
 
 /// A cause with this name.
-fn with_name(number: usize, name: Identifier) -> Cause<Note> {
+fn with_name(number: usize, name: Identifier) -> Cause<DemoAttr> {
     match number {
         0 => Cause::UnregisteredDialect(name),
         1 => Cause::NoActiveScope(name),
@@ -180,7 +180,7 @@ Reserved attribute key: x\n"
 }
 
 /// A cause with this text.
-fn with_text(number: usize, text: String) -> Cause<Note> {
+fn with_text(number: usize, text: String) -> Cause<DemoAttr> {
     match number {
         0 => Cause::NumberRange(text),
         1 => Cause::BadUnicodeEscape(text),
@@ -211,7 +211,7 @@ fn id(rt: &HostRuntime) -> Result<OpId, Fail> {
 }
 
 /// A cause with this operation's id.
-fn with_id(number: usize, id: OpId, dialect: Identifier) -> Cause<Note> {
+fn with_id(number: usize, id: OpId, dialect: Identifier) -> Cause<DemoAttr> {
     match number {
         0 => Cause::UnregisteredOp(id),
         _ => Cause::WrongDialect { id, dialect },
@@ -236,8 +236,8 @@ fn causes_with_operations(rt: HostRuntime) -> Result<(), Fail> {
 #[test]
 fn causes_that_hold_others(rt: HostRuntime) -> Result<(), Fail> {
     let inner = pliron_text::arg_error_noloc!(Cause::Memory);
-    let nested: Cause<Note> = Cause::Nested(Box::new(rt.alloc(), inner)?);
-    let cause: Cause<Note> = Cause::Parse {
+    let nested: Cause<DemoAttr> = Cause::Nested(Box::new(rt.alloc(), inner)?);
+    let cause: Cause<DemoAttr> = Cause::Parse {
         at: SourcePosition { line: 1, column: 1 },
         cause: Box::new(rt.alloc(), nested)?,
     };
@@ -249,7 +249,7 @@ fn causes_that_hold_others(rt: HostRuntime) -> Result<(), Fail> {
 }
 
 /// What is expected at the end.
-fn at_end(expected: Expected) -> Cause<Note> {
+fn at_end(expected: Expected) -> Cause<DemoAttr> {
     Cause::Unexpected {
         found: None,
         expected,
@@ -258,7 +258,7 @@ fn at_end(expected: Expected) -> Cause<Note> {
 
 #[test]
 fn the_words_for_what_is_expected(rt: HostRuntime) -> Result<(), Fail> {
-    let causes: [Cause<Note>; 11] = [
+    let causes: [Cause<DemoAttr>; 11] = [
         at_end(Expected::Char(';')),
         at_end(Expected::Identifier),
         at_end(Expected::Digit),
@@ -330,7 +330,7 @@ Basic block \"b\" has no parent operation\nUse of x not dominated by definition\
 
 #[test]
 fn an_error_shows_no_location_by_display(rt: HostRuntime) -> Result<(), Fail> {
-    let mut error: Error<Note> = pliron_text::input_error_noloc!(Cause::EmptyItem);
+    let mut error: Error<DemoAttr> = pliron_text::input_error_noloc!(Cause::EmptyItem);
     assert!(rt; error.loc().is_unknown());
     error.set_loc(at(4, 2));
     assert!(rt; !error.loc().is_unknown());
@@ -355,7 +355,7 @@ fn inner_errors_print_their_locations(rt: HostRuntime) -> Result<(), Fail> {
 }
 
 /// The text of an answer: its value, or its fault behind its place, with `!` behind it where it is committed.
-fn read(rt: &HostRuntime, answer: ParseResult<u8, Note>) -> Result<String, Fail> {
+fn read(rt: &HostRuntime, answer: ParseResult<u8, DemoAttr>) -> Result<String, Fail> {
     match answer {
         Ok(value) => Ok(format!(in rt.alloc(); "{value}")?),
         Err(
@@ -373,19 +373,19 @@ fn read(rt: &HostRuntime, answer: ParseResult<u8, Note>) -> Result<String, Fail>
 
 #[test]
 fn an_error_as_a_fault(rt: HostRuntime) -> Result<(), Fail> {
-    let located: Error<Note> = pliron_text::input_error!(at(4, 2), Cause::EmptyItem);
+    let located: Error<DemoAttr> = pliron_text::input_error!(at(4, 2), Cause::EmptyItem);
     assert_eq!(rt;
         read(&rt, located.into_parse_result())?.as_str(),
         "line: 4, column: 2: Repeated item reads nothing!"
     );
-    let alone: Error<Note> = pliron_text::arg_error_noloc!(Cause::EmptyItem);
+    let alone: Error<DemoAttr> = pliron_text::arg_error_noloc!(Cause::EmptyItem);
     assert_eq!(rt;
         read(&rt, alone.into_parse_result())?.as_str(),
         "line: 1, column: 1: Repeated item reads nothing!"
     );
-    let good: Result<u8, Error<Note>> = Ok(7);
+    let good: Result<u8, Error<DemoAttr>> = Ok(7);
     assert_eq!(rt; read(&rt, good.into_parse_result())?.as_str(), "7");
-    let bad: Result<u8, Error<Note>> = pliron_text::input_err!(at(4, 2), Cause::BadSeparator);
+    let bad: Result<u8, Error<DemoAttr>> = pliron_text::input_err!(at(4, 2), Cause::BadSeparator);
     assert_eq!(rt;
         read(&rt, bad.into_parse_result())?.as_str(),
         "line: 4, column: 2: List separator is white space!"

@@ -3,14 +3,14 @@ use irtext_base::base::{Identifier, OpId};
 use irtext_base::dialect::{Dialect, DialectName};
 use irtext_base::format::{Directive, FormatFault, OpFormat, check_format};
 use irtext_base::result::Result as Answer;
-use irtext_types::Note;
+use irtext_types::DemoAttr;
 use std::alloc::Global;
 use std::convert::AsStr;
 use std::test::Fail;
 
 /// The identifier of a text that is one.
 fn named(alloc: Global, text: &str) -> Result<Identifier, Fail> {
-    let name: Answer<Identifier, Note> = Identifier::try_new(alloc, text);
+    let name: Answer<Identifier, DemoAttr> = Identifier::try_new(alloc, text);
     Ok(name.ok().ok_or("no identifier")?)
 }
 
@@ -89,7 +89,7 @@ fn registered(
         dialect: named(alloc, "test")?,
         name: named(alloc, "z")?,
     };
-    let answer: Answer<(), Note> = dialect.add_op(id, format_of(alloc, letters)?, isolated);
+    let answer: Answer<(), DemoAttr> = dialect.add_op(id, format_of(alloc, letters)?, isolated);
     match answer {
         Ok(()) => Ok(String::new(alloc)),
         Err(error) => Ok(format!(in alloc; "{error}")?),
@@ -155,12 +155,12 @@ fn formats_are_refused_by_the_first_condition_that_they_fail(rt: HostRuntime) ->
 fn names_of_dialects_are_identifiers(rt: HostRuntime) -> Result<(), Fail> {
     let alloc = rt.alloc();
     let name = DialectName::from(named(alloc, "test")?);
-    let copy: Answer<DialectName, Note> = name.try_clone();
+    let copy: Answer<DialectName, DemoAttr> = name.try_clone();
     assert!(rt; copy.ok().ok_or("refused")? == name);
     assert_eq!(rt; name.as_str(), "test");
     assert_eq!(rt; format!(in alloc; "{name}")?.as_str(), "test");
     assert!(rt; Identifier::from(name) == named(alloc, "test")?);
-    let refused: Answer<DialectName, Note> = DialectName::try_new(alloc, "1a");
+    let refused: Answer<DialectName, DemoAttr> = DialectName::try_new(alloc, "1a");
     let error = refused.err().ok_or("accepted")?;
     assert_eq!(rt;
         format!(in alloc; "{}", error.err)?.as_str(),

@@ -10,6 +10,8 @@ mod concrete;
 mod contexts;
 pub mod definitions;
 #[cfg(test)]
+mod demo;
+#[cfg(test)]
 mod dialects;
 #[cfg(test)]
 mod errors;

@@ -5,7 +5,7 @@ use irtext_read::irfmt::parsers::{
     delimited_list_parser, i32_parse, list_parser, list_with_sep_parser, spaced,
     zero_or_more_parser,
 };
-use irtext_types::{Note, Pointer};
+use irtext_types::{DemoAttr, DemoType};
 use pliron_text::base::Context;
 use pliron_text::irfmt::outlined::outlined_marker_or;
 use pliron_text::location::Source;
@@ -13,7 +13,7 @@ use pliron_text::parsable::{State, state_stream_from_iterator};
 use std::test::Fail;
 
 /// What a fault says: where and why, with `!` where it is committed.
-fn refused(rt: &HostRuntime, fault: ParseFault<Note>) -> Result<String, Fail> {
+fn refused(rt: &HostRuntime, fault: ParseFault<DemoAttr>) -> Result<String, Fail> {
     let mark = if fault.committed { "!" } else { "" };
     Ok(format!(in rt.alloc(); "{}: {}{mark}", fault.pos, fault.cause)?)
 }
@@ -21,7 +21,7 @@ fn refused(rt: &HostRuntime, fault: ParseFault<Note>) -> Result<String, Fail> {
 /// What an answer says of a list: its items and what stands behind them, or its fault.
 fn told(
     rt: &HostRuntime,
-    answer: ParseResult<Vec<i32>, Note>,
+    answer: ParseResult<Vec<i32>, DemoAttr>,
     at: SourcePosition,
     next: Option<char>,
 ) -> Result<String, Fail> {
@@ -34,7 +34,7 @@ fn told(
 /// What an answer says of an item: the item and what stands behind it, or its fault.
 fn told_one(
     rt: &HostRuntime,
-    answer: ParseResult<Option<i32>, Note>,
+    answer: ParseResult<Option<i32>, DemoAttr>,
     next: Option<char>,
 ) -> Result<String, Fail> {
     match answer {
@@ -56,7 +56,7 @@ enum Reader {
 
 /// What a reader of lists answers.
 fn read(rt: &HostRuntime, stream: &mut TextStream, reader: Reader) -> Result<String, Fail> {
-    let answer: ParseResult<Vec<i32>, Note> = match reader {
+    let answer: ParseResult<Vec<i32>, DemoAttr> = match reader {
         Reader::Commas => list_parser(stream, ',', i32_parse),
         Reader::Brackets => delimited_list_parser(stream, '[', ']', ',', i32_parse),
         Reader::Items => zero_or_more_parser(stream, i32_parse),
@@ -75,7 +75,7 @@ fn read_text(rt: &HostRuntime, reader: Reader, text: &str) -> Result<String, Fai
 
 /// What an item with white space round it answers.
 fn read_spaced(rt: &HostRuntime, stream: &mut TextStream) -> Result<String, Fail> {
-    let answer: ParseResult<i32, Note> = spaced(stream, i32_parse);
+    let answer: ParseResult<i32, DemoAttr> = spaced(stream, i32_parse);
     match answer {
         Ok(x) => told_one(rt, Ok(Some(x)), stream.peek()),
         Err(fault) => refused(rt, fault),
@@ -85,7 +85,7 @@ fn read_spaced(rt: &HostRuntime, stream: &mut TextStream) -> Result<String, Fail
 /// What an attribute or the marker in its place answers.
 fn read_marked(rt: &HostRuntime, text: &str) -> Result<String, Fail> {
     let mut stream = TextStream::new(rt.alloc(), text)?;
-    let answer: ParseResult<Option<i32>, Note> = outlined_marker_or(&mut stream, i32_parse);
+    let answer: ParseResult<Option<i32>, DemoAttr> = outlined_marker_or(&mut stream, i32_parse);
     told_one(rt, answer, stream.peek())
 }
 
@@ -187,10 +187,10 @@ fn items_and_the_marker(rt: HostRuntime) -> Result<(), Fail> {
 
 #[test]
 fn a_list_on_a_stream_with_its_state(rt: HostRuntime) -> Result<(), Fail> {
-    let mut ctx: Context<Pointer, Note> = Context::new(rt.alloc());
+    let mut ctx: Context<DemoType, DemoAttr> = Context::new(rt.alloc());
     let state = State::new(&mut ctx, Source::InMemory, ());
     let mut s = state_stream_from_iterator("1,2".chars(), state)?;
-    let answer: ParseResult<Vec<i32>, Note> = list_parser(&mut s, ',', i32_parse);
+    let answer: ParseResult<Vec<i32>, DemoAttr> = list_parser(&mut s, ',', i32_parse);
     assert_eq!(rt;
         told(&rt, answer, s.position().position(), s.peek())?.as_str(),
         "[1, 2], line: 1, column: 4: None"

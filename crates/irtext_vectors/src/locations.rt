@@ -3,16 +3,16 @@ use irtext_base::base::{AttrObj, AttributeDict, Context, Identifier, OpId};
 use irtext_base::location::{Location, Source, erase_locations};
 use irtext_base::parsable::SourcePosition;
 use irtext_base::result::Result as Answer;
-use irtext_types::{Note, Pointer};
+use irtext_types::{DemoAttr, DemoType};
 use std::alloc::Global;
 use std::hash::{DefaultHasher, Hash, Hasher};
 use std::test::Fail;
 
-type Ctx = Context<Pointer, Note>;
+type Ctx = Context<DemoType, DemoAttr>;
 
 /// The identifier of a text that is one.
 fn named(alloc: Global, text: &str) -> Result<Identifier, Fail> {
-    let name: Answer<Identifier, Note> = Identifier::try_new(alloc, text);
+    let name: Answer<Identifier, DemoAttr> = Identifier::try_new(alloc, text);
     Ok(name.ok().ok_or("no identifier")?)
 }
 
@@ -22,7 +22,7 @@ fn file(ctx: &mut Ctx, path: &str) -> Result<Source, Fail> {
 }
 
 /// Line 1, column 2 of a source.
-fn at(src: Source) -> Location<Note> {
+fn at(src: Source) -> Location<DemoAttr> {
     Location::SrcPos {
         src,
         pos: SourcePosition { line: 1, column: 2 },
@@ -32,9 +32,9 @@ fn at(src: Source) -> Location<Note> {
 /// A location fused of two others, with a name as metadata.
 fn fused(
     alloc: Global,
-    first: Location<Note>,
-    second: Location<Note>,
-) -> Result<Location<Note>, Fail> {
+    first: Location<DemoAttr>,
+    second: Location<DemoAttr>,
+) -> Result<Location<DemoAttr>, Fail> {
     let mut locations = Vec::new(alloc);
     locations.push(first)?;
     locations.push(second)?;
@@ -46,7 +46,7 @@ fn fused(
 }
 
 /// The hash that a new hasher has once a location of the context's paths is written to it.
-fn hash_of(ctx: &Ctx, location: &Location<Note>) -> u64 {
+fn hash_of(ctx: &Ctx, location: &Location<DemoAttr>) -> u64 {
     let mut state = DefaultHasher::new();
     if ctx.contains_paths(location) {
         location.stable_hash(ctx, &mut state);
@@ -94,7 +94,7 @@ fn copies_equal_their_sources(rt: HostRuntime) -> Result<(), Fail> {
     let location = fused(alloc, at(Source::InMemory), Location::Unknown)?;
     let copy = location.try_clone(alloc).ok().ok_or("refused")?;
     assert!(rt; copy == location);
-    let attribute: AttrObj<Note> = AttrObj::Ident(named(alloc, "x")?);
+    let attribute: AttrObj<DemoAttr> = AttrObj::Ident(named(alloc, "x")?);
     assert!(rt; attribute.try_clone(alloc)? == attribute);
     Ok(())
 }
@@ -117,7 +117,7 @@ fn the_hash_of_a_place_is_made_of_its_path(rt: HostRuntime) -> Result<(), Fail> 
 fn the_hash_counts_locations(rt: HostRuntime) -> Result<(), Fail> {
     let alloc = rt.alloc();
     let ctx: Ctx = Context::new(alloc);
-    let none: Location<Note> = Location::Fused {
+    let none: Location<DemoAttr> = Location::Fused {
         metadata: Box::new(alloc, None)?,
         locations: Box::new(alloc, Vec::new(alloc))?,
     };

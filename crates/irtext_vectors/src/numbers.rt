@@ -5,12 +5,12 @@ use irtext_base::parsable::{CharStream, ParseFault, TextStream};
 use irtext_read::irfmt::parsers::{
     FromStrRadix, bool_parse, hex_int_parse, int_parse, number_as_string_parse,
 };
-use irtext_types::{Note, Pointer};
+use irtext_types::{DemoAttr, DemoType};
 use pliron_text::parsable::{Parsable, State, StateStream};
 use std::test::Fail;
 
 /// A fault's place and cause, behind `!` where it is committed.
-fn refused(rt: &HostRuntime, fault: ParseFault<Note>) -> Result<String, Fail> {
+fn refused(rt: &HostRuntime, fault: ParseFault<DemoAttr>) -> Result<String, Fail> {
     let at = fault.pos;
     let mark = if fault.committed { "! " } else { "" };
     Ok(format!(in rt.alloc(); "{mark}{at}: {}", fault.cause)?)
@@ -24,7 +24,7 @@ fn numbers_in_eight_bits(rt: HostRuntime) -> Result<(), Fail> {
         ("-129", "! line: 1, column: 1: Number out of range: -129"),
     ] {
         let mut stream = TextStream::new(rt.alloc(), text)?;
-        let told = match int_parse::<TextStream, i8, Note>(&mut stream) {
+        let told = match int_parse::<TextStream, i8, DemoAttr>(&mut stream) {
             Ok(value) => format!(in rt.alloc(); "{value}")?,
             Err(fault) => refused(&rt, fault)?,
         };
@@ -46,13 +46,13 @@ fn no_number_of_its_type(rt: HostRuntime) -> Result<(), Fail> {
         ),
     ] {
         let mut stream = TextStream::new(rt.alloc(), text)?;
-        let fault = int_parse::<TextStream, i32, Note>(&mut stream)
+        let fault = int_parse::<TextStream, i32, DemoAttr>(&mut stream)
             .err()
             .ok_or("accepted")?;
         assert_eq!(rt; refused(&rt, fault)?.as_str(), wanted);
     }
     let mut stream = TextStream::new(rt.alloc(), "-1")?;
-    let fault = int_parse::<TextStream, u32, Note>(&mut stream)
+    let fault = int_parse::<TextStream, u32, DemoAttr>(&mut stream)
         .err()
         .ok_or("accepted")?;
     assert_eq!(rt;
@@ -79,7 +79,7 @@ fn hexadecimal_numbers(rt: HostRuntime) -> Result<(), Fail> {
         ),
     ] {
         let mut stream = TextStream::new(rt.alloc(), text)?;
-        let told = match hex_int_parse::<TextStream, u64, Note>(&mut stream) {
+        let told = match hex_int_parse::<TextStream, u64, DemoAttr>(&mut stream) {
             Ok(value) => format!(in rt.alloc(); "{value}")?,
             Err(fault) => refused(&rt, fault)?,
         };
@@ -92,22 +92,22 @@ fn hexadecimal_numbers(rt: HostRuntime) -> Result<(), Fail> {
 fn hexadecimal_numbers_of_other_types(rt: HostRuntime) -> Result<(), Fail> {
     let mut stream = TextStream::new(rt.alloc(), "0x1234")?;
     assert_eq!(rt;
-        hex_int_parse::<TextStream, i64, Note>(&mut stream).ok(),
+        hex_int_parse::<TextStream, i64, DemoAttr>(&mut stream).ok(),
         Some(4660)
     );
     let mut stream = TextStream::new(rt.alloc(), "0xABCDEF")?;
     assert_eq!(rt;
-        hex_int_parse::<TextStream, usize, Note>(&mut stream).ok(),
+        hex_int_parse::<TextStream, usize, DemoAttr>(&mut stream).ok(),
         Some(11259375)
     );
     let mut stream = TextStream::new(rt.alloc(), "0xCAFE")?;
     assert_eq!(rt;
-        hex_int_parse::<TextStream, u32, Note>(&mut stream).ok(),
+        hex_int_parse::<TextStream, u32, DemoAttr>(&mut stream).ok(),
         Some(51966)
     );
     let mut stream = TextStream::new(rt.alloc(), "0x7f")?;
     assert_eq!(rt;
-        hex_int_parse::<TextStream, u8, Note>(&mut stream).ok(),
+        hex_int_parse::<TextStream, u8, DemoAttr>(&mut stream).ok(),
         Some(127)
     );
     Ok(())
@@ -116,7 +116,7 @@ fn hexadecimal_numbers_of_other_types(rt: HostRuntime) -> Result<(), Fail> {
 #[test]
 fn hexadecimal_numbers_out_of_range(rt: HostRuntime) -> Result<(), Fail> {
     let mut stream = TextStream::new(rt.alloc(), "0x100")?;
-    let fault = hex_int_parse::<TextStream, u8, Note>(&mut stream)
+    let fault = hex_int_parse::<TextStream, u8, DemoAttr>(&mut stream)
         .err()
         .ok_or("accepted")?;
     assert_eq!(rt;
@@ -124,7 +124,7 @@ fn hexadecimal_numbers_out_of_range(rt: HostRuntime) -> Result<(), Fail> {
         "! line: 1, column: 1: Number out of range: 0x100"
     );
     let mut stream = TextStream::new(rt.alloc(), "0x10000")?;
-    let fault = hex_int_parse::<TextStream, u16, Note>(&mut stream)
+    let fault = hex_int_parse::<TextStream, u16, DemoAttr>(&mut stream)
         .err()
         .ok_or("accepted")?;
     assert_eq!(rt;
@@ -160,7 +160,7 @@ fn numbers_as_text(rt: HostRuntime) -> Result<(), Fail> {
         ("x1", "line: 1, column: 1: Unexpected `x`, expected digit"),
     ] {
         let mut stream = TextStream::new(rt.alloc(), text)?;
-        let told = match number_as_string_parse::<TextStream, Note>(&mut stream) {
+        let told = match number_as_string_parse::<TextStream, DemoAttr>(&mut stream) {
             Ok(value) => value,
             Err(fault) => refused(&rt, fault)?,
         };
@@ -188,7 +188,7 @@ fn truth_values(rt: HostRuntime) -> Result<(), Fail> {
         ),
     ] {
         let mut stream = TextStream::new(rt.alloc(), text)?;
-        let told = match bool_parse::<TextStream, Note>(&mut stream) {
+        let told = match bool_parse::<TextStream, DemoAttr>(&mut stream) {
             Ok(value) => format!(in rt.alloc(); "{value}")?,
             Err(fault) => refused(&rt, fault)?,
         };
@@ -200,8 +200,8 @@ fn truth_values(rt: HostRuntime) -> Result<(), Fail> {
 #[test]
 fn a_refused_number_leaves_the_stream_failed(rt: HostRuntime) -> Result<(), Fail> {
     let mut stream = TextStream::new(rt.alloc(), "- 1")?;
-    assert!(rt; int_parse::<TextStream, i32, Note>(&mut stream).is_err());
-    let fault = bool_parse::<TextStream, Note>(&mut stream)
+    assert!(rt; int_parse::<TextStream, i32, DemoAttr>(&mut stream).is_err());
+    let fault = bool_parse::<TextStream, DemoAttr>(&mut stream)
         .err()
         .ok_or("accepted")?;
     assert_eq!(rt;
@@ -217,7 +217,7 @@ fn a_number_on_a_later_line(rt: HostRuntime) -> Result<(), Fail> {
     let _ = stream.take();
     let _ = stream.take();
     let _ = stream.take();
-    let fault = int_parse::<TextStream, i8, Note>(&mut stream)
+    let fault = int_parse::<TextStream, i8, DemoAttr>(&mut stream)
         .err()
         .ok_or("accepted")?;
     assert_eq!(rt;
@@ -264,7 +264,7 @@ fn numbers_in_a_radix(rt: HostRuntime) -> Result<(), Fail> {
 
 #[test]
 fn unsigned_numbers_with_a_context(rt: HostRuntime) -> Result<(), Fail> {
-    let mut ctx: Context<Pointer, Note> = Context::new(rt.alloc());
+    let mut ctx: Context<DemoType, DemoAttr> = Context::new(rt.alloc());
     let stream = TextStream::new(rt.alloc(), "+1+18446744073709551615+3+00065535+255true_a1")?;
     let state = State::new(&mut ctx, Source::InMemory, ());
     let mut s = StateStream { stream, state };
@@ -281,7 +281,7 @@ fn unsigned_numbers_with_a_context(rt: HostRuntime) -> Result<(), Fail> {
 
 #[test]
 fn signed_numbers_with_a_context(rt: HostRuntime) -> Result<(), Fail> {
-    let mut ctx: Context<Pointer, Note> = Context::new(rt.alloc());
+    let mut ctx: Context<DemoType, DemoAttr> = Context::new(rt.alloc());
     let stream = TextStream::new(rt.alloc(), "-1-0-3-9223372036854775808")?;
     let state = State::new(&mut ctx, Source::InMemory, ());
     let mut s = StateStream { stream, state };

@@ -1,5 +1,5 @@
 //! The printing state, its guards, and errors as texts.
-use irtext_types::{Note, Pointer};
+use irtext_types::{DemoAttr, DemoType};
 use pliron_text::base::{Context, Operation};
 use pliron_text::ir::OperationText;
 use pliron_text::location::{Location, Source};
@@ -42,7 +42,7 @@ fn too_deep_an_indentation_is_refused(rt: HostRuntime) -> Result<(), Fail> {
 
 #[test]
 fn a_limit_elides_regions(rt: HostRuntime) -> Result<(), Fail> {
-    let mut ctx: Context<Pointer, Note> = Context::new(rt.alloc());
+    let mut ctx: Context<DemoType, DemoAttr> = Context::new(rt.alloc());
     let root = parse_from_str(
         |s| Operation::top_level_parse(s),
         &mut ctx,
@@ -75,8 +75,8 @@ fn a_limit_elides_regions(rt: HostRuntime) -> Result<(), Fail> {
 
 #[test]
 fn errors_print_their_location(rt: HostRuntime) -> Result<(), Fail> {
-    let ctx: Context<Pointer, Note> = Context::new(rt.alloc());
-    let inner: Error<Note> = Error::from(fmt::Error);
+    let ctx: Context<DemoType, DemoAttr> = Context::new(rt.alloc());
+    let inner: Error<DemoAttr> = Error::from(fmt::Error);
     assert_eq!(rt;
         format!(in rt.alloc(); "{}", inner.disp(&ctx))?.as_str(),
         "Compilation error: invalid argument.\nan error occurred when formatting an argument"

@@ -1,7 +1,7 @@
 //! Quoted texts as they are read.
 use irtext_base::parsable::{CharStream, TextStream};
 use irtext_read::irfmt::parsers::quoted_string_parse;
-use irtext_types::{Note, Pointer};
+use irtext_types::{DemoAttr, DemoType};
 use pliron_text::base::Context;
 use pliron_text::location::Source;
 use pliron_text::parsable::{Parsable, State, StateStream};
@@ -10,7 +10,7 @@ use std::test::Fail;
 /// What `quoted_string_parse` answers to a text: the characters, or the fault with its place, behind `!` where it is committed.
 fn read(rt: &HostRuntime, text: &str) -> Result<String, Fail> {
     let mut stream = TextStream::new(rt.alloc(), text)?;
-    match quoted_string_parse::<TextStream, Note>(&mut stream) {
+    match quoted_string_parse::<TextStream, DemoAttr>(&mut stream) {
         Ok(text) => Ok(text),
         Err(fault) => {
             let at = fault.pos;
@@ -63,10 +63,10 @@ fn texts_in_quotation_marks(rt: HostRuntime) -> Result<(), Fail> {
 #[test]
 fn the_text_behind_is_left(rt: HostRuntime) -> Result<(), Fail> {
     let mut stream = TextStream::new(rt.alloc(), "x")?;
-    assert!(rt; quoted_string_parse::<TextStream, Note>(&mut stream).is_err());
+    assert!(rt; quoted_string_parse::<TextStream, DemoAttr>(&mut stream).is_err());
     assert_eq!(rt; stream.peek(), Some('x'));
     let mut stream = TextStream::new(rt.alloc(), "\"\\'\" x")?;
-    let text = quoted_string_parse::<TextStream, Note>(&mut stream)
+    let text = quoted_string_parse::<TextStream, DemoAttr>(&mut stream)
         .ok()
         .ok_or("refused")?;
     assert_eq!(rt; text.as_str(), "'");
@@ -76,11 +76,11 @@ fn the_text_behind_is_left(rt: HostRuntime) -> Result<(), Fail> {
 
 #[test]
 fn a_quoted_text_is_read_with_a_context(rt: HostRuntime) -> Result<(), Fail> {
-    let mut ctx: Context<Pointer, Note> = Context::new(rt.alloc());
+    let mut ctx: Context<DemoType, DemoAttr> = Context::new(rt.alloc());
     let stream = TextStream::new(rt.alloc(), "\"a\"")?;
     let state = State::new(&mut ctx, Source::InMemory, ());
     let mut s = StateStream { stream, state };
-    let text = <String as Parsable<Pointer, Note, ()>>::parse(&mut s, ())
+    let text = <String as Parsable<DemoType, DemoAttr, ()>>::parse(&mut s, ())
         .ok()
         .ok_or("refused")?;
     assert_eq!(rt; text.as_str(), "a");

@@ -1,5 +1,5 @@
 //! Roots that are read, one behind the other, and what a refusal leaves.
-use irtext_types::{Note, Pointer};
+use irtext_types::{DemoAttr, DemoType};
 use pliron_text::base::{Context, Operation, Ptr};
 use pliron_text::ir::{OperationParserConfig, OperationText};
 use pliron_text::irfmt::parsers::location;
@@ -14,7 +14,7 @@ use std::test::Fail;
 /// The text of a root.
 fn shown(
     rt: &HostRuntime,
-    ctx: &Context<Pointer, Note>,
+    ctx: &Context<DemoType, DemoAttr>,
     root: Ptr<Operation>,
 ) -> Result<String, Fail> {
     if !ctx.contains_operation(root) {
@@ -27,7 +27,7 @@ fn shown(
 fn roots_follow_each_other_on_one_stream(rt: HostRuntime) -> Result<(), Fail> {
     let text =
         "builtin.module @m {} !0 outlined_attributes: builtin.module @n {} !0 outlined_attributes:";
-    let mut ctx: Context<Pointer, Note> = Context::new(rt.alloc());
+    let mut ctx: Context<DemoType, DemoAttr> = Context::new(rt.alloc());
     let stream = TextStream::new(rt.alloc(), text)?;
     let state = State::new(&mut ctx, Source::InMemory, ());
     let mut s = StateStream { stream, state };
@@ -54,7 +54,7 @@ fn roots_follow_each_other_on_one_stream(rt: HostRuntime) -> Result<(), Fail> {
 
 #[test]
 fn a_mark_without_its_section_stays_in_the_state(rt: HostRuntime) -> Result<(), Fail> {
-    let mut ctx: Context<Pointer, Note> = Context::new(rt.alloc());
+    let mut ctx: Context<DemoType, DemoAttr> = Context::new(rt.alloc());
     let state = State::new(&mut ctx, Source::InMemory, ());
     let mut s = state_stream_from_iterator(
         "builtin.module @m {} !0 builtin.module @n {} !0".chars(),
@@ -63,11 +63,11 @@ fn a_mark_without_its_section_stays_in_the_state(rt: HostRuntime) -> Result<(), 
     let alone = OperationParserConfig {
         look_for_outlined_attrs: false,
     };
-    let _ = <Operation as Parsable<Pointer, Note, ()>>::parse(&mut s, alone)
+    let _ = <Operation as Parsable<DemoType, DemoAttr, ()>>::parse(&mut s, alone)
         .ok()
         .ok_or("refused")?;
     assert!(rt; s.state.has_marks());
-    let refused = <Operation as Parsable<Pointer, Note, ()>>::parse(&mut s, alone)
+    let refused = <Operation as Parsable<DemoType, DemoAttr, ()>>::parse(&mut s, alone)
         .err()
         .ok_or("accepted")?;
     assert_eq!(rt;
@@ -83,7 +83,7 @@ fn a_mark_without_its_section_stays_in_the_state(rt: HostRuntime) -> Result<(), 
 
 #[test]
 fn a_refusal_leaves_what_stood(rt: HostRuntime) -> Result<(), Fail> {
-    let mut ctx: Context<Pointer, Note> = Context::new(rt.alloc());
+    let mut ctx: Context<DemoType, DemoAttr> = Context::new(rt.alloc());
     let stands = parse_from_str(
         |s| Operation::top_level_parse(s),
         &mut ctx,

@@ -1,5 +1,5 @@
 //! Plain values, separators, quoted texts and stored printers as texts, and the printing state's guards.
-use irtext_types::{Note, Pointer};
+use irtext_types::{DemoAttr, DemoType};
 use pliron_text::base::Context;
 use pliron_text::irfmt::printers::{enclosed, iter_with_sep_by, printable_from_fn, quoted};
 use pliron_text::printable::{
@@ -11,7 +11,7 @@ use std::test::Fail;
 /// Appends a number.
 fn fmt_number(
     number: &u64,
-    _ctx: &Context<Pointer, Note>,
+    _ctx: &Context<DemoType, DemoAttr>,
     _state: &mut State<()>,
     f: &mut String,
 ) -> fmt::Result {
@@ -21,7 +21,7 @@ fn fmt_number(
 
 /// The numbers with a separator between each two, under one indent.
 fn listed(rt: &HostRuntime, numbers: &[u64], separator: ListSeparator) -> Result<String, Fail> {
-    let ctx: Context<Pointer, Note> = Context::new(rt.alloc());
+    let ctx: Context<DemoType, DemoAttr> = Context::new(rt.alloc());
     let list = iter_with_sep_by(numbers.iter(), separator, fmt_number);
     let mut state = State::new(rt.alloc(), ());
     let mut text = String::new(rt.alloc());
@@ -34,7 +34,7 @@ fn listed(rt: &HostRuntime, numbers: &[u64], separator: ListSeparator) -> Result
 
 /// A separator under one indent, a bar, and the separator under none.
 fn shown(rt: &HostRuntime, separator: ListSeparator) -> Result<String, Fail> {
-    let ctx: Context<Pointer, Note> = Context::new(rt.alloc());
+    let ctx: Context<DemoType, DemoAttr> = Context::new(rt.alloc());
     let mut state = State::new(rt.alloc(), ());
     let guard = state.indent().ok().ok_or("too deep")?;
     let text = format!(in rt.alloc();
@@ -47,7 +47,7 @@ fn shown(rt: &HostRuntime, separator: ListSeparator) -> Result<String, Fail> {
 
 #[test]
 fn plain_values_print_themselves(rt: HostRuntime) -> Result<(), Fail> {
-    let ctx: Context<Pointer, Note> = Context::new(rt.alloc());
+    let ctx: Context<DemoType, DemoAttr> = Context::new(rt.alloc());
     let plain = format!(in rt.alloc(); "{} {}", (-1i8).disp(&ctx), (&"a\"b").disp(&ctx))?;
     assert_eq!(rt; plain.as_str(), "-1 a\"b");
     Ok(())
@@ -101,7 +101,7 @@ fn items_are_separated(rt: HostRuntime) -> Result<(), Fail> {
 
 #[test]
 fn a_text_stands_between_two_others(rt: HostRuntime) -> Result<(), Fail> {
-    let ctx: Context<Pointer, Note> = Context::new(rt.alloc());
+    let ctx: Context<DemoType, DemoAttr> = Context::new(rt.alloc());
     let inside = enclosed("<", ">", quoted("a"));
     let text = format!(in rt.alloc(); "{}", inside.disp(&ctx))?;
     assert_eq!(rt; text.as_str(), "<\"a\">");
@@ -110,8 +110,8 @@ fn a_text_stands_between_two_others(rt: HostRuntime) -> Result<(), Fail> {
 
 #[test]
 fn a_stored_closure_changes_the_lent_state(rt: HostRuntime) -> Result<(), Fail> {
-    let ctx: Context<Pointer, Note> = Context::new(rt.alloc());
-    let printer = printable_from_fn(|_ctx: &Context<Pointer, Note>, state: &mut State<
+    let ctx: Context<DemoType, DemoAttr> = Context::new(rt.alloc());
+    let printer = printable_from_fn(|_ctx: &Context<DemoType, DemoAttr>, state: &mut State<
         (),
     >, f: &mut String| -> fmt::Result {
         state.set_indent_width(4);
@@ -152,7 +152,7 @@ fn a_guard_gives_back_the_limit_of_its_entry(rt: HostRuntime) -> Result<(), Fail
 
 #[test]
 fn a_newline_has_the_indentation_of_its_making(rt: HostRuntime) -> Result<(), Fail> {
-    let ctx: Context<Pointer, Note> = Context::new(rt.alloc());
+    let ctx: Context<DemoType, DemoAttr> = Context::new(rt.alloc());
     let mut state = State::new(rt.alloc(), ());
     {
         let guard = state.indent().ok().ok_or("too deep")?;

@@ -8,17 +8,17 @@ use irtext_read::irfmt::parsers::{
     Class, i32_parse, id_parse, identifier_parse, skip_class, skip_white_space, text_parse,
     usize_parse,
 };
-use irtext_types::Note;
+use irtext_types::DemoAttr;
 use std::test::Fail;
 
 /// The text of a fault's cause, with its place.
-fn told(rt: &HostRuntime, fault: &ParseFault<Note>) -> Result<String, Fail> {
+fn told(rt: &HostRuntime, fault: &ParseFault<DemoAttr>) -> Result<String, Fail> {
     let at = fault.pos;
     Ok(format!(in rt.alloc(); "{at}: {}", fault.cause)?)
 }
 
 /// The fault of an answer that is one.
-fn fault_of<X: Drop>(answer: ParseResult<X, Note>) -> Result<ParseFault<Note>, Fail> {
+fn fault_of<X: Drop>(answer: ParseResult<X, DemoAttr>) -> Result<ParseFault<DemoAttr>, Fail> {
     match answer {
         Ok(_) => Err(Fail::from("accepted")),
         Err(fault) => Ok(fault),
@@ -56,7 +56,7 @@ fn a_stream_counts_lines_and_characters(rt: HostRuntime) -> Result<(), Fail> {
 fn a_failed_stream_refuses_each_reader(rt: HostRuntime) -> Result<(), Fail> {
     let mut stream = TextStream::new(rt.alloc(), "x")?;
     stream.fail();
-    let fault = fault_of(identifier_parse::<TextStream, Note>(&mut stream))?;
+    let fault = fault_of(identifier_parse::<TextStream, DemoAttr>(&mut stream))?;
     assert!(rt; fault.committed);
     assert_eq!(rt;
         told(&rt, &fault)?.as_str(),
@@ -69,28 +69,28 @@ fn a_failed_stream_refuses_each_reader(rt: HostRuntime) -> Result<(), Fail> {
 fn words_and_fixed_texts(rt: HostRuntime) -> Result<(), Fail> {
     let mut stream = TextStream::new(rt.alloc(), " \t_a1 builtin.module ->x")?;
     skip_white_space(&mut stream);
-    let name = identifier_parse::<TextStream, Note>(&mut stream)
+    let name = identifier_parse::<TextStream, DemoAttr>(&mut stream)
         .ok()
         .ok_or("refused")?;
     assert_eq!(rt; name.as_str(), "_a1");
     skip_class(&mut stream, Class::WhiteSpace);
-    let id = id_parse::<TextStream, Note>(&mut stream)
+    let id = id_parse::<TextStream, DemoAttr>(&mut stream)
         .ok()
         .ok_or("refused")?;
     assert_eq!(rt; format!(in rt.alloc(); "{id}")?.as_str(), "builtin.module");
     skip_white_space(&mut stream);
     assert!(rt; next_is(&stream, '-'));
     assert!(rt; !begins(&stream, Class::Beginning));
-    text_parse::<TextStream, Note>(&mut stream, "->")
+    text_parse::<TextStream, DemoAttr>(&mut stream, "->")
         .ok()
         .ok_or("refused")?;
-    let fault = fault_of(text_parse::<TextStream, Note>(&mut stream, "y"))?;
+    let fault = fault_of(text_parse::<TextStream, DemoAttr>(&mut stream, "y"))?;
     assert!(rt; !fault.committed);
     assert_eq!(rt;
         told(&rt, &fault)?.as_str(),
         "line: 1, column: 24: Unexpected `x`, expected `y`"
     );
-    let fault = fault_of(text_parse::<TextStream, Note>(&mut stream, "xy"))?;
+    let fault = fault_of(text_parse::<TextStream, DemoAttr>(&mut stream, "xy"))?;
     assert!(rt; fault.committed);
     assert_eq!(rt;
         told(&rt, &fault)?.as_str(),
@@ -102,7 +102,7 @@ fn words_and_fixed_texts(rt: HostRuntime) -> Result<(), Fail> {
 /// What `usize_parse` answers to a text, as a text.
 fn index(rt: &HostRuntime, text: &str) -> Result<String, Fail> {
     let mut stream = TextStream::new(rt.alloc(), text)?;
-    match usize_parse::<TextStream, Note>(&mut stream) {
+    match usize_parse::<TextStream, DemoAttr>(&mut stream) {
         Ok(number) => Ok(format!(in rt.alloc(); "{number}")?),
         Err(fault) => told(rt, &fault),
     }
@@ -111,7 +111,7 @@ fn index(rt: &HostRuntime, text: &str) -> Result<String, Fail> {
 /// What `i32_parse` answers to a text, as a text.
 fn integer(rt: &HostRuntime, text: &str) -> Result<String, Fail> {
     let mut stream = TextStream::new(rt.alloc(), text)?;
-    match i32_parse::<TextStream, Note>(&mut stream) {
+    match i32_parse::<TextStream, DemoAttr>(&mut stream) {
         Ok(number) => Ok(format!(in rt.alloc(); "{number}")?),
         Err(fault) => told(rt, &fault),
     }
@@ -160,30 +160,30 @@ fn faults_are_committed_or_not(rt: HostRuntime) -> Result<(), Fail> {
     let mut stream = TextStream::new(rt.alloc(), "ab")?;
     let start = stream.position();
     let _ = stream.take();
-    let passed: ParseFault<Note> = pass(
+    let passed: ParseFault<DemoAttr> = pass(
         &stream,
         Cause::OwnText(String::from_str(rt.alloc(), "no")?),
     );
     assert!(rt; !passed.committed);
     assert_eq!(rt; told(&rt, &passed)?.as_str(), "line: 1, column: 2: no");
-    let missing: ParseFault<Note> = unexpected(&stream, Expected::Digit);
+    let missing: ParseFault<DemoAttr> = unexpected(&stream, Expected::Digit);
     let same = demanded(&mut stream, missing);
     assert!(rt; same.committed);
     assert_eq!(rt;
         told(&rt, &same)?.as_str(),
         "line: 1, column: 2: Unexpected `b`, expected digit"
     );
-    let fault: ParseFault<Note> = refuse(&mut stream, Cause::UnknownIndex(3));
+    let fault: ParseFault<DemoAttr> = refuse(&mut stream, Cause::UnknownIndex(3));
     assert_eq!(rt;
         told(&rt, &fault)?.as_str(),
         "line: 1, column: 2: No operation or block found for outline index: 3"
     );
-    let fault: ParseFault<Note> = refuse_at(&mut stream, start, Cause::DuplicateIndex(3));
+    let fault: ParseFault<DemoAttr> = refuse_at(&mut stream, start, Cause::DuplicateIndex(3));
     assert_eq!(rt;
         told(&rt, &fault)?.as_str(),
         "line: 1, column: 1: Duplicate outline index: 3"
     );
-    let value: ParseResult<u8, Note> = demand(&mut stream, Ok(7));
+    let value: ParseResult<u8, DemoAttr> = demand(&mut stream, Ok(7));
     assert_eq!(rt; value.ok(), Some(7));
     Ok(())
 }

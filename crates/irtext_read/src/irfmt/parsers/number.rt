@@ -37,7 +37,7 @@ fn append_digit(number: Option<usize>, digit: usize) -> Option<usize>
 
 /// Passes digits, as far as they go, and answers the number that they write, where it fits.
 #[tactic(auto, using(irtext_base::proofs::Along::fronts))]
-pub(crate) fn take_digits<S: CharStream>(stream: &mut S) -> Option<usize>
+pub fn take_digits<S: CharStream>(stream: &mut S) -> Option<usize>
     ensures value { result ≡ value_of (front is_ascii_digit (S.view stream.old).rest) }
     ensures takes { Takes S.view S.at (front is_ascii_digit (S.view stream.old).rest) (after is_ascii_digit (S.view stream.old).rest) stream.old stream.new }
 {
@@ -53,7 +53,7 @@ pub(crate) fn take_digits<S: CharStream>(stream: &mut S) -> Option<usize>
 }
 
 /// The fault of a number that doesn't fit and began at this place, which leaves the stream failed.
-pub(crate) fn out_of_range<S: CharStream, A>(stream: &mut S, place: Place) -> ParseFault<A>
+pub fn out_of_range<S: CharStream, A>(stream: &mut S, place: Place) -> ParseFault<A>
     requires { (passed taken : List ℕ) × (passed ++ taken ≡ (S.view stream.old).passed) × StandsBehind place passed }
     ensures cause { (passed taken : List ℕ) → passed ++ taken ≡ (S.view stream.old).passed → StandsBehind place passed →
         (fault_of result.cause ≡ Memory) ⊎ (fault_of result.cause ≡ NumberRange (encode_utf8_all taken)) }

@@ -1,0 +1,43 @@
+-- The texts of the demo attributes keep the law of texts.
+use Rattle.std.proofs.Common.{◌≡◌, true, false, ◌∷◌, [], ◌++◌, ◌==◌, drop, refl, sym, ◌∙◌, ap, codes, true≢false}
+use Rattle.irtext_base.specs.Text.{Text, begins, after_space, begins_word}
+use Rattle.irtext_base.specs.Reading.{keyword}
+use Rattle.irtext_base.specs.Answers.{Read, prefixed, mapped}
+use Rattle.irtext_base.specs.Own.{found, missing, standing, texts_of, Ends, Lawful, Unreserved}
+use Rattle.irtext_base.specs.Quoted.{quoted}
+use Rattle.irtext_read.specs.QuotedTexts.{quoted_at}
+use Rattle.irtext_read.proofs.QuotedBack.{quoted_back}
+use Rattle.irtext_types.specs.Words.{behind_space}
+use Rattle.irtext_types.specs.Attributes.{attr_text, attr_behind, attr_at}
+use Rattle.irtext_types.specs.TypesBack.{behind_one, dotted_missed}
+use Rattle.irtext_types.specs.declared.attributes.DemoAttr.{DemoAttr}
+use Rattle.irtext_types.specs.declared.attributes.DemoAttr.TheVariants as attr
+
+attributes_start : (x : DemoAttr) (rest : Text) → begins begins_word (attr_text x ++ rest) ≡ true
+attributes_start (attr.String text) rest = refl
+attributes_start (attr.Debug text) rest = refl
+
+attributes_miss : (text : Text) → begins begins_word text ≡ false → standing (attr_at text) ≡ missing
+attributes_miss text e = dotted_missed attr_behind (begins begins_word text) _ _ e
+
+-- a quoted text is read back behind a space
+quoted-behind : (cs rest : Text) → behind_space quoted_at (32 ∷ (quoted cs ++ rest)) ≡ Read cs (32 ∷ quoted cs) rest
+quoted-behind cs rest = behind_one quoted_at (quoted cs ++ rest) refl ∙ ap (prefixed (32 ∷ [])) (quoted_back cs rest)
+
+attributes_again : (x : DemoAttr) (rest : Text) → Ends rest → (left : Text) × (standing (attr_at (attr_text x ++ rest)) ≡ found x left) × (after_space left ≡ after_space rest)
+attributes_again (attr.String cs) rest e = (rest, ap (λ o. standing (prefixed (codes "builtin.string") (mapped attr.String o))) (quoted-behind cs rest), refl)
+attributes_again (attr.Debug cs) rest e = (rest, ap (λ o. standing (prefixed (codes "test.dbg") (mapped attr.Debug o))) (quoted-behind cs rest), refl)
+
+pub attr_lawful : Lawful DemoAttr (texts_of attr_at attr_text)
+attr_lawful = record { starts = attributes_start; misses = attributes_miss; again = attributes_again }
+
+no_given_names : (a : DemoAttr) (rest left : Text) → keyword (codes "builtin.given_names") (attr_text a ++ rest) left → ⊥
+no_given_names (attr.String text) rest left k = true≢false (ap (λ t. begins (λ c. c == 103) (drop 8 t)) (sym k.0))
+no_given_names (attr.Debug text) rest left k = true≢false (ap (begins (λ c. c == 98)) (sym k.0))
+
+no_identifier : (a : DemoAttr) (rest left : Text) → keyword (codes "builtin.identifier") (attr_text a ++ rest) left → ⊥
+no_identifier (attr.String text) rest left k = true≢false (ap (λ t. begins (λ c. c == 105) (drop 8 t)) (sym k.0))
+no_identifier (attr.Debug text) rest left k = true≢false (ap (begins (λ c. c == 98)) (sym k.0))
+
+pub attr_unreserved : Unreserved DemoAttr (texts_of attr_at attr_text)
+attr_unreserved = record { given_names = no_given_names; identifier = no_identifier }

@@ -1,0 +1,36 @@
+-- The texts of the demo attributes.
+use Rattle.std.specs.Prelude.{Bool, true, false, cond, Option, Some, None, ◌++◌, codes}
+use Rattle.std.specs.Str.{bytes_eq}
+use Rattle.irtext_base.specs.Text.{Text}
+use Rattle.irtext_base.specs.Faults.{AnAttribute}
+use Rattle.irtext_base.specs.Quoted.{quoted}
+use Rattle.irtext_base.specs.Answers.{Outcome, mapped, followed}
+use Rattle.irtext_read.specs.QuotedTexts.{quoted_at}
+use Rattle.irtext_types.specs.Words.{dotted_at, behind_space}
+use Rattle.irtext_types.specs.declared.attributes.AttrWord.{AttrWord}
+use Rattle.irtext_types.specs.declared.attributes.AttrWord.TheVariants as word
+use Rattle.irtext_types.specs.declared.attributes.DemoAttr.{DemoAttr}
+use Rattle.irtext_types.specs.declared.attributes.DemoAttr.TheVariants as attr
+
+-- the word of an attribute that a text is
+abbrev pub attr_word : Text → Option AttrWord
+attr_word text = cond (bytes_eq text (codes "builtin.string")) (Some word.String) (cond (bytes_eq text (codes "test.dbg")) (Some word.Debug) None)
+
+-- the text that is written of an attribute
+abbrev pub attr_text : DemoAttr → Text
+attr_text (attr.String text) = codes "builtin.string " ++ quoted text
+attr_text (attr.Debug text) = codes "test.dbg " ++ quoted text
+
+-- what stands behind the word of an attribute
+abbrev pub attr_behind : AttrWord → Text → Outcome DemoAttr
+attr_behind word.String text = mapped attr.String (behind_space quoted_at text)
+attr_behind word.Debug text = mapped attr.Debug (behind_space quoted_at text)
+
+-- an attribute's word, and what stands behind it
+abbrev pub attr_at : Text → Outcome DemoAttr
+attr_at text = followed (dotted_at attr_word (codes "Unregistered attribute ") AnAttribute text) attr_behind
+
+-- only notes are outlined, and printed once
+abbrev pub is_debug : DemoAttr → Bool
+is_debug (attr.Debug text) = true
+is_debug _ = false

@@ -1,0 +1,47 @@
+-- The texts of integer types.
+use Rattle.std.specs.Prelude.{ℕ, cond, Option, Some, None, ◌++◌, codes, decimal}
+use Rattle.std.specs.Char.{is_ascii_digit}
+use Rattle.irtext_base.specs.Text.{Text, begins, front, after}
+use Rattle.irtext_base.specs.Reading.{the}
+use Rattle.irtext_base.specs.Stream.{first_of}
+use Rattle.irtext_base.specs.Faults.{AType, ADigit, Unexpected}
+use Rattle.irtext_base.specs.Answers.{Outcome, Missing, mapped, followed}
+use Rattle.irtext_read.specs.Tokens.{text_at, value_of}
+use Rattle.irtext_read.specs.Integers.{ranged}
+use Rattle.irtext_types.specs.WidthOf.{width_of}
+use Rattle.irtext_types.specs.declared.width.Width.{Width}
+use Rattle.irtext_types.specs.declared.integer_type.Signedness.{Signedness}
+use Rattle.irtext_types.specs.declared.integer_type.Signedness.TheVariants.{Signed, Unsigned, Signless}
+use Rattle.irtext_types.specs.declared.integer_type.IntegerType.{IntegerType}
+
+-- the word of a sign
+abbrev pub signedness_text : Signedness → Text
+signedness_text Signed = codes "si"
+signedness_text Unsigned = codes "ui"
+signedness_text Signless = codes "i"
+
+-- the text that is written: the sign's word, and the width without leading zeros
+abbrev pub integer_type_text : IntegerType → Text
+integer_type_text t = signedness_text t.kind ++ decimal t.width.bits
+
+-- a sign's word
+abbrev pub signedness_at : Text → Outcome Signedness
+signedness_at text = cond (begins (the 115) text) (mapped (λ u. Signed) (text_at (codes "si") text)) (cond (begins (the 117) text) (mapped (λ u. Unsigned) (text_at (codes "ui") text))
+    (cond (begins (the 105) text) (mapped (λ u. Signless) (text_at (codes "i") text)) (Missing (Unexpected (first_of text) AType))))
+
+-- the width of a number that fits 64 bits or doesn't, where that is one
+abbrev pub width_if : Option ℕ → Option Width
+width_if None = None
+width_if (Some n) = width_of n
+
+-- decimal digits that write a width, as far as they go
+abbrev pub width_at : Text → Outcome Width
+width_at text = cond (begins is_ascii_digit text) (ranged (front is_ascii_digit text) (after is_ascii_digit text) (width_if (value_of (front is_ascii_digit text)))) (Missing (Unexpected (first_of text) ADigit))
+
+-- the type of a sign and a width
+abbrev pub integer_type_with : Signedness → Width → IntegerType
+integer_type_with kind width = record { kind = kind; width = width }
+
+-- a sign's word and a width, with nothing between
+abbrev pub integer_type_at : Text → Outcome IntegerType
+integer_type_at text = followed (signedness_at text) (λ kind text. mapped (integer_type_with kind) (width_at text))

@@ -1,0 +1,30 @@
+-- The texts of the demo types.
+use Rattle.std.specs.Prelude.{cond, Option, Some, None, [], ◌++◌, codes}
+use Rattle.std.specs.Str.{bytes_eq}
+use Rattle.irtext_base.specs.Text.{Text}
+use Rattle.irtext_base.specs.Faults.{AType}
+use Rattle.irtext_base.specs.Answers.{Outcome, Read, mapped, followed}
+use Rattle.irtext_types.specs.Words.{dotted_at, behind_space}
+use Rattle.irtext_types.specs.IntegerTypes.{integer_type_text, integer_type_at}
+use Rattle.irtext_types.specs.declared.types.TypeWord.{TypeWord}
+use Rattle.irtext_types.specs.declared.types.TypeWord.TheVariants as word
+use Rattle.irtext_types.specs.declared.types.DemoType.{DemoType}
+use Rattle.irtext_types.specs.declared.types.DemoType.TheVariants.{Integer, Pointer}
+
+-- the word of a type that a text is
+abbrev pub type_word : Text → Option TypeWord
+type_word text = cond (bytes_eq text (codes "builtin.integer")) (Some word.Integer) (cond (bytes_eq text (codes "test.ptr")) (Some word.Pointer) None)
+
+-- the text that is written of a type
+abbrev pub type_text : DemoType → Text
+type_text (Integer t) = codes "builtin.integer " ++ integer_type_text t
+type_text Pointer = codes "test.ptr "
+
+-- what stands behind the word of a type
+abbrev pub type_behind : TypeWord → Text → Outcome DemoType
+type_behind word.Integer text = mapped Integer (behind_space integer_type_at text)
+type_behind word.Pointer text = Read Pointer [] text
+
+-- a type's word, and what stands behind it
+abbrev pub type_at : Text → Outcome DemoType
+type_at text = followed (dotted_at type_word (codes "Unregistered type ") AType text) type_behind

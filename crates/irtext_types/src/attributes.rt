@@ -1,0 +1,151 @@
+//! The demo attributes: texts, and notes that are printed in the section behind a root.
+ghost use Rattle.std.specs.Prelude.{◌≡◌, ◌++◌, OnOk, string_bytes};
+ghost use Rattle.std.specs.Str.{encode_utf8_all};
+ghost use Rattle.irtext_base.specs.Answers.{Answers, unless_failed};
+ghost use Rattle.irtext_base.specs.Quoted.{quoted};
+ghost use Rattle.irtext_read.specs.QuotedTexts.{quoted_at};
+ghost use Rattle.irtext_types.specs.Attributes.{attr_behind};
+ghost use Rattle.irtext_types.specs.Words.{behind_space};
+
+use crate::characters::Characters;
+use crate::words::{DottedWord, dotted_parse};
+use irtext_base::parsable::{ParseResult, TextStream};
+use irtext_base::result::{Cause, Expected};
+use irtext_base::text::{AttrText, IrText};
+use irtext_read::irfmt::faults::{demand, refuse};
+use irtext_read::irfmt::parsers::{quoted_string_parse, skip_white_space};
+use pliron_text::printable::fmt_quoted;
+use std::alloc::AllocError;
+use std::fmt;
+
+/// A demo attribute.
+#[derive(PartialEq, Eq, Hash, Debug, Drop)]
+pub enum DemoAttr {
+    /// Printed as `builtin.string "S"`.
+    String(Characters),
+    /// Printed as `test.dbg "S"`, once, in the section behind the root.
+    Debug(Characters),
+}
+
+/// The words that demo attributes begin with.
+#[derive(Clone, Copy)]
+pub enum AttrWord {
+    /// `builtin.string`.
+    String,
+    /// `test.dbg`.
+    Debug,
+}
+
+impl DottedWord for AttrWord {
+    ghost use Rattle.irtext_types.specs.Attributes.{attr_word};
+
+    ghost word = { attr_word };
+
+    fn of(text: &str) -> Option<AttrWord> {
+        if text == "builtin.string" {
+            return Some(AttrWord::String);
+        }
+        if text == "test.dbg" {
+            return Some(AttrWord::Debug);
+        }
+        None
+    }
+}
+
+/// Reads a quoted text.
+fn characters_parse<A>(stream: &mut TextStream) -> ParseResult<Characters, A>
+    ensures { Answers (λ s. s) (λ s v. v) (λ c. c) (unless_failed stream.old.failed (quoted_at stream.old.rest)) stream.old result stream.new }
+{
+    match quoted_string_parse(stream) {
+        Ok(text) => Ok(Characters::new(text)),
+        Err(fault) => Err(fault),
+    }
+}
+
+/// Reads a quoted text behind white space, where it must stand.
+fn characters_behind<A>(stream: &mut TextStream) -> ParseResult<Characters, A>
+    ensures { Answers (λ s. s) (λ s v. v) (λ c. c) (unless_failed stream.old.failed (behind_space quoted_at stream.old.rest)) stream.old result stream.new }
+{
+    if stream.has_failed() {
+        return Err(refuse(stream, Cause::StreamFailed));
+    }
+    skip_white_space(stream);
+    let found = characters_parse(stream);
+    demand(stream, found)
+}
+
+/// Reads what stands behind the word of an attribute.
+fn attr_parse<A>(stream: &mut TextStream, word: AttrWord) -> ParseResult<DemoAttr, A>
+    ensures { Answers (λ s. s) (λ s v. v) (λ a. a) (unless_failed stream.old.failed (attr_behind word stream.old.rest)) stream.old result stream.new }
+{
+    match word {
+        AttrWord::String => match characters_behind(stream) {
+            Ok(text) => Ok(DemoAttr::String(text)),
+            Err(fault) => Err(fault),
+        },
+        AttrWord::Debug => match characters_behind(stream) {
+            Ok(text) => Ok(DemoAttr::Debug(text)),
+            Err(fault) => Err(fault),
+        },
+    }
+}
+
+/// Appends a word and a quoted text.
+fn write_quoted(word: &str, text: &Characters, f: &mut String) -> fmt::Result
+    ensures { OnOk result (string_bytes f.new ≡ string_bytes f.old ++ (word.now ++ encode_utf8_all (quoted text.now))) }
+{
+    f.push_str(word)?;
+    fmt_quoted(text.as_str(), f)?;
+    Ok(())
+}
+
+impl IrText<DemoAttr> for DemoAttr {
+    ghost use Rattle.irtext_types.specs.Attributes.{attr_at, attr_text};
+    ghost use Rattle.irtext_types.specs.AttributeLaws.{attr_lawful};
+
+    ghost reading = { attr_at };
+
+    ghost written = { attr_text };
+
+    ghost lawful = { attr_lawful };
+
+    fn read(stream: &mut TextStream) -> ParseResult<DemoAttr, DemoAttr> {
+        match dotted_parse(stream, "Unregistered attribute ", Expected::Attribute) {
+            Ok(word) => attr_parse(stream, word),
+            Err(fault) => Err(fault),
+        }
+    }
+
+    fn write_text(&self, f: &mut String) -> fmt::Result {
+        match self {
+            DemoAttr::String(text) => write_quoted("builtin.string ", text, f),
+            DemoAttr::Debug(text) => write_quoted("test.dbg ", text, f),
+        }
+    }
+}
+
+impl AttrText for DemoAttr {
+    ghost use Rattle.irtext_types.specs.Attributes.{is_debug};
+    ghost use Rattle.irtext_types.specs.AttributeLaws.{attr_unreserved};
+
+    ghost outlined = { is_debug };
+
+    ghost print_once = { is_debug };
+
+    ghost unreserved = { attr_unreserved };
+
+    fn is_outlined(&self) -> bool {
+        matches!(self, DemoAttr::Debug(_))
+    }
+
+    fn is_print_once(&self) -> bool {
+        matches!(self, DemoAttr::Debug(_))
+    }
+
+    fn try_clone(&self) -> Result<DemoAttr, AllocError> {
+        match self {
+            DemoAttr::String(text) => Ok(DemoAttr::String(text.try_clone()?)),
+            DemoAttr::Debug(text) => Ok(DemoAttr::Debug(text.try_clone()?)),
+        }
+    }
+}

@@ -1,0 +1,86 @@
+//! Texts that are seen as their characters.
+ghost use Rattle.std.specs.Prelude.{◌≡◌, IfOk, string_bytes};
+ghost use Rattle.std.specs.Cmp.{on_equiv, on_per, partial_equiv_from_equiv};
+ghost use Rattle.std.specs.Cmp.Lexicographic.{nat_list_eq_equiv};
+ghost use Rattle.std.specs.Cmp.Rules.{hashing};
+ghost use Rattle.std.specs.Hash as fed;
+ghost use Rattle.std.specs.Str.{bytes_eq, chars, encode_utf8_all};
+ghost use Rattle.std.proofs.Common.{rules};
+
+use std::alloc::AllocError;
+use std::fmt;
+use std::hash::{Hash, Hasher};
+use std::marker::Model;
+
+/// A text of its own. It equals another one where both have the same characters.
+#[derive(Drop)]
+pub struct Characters {
+    text: String,
+}
+
+impl Model for Characters {
+    ghost use Rattle.std.specs.Prelude.{ℕ, List, string_bytes};
+    ghost use Rattle.std.specs.Coded.{coded_list, coded_ℕ};
+    ghost use Rattle.std.specs.Str.{chars};
+
+    ghost Value = { List ℕ };
+
+    ghost coded = { coded_list coded_ℕ };
+
+    ghost view = { λ c. chars (string_bytes c.text) };
+}
+
+impl Characters {
+    /// The characters of a text, which is kept.
+    pub fn new(text: String) -> Characters
+        ensures { result ≡ chars (string_bytes text) }
+    {
+        Characters { text }
+    }
+
+    /// The text.
+    pub fn as_str(&self) -> &str
+        ensures characters { chars result.now ≡ self.now }
+        ensures bytes { result.now ≡ encode_utf8_all self.now }
+    {
+        self.text.as_str()
+    }
+
+    /// A copy that equals the text. Only memory can be refused.
+    pub fn try_clone(&self) -> Result<Characters, AllocError>
+        ensures { IfOk result (λ copy. copy ≡ self.now) }
+    {
+        let text = self.text.clone()?;
+        Ok(Characters { text })
+    }
+}
+
+impl fmt::Debug for Characters {
+    fn fmt<W: fmt::Write>(&self, f: &mut fmt::Formatter<W>) -> fmt::Result {
+        f.write_str(self.as_str())
+    }
+}
+
+impl PartialEq for Characters {
+    ghost eq = { λ x y. bytes_eq (encode_utf8_all x) (encode_utf8_all y) };
+
+    ghost laws = { on_per encode_utf8_all (partial_equiv_from_equiv nat_list_eq_equiv) };
+
+    fn eq(&self, other: &Self) -> bool {
+        self.as_str() == other.as_str()
+    }
+}
+
+impl Eq for Characters {
+    ghost laws = { on_equiv encode_utf8_all nat_list_eq_equiv };
+}
+
+impl Hash for Characters {
+    ghost hash_input = { λ s. fed.str (encode_utf8_all s) };
+
+    ghost respects_eq = { Prim.search (hashing, rules) };
+
+    fn hash<H: Hasher>(&self, state: &mut H) {
+        self.as_str().hash(state);
+    }
+}

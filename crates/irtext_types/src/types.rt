@@ -1,0 +1,98 @@
+//! The demo types: integers and a pointer.
+ghost use Rattle.irtext_base.specs.Answers.{Answers, unless_failed};
+ghost use Rattle.irtext_types.specs.Types.{type_behind};
+
+use crate::integer_type::{IntegerType, integer_type_behind};
+use crate::words::{DottedWord, dotted_parse};
+use irtext_base::parsable::{ParseResult, TextStream};
+use irtext_base::result::{Cause, Expected};
+use irtext_base::text::IrText;
+use irtext_read::irfmt::faults::refuse;
+use std::fmt;
+
+/// A demo type.
+#[derive(Clone, Copy, PartialEq, Eq, Hash, Debug)]
+pub enum DemoType {
+    /// Printed as `builtin.integer W`, where W is the type's own text.
+    Integer(IntegerType),
+    /// Printed as `test.ptr ` with one space at its end; the word alone is read.
+    Pointer,
+}
+
+/// The words that demo types begin with.
+#[derive(Clone, Copy)]
+pub enum TypeWord {
+    /// `builtin.integer`.
+    Integer,
+    /// `test.ptr`.
+    Pointer,
+}
+
+impl DottedWord for TypeWord {
+    ghost use Rattle.irtext_types.specs.Types.{type_word};
+
+    ghost word = { type_word };
+
+    fn of(text: &str) -> Option<TypeWord> {
+        if text == "builtin.integer" {
+            return Some(TypeWord::Integer);
+        }
+        if text == "test.ptr" {
+            return Some(TypeWord::Pointer);
+        }
+        None
+    }
+}
+
+impl fmt::Display for DemoType {
+    ghost use Rattle.std.specs.Prelude.{Some};
+    ghost use Rattle.irtext_types.specs.Types.{type_text};
+
+    ghost output = { λ t. Some (type_text t) };
+
+    fn fmt<W: fmt::Write>(&self, f: &mut fmt::Formatter<W>) -> fmt::Result {
+        match self {
+            DemoType::Integer(ty) => write!(f, "builtin.integer {ty}"),
+            DemoType::Pointer => f.write_str("test.ptr "),
+        }
+    }
+}
+
+/// Reads what stands behind the word of a type.
+fn type_parse<A>(stream: &mut TextStream, word: TypeWord) -> ParseResult<DemoType, A>
+    ensures { Answers (λ s. s) (λ s v. v) (λ t. t) (unless_failed stream.old.failed (type_behind word stream.old.rest)) stream.old result stream.new }
+{
+    if stream.has_failed() {
+        return Err(refuse(stream, Cause::StreamFailed));
+    }
+    match word {
+        TypeWord::Integer => match integer_type_behind(stream) {
+            Ok(ty) => Ok(DemoType::Integer(ty)),
+            Err(fault) => Err(fault),
+        },
+        TypeWord::Pointer => Ok(DemoType::Pointer),
+    }
+}
+
+impl<A> IrText<A> for DemoType {
+    ghost use Rattle.irtext_types.specs.Types.{type_at, type_text};
+    ghost use Rattle.irtext_types.specs.TypeLaws.{type_lawful};
+
+    ghost reading = { type_at };
+
+    ghost written = { type_text };
+
+    ghost lawful = { type_lawful };
+
+    fn read(stream: &mut TextStream) -> ParseResult<DemoType, A> {
+        match dotted_parse(stream, "Unregistered type ", Expected::Type) {
+            Ok(word) => type_parse(stream, word),
+            Err(fault) => Err(fault),
+        }
+    }
+
+    fn write_text(&self, f: &mut String) -> fmt::Result {
+        write!(f, "{self}")?;
+        Ok(())
+    }
+}
