@@ -6,5 +6,8 @@ pub mod IntegerTypes
 pub mod Types
 pub mod TypesBack
 pub mod TypeLaws
+pub mod Integers64
+pub mod IntegerAttributes
+pub mod IntegersBack
 pub mod Attributes
 pub mod AttributeLaws

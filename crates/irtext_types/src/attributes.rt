@@ -1,12 +1,18 @@
-//! The demo attributes: texts, and notes that are printed in the section behind a root.
-ghost use Rattle.std.specs.Prelude.{◌≡◌, ◌++◌, OnOk, string_bytes};
+//! The demo attributes: integers with their type, texts, and notes that are printed in the section behind a root.
+ghost use Rattle.std.specs.Prelude.{◌≡◌, ◌++◌, OnOk, codes, string_bytes};
 ghost use Rattle.std.specs.Str.{encode_utf8_all};
 ghost use Rattle.irtext_base.specs.Answers.{Answers, unless_failed};
 ghost use Rattle.irtext_base.specs.Quoted.{quoted};
 ghost use Rattle.irtext_read.specs.QuotedTexts.{quoted_at};
 ghost use Rattle.irtext_types.specs.Attributes.{attr_behind};
+ghost use Rattle.irtext_types.specs.IntegerAttributes.{integer_attr_text};
 ghost use Rattle.irtext_types.specs.Words.{behind_space};
 
+pub mod integer;
+pub mod integer_text;
+
+use crate::attributes::integer::IntegerAttr;
+use crate::attributes::integer_text::integer_attr_parse;
 use crate::characters::Characters;
 use crate::words::{DottedWord, dotted_parse};
 use irtext_base::parsable::{ParseResult, TextStream};
@@ -21,6 +27,8 @@ use std::fmt;
 /// A demo attribute.
 #[derive(PartialEq, Eq, Hash, Debug, Drop)]
 pub enum DemoAttr {
+    /// Printed as `builtin.integer <N: W>`.
+    Integer(IntegerAttr),
     /// Printed as `builtin.string "S"`.
     String(Characters),
     /// Printed as `test.dbg "S"`, once, in the section behind the root.
@@ -30,6 +38,8 @@ pub enum DemoAttr {
 /// The words that demo attributes begin with.
 #[derive(Clone, Copy)]
 pub enum AttrWord {
+    /// `builtin.integer`.
+    Integer,
     /// `builtin.string`.
     String,
     /// `test.dbg`.
@@ -42,6 +52,9 @@ impl DottedWord for AttrWord {
     ghost word = { attr_word };
 
     fn of(text: &str) -> Option<AttrWord> {
+        if text == "builtin.integer" {
+            return Some(AttrWord::Integer);
+        }
         if text == "builtin.string" {
             return Some(AttrWord::String);
         }
@@ -79,6 +92,10 @@ fn attr_parse<A>(stream: &mut TextStream, word: AttrWord) -> ParseResult<DemoAtt
     ensures { Answers (λ s. s) (λ s v. v) (λ a. a) (unless_failed stream.old.failed (attr_behind word stream.old.rest)) stream.old result stream.new }
 {
     match word {
+        AttrWord::Integer => match integer_attr_parse(stream) {
+            Ok(attr) => Ok(DemoAttr::Integer(attr)),
+            Err(fault) => Err(fault),
+        },
         AttrWord::String => match characters_behind(stream) {
             Ok(text) => Ok(DemoAttr::String(text)),
             Err(fault) => Err(fault),
@@ -96,6 +113,14 @@ fn write_quoted(word: &str, text: &Characters, f: &mut String) -> fmt::Result
 {
     f.push_str(word)?;
     fmt_quoted(text.as_str(), f)?;
+    Ok(())
+}
+
+/// Appends an integer with its type, behind the word for it.
+fn write_integer(attr: &IntegerAttr, f: &mut String) -> fmt::Result
+    ensures { OnOk result (string_bytes f.new ≡ string_bytes f.old ++ (codes "builtin.integer " ++ integer_attr_text attr.now)) }
+{
+    write!(f, "builtin.integer {attr}")?;
     Ok(())
 }
 
@@ -118,6 +143,7 @@ impl IrText<DemoAttr> for DemoAttr {
 
     fn write_text(&self, f: &mut String) -> fmt::Result {
         match self {
+            DemoAttr::Integer(attr) => write_integer(attr, f),
             DemoAttr::String(text) => write_quoted("builtin.string ", text, f),
             DemoAttr::Debug(text) => write_quoted("test.dbg ", text, f),
         }
@@ -144,6 +170,7 @@ impl AttrText for DemoAttr {
 
     fn try_clone(&self) -> Result<DemoAttr, AllocError> {
         match self {
+            DemoAttr::Integer(attr) => Ok(DemoAttr::Integer(*attr)),
             DemoAttr::String(text) => Ok(DemoAttr::String(text.try_clone()?)),
             DemoAttr::Debug(text) => Ok(DemoAttr::Debug(text.try_clone()?)),
         }

@@ -9,6 +9,7 @@ pub mod width;
 pub mod words;
 
 pub use attributes::DemoAttr;
+pub use attributes::integer::IntegerAttr;
 pub use characters::Characters;
 pub use integer_type::{IntegerType, Signedness};
 pub use types::DemoType;

@@ -58,6 +58,19 @@ fn types(rt: HostRuntime) -> Result<(), Fail> {
 #[test]
 fn attributes(rt: HostRuntime) -> Result<(), Fail> {
     for (text, wanted) in [
+        (
+            "builtin.integer <-9223372036854775808: si64>",
+            "builtin.integer <-9223372036854775808: si64>",
+        ),
+        ("builtin.integer\n<+07 : i8 >x", "builtin.integer <7: i8>"),
+        (
+            "builtin.integer <9223372036854775808: si64>",
+            "! line: 1, column: 18: Number out of range: 9223372036854775808",
+        ),
+        (
+            "builtin.integer <1 i8>",
+            "! line: 1, column: 20: Unexpected `i`, expected `:`",
+        ),
         ("builtin.string\n\"a\\u{41}\"", "builtin.string \"aA\""),
         ("test.dbg \"\" x", "test.dbg \"\""),
         (

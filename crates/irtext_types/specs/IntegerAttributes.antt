@@ -1,0 +1,45 @@
+-- The texts of integers with their type.
+use Rattle.std.specs.Prelude.{◌≡◌, ℤ, pos, Bool, true, false, ◌++◌, codes, refl}
+use Rattle.std.specs.Fmt.{signed_decimal}
+use Rattle.irtext_base.specs.Text.{Text}
+use Rattle.irtext_base.specs.Answers.{Outcome, mapped, followed}
+use Rattle.irtext_read.specs.Tokens.{text_at}
+use Rattle.irtext_read.specs.Integers.{int_at, signed_below}
+use Rattle.irtext_types.specs.Words.{behind_space}
+use Rattle.irtext_types.specs.Integers64.{is_i64}
+use Rattle.irtext_types.specs.IntegerTypes.{integer_type_text, integer_type_at}
+use Rattle.irtext_types.specs.declared.integer_type.IntegerType.{IntegerType}
+use Rattle.irtext_types.specs.declared.attributes.integer.IntegerAttr.{IntegerAttr}
+
+-- the attribute of an integer and a type, where the test says whether the integer fits
+abbrev pub integer_attr_by : (z : ℤ) → IntegerType → (b : Bool) → is_i64 z ≡ b → IntegerAttr
+integer_attr_by z t true e = record { value = z; ty = t; in_range = e }
+integer_attr_by z t false e = record { value = pos 0; ty = t; in_range = refl }
+
+-- the attribute of an integer that fits and a type; 0 stands for one that doesn't fit, which is never read
+abbrev pub integer_attr_of : ℤ → IntegerType → IntegerAttr
+integer_attr_of z t = integer_attr_by z t (is_i64 z) refl
+
+-- the text that is written: the integer and its type
+abbrev pub integer_attr_text : IntegerAttr → Text
+integer_attr_text a = codes "<" ++ (signed_decimal a.value ++ (codes ": " ++ (integer_type_text a.ty ++ codes ">")))
+
+-- `>` behind the attribute's text
+abbrev pub close_at : IntegerAttr → Text → Outcome IntegerAttr
+close_at a text = mapped (λ u. a) (behind_space (text_at (codes ">")) text)
+
+-- the type of an integer, and `>`
+abbrev pub type_at : ℤ → Text → Outcome IntegerAttr
+type_at z text = followed (behind_space integer_type_at text) (λ t text. close_at (integer_attr_of z t) text)
+
+-- `:`, the type of an integer, and `>`
+abbrev pub colon_at : ℤ → Text → Outcome IntegerAttr
+colon_at z text = followed (behind_space (text_at (codes ":")) text) (λ u text. type_at z text)
+
+-- an integer, `:`, its type, and `>`
+abbrev pub value_at : Text → Outcome IntegerAttr
+value_at text = followed (behind_space (int_at (signed_below 64)) text) (λ z text. colon_at z text)
+
+-- `<`, an integer, `:`, its type, and `>`, with white space in front of each
+abbrev pub integer_attr_at : Text → Outcome IntegerAttr
+integer_attr_at text = followed (behind_space (text_at (codes "<")) text) (λ u text. value_at text)
