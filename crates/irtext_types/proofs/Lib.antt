@@ -3,3 +3,5 @@ pub mod TypeTexts
 pub mod IntegerTexts
 pub mod IntegersFit
 pub mod Quoted
+pub mod ListSteps
+pub mod FunctionTexts

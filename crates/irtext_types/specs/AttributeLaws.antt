@@ -9,6 +9,7 @@ use Rattle.irtext_read.specs.QuotedTexts.{quoted_at}
 use Rattle.irtext_read.proofs.QuotedBack.{quoted_back}
 use Rattle.irtext_types.specs.Words.{behind_space}
 use Rattle.irtext_types.specs.Attributes.{attr_text, attr_behind, attr_at}
+use Rattle.irtext_types.specs.FunctionsBack.{function-here}
 use Rattle.irtext_types.specs.IntegersBack.{integer_attr-here}
 use Rattle.irtext_types.specs.TypesBack.{behind_one, dotted_missed}
 use Rattle.irtext_types.specs.declared.attributes.DemoAttr.{DemoAttr}
@@ -17,6 +18,7 @@ use Rattle.irtext_types.specs.declared.attributes.DemoAttr.TheVariants as attr
 attributes_start : (x : DemoAttr) (rest : Text) → begins begins_word (attr_text x ++ rest) ≡ true
 attributes_start (attr.Integer a) rest = refl
 attributes_start (attr.String text) rest = refl
+attributes_start (attr.Function a) rest = refl
 attributes_start (attr.Debug text) rest = refl
 
 attributes_miss : (text : Text) → begins begins_word text ≡ false → standing (attr_at text) ≡ missing
@@ -29,6 +31,7 @@ quoted-behind cs rest = behind_one quoted_at (quoted cs ++ rest) refl ∙ ap (pr
 attributes_again : (x : DemoAttr) (rest : Text) → Ends rest → (left : Text) × (standing (attr_at (attr_text x ++ rest)) ≡ found x left) × (after_space left ≡ after_space rest)
 attributes_again (attr.Integer a) rest e = (rest, ap (λ o. standing (prefixed (codes "builtin.integer") (mapped attr.Integer o))) (integer_attr-here a rest).1, refl)
 attributes_again (attr.String cs) rest e = (rest, ap (λ o. standing (prefixed (codes "builtin.string") (mapped attr.String o))) (quoted-behind cs rest), refl)
+attributes_again (attr.Function a) rest e = (rest, ap (λ o. standing (prefixed (codes "builtin.function") (mapped attr.Function o))) (function-here a rest).1, refl)
 attributes_again (attr.Debug cs) rest e = (rest, ap (λ o. standing (prefixed (codes "test.dbg") (mapped attr.Debug o))) (quoted-behind cs rest), refl)
 
 pub attr_lawful : Lawful DemoAttr (texts_of attr_at attr_text)
@@ -37,11 +40,13 @@ attr_lawful = record { starts = attributes_start; misses = attributes_miss; agai
 no_given_names : (a : DemoAttr) (rest left : Text) → keyword (codes "builtin.given_names") (attr_text a ++ rest) left → ⊥
 no_given_names (attr.Integer a) rest left k = true≢false (ap (λ t. begins (λ c. c == 103) (drop 8 t)) (sym k.0))
 no_given_names (attr.String text) rest left k = true≢false (ap (λ t. begins (λ c. c == 103) (drop 8 t)) (sym k.0))
+no_given_names (attr.Function a) rest left k = true≢false (ap (λ t. begins (λ c. c == 103) (drop 8 t)) (sym k.0))
 no_given_names (attr.Debug text) rest left k = true≢false (ap (begins (λ c. c == 98)) (sym k.0))
 
 no_identifier : (a : DemoAttr) (rest left : Text) → keyword (codes "builtin.identifier") (attr_text a ++ rest) left → ⊥
 no_identifier (attr.Integer a) rest left k = true≢false (ap (λ t. begins (λ c. c == 100) (drop 9 t)) (sym k.0))
 no_identifier (attr.String text) rest left k = true≢false (ap (λ t. begins (λ c. c == 105) (drop 8 t)) (sym k.0))
+no_identifier (attr.Function a) rest left k = true≢false (ap (λ t. begins (λ c. c == 105) (drop 8 t)) (sym k.0))
 no_identifier (attr.Debug text) rest left k = true≢false (ap (begins (λ c. c == 98)) (sym k.0))
 
 pub attr_unreserved : Unreserved DemoAttr (texts_of attr_at attr_text)

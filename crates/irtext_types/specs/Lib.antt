@@ -6,8 +6,12 @@ pub mod IntegerTypes
 pub mod Types
 pub mod TypesBack
 pub mod TypeLaws
+pub mod TypeLists
 pub mod Integers64
 pub mod IntegerAttributes
 pub mod IntegersBack
+pub mod TypeListsBack
+pub mod FunctionAttributes
+pub mod FunctionsBack
 pub mod Attributes
 pub mod AttributeLaws

@@ -91,7 +91,7 @@ dotted_missed next b o cause e = rw e refl
 pub types_miss : (text : Text) → begins begins_word text ≡ false → standing (type_at text) ≡ missing
 types_miss text e = dotted_missed type_behind (begins begins_word text) _ _ e
 
-integer-here : (t : IntegerType) (rest : Text) → begins is_ascii_digit rest ≡ false → (taken : Text) × (type_at (codes "builtin.integer " ++ (integer_type_text t ++ rest)) ≡ Read (Integer t) taken rest)
+pub integer-here : (t : IntegerType) (rest : Text) → begins is_ascii_digit rest ≡ false → (taken : Text) × (type_at (codes "builtin.integer " ++ (integer_type_text t ++ rest)) ≡ Read (Integer t) taken rest)
 integer-here t rest stop = (
   codes "builtin.integer " ++ integer_type_text t,
   ap (λ o. prefixed (codes "builtin.integer") (mapped Integer o)) (behind_one integer_type_at (integer_type_text t ++ rest) (no_space t rest) ∙ ap (prefixed (32 ∷ [])) (integer_type-here t rest stop)),

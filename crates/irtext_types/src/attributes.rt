@@ -1,4 +1,4 @@
-//! The demo attributes: integers with their type, texts, and notes that are printed in the section behind a root.
+//! The demo attributes: integers with their type, texts, types of functions, and notes that are printed in the section behind a root.
 ghost use Rattle.std.specs.Prelude.{◌≡◌, ◌++◌, OnOk, codes, string_bytes};
 ghost use Rattle.std.specs.Str.{encode_utf8_all};
 ghost use Rattle.irtext_base.specs.Answers.{Answers, unless_failed};
@@ -8,9 +8,11 @@ ghost use Rattle.irtext_types.specs.Attributes.{attr_behind};
 ghost use Rattle.irtext_types.specs.IntegerAttributes.{integer_attr_text};
 ghost use Rattle.irtext_types.specs.Words.{behind_space};
 
+pub mod function;
 pub mod integer;
 pub mod integer_text;
 
+use crate::attributes::function::{FunctionAttr, function_parse, write_function};
 use crate::attributes::integer::IntegerAttr;
 use crate::attributes::integer_text::integer_attr_parse;
 use crate::characters::Characters;
@@ -31,6 +33,8 @@ pub enum DemoAttr {
     Integer(IntegerAttr),
     /// Printed as `builtin.string "S"`.
     String(Characters),
+    /// Printed as `builtin.function <(T, ..)->(T, ..)>`.
+    Function(FunctionAttr),
     /// Printed as `test.dbg "S"`, once, in the section behind the root.
     Debug(Characters),
 }
@@ -42,6 +46,8 @@ pub enum AttrWord {
     Integer,
     /// `builtin.string`.
     String,
+    /// `builtin.function`.
+    Function,
     /// `test.dbg`.
     Debug,
 }
@@ -57,6 +63,9 @@ impl DottedWord for AttrWord {
         }
         if text == "builtin.string" {
             return Some(AttrWord::String);
+        }
+        if text == "builtin.function" {
+            return Some(AttrWord::Function);
         }
         if text == "test.dbg" {
             return Some(AttrWord::Debug);
@@ -98,6 +107,10 @@ fn attr_parse<A>(stream: &mut TextStream, word: AttrWord) -> ParseResult<DemoAtt
         },
         AttrWord::String => match characters_behind(stream) {
             Ok(text) => Ok(DemoAttr::String(text)),
+            Err(fault) => Err(fault),
+        },
+        AttrWord::Function => match function_parse(stream) {
+            Ok(attr) => Ok(DemoAttr::Function(attr)),
             Err(fault) => Err(fault),
         },
         AttrWord::Debug => match characters_behind(stream) {
@@ -145,6 +158,7 @@ impl IrText<DemoAttr> for DemoAttr {
         match self {
             DemoAttr::Integer(attr) => write_integer(attr, f),
             DemoAttr::String(text) => write_quoted("builtin.string ", text, f),
+            DemoAttr::Function(attr) => write_function(attr, f),
             DemoAttr::Debug(text) => write_quoted("test.dbg ", text, f),
         }
     }
@@ -165,13 +179,14 @@ impl AttrText for DemoAttr {
     }
 
     fn is_print_once(&self) -> bool {
-        matches!(self, DemoAttr::Debug(_))
+        self.is_outlined()
     }
 
     fn try_clone(&self) -> Result<DemoAttr, AllocError> {
         match self {
             DemoAttr::Integer(attr) => Ok(DemoAttr::Integer(*attr)),
             DemoAttr::String(text) => Ok(DemoAttr::String(text.try_clone()?)),
+            DemoAttr::Function(attr) => Ok(DemoAttr::Function(attr.try_clone()?)),
             DemoAttr::Debug(text) => Ok(DemoAttr::Debug(text.try_clone()?)),
         }
     }

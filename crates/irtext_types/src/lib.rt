@@ -4,13 +4,17 @@
 pub mod attributes;
 pub mod characters;
 pub mod integer_type;
+pub mod type_list;
+pub mod type_list_text;
 pub mod types;
 pub mod width;
 pub mod words;
 
 pub use attributes::DemoAttr;
+pub use attributes::function::FunctionAttr;
 pub use attributes::integer::IntegerAttr;
 pub use characters::Characters;
 pub use integer_type::{IntegerType, Signedness};
+pub use type_list::TypeList;
 pub use types::DemoType;
 pub use width::Width;

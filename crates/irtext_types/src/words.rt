@@ -1,13 +1,14 @@
-//! Dotted words, which types and attributes begin with.
+//! The words of types and attributes: dotted words, which they begin with, and fixed texts behind white space.
 ghost use Rattle.std.specs.Prelude.{◌≡◌, ◌⊎◌, ◌++◌, ℕ, List, Option};
 ghost use Rattle.irtext_base.specs.Answers.{Answers, unless_failed};
-ghost use Rattle.irtext_base.specs.Faults.{demand_of, fault_of, Memory, OwnText};
-ghost use Rattle.irtext_types.specs.Words.{dotted_at};
+ghost use Rattle.irtext_base.specs.Faults.{characters, demand_of, fault_of, Memory, OwnText};
+ghost use Rattle.irtext_read.specs.Tokens.{text_at};
+ghost use Rattle.irtext_types.specs.Words.{behind_space, dotted_at};
 
 use irtext_base::parsable::{CharStream, ParseResult, TextStream};
 use irtext_base::result::{Cause, Expected};
-use irtext_read::irfmt::faults::{begins, refuse, refuse_at, unexpected};
-use irtext_read::irfmt::parsers::{Class, skip_class};
+use irtext_read::irfmt::faults::{begins, demand, refuse, refuse_at, unexpected};
+use irtext_read::irfmt::parsers::{Class, skip_class, skip_white_space, text_parse};
 
 /// The words that texts of one kind begin with.
 pub trait DottedWord: Copy {
@@ -51,4 +52,16 @@ pub fn dotted_parse<W: DottedWord, A>(
     }
     let cause = unregistered(stream, refusal, found);
     Err(refuse_at(stream, place, cause))
+}
+
+/// Reads a fixed text behind white space, where it must stand.
+pub fn text_behind<A>(stream: &mut TextStream, text: &'static str) -> ParseResult<(), A>
+    ensures { Answers (λ s. s) (λ s v. v) (λ u. u) (unless_failed stream.old.failed (behind_space (text_at (characters text.now)) stream.old.rest)) stream.old result stream.new }
+{
+    if stream.has_failed() {
+        return Err(refuse(stream, Cause::StreamFailed));
+    }
+    skip_white_space(stream);
+    let found = text_parse(stream, text);
+    demand(stream, found)
 }

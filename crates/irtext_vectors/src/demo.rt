@@ -72,6 +72,19 @@ fn attributes(rt: HostRuntime) -> Result<(), Fail> {
             "! line: 1, column: 20: Unexpected `i`, expected `:`",
         ),
         ("builtin.string\n\"a\\u{41}\"", "builtin.string \"aA\""),
+        ("builtin.function <()->()>", "builtin.function <()->()>"),
+        (
+            "builtin.function < ( test.ptr , builtin.integer si8 ) -> (builtin.integer i01) >",
+            "builtin.function <(test.ptr , builtin.integer si8)->(builtin.integer i1)>",
+        ),
+        (
+            "builtin.function <(test.ptr,)->()>",
+            "! line: 1, column: 29: Unexpected `)`, expected type",
+        ),
+        (
+            "builtin.function <()>",
+            "! line: 1, column: 21: Unexpected `>`, expected `->`",
+        ),
         ("test.dbg \"\" x", "test.dbg \"\""),
         (
             "builtin.string a",

@@ -1,18 +1,17 @@
 //! How integers with their type are read and written: as `<N: W>`.
 ghost use Rattle.std.specs.Prelude.{◌≡◌, Some};
 ghost use Rattle.irtext_base.specs.Answers.{Answers, unless_failed};
-ghost use Rattle.irtext_base.specs.Faults.{characters};
-ghost use Rattle.irtext_read.specs.Tokens.{text_at};
 ghost use Rattle.irtext_read.specs.Integers.{int_at, signed_below};
 ghost use Rattle.irtext_types.specs.IntegerAttributes.{integer_attr_text, integer_attr_of, integer_attr_at, value_at, colon_at, type_at, close_at};
 ghost use Rattle.irtext_types.specs.Words.{behind_space};
 
 use crate::attributes::integer::IntegerAttr;
 use crate::integer_type::{IntegerType, integer_type_behind};
+use crate::words::text_behind;
 use irtext_base::parsable::{ParseResult, TextStream};
 use irtext_base::result::Cause;
 use irtext_read::irfmt::faults::{demand, refuse};
-use irtext_read::irfmt::parsers::{int_parse, skip_white_space, text_parse};
+use irtext_read::irfmt::parsers::{int_parse, skip_white_space};
 use std::fmt;
 
 impl fmt::Display for IntegerAttr {
@@ -23,18 +22,6 @@ impl fmt::Display for IntegerAttr {
         let ty = self.ty;
         write!(f, "<{value}: {ty}>")
     }
-}
-
-/// Reads a fixed text behind white space, where it must stand.
-pub fn text_behind<A>(stream: &mut TextStream, text: &'static str) -> ParseResult<(), A>
-    ensures { Answers (λ s. s) (λ s v. v) (λ u. u) (unless_failed stream.old.failed (behind_space (text_at (characters text.now)) stream.old.rest)) stream.old result stream.new }
-{
-    if stream.has_failed() {
-        return Err(refuse(stream, Cause::StreamFailed));
-    }
-    skip_white_space(stream);
-    let found = text_parse(stream, text);
-    demand(stream, found)
 }
 
 /// Reads an integer behind white space, where it must stand.

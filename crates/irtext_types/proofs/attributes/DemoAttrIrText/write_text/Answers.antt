@@ -1,5 +1,6 @@
 use Rattle.std.proofs.Common.{codes, refl}
 use Rattle.irtext_base.specs.Quoted.{quoted}
+use Rattle.irtext_types.proofs.FunctionTexts.{encodes-function}
 use Rattle.irtext_types.proofs.IntegerTexts.{encodes-integer_attr}
 use Rattle.irtext_types.proofs.Quoted.{encodes-behind}
 use Rattle.irtext_types.proofs.attributes.DemoAttrIrText.write_text.Goals as goal
@@ -9,3 +10,6 @@ returns-in-String c = rw (c.in-String.is, encodes-behind (codes "builtin.string 
 
 pub returns-in-Integer : goal.returns-in-Integer
 returns-in-Integer c = rw (c.in-Integer.is, encodes-integer_attr c.in-Integer.attr) c.write_integer.ensures
+
+pub returns-in-Function : goal.returns-in-Function
+returns-in-Function c = rw (c.in-Function.is, encodes-function c.in-Function.attr) c.write_function.ensures
