@@ -1,7 +1,7 @@
 //! Registering an operation and making it where a request for memory is refused: nothing came of the call that was refused.
 
 use crate::Fault;
-use irtext_types::{Note, Pointer};
+use irtext_types::{DemoAttr, DemoType};
 use pliron_text::base::{Context, Identifier, OpId, Operation};
 use pliron_text::dialect::{Dialect, DialectName};
 use pliron_text::format::OpFormat;
@@ -9,7 +9,7 @@ use pliron_text::result::{Cause, Error, Result as Answer};
 use std::alloc::Global;
 
 /// The fault of an error: want of memory, where nothing came of the call.
-fn fault_of(error: Error<Note>, is_as_it_was: bool) -> Fault {
+fn fault_of(error: Error<DemoAttr>, is_as_it_was: bool) -> Fault {
     match error.err {
         Cause::Memory if is_as_it_was => Fault::Memory,
         _ => Fault::Wrong,
@@ -18,7 +18,7 @@ fn fault_of(error: Error<Note>, is_as_it_was: bool) -> Fault {
 
 /// The identifier of a text that is one.
 fn named(alloc: Global, text: &str) -> Result<Identifier, Fault> {
-    let name: Answer<Identifier, Note> = Identifier::try_new(alloc, text);
+    let name: Answer<Identifier, DemoAttr> = Identifier::try_new(alloc, text);
     match name {
         Ok(name) => Ok(name),
         Err(error) => Err(fault_of(error, true)),
@@ -34,7 +34,7 @@ fn id(alloc: Global, dialect: &str) -> Result<OpId, Fault> {
 }
 
 /// Registers a dialect. Where memory is refused it is not registered.
-fn register(ctx: &mut Context<Pointer, Note>, name: &DialectName) -> Result<(), Fault> {
+fn register(ctx: &mut Context<DemoType, DemoAttr>, name: &DialectName) -> Result<(), Fault> {
     let refused = match Dialect::register(ctx, name) {
         Ok(_) => return Ok(()),
         Err(error) => error,
@@ -43,7 +43,7 @@ fn register(ctx: &mut Context<Pointer, Note>, name: &DialectName) -> Result<(), 
 }
 
 /// Registers an operation with a dialect that is there. Where memory is refused it is not registered.
-fn add(ctx: &mut Context<Pointer, Note>, name: &DialectName, id: OpId) -> Result<(), Fault> {
+fn add(ctx: &mut Context<DemoType, DemoAttr>, name: &DialectName, id: OpId) -> Result<(), Fault> {
     match Dialect::register(ctx, name) {
         Ok(dialect) => add_to(dialect, id),
         Err(_) => Err(Fault::Wrong),
@@ -52,7 +52,7 @@ fn add(ctx: &mut Context<Pointer, Note>, name: &DialectName, id: OpId) -> Result
 
 /// The same with the dialect itself.
 fn add_to(dialect: &mut Dialect, id: OpId) -> Result<(), Fault> {
-    let answer: Answer<(), Note> = dialect.add_op(id, OpFormat::Canonical, false);
+    let answer: Answer<(), DemoAttr> = dialect.add_op(id, OpFormat::Canonical, false);
     match answer {
         Ok(()) => Ok(()),
         Err(error) => Err(fault_of(error, true)),
@@ -60,7 +60,7 @@ fn add_to(dialect: &mut Dialect, id: OpId) -> Result<(), Fault> {
 }
 
 /// Makes an operation with two regions. Where memory is refused no object stands.
-fn make(ctx: &mut Context<Pointer, Note>, id: OpId) -> Result<u64, Fault> {
+fn make(ctx: &mut Context<DemoType, DemoAttr>, id: OpId) -> Result<u64, Fault> {
     match Operation::new(ctx, id, 2) {
         Ok(_) => Ok(ctx.num_live()),
         Err(error) => Err(fault_of(error, ctx.num_live() == 0)),
@@ -69,7 +69,7 @@ fn make(ctx: &mut Context<Pointer, Note>, id: OpId) -> Result<u64, Fault> {
 
 /// How many objects stand once an operation of the dialect that the text names was registered and made with two regions.
 pub fn objects(alloc: Global, text: &str) -> Result<String, Fault> {
-    let mut ctx: Context<Pointer, Note> = Context::new(alloc);
+    let mut ctx: Context<DemoType, DemoAttr> = Context::new(alloc);
     let name = DialectName::from(named(alloc, text)?);
     register(&mut ctx, &name)?;
     add(&mut ctx, &name, id(alloc, text)?)?;

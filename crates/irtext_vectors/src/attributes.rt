@@ -1,7 +1,7 @@
 //! Attributes and types as they are read and printed.
 use irtext_base::base::AttrObj;
 use irtext_base::parsable::{CharStream, ParseFault, TextStream};
-use irtext_types::{Note, Pointer};
+use irtext_types::{DemoAttr, DemoType};
 use pliron_text::base::Context;
 use pliron_text::irfmt::parsers::{attr_parse, type_parse};
 use pliron_text::location::Source;
@@ -10,20 +10,20 @@ use pliron_text::printable::Disp;
 use std::test::Fail;
 
 /// What a fault says: where and why, with `!` where it is committed.
-fn refused(rt: &HostRuntime, fault: ParseFault<Note>) -> Result<String, Fail> {
+fn refused(rt: &HostRuntime, fault: ParseFault<DemoAttr>) -> Result<String, Fail> {
     let mark = if fault.committed { "!" } else { "" };
     Ok(format!(in rt.alloc(); "{}: {}{mark}", fault.pos, fault.cause)?)
 }
 
 /// The text of an attribute, between bars, and what stands behind the one that was read.
-fn printed(rt: &HostRuntime, attr: &AttrObj<Note>, next: Option<char>) -> Result<String, Fail> {
-    let ctx: Context<Pointer, Note> = Context::new(rt.alloc());
+fn printed(rt: &HostRuntime, attr: &AttrObj<DemoAttr>, next: Option<char>) -> Result<String, Fail> {
+    let ctx: Context<DemoType, DemoAttr> = Context::new(rt.alloc());
     Ok(format!(in rt.alloc(); "|{}| {next:?}", attr.disp(&ctx))?)
 }
 
 /// What an attribute is read as.
 fn read(rt: &HostRuntime, text: &str) -> Result<String, Fail> {
-    let mut ctx: Context<Pointer, Note> = Context::new(rt.alloc());
+    let mut ctx: Context<DemoType, DemoAttr> = Context::new(rt.alloc());
     let stream = TextStream::new(rt.alloc(), text)?;
     let state = State::new(&mut ctx, Source::InMemory, ());
     let mut s = StateStream { stream, state };
@@ -35,7 +35,7 @@ fn read(rt: &HostRuntime, text: &str) -> Result<String, Fail> {
 
 /// What a type is read as.
 fn read_type(rt: &HostRuntime, text: &str) -> Result<String, Fail> {
-    let mut ctx: Context<Pointer, Note> = Context::new(rt.alloc());
+    let mut ctx: Context<DemoType, DemoAttr> = Context::new(rt.alloc());
     let stream = TextStream::new(rt.alloc(), text)?;
     let state = State::new(&mut ctx, Source::InMemory, ());
     let mut s = StateStream { stream, state };
@@ -85,7 +85,10 @@ fn attributes_of_a_text(rt: HostRuntime) -> Result<(), Fail> {
             "builtin.identifier.x a",
             "line: 1, column: 1: Unregistered attribute builtin.identifier.x!",
         ),
-        ("test.note x", "|test.note | Some(' ')"),
+        (
+            "builtin.string \"a\" x",
+            "|builtin.string \"a\"| Some(' ')",
+        ),
         (
             "1",
             "line: 1, column: 1: Unexpected `1`, expected attribute",

@@ -1,5 +1,5 @@
 //! The dialects of a context: how they are registered and looked up, and how their names are read and printed.
-use irtext_types::{Note, Pointer};
+use irtext_types::{DemoAttr, DemoType};
 use pliron_text::base::{Context, Identifier, OpId, Operation, Ptr};
 use pliron_text::dialect::{Dialect, DialectName};
 use pliron_text::format::OpFormat;
@@ -12,7 +12,7 @@ use std::test::Fail;
 
 /// The identifier of a text that is one.
 fn named(alloc: Global, text: &str) -> Result<Identifier, Fail> {
-    let name: Answer<Identifier, Note> = Identifier::try_new(alloc, text);
+    let name: Answer<Identifier, DemoAttr> = Identifier::try_new(alloc, text);
     Ok(name.ok().ok_or("no identifier")?)
 }
 
@@ -26,14 +26,14 @@ fn id(alloc: Global, name: &str) -> Result<OpId, Fail> {
 
 /// Registers the operation `test.z`, isolated, with the format of any operation.
 fn add(alloc: Global, dialect: &mut Dialect) -> Result<(), Fail> {
-    let answer: Answer<(), Note> = dialect.add_op(id(alloc, "z")?, OpFormat::Canonical, true);
+    let answer: Answer<(), DemoAttr> = dialect.add_op(id(alloc, "z")?, OpFormat::Canonical, true);
     Ok(answer.ok().ok_or("refused")?)
 }
 
 /// The name that a text reads as, or why it is refused.
-fn read(alloc: Global, ctx: &mut Context<Pointer, Note>, text: &str) -> Result<String, Fail> {
+fn read(alloc: Global, ctx: &mut Context<DemoType, DemoAttr>, text: &str) -> Result<String, Fail> {
     let answer = parse_from_str(
-        |s| <DialectName as Parsable<Pointer, Note, ()>>::parse(s, ()),
+        |s| <DialectName as Parsable<DemoType, DemoAttr, ()>>::parse(s, ()),
         ctx,
         text,
     );
@@ -47,7 +47,7 @@ fn read(alloc: Global, ctx: &mut Context<Pointer, Note>, text: &str) -> Result<S
 fn a_dialect_that_is_registered_again_keeps_its_operations(rt: HostRuntime) -> Result<(), Fail> {
     let alloc = rt.alloc();
     let name = DialectName::from(named(alloc, "test")?);
-    let mut ctx: Context<Pointer, Note> = Context::new(alloc);
+    let mut ctx: Context<DemoType, DemoAttr> = Context::new(alloc);
     assert!(rt; ctx.op_info(&id(alloc, "z")?).is_none());
     add(
         alloc,
@@ -71,7 +71,7 @@ fn a_dialect_that_is_registered_again_keeps_its_operations(rt: HostRuntime) -> R
 fn names_of_registered_dialects_are_read(rt: HostRuntime) -> Result<(), Fail> {
     let alloc = rt.alloc();
     let name = DialectName::from(named(alloc, "test")?);
-    let mut ctx: Context<Pointer, Note> = Context::new(alloc);
+    let mut ctx: Context<DemoType, DemoAttr> = Context::new(alloc);
     let _ = Dialect::register(&mut ctx, &name).ok().ok_or("refused")?;
     for (text, answer) in [
         ("test", "test"),
@@ -91,7 +91,7 @@ fn names_of_registered_dialects_are_read(rt: HostRuntime) -> Result<(), Fail> {
 }
 
 /// What making an operation of this name with two regions answers: its regions, or why it is refused.
-fn made(alloc: Global, ctx: &mut Context<Pointer, Note>, id: OpId) -> Result<String, Fail> {
+fn made(alloc: Global, ctx: &mut Context<DemoType, DemoAttr>, id: OpId) -> Result<String, Fail> {
     match Operation::new(ctx, id, 2) {
         Ok(op) => regions(alloc, ctx, op),
         Err(error) => Ok(format!(in alloc; "{error}")?),
@@ -101,7 +101,7 @@ fn made(alloc: Global, ctx: &mut Context<Pointer, Note>, id: OpId) -> Result<Str
 /// How many regions an operation has, as a text.
 fn regions(
     alloc: Global,
-    ctx: &Context<Pointer, Note>,
+    ctx: &Context<DemoType, DemoAttr>,
     op: Ptr<Operation>,
 ) -> Result<String, Fail> {
     if !ctx.contains_operation(op) {
@@ -114,7 +114,7 @@ fn regions(
 fn registered_operations_are_made(rt: HostRuntime) -> Result<(), Fail> {
     let alloc = rt.alloc();
     let name = DialectName::from(named(alloc, "test")?);
-    let mut ctx: Context<Pointer, Note> = Context::new(alloc);
+    let mut ctx: Context<DemoType, DemoAttr> = Context::new(alloc);
     assert_eq!(rt;
         made(alloc, &mut ctx, id(alloc, "z")?)?.as_str(),
         "Compilation error: invalid argument.\nUnregistered dialect test"

@@ -1,6 +1,6 @@
 //! Locations of each kind as texts, and errors behind theirs: files by the paths that the context keeps.
 use irtext_base::base::{AttrObj, Identifier};
-use irtext_types::{Note, Pointer};
+use irtext_types::{Characters, DemoAttr, DemoType};
 use pliron_text::base::{Context, Operation};
 use pliron_text::ir::OperationText;
 use pliron_text::location::{Location, Source};
@@ -10,7 +10,7 @@ use pliron_text::result::{Cause, Error};
 use std::alloc::Global;
 use std::test::Fail;
 
-type Ctx = Context<Pointer, Note>;
+type Ctx = Context<DemoType, DemoAttr>;
 
 /// What the locations print, each on a line.
 const TEXTS: &str = r#""foo.mlir": line: 42, column: 7
@@ -19,14 +19,14 @@ name: "foo", loc: (?)
 name: "a\"b\\c\nd\te\u{7f}", loc: (?)
 "a\"b\\c.mlir": line: 1, column: 2
 fused[<in-memory>: line: 3, column: 4, ?]
-fused<test.note >[<in-memory>: line: 3, column: 4, ?]
+fused<builtin.string "testattr">[<in-memory>: line: 3, column: 4, ?]
 fused<builtin.identifier m>[<in-memory>: line: 3, column: 4, ?]
 fused<builtin.given_names [m, ?]>[<in-memory>: line: 3, column: 4, ?]
 callsite(? at ?)
 "#;
 
 /// A place of a source.
-fn at(src: Source, line: i32, column: i32) -> Location<Note> {
+fn at(src: Source, line: i32, column: i32) -> Location<DemoAttr> {
     Location::SrcPos {
         src,
         pos: SourcePosition { line, column },
@@ -34,13 +34,13 @@ fn at(src: Source, line: i32, column: i32) -> Location<Note> {
 }
 
 /// A place of a file.
-fn in_file(ctx: &mut Ctx, path: &str, line: i32, column: i32) -> Result<Location<Note>, Fail> {
+fn in_file(ctx: &mut Ctx, path: &str, line: i32, column: i32) -> Result<Location<DemoAttr>, Fail> {
     let src = Source::new_from_file(ctx, path).ok().ok_or("refused")?;
     Ok(at(src, line, column))
 }
 
 /// A name for a location that is not known.
-fn named(alloc: Global, name: &str) -> Result<Location<Note>, Fail> {
+fn named(alloc: Global, name: &str) -> Result<Location<DemoAttr>, Fail> {
     Ok(Location::Named {
         name: Box::new(alloc, String::from_str(alloc, name)?)?,
         child_loc: Box::new(alloc, Location::Unknown)?,
@@ -48,7 +48,7 @@ fn named(alloc: Global, name: &str) -> Result<Location<Note>, Fail> {
 }
 
 /// A place in memory and an unknown one as one location, with this attribute.
-fn fused(alloc: Global, metadata: Option<AttrObj<Note>>) -> Result<Location<Note>, Fail> {
+fn fused(alloc: Global, metadata: Option<AttrObj<DemoAttr>>) -> Result<Location<DemoAttr>, Fail> {
     let mut locations = Vec::new(alloc);
     locations.push(at(Source::InMemory, 3, 4))?;
     locations.push(Location::Unknown)?;
@@ -59,15 +59,21 @@ fn fused(alloc: Global, metadata: Option<AttrObj<Note>>) -> Result<Location<Note
 }
 
 /// The names `m` and none.
-fn given(alloc: Global) -> Result<AttrObj<Note>, Fail> {
+fn given(alloc: Global) -> Result<AttrObj<DemoAttr>, Fail> {
     let mut names = Vec::new(alloc);
     names.push(Some(Identifier::from_word(alloc, "m")?))?;
     names.push(None)?;
     Ok(AttrObj::GivenNames(names))
 }
 
+/// A text as an attribute.
+fn text(alloc: Global, text: &str) -> Result<AttrObj<DemoAttr>, Fail> {
+    let text = Characters::new(String::from_str(alloc, text)?);
+    Ok(AttrObj::Own(DemoAttr::String(text)))
+}
+
 /// The location of a line of the table.
-fn location(alloc: Global, ctx: &mut Ctx, line: usize) -> Result<Location<Note>, Fail> {
+fn location(alloc: Global, ctx: &mut Ctx, line: usize) -> Result<Location<DemoAttr>, Fail> {
     match line {
         0 => in_file(ctx, "foo.mlir", 42, 7),
         1 => Ok(at(Source::InMemory, 1, 2)),
@@ -75,7 +81,7 @@ fn location(alloc: Global, ctx: &mut Ctx, line: usize) -> Result<Location<Note>,
         3 => named(alloc, "a\"b\\c\nd\te\u{7f}"),
         4 => in_file(ctx, "a\"b\\c.mlir", 1, 2),
         5 => fused(alloc, None),
-        6 => fused(alloc, Some(AttrObj::Own(Note))),
+        6 => fused(alloc, Some(text(alloc, "testattr")?)),
         7 => fused(
             alloc,
             Some(AttrObj::Ident(Identifier::from_word(alloc, "m")?)),
@@ -106,7 +112,7 @@ fn an_error_prints_behind_its_file(rt: HostRuntime) -> Result<(), Fail> {
     let place = in_file(&mut ctx, "/tmp/test.pliron", 1, 2)?;
     let inner = pliron_text::input_error!(place, in rt.alloc(); "Test error");
     let place = in_file(&mut ctx, "/tmp/test.pliron", 1, 1)?;
-    let error: Error<Note> = pliron_text::input_error!(
+    let error: Error<DemoAttr> = pliron_text::input_error!(
         place,
         Cause::Nested(Box::new(rt.alloc(), inner)?)
     );
