@@ -79,7 +79,7 @@ memory text = mapped (λ _. None) (text_at (codes "<in-memory>") text)
 abbrev no_source : Text → Outcome (Option (List ℕ))
 no_source text = Missing (Unexpected (first_of text) ASource)
 
-source_begins : (text : Text) → begins begins_source text ≡ true → is_missing (source_at text) ≡ false
+pub source_begins : (text : Text) → begins begins_source text ≡ true → is_missing (source_at text) ≡ false
 source_begins text h = by (begins (the 34) text) refl
   where
     by : (b : Bool) → begins (the 34) text ≡ b → is_missing (cond b (path_at text) (cond (begins (the 60) text) (memory text) (no_source text))) ≡ false

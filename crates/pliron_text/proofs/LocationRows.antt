@@ -10,7 +10,7 @@ use Rattle.irtext_base.specs.declared.location.Location.{Location}
 use Rattle.irtext_base.specs.declared.parsable.fault.ParseFault.{ParseFault}
 use Rattle.irtext_read.specs.Tokens.{text_at}
 use Rattle.pliron_text.specs.LocationReading.{begins_location, WrittenRow, kind_at, behind_location, row_of, row_at, location_within, more_within}
-use Rattle.pliron_text.specs.MustRead.{MustRead}
+use Rattle.pliron_text.specs.MustRead.{MustRead, MayRead}
 use Rattle.pliron_text.specs.NewPaths.{MustReadOver, MustReadWithin, MustReadInside, Makes, PushesRow, known_location, location_over, known_row, row_over, joined_rows}
 use Rattle.pliron_text.specs.Roots.{itself, replaced}
 use Rattle.std.specs.Global.{Global}
@@ -97,6 +97,23 @@ pub not_there : {X Y A : Type 0} {see : Y → X} (f : Text → Outcome X) (cause
 not_there {see = see} f cause old {mid = mid} {fault = fault} {new = new} fine e p d =
     let a = answers_demanded itself replaced alone.view_at alone.at_at see (Missing cause) old old new (Err mid) (Err fault) (inr p) (fault, refl, d) in
     record { answers = subst (λ b. Answers itself replaced see (demanded (unless_failed b (f old.rest))) old (Err fault) new) (sym fine) (subst (λ o. Answers itself replaced see (demanded o) old (Err fault) new) (sym e) a) }
+
+-- what is not missing is what is demanded
+as_it_is : {X : Type 0} (b : Bool) (o : Outcome X) → is_missing o ≡ false → demanded (unless_failed b o) ≡ unless_failed b o
+as_it_is true o e = refl
+as_it_is false (Read x t r) e = refl
+as_it_is false (Missing cause) e = absurd (true≢false e)
+as_it_is false (Bad cause upto) e = refl
+
+-- where it is not missing, what may stand there answers as what must
+pub may_of_must : {X Y A : Type 0} {see : Y → X} {f : Text → Outcome X} {old new : StreamView} {r : Result Y (ParseFault A)} → is_missing (f old.rest) ≡ false → MustRead itself replaced see f old r new → MayRead itself replaced see f old r new
+may_of_must {see = see} {f = f} {old = old} {new = new} {r = r} e h = record { answers = subst (λ o. Answers itself replaced see o old r new) (as_it_is old.failed (f old.rest) e) h.answers }
+
+-- what is missing is a fault that is not committed
+pub may_not_be_there : {X Y A : Type 0} {see : Y → X} (f : Text → Outcome X) (cause : Fault) (old : StreamView) {fault : ParseFault A} {new : StreamView} → old.failed ≡ false → f old.rest ≡ Missing cause → Passes itself replaced cause old fault new
+    → MayRead {Y = Y} itself replaced see f old (Err fault) new
+may_not_be_there {see = see} f cause old {fault = fault} {new = new} fine e p =
+    record { answers = subst (λ b. Answers itself replaced see (unless_failed b (f old.rest)) old (Err fault) new) (sym fine) (subst (λ o. Answers itself replaced see o old (Err fault) new) (sym e) (inr p)) }
 
 -- ---- rows
 -- nothing stands behind a row

@@ -4,6 +4,7 @@ ghost use Rattle.std.specs.Prelude.{◌≡◌};
 ghost use Rattle.irtext_base.specs.Answers.{Starves};
 ghost use Rattle.pliron_text.specs.Roots.{itself, replaced};
 
+mod locations;
 mod texts;
 mod tokens;
 

@@ -4,9 +4,9 @@ ghost use Rattle.irtext_base.specs.Text.{begins};
 ghost use Rattle.irtext_base.specs.Answers.{mapped};
 ghost use Rattle.irtext_base.specs.Locations.{attr_view, attr_view_in};
 ghost use Rattle.irtext_read.specs.AttrTexts.{attr_at};
-ghost use Rattle.pliron_text.specs.LocationReading.{begins_source, begins_location, metadata_at, name_at, row_at, fused_at, named_at, call_site_at, location_within, more_within};
+ghost use Rattle.pliron_text.specs.LocationReading.{begins_source, begins_location, metadata_at, name_at, row_at, fused_at, named_at, call_site_at, location_within, more_within, location_at};
 ghost use Rattle.pliron_text.specs.MustRead.{MustRead};
-ghost use Rattle.pliron_text.specs.NewPaths.{AddsPaths, MustReadWithin, MustReadInside, known_location, location_over, known_row, row_over, joined_rows, PushesRow};
+ghost use Rattle.pliron_text.specs.NewPaths.{AddsPaths, MayReadOver, MustReadWithin, MustReadInside, known_location, location_over, known_row, row_over, joined_rows, PushesRow};
 ghost use Rattle.pliron_text.specs.Roots.{itself, replaced};
 
 use crate::irfmt::demanded::{spaced_text, text_demanded};
@@ -22,7 +22,7 @@ use irtext_read::irfmt::faults::{demand, demanded, next_is, refuse, unexpected};
 use irtext_read::irfmt::parsers::{attr_from, skip_white_space};
 
 /// Whether a source begins here.
-fn begins_source(stream: &TextStream) -> bool
+pub(crate) fn begins_source(stream: &TextStream) -> bool
     ensures { result ≡ begins begins_source stream.now.rest }
 {
     match stream.peek() {
@@ -221,4 +221,21 @@ pub(crate) fn location_read<T: IrText<A>, A: AttrText>(
     }
     let fault = unexpected(stream, Expected::Location);
     Err(demanded(stream, fault))
+}
+
+/// A location, which may be missing.
+pub(crate) fn location_may<T: IrText<A>, A: AttrText>(
+    stream: &mut TextStream,
+    ctx: &mut Context<T, A>,
+) -> ParseResult<Location<A>, A>
+    ensures adds { AddsPaths ctx.old ctx.new }
+    ensures read { MayReadOver known_location location_over (location_at (attr_at A.IrText.reading)) ctx.new.paths stream.old result stream.new }
+{
+    if stream.has_failed() {
+        return Err(refuse(stream, Cause::StreamFailed));
+    }
+    if !begins_location(stream) {
+        return Err(unexpected(stream, Expected::Location));
+    }
+    location_read(stream, ctx)
 }

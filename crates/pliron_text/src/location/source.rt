@@ -1,16 +1,18 @@
 //! Reading of places: of sources, lines and columns.
 ghost use Rattle.std.specs.Prelude.{string_bytes};
 ghost use Rattle.irtext_base.specs.Paths.{path_of, is_known};
+ghost use Rattle.pliron_text.specs.LocationText.{position_at};
 ghost use Rattle.pliron_text.specs.LocationReading.{bytes_at, path_at, source_at, place_at};
-ghost use Rattle.pliron_text.specs.MustRead.{MustRead};
-ghost use Rattle.pliron_text.specs.NewPaths.{AddsPaths, MustReadOver, known_location, location_over};
+ghost use Rattle.pliron_text.specs.MustRead.{MustRead, MayRead};
+ghost use Rattle.pliron_text.specs.NewPaths.{AddsPaths, MustReadOver, MayReadOver, known_location, location_over};
 ghost use Rattle.pliron_text.specs.Roots.{itself, replaced};
 
 use crate::irfmt::demanded::{spaced_text, text_demanded};
+use crate::location::nested::begins_source;
 use crate::location::read::position_parse;
 use irtext_base::base::Context;
 use irtext_base::location::{Location, Source};
-use irtext_base::parsable::{CharStream, ParseResult, TextStream};
+use irtext_base::parsable::{CharStream, ParseResult, SourcePosition, TextStream};
 use irtext_base::result::{Cause, Expected};
 use irtext_base::text::{AttrText, IrText};
 use irtext_read::irfmt::faults::{demand, demanded, next_is, refuse, unexpected};
@@ -73,4 +75,34 @@ pub(crate) fn place_read<T: IrText<A>, A: AttrText>(
     spaced_text(stream, ":")?;
     let pos = position_parse(stream)?;
     Ok(Location::SrcPos { src, pos })
+}
+
+/// A source, which may be missing.
+pub(crate) fn source_may<T: IrText<A>, A: AttrText>(
+    stream: &mut TextStream,
+    ctx: &mut Context<T, A>,
+) -> ParseResult<Source, A>
+    ensures adds { AddsPaths ctx.old ctx.new }
+    ensures read { MayReadOver is_known path_of source_at ctx.new.paths stream.old result stream.new }
+{
+    if stream.has_failed() {
+        return Err(refuse(stream, Cause::StreamFailed));
+    }
+    if !begins_source(stream) {
+        return Err(unexpected(stream, Expected::Source));
+    }
+    source_read(stream, ctx)
+}
+
+/// A line and a column, which may be missing.
+pub(crate) fn position_may<A>(stream: &mut TextStream) -> ParseResult<SourcePosition, A>
+    ensures { MayRead itself replaced (λ at. at) position_at stream.old result stream.new }
+{
+    if stream.has_failed() {
+        return Err(refuse(stream, Cause::StreamFailed));
+    }
+    if !next_is(stream, 'l') {
+        return Err(unexpected(stream, Expected::Text("line")));
+    }
+    position_parse(stream)
 }
