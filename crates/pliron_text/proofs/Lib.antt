@@ -115,3 +115,4 @@ pub mod LabelPlaces
 pub mod MarkerSteps
 pub mod AttrTexts
 pub mod AttrBack
+pub mod JoinAttributes

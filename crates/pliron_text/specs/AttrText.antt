@@ -4,6 +4,7 @@ use Rattle.irtext_base.specs.Text.{Text}
 use Rattle.irtext_base.specs.Locations.{AttrView, given_names, ident, own}
 use Rattle.pliron_text.specs.Spell.{joined, comma, or_question}
 use Rattle.pliron_text.specs.Fine.{Each, IsWord, IsGiven}
+use Rattle.pliron_text.specs.Tree as tree
 
 -- given names between brackets or an identifier, each behind its word, or the text of the caller's own
 abbrev pub attr_text : {A : Type 0} → (A → Text) → AttrView A → Text
@@ -16,3 +17,9 @@ abbrev pub FineAttr : {A : Type 0} → AttrView A → Type 0
 FineAttr (given_names ns) = Each IsGiven ns
 FineAttr (ident n) = IsWord n
 FineAttr (own a) = ⊤
+
+-- the attribute, as trees hold it
+abbrev pub attr_tree : {A : Type 0} → AttrView A → tree.Attribute A
+attr_tree (given_names ns) = tree.given_names ns
+attr_tree (ident n) = tree.ident n
+attr_tree (own a) = tree.own a

@@ -1,17 +1,27 @@
 //! Laws of the texts of attributes.
-ghost use Rattle.std.specs.Prelude.{◌≡◌, ℕ, List, ◌++◌};
+ghost use Rattle.std.specs.Prelude.{◌≡◌, ℕ, List, ◌++◌, Option};
+ghost use Rattle.irtext_base.specs.Format.{Format, Id};
 ghost use Rattle.irtext_base.specs.Answers.{Read};
 ghost use Rattle.irtext_base.specs.Locations.{AttrView};
-ghost use Rattle.irtext_base.specs.Own.{Ends};
+ghost use Rattle.irtext_base.specs.Own.{Ends, language, texts_of};
 ghost use Rattle.irtext_base.specs.Text.{after_space};
 ghost use Rattle.irtext_read.specs.AttrTexts.{attr_at};
-ghost use Rattle.pliron_text.specs.AttrText.{attr_text, FineAttr};
+ghost use Rattle.pliron_text.specs.AttrText.{attr_text, attr_tree, FineAttr};
+ghost use Rattle.pliron_text.specs.Reads.{attribute};
 
-use irtext_base::text::AttrText;
+use irtext_base::text::{AttrText, IrText};
 
 /// What is written of an attribute whose names are identifiers is read back as that attribute, before every end of a text, and what
 /// is left is what stands behind it, white space aside.
 pub fn attribute_comes_back<A: AttrText>()
     ensures { (v : AttrView A) (rest : List ℕ) → FineAttr v → Ends rest →
-        (taken left : List ℕ) × (attr_at A.IrText.reading (attr_text A.IrText.written v ++ rest) ≡ Read v taken left) × (after_space left ≡ after_space rest) }
+        (taken left : List ℕ) × (attr_at A.reading (attr_text A.written v ++ rest) ≡ Read v taken left) × (after_space left ≡ after_space rest) }
+{}
+
+/// A text is read as an attribute exactly where it reads as that attribute in a tree, and the same is left.
+pub fn attributes_are_the_trees<T: IrText<A>, A: AttrText>()
+    ensures read { (formats : Id → Option Format) (v : AttrView A) (text taken rest : List ℕ) →
+        attr_at A.reading text ≡ Read v taken rest → attribute (language (texts_of T.reading T.written) (texts_of A.reading A.written) formats) (attr_tree v) text rest }
+    ensures found { (formats : Id → Option Format) (v : AttrView A) (text rest : List ℕ) →
+        attribute (language (texts_of T.reading T.written) (texts_of A.reading A.written) formats) (attr_tree v) text rest → (taken : List ℕ) × (attr_at A.reading text ≡ Read v taken rest) }
 {}
