@@ -1,13 +1,14 @@
 -- What is written of an attribute is read back.
-use Rattle.std.proofs.Common.{◌≡◌, ◌∙◌, ◌≤◌, ℕ, zero, suc, Bool, true, false, cond, Some, None, Option, List, [], ◌∷◌, ◌++◌, map, length, length-append, codes, refl, sym, ap, arith, append_assoc, append-nil}
+use Rattle.std.proofs.Common.{◌≡◌, ◌∙◌, ◌≤◌, ℕ, zero, suc, Bool, true, false, cond, Some, None, Option, List, [], ◌∷◌, ◌++◌, map, length, length-append, codes, refl, sym, ap, arith, append_assoc, append-nil, true≢false}
 use Rattle.std.specs.Cmp.Lexicographic.{bytes_decides}
 use Rattle.std.proofs.lemmas.Bool.Decides.{nat_tests}
 use Rattle.std.specs.Char.{is_whitespace}
 use Rattle.irtext_base.specs.Text.{Text, begins, front, after, after_space, in_word, in_dotted, begins_word}
 use Rattle.irtext_base.specs.Reading.{the, keyword}
+use Rattle.irtext_base.specs.Faults.{Fault}
 use Rattle.irtext_base.specs.Answers.{Outcome, Read, Missing, Bad, mapped, followed, prefixed}
 use Rattle.irtext_base.specs.Locations.{AttrView, given_names, ident, own}
-use Rattle.irtext_base.specs.Own.{texts_of, standing, found, Ends, Lawful, Unreserved}
+use Rattle.irtext_base.specs.Own.{texts_of, standing, found, missing, Ends, Lawful, Unreserved}
 use Rattle.irtext_base.proofs.Along.{front_after}
 use Rattle.irtext_base.proofs.Characters.{front_all, after_all, ends_word, identifier_every, identifier_begins, word_tight, is_false}
 use Rattle.irtext_read.specs.Tokens.{word_at, text_at, identifier_at}
@@ -128,6 +129,11 @@ read_there (Read y t r) x left e =
 read_there (Missing cause) x left e = absurd (cc)
 read_there (Bad cause upto) x left e = absurd (cc)
 
+missing_there : {X : Type 0} (o : Outcome X) → standing o ≡ missing → (cause : Fault) × (o ≡ Missing cause)
+missing_there (Read y t r) e = absurd (cc)
+missing_there (Missing cause) e = (cause, refl)
+missing_there (Bad cause upto) e = absurd (cc)
+
 module _ {A : Type 0} (reading : Text → Outcome A) (written : A → Text) (lawful : Lawful A (texts_of reading written)) (unreserved : Unreserved A (texts_of reading written)) where
   -- what is written of an attribute reads as that attribute, before every end
   pub attr_back : (v : AttrView A) (rest : Text) → FineAttr v → Ends rest → (taken left : Text) × (attr_at reading (attr_text written v ++ rest) ≡ Read v taken left) × (after_space left ≡ after_space rest)
@@ -147,3 +153,11 @@ module _ {A : Type 0} (reading : Text → Outcome A) (written : A → Text) (law
       let again = lawful.again a rest e in
       let o = read_there (reading text) a again.0 again.1 in
       (o.0, again.0, own_leads reading text (sym names) (sym word) ∙ ap (mapped own) o.1, again.2)
+
+  -- where no word begins an attribute is missing
+  pub attr_missing : (text : Text) → begins begins_word text ≡ false → (cause : Fault) × (attr_at reading text ≡ Missing cause)
+  attr_missing text e =
+      let names : leads (codes "builtin.given_names") text ≡ false = is_false _ (λ l. true≢false (sym (ap (begins begins_word) (leads_keyword (codes "builtin.given_names") text l).0) ∙ e)) in
+      let word : leads (codes "builtin.identifier") text ≡ false = is_false _ (λ l. true≢false (sym (ap (begins begins_word) (leads_keyword (codes "builtin.identifier") text l).0) ∙ e)) in
+      let m = missing_there (reading text) (lawful.misses text e) in
+      (m.0, own_leads reading text (sym names) (sym word) ∙ ap (mapped own) m.1)

@@ -1,10 +1,11 @@
 //! Laws of the texts of attributes.
-ghost use Rattle.std.specs.Prelude.{◌≡◌, ℕ, List, ◌++◌, Option};
+ghost use Rattle.std.specs.Prelude.{◌≡◌, ℕ, false, List, ◌++◌, Option};
 ghost use Rattle.irtext_base.specs.Format.{Format, Id};
-ghost use Rattle.irtext_base.specs.Answers.{Read};
+ghost use Rattle.irtext_base.specs.Answers.{Read, Missing};
+ghost use Rattle.irtext_base.specs.Faults.{Fault};
 ghost use Rattle.irtext_base.specs.Locations.{AttrView};
 ghost use Rattle.irtext_base.specs.Own.{Ends, language, texts_of};
-ghost use Rattle.irtext_base.specs.Text.{after_space};
+ghost use Rattle.irtext_base.specs.Text.{after_space, begins, begins_word};
 ghost use Rattle.irtext_read.specs.AttrTexts.{attr_at};
 ghost use Rattle.pliron_text.specs.AttrText.{attr_text, attr_tree, FineAttr};
 ghost use Rattle.pliron_text.specs.Reads.{attribute};
@@ -16,6 +17,11 @@ use irtext_base::text::{AttrText, IrText};
 pub fn attribute_comes_back<A: AttrText>()
     ensures { (v : AttrView A) (rest : List ℕ) → FineAttr v → Ends rest →
         (taken left : List ℕ) × (attr_at A.reading (attr_text A.written v ++ rest) ≡ Read v taken left) × (after_space left ≡ after_space rest) }
+{}
+
+/// Where no letter and no `_` stands, an attribute is missing.
+pub fn attributes_are_missing<A: AttrText>()
+    ensures { (text : List ℕ) → begins begins_word text ≡ false → (cause : Fault) × (attr_at A.reading text ≡ Missing cause) }
 {}
 
 /// A text is read as an attribute exactly where it reads as that attribute in a tree, and the same is left.
