@@ -2,6 +2,7 @@
 //! its caller sees then. It ends with status 0 and the call's text, with 1 where memory was refused, and with 3 where anything else came of it.
 #![tactic(auto)]
 
+mod locating;
 mod printing;
 mod registering;
 mod strings;
@@ -43,6 +44,9 @@ fn answer(rt: &HostRuntime) -> io::Result<Result<String, Fault>> {
     for word in env::args(rt)?.skip(1) {
         if word.as_str() == "disp" {
             return Ok(printing::displayed(alloc, text.as_str()));
+        }
+        if word.as_str() == "location" {
+            return Ok(locating::read(alloc, text.as_str()));
         }
         if word.as_str() == "objects" {
             return Ok(registering::objects(alloc, text.as_str()));

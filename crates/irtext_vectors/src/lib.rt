@@ -21,6 +21,8 @@ mod formats;
 mod listed;
 #[cfg(test)]
 mod lists;
+#[cfg(test)]
+mod location_readings;
 pub mod location_rows;
 #[cfg(test)]
 mod location_texts;

@@ -215,13 +215,15 @@ module _ {A : Type 0} (attr : Text → Outcome (AttrView A)) where
 
     -- where `,` does not stand, all was read
     pub ended : begins (the 44) mid.rest ≡ false → MustReadWithin {A = A} known_row row_over (in_front (row_over before first)) paths old (Ok found) mid
-    ended b = record { within = λ depth small.
-        let r = so_far.read depth small in
-        let row = row_over paths found in
-        record {
-          known = so_far.known;
-          read = ends alone (row_over paths) found (turned alone (λ t. Read row [] t) (ap (mapped (joined_rows row)) (none_more r.0 mid.rest b) ∙ ap (λ ls. Read ls [] mid.rest) (joined_none row)) r.2);
-        } }
+    ended b = record {
+      within = λ depth small.
+          let r = so_far.read depth small in
+          let row = row_over paths found in
+          record {
+            known = so_far.known;
+            read = ends alone (row_over paths) found (turned alone (λ t. Read row [] t) (ap (mapped (joined_rows row)) (none_more r.0 mid.rest b) ∙ ap (λ ls. Read ls [] mid.rest) (joined_none row)) r.2);
+          };
+    }
 
   -- these are all, and nothing was read yet
   pub row_begun : {paths : List (List ℕ)} {found : Vec (Location A) Global} {old : StreamView} → known_row (length paths) found ≡ true → old.failed ≡ false → RowSoFar paths found old paths found old
@@ -257,7 +259,7 @@ module _ {A : Type 0} (attr : Text → Outcome (AttrView A)) where
         let one = location_over paths l in
         let q = more alone (λ x t. mapped (joined_rows row) (behind_one b.depth x t)) b.passed h in
         let r = spaced alone (λ u t. mapped (joined_rows row) (mapped (location one) (more_within attr b.depth t)))
-            (turned alone (λ t. followed (space_at t) (λ u v. mapped (joined_rows row) (mapped (location one) (more_within attr b.depth v)))) (mapped_followed (joined_rows row) (space_at new.rest) (λ u v. mapped (location one) (more_within attr b.depth v))) q) w in
+        (turned alone (λ t. followed (space_at t) (λ u v. mapped (joined_rows row) (mapped (location one) (more_within attr b.depth v)))) (mapped_followed (joined_rows row) (space_at new.rest) (λ u v. mapped (location one) (more_within attr b.depth v))) q) w in
         turned alone (in_front (row_over paths fuller) b.depth) (mapped_mapped (joined_rows row) (location one) (joined_rows (row_over paths fuller)) (more_within attr b.depth end.rest) (λ ls. sym (ap (λ r. joined_rows r ls) all_over ∙ joined_one row ls one))) r
 
     -- what follows stands behind it where it is the first
@@ -280,4 +282,4 @@ module _ {A : Type 0} (attr : Text → Outcome (AttrView A)) where
       → Passed alone (row_at (location_within attr depth) (more_within attr depth)) (λ t. followed (location_within attr depth t) (behind_one depth)) old old
   row_begins depth old small fine b =
       starts alone (row_at (location_within attr depth) (more_within attr depth)) (λ t. followed (location_within attr depth t) (behind_one depth)) old fine
-          (row_one depth old.rest (location_within attr depth old.rest) (one_begins attr depth old.rest small b))
+      (row_one depth old.rest (location_within attr depth old.rest) (one_begins attr depth old.rest small b))

@@ -12,7 +12,6 @@ ghost use Rattle.pliron_text.specs.Roots.{itself, replaced};
 use crate::irfmt::demanded::{spaced_text, text_demanded};
 use crate::location::made::{call_site_made, fused_made, named_made};
 use crate::location::source::{place_read, quoted_demanded};
-
 use irtext_base::base::{AttrObj, Context};
 use irtext_base::location::Location;
 use irtext_base::parsable::{CharStream, ParseResult, TextStream};
