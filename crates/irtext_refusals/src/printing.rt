@@ -11,7 +11,7 @@ use std::alloc::Global;
 use std::fmt::Write;
 
 /// Whether the cause is that memory was refused, to the reading or to its fault.
-fn is_memory(cause: &Cause<DemoAttr>) -> bool {
+pub(crate) fn is_memory(cause: &Cause<DemoAttr>) -> bool {
     match cause {
         Cause::Memory => true,
         Cause::Parse { at: _, cause } => match **cause {
