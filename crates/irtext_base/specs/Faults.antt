@@ -1,9 +1,9 @@
 -- Causes as definitions speak of them: without where their texts lie in memory.
-use Rattle.std.specs.Prelude.{◌≡◌, ℕ, Option, List, [], ◌∷◌, cond, string_bytes}
+use Rattle.std.specs.Prelude.{ℕ, Option, List, [], ◌∷◌, cond, string_bytes}
 use Rattle.std.specs.List.{list_all}
 use Rattle.std.specs.Char.{is_ascii}
 use Rattle.std.specs.Str.{chars}
-use Rattle.irtext_base.specs.Text.{Text}
+use Rattle.irtext_base.specs.Text.{Text, is_identifier, stranger}
 use Rattle.irtext_base.specs.Format.{Id}
 use Rattle.irtext_base.specs.declared.base.identifier.OpId.{OpId}
 use Rattle.irtext_base.specs.declared.result.Expected.{Expected}
@@ -97,6 +97,6 @@ fault_of (cause.ReservedKey key) = ReservedKey key
 fault_of (cause.OwnText text) = OwnText (string_bytes text)
 fault_of _ = NoReader
 
--- something else stood where an identifier must stand
-abbrev pub IsUnexpected : Fault → Type 0
-IsUnexpected fault = (found : Option ℕ) × (fault ≡ Unexpected found AnIdentifier)
+-- why the bytes of a text are refused as an identifier: want of memory where they are one, else the first character that it can't have there, or the end
+abbrev pub name_refused : List ℕ → Fault
+name_refused bytes = cond (is_identifier bytes) Memory (Unexpected (stranger (chars bytes)) AnIdentifier)

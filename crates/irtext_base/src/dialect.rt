@@ -1,5 +1,5 @@
 //! Dialects: their names, and their operations, each with the format in which it is written.
-ghost use Rattle.std.specs.Prelude.{◌≡◌, ◌⊎◌, [], false, nat_eq, IfOk, IfErr, IfSome, IsTrue, OnOk, OnErr, Some, option_copied};
+ghost use Rattle.std.specs.Prelude.{◌≡◌, [], false, nat_eq, IfOk, IfErr, IfSome, IsTrue, OnOk, OnErr, Some, option_copied};
 ghost use Rattle.std.specs.Cmp.{on_equiv, on_per, partial_equiv_from_equiv};
 ghost use Rattle.std.specs.Cmp.Lexicographic.{pointwise, bytes_decides, nat_list_eq_equiv};
 ghost use Rattle.std.specs.Cmp.Rules.{hashing};
@@ -10,7 +10,7 @@ ghost use Rattle.indexmap.specs.IndexMap.{insert_entry};
 ghost use Rattle.std.proofs.Common.{rules, ap};
 ghost use Rattle.irtext_base.specs.Dialects.{same_id, with_op, IsRefusedBy};
 ghost use Rattle.irtext_base.specs.Directives.{format_of};
-ghost use Rattle.irtext_base.specs.Faults.{fault_of, Memory, IsUnexpected};
+ghost use Rattle.irtext_base.specs.Faults.{fault_of, name_refused};
 ghost use Rattle.irtext_base.specs.Format.{Accepted};
 ghost use Rattle.irtext_base.specs.Text.{is_identifier};
 ghost use Rattle.irtext_base.specs.declared.location.Location.{Unknown};
@@ -48,22 +48,23 @@ impl Model for DialectName {
 
 impl DialectName {
     /// The dialect's name of a text. Where the text is no identifier it answers `Unexpected`, with the first character that an
-    /// identifier can't have there, or the end; where memory was refused, `Memory`. The error is of kind invalid argument.
+    /// identifier can't have there, or the end; else, where memory was refused, `Memory`. The error is of kind invalid argument
+    /// without a location.
     pub fn try_new<A>(alloc: Global, text: &str) -> result::Result<DialectName, A>
         ensures ok { IfOk result (λ n. n ≡ text.now) }
         ensures fits { IfOk result (λ _. IsTrue (is_identifier text.now)) }
-        ensures refused { IfErr result (λ e. (fault_of e.err ≡ Memory) ⊎ ((is_identifier text.now ≡ false) × IsUnexpected (fault_of e.err))) }
-        ensures kind { IfErr result (λ e. e.kind ≡ ErrorKind.InvalidArgument) }
+        ensures refused { IfErr result (λ e. fault_of e.err ≡ name_refused text.now) }
+        ensures kind { IfErr result (λ e. (e.kind ≡ ErrorKind.InvalidArgument) × (e.loc ≡ Unknown)) }
     {
         let name = Identifier::try_new(alloc, text)?;
         Ok(DialectName { name })
     }
 
-    /// A second name with the same text. Only memory can be refused.
+    /// A second name with the same text. Only memory can be refused, with kind invalid argument and no location.
     pub fn try_clone<A>(&self) -> result::Result<DialectName, A>
         ensures ok { IfOk result (λ n. n ≡ self.now) }
         ensures refused { IfErr result (λ e. e.err ≡ Cause.Memory) }
-        ensures kind { IfErr result (λ e. e.kind ≡ ErrorKind.InvalidArgument) }
+        ensures kind { IfErr result (λ e. (e.kind ≡ ErrorKind.InvalidArgument) × (e.loc ≡ Unknown)) }
     {
         match self.name.clone() {
             Ok(name) => Ok(DialectName { name }),

@@ -1,15 +1,16 @@
 //! Identifiers, and the ids of operations.
-ghost use Rattle.std.specs.Prelude.{◌≡◌, ◌⊎◌, ℕ, false, IfOk, IfErr, IsTrue, nat_eq, refl, Some, OnOk, OnErr};
+ghost use Rattle.std.specs.Prelude.{◌≡◌, ℕ, not, find, IfOk, IfErr, IsTrue, nat_eq, refl, Some, OnOk, OnErr};
 ghost use Rattle.std.specs.Ordering.{nat_cmp};
 ghost use Rattle.std.specs.List.{list_all};
 ghost use Rattle.std.specs.Cmp.{on_equiv, on_total, on_po, on_per, partial_equiv_from_equiv};
 ghost use Rattle.std.specs.Cmp.Lexicographic.{pointwise, slice_cmp, bytes_decides, nat_list_eq_equiv, nat_list_cmp_total, texts_po, texts_ties};
 ghost use Rattle.std.specs.Cmp.Rules.{hashing};
 ghost use Rattle.std.specs.Hash as fed;
-ghost use Rattle.std.specs.Str.{bytes_eq};
+ghost use Rattle.std.specs.Str.{bytes_eq, chars};
 ghost use Rattle.std.proofs.Common.{rules, ap};
-ghost use Rattle.irtext_base.specs.Faults.{fault_of, Memory, IsUnexpected};
-ghost use Rattle.irtext_base.specs.Text.{begins_word, in_word, is_identifier};
+ghost use Rattle.irtext_base.specs.Faults.{fault_of, name_refused};
+ghost use Rattle.irtext_base.specs.Text.{begins_word, in_word, is_identifier, stranger};
+ghost use Rattle.irtext_base.specs.declared.location.Location.{Unknown};
 
 use crate::location::Location;
 use crate::result::{Cause, Error, ErrorKind, Expected};
@@ -70,20 +71,41 @@ pub fn is_identifier(text: &str) -> bool
     }
 }
 
+/// Whether an identifier can begin with a character.
+fn can_begin(c: char) -> bool
+    ensures { result ≡ begins_word c }
+{
+    c.is_ascii_alphabetic() || c == '_'
+}
+
+/// Whether an identifier can go on with a character.
+fn can_go_on(c: char) -> bool
+    ensures { result ≡ in_word c }
+{
+    c.is_ascii_alphanumeric() || c == '_'
+}
+
+/// The first character that no identifier has.
+fn first_alien(text: &str) -> Option<char>
+    ensures { result ≡ find (λ c. not (in_word c)) (chars text.now) }
+{
+    text.chars().find(|c| !can_go_on(*c))
+}
+
 /// The first character of a text that an identifier can't have where it stands.
-fn stranger(text: &str) -> Option<char> {
+fn stranger(text: &str) -> Option<char>
+    ensures { result ≡ stranger (chars text.now) }
+{
     let first = text.chars().next()?;
-    if !first.is_ascii_alphabetic() && first != '_' {
+    if !can_begin(first) {
         return Some(first);
     }
-    text.chars()
-        .find(|c| !c.is_ascii_alphanumeric() && *c != '_')
+    first_alien(text)
 }
 
 /// An error of kind invalid argument without a location.
 fn invalid<A>(cause: Cause<A>) -> Error<A>
-    ensures kind { result.kind ≡ ErrorKind.InvalidArgument }
-    ensures cause { result.err ≡ cause }
+    ensures { result ≡ record { kind = ErrorKind.InvalidArgument; err = cause; loc = Unknown } }
 {
     Error {
         kind: ErrorKind::InvalidArgument,
@@ -94,12 +116,13 @@ fn invalid<A>(cause: Cause<A>) -> Error<A>
 
 impl Identifier {
     /// The identifier of a text. Where the text isn't one it answers `Unexpected`, with the first character that an identifier
-    /// can't have there, or the end; where memory was refused, `Memory`. The error is of kind invalid argument.
+    /// can't have there, or the end; else, where memory was refused, `Memory`. The error is of kind invalid argument without a
+    /// location.
     pub fn try_new<A>(alloc: Global, text: &str) -> crate::result::Result<Identifier, A>
         ensures ok { IfOk result (λ i. i ≡ text.now) }
         ensures fits { IfOk result (λ _. IsTrue (is_identifier text.now)) }
-        ensures refused { IfErr result (λ e. (fault_of e.err ≡ Memory) ⊎ ((is_identifier text.now ≡ false) × IsUnexpected (fault_of e.err))) }
-        ensures kind { IfErr result (λ e. e.kind ≡ ErrorKind.InvalidArgument) }
+        ensures refused { IfErr result (λ e. fault_of e.err ≡ name_refused text.now) }
+        ensures kind { IfErr result (λ e. (e.kind ≡ ErrorKind.InvalidArgument) × (e.loc ≡ Unknown)) }
     {
         if !is_identifier(text) {
             return Err(invalid(Cause::Unexpected {
