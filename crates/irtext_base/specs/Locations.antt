@@ -62,6 +62,12 @@ abbrev pub in_row : {S A : Type 0} → List (LocationOf S A) → LocationsOf S A
 in_row [] = no_location
 in_row (l ∷ ls) = location l (in_row ls)
 
+-- a place of a source, or none: no part of it stands elsewhere in memory
+abbrev pub is_plain : {S A : Type 0} → LocationOf S A → Bool
+is_plain (src_pos src pos) = true
+is_plain unknown = true
+is_plain _ = false
+
 abbrev mutual
   -- the location over other sources
   pub sourced : {S R A : Type 0} → (S → R) → LocationOf S A → LocationOf R A

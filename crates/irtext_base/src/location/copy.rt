@@ -1,6 +1,6 @@
 //! Copies of locations.
-ghost use Rattle.std.specs.Prelude.{◌≡◌, map, IfOk, IfErr};
-ghost use Rattle.irtext_base.specs.Locations.{location_view, attr_view_in, out_of_memory};
+ghost use Rattle.std.specs.Prelude.{◌≡◌, false, map, IfOk, IfErr, OnErr};
+ghost use Rattle.irtext_base.specs.Locations.{location_view, attr_view_in, is_plain, out_of_memory};
 
 use crate::base::AttrObj;
 use crate::location::{Location, out_of_memory};
@@ -24,7 +24,8 @@ fn copy_location<A: AttrText>(
     alloc: Global,
     location: &Location<A>,
 ) -> Result<Location<A>, AllocError>
-    ensures { IfOk result (λ copy. location_view copy ≡ location_view location.now) }
+    ensures ok { IfOk result (λ copy. location_view copy ≡ location_view location.now) }
+    ensures err { OnErr result (is_plain (location_view location.now) ≡ false) }
 {
     match location {
         Location::SrcPos { src, pos } => Ok(Location::SrcPos {
@@ -71,9 +72,11 @@ fn copy_locations<A: AttrText>(
 }
 
 impl<A: AttrText> Location<A> {
-    /// A copy that equals the location. It is refused only for want of memory, by `Memory`, an error of kind invalid argument.
+    /// A copy that equals the location. It is refused only for want of memory, by `Memory`, an error of kind invalid argument. A
+    /// place of a source, and `Unknown`, take no memory and are never refused.
     pub fn try_clone(&self, alloc: Global) -> crate::result::Result<Location<A>, A>
         ensures ok { IfOk result (λ copy. location_view copy ≡ location_view self.now) }
+        ensures plain { OnErr result (is_plain (location_view self.now) ≡ false) }
         ensures err { IfErr result (λ e. e ≡ out_of_memory) }
     {
         match copy_location(alloc, self) {
