@@ -5,13 +5,15 @@ ghost use Rattle.irtext_base.specs.Answers.{Bad, Read};
 ghost use Rattle.irtext_base.specs.Faults.{Unexpected, Word};
 ghost use Rattle.irtext_base.specs.Faults as fault;
 ghost use Rattle.irtext_base.specs.Format as format;
+ghost use Rattle.irtext_base.specs.Locations as seen;
+ghost use Rattle.irtext_base.specs.Locations.{fused, location, no_location, src_pos};
 ghost use Rattle.irtext_base.specs.Text.{after_space, column_behind, line_behind};
-ghost use Rattle.irtext_base.specs.declared.location.Location.{SrcPos};
 ghost use Rattle.irtext_base.specs.declared.location.Source.TheVariants.{InMemory};
 ghost use Rattle.irtext_vectors.specs.Demo.{counted_demo, demo, inline_printing, isolated, labelled_printing, plain_printing};
 ghost use Rattle.irtext_vectors.specs.Formats.{Breaks, Kept};
 ghost use Rattle.irtext_vectors.specs.Graphs.{global_pointer, one_note_twice, two_branches, use_before_definition};
 ghost use Rattle.irtext_vectors.specs.Located.{note_on_line_one, text_locations, up_to_bracket};
+ghost use Rattle.irtext_vectors.specs.LocationRows.{note_at, place};
 ghost use Rattle.irtext_vectors.specs.Sections.{dictionary_behind, early_and_marked, early_built, for_item, note_and_location, note_nine, wrong_behind, wrong_names};
 ghost use Rattle.irtext_vectors.specs.Trees as trees;
 ghost use Rattle.irtext_vectors.specs.Trees.{empty_block, failure, marked, only_modules, wrong};
@@ -196,11 +198,12 @@ pub fn lines_and_columns()
 pub fn what_readers_answer()
     ensures module { module_at (codes "builtin.module @m {}") ≡ Read (module_with module_id (codes "m") None) (codes "builtin.module @m {}") [] }
     ensures open { module_at (codes "builtin.module @m {") ≡ Bad (Unexpected None (Word (codes "}"))) (codes "builtin.module @m {") }
-    ensures entry { entry_at {A = ⊥} (λ i. i == 5) (codes "!5 = @[<in-memory>: line: 7, column: 3], []") ≡ Read (5, Some (SrcPos InMemory (record { line = pos 7; column = pos 3 }))) (codes "!5 = @[<in-memory>: line: 7, column: 3], []") [] }
-    ensures unknown { entry_at {A = ⊥} (λ i. i == 0) (codes "!1 = []") ≡ Bad (fault.UnknownIndex 1) [] }
+    ensures entry { entry_at note_at (λ i. i == 5) (codes "!5 = @[<in-memory>: line: 7, column: 3], []") ≡ Read (5, Some (place None 7 3)) (codes "!5 = @[<in-memory>: line: 7, column: 3], []") [] }
+    ensures nested { entry_at note_at (λ i. i == 5) (codes "!5 = @[fused<note>[?]], []") ≡ Read (5, Some (fused (Some (seen.own tt)) (location seen.unknown no_location))) (codes "!5 = @[fused<note>[?]], []") [] }
+    ensures unknown { entry_at note_at (λ i. i == 0) (codes "!1 = []") ≡ Bad (fault.UnknownIndex 1) [] }
 {}
 
 /// The place one character before the end of two lines stands in the second.
 pub fn where_a_place_stands()
-    ensures { location_of {A = ⊥} InMemory (codes "ab\ncd") 1 ≡ SrcPos InMemory (record { line = pos 2; column = pos 2 }) }
+    ensures { location_of {A = ⊥} [] InMemory (codes "ab\ncd") 1 ≡ src_pos None (record { line = pos 2; column = pos 2 }) }
 {}

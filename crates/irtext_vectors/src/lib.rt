@@ -38,6 +38,8 @@ pub mod registering;
 #[cfg(test)]
 mod roots;
 #[cfg(test)]
+mod sections;
+#[cfg(test)]
 mod separators;
 #[cfg(test)]
 mod streams;

@@ -9,7 +9,8 @@ use Rattle.irtext_base.specs.Faults.{Fault}
 use Rattle.irtext_base.specs.Faults as fault
 use Rattle.irtext_base.specs.Answers.{Outcome, Read, Missing, Bad, mapped, followed}
 use Rattle.irtext_base.specs.Own.{Texts}
-use Rattle.irtext_base.specs.declared.location.Location.{Location}
+use Rattle.irtext_base.specs.Locations.{AttrView}
+use Rattle.irtext_base.specs.Paths.{Written}
 use Rattle.pliron_text.specs.Tree.{Mark}
 use Rattle.pliron_text.specs.ReadSection.{Entry, of_item, of_once, entry}
 use Rattle.pliron_text.specs.Script.{Failure, does_all, done, UnknownIndex}
@@ -32,39 +33,39 @@ known_read test (Read j a r) i taken rest e = go (test j) refl e
 known_read test (Missing cause) i taken rest e = absurd (cc e)
 known_read test (Bad cause upto) i taken rest e = absurd (cc e)
 
-abbrev pub said_next : {A : Type 0} → ℕ → Text → Outcome (ℕ × Option (Location A))
-said_next i text = mapped (λ x. (i, x)) (content_at text)
+abbrev pub said_next : {A : Type 0} → (Text → Outcome (AttrView A)) → ℕ → Text → Outcome (ℕ × Option (Written A))
+said_next attr i text = mapped (λ x. (i, x)) (content_at attr text)
 
 -- an entry whose index passes no test is unknown
-pub entry_unknown : {A : Type 0} (test : ℕ → Bool) (text : Text) (i : ℕ) (taken rest : Text) → index_at text ≡ Read i taken rest → test i ≡ false → entry_at {A = A} test text ≡ Bad (fault.UnknownIndex i) []
-entry_unknown test text i taken rest e f = ap (λ o. followed (known_index test o) said_next) e ∙ rw f refl
+pub entry_unknown : {A : Type 0} (attr : Text → Outcome (AttrView A)) (test : ℕ → Bool) (text : Text) (i : ℕ) (taken rest : Text) → index_at text ≡ Read i taken rest → test i ≡ false → entry_at attr test text ≡ Bad (fault.UnknownIndex i) []
+entry_unknown attr test text i taken rest e f = ap (λ o. followed (known_index test o) (said_next attr)) e ∙ rw f refl
 
-module _ {T A : Type 0} (types : Texts T) (owns : Texts A) where
-  abbrev item : Mark ℕ → Option (Location A) → Entry ℕ A (Location A)
+module _ {T A : Type 0} (types : Texts T) (owns : Texts A) (attr : Text → Outcome (AttrView A)) where
+  abbrev item : Mark ℕ → Option (Written A) → Entry ℕ A (Written A)
   item m x = of_item m x []
 
-  abbrev Entry_ : Entry ℕ A (Location A) → Reading
-  Entry_ e = entry (so_far types owns) location_standing e
+  abbrev Entry_ : Entry ℕ A (Written A) → Reading
+  Entry_ e = entry (so_far types owns) (location_standing attr) e
 
-  pub entry_reads : (test : ℕ → Bool) (text : Text) (e : ℕ × Option (Location A)) (taken rest : Text) → entry_at test text ≡ Read e taken rest
+  pub entry_reads : (test : ℕ → Bool) (text : Text) (e : ℕ × Option (Written A)) (taken rest : Text) → entry_at attr test text ≡ Read e taken rest
       → Entry_ (item (record { place = length text; index = e.0 }) e.1) text rest × (test e.0 ≡ true)
   entry_reads test text e taken rest h =
-      let a = followed_read (known_index test (index_at text)) said_next e taken rest h in
-      let b = mapped_read (λ x. (a.value, x)) (content_at a.middle) e a.more rest a.second in
+      let a = followed_read (known_index test (index_at text)) (said_next attr) e taken rest h in
+      let b = mapped_read (λ x. (a.value, x)) (content_at attr a.middle) e a.more rest a.second in
       let k = known_read test (index_at text) a.value a.front a.middle a.first in
       let same : a.value ≡ e.0 = ap (λ e. e.0) b.2 in
       let number : (literal (codes "!") ▸ number e.0) text a.middle = subst (λ i. (literal (codes "!") ▸ number i) text a.middle) same (index_read text a.value a.front a.middle k.0) in
-      let content : Content types owns e.1 (after_space a.middle) rest = subst (λ x. Content types owns x (after_space a.middle) rest) (ap (λ e. e.1) b.2) (content_read types owns a.middle b.0 a.more rest b.1) in
+      let content : Content types owns attr e.1 (after_space a.middle) rest = subst (λ x. Content types owns attr x (after_space a.middle) rest) (ap (λ e. e.1) b.2) (content_read types owns attr a.middle b.0 a.more rest b.1) in
       ((a.middle, (refl, number), content), ap test (sym same) ∙ k.1)
 
-  entry_found : (test : ℕ → Bool) (text : Text) (m : Mark ℕ) (x : Option (Location A)) (rest : Text) → Entry_ (item m x) text rest → test m.index ≡ true
-      → (taken : Text) × (entry_at test text ≡ Read (m.index, x) taken rest)
+  entry_found : (test : ℕ → Bool) (text : Text) (m : Mark ℕ) (x : Option (Written A)) (rest : Text) → Entry_ (item m x) text rest → test m.index ≡ true
+      → (taken : Text) × (entry_at attr test text ≡ Read (m.index, x) taken rest)
   entry_found test text m x rest (mid, (p, r), c) f =
       let i = index_found text m.index mid r in
-      let k = content_found types owns mid x rest c in
-      (i.0 ++ k.0, followed-read (known_index test (index_at text)) said_next m.index (m.index, x) i.0 mid k.0 rest (ap (known_index test) i.1 ∙ rw f refl) (ap (mapped (λ x. (m.index, x))) k.1))
+      let k = content_found types owns attr mid x rest c in
+      (i.0 ++ k.0, followed-read (known_index test (index_at text)) (said_next attr) m.index (m.index, x) i.0 mid k.0 rest (ap (known_index test) i.1 ∙ rw f refl) (ap (mapped (λ x. (m.index, x))) k.1))
 
-  entry_begins : (m : Mark ℕ) (x : Option (Location A)) (text rest : Text) → Entry_ (item m x) text rest → begins (the 33) text ≡ true
+  entry_begins : (m : Mark ℕ) (x : Option (Written A)) (text rest : Text) → Entry_ (item m x) text rest → begins (the 33) text ≡ true
   entry_begins m x text rest (mid, (p, (k, e, n)), c) = ap (begins (the 33)) e
 
 -- ---- the indices of entries so far, as the reader and as the refusals see them
@@ -88,7 +89,7 @@ swap false false c = refl
 
 module _ (X : Type 0) (i : ℕ) where
   -- the same next index is allowed
-  abbrev pub Allow : List (ℕ × Option (Location X)) → List ℕ → Type 0
+  abbrev pub Allow : List (ℕ × X) → List ℕ → Type 0
   Allow earlier indices = (j : ℕ) → may_have (i ∷ []) earlier j ≡ (is_among j (i ∷ []) && not (is_among j indices))
 
   pub allow_first : Allow [] []
@@ -98,7 +99,7 @@ module _ (X : Type 0) (i : ℕ) where
       go true c e = rw e refl
       go false c e = rw e refl
 
-  allow_more : (earlier : List (ℕ × Option (Location X))) (indices : List ℕ) (e : ℕ × Option (Location X)) → Allow earlier indices → Allow (e ∷ earlier) (indices ++ (e.0 ∷ []))
+  allow_more : (earlier : List (ℕ × X)) (indices : List ℕ) (e : ℕ × X) → Allow earlier indices → Allow (e ∷ earlier) (indices ++ (e.0 ∷ []))
   allow_more earlier indices e h j = ap (λ b. not (e.0 == j) && b) (h j) ∙ (swap (not (e.0 == j)) (is_among j (i ∷ [])) (not (is_among j indices)) ∙ ap (λ b. is_among j (i ∷ []) && b) (sym (among_push j e.0 indices)))
 
 -- ---- entries one behind the other
@@ -128,26 +129,26 @@ abbrev pub onto : {X : Type 0} → List X → List X → List X
 onto [] earlier = earlier
 onto (e ∷ es) earlier = onto es (e ∷ earlier)
 
-module _ {T A : Type 0} (types : Texts T) (owns : Texts A) (i : ℕ) where
+module _ {T A : Type 0} (types : Texts T) (owns : Texts A) (attr : Text → Outcome (AttrView A)) (i : ℕ) where
   abbrev pub Said : Type 0
-  Said = List (ℕ × Option (Location A))
+  Said = List (ℕ × Option (Written A))
 
-  abbrev pub readings : List (Entry ℕ A (Location A)) → List Reading
-  readings es = map (entry (so_far types owns) location_standing) es
+  abbrev pub readings : List (Entry ℕ A (Written A)) → List Reading
+  readings es = map (entry (so_far types owns) (location_standing attr)) es
 
   -- the entries that stand there, as the grammar has them, of which nothing is refused
   pub record EntriesRead (indices : List ℕ) (es : Said) (text rest : Text) : Type 0 where
-    pub entries : List (Entry ℕ A (Location A))
+    pub entries : List (Entry ℕ A (Written A))
     pub reads : repeated (the 33) (readings entries) text rest
     pub so_far : AreSoFar entries
     pub describe : DescribeEntries entries es
     pub allowed : refused i indices entries ≡ []
 
-  pub entries_read : (earlier : Said) (indices : List ℕ) (es : Said) (text rest : Text) → Allow A i earlier indices → Entries (i ∷ []) earlier es text rest → begins (the 33) rest ≡ false → EntriesRead indices es text rest
+  pub entries_read : (earlier : Said) (indices : List ℕ) (es : Said) (text rest : Text) → Allow (Option (Written A)) i earlier indices → Entries attr (i ∷ []) earlier es text rest → begins (the 33) rest ≡ false → EntriesRead indices es text rest
   entries_read earlier indices [] text rest h e none = record { entries = []; reads = (ap (begins (the 33)) (sym e) ∙ none, e); so_far = tt; describe = tt; allowed = refl }
   entries_read earlier indices (e ∷ es) text rest h (taken, mid, b, r, more) none =
-      let a = entry_reads types owns (may_have (i ∷ []) earlier) text e taken mid r in
-      let k = entries_read (e ∷ earlier) (indices ++ (e.0 ∷ [])) es (after_space mid) rest (allow_more A i earlier indices e h) more none in
+      let a = entry_reads types owns attr (may_have (i ∷ []) earlier) text e taken mid r in
+      let k = entries_read (e ∷ earlier) (indices ++ (e.0 ∷ [])) es (after_space mid) rest (allow_more (Option (Written A)) i earlier indices e h) more none in
       let m : Mark ℕ = record { place = length text; index = e.0 } in
       record {
         entries = of_item m e.1 [] ∷ k.entries;
@@ -158,19 +159,19 @@ module _ {T A : Type 0} (types : Texts T) (owns : Texts A) (i : ℕ) where
       }
 
   -- all entries of the grammar are the reader's, and nothing is refused of them
-  pub record Accepted (earlier : Said) (indices : List ℕ) (entries : List (Entry ℕ A (Location A))) (text rest : Text) : Type 0 where
+  pub record Accepted (earlier : Said) (indices : List ℕ) (entries : List (Entry ℕ A (Written A))) (text rest : Text) : Type 0 where
     pub es : Said
-    pub stand : Entries (i ∷ []) earlier es text rest
+    pub stand : Entries attr (i ∷ []) earlier es text rest
     pub all : begins (the 33) rest ≡ false
     pub describe : DescribeEntries entries es
     pub allowed : refused i indices entries ≡ []
 
   -- the reader stops at one of the grammar's entries, which is the first that is refused
-  pub record Stopped (earlier : Said) (indices : List ℕ) (entries : List (Entry ℕ A (Location A))) (text : Text) : Type 0 where
+  pub record Stopped (earlier : Said) (indices : List ℕ) (entries : List (Entry ℕ A (Written A))) (text : Text) : Type 0 where
     pub before : Said
     pub mid : Text
     pub index : ℕ
-    pub stand : Entries (i ∷ []) earlier before text mid
+    pub stand : Entries attr (i ∷ []) earlier before text mid
     pub more : begins (the 33) mid ≡ true
     pub taken : Text
     pub rest : Text
@@ -179,29 +180,29 @@ module _ {T A : Type 0} (types : Texts T) (owns : Texts A) (i : ℕ) where
     pub failures : List (Failure Text ℕ)
     pub refused_first : refused i indices entries ≡ unknown_at index mid ∷ failures
 
-  pub entries_found : (earlier : Said) (indices : List ℕ) (entries : List (Entry ℕ A (Location A))) (text rest : Text) → Allow A i earlier indices → AreSoFar entries → repeated (the 33) (readings entries) text rest
+  pub entries_found : (earlier : Said) (indices : List ℕ) (entries : List (Entry ℕ A (Written A))) (text rest : Text) → Allow (Option (Written A)) i earlier indices → AreSoFar entries → repeated (the 33) (readings entries) text rest
       → Accepted earlier indices entries text rest ⊎ Stopped earlier indices entries text
   entries_found earlier indices [] text rest h form (none, e) = inl (record { es = []; stand = e; all = ap (begins (the 33)) e ∙ none; describe = tt; allowed = refl })
-  entries_found earlier indices (of_item m x [] ∷ es) text rest h form (mid, r, more) = go (may_have (i ∷ []) earlier m.index) refl (entries_found ((m.index, x) ∷ earlier) (indices ++ (m.index ∷ [])) es (after_space mid) rest (allow_more A i earlier indices (m.index, x) h) form more)
+  entries_found earlier indices (of_item m x [] ∷ es) text rest h form (mid, r, more) = go (may_have (i ∷ []) earlier m.index) refl (entries_found ((m.index, x) ∷ earlier) (indices ++ (m.index ∷ [])) es (after_space mid) rest (allow_more (Option (Written A)) i earlier indices (m.index, x) h) form more)
     where
       on : may_have (i ∷ []) earlier m.index ≡ true → Accepted ((m.index, x) ∷ earlier) (indices ++ (m.index ∷ [])) es (after_space mid) rest ⊎ Stopped ((m.index, x) ∷ earlier) (indices ++ (m.index ∷ [])) es (after_space mid)
           → Accepted earlier indices (of_item m x [] ∷ es) text rest ⊎ Stopped earlier indices (of_item m x [] ∷ es) text
       on f (inl a) =
-          let k = entry_found types owns (may_have (i ∷ []) earlier) text m x mid r f in
+          let k = entry_found types owns attr (may_have (i ∷ []) earlier) text m x mid r f in
           inl (record {
             es = (m.index, x) ∷ a.es;
-            stand = (k.0, mid, entry_begins types owns m x text mid r, k.1, a.stand);
+            stand = (k.0, mid, entry_begins types owns attr m x text mid r, k.1, a.stand);
             all = a.all;
             describe = (refl, refl, a.describe);
             allowed = refused_known i indices m x es (sym (h m.index) ∙ f) ∙ a.allowed;
           })
       on f (inr s) =
-          let k = entry_found types owns (may_have (i ∷ []) earlier) text m x mid r f in
+          let k = entry_found types owns attr (may_have (i ∷ []) earlier) text m x mid r f in
           inr (record {
             before = (m.index, x) ∷ s.before;
             mid = s.mid;
             index = s.index;
-            stand = (k.0, mid, entry_begins types owns m x text mid r, k.1, s.stand);
+            stand = (k.0, mid, entry_begins types owns attr m x text mid r, k.1, s.stand);
             more = s.more;
             taken = s.taken;
             rest = s.rest;
@@ -221,7 +222,7 @@ module _ {T A : Type 0} (types : Texts T) (owns : Texts A) (i : ℕ) where
             mid = text;
             index = m.index;
             stand = refl;
-            more = entry_begins types owns m x text mid r;
+            more = entry_begins types owns attr m x text mid r;
             taken = n.0;
             rest = r.0;
             is_index = n.1;

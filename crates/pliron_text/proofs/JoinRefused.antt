@@ -6,7 +6,8 @@ use Rattle.irtext_base.specs.Reading.{the}
 use Rattle.irtext_base.specs.Faults.{Fault, UnknownIndex}
 use Rattle.irtext_base.specs.Answers.{Outcome, Read, Bad, followed}
 use Rattle.irtext_base.specs.Own.{Texts}
-use Rattle.irtext_base.specs.declared.location.Location.{Location}
+use Rattle.irtext_base.specs.Locations.{AttrView}
+use Rattle.irtext_base.specs.Paths.{Written}
 use Rattle.irtext_read.specs.Tokens.{text_at}
 use Rattle.pliron_text.specs.LocationText.{space_at}
 use Rattle.pliron_text.specs.ModuleText.{Module, module_at}
@@ -46,84 +47,84 @@ splits_twice : (taken last upto mid stop text : Text) → taken ++ mid ≡ text 
 splits_twice taken last upto mid stop text e f g = ap (λ t. t ++ stop) (sym g) ∙ (append_assoc taken last stop ∙ (ap (λ t. taken ++ t) f ∙ e))
 
 -- ---- where entries end
-module _ (A : Type 0) where
+module _ {A : Type 0} (attr : Text → Outcome (AttrView A)) where
   -- no entry whose index passes the test stands there
   record NoEntry (test : ℕ → Bool) (text : Text) : Type 0 where
-    pub none : (e : ℕ × Option (Location A)) (taken rest : Text) → begins (the 33) text ≡ true → entry_at test text ≡ Read e taken rest → ⊥
+    pub none : (e : ℕ × Option (Written A)) (taken rest : Text) → begins (the 33) text ≡ true → entry_at attr test text ≡ Read e taken rest → ⊥
 
   no_mark : (test : ℕ → Bool) (text : Text) → begins (the 33) text ≡ false → NoEntry test text
   no_mark test text e = record { none = λ g taken rest b f. true≢false (sym b ∙ e) }
 
-  refused_none : (test : ℕ → Bool) (text : Text) (cause : Fault) (upto : Text) → RefusedAs (entry_at {A = A} test text) cause upto → NoEntry test text
-  refused_none test text cause upto r = record { none = λ g taken rest b f. not_refused (entry_at test text) g taken rest cause upto f r }
+  refused_none : (test : ℕ → Bool) (text : Text) (cause : Fault) (upto : Text) → RefusedAs (entry_at attr test text) cause upto → NoEntry test text
+  refused_none test text cause upto r = record { none = λ g taken rest b f. not_refused (entry_at attr test text) g taken rest cause upto f r }
 
-  bad_none : (test : ℕ → Bool) (text : Text) (cause : Fault) (upto : Text) → entry_at {A = A} test text ≡ Bad cause upto → NoEntry test text
+  bad_none : (test : ℕ → Bool) (text : Text) (cause : Fault) (upto : Text) → entry_at attr test text ≡ Bad cause upto → NoEntry test text
   bad_none test text cause upto e = refused_none test text cause upto (subst (λ o. RefusedAs o cause upto) (sym e) (refl, refl))
 
   -- the next index may be the same, in whatever order the entries before are listed
-  may_onto : (marks : List ℕ) (before : List (ℕ × Option (Location A))) → may_have marks before ≡ may_have marks (onto before [])
+  may_onto : (marks : List ℕ) (before : List (ℕ × Option (Written A))) → may_have marks before ≡ may_have marks (onto before [])
   may_onto marks before = λ i j. (ap (λ es. may_have marks es j) (sym (append-nil before)) ∙ sym (may_have-onto marks j before [])) i
 
-  onto_none : (marks : List ℕ) (before : List (ℕ × Option (Location A))) (text : Text) → NoEntry (may_have marks before) text → NoEntry (may_have marks (onto before [])) text
+  onto_none : (marks : List ℕ) (before : List (ℕ × Option (Written A))) (text : Text) → NoEntry (may_have marks before) text → NoEntry (may_have marks (onto before [])) text
   onto_none marks before text n = subst (λ test. NoEntry test text) (may_onto marks before) n
 
   -- Two places of one text where its entries end are one place, behind the same entries.
-  ends_same : (marks : List ℕ) (earlier before es : List (ℕ × Option (Location A))) (text stop rest : Text) → Entries marks earlier before text stop → NoEntry (may_have marks (onto before earlier)) stop
-      → Entries marks earlier es text rest → NoEntry (may_have marks (onto es earlier)) rest → (before ≡ es) × (stop ≡ rest)
+  ends_same : (marks : List ℕ) (earlier before es : List (ℕ × Option (Written A))) (text stop rest : Text) → Entries attr marks earlier before text stop → NoEntry (may_have marks (onto before earlier)) stop
+      → Entries attr marks earlier es text rest → NoEntry (may_have marks (onto es earlier)) rest → (before ≡ es) × (stop ≡ rest)
   ends_same marks earlier [] [] text stop rest e n f k = (refl, e ∙ sym f)
-  ends_same marks earlier [] (g ∷ es) text stop rest e n (taken, mid, b, f, more) k = absurd (n.none g taken mid (ap (begins (the 33)) e ∙ b) (ap (entry_at (may_have marks earlier)) e ∙ f))
-  ends_same marks earlier (d ∷ before) [] text stop rest (taken, mid, b, e, more) n f k = absurd (k.none d taken mid (ap (begins (the 33)) f ∙ b) (ap (entry_at (may_have marks earlier)) f ∙ e))
+  ends_same marks earlier [] (g ∷ es) text stop rest e n (taken, mid, b, f, more) k = absurd (n.none g taken mid (ap (begins (the 33)) e ∙ b) (ap (entry_at attr (may_have marks earlier)) e ∙ f))
+  ends_same marks earlier (d ∷ before) [] text stop rest (taken, mid, b, e, more) n f k = absurd (k.none d taken mid (ap (begins (the 33)) f ∙ b) (ap (entry_at attr (may_have marks earlier)) f ∙ e))
   ends_same marks earlier (d ∷ before) (g ∷ es) text stop rest (taken, mid, b, e, more) n (taken', mid', c, f, more') k =
       let same : d ≡ g = same_value d g taken taken' mid mid' (sym e ∙ f) in
       let at : mid' ≡ mid = sym (same_rest d g taken taken' mid mid' (sym e ∙ f)) in
       let r = ends_same marks (d ∷ earlier) before es (after_space mid) stop rest more n
-      (subst (λ d. Entries marks (d ∷ earlier) es (after_space mid) rest) (sym same) (subst (λ m. Entries marks (g ∷ earlier) es (after_space m) rest) at more'))
+      (subst (λ d. Entries attr marks (d ∷ earlier) es (after_space mid) rest) (sym same) (subst (λ m. Entries attr marks (g ∷ earlier) es (after_space m) rest) at more'))
       (subst (λ d. NoEntry (may_have marks (onto es (d ∷ earlier))) rest) (sym same) k) in
       (ap₂ (λ e es. e ∷ es) same r.0, r.1)
 
   -- entries that are refused do not stand whole
-  entries_whole : (marks : List ℕ) (es : List (ℕ × Option (Location A))) (text rest : Text) (cause : Fault) (upto : Text) → EntriesRefused A marks text cause upto → AllEntries marks es text rest → ⊥
+  entries_whole : (marks : List ℕ) (es : List (ℕ × Option (Written A))) (text rest : Text) (cause : Fault) (upto : Text) → EntriesRefused attr marks text cause upto → AllEntries attr marks es text rest → ⊥
   entries_whole marks es text rest cause upto r (stand, end) =
       let same = ends_same marks [] r.before es text r.stop rest r.stand (onto_none marks r.before r.stop (refused_none (may_have marks r.before) r.stop cause r.last r.refused)) stand (no_mark (may_have marks (onto es [])) rest end) in
       true≢false (sym r.more ∙ (ap (begins (the 33)) same.1 ∙ end))
 
   -- entries are refused where one of them has an unknown index: with that cause, and at that place
-  entries_stop : (marks : List ℕ) (text stop : Text) (j : ℕ) (cause : Fault) (upto : Text) → EntriesRefused A marks text cause upto → StopsAt A marks text stop j → (cause ≡ UnknownIndex j) × (upto ++ stop ≡ text)
+  entries_stop : (marks : List ℕ) (text stop : Text) (j : ℕ) (cause : Fault) (upto : Text) → EntriesRefused attr marks text cause upto → StopsAt attr marks text stop j → (cause ≡ UnknownIndex j) × (upto ++ stop ≡ text)
   entries_stop marks text stop j cause upto r s =
       let same = ends_same marks [] r.before s.before text r.stop stop r.stand (onto_none marks r.before r.stop (refused_none (may_have marks r.before) r.stop cause r.last r.refused)) s.entries
       (onto_none marks s.before stop (bad_none (may_have marks s.before) stop (UnknownIndex j) [] s.unknown)) in
-      let unknown : entry_at {A = A} (may_have marks r.before) r.stop ≡ Bad (UnknownIndex j) [] = ap₂ (λ es t. entry_at {A = A} (may_have marks es) t) same.0 same.1 ∙ s.unknown in
-      let is = bad_refused (entry_at (may_have marks r.before) r.stop) (UnknownIndex j) [] cause r.last unknown r.refused in
+      let unknown : entry_at attr (may_have marks r.before) r.stop ≡ Bad (UnknownIndex j) [] = ap₂ (λ es t. entry_at attr (may_have marks es) t) same.0 same.1 ∙ s.unknown in
+      let is = bad_refused (entry_at attr (may_have marks r.before) r.stop) (UnknownIndex j) [] cause r.last unknown r.refused in
       (sym is.0, splits_twice r.taken r.last upto r.stop stop text r.splits (ap (λ t. t ++ stop) (sym is.1) ∙ sym same.1) r.whole)
 
   -- ---- a section
   -- a section that is refused does not stand whole
-  section_whole : (i : ℕ) (es : List (ℕ × Option (Location A))) (text rest : Text) (cause : Fault) (upto : Text) → SectionRefused A (i ∷ []) text cause upto → SectionStands (Some i) es text rest → ⊥
+  section_whole : (i : ℕ) (es : List (ℕ × Option (Written A))) (text rest : Text) (cause : Fault) (upto : Text) → SectionRefused attr (i ∷ []) text cause upto → SectionStands attr (Some i) es text rest → ⊥
   section_whole i es text rest cause upto (no_heading r) (taken, behind, h, all) = not_refused (heading_at text) tt taken behind cause upto h r
   section_whole i es text rest cause upto (no_entry taken' behind' last f r w) (taken, behind, h, all) =
       let at : behind' ≡ behind = same_rest tt tt taken' taken behind' behind (sym f ∙ h) in
-      entries_whole (i ∷ []) es behind rest cause last (subst (λ t. EntriesRefused A (i ∷ []) t cause last) at r) all
+      entries_whole (i ∷ []) es behind rest cause last (subst (λ t. EntriesRefused attr (i ∷ []) t cause last) at r) all
 
   -- a section is refused where one of its entries has an unknown index
-  section_stop : (i : ℕ) (text taken behind stop : Text) (j : ℕ) (cause : Fault) (upto : Text) → SectionRefused A (i ∷ []) text cause upto → heading_at text ≡ Read tt taken behind → StopsAt A (i ∷ []) behind stop j
+  section_stop : (i : ℕ) (text taken behind stop : Text) (j : ℕ) (cause : Fault) (upto : Text) → SectionRefused attr (i ∷ []) text cause upto → heading_at text ≡ Read tt taken behind → StopsAt attr (i ∷ []) behind stop j
       → (cause ≡ UnknownIndex j) × (upto ++ stop ≡ text)
   section_stop i text taken behind stop j cause upto (no_heading r) h s = absurd (not_refused (heading_at text) tt taken behind cause upto h r)
   section_stop i text taken behind stop j cause upto (no_entry taken' behind' last f r w) h s =
       let at : behind ≡ behind' = same_rest tt tt taken taken' behind behind' (sym h ∙ f) in
-      let k = entries_stop (i ∷ []) behind' stop j cause last r (subst (λ t. StopsAt A (i ∷ []) t stop j) at s) in
+      let k = entries_stop (i ∷ []) behind' stop j cause last r (subst (λ t. StopsAt attr (i ∷ []) t stop j) at s) in
       (k.0, splits_twice taken' last upto behind' stop text (splits_heading text tt taken' behind' f) k.1 w)
 
-module _ {T A : Type 0} (types : Texts T) (owns : Texts A) where
+module _ {T A : Type 0} (types : Texts T) (owns : Texts A) (attr : Text → Outcome (AttrView A)) where
   -- ---- a root
   -- the section that is refused behind a module, where its module reads
   record BehindModule (m : Module) (text mid : Text) (cause : Fault) (upto : Text) : Type 0 where
     pub mark : ℕ
     pub is_marked : m.mark ≡ Some mark
     pub last : Text
-    pub section : SectionRefused A (mark ∷ []) mid cause last
+    pub section : SectionRefused attr (mark ∷ []) mid cause last
     pub splits : (stop : Text) → last ++ stop ≡ mid → upto ++ stop ≡ text
 
-  behind_module : (text : Text) (m : Module) (taken mid : Text) (cause : Fault) (upto : Text) → RootRefused A text cause upto → module_at text ≡ Read m taken mid → BehindModule m text mid cause upto
+  behind_module : (text : Text) (m : Module) (taken mid : Text) (cause : Fault) (upto : Text) → RootRefused attr text cause upto → module_at text ≡ Read m taken mid → BehindModule m text mid cause upto
   behind_module text m taken mid cause upto (no_module r) e = absurd (not_refused (module_at text) m taken mid cause upto e r)
   behind_module text m taken mid cause upto (no_section m' taken' mid' i last f k r w) e =
       let same : m ≡ m' = same_value m m' taken taken' mid mid' (sym e ∙ f) in
@@ -132,22 +133,22 @@ module _ {T A : Type 0} (types : Texts T) (owns : Texts A) where
         mark = i;
         is_marked = ap (λ m. m.mark) same ∙ k;
         last = last;
-        section = subst (λ t. SectionRefused A (i ∷ []) t cause last) at r;
+        section = subst (λ t. SectionRefused attr (i ∷ []) t cause last) at r;
         splits = λ stop h. splits_twice taken' last upto mid' stop text (module_read types owns text m' taken' mid' f).5 (h ∙ sym at) w;
       }
 
   -- A root that is refused does not stand whole.
-  pub root_whole : (text : Text) (m : Module) (es : List (ℕ × Option (Location A))) (taken mid rest : Text) (cause : Fault) (upto : Text) → RootRefused A text cause upto
-      → module_at text ≡ Read m taken mid → SectionStands m.mark es mid rest → ⊥
+  pub root_whole : (text : Text) (m : Module) (es : List (ℕ × Option (Written A))) (taken mid rest : Text) (cause : Fault) (upto : Text) → RootRefused attr text cause upto
+      → module_at text ≡ Read m taken mid → SectionStands attr m.mark es mid rest → ⊥
   root_whole text m es taken mid rest cause upto r e s =
       let b = behind_module text m taken mid cause upto r e in
-      section_whole A b.mark es mid rest cause b.last b.section (subst (λ k. SectionStands k es mid rest) b.is_marked s)
+      section_whole attr b.mark es mid rest cause b.last b.section (subst (λ k. SectionStands attr k es mid rest) b.is_marked s)
 
   -- A root is refused where an entry of its section has an unknown index: with that cause, and at that place.
-  pub root_stop : (text : Text) (m : Module) (taken mid : Text) (i : ℕ) (heading behind stop : Text) (j : ℕ) (cause : Fault) (upto : Text) → RootRefused A text cause upto → module_at text ≡ Read m taken mid
-      → m.mark ≡ Some i → heading_at mid ≡ Read tt heading behind → StopsAt A (i ∷ []) behind stop j → (cause ≡ UnknownIndex j) × (upto ++ stop ≡ text)
+  pub root_stop : (text : Text) (m : Module) (taken mid : Text) (i : ℕ) (heading behind stop : Text) (j : ℕ) (cause : Fault) (upto : Text) → RootRefused attr text cause upto → module_at text ≡ Read m taken mid
+      → m.mark ≡ Some i → heading_at mid ≡ Read tt heading behind → StopsAt attr (i ∷ []) behind stop j → (cause ≡ UnknownIndex j) × (upto ++ stop ≡ text)
   root_stop text m taken mid i heading behind stop j cause upto r e k h s =
       let b = behind_module text m taken mid cause upto r e in
       let same : i ≡ b.mark = let f : Some i ≡ Some b.mark = sym k ∙ b.is_marked in cc f in
-      let z = section_stop A b.mark mid heading behind stop j cause b.last b.section h (subst (λ i. StopsAt A (i ∷ []) behind stop j) same s) in
+      let z = section_stop attr b.mark mid heading behind stop j cause b.last b.section h (subst (λ i. StopsAt attr (i ∷ []) behind stop j) same s) in
       (z.0, b.splits stop z.1)

@@ -6,12 +6,14 @@ use Rattle.irtext_base.specs.Text.{Text, begins, front, after_space, begins_word
 use Rattle.irtext_base.specs.Reading.{Reading, ◌▹◌, the, literal, separated}
 use Rattle.irtext_base.specs.Answers.{Outcome, Read, Missing, Bad, mapped, followed}
 use Rattle.irtext_base.specs.Own.{Texts, found, standing}
-use Rattle.irtext_base.specs.declared.location.Location.{Location}
+use Rattle.irtext_base.specs.Locations.{AttrView}
+use Rattle.irtext_base.specs.Paths.{Written}
 use Rattle.irtext_base.proofs.Characters.{after_twice}
 use Rattle.irtext_read.specs.Tokens.{text_at}
 use Rattle.pliron_text.specs.Reads as reads
 use Rattle.pliron_text.specs.ReadSection.{located}
-use Rattle.pliron_text.specs.LocationText.{space_at, spaced_at, location_at}
+use Rattle.pliron_text.specs.LocationReading.{location_at}
+use Rattle.pliron_text.specs.LocationText.{space_at, spaced_at}
 use Rattle.pliron_text.specs.SectionText.{entry_location_at, content_at}
 use Rattle.pliron_text.specs.SoFar.{so_far, location_standing}
 use Rattle.pliron_text.proofs.JoinAnswers.{followed_read, followed-read, mapped_read}
@@ -45,53 +47,53 @@ standing_found (Read y a r) x rest e = (a, ap₂ (λ y r. Read y a r) (cc e) (cc
 standing_found (Missing cause) x rest e = absurd (cc e)
 standing_found (Bad cause upto) x rest e = absurd (cc e)
 
-module _ {A : Type 0} where
+module _ {A : Type 0} (attr : Text → Outcome (AttrView A)) where
   -- ---- an entry's location: what its reader does, step by step
-  abbrev last_next : Location A → Unit {0} → Text → Outcome (Option (Location A))
+  abbrev last_next : Written A → Unit {0} → Text → Outcome (Option (Written A))
   last_next x _ text = mapped (λ _. Some x) (space_at text)
 
-  abbrev comma_next : Location A → Unit {0} → Text → Outcome (Option (Location A))
+  abbrev comma_next : Written A → Unit {0} → Text → Outcome (Option (Written A))
   comma_next x _ text = followed (text_at (codes ",") text) (last_next x)
 
-  abbrev bracket_next : Location A → Text → Outcome (Option (Location A))
+  abbrev bracket_next : Written A → Text → Outcome (Option (Written A))
   bracket_next x text = followed (spaced_at (codes "]") text) (comma_next x)
 
-  abbrev place_next : Unit {0} → Text → Outcome (Option (Location A))
-  place_next _ text = followed (location_at text) bracket_next
+  abbrev place_next : Unit {0} → Text → Outcome (Option (Written A))
+  place_next _ text = followed (location_at attr text) bracket_next
 
-  abbrev space_next : Unit {0} → Text → Outcome (Option (Location A))
+  abbrev space_next : Unit {0} → Text → Outcome (Option (Written A))
   space_next _ text = followed (space_at text) place_next
 
   -- ---- what an entry says
-  abbrev close_next : Option (Location A) → Unit {0} → Text → Outcome (Option (Location A))
+  abbrev close_next : Option (Written A) → Unit {0} → Text → Outcome (Option (Written A))
   close_next x _ text = mapped (λ _. x) (text_at (codes "]") text)
 
-  abbrev inside_next : Option (Location A) → Unit {0} → Text → Outcome (Option (Location A))
+  abbrev inside_next : Option (Written A) → Unit {0} → Text → Outcome (Option (Written A))
   inside_next x _ text = followed (space_at text) (close_next x)
 
-  abbrev open_next : Option (Location A) → Text → Outcome (Option (Location A))
+  abbrev open_next : Option (Written A) → Text → Outcome (Option (Written A))
   open_next x text = followed (text_at (codes "[") text) (inside_next x)
 
-  abbrev content_next : Unit {0} → Text → Outcome (Option (Location A))
-  content_next _ text = followed (entry_location_at text) open_next
+  abbrev content_next : Unit {0} → Text → Outcome (Option (Written A))
+  content_next _ text = followed (entry_location_at attr text) open_next
 
-module _ {T A : Type 0} (types : Texts T) (owns : Texts A) where
+module _ {T A : Type 0} (types : Texts T) (owns : Texts A) (attr : Text → Outcome (AttrView A)) where
   -- a location between its brackets, as the grammar has it
-  abbrev Located : Option (Location A) → Reading
-  Located = located (so_far types owns) location_standing
+  abbrev Located : Option (Written A) → Reading
+  Located = located (so_far types owns) (location_standing attr)
 
   -- the location's text, where no white space stands in front
-  entry_location_read : (text : Text) (x : Option (Location A)) (taken rest : Text) → after_space text ≡ text → entry_location_at text ≡ Read x taken rest
+  entry_location_read : (text : Text) (x : Option (Written A)) (taken rest : Text) → after_space text ≡ text → entry_location_at attr text ≡ Read x taken rest
       → (m : Text) × Located x text m × (after_space m ≡ rest)
   entry_location_read text x taken rest tight e = go (begins (the 64) text) refl e
     where
-      some : followed (text_at (codes "@[") text) space_next ≡ Read x taken rest → (m : Text) × Located x text m × (after_space m ≡ rest)
+      some : followed (text_at (codes "@[") text) (space_next attr) ≡ Read x taken rest → (m : Text) × Located x text m × (after_space m ≡ rest)
       some e =
-          let a = followed_read (text_at (codes "@[") text) space_next x taken rest e in
-          let b = followed_read (space_at a.middle) place_next x a.more rest a.second in
-          let c = followed_read (location_at b.middle) bracket_next x b.more rest b.second in
-          let d = followed_read (spaced_at (codes "]") c.middle) (comma_next c.value) x c.more rest c.second in
-          let g = followed_read (text_at (codes ",") d.middle) (last_next c.value) x d.more rest d.second in
+          let a = followed_read (text_at (codes "@[") text) (space_next attr) x taken rest e in
+          let b = followed_read (space_at a.middle) (place_next attr) x a.more rest a.second in
+          let c = followed_read (location_at attr b.middle) (bracket_next attr) x b.more rest b.second in
+          let d = followed_read (spaced_at (codes "]") c.middle) (comma_next attr c.value) x c.more rest c.second in
+          let g = followed_read (text_at (codes ",") d.middle) (last_next attr c.value) x d.more rest d.second in
           let h = mapped_read (λ _. Some c.value) (space_at g.middle) x g.more rest g.second in
           let s = spaced_read (codes "]") c.middle d.front d.middle d.first in
           let at_place : after_space a.middle ≡ b.middle = cc b.first in
@@ -102,42 +104,42 @@ module _ {T A : Type 0} (types : Texts T) (owns : Texts A) where
               text_read (codes "@[") text a.front a.middle a.first,
               (
                 c.middle,
-                ap (λ s. standing (location_at s)) at_place ∙ ap standing c.first,
+                ap (λ s. standing (location_at attr s)) at_place ∙ ap standing c.first,
                 (s.0, s.1, s.2 ∙ text_read (codes ",") d.middle g.front g.middle g.first),
               ),
             ),
             at_end,
           )
 
-      go : (b : Bool) → begins (the 64) text ≡ b → cond b (followed (text_at (codes "@[") text) space_next) (Read None [] text) ≡ Read x taken rest
+      go : (b : Bool) → begins (the 64) text ≡ b → cond b (followed (text_at (codes "@[") text) (space_next attr)) (Read None [] text) ≡ Read x taken rest
           → (m : Text) × Located x text m × (after_space m ≡ rest)
       go true f e = some e
       go false f e = let g : None ≡ x = cc e in let h : text ≡ rest = cc e in (text, subst (λ x. Located x text text) g (f, refl), tight ∙ h)
 
-  entry_location_found : (text : Text) (x : Option (Location A)) (m : Text) → after_space text ≡ text → Located x text m → (taken : Text) × (entry_location_at text ≡ Read x taken (after_space m))
+  entry_location_found : (text : Text) (x : Option (Written A)) (m : Text) → after_space text ≡ text → Located x text m → (taken : Text) × (entry_location_at attr text ≡ Read x taken (after_space m))
   entry_location_found text None m tight (f, e) = ([], rw f (ap (Read None []) (sym tight ∙ ap after_space (sym e))))
   entry_location_found text (Some x) m tight (t, a, (u, b, (v, c, d))) =
-      let p = standing_found (location_at (after_space t)) x u b in
+      let p = standing_found (location_at attr (after_space t)) x u b in
       let s = spaced_found (codes "]") u v c in
       let f : begins (the 64) text ≡ true = ap (begins (the 64)) a in (
         codes "@[" ++ (front is_whitespace t ++ (p.0 ++ (s.0 ++ (codes "," ++ front is_whitespace m)))),
-        rw f (followed-read (text_at (codes "@[") text) space_next tt (Some x) (codes "@[") t (front is_whitespace t ++ (p.0 ++ (s.0 ++ (codes "," ++ front is_whitespace m)))) (after_space m) (text-literal (codes "@[") text t a)
-            (followed-read (space_at t) place_next tt (Some x) (front is_whitespace t) (after_space t) (p.0 ++ (s.0 ++ (codes "," ++ front is_whitespace m))) (after_space m) refl
-            (followed-read (location_at (after_space t)) bracket_next x (Some x) p.0 u (s.0 ++ (codes "," ++ front is_whitespace m)) (after_space m) p.1
-            (followed-read (spaced_at (codes "]") u) (comma_next x) tt (Some x) s.0 (after_space v) (codes "," ++ front is_whitespace m) (after_space m) s.1
-            (followed-read (text_at (codes ",") (after_space v)) (last_next x) tt (Some x) (codes ",") m (front is_whitespace m) (after_space m) (text-literal (codes ",") (after_space v) m d) refl))))),
+        rw f (followed-read (text_at (codes "@[") text) (space_next attr) tt (Some x) (codes "@[") t (front is_whitespace t ++ (p.0 ++ (s.0 ++ (codes "," ++ front is_whitespace m)))) (after_space m) (text-literal (codes "@[") text t a)
+            (followed-read (space_at t) (place_next attr) tt (Some x) (front is_whitespace t) (after_space t) (p.0 ++ (s.0 ++ (codes "," ++ front is_whitespace m))) (after_space m) refl
+            (followed-read (location_at attr (after_space t)) (bracket_next attr) x (Some x) p.0 u (s.0 ++ (codes "," ++ front is_whitespace m)) (after_space m) p.1
+            (followed-read (spaced_at (codes "]") u) (comma_next attr x) tt (Some x) s.0 (after_space v) (codes "," ++ front is_whitespace m) (after_space m) s.1
+            (followed-read (text_at (codes ",") (after_space v)) (last_next attr x) tt (Some x) (codes ",") m (front is_whitespace m) (after_space m) (text-literal (codes ",") (after_space v) m d) refl))))),
       )
 
   -- what stands behind an entry's mark, as the grammar has it, where no attribute is given
-  abbrev pub Content : Option (Location A) → Reading
+  abbrev pub Content : Option (Written A) → Reading
   Content x = literal (codes "=") ▹ Located x ▹ literal (codes "[") ▹ separated 44 reads.no_word [] ▹ literal (codes "]")
 
-  pub content_read : (text : Text) (x : Option (Location A)) (taken rest : Text) → content_at text ≡ Read x taken rest → Content x (after_space text) rest
+  pub content_read : (text : Text) (x : Option (Written A)) (taken rest : Text) → content_at attr text ≡ Read x taken rest → Content x (after_space text) rest
   content_read text x taken rest e =
-      let a = followed_read (spaced_at (codes "=") text) content_next x taken rest e in
-      let b = followed_read (entry_location_at a.middle) open_next x a.more rest a.second in
-      let c = followed_read (text_at (codes "[") b.middle) (inside_next b.value) x b.more rest b.second in
-      let d = followed_read (space_at c.middle) (close_next b.value) x c.more rest c.second in
+      let a = followed_read (spaced_at (codes "=") text) (content_next attr) x taken rest e in
+      let b = followed_read (entry_location_at attr a.middle) (open_next attr) x a.more rest a.second in
+      let c = followed_read (text_at (codes "[") b.middle) (inside_next attr b.value) x b.more rest b.second in
+      let d = followed_read (space_at c.middle) (close_next attr b.value) x c.more rest c.second in
       let g = mapped_read (λ _. b.value) (text_at (codes "]") d.middle) x d.more rest d.second in
       let s = spaced_read (codes "=") text a.front a.middle a.first in
       let tight : after_space a.middle ≡ a.middle = subst (λ t. after_space t ≡ t) s.2 (after_twice is_whitespace s.0) in
@@ -157,14 +159,14 @@ module _ {T A : Type 0} (types : Texts T) (owns : Texts A) where
         ),
       )
 
-  pub content_found : (text : Text) (x : Option (Location A)) (rest : Text) → Content x (after_space text) rest → (taken : Text) × (content_at text ≡ Read x taken rest)
+  pub content_found : (text : Text) (x : Option (Written A)) (rest : Text) → Content x (after_space text) rest → (taken : Text) × (content_at attr text ≡ Read x taken rest)
   content_found text x rest (m, a, (n, b, (k, c, (h, (none, e), d)))) =
       let s = spaced_found (codes "=") text m a in
       let p = entry_location_found (after_space m) x n (after_twice is_whitespace m) b in
       let close : after_space k ≡ codes "]" ++ rest = sym (after_twice is_whitespace k) ∙ (ap after_space (sym e) ∙ d) in (
         s.0 ++ (p.0 ++ (codes "[" ++ (front is_whitespace k ++ codes "]"))),
-        followed-read (spaced_at (codes "=") text) content_next tt x s.0 (after_space m) (p.0 ++ (codes "[" ++ (front is_whitespace k ++ codes "]"))) rest s.1
-            (followed-read (entry_location_at (after_space m)) open_next x x p.0 (after_space n) (codes "[" ++ (front is_whitespace k ++ codes "]")) rest p.1
-            (followed-read (text_at (codes "[") (after_space n)) (inside_next x) tt x (codes "[") k (front is_whitespace k ++ codes "]") rest (text-literal (codes "[") (after_space n) k c)
-            (followed-read (space_at k) (close_next x) tt x (front is_whitespace k) (after_space k) (codes "]") rest refl (ap (mapped (λ _. x)) (text-literal (codes "]") (after_space k) rest close))))),
+        followed-read (spaced_at (codes "=") text) (content_next attr) tt x s.0 (after_space m) (p.0 ++ (codes "[" ++ (front is_whitespace k ++ codes "]"))) rest s.1
+            (followed-read (entry_location_at attr (after_space m)) (open_next attr) x x p.0 (after_space n) (codes "[" ++ (front is_whitespace k ++ codes "]")) rest p.1
+            (followed-read (text_at (codes "[") (after_space n)) (inside_next attr x) tt x (codes "[") k (front is_whitespace k ++ codes "]") rest (text-literal (codes "[") (after_space n) k c)
+            (followed-read (space_at k) (close_next attr x) tt x (front is_whitespace k) (after_space k) (codes "]") rest refl (ap (mapped (λ _. x)) (text-literal (codes "]") (after_space k) rest close))))),
       )

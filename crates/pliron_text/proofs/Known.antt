@@ -7,7 +7,9 @@ use Rattle.irtext_base.specs.Faults.{Demand as Demanded}
 use Rattle.irtext_base.specs.Answers.{Outcome, Read, Missing, Bad, Takes, Starves, Refuses, Gives, demanded, prefixed, mapped, followed, unless_failed}
 use Rattle.irtext_base.specs.declared.parsable.fault.ParseFault.{ParseFault}
 use Rattle.irtext_base.specs.Reading.{the}
-use Rattle.irtext_base.specs.declared.location.Location.{Location}
+use Rattle.irtext_base.specs.Locations.{AttrView}
+use Rattle.irtext_base.specs.Paths.{Written}
+use Rattle.irtext_read.specs.AttrTexts.{attr_at}
 use Rattle.irtext_read.specs.Tokens.{text_at, number_at, id_at}
 use Rattle.irtext_base.specs.Format.{Id, same_text}
 use Rattle.std.specs.Map.{lookup}
@@ -19,8 +21,9 @@ use Rattle.pliron_text.proofs.Led.{header_at-led}
 use Rattle.irtext_base.proofs.Compose.{refuses_before}
 use Rattle.pliron_text.specs.MustRead.{MustRead, MayRead}
 use Rattle.pliron_text.specs.SectionText.{known_index, entry_at, content_at, heading_at}
-use Rattle.pliron_text.specs.Roots.{itself, replaced, Refusal, Demand, unnoted, fresh_mark_at, operation_at}
-use Rattle.pliron_text.proofs.Spares.{Spares, rest_of, spares-followed, spares-prefixed, spares-behind, spares-id, spares-rest, spares-braces, spares-mark, spares-mapped, spares-index, spares-content, spares-spaced}
+use Rattle.pliron_text.specs.Roots.{itself, replaced, IsSincere, Refusal, Demand, unnoted, fresh_mark_at, operation_at}
+use Rattle.pliron_text.proofs.Spares.{Spares, rest_of, NotFailed, unexpected_fine, range_fine, spares-followed, spares-prefixed, spares-behind, spares-id, spares-rest, spares-braces, spares-mark, spares-mapped, spares-index, spares-content, spares-spaced}
+use Rattle.pliron_text.proofs.LocationSpares.{attr_spares, location_spares}
 use Rattle.pliron_text.proofs.Rooted.{alone}
 
 module _ (test : ℕ → Bool) where
@@ -55,55 +58,45 @@ module _ (test : ℕ → Bool) where
   pub unknown : {A : Type 0} {f : Text → Outcome ℕ} {old mid new : StreamView} {i : ℕ} {fault : ParseFault A} → test i ≡ false → MustRead {A = A} itself replaced (λ i. i) f old (Ok i) mid → UnknownAt i old mid fault new → MustRead itself replaced (λ (i : ℕ). i) (λ t. known_index test (f t)) old (Err fault) new
   unknown {f = f} {old = old} {mid = mid} {new = new} {i = i} {fault = fault} e h k = record { answers = unknown_read old.failed (f old.rest) i old mid new fault e h.answers k }
 
--- a cause that doesn't say that the stream had failed
-abbrev pub NotFailed : Fault → Type 0
-NotFailed cause = cause ≡ Failed → ⊥
-
-unexpected_fine : (found : Option ℕ) (demand : Demanded) → NotFailed (Unexpected found demand)
-unexpected_fine found demand = λ e. absurd (cc)
-
-range_fine : (text : Text) → NotFailed (NumberRange text)
-range_fine text = λ e. absurd (cc)
-
 known_spares : (test : ℕ → Bool) (o : Outcome ℕ) → Spares NotFailed o → Spares NotFailed (known_index test o)
 known_spares test (Read x t r) h = elim (test x) as (λ b. Spares NotFailed (cond b (Read x t r) (Bad (UnknownIndex x) []))) [ true ↦ tt | false ↦ (λ e. absurd (cc)) ]
 known_spares test (Missing cause) h = h
 known_spares test (Bad cause upto) h = h
 
-module _ {A : Type 0} where
-  demands_of : {X : Type 0} (b : Bool) (o : Outcome X) (old new : StreamView) (fault : ParseFault A) → old.failed ≡ b → Spares NotFailed o → Starves itself replaced old fault new ⊎ Refuses itself replaced (demanded (unless_failed b o)) old fault new → Demand old fault new
-  demands_of b o old new fault e s (inl h) = record { committed = h.committed; fails = ap (λ v. v.failed) h.left.is ∙ h.left.fails; failed = λ f. absurd (cc (h.because)) }
-  demands_of true o old new fault e s (inr h) = record { committed = h.committed; fails = ap (λ v. v.failed) h.left.is ∙ h.left.fails; failed = λ f. e }
+module _ {A : Type 0} {reading : Text → Outcome A} where
+  demands_of : {X : Type 0} (b : Bool) (o : Outcome X) (old new : StreamView) (fault : ParseFault A) → old.failed ≡ b → (IsSincere reading → Spares NotFailed o) → Starves itself replaced old fault new ⊎ Refuses itself replaced (demanded (unless_failed b o)) old fault new → Demand reading old fault new
+  demands_of b o old new fault e s (inl h) = record { committed = h.committed; fails = ap (λ v. v.failed) h.left.is ∙ h.left.fails; failed = λ k f. absurd (cc (h.because)) }
+  demands_of true o old new fault e s (inr h) = record { committed = h.committed; fails = ap (λ v. v.failed) h.left.is ∙ h.left.fails; failed = λ k f. e }
   demands_of false (Read x t r) old new fault e s (inr h) = absurd h
-  demands_of false (Missing cause) old new fault e s (inr h) = record { committed = h.committed; fails = ap (λ v. v.failed) h.left.is ∙ h.left.fails; failed = λ f. absurd (s (sym h.because ∙ f)) }
-  demands_of false (Bad cause upto) old new fault e s (inr h) = record { committed = h.committed; fails = ap (λ v. v.failed) h.left.is ∙ h.left.fails; failed = λ f. absurd (s (sym h.because ∙ f)) }
+  demands_of false (Missing cause) old new fault e s (inr h) = record { committed = h.committed; fails = ap (λ v. v.failed) h.left.is ∙ h.left.fails; failed = λ k f. absurd (s k (sym h.because ∙ f)) }
+  demands_of false (Bad cause upto) old new fault e s (inr h) = record { committed = h.committed; fails = ap (λ v. v.failed) h.left.is ∙ h.left.fails; failed = λ k f. absurd (s k (sym h.because ∙ f)) }
 
   -- a refusal of what must be read
-  pub demands : {X Y : Type 0} {see : Y → X} {f : Text → Outcome X} {old new : StreamView} {fault : ParseFault A} → ((text : Text) → Spares NotFailed (f text)) → MustRead {Y = Y} itself replaced see f old (Err fault) new → Demand old fault new
-  demands {f = f} {old = old} {new = new} {fault = fault} s h = demands_of old.failed (f old.rest) old new fault refl (s old.rest) h.answers
+  pub demands : {X Y : Type 0} {see : Y → X} {f : Text → Outcome X} {old new : StreamView} {fault : ParseFault A} → (IsSincere reading → (text : Text) → Spares NotFailed (f text)) → MustRead {Y = Y} itself replaced see f old (Err fault) new → Demand reading old fault new
+  demands {f = f} {old = old} {new = new} {fault = fault} s h = demands_of old.failed (f old.rest) old new fault refl (λ k. s k old.rest) h.answers
 
-  refusal_of : {X : Type 0} (b : Bool) (o : Outcome X) (old new : StreamView) (fault : ParseFault A) → old.failed ≡ b → Spares NotFailed o → Starves itself replaced old fault new ⊎ Refuses itself replaced (unless_failed b o) old fault new → Refusal old fault new
-  refusal_of b o old new fault e s (inl h) = record { committed = λ _. ap (λ v. v.failed) h.left.is ∙ h.left.fails; uncommitted = λ q. absurd (cc (h.committed)); failed = λ f. absurd (cc (h.because)) }
-  refusal_of true o old new fault e s (inr h) = record { committed = λ _. ap (λ v. v.failed) h.left.is ∙ h.left.fails; uncommitted = λ q. absurd (cc (h.committed)); failed = λ f. e }
+  refusal_of : {X : Type 0} (b : Bool) (o : Outcome X) (old new : StreamView) (fault : ParseFault A) → old.failed ≡ b → Spares NotFailed o → Starves itself replaced old fault new ⊎ Refuses itself replaced (unless_failed b o) old fault new → Refusal reading old fault new
+  refusal_of b o old new fault e s (inl h) = record { committed = λ _. ap (λ v. v.failed) h.left.is ∙ h.left.fails; uncommitted = λ q. absurd (cc (h.committed)); failed = λ k f. absurd (cc (h.because)) }
+  refusal_of true o old new fault e s (inr h) = record { committed = λ _. ap (λ v. v.failed) h.left.is ∙ h.left.fails; uncommitted = λ q. absurd (cc (h.committed)); failed = λ k f. e }
   refusal_of false (Read x t r) old new fault e s (inr h) = absurd h
-  refusal_of false (Missing cause) old new fault e s (inr h) = record { committed = λ q. absurd (cc (h.committed)); uncommitted = λ _. h.left; failed = λ f. absurd (s (sym h.because ∙ f)) }
-  refusal_of false (Bad cause upto) old new fault e s (inr h) = record { committed = λ _. ap (λ v. v.failed) h.left.is ∙ h.left.fails; uncommitted = λ q. absurd (cc (h.committed)); failed = λ f. absurd (s (sym h.because ∙ f)) }
+  refusal_of false (Missing cause) old new fault e s (inr h) = record { committed = λ q. absurd (cc (h.committed)); uncommitted = λ _. h.left; failed = λ k f. absurd (s (sym h.because ∙ f)) }
+  refusal_of false (Bad cause upto) old new fault e s (inr h) = record { committed = λ _. ap (λ v. v.failed) h.left.is ∙ h.left.fails; uncommitted = λ q. absurd (cc (h.committed)); failed = λ k f. absurd (s (sym h.because ∙ f)) }
 
   -- a refusal of what may be read
-  pub refusal : {X Y : Type 0} {see : Y → X} {f : Text → Outcome X} {old new : StreamView} {fault : ParseFault A} → ((text : Text) → Spares NotFailed (f text)) → MayRead {Y = Y} itself replaced see f old (Err fault) new → Refusal old fault new
+  pub refusal : {X Y : Type 0} {see : Y → X} {f : Text → Outcome X} {old new : StreamView} {fault : ParseFault A} → ((text : Text) → Spares NotFailed (f text)) → MayRead {Y = Y} itself replaced see f old (Err fault) new → Refusal reading old fault new
   refusal {f = f} {old = old} {new = new} {fault = fault} s h = refusal_of old.failed (f old.rest) old new fault refl (s old.rest) h.answers
 
   -- a refusal of what must be read, behind what was read
-  pub demanded_refusal : {old mid new : StreamView} {fault : ParseFault A} → (mid.failed ≡ true → old.failed ≡ true) → Demand mid fault new → Refusal old fault new
-  demanded_refusal e h = record { committed = λ _. h.fails; uncommitted = λ q. absurd (cc (h.committed)); failed = λ f. e (h.failed f) }
+  pub demanded_refusal : {old mid new : StreamView} {fault : ParseFault A} → (mid.failed ≡ true → old.failed ≡ true) → Demand reading mid fault new → Refusal reading old fault new
+  demanded_refusal e h = record { committed = λ _. h.fails; uncommitted = λ q. absurd (cc (h.committed)); failed = λ k f. e (h.failed k f) }
 
   -- memory is refused where something must be read
-  pub demands_memory : {old new : StreamView} {fault : ParseFault A} → Starves itself replaced old fault new → Demand old fault new
-  demands_memory h = record { committed = h.committed; fails = ap (λ v. v.failed) h.left.is ∙ h.left.fails; failed = λ f. absurd (cc (h.because)) }
+  pub demands_memory : {old new : StreamView} {fault : ParseFault A} → Starves itself replaced old fault new → Demand reading old fault new
+  demands_memory h = record { committed = h.committed; fails = ap (λ v. v.failed) h.left.is ∙ h.left.fails; failed = λ k f. absurd (cc (h.because)) }
 
   -- a refusal behind what was read
-  pub demands_behind : {old mid new : StreamView} {fault : ParseFault A} → mid.failed ≡ old.failed → Demand mid fault new → Demand old fault new
-  demands_behind e h = record { committed = h.committed; fails = h.fails; failed = λ f. sym e ∙ h.failed f }
+  pub demands_behind : {old mid new : StreamView} {fault : ParseFault A} → mid.failed ≡ old.failed → Demand reading mid fault new → Demand reading old fault new
+  demands_behind e h = record { committed = h.committed; fails = h.fails; failed = λ k f. sym e ∙ h.failed k f }
 
 -- some character is taken of what is read
 abbrev Grows : {X : Type 0} → Outcome X → Type 0
@@ -133,8 +126,8 @@ grows-bang : (text : Text) → Grows (text_at (codes "!") text)
 grows-bang [] = tt
 grows-bang (d ∷ text) = elim (the 33 d) as (λ b. Grows (cond b (prefixed (d ∷ []) (Read tt [] text)) (Missing (Unexpected (Some d) (Word (codes "!")))))) [ true ↦ tt | false ↦ tt ]
 
-grows-entry : (A : Type 0) (test : ℕ → Bool) (text : Text) → Grows (entry_at {A = A} test text)
-grows-entry A test text = grows-followed (known_index test (index_at text)) (λ i t. mapped (λ l. (i, l)) (content_at {A = A} t)) (grows-known test (index_at text) (grows-followed (text_at (codes "!") text) (λ _ t. number_at t) (grows-bang text)))
+grows-entry : {A : Type 0} (attr : Text → Outcome (AttrView A)) (test : ℕ → Bool) (text : Text) → Grows (entry_at attr test text)
+grows-entry attr test text = grows-followed (known_index test (index_at text)) (λ i t. mapped (λ l. (i, l)) (content_at attr t)) (grows-known test (index_at text) (grows-followed (text_at (codes "!") text) (λ _ t. number_at t) (grows-bang text)))
 
 shorter : {X : Type 0} (b : Bool) (o : Outcome X) (old new : StreamView) (x : X) → Grows o → Gives itself replaced (demanded (unless_failed b o)) old x new → length new.rest < length old.rest
 shorter true o old new x g h = absurd h
@@ -156,16 +149,16 @@ pub reads_fine : {X Y A : Type 0} {see : Y → X} {f : Text → Outcome X} {old 
 reads_fine {see = see} {f = f} {old = old} {new = new} {y = y} h = fine old.failed (f old.rest) old new (see y) h.answers
 
 -- an entry, and white space behind it, leave less
-pub entry_shorter : {A E : Type 0} (test : ℕ → Bool) (old mid new : StreamView) (e : ℕ × Option (Location A)) (t r : Text) → MustRead {A = E} itself replaced (λ e. e) (entry_at test) old (Ok e) mid → Takes itself replaced t r mid new → length new.rest < length old.rest
-entry_shorter {A = A} test old mid new e t r h k =
-    let s : length mid.rest < length old.rest = shorter old.failed (entry_at test old.rest) old mid e (grows-entry A test old.rest) h.answers in
+pub entry_shorter : {A E Y : Type 0} (attr : Text → Outcome (AttrView A)) (test : ℕ → Bool) (see : Y → ℕ × Option (Written A)) (old mid new : StreamView) (e : Y) (t r : Text) → MustRead {A = E} itself replaced see (entry_at attr test) old (Ok e) mid → Takes itself replaced t r mid new → length new.rest < length old.rest
+entry_shorter attr test see old mid new e t r h k =
+    let s : length mid.rest < length old.rest = shorter old.failed (entry_at attr test old.rest) old mid (see e) (grows-entry attr test old.rest) h.answers in
     let q : new.rest ≡ r = ap (λ v. v.rest) k.is in
     omega (arith, s, ap length q, ap length k.same, length-append t r)
 
--- no entry's cause says that the stream had failed
-pub entry_spares : (A : Type 0) (test : ℕ → Bool) (text : Text) → Spares NotFailed (entry_at {A = A} test text)
-entry_spares A test text = spares-followed NotFailed (known_index test (index_at text)) (λ i t. mapped (λ l. (i, l)) (content_at {A = A} t)) (known_spares test (index_at text) (spares-index NotFailed unexpected_fine range_fine text))
-    (λ i t. spares-mapped NotFailed (λ l. (i, l)) (content_at {A = A} t) (spares-content NotFailed unexpected_fine range_fine A t))
+-- no entry's cause says that the stream had failed, where the reader of the caller's attributes never says so
+pub entry_spares : {A : Type 0} (reading : Text → Outcome A) (test : ℕ → Bool) → IsSincere reading → (text : Text) → Spares NotFailed (entry_at (attr_at reading) test text)
+entry_spares reading test k text = spares-followed NotFailed (known_index test (index_at text)) (λ i t. mapped (λ l. (i, l)) (content_at (attr_at reading) t)) (known_spares test (index_at text) (spares-index NotFailed unexpected_fine range_fine text))
+    (λ i t. spares-mapped NotFailed (λ l. (i, l)) (content_at (attr_at reading) t) (spares-content NotFailed unexpected_fine range_fine (attr_at reading) (location_spares (attr_at reading) (attr_spares reading k)) t))
 
 -- nor does that of the section's heading
 pub heading_spares : (text : Text) → Spares NotFailed (heading_at text)

@@ -93,6 +93,7 @@ pub mod UniqueRoot
 pub mod Used
 pub mod Steps
 pub mod Spares
+pub mod LocationSpares
 pub mod Led
 pub mod Rooted
 pub mod Known
@@ -106,6 +107,8 @@ mod LocationBound
 mod LocationParts
 mod LocationKinds
 mod LocationComesBack
+mod KeptBack
+mod KeptText
 pub mod LocationTexts
 pub mod PrintedBack
 pub mod RootSteps

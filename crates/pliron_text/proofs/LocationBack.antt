@@ -1,4 +1,4 @@
--- The printed text of a location is read back as the same location.
+-- The printed text of an integer is read back.
 use Rattle.std.proofs.Common.{◌≡◌, ℕ, suc, ◌<◌, ◌≤◌, ◌^◌, true, false, cond, Some, None, List, [], ◌∷◌, ◌++◌, length, refl, sym, ◌∙◌, ap, ap₂, subst, append_assoc, arith}
 use Rattle.std.proofs.lemmas.Bool.Decides.{nat_tests}
 use Rattle.std.proofs.lemmas.Fmt.{decimal_is_IsNumeral}
@@ -9,23 +9,15 @@ use Rattle.std.specs.Int.{w32}
 use Rattle.std.specs.List.{list_all}
 use Rattle.std.specs.Str.Parse.{digits_value}
 use Rattle.irtext_base.specs.Text.{Text, begins, front, after}
-use Rattle.irtext_base.specs.Reading.{the}
 use Rattle.irtext_base.specs.Answers.{Outcome, Read, followed, prefixed, mapped}
 use Rattle.irtext_base.specs.Causes.{position_text}
-use Rattle.irtext_base.specs.Own.{standing}
-use Rattle.irtext_base.specs.declared.location.Location.{Location, SrcPos, Unknown}
-use Rattle.irtext_base.specs.declared.location.Source.TheVariants.{InMemory, File}
 use Rattle.irtext_base.specs.declared.parsable.position.SourcePosition.{SourcePosition}
 use Rattle.irtext_base.proofs.Characters.{and_left, front_all, after_all, word_no_space}
 use Rattle.irtext_base.proofs.Numbers.{digits_every, digit_in_word}
 use Rattle.irtext_read.specs.Tokens.{is_sign, sign_of, after_sign, fitting, value_of, integer_of, integered, no_integer, integer_at}
-use Rattle.pliron_text.specs.LocationWriting.{known_text}
-use Rattle.pliron_text.specs.LocationText.{spaced_at, labelled_at, position_at, location_at}
-use Rattle.pliron_text.specs.PrintedBack.{locations, Fits32, IsReadSoFar}
-use Rattle.pliron_text.specs.RoundTrip.{LocationReads}
-use Rattle.pliron_text.specs.SoFar.{location_standing}
+use Rattle.pliron_text.specs.LocationText.{spaced_at, labelled_at, position_at}
+use Rattle.pliron_text.specs.PrintedBack.{Fits32}
 use Rattle.pliron_text.proofs.JoinAnswers.{followed-read}
-use Rattle.pliron_text.proofs.LocationViews.{place_in_memory}
 use Rattle.pliron_text.proofs.JoinTokens.{text-literal}
 
 -- ---- an integer
@@ -100,52 +92,3 @@ integer-here (negsuc n) rest fits stop =
 pub no_space : (z : ℤ) (rest : Text) → FitsSigned w32 z → begins is_whitespace (signed_decimal z ++ rest) ≡ false
 no_space (pos n) rest fits = (plain_decimal n rest (omega arith)).space
 no_space (negsuc n) rest fits = refl
-
--- ---- a place
--- a colon and white space, behind which none follows
-colon : (t : Text) → begins is_whitespace t ≡ false → spaced_at (codes ":") (codes ": " ++ t) ≡ Read tt (codes ": ") t
-colon t e = ap₂ (λ f a. Read tt (58 ∷ 32 ∷ f) a) (front_all is_whitespace [] t refl e) (after_all is_whitespace [] t refl e)
-
--- a word, a colon and an integer
-labelled-here : (word : Text) (z : ℤ) (rest : Text) → FitsSigned w32 z → begins is_ascii_digit rest ≡ false → (taken : Text) × (labelled_at word (word ++ (codes ": " ++ (signed_decimal z ++ rest))) ≡ Read z taken rest)
-labelled-here word z rest fits stop =
-    let t = signed_decimal z ++ rest in (
-      word ++ (codes ": " ++ signed_decimal z),
-      followed-read _ (λ _ t. followed (spaced_at (codes ":") t) (λ _ u. integer_at u)) tt z word (codes ": " ++ t) (codes ": " ++ signed_decimal z) rest (text-literal word (word ++ (codes ": " ++ t)) (codes ": " ++ t) refl)
-          (followed-read _ (λ _ u. integer_at u) tt z (codes ": ") t (signed_decimal z) rest (colon t (no_space z rest fits)) (integer-here z rest fits stop)),
-    )
-
--- a line and a column
-position-here : (at : SourcePosition) (rest : Text) → Fits32 at → begins is_ascii_digit rest ≡ false → (taken : Text) × (position_at (position_text at ++ rest) ≡ Read at taken rest)
-position-here at rest fits stop =
-    let u = codes "column: " ++ (signed_decimal at.column ++ rest) in
-    let a = labelled-here (codes "line") at.line (codes ", " ++ u) fits.line refl in
-    let b = labelled-here (codes "column") at.column rest fits.column stop in
-    let see : ℤ → SourcePosition = λ column. record { line = at.line; column = column } in
-    let next : ℤ → Text → Outcome SourcePosition = λ line t. followed (spaced_at (codes ",") t) (λ _ u. mapped (λ column. record { line = line; column = column }) (labelled_at (codes "column") u)) in
-    let parts : position_text at ++ rest ≡ codes "line: " ++ (signed_decimal at.line ++ (codes ", " ++ u)) = ap (λ t. codes "line: " ++ t) (append_assoc (signed_decimal at.line) (codes ", column: " ++ signed_decimal at.column) rest) in (
-      a.0 ++ (codes ", " ++ b.0),
-      ap position_at parts ∙ (ap (λ o. followed o next) a.1 ∙ ap (λ o. prefixed a.0 (prefixed (codes ", ") (mapped see o))) b.1),
-    )
-
--- ---- a location
--- the text of a place in memory is read back as this place
-pub location-here : {A : Type 0} (at : SourcePosition) (rest : Text) → Fits32 at → begins is_ascii_digit rest ≡ false
-    → (taken : Text) × (location_at {A = A} ((codes "<in-memory>: " ++ position_text at) ++ rest) ≡ Read (SrcPos InMemory at) taken rest)
-location-here at rest fits stop =
-    let r = position-here at rest fits stop in
-    (codes "<in-memory>" ++ (codes ": " ++ r.0), ap (λ o. prefixed (codes "<in-memory>") (prefixed (codes ": ") (mapped (SrcPos InMemory) o))) r.1)
-
--- no digit is `]`
-stops : (rest : Text) → begins (the 93) rest ≡ true → begins is_ascii_digit rest ≡ false
-stops [] e = refl
-stops (c ∷ rest) e = grind (arith, nat_tests)
-
--- what is printed of a location is read back, whatever paths each context keeps
-pub location_reads : {A : Type 0} (written : A → Text) (paths others : List (List ℕ)) (l : Location A) → IsReadSoFar l → LocationReads {X = Location A} location_standing (locations written others) (known_text written paths l)
-location_reads written paths others (SrcPos InMemory at) fits =
-    subst (λ t. LocationReads location_standing (locations written others) (Some t)) (sym (place_in_memory written paths at))
-    (refl, λ rest h. (SrcPos InMemory at, rest, ap standing (location-here at rest fits (stops rest h)).1, place_in_memory written others at, refl))
-location_reads written paths others (SrcPos (File key) at) fits = absurd fits
-location_reads written paths others Unknown fits = tt
-location_reads written paths others _ fits = absurd fits

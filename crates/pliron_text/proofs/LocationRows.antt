@@ -9,7 +9,7 @@ use Rattle.irtext_base.specs.Paths.{Written, path_of, are_known, row_known, writ
 use Rattle.irtext_base.specs.declared.location.Location.{Location}
 use Rattle.irtext_base.specs.declared.parsable.fault.ParseFault.{ParseFault}
 use Rattle.irtext_read.specs.Tokens.{text_at}
-use Rattle.pliron_text.specs.LocationReading.{begins_location, WrittenRow, kind_at, behind_location, row_of, row_at, location_within, more_within}
+use Rattle.pliron_text.specs.LocationReading.{begins_location, WrittenRow, kind_at, behind_location, row_of, row_at, location_within, more_within, location_at}
 use Rattle.pliron_text.specs.MustRead.{MustRead, MayRead}
 use Rattle.pliron_text.specs.NewPaths.{MustReadOver, MustReadWithin, MustReadInside, Makes, PushesRow, known_location, location_over, known_row, row_over, joined_rows}
 use Rattle.pliron_text.specs.Roots.{itself, replaced}
@@ -58,6 +58,11 @@ module _ {A X Y : Type 0} {is_known : ℕ → Y → Bool} {see : List (List ℕ)
   -- what was read at any depth that is enough was read at the depth of its length
   pub known_of : {y : Y} → MustReadWithin {A = A} is_known see outcome paths old (Ok y) new → is_known (length paths) y ≡ true
   known_of h = (h.within (length old.rest) (omega arith)).known
+
+-- what was read at every depth that is enough is read at the depth of the text's length
+pub at_length : {A : Type 0} (attr : Text → Outcome (AttrView A)) {paths : List (List ℕ)} {old new : StreamView} {r : Result (Location A) (ParseFault A)} → MustReadWithin known_location location_over (location_within attr) paths old r new
+    → MustReadOver known_location location_over (location_at attr) paths old r new
+at_length attr {old = old} h = let m = h.within (length old.rest) (omega arith) in record { known = m.known; read = record { answers = m.read.answers } }
 
 module _ {A : Type 0} {outcome : Text → Outcome (Written A)} {paths : List (List ℕ)} {old mid new : StreamView} where
   -- a location that was made of what was read

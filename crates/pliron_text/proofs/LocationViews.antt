@@ -1,15 +1,10 @@
 -- What definitions see of a location of each kind.
-use Rattle.std.proofs.Common.{◌≡◌, ◌∙◌, ap, sym, map, string_bytes, Box, Global, String, Vec, Option, List, ℕ, ◌++◌, codes}
+use Rattle.std.proofs.Common.{◌≡◌, ◌∙◌, ap, sym, map, string_bytes, Box, Global, String, Vec, Option}
 use Rattle.irtext_base.specs.declared.base.attributes.AttrObj.{AttrObj}
 use Rattle.irtext_base.specs.declared.location.Location.{Location, fold-roll-Location}
 use Rattle.irtext_base.specs.declared.location.Location.TheOpen.{Location-F}
 use Rattle.irtext_base.specs.declared.location.Location.TheVariants.{SrcPos, Fused, Named, CallSite, Unknown, rolls-SrcPos, rolls-Fused, rolls-Named, rolls-CallSite, rolls-Unknown}
 use Rattle.irtext_base.specs.declared.location.Source.{Source}
-use Rattle.irtext_base.specs.declared.location.Source.TheVariants.{InMemory}
-use Rattle.irtext_base.specs.Causes.{position_text}
-use Rattle.irtext_base.specs.Paths.{written_with}
-use Rattle.irtext_base.specs.Text.{Text}
-use Rattle.pliron_text.specs.LocationWriting.{written_text, location_text}
 use Rattle.irtext_base.specs.declared.parsable.position.SourcePosition.{SourcePosition}
 use Rattle.irtext_base.specs.Locations.{LocationView, location_view, view_step, attr_view_in, in_row, src_pos, fused, named, call_site, unknown}
 
@@ -27,7 +22,3 @@ seen-call_site {A} callee caller = ap location_view (sym (rolls-CallSite callee 
 
 pub seen-unknown : {A : Type 0} → location_view {A = A} Unknown ≡ unknown
 seen-unknown {A} = ap location_view (sym rolls-Unknown) ∙ fold-roll-Location A (LocationView A) view_step Location-F.Unknown
-
--- the text of a place in memory
-pub place_in_memory : {A : Type 0} (written : A → Text) (paths : List (List ℕ)) (at : SourcePosition) → location_text written paths (SrcPos InMemory at) ≡ codes "<in-memory>: " ++ position_text at
-place_in_memory written paths at = ap (λ v. written_text written (written_with paths v)) (seen-src_pos InMemory at)

@@ -193,20 +193,3 @@ ascii-front name s l n =
     ascii-mark : (l : Option Text) → IsAscii (plain_mark l)
     ascii-mark None = IsAscii-nil
     ascii-mark (Some l) = IsAscii-append (codes " !") (decimal 0) (ascii-from (codes " !") refl) (IsAscii-decimal 0 (omega arith))
-
-ascii-section : (l : Option Text) → IfSome l IsAscii → IsAscii (plain_section l)
-ascii-section None a = IsAscii-nil
-ascii-section (Some l) a =
-    IsAscii-append (codes "\n\noutlined_attributes:\n") (entry_text 0 (Some l) ++ []) (ascii-from (codes "\n\noutlined_attributes:\n") refl)
-    (IsAscii-append (entry_text 0 (Some l)) []
-    (IsAscii-append (codes "!") (decimal 0 ++ (codes " = " ++ ((codes "@[" ++ (l ++ codes "], ")) ++ codes "[]\n"))) (ascii-from (codes "!") refl)
-    (IsAscii-append (decimal 0) (codes " = " ++ ((codes "@[" ++ (l ++ codes "], ")) ++ codes "[]\n")) (IsAscii-decimal 0 (omega arith))
-    (IsAscii-append (codes " = ") ((codes "@[" ++ (l ++ codes "], ")) ++ codes "[]\n") (ascii-from (codes " = ") refl)
-    (IsAscii-append (codes "@[" ++ (l ++ codes "], ")) (codes "[]\n")
-    (IsAscii-append (codes "@[") (l ++ codes "], ") (ascii-from (codes "@[") refl) (IsAscii-append l (codes "], ") a (ascii-from (codes "], ") refl)))
-    (ascii-from (codes "[]\n") refl)))))
-    IsAscii-nil)
-
--- the module's text is ASCII, where its location's is
-pub ascii-plain : {U : Type 0} (name : Text) (s : Shown U) (l : Option Text) → IsAscii name → IfSome l IsAscii → IsAscii (plain_text name s l)
-ascii-plain name s l n a = IsAscii-append (plain_front name s l) (plain_section l) (ascii-front name s l n) (ascii-section l a)

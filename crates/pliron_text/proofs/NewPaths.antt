@@ -6,7 +6,7 @@ use Rattle.std.proofs.lemmas.Slice.Eq.{bytes_eq-Decides}
 use Rattle.std.specs.Prelude.{slice_get, ◌&&◌}
 use Rattle.std.specs.List.{position_or_len}
 use Rattle.std.specs.Str.{bytes_eq}
-use Rattle.irtext_base.specs.Context.{ContextView, KeepsPaths}
+use Rattle.irtext_base.specs.Context.{ContextView, KeepsPaths, KeepsOlder, before}
 use Rattle.irtext_base.specs.Locations.{LocationView, LocationViews, src_pos, fused, named, call_site, unknown, no_location, location, row_sourced}
 use Rattle.irtext_base.specs.Moves.{with_paths}
 use Rattle.irtext_base.specs.Paths.{path_index, with_path, index_or_next, found_or_last, path_of, is_known, are_known, row_known, written_with}
@@ -74,6 +74,16 @@ module _ {T A : Type 0} where
   -- nothing is added
   pub adds_none : (c : ContextView T A) → AddsPaths c c
   adds_none c = record { kept = λ i p h. h; rest = refl }
+
+  -- all objects stay where paths are added
+  pub adds_kept : {a b : ContextView T A} (mark : ℕ) → AddsPaths a b → KeepsOlder mark a b
+  adds_kept mark h = record {
+    operations = λ p. ap (λ c. before mark c.operations p) h.rest;
+    regions = λ p. ap (λ c. before mark c.regions p) h.rest;
+    count = let e = ap (λ c. c.made) h.rest in omega (arith, e);
+    paths = h.kept;
+    dialects = ap (λ c. c.dialects) h.rest;
+  }
 
   -- the paths of one reading and then of another
   pub adds_more : {a b c : ContextView T A} → AddsPaths a b → AddsPaths b c → AddsPaths a c

@@ -1,14 +1,16 @@
 -- Which causes readers never give.
-use Rattle.std.proofs.Common.{ℕ, ℤ, true, false, cond, Option, Some, None, [], ◌∷◌, ◌++◌, codes}
+use Rattle.std.proofs.Common.{◌≡◌, ℕ, ℤ, true, false, cond, Option, Some, None, [], ◌∷◌, ◌++◌, codes}
 use Rattle.std.specs.Char.{is_ascii_digit, is_whitespace}
 use Rattle.irtext_base.specs.Text.{Text, begins, front, after, begins_word, in_word}
 use Rattle.irtext_base.specs.Reading.{the}
 use Rattle.irtext_base.specs.Stream.{first_of}
 use Rattle.irtext_base.specs.Format.{Id}
-use Rattle.irtext_base.specs.Faults.{Fault, Unexpected, NumberRange, Demand, Word, AnOperation, AnIdentifier, ADigit}
+use Rattle.irtext_base.specs.Faults.{Fault, Failed, Unexpected, NumberRange, Demand, Word, AnOperation, AnIdentifier, ADigit}
 use Rattle.irtext_base.specs.Answers.{Outcome, Read, Missing, Bad, prefixed, mapped, followed}
 use Rattle.irtext_read.specs.Tokens.{text_at, spelled_at, word_at, identifier_at, id_at, id_with, number_at, numbered, no_digit, sign_of, after_sign, value_of, integer_at, integered, integer_of, no_integer}
-use Rattle.pliron_text.specs.LocationText.{space_at, spaced_at, labelled_at, position_at, location_at}
+use Rattle.irtext_base.specs.Locations.{AttrView}
+use Rattle.pliron_text.specs.LocationReading.{location_at}
+use Rattle.pliron_text.specs.LocationText.{space_at, spaced_at, labelled_at, position_at}
 use Rattle.pliron_text.specs.ModuleText.{symbol_at, braces_at, index_at, mark_at, behind}
 use Rattle.pliron_text.specs.SectionText.{entry_location_at, content_at}
 
@@ -134,24 +136,31 @@ module _ (P : Fault → Type 0) where
       spares-labelled word text = spares-followed (text_at word text) (λ _ t. followed (spaced_at (codes ":") t) (λ _ u. integer_at u)) (spares-text word text) (λ _ t.
           spares-followed (spaced_at (codes ":") t) (λ _ u. integer_at u) (spares-spaced (codes ":") t) (λ _ u. spares-integer u))
 
-      spares-position : (text : Text) → Spares P (position_at text)
+      pub spares-position : (text : Text) → Spares P (position_at text)
       spares-position text = spares-followed (labelled_at (codes "line") text) _ (spares-labelled (codes "line") text) (λ line t.
           spares-followed (spaced_at (codes ",") t) _ (spares-spaced (codes ",") t) (λ _ u. spares-mapped _ (labelled_at (codes "column") u) (spares-labelled (codes "column") u)))
 
-      spares-location : (A : Type 0) (text : Text) → Spares P (location_at {A = A} text)
-      spares-location A text = spares-followed (text_at (codes "<in-memory>") text) _ (spares-text (codes "<in-memory>") text) (λ _ t.
-          spares-followed (spaced_at (codes ":") t) _ (spares-spaced (codes ":") t) (λ _ u. spares-mapped _ (position_at u) (spares-position u)))
+      module _ {A : Type 0} (attr : Text → Outcome (AttrView A)) (location : (text : Text) → Spares P (location_at attr text)) where
+        spares-entry_location : (text : Text) → Spares P (entry_location_at attr text)
+        spares-entry_location text =
+            elim (begins (the 64) text) as (λ b. Spares P (cond b (followed (text_at (codes "@[") text) (λ _ t. followed (space_at t) (λ _ u. followed (location_at attr u) (λ l v.
+            followed (spaced_at (codes "]") v) (λ _ w. followed (text_at (codes ",") w) (λ _ x. mapped (λ _. Some l) (space_at x))))))) (Read None [] text))) [
+              | true ↦ spares-followed (text_at (codes "@[") text) _ (spares-text (codes "@[") text) (λ _ t. spares-prefixed (front is_whitespace t) _ (spares-followed (location_at attr (after is_whitespace t)) _ (location (after is_whitespace t)) (λ l v.
+                  spares-followed (spaced_at (codes "]") v) _ (spares-spaced (codes "]") v) (λ _ w. spares-followed (text_at (codes ",") w) _ (spares-text (codes ",") w) (λ _ x. tt)))))
+              | false ↦ tt
+            ]
 
-      spares-entry_location : (A : Type 0) (text : Text) → Spares P (entry_location_at {A = A} text)
-      spares-entry_location A text =
-          elim (begins (the 64) text) as (λ b. Spares P (cond b (followed (text_at (codes "@[") text) (λ _ t. followed (space_at t) (λ _ u. followed (location_at {A = A} u) (λ l v.
-          followed (spaced_at (codes "]") v) (λ _ w. followed (text_at (codes ",") w) (λ _ x. mapped (λ _. Some l) (space_at x))))))) (Read None [] text))) [
-            | true ↦ spares-followed (text_at (codes "@[") text) _ (spares-text (codes "@[") text) (λ _ t. spares-prefixed (front is_whitespace t) _ (spares-followed (location_at (after is_whitespace t)) _ (spares-location A (after is_whitespace t)) (λ l v.
-                spares-followed (spaced_at (codes "]") v) _ (spares-spaced (codes "]") v) (λ _ w. spares-followed (text_at (codes ",") w) _ (spares-text (codes ",") w) (λ _ x. tt)))))
-            | false ↦ tt
-          ]
+        pub spares-content : (text : Text) → Spares P (content_at attr text)
+        spares-content text = spares-followed (spaced_at (codes "=") text) _ (spares-spaced (codes "=") text) (λ _ t. spares-followed (entry_location_at attr t) _ (spares-entry_location t) (λ l u.
+            spares-followed (text_at (codes "[") u) _ (spares-text (codes "[") u) (λ _ v.
+            spares-prefixed (front is_whitespace v) _ (spares-mapped _ (text_at (codes "]") (after is_whitespace v)) (spares-text (codes "]") (after is_whitespace v))))))
 
-      pub spares-content : (A : Type 0) (text : Text) → Spares P (content_at {A = A} text)
-      spares-content A text = spares-followed (spaced_at (codes "=") text) _ (spares-spaced (codes "=") text) (λ _ t. spares-followed (entry_location_at t) _ (spares-entry_location A t) (λ l u.
-          spares-followed (text_at (codes "[") u) _ (spares-text (codes "[") u) (λ _ v.
-          spares-prefixed (front is_whitespace v) _ (spares-mapped _ (text_at (codes "]") (after is_whitespace v)) (spares-text (codes "]") (after is_whitespace v))))))
+-- a cause that doesn't say that the stream had failed
+abbrev pub NotFailed : Fault → Type 0
+NotFailed cause = cause ≡ Failed → ⊥
+
+pub unexpected_fine : (found : Option ℕ) (demand : Demand) → NotFailed (Unexpected found demand)
+unexpected_fine found demand = λ e. absurd (cc)
+
+pub range_fine : (text : Text) → NotFailed (NumberRange text)
+range_fine text = λ e. absurd (cc)

@@ -69,6 +69,7 @@ pub mod SoFar
 pub mod SectionRead
 pub mod TopLevel
 pub mod PrintedBack
+pub mod KeptModule
 pub mod WrittenBack
 pub mod LabelPlaces
 pub mod Printed

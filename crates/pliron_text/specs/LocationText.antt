@@ -1,12 +1,10 @@
--- What a text reads as, where a location stands, with each fault's cause and place.
+-- What a text reads as, where a line and a column stand, with each fault's cause and place.
 use Rattle.std.specs.Prelude.{ℤ, codes, ⊤}
 use Rattle.irtext_base.specs.Text.{Text}
 use Rattle.irtext_base.specs.Answers.{Outcome, followed, mapped}
 pub use Rattle.irtext_read.specs.Tokens.{space_at}
 use Rattle.irtext_read.specs.Tokens.{text_at, integer_at}
 use Rattle.irtext_base.specs.declared.parsable.position.SourcePosition.{SourcePosition}
-use Rattle.irtext_base.specs.declared.location.Location.{Location, SrcPos}
-use Rattle.irtext_base.specs.declared.location.Source.TheVariants.{InMemory}
 
 -- a fixed text with white space round it
 abbrev pub spaced_at : Text → Text → Outcome ⊤
@@ -20,8 +18,3 @@ labelled_at word text = followed (text_at word text) (λ _ t. followed (spaced_a
 abbrev pub position_at : Text → Outcome SourcePosition
 position_at text = followed (labelled_at (codes "line") text) (λ line t. followed (spaced_at (codes ",") t) (λ _ u.
     mapped (λ column. record { line = line; column = column }) (labelled_at (codes "column") u)))
-
--- a place in memory: the only kind of location that is read so far
-abbrev pub location_at : {A : Type 0} → Text → Outcome (Location A)
-location_at text = followed (text_at (codes "<in-memory>") text) (λ _ t. followed (spaced_at (codes ":") t) (λ _ u.
-    mapped (SrcPos InMemory) (position_at u)))

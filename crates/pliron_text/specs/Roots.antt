@@ -1,5 +1,5 @@
 -- What reading a root does to the context, and to what a reading carries beside its text.
-use Rattle.std.specs.Prelude.{◌≡◌, ℕ, Bool, true, false, cond, not, ◌&&◌, is_some, Option, Some, None, Ok, Err, List, [], ◌∷◌, ◌++◌}
+use Rattle.std.specs.Prelude.{◌≡◌, ℕ, Bool, true, false, cond, not, ◌&&◌, is_some, Option, Some, None, Ok, Err, List, [], ◌∷◌, ◌++◌, ⊤}
 use Rattle.std.specs.Map.{lookup}
 use Rattle.irtext_base.specs.Text.{Text}
 use Rattle.irtext_base.specs.Format.{sym_name_key}
@@ -59,17 +59,28 @@ abbrev pub noted : {X : Type 0} → Option ℕ → X → List (ℕ × X)
 noted None x = []
 noted (Some i) x = (i, x) ∷ []
 
--- A refusal on a stream: a committed fault leaves the stream failed, another as it was; only a failed stream is refused as failed.
-pub record Refusal {A : Type 0} (old : StreamView) (fault : ParseFault A) (new : StreamView) : Type 0 where
+-- what is read there does not say that the stream had failed
+abbrev pub SaysNotFailed : {X : Type 0} → Outcome X → Type 0
+SaysNotFailed (Read x taken rest) = ⊤
+SaysNotFailed (Missing cause) = cause ≡ Failed → ⊥
+SaysNotFailed (Bad cause upto) = cause ≡ Failed → ⊥
+
+-- a caller's reader answers of no text that the stream had failed
+pub record IsSincere {X : Type 0} (reading : Text → Outcome X) : Type 0 where
+  pub says : (text : Text) → SaysNotFailed (reading text)
+
+-- A refusal on a stream: a committed fault leaves the stream failed, another as it was; only a failed stream is refused as failed,
+-- where the reader of the caller's attributes does not say so of its own.
+pub record Refusal {A : Type 0} (reading : Text → Outcome A) (old : StreamView) (fault : ParseFault A) (new : StreamView) : Type 0 where
   pub committed : fault.committed ≡ true → new.failed ≡ true
   pub uncommitted : fault.committed ≡ false → new ≡ old
-  pub failed : fault_of fault.cause ≡ Failed → old.failed ≡ true
+  pub failed : IsSincere reading → fault_of fault.cause ≡ Failed → old.failed ≡ true
 
 -- a refusal of what must stand there: the stream has failed
-pub record Demand {A : Type 0} (old : StreamView) (fault : ParseFault A) (new : StreamView) : Type 0 where
+pub record Demand {A : Type 0} (reading : Text → Outcome A) (old : StreamView) (fault : ParseFault A) (new : StreamView) : Type 0 where
   pub committed : fault.committed ≡ true
   pub fails : new.failed ≡ true
-  pub failed : fault_of fault.cause ≡ Failed → old.failed ≡ true
+  pub failed : IsSincere reading → fault_of fault.cause ≡ Failed → old.failed ≡ true
 
 -- an entry may have this index: that of a noted mark, and of no earlier entry
 abbrev pub may_follow : {X Y : Type 0} → List (ℕ × X) → List (ℕ × Y) → ℕ → Bool

@@ -1,17 +1,21 @@
 -- What reading a section does to the marked operations, and what it leaves of the stream.
-use Rattle.std.specs.Prelude.{◌≡◌, ℕ, ◌⊎◌, Bool, true, false, cond, ◌&&◌, is_some, Option, Some, None, List, [], ◌∷◌, ◌++◌, map}
+use Rattle.std.specs.Prelude.{◌≡◌, ℕ, ◌⊎◌, Bool, true, false, cond, ◌&&◌, is_some, Option, Some, None, List, [], ◌∷◌, ◌++◌, map, length, IsTrue}
+use Rattle.std.specs.Option.{option_map}
 use Rattle.std.specs.Map.{lookup}
 use Rattle.irtext_base.specs.Text.{Text, after_space}
 use Rattle.irtext_base.specs.Stream.{StreamView, IsAt}
 use Rattle.irtext_base.specs.Faults.{Fault, Memory, fault_of}
-use Rattle.irtext_base.specs.Answers.{Read, Takes}
+use Rattle.irtext_base.specs.Answers.{Outcome, Read, Takes}
 use Rattle.irtext_base.specs.Context.{ContextView, EditsOperation, operation}
 use Rattle.irtext_base.specs.declared.base.arena.Ptr.{Ptr}
 use Rattle.irtext_base.specs.declared.base.operation.Operation.{Operation}
 use Rattle.irtext_base.specs.declared.location.Location.{Location}
 use Rattle.irtext_base.specs.declared.parsable.fault.ParseFault.{ParseFault}
+use Rattle.irtext_base.specs.Locations.{AttrView}
+use Rattle.irtext_base.specs.Paths.{Written}
 use Rattle.irtext_read.specs.States.{marks_of, same_index}
 use Rattle.irtext_read.specs.declared.parsable.state.StateStream.{StateStream}
+use Rattle.pliron_text.specs.NewPaths.{AddsPaths, known_location, location_over}
 use Rattle.pliron_text.specs.Roots.{itself, replaced, may_follow, operation_at, ReadsModule}
 use Rattle.pliron_text.specs.SectionText.{entry_at, AllEntries, heading_at}
 use Rattle.pliron_text.specs.SoFar.{RefusedAs, SectionRefused}
@@ -34,6 +38,26 @@ pub record FaultAt {A : Type 0} (cause : Fault) (upto : Text) (old : StreamView)
 abbrev pub Faults : {A : Type 0} → (Fault → Text → Type 0) → StreamView → ParseFault A → Type 0
 Faults Allowed old fault = (fault_of fault.cause ≡ Memory) ⊎ ((cause : Fault) × (upto : Text) × Allowed cause upto × FaultAt cause upto old fault)
 
+module _ {A : Type 0} where
+  -- what an entry gives: whether its files' paths are among so many, and what its text says over these paths
+  abbrev pub known_given : ℕ → Option (Location A) → Bool
+  known_given count None = true
+  known_given count (Some l) = known_location count l
+
+  abbrev pub given_over : List (List ℕ) → Option (Location A) → Option (Written A)
+  given_over paths l = option_map (location_over paths) l
+
+  -- the same of an entry
+  abbrev pub known_entry : ℕ → ℕ × Option (Location A) → Bool
+  known_entry count e = known_given count e.1
+
+  abbrev pub entry_over : List (List ℕ) → ℕ × Option (Location A) → ℕ × Option (Written A)
+  entry_over paths e = (e.0, given_over paths e.1)
+
+  -- entries as their texts say them, over these paths
+  abbrev pub entries_over : List (List ℕ) → List (ℕ × Option (Location A)) → List (ℕ × Option (Written A))
+  entries_over paths es = map (entry_over paths) es
+
 module _ {T A : Type 0} where
   -- an operation has this location from now on, where it stands
   abbrev pub Locates : Ptr Operation → Location A → ContextView T A → ContextView T A → Type 0
@@ -50,30 +74,33 @@ module _ {T A : Type 0} where
   AppliesAll marks [] old new = new ≡ old
   AppliesAll marks (e ∷ es) old new = (mid : ContextView T A) × AppliesAll marks es old mid × Applies (lookup (same_index e.0) marks) e.1 mid new
 
--- an entry was read where the stream stood, and noted behind the earlier ones, and the white space behind it was passed
-pub record ReadsEntry {A X : Type 0} (marks : List (ℕ × X)) (earlier : List (ℕ × Option (Location A))) (old : StreamView) (entries : List (ℕ × Option (Location A))) (new : StreamView) : Type 0 where
+-- an entry was read where the stream stood, over these paths, and noted behind the earlier ones, and the white space behind it was passed
+pub record ReadsEntry {A X : Type 0} (attr : Text → Outcome (AttrView A)) (marks : List (ℕ × X)) (paths : List (List ℕ)) (earlier : List (ℕ × Option (Location A))) (old : StreamView) (entries : List (ℕ × Option (Location A))) (new : StreamView) : Type 0 where
   pub entry : ℕ × Option (Location A)
   pub taken : Text
   pub mid : Text
-  pub reads : entry_at (may_follow marks earlier) old.rest ≡ Read entry taken mid
+  pub known : IsTrue (known_entry (length paths) entry)
+  pub reads : entry_at attr (may_follow marks earlier) old.rest ≡ Read (entry_over paths entry) taken mid
   pub noted : entries ≡ earlier ++ (entry ∷ [])
   pub left : new.rest ≡ after_space mid
   pub moves : Moves old new
 
--- all entries that stood where the stream stood were read
-pub record ReadsEntries {A : Type 0} (marks : List ℕ) (entries : List (ℕ × Option (Location A))) (old new : StreamView) : Type 0 where
-  pub stand : AllEntries marks entries old.rest new.rest
+-- all entries that stood where the stream stood were read, over these paths
+pub record ReadsEntries {A : Type 0} (attr : Text → Outcome (AttrView A)) (marks : List ℕ) (paths : List (List ℕ)) (entries : List (ℕ × Option (Location A))) (old new : StreamView) : Type 0 where
+  pub stand : AllEntries attr marks (entries_over paths entries) old.rest new.rest
   pub moves : Moves old new
 
--- a section stood where the stream stood: its entries were read, and then applied
-pub record ReadsSection {T A U : Type 0} (old new : StateStream T A U) : Type 0 where
+-- a section stood where the stream stood: its entries were read, for which the context may keep more paths, and then applied
+pub record ReadsSection {T A U : Type 0} (attr : Text → Outcome (AttrView A)) (old new : StateStream T A U) : Type 0 where
   pub heading : Text
   pub behind : Text
   pub head : heading_at old.stream.rest ≡ Read tt heading behind
   pub entries : List (ℕ × Option (Location A))
-  pub stand : AllEntries (indices_of (marks_of old.state)) entries behind new.stream.rest
+  pub middle : ContextView T A
+  pub adds : AddsPaths old.state.ctx.now middle
+  pub stand : AllEntries attr (indices_of (marks_of old.state)) (entries_over middle.paths entries) behind new.stream.rest
   pub moves : Moves old.stream new.stream
-  pub applied : AppliesAll (marks_of old.state) entries old.state.ctx.now new.state.ctx.now
+  pub applied : AppliesAll (marks_of old.state) entries middle new.state.ctx.now
   pub fresh : marks_of new.state ≡ []
 
 -- whether a mark is noted
@@ -81,15 +108,15 @@ abbrev pub is_noted : {X : Type 0} → List X → Bool
 is_noted [] = false
 is_noted (m ∷ ms) = true
 
-module _ {T A U : Type 0} where
+module _ {T A U : Type 0} (attr : Text → Outcome (AttrView A)) where
   -- a module was read where the stream stood, and then a section, where it is looked for and a mark is noted
   pub record ReadsWith (look : Bool) (op : Ptr Operation) (old new : StateStream T A U) : Type 0 where
     pub mid : StateStream T A U
     pub operation : ReadsModule op old mid
-    pub section : cond (look && is_noted (marks_of mid.state)) (ReadsSection mid new) (new ≡ mid)
+    pub section : cond (look && is_noted (marks_of mid.state)) (ReadsSection attr mid new) (new ≡ mid)
 
   -- on a stream that has not failed no module was read where it stood, or no section behind the module
   pub data MissesWith (look : Bool) (old : StateStream T A U) (fault : ParseFault A) : Type 0 where
     no_module : Faults (RefusedAs (operation_at (marks_of old.state) old.stream.rest)) old.stream fault → MissesWith look old fault
     no_section : (op : Ptr Operation) (mid : StateStream T A U) → ReadsModule op old mid → (look && is_noted (marks_of mid.state)) ≡ true
-        → Faults (SectionRefused A (indices_of (marks_of mid.state)) mid.stream.rest) mid.stream fault → MissesWith look old fault
+        → Faults (SectionRefused attr (indices_of (marks_of mid.state)) mid.stream.rest) mid.stream fault → MissesWith look old fault

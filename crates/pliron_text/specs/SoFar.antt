@@ -7,14 +7,15 @@ use Rattle.irtext_base.specs.Reading.{the}
 use Rattle.irtext_base.specs.Format.{Id, sym_name_key}
 use Rattle.irtext_base.specs.Faults.{Fault, UnknownIndex}
 use Rattle.irtext_base.specs.Answers.{Outcome, Read, Missing, Bad}
-use Rattle.irtext_base.specs.declared.location.Location.{Location}
+use Rattle.irtext_base.specs.Locations.{AttrView}
+use Rattle.irtext_base.specs.Paths.{Written}
 use Rattle.pliron_text.specs.Forest.{Regions, no_regions, region, no_blocks, block}
 use Rattle.pliron_text.specs.Tree as tree
 use Rattle.pliron_text.specs.Tree.{Mark, Tree, shown, ident}
 use Rattle.pliron_text.specs.ReadSection.{Entry, of_item, of_once}
 use Rattle.pliron_text.specs.Build.{Built}
 use Rattle.pliron_text.specs.Modules.{format_of}
-use Rattle.pliron_text.specs.LocationText.{location_at}
+use Rattle.pliron_text.specs.LocationReading.{location_at}
 use Rattle.pliron_text.specs.ModuleText.{Module, module_at}
 use Rattle.pliron_text.specs.SectionText.{may_have, entry_at, Entries, AllEntries, heading_at}
 
@@ -23,8 +24,8 @@ abbrev pub so_far : {T A : Type 0} → Texts T → Texts A → Language ℕ T A
 so_far types owns = language types owns format_of
 
 -- what the grammar looks at of a location's reading
-abbrev pub location_standing : {A : Type 0} → Text → Standing (Location A)
-location_standing text = standing (location_at text)
+abbrev pub location_standing : {A : Type 0} → (Text → Outcome (AttrView A)) → Text → Standing (Written A)
+location_standing attr text = standing (location_at attr text)
 
 -- no region has a block
 abbrev pub HaveNoBlocks : {O B R : Type 0} → Regions O B R → Type 0
@@ -64,17 +65,17 @@ DescribeEntries (of_item m x [] ∷ es) (f ∷ fs) = (m.index ≡ f.0) × (x ≡
 DescribeEntries _ _ = ⊥
 
 -- entries stand there up to one whose index no mark has, or an entry before it
-pub record StopsAt (A : Type 0) (marks : List ℕ) (text mid : Text) (j : ℕ) : Type 0 where
-  pub before : List (ℕ × Option (Location A))
-  pub entries : Entries marks [] before text mid
+pub record StopsAt {A : Type 0} (attr : Text → Outcome (AttrView A)) (marks : List ℕ) (text mid : Text) (j : ℕ) : Type 0 where
+  pub before : List (ℕ × Option (Written A))
+  pub entries : Entries attr marks [] before text mid
   pub more : begins (the 33) mid ≡ true
-  pub unknown : entry_at {A = A} (may_have marks before) mid ≡ Bad (UnknownIndex j) []
+  pub unknown : entry_at attr (may_have marks before) mid ≡ Bad (UnknownIndex j) []
 
 -- the section behind a module with this mark says this and leaves this: nothing stands there where there is no mark
-abbrev pub SectionStands : {A : Type 0} → Option ℕ → List (ℕ × Option (Location A)) → Text → Text → Type 0
-SectionStands None [] text rest = rest ≡ text
-SectionStands None (e ∷ es) text rest = ⊥
-SectionStands (Some i) es text rest = (taken behind : Text) × (heading_at text ≡ Read tt taken behind) × AllEntries (i ∷ []) es behind rest
+abbrev pub SectionStands : {A : Type 0} → (Text → Outcome (AttrView A)) → Option ℕ → List (ℕ × Option (Written A)) → Text → Text → Type 0
+SectionStands attr None [] text rest = rest ≡ text
+SectionStands attr None (e ∷ es) text rest = ⊥
+SectionStands attr (Some i) es text rest = (taken behind : Text) × (heading_at text ≡ Read tt taken behind) × AllEntries attr (i ∷ []) es behind rest
 
 -- the location that the first of the entries gives, else the other one
 abbrev pub location_given : {X : Type 0} → X → List (ℕ × Option X) → X
@@ -96,27 +97,27 @@ RefusedAs (Missing c) cause upto = (c ≡ cause) × (upto ≡ [])
 RefusedAs (Bad c u) cause upto = (c ≡ cause) × (u ≡ upto)
 
 -- the readers refuse the text where entries must stand: one more begins, and none that may stand there
-pub record EntriesRefused (A : Type 0) (marks : List ℕ) (text : Text) (cause : Fault) (upto : Text) : Type 0 where
-  pub before : List (ℕ × Option (Location A))
+pub record EntriesRefused {A : Type 0} (attr : Text → Outcome (AttrView A)) (marks : List ℕ) (text : Text) (cause : Fault) (upto : Text) : Type 0 where
+  pub before : List (ℕ × Option (Written A))
   pub stop : Text
-  pub stand : Entries marks [] before text stop
+  pub stand : Entries attr marks [] before text stop
   pub more : begins (the 33) stop ≡ true
   pub taken : Text
   pub splits : taken ++ stop ≡ text
   pub last : Text
-  pub refused : RefusedAs (entry_at {A = A} (may_have marks before) stop) cause last
+  pub refused : RefusedAs (entry_at attr (may_have marks before) stop) cause last
   pub whole : taken ++ last ≡ upto
 
 -- the readers refuse the text where a section of these marks must stand
-pub data SectionRefused (A : Type 0) (marks : List ℕ) (text : Text) (cause : Fault) (upto : Text) : Type 0 where
+pub data SectionRefused {A : Type 0} (attr : Text → Outcome (AttrView A)) (marks : List ℕ) (text : Text) (cause : Fault) (upto : Text) : Type 0 where
   -- no heading stands there
-  no_heading : RefusedAs (heading_at text) cause upto → SectionRefused A marks text cause upto
+  no_heading : RefusedAs (heading_at text) cause upto → SectionRefused attr marks text cause upto
   -- a heading, and entries that are refused
-  no_entry : (taken behind last : Text) → heading_at text ≡ Read tt taken behind → EntriesRefused A marks behind cause last → taken ++ last ≡ upto → SectionRefused A marks text cause upto
+  no_entry : (taken behind last : Text) → heading_at text ≡ Read tt taken behind → EntriesRefused attr marks behind cause last → taken ++ last ≡ upto → SectionRefused attr marks text cause upto
 
 -- the readers refuse the text where a root must stand: with this cause, behind these characters
-pub data RootRefused (A : Type 0) (text : Text) (cause : Fault) (upto : Text) : Type 0 where
+pub data RootRefused {A : Type 0} (attr : Text → Outcome (AttrView A)) (text : Text) (cause : Fault) (upto : Text) : Type 0 where
   -- no module stands there
-  no_module : RefusedAs (module_at text) cause upto → RootRefused A text cause upto
+  no_module : RefusedAs (module_at text) cause upto → RootRefused attr text cause upto
   -- a module with a mark, and a section that is refused
-  no_section : (m : Module) (taken mid : Text) (i : ℕ) (last : Text) → module_at text ≡ Read m taken mid → m.mark ≡ Some i → SectionRefused A (i ∷ []) mid cause last → taken ++ last ≡ upto → RootRefused A text cause upto
+  no_section : (m : Module) (taken mid : Text) (i : ℕ) (last : Text) → module_at text ≡ Read m taken mid → m.mark ≡ Some i → SectionRefused attr (i ∷ []) mid cause last → taken ++ last ≡ upto → RootRefused attr text cause upto

@@ -10,13 +10,14 @@ use Rattle.irtext_base.specs.declared.base.attributes.AttrObj.{AttrObj}
 use Rattle.irtext_base.specs.declared.base.attributes.AttrObj.TheVariants.{GivenNames, Ident, Own}
 use Rattle.irtext_base.specs.declared.base.operation.Operation.{Operation}
 use Rattle.irtext_base.specs.declared.base.region.Region.{Region}
-use Rattle.irtext_base.specs.declared.location.Location.{Location}
+use Rattle.irtext_base.specs.Paths.{Written}
 use Rattle.irtext_base.specs.declared.parsable.position.SourcePosition.{SourcePosition}
 use Rattle.pliron_text.specs.Forest.{Regions, region, no_regions, no_blocks}
 use Rattle.pliron_text.specs.Tree.{Attribute, given_names, ident, own}
 use Rattle.pliron_text.specs.Build.{Built, BuiltOp}
 use Rattle.pliron_text.specs.Graph.{Graph}
 use Rattle.pliron_text.specs.LocationWriting.{known_text}
+use Rattle.pliron_text.specs.NewPaths.{location_over}
 
 -- an attribute as definitions speak of it
 abbrev pub attribute_of : {A : Type 0} → AttrObj A → Attribute A
@@ -34,17 +35,17 @@ empty_regions [] = no_regions
 empty_regions (r ∷ rs) = region tt no_blocks (empty_regions rs)
 
 module _ {T A : Type 0} where
-  -- an operation without its regions
-  abbrev pub stood_operation : OperationView T A → BuiltOp T A (Location A)
-  stood_operation op = record { id = id_of op.id; result_types = op.result_types; operands = []; successors = []; attributes = entries_of op.attributes; location = op.loc }
+  -- an operation without its regions, its location over these paths
+  abbrev pub stood_operation : List (List ℕ) → OperationView T A → BuiltOp T A (Written A)
+  stood_operation paths op = record { id = id_of op.id; result_types = op.result_types; operands = []; successors = []; attributes = entries_of op.attributes; location = location_over paths op.loc }
 
   -- an operation and all inside: so far no region has blocks
-  abbrev pub built_of : OperationView T A → Built T A (Location A)
-  built_of op = record { own = stood_operation op; regions = empty_regions op.regions }
+  abbrev pub built_of : List (List ℕ) → OperationView T A → Built T A (Written A)
+  built_of paths op = record { own = stood_operation paths op; regions = empty_regions op.regions }
 
   -- what stands under a pointer
-  abbrev pub stands : ContextView T A → Ptr Operation → Option (Built T A (Location A))
-  stands ctx p = option_map built_of (operation ctx p)
+  abbrev pub stands : ContextView T A → Ptr Operation → Option (Built T A (Written A))
+  stands ctx p = option_map (built_of ctx.paths) (operation ctx p)
 
   -- an operation and all inside as printing sees it, with this text of its location; results have no names so far
   abbrev pub graph_at : OperationView T A → Option Text → Graph T A

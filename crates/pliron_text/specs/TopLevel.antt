@@ -5,12 +5,13 @@ use Rattle.irtext_base.specs.Own.{Texts}
 use Rattle.irtext_base.specs.Stream.{StreamView, cut}
 use Rattle.irtext_base.specs.Faults.{Fault, fault_of}
 use Rattle.irtext_base.specs.Faults as fault
-use Rattle.irtext_base.specs.Answers.{Read}
+use Rattle.irtext_base.specs.Answers.{Outcome, Read}
 use Rattle.irtext_base.specs.Context.{ContextView, get, operation, region, regions_in, KeepsPaths}
 use Rattle.irtext_base.specs.declared.base.arena.Ptr.{Ptr}
 use Rattle.irtext_base.specs.declared.base.operation.Operation.{Operation}
 use Rattle.irtext_base.specs.declared.base.region.Region.{Region}
-use Rattle.irtext_base.specs.declared.location.Location.{Location, SrcPos}
+use Rattle.irtext_base.specs.Locations.{AttrView, src_pos}
+use Rattle.irtext_base.specs.Paths.{Written, path_of}
 use Rattle.irtext_base.specs.declared.location.Source.{Source}
 use Rattle.irtext_base.specs.declared.parsable.fault.ParseFault.{ParseFault}
 use Rattle.irtext_base.specs.declared.parsable.position.SourcePosition.{SourcePosition}
@@ -34,9 +35,9 @@ use Rattle.pliron_text.specs.Tree.{Tree}
 abbrev pub position_behind : Text → SourcePosition
 position_behind text = record { line = cut (line_behind text); column = cut (column_behind text) }
 
--- the location of a place of a text, where a place is the number of characters from it to the end
-abbrev pub location_of : {A : Type 0} → Source → Text → ℕ → Location A
-location_of source text place = SrcPos source (position_behind (take (length text - place) text))
+-- the location of a place of a text, over these paths, where a place is the number of characters from it to the end
+abbrev pub location_of : {A : Type 0} → List (List ℕ) → Source → Text → ℕ → Written A
+location_of paths source text place = src_pos (path_of paths source) (position_behind (take (length text - place) text))
 
 -- only the operation and its regions came to the context, all else stands as it stood, each path stays under its key, and the dialects are the same
 pub record OnlyNew {T A : Type 0} (op : Ptr Operation) (old new : ContextView T A) : Type 0 where
@@ -54,15 +55,15 @@ module _ {T A U : Type 0} where
     pub fine : s.stream.failed ≡ false
 
   -- the readers found a module where the stream stood, and its section where it has a mark; it stands under the answer, and only it is new
-  pub record ReadsRoot (op : Ptr Operation) (old new : StateStream T A U) : Type 0 where
+  pub record ReadsRoot (attr : Text → Outcome (AttrView A)) (op : Ptr Operation) (old new : StateStream T A U) : Type 0 where
     pub m : Module
     pub taken : Text
     pub mid : Text
     pub reads : module_at old.stream.rest ≡ Read m taken mid
-    pub entries : List (ℕ × Option (Location A))
-    pub section : SectionStands m.mark entries mid new.stream.rest
+    pub entries : List (ℕ × Option (Written A))
+    pub section : SectionStands attr m.mark entries mid new.stream.rest
     pub moves : Moves old.stream new.stream
-    pub builds : stands new.state.ctx.now op ≡ Some (module_built m.id m.name (location_given (location_of old.state.src (whole old.stream) (length old.stream.rest)) entries))
+    pub builds : stands new.state.ctx.now op ≡ Some (module_built m.id m.name (location_given (location_of new.state.ctx.now.paths old.state.src (whole old.stream) (length old.stream.rest)) entries))
     pub fresh : marks_of new.state ≡ []
     pub only : OnlyNew op old.state.ctx.now new.state.ctx.now
 
@@ -82,28 +83,28 @@ abbrev pub IsFirst : {A : Type 0} → Text → List (Failure Text ℕ) → Parse
 IsFirst text [] fault = ⊥
 IsFirst text (f ∷ fs) fault = IsCause f.cause (fault_of fault.cause) × IsPlace text f.at fault.pos
 
-module _ {T A : Type 0} (types : Texts T) (owns : Texts A) where
+module _ {T A : Type 0} (types : Texts T) (owns : Texts A) (attr : Text → Outcome (AttrView A)) where
   -- Whatever the text reads as, in that form, does not resolve, and the fault is its first failure; and it is the fault of the
   -- readers of the module and its section, where nothing reads too.
   pub record RefusesRoot (old : StreamView) (fault : ParseFault A) : Type 0 where
-    pub first : (tree : Tree ℕ T A) (entries : List (Entry ℕ A (Location A))) (rest : Text)
-        → reads_root (so_far types owns) location_standing tree entries old.rest rest → IsSoFar tree → AreSoFar entries → IsFirst (whole old) (failures_of isolated tree entries) fault
+    pub first : (tree : Tree ℕ T A) (entries : List (Entry ℕ A (Written A))) (rest : Text)
+        → reads_root (so_far types owns) (location_standing attr) tree entries old.rest rest → IsSoFar tree → AreSoFar entries → IsFirst (whole old) (failures_of isolated tree entries) fault
     pub cause : Fault
     pub upto : Text
-    pub refused : RootRefused A old.rest cause upto
+    pub refused : RootRefused attr old.rest cause upto
     pub at : FaultAt cause upto old fault
 
-module _ {T A U : Type 0} (types : Texts T) (owns : Texts A) where
+module _ {T A U : Type 0} (types : Texts T) (owns : Texts A) (attr : Text → Outcome (AttrView A)) where
   -- A root stood where the stream stood: the text reads, with its section, as a tree of the form that is read so far, up to where
   -- the stream stands now, and the tree resolves. What it builds stands under the answer, only that is new, and no mark is noted.
   pub record BuildsRoot (op : Ptr Operation) (old new : StateStream T A U) : Type 0 where
     pub tree : Tree ℕ T A
-    pub entries : List (Entry ℕ A (Location A))
-    pub reads : reads_root (so_far types owns) location_standing tree entries old.stream.rest new.stream.rest
+    pub entries : List (Entry ℕ A (Written A))
+    pub reads : reads_root (so_far types owns) (location_standing attr) tree entries old.stream.rest new.stream.rest
     pub tree_form : IsSoFar tree
     pub entries_form : AreSoFar entries
     pub resolves : failures_of isolated tree entries ≡ []
     pub moves : Moves old.stream new.stream
-    pub builds : stands new.state.ctx.now op ≡ Some (build isolated (location_of old.state.src (whole old.stream)) entries tree)
+    pub builds : stands new.state.ctx.now op ≡ Some (build isolated (location_of new.state.ctx.now.paths old.state.src (whole old.stream)) entries tree)
     pub fresh : marks_of new.state ≡ []
     pub only : OnlyNew op old.state.ctx.now new.state.ctx.now

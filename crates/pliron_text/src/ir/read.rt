@@ -7,6 +7,7 @@ ghost use Rattle.irtext_base.specs.Faults.{Memory, fault_of, id_of};
 ghost use Rattle.irtext_base.specs.Made.{SameObjects};
 ghost use Rattle.irtext_base.specs.Own.{texts_of};
 ghost use Rattle.irtext_base.specs.declared.base.region.Region.{Region};
+ghost use Rattle.irtext_read.specs.AttrTexts.{attr_at};
 ghost use Rattle.irtext_read.specs.States.{marks_of};
 ghost use Rattle.pliron_text.specs.ModuleText.{symbol_at, header_at, led_id_at, braces_at, mark_at, lead_of, behind_lead, is_led};
 ghost use Rattle.pliron_text.specs.MustRead.{MustRead, MayRead};
@@ -272,9 +273,9 @@ fn root_parse<T: IrText<A>, A: AttrText, U>(
 ) -> ParseResult<Ptr<Operation>, A>
     ensures lent { s.new.state.ctx.ghost_name ≡ s.old.state.ctx.ghost_name }
     ensures rest { KeepsRest s.old.state s.new.state }
-    ensures refused { IfErr result (λ fault. Refusal s.old.stream fault s.new.stream) }
-    ensures read { IfOk result (λ op. ReadsWith config.look_for_outlined_attrs op s.old s.new) }
-    ensures missed { s.old.stream.failed ≡ false → IfErr result (λ fault. MissesWith config.look_for_outlined_attrs s.old fault) }
+    ensures refused { IfErr result (λ fault. Refusal A.IrText.reading s.old.stream fault s.new.stream) }
+    ensures read { IfOk result (λ op. ReadsWith (attr_at A.IrText.reading) config.look_for_outlined_attrs op s.old s.new) }
+    ensures missed { s.old.stream.failed ≡ false → IfErr result (λ fault. MissesWith (attr_at A.IrText.reading) config.look_for_outlined_attrs s.old fault) }
     ensures marks { OnErr result ((more : List (ℕ × Ptr Operation)) × (marks_of s.new.state ≡ marks_of s.old.state ++ more)) }
     ensures kept { OnErr result ((mark : ℕ) → mark ≤ s.old.state.ctx.now.made → KeepsOlder mark s.old.state.ctx.now s.new.state.ctx.now) }
 {
@@ -293,9 +294,9 @@ fn outermost_parse<T: IrText<A>, A: AttrText, U>(
 ) -> ParseResult<Ptr<Operation>, A>
     ensures lent { s.new.state.ctx.ghost_name ≡ s.old.state.ctx.ghost_name }
     ensures rest { KeepsRest s.old.state s.new.state }
-    ensures refused { IfErr result (λ fault. Refusal s.old.stream fault s.new.stream) }
-    ensures read { IfOk result (λ op. ReadsWith config.look_for_outlined_attrs op s.old s.new) }
-    ensures missed { s.old.stream.failed ≡ false → IfErr result (λ fault. MissesWith config.look_for_outlined_attrs s.old fault) }
+    ensures refused { IfErr result (λ fault. Refusal A.IrText.reading s.old.stream fault s.new.stream) }
+    ensures read { IfOk result (λ op. ReadsWith (attr_at A.IrText.reading) config.look_for_outlined_attrs op s.old s.new) }
+    ensures missed { s.old.stream.failed ≡ false → IfErr result (λ fault. MissesWith (attr_at A.IrText.reading) config.look_for_outlined_attrs s.old fault) }
     ensures objects { OnErr result (SameObjects s.old.state.ctx.now s.new.state.ctx.now) }
     ensures marks { OnErr result (marks_of s.new.state ≡ marks_of s.old.state) }
 {
@@ -326,9 +327,9 @@ pub trait OperationText {
     ) -> ParseResult<Ptr<Operation>, A>
         ensures lent { stream.new.state.ctx.ghost_name ≡ stream.old.state.ctx.ghost_name }
         ensures rest { KeepsRest stream.old.state stream.new.state }
-        ensures refused { IfErr result (λ fault. Refusal stream.old.stream fault stream.new.stream) }
-        ensures builds { IsFresh stream.old → IfOk result (λ op. BuildsRoot (texts_of T.reading T.written) (texts_of A.reading A.written) op stream.old stream.new) }
-        ensures unresolved { IsFresh stream.old → IfErr result (λ fault. (fault_of fault.cause ≡ Memory) ⊎ RefusesRoot (texts_of T.reading T.written) (texts_of A.reading A.written) stream.old.stream fault) }
+        ensures refused { IfErr result (λ fault. Refusal A.IrText.reading stream.old.stream fault stream.new.stream) }
+        ensures builds { IsFresh stream.old → IfOk result (λ op. BuildsRoot (texts_of T.reading T.written) (texts_of A.reading A.written) (attr_at A.reading) op stream.old stream.new) }
+        ensures unresolved { IsFresh stream.old → IfErr result (λ fault. (fault_of fault.cause ≡ Memory) ⊎ RefusesRoot (texts_of T.reading T.written) (texts_of A.reading A.written) (attr_at A.reading) stream.old.stream fault) }
         ensures objects { OnErr result (SameObjects stream.old.state.ctx.now stream.new.state.ctx.now) }
         ensures marks { OnErr result (marks_of stream.new.state ≡ marks_of stream.old.state) };
 
@@ -368,9 +369,9 @@ impl<T: IrText<A>, A: AttrText, U> Parsable<T, A, U> for Operation {
     ) -> ParseResult<Ptr<Operation>, A>
         ensures lent { stream.new.state.ctx.ghost_name ≡ stream.old.state.ctx.ghost_name }
         ensures rest { KeepsRest stream.old.state stream.new.state }
-        ensures refused { IfErr result (λ fault. Refusal stream.old.stream fault stream.new.stream) }
-        ensures read { IfOk result (λ op. ReadsWith config.look_for_outlined_attrs op stream.old stream.new) }
-        ensures missed { stream.old.stream.failed ≡ false → IfErr result (λ fault. MissesWith config.look_for_outlined_attrs stream.old fault) }
+        ensures refused { IfErr result (λ fault. Refusal A.IrText.reading stream.old.stream fault stream.new.stream) }
+        ensures read { IfOk result (λ op. ReadsWith (attr_at A.IrText.reading) config.look_for_outlined_attrs op stream.old stream.new) }
+        ensures missed { stream.old.stream.failed ≡ false → IfErr result (λ fault. MissesWith (attr_at A.IrText.reading) config.look_for_outlined_attrs stream.old fault) }
         ensures objects { OnErr result (SameObjects stream.old.state.ctx.now stream.new.state.ctx.now) }
         ensures marks { OnErr result (marks_of stream.new.state ≡ marks_of stream.old.state) }
     {

@@ -1,22 +1,24 @@
 //! The section behind a root: what is said of the items that carry a mark.
 ghost use Rattle.std.specs.Prelude.{◌≡◌, ◌<◌, false, length, OnOk, OnErr, IfOk, IfErr};
 ghost use Rattle.std.specs.Map.{lookup};
+ghost use Rattle.irtext_read.specs.AttrTexts.{attr_at};
 ghost use Rattle.irtext_read.specs.States.{marks_of, same_index};
 ghost use Rattle.pliron_text.specs.ModuleText.{index_at};
 ghost use Rattle.pliron_text.specs.MustRead.{MustRead};
+ghost use Rattle.pliron_text.specs.NewPaths.{AddsPaths, MustReadOver};
 ghost use Rattle.pliron_text.specs.SoFar.{RefusedAs, EntriesRefused, SectionRefused};
-ghost use Rattle.pliron_text.specs.SectionRead.{indices_of, Faults, Locates, Applies, AppliesAll, ReadsEntry, ReadsEntries, ReadsSection};
+ghost use Rattle.pliron_text.specs.SectionRead.{indices_of, known_given, given_over, known_entry, entry_over, Faults, Locates, Applies, AppliesAll, ReadsEntry, ReadsEntries, ReadsSection};
 ghost use Rattle.pliron_text.specs.SectionText.{entry_location_at, content_at, known_index, entry_at};
 ghost use Rattle.pliron_text.specs.Roots.{itself, replaced, may_follow, Demand, KeepsRest};
 
 use crate::irfmt::demanded::{index_demanded, spaced_text, text_demanded};
 pub use crate::irfmt::marker::{OUTLINED_ATTR_MARKER, outlined_marker_or};
-use crate::location::read::location_demanded;
+use crate::location::nested::location_read;
 use crate::parsable::out_of_memory;
 use indexmap::IndexMap;
-use irtext_base::base::{Operation, Ptr};
+use irtext_base::base::{Context, Operation, Ptr};
 use irtext_base::location::Location;
-use irtext_base::parsable::{CharStream, ParseResult};
+use irtext_base::parsable::{CharStream, ParseResult, TextStream};
 use irtext_base::result::Cause;
 use irtext_base::text::{AttrText, IrText};
 use irtext_read::irfmt::faults::{next_is, refuse, refuse_at};
@@ -54,8 +56,12 @@ fn entry_index<T: IrText<A>, A: AttrText, U>(
 }
 
 /// The location of an entry, where it gives one.
-fn entry_location<S: CharStream, A: Drop>(stream: &mut S) -> ParseResult<Option<Location<A>>, A>
-    ensures { MustRead S.view S.at (λ l. l) entry_location_at stream.old result stream.new }
+fn entry_location<T: IrText<A>, A: AttrText>(
+    stream: &mut TextStream,
+    ctx: &mut Context<T, A>,
+) -> ParseResult<Option<Location<A>>, A>
+    ensures adds { AddsPaths ctx.old ctx.new }
+    ensures read { MustReadOver known_given given_over (entry_location_at (attr_at A.IrText.reading)) ctx.new.paths stream.old result stream.new }
 {
     if stream.has_failed() {
         return Err(refuse(stream, Cause::StreamFailed));
@@ -65,7 +71,7 @@ fn entry_location<S: CharStream, A: Drop>(stream: &mut S) -> ParseResult<Option<
     }
     text_demanded(stream, "@[")?;
     skip_white_space(stream);
-    let location = location_demanded(stream)?;
+    let location = location_read(stream, ctx)?;
     spaced_text(stream, "]")?;
     text_demanded(stream, ",")?;
     skip_white_space(stream);
@@ -73,11 +79,15 @@ fn entry_location<S: CharStream, A: Drop>(stream: &mut S) -> ParseResult<Option<
 }
 
 /// What an entry says behind its index.
-fn entry_content<S: CharStream, A: Drop>(stream: &mut S) -> ParseResult<Option<Location<A>>, A>
-    ensures { MustRead S.view S.at (λ l. l) content_at stream.old result stream.new }
+fn entry_content<T: IrText<A>, A: AttrText>(
+    stream: &mut TextStream,
+    ctx: &mut Context<T, A>,
+) -> ParseResult<Option<Location<A>>, A>
+    ensures adds { AddsPaths ctx.old ctx.new }
+    ensures read { MustReadOver known_given given_over (content_at (attr_at A.IrText.reading)) ctx.new.paths stream.old result stream.new }
 {
     spaced_text(stream, "=")?;
-    let location = entry_location(stream)?;
+    let location = entry_location(stream, ctx)?;
     text_demanded(stream, "[")?;
     skip_white_space(stream);
     text_demanded(stream, "]")?;
@@ -89,11 +99,15 @@ fn entry_read<T: IrText<A>, A: AttrText, U>(
     s: &mut StateStream<'_, T, A, U>,
     entries: &Entries<A>,
 ) -> ParseResult<(usize, Option<Location<A>>), A>
-    ensures state { s.new.state ≡ s.old.state }
-    ensures read { MustRead itself replaced (λ e. e) (entry_at (may_follow (marks_of s.old.state) entries.now.entries)) s.old.stream result s.new.stream }
+    ensures lent { s.new.state.ctx.ghost_name ≡ s.old.state.ctx.ghost_name }
+    ensures rest { KeepsRest s.old.state s.new.state }
+    ensures marks { marks_of s.new.state ≡ marks_of s.old.state }
+    ensures adds { AddsPaths s.old.state.ctx.now s.new.state.ctx.now }
+    ensures read { MustReadOver known_entry entry_over (entry_at (attr_at A.IrText.reading) (may_follow (marks_of s.old.state) entries.now.entries)) s.new.state.ctx.now.paths s.old.stream result s.new.stream }
 {
     let index = entry_index(s, entries)?;
-    let location = entry_content(&mut s.stream)?;
+    let ctx = &mut *s.state.ctx;
+    let location = entry_content(&mut s.stream, ctx)?;
     Ok((index, location))
 }
 
@@ -102,12 +116,15 @@ fn entry_parse<T: IrText<A>, A: AttrText, U>(
     s: &mut StateStream<'_, T, A, U>,
     entries: &mut Entries<A>,
 ) -> ParseResult<(), A>
-    ensures state { s.new.state ≡ s.old.state }
+    ensures lent { s.new.state.ctx.ghost_name ≡ s.old.state.ctx.ghost_name }
+    ensures rest { KeepsRest s.old.state s.new.state }
+    ensures marks { marks_of s.new.state ≡ marks_of s.old.state }
+    ensures adds { AddsPaths s.old.state.ctx.now s.new.state.ctx.now }
     ensures shorter { OnOk result (length s.new.stream.rest < length s.old.stream.rest) }
     ensures fine { OnOk result (s.new.stream.failed ≡ s.old.stream.failed) }
-    ensures read { OnOk result (ReadsEntry (marks_of s.old.state) entries.old.entries s.old.stream entries.new.entries s.new.stream) }
-    ensures missed { s.old.stream.failed ≡ false → IfErr result (λ fault. Faults (RefusedAs (entry_at {A = A} (may_follow (marks_of s.old.state) entries.old.entries) s.old.stream.rest)) s.old.stream fault) }
-    ensures refused { IfErr result (λ fault. Demand s.old.stream fault s.new.stream) }
+    ensures read { OnOk result (ReadsEntry (attr_at A.IrText.reading) (marks_of s.old.state) s.new.state.ctx.now.paths entries.old.entries s.old.stream entries.new.entries s.new.stream) }
+    ensures missed { s.old.stream.failed ≡ false → IfErr result (λ fault. Faults (RefusedAs (entry_at (attr_at A.IrText.reading) (may_follow (marks_of s.old.state) entries.old.entries) s.old.stream.rest)) s.old.stream fault) }
+    ensures refused { IfErr result (λ fault. Demand A.IrText.reading s.old.stream fault s.new.stream) }
 {
     let entry = entry_read(s, entries)?;
     if entries.insert(entry.0, entry.1).is_err() {
@@ -121,11 +138,14 @@ fn entry_parse<T: IrText<A>, A: AttrText, U>(
 fn entries_parse<T: IrText<A>, A: AttrText, U>(
     s: &mut StateStream<'_, T, A, U>,
 ) -> ParseResult<Entries<A>, A>
-    ensures state { s.new.state ≡ s.old.state }
+    ensures lent { s.new.state.ctx.ghost_name ≡ s.old.state.ctx.ghost_name }
+    ensures rest { KeepsRest s.old.state s.new.state }
+    ensures marks { marks_of s.new.state ≡ marks_of s.old.state }
+    ensures adds { AddsPaths s.old.state.ctx.now s.new.state.ctx.now }
     ensures fine { OnOk result (s.new.stream.failed ≡ s.old.stream.failed) }
-    ensures read { IfOk result (λ entries. ReadsEntries (indices_of (marks_of s.old.state)) entries.entries s.old.stream s.new.stream) }
-    ensures missed { s.old.stream.failed ≡ false → IfErr result (λ fault. Faults (EntriesRefused A (indices_of (marks_of s.old.state)) s.old.stream.rest) s.old.stream fault) }
-    ensures refused { IfErr result (λ fault. Demand s.old.stream fault s.new.stream) }
+    ensures read { IfOk result (λ entries. ReadsEntries (attr_at A.IrText.reading) (indices_of (marks_of s.old.state)) s.new.state.ctx.now.paths entries.entries s.old.stream s.new.stream) }
+    ensures missed { s.old.stream.failed ≡ false → IfErr result (λ fault. Faults (EntriesRefused (attr_at A.IrText.reading) (indices_of (marks_of s.old.state)) s.old.stream.rest) s.old.stream fault) }
+    ensures refused { IfErr result (λ fault. Demand A.IrText.reading s.old.stream fault s.new.stream) }
 {
     let mut entries = IndexMap::new(s.stream.allocator());
     while next_is(&s.stream, '!') {
@@ -187,16 +207,17 @@ fn apply<T: IrText<A>, A: AttrText, U>(s: &mut StateStream<'_, T, A, U>, entries
     }
 }
 
-/// The section, which must stand there. Nothing is changed before all of it was read.
+/// The section, which must stand there. Before all of it was read, the context comes to keep paths, and nothing else is changed.
 pub(crate) fn section_parse<T: IrText<A>, A: AttrText, U>(
     s: &mut StateStream<'_, T, A, U>,
 ) -> ParseResult<(), A>
     ensures lent { s.new.state.ctx.ghost_name ≡ s.old.state.ctx.ghost_name }
     ensures rest { KeepsRest s.old.state s.new.state }
-    ensures read { OnOk result (ReadsSection s.old s.new) }
-    ensures missed { s.old.stream.failed ≡ false → IfErr result (λ fault. Faults (SectionRefused A (indices_of (marks_of s.old.state)) s.old.stream.rest) s.old.stream fault) }
-    ensures refused { IfErr result (λ fault. Demand s.old.stream fault s.new.stream) }
-    ensures unchanged { OnErr result (s.new.state ≡ s.old.state) }
+    ensures read { OnOk result (ReadsSection (attr_at A.IrText.reading) s.old s.new) }
+    ensures missed { s.old.stream.failed ≡ false → IfErr result (λ fault. Faults (SectionRefused (attr_at A.IrText.reading) (indices_of (marks_of s.old.state)) s.old.stream.rest) s.old.stream fault) }
+    ensures refused { IfErr result (λ fault. Demand A.IrText.reading s.old.stream fault s.new.stream) }
+    ensures marks { OnErr result (marks_of s.new.state ≡ marks_of s.old.state) }
+    ensures adds { OnErr result (AddsPaths s.old.state.ctx.now s.new.state.ctx.now) }
 {
     spaced_text(&mut s.stream, "outlined_attributes:")?;
     let entries = entries_parse(s)?;

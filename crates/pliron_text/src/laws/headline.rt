@@ -6,10 +6,12 @@ ghost use Rattle.irtext_base.specs.Own.{texts_of, unplaced};
 ghost use Rattle.irtext_base.specs.declared.base.arena.Ptr.{Ptr};
 ghost use Rattle.irtext_base.specs.declared.base.operation.Operation.{Operation};
 ghost use Rattle.irtext_base.specs.declared.parsable.fault.ParseFault.{ParseFault};
+ghost use Rattle.irtext_read.specs.AttrTexts.{attr_at};
 ghost use Rattle.irtext_read.specs.declared.parsable.state.StateStream.{StateStream};
 ghost use Rattle.pliron_text.specs.Graph.{Graph};
 ghost use Rattle.pliron_text.specs.Modules.{format_of};
-ghost use Rattle.pliron_text.specs.PrintedBack.{IsKept, StandsBack};
+ghost use Rattle.pliron_text.specs.KeptModule.{IsKept};
+ghost use Rattle.pliron_text.specs.PrintedBack.{StandsBack};
 ghost use Rattle.pliron_text.specs.PrintedModule.{levels, printed, printing};
 ghost use Rattle.pliron_text.specs.Shown.{Shown};
 ghost use Rattle.pliron_text.specs.Stands.{graph_of};
@@ -25,14 +27,14 @@ pub fn printed_root_comes_back<T: IrText<A>, A: AttrText, U, V>()
         let types = texts_of T.reading T.written in
         let owns = texts_of A.reading A.written in
         let C = printing A.outlined A.print_once A.eq in
-        operation ctx p ≡ Some op → IsKept op → graph_of A.written ctx p ≡ Some g → levels s.limit ≡ None →
+        operation ctx p ≡ Some op → IsKept A.reading A.written ctx.paths op → graph_of A.written ctx p ≡ Some g → levels s.limit ≡ None →
         printed (unplaced types owns format_of) C ctx p s ≡ Some (bytes, after) →
-        (q : Ptr Operation) (old new : StateStream T A U) → old.stream.rest ≡ chars bytes → BuildsRoot types owns q old new → StandsBack A.written C g q new }
+        (q : Ptr Operation) (old new : StateStream T A U) → old.stream.rest ≡ chars bytes → BuildsRoot types owns (attr_at A.reading) q old new → StandsBack A.written C g q new }
     ensures never_refused { (ctx : ContextView T A) (p : Ptr Operation) (op : OperationView T A) (s after : Shown V) (bytes : List ℕ) (g : Graph T A) →
         let types = texts_of T.reading T.written in
         let owns = texts_of A.reading A.written in
         let C = printing A.outlined A.print_once A.eq in
-        operation ctx p ≡ Some op → IsKept op → graph_of A.written ctx p ≡ Some g → levels s.limit ≡ None →
+        operation ctx p ≡ Some op → IsKept A.reading A.written ctx.paths op → graph_of A.written ctx p ≡ Some g → levels s.limit ≡ None →
         printed (unplaced types owns format_of) C ctx p s ≡ Some (bytes, after) →
-        (old : StateStream T A U) (fault : ParseFault A) → old.stream.rest ≡ chars bytes → RefusesRoot types owns old.stream fault → ⊥ }
+        (old : StateStream T A U) (fault : ParseFault A) → old.stream.rest ≡ chars bytes → RefusesRoot types owns (attr_at A.reading) old.stream fault → ⊥ }
 {}

@@ -1,10 +1,9 @@
-//! Reading of locations: so far of places in memory.
+//! Reading of lines and columns.
 ghost use Rattle.irtext_base.specs.Faults.{characters};
 ghost use Rattle.pliron_text.specs.MustRead.{MustRead};
-ghost use Rattle.pliron_text.specs.LocationText.{labelled_at, position_at, location_at};
+ghost use Rattle.pliron_text.specs.LocationText.{labelled_at, position_at};
 
 use crate::irfmt::demanded::{i32_demanded, spaced_text, text_demanded};
-use irtext_base::location::{Location, Source};
 use irtext_base::parsable::{CharStream, ParseResult, SourcePosition};
 
 /// A word, `:` and a number.
@@ -24,17 +23,4 @@ pub(crate) fn position_parse<S: CharStream, A>(stream: &mut S) -> ParseResult<So
     spaced_text(stream, ",")?;
     let column = labelled_number(stream, "column")?;
     Ok(SourcePosition { line, column })
-}
-
-/// A location, which must stand there.
-pub(crate) fn location_demanded<S: CharStream, A>(stream: &mut S) -> ParseResult<Location<A>, A>
-    ensures { MustRead S.view S.at (λ l. l) location_at stream.old result stream.new }
-{
-    text_demanded(stream, "<in-memory>")?;
-    spaced_text(stream, ":")?;
-    let pos = position_parse(stream)?;
-    Ok(Location::SrcPos {
-        src: Source::InMemory,
-        pos,
-    })
 }

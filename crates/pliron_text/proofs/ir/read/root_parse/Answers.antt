@@ -1,10 +1,12 @@
 use Rattle.std.proofs.Common.{◌≡◌, false, ◌&&◌, refl, [], sym, ap, ◌∙◌, append-nil}
 use Rattle.std.proofs.lemmas.Result.{err_from_is_err_and}
 use Rattle.irtext_read.specs.States.{marks_of}
+use Rattle.irtext_base.proofs.Kept.{kept_trans}
 use Rattle.pliron_text.specs.Roots.{noted}
 use Rattle.pliron_text.specs.SectionRead.{is_noted, no_module, no_section}
 use Rattle.pliron_text.proofs.Answered.{may_not_answered}
 use Rattle.pliron_text.proofs.SectionSteps.{noted_there, both_hold, held_under, first_fails, none_noted, held_beside}
+use Rattle.pliron_text.proofs.NewPaths.{adds_kept}
 use Rattle.pliron_text.proofs.Known.{refusal, demanded_refusal, operation_spares, read_fine}
 use Rattle.pliron_text.proofs.ir.read.root_parse.Goals as goal
 use Rattle.pliron_text.proofs.ir.read.root_parse.Goals.{then-not-config-via-then-not-config, then-not-config-via-else-not-config+then-not-has_marks}
@@ -28,12 +30,12 @@ pub returns-in_err-section_parse-clause-marks : goal.returns-in_err-section_pars
 returns-in_err-section_parse-clause-marks g c =
     let p = err_from_is_err_and c.from_residual-in_err-section_parse.result c.from_residual-in_err-section_parse.ensures.1 in
     let r = c.in_ok-op.ensures.read in
-    rw p.1 (noted r.read.mark c.in_ok-op.op, ap marks_of c.in_err-section_parse.ensures.unchanged ∙ r.marks)
+    rw p.1 (noted r.read.mark c.in_ok-op.op, c.in_err-section_parse.ensures.marks ∙ r.marks)
 
 pub returns-in_err-section_parse-clause-kept : goal.returns-in_err-section_parse-clause-kept
 returns-in_err-section_parse-clause-kept g c =
     let p = err_from_is_err_and c.from_residual-in_err-section_parse.result c.from_residual-in_err-section_parse.ensures.1 in
-    rw p.1 (λ mark h. rw (ap (λ s. s.ctx.now) c.in_err-section_parse.ensures.unchanged) (c.in_ok-op.ensures.kept mark h))
+    rw p.1 (λ mark h. kept_trans (c.in_ok-op.ensures.kept mark h) (adds_kept mark c.in_err-section_parse.ensures.adds))
 
 pub returns-in_err-op-clause-missed : goal.returns-in_err-op-clause-missed
 returns-in_err-op-clause-missed g c = λ e.

@@ -1,12 +1,22 @@
-use Rattle.std.proofs.Common.{◌≡◌, [], length}
+use Rattle.std.proofs.Common.{◌≡◌, length}
+use Rattle.irtext_read.specs.AttrTexts.{attr_at}
 use Rattle.irtext_read.specs.States.{marks_of}
-use Rattle.pliron_text.specs.SectionRead.{indices_of, Moves}
-use Rattle.pliron_text.specs.SectionText.{Entries}
+use Rattle.pliron_text.specs.NewPaths.{AddsPaths}
+use Rattle.pliron_text.specs.Roots.{KeepsRest}
+use Rattle.pliron_text.specs.SectionRead.{Moves}
+use Rattle.pliron_text.proofs.SectionSteps.{EntriesSoFar}
 use Rattle.pliron_text.proofs.irfmt.outlined.entries_parse.Given as goal
 
 abbrev pub invariant-loop-s : goal.invariant-loop-s
-invariant-loop-s g l = (l.s.state ≡ l.fn.s.state) × (l.s.stream.failed ≡ l.fn.s.stream.failed)
-    × Moves l.fn.s.stream l.s.stream × Entries (indices_of (marks_of l.fn.s.state)) [] l.entries.entries l.fn.s.stream.rest l.s.stream.rest
+invariant-loop-s g l = record {
+  lent : l.s.state.ctx.ghost_name ≡ l.fn.s.state.ctx.ghost_name;
+  rest : KeepsRest l.fn.s.state l.s.state;
+  marks : marks_of l.s.state ≡ marks_of l.fn.s.state;
+  adds : AddsPaths l.fn.s.state.ctx.now l.s.state.ctx.now;
+  fine : l.s.stream.failed ≡ l.fn.s.stream.failed;
+  moves : Moves l.fn.s.stream l.s.stream;
+  so_far : EntriesSoFar (attr_at g.A.IrText.reading) (marks_of l.fn.s.state) l.s.state.ctx.now.paths l.entries.entries l.fn.s.stream.rest l.s.stream.rest;
+}
 
 abbrev pub decreases-loop-s : goal.decreases-loop-s
 decreases-loop-s g l = length l.s.stream.rest

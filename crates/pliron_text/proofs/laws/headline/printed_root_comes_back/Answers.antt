@@ -9,14 +9,14 @@ pub returns-clause-builds : goal.returns-clause-builds
 returns-clause-builds g c ctx p op s after bytes x stands_there kept sees unlimited e q old new is_text b =
     let types = texts_of g.T.IrText.reading g.T.IrText.written in
     let owns = texts_of g.A.IrText.reading g.A.IrText.written in
-    let n = printed_text (unplaced types owns format_of) g.A.AttrText.outlined g.A.AttrText.print_once g.A.PartialEq.eq ctx p op s x stands_there kept sees bytes after unlimited e in
-    builds_back types owns g.met.T.IrText.lawful g.met.A.IrText.lawful g.met.A.AttrText.unreserved g.A.AttrText.outlined g.A.AttrText.print_once g.A.PartialEq.eq
-    ctx p op n.0 s x stands_there n.1 n.2 sees kept.1 old (is_text ∙ n.3) q new b
+    let n = printed_text (unplaced types owns format_of) g.A.AttrText.outlined g.A.AttrText.print_once g.A.PartialEq.eq ctx p op s x g.A.IrText.reading stands_there kept sees bytes after unlimited e in
+    builds_back types g.A.IrText.reading g.A.IrText.written g.met.T.IrText.lawful g.met.A.IrText.lawful g.met.A.AttrText.unreserved g.A.AttrText.outlined g.A.AttrText.print_once g.A.PartialEq.eq
+    ctx p op n.0 s x stands_there n.1 n.2 sees kept.1 kept.2 old (is_text ∙ n.3) q new b
 
 pub returns-clause-never_refused : goal.returns-clause-never_refused
 returns-clause-never_refused g c ctx p op s after bytes x stands_there kept sees unlimited e old fault is_text f =
     let types = texts_of g.T.IrText.reading g.T.IrText.written in
     let owns = texts_of g.A.IrText.reading g.A.IrText.written in
-    let n = printed_text (unplaced types owns format_of) g.A.AttrText.outlined g.A.AttrText.print_once g.A.PartialEq.eq ctx p op s x stands_there kept sees bytes after unlimited e in
-    never_refused types owns g.met.T.IrText.lawful g.met.A.IrText.lawful g.met.A.AttrText.unreserved g.A.AttrText.outlined g.A.AttrText.print_once g.A.PartialEq.eq
-    ctx p op n.0 s x stands_there n.1 n.2 sees kept.1 old (is_text ∙ n.3) fault f
+    let n = printed_text (unplaced types owns format_of) g.A.AttrText.outlined g.A.AttrText.print_once g.A.PartialEq.eq ctx p op s x g.A.IrText.reading stands_there kept sees bytes after unlimited e in
+    never_refused types g.A.IrText.reading g.A.IrText.written g.met.T.IrText.lawful g.met.A.IrText.lawful g.met.A.AttrText.unreserved g.A.AttrText.outlined g.A.AttrText.print_once g.A.PartialEq.eq
+    ctx p op n.0 s x stands_there n.1 n.2 sees kept.1 kept.2 old (is_text ∙ n.3) fault f
