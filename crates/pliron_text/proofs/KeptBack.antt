@@ -14,7 +14,7 @@ use Rattle.irtext_base.specs.Paths.{Written}
 use Rattle.irtext_base.specs.declared.location.Location.{Location, Unknown}
 use Rattle.irtext_read.specs.AttrTexts.{given_name_at, names_at, given_names_at, ident_at, leads, attr_at}
 use Rattle.irtext_read.specs.ListOutcomes.{or_empty, item_after, items_after, separated_at}
-use Rattle.irtext_read.specs.Tokens.{text_at, identifier_at}
+use Rattle.irtext_read.specs.Tokens.{text_at}
 use Rattle.irtext_read.proofs.Attributes.{given_name_takes}
 use Rattle.pliron_text.specs.AttrText.{attr_text}
 use Rattle.pliron_text.specs.KeptModule.{AllHold, RowHold, AttrKept}

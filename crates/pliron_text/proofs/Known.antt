@@ -2,8 +2,7 @@
 use Rattle.std.proofs.Common.{◌≡◌, ℕ, ◌<◌, Bool, true, false, cond, Ok, Err, [], ◌∷◌, List, is_some, length, length-append, Option, Some, None, codes, refl, sym, ◌∙◌, ap, subst, ◌⊎◌, inl, inr, arith}
 use Rattle.irtext_base.specs.Text.{Text, front, after}
 use Rattle.irtext_base.specs.Stream.{StreamView, IsAt, after_failure}
-use Rattle.irtext_base.specs.Faults.{Fault, Failed, UnknownIndex, DuplicateIndex, UnregisteredOp, UnregisteredDialect, Unexpected, NumberRange, Word, fault_of}
-use Rattle.irtext_base.specs.Faults.{Demand as Demanded}
+use Rattle.irtext_base.specs.Faults.{UnknownIndex, DuplicateIndex, UnregisteredOp, UnregisteredDialect, Unexpected, Word, fault_of}
 use Rattle.irtext_base.specs.Answers.{Outcome, Read, Missing, Bad, Takes, Starves, Refuses, Gives, demanded, prefixed, mapped, followed, unless_failed}
 use Rattle.irtext_base.specs.declared.parsable.fault.ParseFault.{ParseFault}
 use Rattle.irtext_base.specs.Reading.{the}

@@ -1,24 +1,18 @@
 -- The printed text of an integer is read back.
-use Rattle.std.proofs.Common.{◌≡◌, ℕ, suc, ◌<◌, ◌≤◌, ◌^◌, true, false, cond, Some, None, List, [], ◌∷◌, ◌++◌, length, refl, sym, ◌∙◌, ap, ap₂, subst, append_assoc, arith}
+use Rattle.std.proofs.Common.{◌≡◌, ℕ, suc, ◌<◌, ◌≤◌, ◌^◌, true, false, cond, Some, None, [], ◌∷◌, ◌++◌, length, refl, ◌∙◌, ap, ap₂, arith}
 use Rattle.std.proofs.lemmas.Bool.Decides.{nat_tests}
 use Rattle.std.proofs.lemmas.Fmt.{decimal_is_IsNumeral}
-use Rattle.std.specs.Prelude.{ℤ, pos, negsuc, codes, nat_lt, decimal, FitsSigned}
+use Rattle.std.specs.Prelude.{ℤ, pos, negsuc, nat_lt, decimal, FitsSigned}
 use Rattle.std.specs.Char.{is_ascii_digit, is_whitespace}
 use Rattle.std.specs.Fmt.{signed_decimal}
 use Rattle.std.specs.Int.{w32}
 use Rattle.std.specs.List.{list_all}
 use Rattle.std.specs.Str.Parse.{digits_value}
 use Rattle.irtext_base.specs.Text.{Text, begins, front, after}
-use Rattle.irtext_base.specs.Answers.{Outcome, Read, followed, prefixed, mapped}
-use Rattle.irtext_base.specs.Causes.{position_text}
-use Rattle.irtext_base.specs.declared.parsable.position.SourcePosition.{SourcePosition}
+use Rattle.irtext_base.specs.Answers.{Outcome, Read}
 use Rattle.irtext_base.proofs.Characters.{and_left, front_all, after_all, word_no_space}
 use Rattle.irtext_base.proofs.Numbers.{digits_every, digit_in_word}
 use Rattle.irtext_read.specs.Tokens.{is_sign, sign_of, after_sign, fitting, value_of, integer_of, integered, no_integer, integer_at}
-use Rattle.pliron_text.specs.LocationText.{spaced_at, labelled_at, position_at}
-use Rattle.pliron_text.specs.PrintedBack.{Fits32}
-use Rattle.pliron_text.proofs.JoinAnswers.{followed-read}
-use Rattle.pliron_text.proofs.JoinTokens.{text-literal}
 
 -- ---- an integer
 -- an integer behind its sign

@@ -1,9 +1,9 @@
 -- Steps of the readers of locations: how far they come, and what is made of what they read.
-use Rattle.std.proofs.Common.{inr, ◌≡◌, ◌∙◌, ap, refl, sym, subst, ℕ, zero, suc, ◌+◌, ◌≤◌, ◌<◌, Bool, true, false, Result, Ok, Err, List, [], ◌∷◌, ◌++◌, Vec, map, length, length-append, arith, cond, codes, true≢false}
+use Rattle.std.proofs.Common.{inr, ◌≡◌, ◌∙◌, ap, refl, sym, subst, ℕ, zero, suc, ◌≤◌, ◌<◌, Bool, true, false, Result, Ok, Err, List, [], ◌∷◌, ◌++◌, Vec, map, length, length-append, arith, cond, codes, true≢false}
 use Rattle.std.specs.Char.{is_whitespace}
 use Rattle.irtext_base.specs.Text.{Text, begins, front, after}
 use Rattle.irtext_base.specs.Stream.{StreamView}
-use Rattle.irtext_base.specs.Answers.{Outcome, Read, Missing, Bad, Takes, Starves, Passes, Demands, Answers, demanded, unless_failed, mapped, followed}
+use Rattle.irtext_base.specs.Answers.{Outcome, Read, Missing, Bad, Takes, Passes, Demands, Answers, demanded, unless_failed, mapped, followed}
 use Rattle.irtext_base.specs.Locations.{LocationView, LocationsOf, AttrView, location_view, in_row, no_location, location, row_sourced}
 use Rattle.irtext_base.specs.Paths.{Written, path_of, are_known, row_known, written_with}
 use Rattle.irtext_base.specs.declared.location.Location.{Location}
@@ -11,7 +11,7 @@ use Rattle.irtext_base.specs.declared.parsable.fault.ParseFault.{ParseFault}
 use Rattle.irtext_read.specs.Tokens.{text_at}
 use Rattle.pliron_text.specs.LocationReading.{begins_location, WrittenRow, kind_at, behind_location, row_of, row_at, location_within, more_within, location_at}
 use Rattle.pliron_text.specs.MustRead.{MustRead, MayRead}
-use Rattle.pliron_text.specs.NewPaths.{MustReadOver, MustReadWithin, MustReadInside, Makes, PushesRow, known_location, location_over, known_row, row_over, joined_rows}
+use Rattle.pliron_text.specs.NewPaths.{MustReadOver, MustReadWithin, MustReadInside, Makes, known_location, location_over, known_row, row_over, joined_rows}
 use Rattle.pliron_text.specs.Roots.{itself, replaced}
 use Rattle.std.specs.Global.{Global}
 use Rattle.irtext_base.specs.Context.{KeepsPaths}
@@ -22,7 +22,7 @@ use Rattle.irtext_base.proofs.Compose.{answers_demanded}
 use Rattle.pliron_text.proofs.Answered.{answered}
 use Rattle.pliron_text.proofs.JoinTokens.{text_read}
 use Rattle.pliron_text.proofs.Rooted.{alone}
-use Rattle.pliron_text.proofs.Steps.{Passed, starts, turned, more, spaced, last, ends, refuses, starved, mapped_followed, mapped_mapped, mapped_as}
+use Rattle.pliron_text.proofs.Steps.{Passed, starts, turned, more, spaced, last, ends, starved, mapped_followed, mapped_mapped, mapped_as}
 use Rattle.pliron_text.proofs.LocationBegins.{is_missing, one_begins}
 use Rattle.pliron_text.proofs.NewPaths.{both_true, left_true, right_true, row_stays_known, row_written_same}
 

@@ -1,5 +1,5 @@
 -- No location's cause says that the stream had failed, where the reader of the caller's attributes never says so.
-use Rattle.std.proofs.Common.{◌≡◌, ℕ, zero, suc, Bool, true, false, cond, Option, Some, None, List, [], ◌∷◌, ◌++◌, length}
+use Rattle.std.proofs.Common.{ℕ, zero, suc, Bool, true, false, cond, Option, Some, None, List, [], ◌∷◌, ◌++◌, length}
 use Rattle.std.specs.Prelude.{◌==◌, codes}
 use Rattle.std.specs.Char.{is_ascii_hexdigit}
 use Rattle.std.specs.Str.Parse.{digits_value}
@@ -9,14 +9,14 @@ use Rattle.irtext_base.specs.Reading.{the}
 use Rattle.irtext_base.specs.Stream.{first_of}
 use Rattle.irtext_base.specs.Faults.{Fault, Unexpected, BadEscape, BadUnicodeEscape, Word, AHexadecimalDigit, AnEscapedCharacter, AnIdentifier, ASource, ALocation}
 use Rattle.irtext_base.specs.Answers.{Outcome, Read, Missing, Bad, prefixed, followed, mapped}
-use Rattle.irtext_base.specs.Locations.{AttrView, given_names, ident, own, fused, no_location}
+use Rattle.irtext_base.specs.Locations.{AttrView, given_names, ident, own}
 use Rattle.irtext_base.specs.Paths.{Written}
 use Rattle.irtext_read.specs.Tokens.{text_at, identifier_at}
 use Rattle.irtext_read.specs.QuotedTexts.{escape_of, escaped, named, closed, braced, unicode_at, escape_at, unit_at, unit_before, units_at, quoted_at}
 use Rattle.irtext_read.specs.ListOutcomes.{or_empty, item_after, items_after, separated_at}
-use Rattle.irtext_read.specs.AttrTexts.{given_name_at, names_at, given_names_at, ident_at, leads, attr_at}
-use Rattle.pliron_text.specs.LocationText.{space_at, spaced_at}
-use Rattle.pliron_text.specs.LocationReading.{WrittenRow, bytes_at, name_at, source_at, place_at, metadata_at, behind_location, row_of, row_at, more_at, fused_at, named_at, call_site_at, kind_at, location_within, more_within, location_at}
+use Rattle.irtext_read.specs.AttrTexts.{given_name_at, given_names_at, ident_at, leads, attr_at}
+use Rattle.pliron_text.specs.LocationText.{spaced_at}
+use Rattle.pliron_text.specs.LocationReading.{WrittenRow, bytes_at, name_at, source_at, place_at, metadata_at, behind_location, row_of, more_at, fused_at, named_at, call_site_at, kind_at, location_within, more_within, location_at}
 use Rattle.pliron_text.specs.Roots.{SaysNotFailed, IsSincere}
 use Rattle.pliron_text.proofs.Spares.{Spares, NotFailed, unexpected_fine, range_fine, spares-prefixed, spares-followed, spares-mapped, spares-text, spares-word, spares-spaced, spares-position}
 

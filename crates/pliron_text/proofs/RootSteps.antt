@@ -14,9 +14,8 @@ use Rattle.irtext_base.specs.declared.base.identifier.OpId.{OpId}
 use Rattle.irtext_base.specs.declared.base.operation.Operation.{Operation}
 use Rattle.irtext_base.specs.declared.base.region.Region.{Region}
 use Rattle.irtext_base.specs.declared.base.region.RegionData.{RegionData}
-use Rattle.irtext_base.specs.Locations.{AttrView, location_view, src_pos}
-use Rattle.irtext_base.specs.Moves.{with_paths}
-use Rattle.irtext_base.specs.Paths.{Written, path_of, written_with}
+use Rattle.irtext_base.specs.Locations.{AttrView}
+use Rattle.irtext_base.specs.Paths.{Written, written_with}
 use Rattle.irtext_base.specs.declared.location.Location.{Location, SrcPos}
 use Rattle.irtext_base.specs.declared.parsable.fault.ParseFault.{ParseFault}
 use Rattle.irtext_base.proofs.Contexts.{same-paths}

@@ -1,9 +1,9 @@
 -- What a module holds so that its text is read back.
-use Rattle.std.specs.Prelude.{◌≡◌, ◌++◌, IfSome, IsTrue, List, ℕ, Option, Some, None, ⊤}
+use Rattle.std.specs.Prelude.{◌≡◌, ◌++◌, IfSome, IsTrue, List, ℕ, Option, ⊤}
 use Rattle.std.specs.Str.{all_scalars}
 use Rattle.irtext_base.specs.Answers.{Outcome, Read}
 use Rattle.irtext_base.specs.Context.{OperationView}
-use Rattle.irtext_base.specs.Locations.{AttrView, given_names, ident, own, src_pos, fused, named, call_site, unknown, LocationsOf, no_location, location}
+use Rattle.irtext_base.specs.Locations.{AttrView, own, src_pos, fused, named, call_site, unknown, LocationsOf, no_location, location}
 use Rattle.irtext_base.specs.Paths.{Written}
 use Rattle.irtext_base.specs.Text.{Text, is_identifier}
 use Rattle.pliron_text.specs.AttrText.{FineAttr}

@@ -1,21 +1,17 @@
 -- What is promised of the text of a module that is read back.
-use Rattle.std.specs.Prelude.{◌≡◌, true, false, [], Some, IfSome, IsTrue, List, ℕ, FitsSigned, ⊤}
+use Rattle.std.specs.Prelude.{◌≡◌, true, false, [], Some, FitsSigned}
 use Rattle.std.specs.Int.{w32}
-use Rattle.irtext_base.specs.Text.{Text, after_space, is_identifier}
-use Rattle.irtext_base.specs.Context.{OperationView}
+use Rattle.irtext_base.specs.Text.{Text, after_space}
 use Rattle.irtext_base.specs.Locations.{src_pos}
 use Rattle.irtext_base.specs.Paths.{Written}
 use Rattle.irtext_base.specs.declared.base.arena.Ptr.{Ptr}
 use Rattle.irtext_base.specs.declared.base.operation.Operation.{Operation}
-use Rattle.irtext_base.specs.declared.location.Location.{Location, SrcPos, Unknown}
-use Rattle.irtext_base.specs.declared.location.Source.TheVariants.{InMemory}
 use Rattle.irtext_base.specs.declared.parsable.position.SourcePosition.{SourcePosition}
 use Rattle.irtext_read.specs.declared.parsable.state.StateStream.{StateStream}
 use Rattle.pliron_text.specs.Build.{Built}
 use Rattle.pliron_text.specs.Graph.{Graph, Printing}
 use Rattle.pliron_text.specs.LocationWriting.{written_text}
 use Rattle.pliron_text.specs.Modules.{isolated}
-use Rattle.pliron_text.specs.PrintedModule.{module_symbol}
 use Rattle.pliron_text.specs.Same.{Locations, UpToFillings, stood}
 use Rattle.pliron_text.specs.Stands.{stands}
 

@@ -1,4 +1,4 @@
-use Rattle.std.proofs.Common.{◌≡◌, false, ◌&&◌, refl, [], sym, ap, ◌∙◌, append-nil}
+use Rattle.std.proofs.Common.{◌≡◌, false, ◌&&◌, refl, [], sym, ◌∙◌, append-nil}
 use Rattle.std.proofs.lemmas.Result.{err_from_is_err_and}
 use Rattle.irtext_read.specs.States.{marks_of}
 use Rattle.irtext_base.proofs.Kept.{kept_trans}

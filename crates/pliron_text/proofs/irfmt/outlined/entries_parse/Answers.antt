@@ -1,4 +1,4 @@
-use Rattle.std.proofs.Common.{refl, sym, ◌∙◌, ap, subst}
+use Rattle.std.proofs.Common.{sym, ◌∙◌, subst}
 use Rattle.std.proofs.lemmas.Result.{err_from_is_err_and}
 use Rattle.irtext_read.specs.AttrTexts.{attr_at}
 use Rattle.irtext_read.specs.States.{marks_of}
@@ -6,8 +6,8 @@ use Rattle.pliron_text.specs.SectionRead.{ReadsEntry, Faults}
 use Rattle.pliron_text.specs.SectionText.{entry_at}
 use Rattle.pliron_text.specs.SoFar.{RefusedAs}
 use Rattle.pliron_text.specs.Roots.{may_follow}
-use Rattle.pliron_text.proofs.Answered.{moves_none, moves_more}
-use Rattle.pliron_text.proofs.NewPaths.{adds_none, adds_more}
+use Rattle.pliron_text.proofs.Answered.{moves_more}
+use Rattle.pliron_text.proofs.NewPaths.{adds_more}
 use Rattle.pliron_text.proofs.SectionSteps.{entry_noted, entries_stop}
 use Rattle.pliron_text.proofs.irfmt.outlined.entries_parse.Goals as goal
 

@@ -11,7 +11,7 @@ use Rattle.pliron_text.specs.LocationText.{space_at, spaced_at}
 use Rattle.pliron_text.specs.NewPaths.{location_over}
 use Rattle.pliron_text.specs.SectionRead.{given_over}
 use Rattle.pliron_text.specs.SectionText.{entry_location_at}
-use Rattle.pliron_text.proofs.LocationRows.{at_length, known_of}
+use Rattle.pliron_text.proofs.LocationRows.{at_length}
 use Rattle.pliron_text.proofs.Rooted.{alone}
 use Rattle.pliron_text.proofs.Steps.{starts, more, spaced, refuses, last_spaced}
 use Rattle.pliron_text.proofs.irfmt.outlined.entry_location.Goals as goal
