@@ -134,7 +134,7 @@ module _ {A : Type 0} (attr : Text → Outcome (AttrView A)) where
       let b = neither_right (begins (the 102) text) _ a in
       let c = neither_right (begins (the 110) text) _ b in
       is_none (location_within attr depth) (more_within attr depth) attr text (neither_left (begins begins_source text) _ f) (neither_left (begins (the 102) text) _ a) (neither_left (begins (the 110) text) _ b)
-          (neither_left (begins (the 99) text) _ c) (neither_right (begins (the 99) text) _ c)
+      (neither_left (begins (the 99) text) _ c) (neither_right (begins (the 99) text) _ c)
 
   -- where one begins, it is not missing at any depth that the text does not pass
   pub one_begins : (depth : ℕ) (text : Text) → length text ≤ depth → begins begins_location text ≡ true → is_missing (location_within attr depth text) ≡ false

@@ -73,10 +73,12 @@ call_site_read-returns-clause-read g t c =
     let caller = location_view c.in_ok-caller.caller in
     let k = known_of c.in_ok-callee.ensures.read in
     let kept = c.in_ok-caller.ensures.adds.kept in
-    record { inside = λ d s. made (call_site callee caller)
-        (turned alone (λ t. Read (written_with paths (call_site callee caller)) [] t) (ap (λ z. Read (call_site z (written_with paths caller)) [] c.spaced_text-3.new.stream.rest) (sym (written_same before paths kept callee k)))
-            (more_seen alone _ (more alone _ (more alone _ (more alone _ (more alone _ (first alone _ c.in_ok-text_demanded.ensures) c.in_ok-spaced_text.ensures) (c.in_ok-callee.ensures.read.within d (omega (arith, s, shorter 99 (codes "allsite") c.in_ok-text_demanded.ensures, no_longer c.in_ok-spaced_text.ensures))).read) c.in_ok-spaced_text-2.ensures) (c.in_ok-caller.ensures.read.within d (omega (arith, s, shorter 99 (codes "allsite") c.in_ok-text_demanded.ensures, no_longer c.in_ok-spaced_text.ensures, no_longer (c.in_ok-callee.ensures.read.within d (omega (arith, s, shorter 99 (codes "allsite") c.in_ok-text_demanded.ensures, no_longer c.in_ok-spaced_text.ensures))).read, no_longer c.in_ok-spaced_text-2.ensures))).read) c.in_ok-spaced_text-3.ensures))
-        (both_true (are_known (length paths) callee) (are_known (length paths) caller) (stays_known before paths kept callee k) (known_of c.in_ok-caller.ensures.read)) c.call_site_made.ensures }
+    record {
+      inside = λ d s. made (call_site callee caller)
+          (turned alone (λ t. Read (written_with paths (call_site callee caller)) [] t) (ap (λ z. Read (call_site z (written_with paths caller)) [] c.spaced_text-3.new.stream.rest) (sym (written_same before paths kept callee k)))
+          (more_seen alone _ (more alone _ (more alone _ (more alone _ (more alone _ (first alone _ c.in_ok-text_demanded.ensures) c.in_ok-spaced_text.ensures) (c.in_ok-callee.ensures.read.within d (omega (arith, s, shorter 99 (codes "allsite") c.in_ok-text_demanded.ensures, no_longer c.in_ok-spaced_text.ensures))).read) c.in_ok-spaced_text-2.ensures) (c.in_ok-caller.ensures.read.within d (omega (arith, s, shorter 99 (codes "allsite") c.in_ok-text_demanded.ensures, no_longer c.in_ok-spaced_text.ensures, no_longer (c.in_ok-callee.ensures.read.within d (omega (arith, s, shorter 99 (codes "allsite") c.in_ok-text_demanded.ensures, no_longer c.in_ok-spaced_text.ensures))).read, no_longer c.in_ok-spaced_text-2.ensures))).read) c.in_ok-spaced_text-3.ensures))
+          (both_true (are_known (length paths) callee) (are_known (length paths) caller) (stays_known before paths kept callee k) (known_of c.in_ok-caller.ensures.read)) c.call_site_made.ensures;
+    }
 
 pub named_read-returns-in_err-child-clause-read : goal.named_read-returns-in_err-child-clause-read
 named_read-returns-in_err-child-clause-read g t c =
@@ -196,17 +198,19 @@ pub row_read-more_read-requires : goal.row_read-more_read-requires
 row_read-more_read-requires g t c =
     let paths = c.location_read.new.ctx.paths in
     let p : IsPushed (attr_at g.A.IrText.reading) paths paths c.new-found.result c.push_location.new.found c.in_ok-location.location
-          = record { kept = λ i q h. h; known = rw c.new-found.ensures.items refl; is_known = known_of c.in_ok-location.ensures.read; items = c.in_ok-push_location.ensures.0 } in
+    = record { kept = λ i q h. h; known = rw c.new-found.ensures.items refl; is_known = known_of c.in_ok-location.ensures.read; items = c.in_ok-push_location.ensures.0 } in
     λ κs x. (omega (arith, c.decreases, no_longer (c.in_ok-location.ensures.read.within (length c.args.stream.now.rest) (omega arith)).read, space_no_longer c.in_ok-push_location.ensures.1), (x.0, (x.1, (all_known (attr_at g.A.IrText.reading) p, fine_after (first_one (attr_at g.A.IrText.reading) p (length c.args.stream.now.rest) c.new-found.ensures.items (row_begins (attr_at g.A.IrText.reading) (length c.args.stream.now.rest) c.args.stream.now (omega arith) (sym c.has_failed.ensures ∙ c.if-has_failed.false) (sym c.begins_location.ensures ∙ c.if-not-begins_location.false)) (c.in_ok-location.ensures.read.within (length c.args.stream.now.rest) (omega arith)).read c.in_ok-push_location.ensures.1)))))
 
 pub row_read-returns-clause-read : goal.row_read-returns-clause-read
 row_read-returns-clause-read g t c =
     let paths = c.location_read.new.ctx.paths in
     let p : IsPushed (attr_at g.A.IrText.reading) paths paths c.new-found.result c.push_location.new.found c.in_ok-location.location
-          = record { kept = λ i q h. h; known = rw c.new-found.ensures.items refl; is_known = known_of c.in_ok-location.ensures.read; items = c.in_ok-push_location.ensures.0 } in
-    record { within = λ d s.
-        let m = c.more_read.ensures.read.within d (omega (arith, s, no_longer (c.in_ok-location.ensures.read.within (length c.args.stream.now.rest) (omega arith)).read, space_no_longer c.in_ok-push_location.ensures.1)) in
-        record { known = m.known; read = last alone (first_one (attr_at g.A.IrText.reading) p d c.new-found.ensures.items (row_begins (attr_at g.A.IrText.reading) d c.args.stream.now s (sym c.has_failed.ensures ∙ c.if-has_failed.false) (sym c.begins_location.ensures ∙ c.if-not-begins_location.false)) (c.in_ok-location.ensures.read.within d s).read c.in_ok-push_location.ensures.1) m.read } }
+    = record { kept = λ i q h. h; known = rw c.new-found.ensures.items refl; is_known = known_of c.in_ok-location.ensures.read; items = c.in_ok-push_location.ensures.0 } in
+    record {
+      within = λ d s.
+          let m = c.more_read.ensures.read.within d (omega (arith, s, no_longer (c.in_ok-location.ensures.read.within (length c.args.stream.now.rest) (omega arith)).read, space_no_longer c.in_ok-push_location.ensures.1)) in
+          record { known = m.known; read = last alone (first_one (attr_at g.A.IrText.reading) p d c.new-found.ensures.items (row_begins (attr_at g.A.IrText.reading) d c.args.stream.now s (sym c.has_failed.ensures ∙ c.if-has_failed.false) (sym c.begins_location.ensures ∙ c.if-not-begins_location.false)) (c.in_ok-location.ensures.read.within d s).read c.in_ok-push_location.ensures.1) m.read };
+    }
 
 pub more_read-loop-stream-init : goal.more_read-loop-stream-init
 more_read-loop-stream-init g t c = record { adds = adds_none c.args.ctx.now; row = row_begun (attr_at g.A.IrText.reading) c.requires.known c.requires.fine }
@@ -216,7 +220,7 @@ more_read-loop-stream-preserved g t c =
     let row = c.loop-stream.invariant.row in
     let one = c.in_ok-location.ensures in
     let p : IsPushed (attr_at g.A.IrText.reading) c.loop-stream.ctx.paths c.location_read.new.ctx.paths c.loop-stream.found c.push_location.new.found c.in_ok-location.location
-          = record { kept = one.adds.kept; known = row.known; is_known = known_of one.read; items = c.in_ok-push_location.ensures.0 } in
+    = record { kept = one.adds.kept; known = row.known; is_known = known_of one.read; items = c.in_ok-push_location.ensures.0 } in
     record {
       adds = adds_more c.loop-stream.invariant.adds one.adds;
       row = record {
