@@ -85,10 +85,7 @@ fn attributes_of_a_text(rt: HostRuntime) -> Result<(), Fail> {
             "builtin.identifier.x a",
             "line: 1, column: 1: Unregistered attribute builtin.identifier.x!",
         ),
-        (
-            "builtin.string \"a\" x",
-            "|builtin.string \"a\"| Some(' ')",
-        ),
+        ("builtin.string \"a\" x", "|builtin.string \"a\"| Some(' ')"),
         (
             "1",
             "line: 1, column: 1: Unexpected `1`, expected attribute",
