@@ -5,6 +5,7 @@ ghost use Rattle.std.specs.Map.{lookup};
 ghost use Rattle.irtext_base.specs.Stream.{StreamView, IsAt, first_of, advanced, after_failure};
 ghost use Rattle.irtext_base.specs.Places.{StandsBehind, IsPlaceOf};
 ghost use Rattle.irtext_read.specs.States.{marks_of, same_index, LocatesAt, Marks};
+ghost use Rattle.irtext_base.specs.declared.location.Location.{Location};
 
 use indexmap::IndexMap;
 use irtext_base::base::{Context, Operation, Ptr};
@@ -177,14 +178,18 @@ impl<'c, T: IrText<A>, A: AttrText, U> CharStream for StateStream<'c, T, A, U> {
 
 /// Where a stream stands, as a location.
 pub trait StreamLocation<A> {
+    // the location of where the stream stands
+    ghost locates: { Self → Location A → Type 0 };
+
     /// The place of the next character, in the source that is read.
-    fn loc(&self) -> Location<A>;
+    fn loc(&self) -> Location<A>
+        ensures { locates self.now result };
 }
 
 impl<'c, T: IrText<A>, A: AttrText, U> StreamLocation<A> for StateStream<'c, T, A, U> {
-    fn loc(&self) -> Location<A>
-        ensures { LocatesAt self.now.state.src self.now.stream.passed result }
-    {
+    ghost locates = { λ s location. LocatesAt s.state.src s.stream.passed location };
+
+    fn loc(&self) -> Location<A> {
         Location::SrcPos {
             src: self.state.src,
             pos: self.stream.position().position(),
