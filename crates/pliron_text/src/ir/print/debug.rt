@@ -70,7 +70,9 @@ impl<T: IrText<A>, A: AttrText> fmt::Display for OpDbg<'_, T, A> {
 }
 
 impl<T: IrText<A>, A: AttrText> fmt::Debug for OpDbg<'_, T, A> {
+    ghost debug_output = { λ d. concrete.debug_text (unplaced (texts_of T.reading T.written) (texts_of A.reading A.written) modules.format_of) (printed.printing A.outlined A.print_once A.eq) d.ctx.now d.op };
+
     fn fmt<W: fmt::Write>(&self, f: &mut fmt::Formatter<W>) -> fmt::Result {
-        write!(f, "{self}")
+        fmt::Display::fmt(self, f)
     }
 }
