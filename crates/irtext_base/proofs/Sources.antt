@@ -1,5 +1,5 @@
 -- A location's one source, from how many were seen of it so far.
-use Rattle.std.proofs.Common.{◌≡◌, ◌∙◌, ap, refl, sym, ℕ, Bool, true, false, cond, Option, Some, None, List, [], ◌∷◌, ◌++◌}
+use Rattle.std.proofs.Common.{◌≡◌, ◌≤◌, ◌∙◌, ap, arith, refl, sym, ℕ, Bool, true, false, cond, Option, Some, None, List, [], ◌∷◌, ◌++◌, length, length-append}
 use Rattle.std.specs.List.{list_any}
 use Rattle.irtext_base.specs.declared.location.Source.{Source}
 use Rattle.irtext_base.specs.declared.location.sources.Seen.{Seen}
@@ -45,3 +45,25 @@ only_is_one (s ∷ t ∷ more) = refl
 -- what is seen of the whole location gives its one source
 pub one_is_only : {A : Type 0} (l : LocationView A) → one_seen (all_seen Nothing l) ≡ only (all_noted [] l)
 one_is_only l = ap one_seen (seen_is_noted [] l) ∙ only_is_one (all_noted [] l)
+
+-- noting one more source loses none
+grows : (found : List Source) (s : Source) → length found ≤ length (noted found s)
+grows found s = by_test (list_any (same_source s) found)
+  where
+    by_test : (b : Bool) → length found ≤ length (cond b found (found ++ s ∷ []))
+    by_test true = omega arith
+    by_test false = omega (arith, length-append found (s ∷ []))
+
+mutual
+  -- nor does noting those of a location
+  pub all_grow : {A : Type 0} (found : List Source) (l : LocationView A) → length found ≤ length (all_noted found l)
+  all_grow found (src_pos src pos) = grows found src
+  all_grow found (fused metadata locations) = row_grow found locations
+  all_grow found (named name child) = all_grow found child
+  all_grow found (call_site callee caller) = omega (arith, all_grow found callee, all_grow (all_noted found callee) caller)
+  all_grow found unknown = omega arith
+
+  -- nor of a row
+  pub row_grow : {A : Type 0} (found : List Source) (ls : LocationViews A) → length found ≤ length (row_noted found ls)
+  row_grow found no_location = omega arith
+  row_grow found (location l ls) = omega (arith, all_grow found l, row_grow (all_noted found l) ls)

@@ -1,5 +1,5 @@
 //! The sources that a location mentions.
-ghost use Rattle.std.specs.Prelude.{◌≡◌, IfOk, IfErr, OnOk, map};
+ghost use Rattle.std.specs.Prelude.{◌≡◌, ◌<◌, IfOk, IfErr, OnOk, OnErr, length, map};
 ghost use Rattle.std.specs.List.{list_any};
 ghost use Rattle.irtext_base.specs.Locations.{location_view, same_source, noted, all_noted, row_noted, in_row, sources, source, out_of_memory};
 ghost use Rattle.irtext_base.specs.Seen.{more_seen, all_seen, row_seen, one_seen};
@@ -20,7 +20,8 @@ fn is_found(found: &[Source], source: Source) -> bool
 }
 
 fn note_source(found: &mut Vec<Source>, source: Source) -> Result<(), AllocError>
-    ensures { OnOk result (found.new.items ≡ noted found.old.items source) }
+    ensures ok { OnOk result (found.new.items ≡ noted found.old.items source) }
+    ensures err { OnErr result (0 < length (noted found.old.items source)) }
 {
     if is_found(found, source) {
         return Ok(());
@@ -30,8 +31,10 @@ fn note_source(found: &mut Vec<Source>, source: Source) -> Result<(), AllocError
 }
 
 #[cycle(sources)]
+#[tactic(auto, using(crate::proofs::Sources::all_grow))]
 fn note_sources<A>(location: &Location<A>, found: &mut Vec<Source>) -> Result<(), AllocError>
-    ensures { OnOk result (found.new.items ≡ all_noted found.old.items (location_view location.now)) }
+    ensures ok { OnOk result (found.new.items ≡ all_noted found.old.items (location_view location.now)) }
+    ensures err { OnErr result (0 < length (all_noted found.old.items (location_view location.now))) }
 {
     match location {
         Location::SrcPos { src, .. } => note_source(found, *src),
@@ -46,11 +49,13 @@ fn note_sources<A>(location: &Location<A>, found: &mut Vec<Source>) -> Result<()
 }
 
 #[cycle(sources)]
+#[tactic(auto, using(crate::proofs::Sources::row_grow))]
 fn note_all_sources<A>(
     locations: &Vec<Location<A>>,
     found: &mut Vec<Source>,
 ) -> Result<(), AllocError>
-    ensures { OnOk result (found.new.items ≡ row_noted found.old.items (in_row (map location_view locations.now.items))) }
+    ensures ok { OnOk result (found.new.items ≡ row_noted found.old.items (in_row (map location_view locations.now.items))) }
+    ensures err { OnErr result (0 < length (row_noted found.old.items (in_row (map location_view locations.now.items)))) }
 {
     for location in locations {
         note_sources(location, found)?;
@@ -127,10 +132,12 @@ impl<A> Location<A> {
     }
 
     /// The distinct sources of the location, in the order in which it first mentions them. What its metadata
-    /// mentions doesn't count. It is refused only for want of memory, by `Memory`, an error of kind invalid argument.
+    /// mentions doesn't count. It is refused only for want of memory, by `Memory`, an error of kind invalid argument, and never
+    /// where the location mentions no source.
     pub fn sources(&self, alloc: Global) -> crate::result::Result<Vec<Source>, A>
         ensures ok { IfOk result (λ found. found.items ≡ sources self.now) }
         ensures err { IfErr result (λ e. e ≡ out_of_memory) }
+        ensures some { OnErr result (0 < length (sources self.now)) }
     {
         let mut found = Vec::new(alloc);
         match note_sources(self, &mut found) {
