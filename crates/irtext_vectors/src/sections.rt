@@ -1,9 +1,10 @@
 //! Sections whose entries give locations of each kind: what is read is printed again; and one that breaks off is refused there.
 use irtext_types::{DemoAttr, DemoType};
-use pliron_text::base::{Context, Operation};
+use pliron_text::base::{Context, Operation, Ptr};
 use pliron_text::ir::OperationText;
 use pliron_text::parsable::parse_from_str;
 use pliron_text::printable::Disp;
+use std::alloc::Global;
 use std::test::Fail;
 
 /// A module and its section, up to the location of its entry.
@@ -12,25 +13,34 @@ const READ: &str = "builtin.module @m {} !0 outlined_attributes: !0 = @[";
 /// The same as it is printed.
 const PRINTED: &str = "builtin.module @m \n{\n  \n} !0\n\noutlined_attributes:\n!0 = @[";
 
+/// The root of this text.
+fn root_of(ctx: &mut Context<DemoType, DemoAttr>, text: &str) -> Result<Ptr<Operation>, Fail> {
+    match parse_from_str(|s| Operation::top_level_parse(s), ctx, text) {
+        Ok(root) => Ok(root),
+        Err(_) => Err(Fail::from("refused")),
+    }
+}
+
+/// What is printed of a module whose entry gives this location, in a context of its own.
+fn printed(alloc: Global, given: &str) -> Result<String, Fail> {
+    let mut ctx: Context<DemoType, DemoAttr> = Context::new(alloc);
+    let text = format!(in alloc; "{}{}], []", READ, given)?;
+    let root = root_of(&mut ctx, text.as_str())?;
+    if !ctx.contains_operation(root) {
+        return Err(Fail::from("no such operation"));
+    }
+    Ok(format!(in alloc; "{}", root.disp(&ctx))?)
+}
+
 /// Whether a module whose entry gives this location is printed with this text of it.
-fn comes_back(
-    rt: &HostRuntime,
-    ctx: &mut Context<DemoType, DemoAttr>,
-    given: &str,
-    wanted: &str,
-) -> Result<bool, Fail> {
-    let text = format!(in rt.alloc(); "{}{}], []", READ, given)?;
-    let root = parse_from_str(|s| Operation::top_level_parse(s), ctx, text.as_str())
-        .ok()
-        .ok_or("refused")?;
-    let printed = format!(in rt.alloc(); "{}", root.disp(ctx))?;
-    let whole = format!(in rt.alloc(); "{}{}], []\n", PRINTED, wanted)?;
+fn comes_back(alloc: Global, given: &str, wanted: &str) -> Result<bool, Fail> {
+    let printed = printed(alloc, given)?;
+    let whole = format!(in alloc; "{}{}], []\n", PRINTED, wanted)?;
     Ok(printed.as_str() == whole.as_str())
 }
 
 #[test]
 fn each_location_of_an_entry_comes_back(rt: HostRuntime) -> Result<(), Fail> {
-    let mut ctx: Context<DemoType, DemoAttr> = Context::new(rt.alloc());
     for (given, wanted) in [
         (
             "<in-memory>: line: 7, column: 3",
@@ -53,21 +63,16 @@ fn each_location_of_an_entry_comes_back(rt: HostRuntime) -> Result<(), Fail> {
             "callsite(\"c.mlir\": line: 1, column: 2 at fused[?])",
         ),
     ] {
-        assert!(rt; comes_back(&rt, &mut ctx, given, wanted)?);
+        assert!(rt; comes_back(rt.alloc(), given, wanted)?);
     }
     Ok(())
 }
 
 #[test]
 fn an_unknown_location_leaves_no_mark(rt: HostRuntime) -> Result<(), Fail> {
-    let mut ctx: Context<DemoType, DemoAttr> = Context::new(rt.alloc());
-    let text = format!(in rt.alloc(); "{}?], []", READ)?;
-    let root = parse_from_str(|s| Operation::top_level_parse(s), &mut ctx, text.as_str())
-        .ok()
-        .ok_or("refused")?;
     assert_eq!(rt;
-        format!(in rt.alloc(); "{}", root.disp(&ctx))?.as_str(),
-        "builtin.module @m \n{\n  \n}\n"
+        printed(rt.alloc(), "?")?.as_str(),
+        "builtin.module @m \n{\n  \n}"
     );
     Ok(())
 }
@@ -85,7 +90,7 @@ fn a_location_that_breaks_off_is_refused_there(rt: HostRuntime) -> Result<(), Fa
     assert_eq!(rt;
         format!(in rt.alloc(); "{}", fault.disp(&ctx))?.as_str(),
         "[<in-memory>: line: 1, column: 94] Compilation error: invalid input program.
-Parse error at line: 1, column: 94\nUnexpected `x`, expected location"
+Parse error at line: 1, column: 94\nUnexpected `x`, expected location\n"
     );
     assert_eq!(rt; ctx.num_live(), 0);
     Ok(())

@@ -14,6 +14,10 @@ pub returns-clause-entry : goal.returns-clause-entry
 unfolding number_at integer_at
 returns-clause-entry c = refl
 
+pub returns-clause-nested : goal.returns-clause-nested
+unfolding number_at integer_at
+returns-clause-nested c = refl
+
 pub returns-clause-unknown : goal.returns-clause-unknown
 unfolding number_at
 returns-clause-unknown c = refl
