@@ -1,34 +1,103 @@
-//! The concrete text of a root, and its text for those who debug.
-use irtext_types::{DemoAttr, DemoType};
-use pliron_text::base::{Context, Operation};
+//! The texts of a root: whole, concrete, without its regions, for those who debug, and with its location in a file.
+use crate::helpers::{Ctx, root};
+use pliron_text::base::{Context, Operation, Ptr};
 use pliron_text::ir::{OpDbg, OperationText, print_dbg};
-use pliron_text::parsable::parse_from_str;
-use pliron_text::printable::Disp;
+use pliron_text::location::{Location, Source};
+use pliron_text::parsable::SourcePosition;
+use pliron_text::printable::{Disp, RegionPrintDepthLimit, State};
+use std::alloc::Global;
 use std::test::Fail;
 
+/// The texts of the root `builtin.module @bar {}`, one behind the other, with one context.
+const TEXTS: &[&str] = &[
+    "builtin.module @bar \n{\n  \n}",
+    "text: builtin.module @bar {..}",
+    "builtin.module @bar {..} builtin.module @bar {..}",
+    "builtin.module @bar {..} !0\n\noutlined_attributes:\n!0 = @[<in-memory>: line: 1, column: 1], []\n",
+    "builtin.module @bar \n{\n  \n} !0\n\noutlined_attributes:\n!0 = @[\"é.mlir\": line: 1, column: 2], []\n",
+];
+
+/// The concrete text.
+fn concrete(alloc: Global, ctx: &Ctx, op: Ptr<Operation>) -> Result<String, Fail> {
+    if !ctx.contains_operation(op) {
+        return Err(Fail::from("no such operation"));
+    }
+    let obj = Operation::get_op_dyn(op, ctx);
+    Ok(format!(in alloc; "{}", obj.disp(ctx))?)
+}
+
+/// What is appended for those who debug.
+fn debugged(alloc: Global, ctx: &Ctx, op: Ptr<Operation>) -> Result<String, Fail> {
+    if !ctx.contains_operation(op) {
+        return Err(Fail::from("no such operation"));
+    }
+    let mut text = String::from_str(alloc, "text: ")?;
+    print_dbg(ctx, op, &mut text).ok().ok_or("refused")?;
+    Ok(text)
+}
+
+/// The text where no region is shown.
+fn elided(alloc: Global, ctx: &Ctx, op: Ptr<Operation>) -> Result<String, Fail> {
+    if !ctx.contains_operation(op) {
+        return Err(Fail::from("no such operation"));
+    }
+    let mut state = State::new(alloc, ());
+    state.set_region_print_depth_limit(RegionPrintDepthLimit::Max(0));
+    Ok(format!(in alloc; "{}", op.print(ctx, &state))?)
+}
+
+/// The text where the location is in a file.
+fn in_file(alloc: Global, ctx: &mut Ctx, op: Ptr<Operation>) -> Result<String, Fail> {
+    let src = Source::new_from_file(ctx, "é.mlir").ok().ok_or("refused")?;
+    let pos = SourcePosition { line: 1, column: 2 };
+    if !ctx.contains_operation(op) {
+        return Err(Fail::from("no such operation"));
+    }
+    op.set_loc(ctx, Location::SrcPos { src, pos });
+    whole(alloc, ctx, op)
+}
+
+/// The whole text.
+fn whole(alloc: Global, ctx: &Ctx, op: Ptr<Operation>) -> Result<String, Fail> {
+    if !ctx.contains_operation(op) {
+        return Err(Fail::from("no such operation"));
+    }
+    Ok(format!(in alloc; "{}", op.disp(ctx))?)
+}
+
+/// The text of a line.
+fn text(alloc: Global, ctx: &mut Ctx, op: Ptr<Operation>, number: usize) -> Result<String, Fail> {
+    if !ctx.contains_operation(op) {
+        return Err(Fail::from("no such operation"));
+    }
+    match number {
+        0 => concrete(alloc, ctx, op),
+        1 => debugged(alloc, ctx, op),
+        2 => Ok(format!(in alloc; "{} {:?}", OpDbg { op, ctx }, OpDbg { op, ctx })?),
+        3 => elided(alloc, ctx, op),
+        _ => in_file(alloc, ctx, op),
+    }
+}
+
+/// The number of the first text that differs.
+fn differing(alloc: Global, ctx: &mut Ctx) -> Result<Option<usize>, Fail> {
+    let op = root(ctx, "builtin.module @bar {}").ok_or("refused")?;
+    for (number, wanted) in TEXTS.iter().enumerate() {
+        if text(alloc, ctx, op, number)?.as_str() != *wanted {
+            return Ok(Some(number));
+        }
+    }
+    Ok(None)
+}
+
+/// The same with a context of its own.
+fn first_differing(alloc: Global) -> Result<Option<usize>, Fail> {
+    let mut ctx: Ctx = Context::new(alloc);
+    differing(alloc, &mut ctx)
+}
+
 #[test]
-fn a_root_has_a_concrete_text_and_one_without_its_regions(rt: HostRuntime) -> Result<(), Fail> {
-    let mut ctx: Context<DemoType, DemoAttr> = Context::new(rt.alloc());
-    let op = parse_from_str(
-        |s| Operation::top_level_parse(s),
-        &mut ctx,
-        "builtin.module @bar {}",
-    )
-    .ok()
-    .ok_or("refused")?;
-    let obj = Operation::get_op_dyn(op, &ctx);
-    assert_eq!(rt;
-        format!(in rt.alloc(); "{}", obj.disp(&ctx))?.as_str(),
-        "builtin.module @bar \n{\n  \n}"
-    );
-    let mut text = String::new(rt.alloc());
-    text.push_str("text: ")?;
-    print_dbg(&ctx, op, &mut text).ok().ok_or("refused")?;
-    assert_eq!(rt; text.as_str(), "text: builtin.module @bar {..}");
-    let shown = OpDbg { op, ctx: &ctx };
-    assert_eq!(rt;
-        format!(in rt.alloc(); "{shown} {shown:?}")?.as_str(),
-        "builtin.module @bar {..} builtin.module @bar {..}"
-    );
+fn texts_of_a_root(rt: HostRuntime) -> Result<(), Fail> {
+    assert_eq!(rt; first_differing(rt.alloc())?, None);
     Ok(())
 }

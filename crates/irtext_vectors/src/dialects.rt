@@ -1,6 +1,8 @@
 //! The dialects of a context: how they are registered and looked up, and how their names are read and printed.
+use crate::helpers::{Ctx, named, printed};
+use crate::registering::register_operation;
 use irtext_types::{DemoAttr, DemoType};
-use pliron_text::base::{Context, Identifier, OpId, Operation, Ptr};
+use pliron_text::base::{Context, OpId, Operation, Ptr};
 use pliron_text::dialect::{Dialect, DialectName};
 use pliron_text::format::OpFormat;
 use pliron_text::parsable::{Parsable, parse_from_str};
@@ -10,11 +12,26 @@ use std::alloc::Global;
 use std::convert::AsStr;
 use std::test::Fail;
 
-/// The identifier of a text that is one.
-fn named(alloc: Global, text: &str) -> Result<Identifier, Fail> {
-    let name: Answer<Identifier, DemoAttr> = Identifier::try_new(alloc, text);
-    Ok(name.ok().ok_or("no identifier")?)
-}
+/// What is said of each step, one behind the other, with one context.
+const STEPS: &[&str] = &[
+    "unknown",
+    "Compilation error: invalid argument.\nUnregistered dialect test",
+    "added",
+    "isolated",
+    "Compilation error: invalid argument.\nUnregistered Op test.y",
+    "0",
+    "2",
+    "3",
+    "test true",
+    "isolated",
+    "unknown",
+    "false",
+    "test",
+    "test",
+    "test",
+    "Compilation error: invalid input program.\nParse error at line: 1, column: 1\nUnregistered dialect non_existant\n",
+    "Compilation error: invalid input program.\nParse error at line: 1, column: 1\nUnexpected ` `, expected identifier\n",
+];
 
 /// The id of an operation of the dialect `test`.
 fn id(alloc: Global, name: &str) -> Result<OpId, Fail> {
@@ -24,111 +41,122 @@ fn id(alloc: Global, name: &str) -> Result<OpId, Fail> {
     })
 }
 
+/// The name of the dialect `test`.
+fn test_name(alloc: Global) -> Result<DialectName, Fail> {
+    Ok(DialectName::from(named(alloc, "test")?))
+}
+
 /// Registers the operation `test.z`, isolated, with the format of any operation.
-fn add(alloc: Global, dialect: &mut Dialect) -> Result<(), Fail> {
-    let answer: Answer<(), DemoAttr> = dialect.add_op(id(alloc, "z")?, OpFormat::Canonical, true);
-    Ok(answer.ok().ok_or("refused")?)
+fn add(alloc: Global, ctx: &mut Ctx) -> Result<String, Fail> {
+    let id = id(alloc, "z")?;
+    let name = test_name(alloc)?;
+    let answer: Answer<(), DemoAttr> = register_operation(
+        ctx,
+        &name,
+        id,
+        OpFormat::Canonical,
+        true,
+    );
+    answer.ok().ok_or("refused")?;
+    Ok(String::from_str(alloc, "added")?)
+}
+
+/// Registers the dialect once more: its name, and whether it has the operation `test.z`.
+fn again(alloc: Global, ctx: &mut Ctx) -> Result<String, Fail> {
+    let id = id(alloc, "z")?;
+    let name = test_name(alloc)?;
+    let dialect = Dialect::register(ctx, &name).ok().ok_or("refused")?;
+    Ok(format!(in alloc; "{} {}", dialect.name().as_str(), dialect.op(&id).is_some())?)
+}
+
+/// What is known of an operation of the dialect `test`.
+fn known(alloc: Global, ctx: &Ctx, name: &str) -> Result<String, Fail> {
+    let id = id(alloc, name)?;
+    let word = match ctx.op_info(&id) {
+        Some(info) => { if info.isolated { "isolated" } else { "open" } }
+        None => "unknown",
+    };
+    Ok(String::from_str(alloc, word)?)
+}
+
+/// What the registered dialect prints.
+fn shown(alloc: Global, ctx: &Ctx) -> Result<String, Fail> {
+    let name = test_name(alloc)?;
+    let dialect = ctx.dialect(&name).ok_or("not registered")?;
+    Ok(format!(in alloc; "{}", dialect.disp(ctx))?)
 }
 
 /// The name that a text reads as, or why it is refused.
-fn read(alloc: Global, ctx: &mut Context<DemoType, DemoAttr>, text: &str) -> Result<String, Fail> {
+fn read(alloc: Global, ctx: &mut Ctx, text: &str) -> Result<String, Fail> {
     let answer = parse_from_str(
         |s| <DialectName as Parsable<DemoType, DemoAttr, ()>>::parse(s, ()),
         ctx,
         text,
     );
-    match answer {
-        Ok(name) => Ok(format!(in alloc; "{name}")?),
-        Err(error) => Ok(format!(in alloc; "{error}")?),
-    }
+    printed(alloc, &answer)
 }
 
-#[test]
-fn a_dialect_that_is_registered_again_keeps_its_operations(rt: HostRuntime) -> Result<(), Fail> {
-    let alloc = rt.alloc();
-    let name = DialectName::from(named(alloc, "test")?);
-    let mut ctx: Context<DemoType, DemoAttr> = Context::new(alloc);
-    assert!(rt; ctx.op_info(&id(alloc, "z")?).is_none());
-    add(
-        alloc,
-        Dialect::register(&mut ctx, &name).ok().ok_or("refused")?,
-    )?;
-    let again = Dialect::register(&mut ctx, &name).ok().ok_or("refused")?;
-    assert_eq!(rt; again.name().as_str(), "test");
-    assert!(rt; again.op(&id(alloc, "z")?).is_some());
-    assert!(rt; matches!(ctx.op_info(&id(alloc, "z")?), Some(info) if info.isolated));
-    assert!(rt; ctx.op_info(&id(alloc, "y")?).is_none());
-    assert!(rt; !ctx.has_dialect(&named(alloc, "other")?));
-    let dialect = ctx.dialect(&name).ok_or("not registered")?;
-    assert_eq!(rt;
-        format!(in alloc; "{}", dialect.disp(&ctx))?.as_str(),
-        "test"
-    );
-    Ok(())
-}
-
-#[test]
-fn names_of_registered_dialects_are_read(rt: HostRuntime) -> Result<(), Fail> {
-    let alloc = rt.alloc();
-    let name = DialectName::from(named(alloc, "test")?);
-    let mut ctx: Context<DemoType, DemoAttr> = Context::new(alloc);
-    let _ = Dialect::register(&mut ctx, &name).ok().ok_or("refused")?;
-    for (text, answer) in [
-        ("test", "test"),
-        ("test.x", "test"),
-        (
-            "non_existant",
-            "Compilation error: invalid input program.\nParse error at line: 1, column: 1\nUnregistered dialect non_existant\n",
-        ),
-        (
-            " test",
-            "Compilation error: invalid input program.\nParse error at line: 1, column: 1\nUnexpected ` `, expected identifier\n",
-        ),
-    ] {
-        assert_eq!(rt; read(alloc, &mut ctx, text)?.as_str(), answer);
-    }
-    Ok(())
-}
-
-/// What making an operation of this name with two regions answers: its regions, or why it is refused.
-fn made(alloc: Global, ctx: &mut Context<DemoType, DemoAttr>, id: OpId) -> Result<String, Fail> {
-    match Operation::new(ctx, id, 2) {
-        Ok(op) => regions(alloc, ctx, op),
+/// What making an operation of this name with two regions answers: how many it has, or why it is refused.
+fn made(alloc: Global, ctx: &mut Ctx, name: &str) -> Result<String, Fail> {
+    let id = id(alloc, name)?;
+    let answer: Answer<Ptr<Operation>, DemoAttr> = Operation::new(ctx, id, 2);
+    match &answer {
+        Ok(op) => regions(alloc, ctx, *op),
         Err(error) => Ok(format!(in alloc; "{error}")?),
     }
 }
 
 /// How many regions an operation has, as a text.
-fn regions(
-    alloc: Global,
-    ctx: &Context<DemoType, DemoAttr>,
-    op: Ptr<Operation>,
-) -> Result<String, Fail> {
+fn regions(alloc: Global, ctx: &Ctx, op: Ptr<Operation>) -> Result<String, Fail> {
     if !ctx.contains_operation(op) {
         return Err(Fail::from("no such operation"));
     }
     Ok(format!(in alloc; "{}", op.num_regions(ctx))?)
 }
 
+/// Whether a dialect that was not registered is there.
+fn other(alloc: Global, ctx: &Ctx) -> Result<String, Fail> {
+    let name = named(alloc, "other")?;
+    Ok(format!(in alloc; "{}", ctx.has_dialect(&name))?)
+}
+
+/// What is said of a step.
+fn step(alloc: Global, ctx: &mut Ctx, number: usize) -> Result<String, Fail> {
+    match number {
+        0 | 3 | 9 => known(alloc, ctx, "z"),
+        1 | 6 => made(alloc, ctx, "z"),
+        2 => add(alloc, ctx),
+        4 => made(alloc, ctx, "y"),
+        5 | 7 => Ok(format!(in alloc; "{}", ctx.num_live())?),
+        8 => again(alloc, ctx),
+        10 => known(alloc, ctx, "y"),
+        11 => other(alloc, ctx),
+        12 => shown(alloc, ctx),
+        13 => read(alloc, ctx, "test"),
+        14 => read(alloc, ctx, "test.x"),
+        15 => read(alloc, ctx, "non_existant"),
+        _ => read(alloc, ctx, " test"),
+    }
+}
+
+/// The number of the first step of which something else is said.
+fn differing(alloc: Global, ctx: &mut Ctx) -> Result<Option<usize>, Fail> {
+    for (number, wanted) in STEPS.iter().enumerate() {
+        if step(alloc, ctx, number)?.as_str() != *wanted {
+            return Ok(Some(number));
+        }
+    }
+    Ok(None)
+}
+
+/// The same with a context of its own.
+fn first_differing(alloc: Global) -> Result<Option<usize>, Fail> {
+    let mut ctx: Ctx = Context::new(alloc);
+    differing(alloc, &mut ctx)
+}
+
 #[test]
-fn registered_operations_are_made(rt: HostRuntime) -> Result<(), Fail> {
-    let alloc = rt.alloc();
-    let name = DialectName::from(named(alloc, "test")?);
-    let mut ctx: Context<DemoType, DemoAttr> = Context::new(alloc);
-    assert_eq!(rt;
-        made(alloc, &mut ctx, id(alloc, "z")?)?.as_str(),
-        "Compilation error: invalid argument.\nUnregistered dialect test"
-    );
-    add(
-        alloc,
-        Dialect::register(&mut ctx, &name).ok().ok_or("refused")?,
-    )?;
-    assert_eq!(rt;
-        made(alloc, &mut ctx, id(alloc, "y")?)?.as_str(),
-        "Compilation error: invalid argument.\nUnregistered Op test.y"
-    );
-    assert_eq!(rt; ctx.num_live(), 0);
-    assert_eq!(rt; made(alloc, &mut ctx, id(alloc, "z")?)?.as_str(), "2");
-    assert_eq!(rt; ctx.num_live(), 3);
+fn dialects_of_a_context(rt: HostRuntime) -> Result<(), Fail> {
+    assert_eq!(rt; first_differing(rt.alloc())?, None);
     Ok(())
 }

@@ -1,4 +1,5 @@
 //! Which formats are accepted, and by which condition the others are refused; and the operations of a dialect.
+use crate::helpers::named;
 use irtext_base::base::{Identifier, OpId};
 use irtext_base::dialect::{Dialect, DialectName};
 use irtext_base::format::{Directive, FormatFault, OpFormat, check_format};
@@ -7,12 +8,6 @@ use irtext_types::DemoAttr;
 use std::alloc::Global;
 use std::convert::AsStr;
 use std::test::Fail;
-
-/// The identifier of a text that is one.
-fn named(alloc: Global, text: &str) -> Result<Identifier, Fail> {
-    let name: Answer<Identifier, DemoAttr> = Identifier::try_new(alloc, text);
-    Ok(name.ok().ok_or("no identifier")?)
-}
 
 /// The directive without a text that a letter stands for: a place by its number or letter, a list by a capital.
 fn plain(letter: char) -> Option<Directive> {
@@ -78,24 +73,6 @@ fn format_of(alloc: Global, letters: &str) -> Result<OpFormat, Fail> {
     Ok(OpFormat::Custom(directives))
 }
 
-/// What is registered under the name `test.z`: an empty text, or why it is refused.
-fn registered(
-    alloc: Global,
-    dialect: &mut Dialect,
-    letters: &str,
-    isolated: bool,
-) -> Result<String, Fail> {
-    let id = OpId {
-        dialect: named(alloc, "test")?,
-        name: named(alloc, "z")?,
-    };
-    let answer: Answer<(), DemoAttr> = dialect.add_op(id, format_of(alloc, letters)?, isolated);
-    match answer {
-        Ok(()) => Ok(String::new(alloc)),
-        Err(error) => Ok(format!(in alloc; "{error}")?),
-    }
-}
-
 const ACCEPTED: &[&str] = &[
     "", "xx", "1,0", "0,O", "ts", "v", "ab", "aR", "n", "hd", "Oa", "ak", "O>", "Od", "Oh", "OS:",
     "S0", "R:",
@@ -151,49 +128,96 @@ fn formats_are_refused_by_the_first_condition_that_they_fail(rt: HostRuntime) ->
     Ok(())
 }
 
-#[test]
-fn names_of_dialects_are_identifiers(rt: HostRuntime) -> Result<(), Fail> {
-    let alloc = rt.alloc();
-    let name = DialectName::from(named(alloc, "test")?);
-    let copy: Answer<DialectName, DemoAttr> = name.try_clone();
-    assert!(rt; copy.ok().ok_or("refused")? == name);
-    assert_eq!(rt; name.as_str(), "test");
-    assert_eq!(rt; format!(in alloc; "{name}")?.as_str(), "test");
-    assert!(rt; Identifier::from(name) == named(alloc, "test")?);
-    let refused: Answer<DialectName, DemoAttr> = DialectName::try_new(alloc, "1a");
-    let error = refused.err().ok_or("accepted")?;
-    assert_eq!(rt;
-        format!(in alloc; "{}", error.err)?.as_str(),
-        "Unexpected `1`, expected identifier"
-    );
-    Ok(())
+/// The name of a dialect.
+fn dialect_name(alloc: Global, text: &str) -> Result<DialectName, Fail> {
+    Ok(DialectName::from(named(alloc, text)?))
 }
 
-#[test]
-fn a_dialect_keeps_the_last_format(rt: HostRuntime) -> Result<(), Fail> {
-    let alloc = rt.alloc();
-    let mut dialect = Dialect::new(alloc, DialectName::from(named(alloc, "test")?));
-    assert_eq!(rt; dialect.name().as_str(), "test");
-    assert_eq!(rt; registered(alloc, &mut dialect, "0", false)?.as_str(), "");
-    assert_eq!(rt; registered(alloc, &mut dialect, "", true)?.as_str(), "");
-    assert_eq!(rt;
-        registered(alloc, &mut dialect, "S", false)?.as_str(),
-        "Compilation error: invalid argument.\nFormat refused by condition C8"
-    );
+/// Whether a name's copy and its identifier equal what it was made of.
+fn comes_back(alloc: Global) -> Result<bool, Fail> {
+    let name = dialect_name(alloc, "test")?;
+    let copy: Answer<DialectName, DemoAttr> = name.try_clone();
+    let same = matches!(&copy, Ok(copy) if *copy == name);
+    let word = named(alloc, "test")?;
+    Ok(same && name.as_str() == "test" && Identifier::from(name) == word)
+}
+
+/// The name of a dialect as a text, or why a text is none.
+fn told(alloc: Global, text: &str) -> Result<String, Fail> {
+    let answer: Answer<DialectName, DemoAttr> = DialectName::try_new(alloc, text);
+    match &answer {
+        Ok(name) => Ok(format!(in alloc; "{name}")?),
+        Err(error) => Ok(format!(in alloc; "{}", error.err)?),
+    }
+}
+
+/// What is said of registering an operation under the name `test.z`: an empty text, or why it is refused.
+fn registered(
+    alloc: Global,
+    dialect: &mut Dialect,
+    letters: &str,
+    isolated: bool,
+) -> Result<String, Fail> {
     let id = OpId {
         dialect: named(alloc, "test")?,
         name: named(alloc, "z")?,
     };
-    assert!(rt; matches!(dialect.op(&id), Some(info) if info.isolated));
-    Ok(())
+    let format = format_of(alloc, letters)?;
+    let answer: Answer<(), DemoAttr> = dialect.add_op(id, format, isolated);
+    match &answer {
+        Ok(()) => Ok(String::new(alloc)),
+        Err(error) => Ok(format!(in alloc; "{error}")?),
+    }
+}
+
+/// Formats that are registered one behind the other under one name, whether as isolated, and what is said of them.
+const REGISTERED: &[(&str, bool, &str)] = &[
+    ("0", false, ""),
+    ("", true, ""),
+    (
+        "S",
+        false,
+        "Compilation error: invalid argument.\nFormat refused by condition C8",
+    ),
+];
+
+/// Whether the last format that was accepted is kept.
+fn keeps(alloc: Global, dialect: &mut Dialect) -> Result<bool, Fail> {
+    for row in REGISTERED {
+        if registered(alloc, dialect, row.0, row.1)?.as_str() != row.2 {
+            return Ok(false);
+        }
+    }
+    let id = OpId {
+        dialect: named(alloc, "test")?,
+        name: named(alloc, "z")?,
+    };
+    Ok(matches!(dialect.op(&id), Some(info) if info.isolated))
+}
+
+/// The same with a dialect of its own.
+fn last_is_kept(alloc: Global) -> Result<bool, Fail> {
+    let mut dialect = Dialect::new(alloc, dialect_name(alloc, "test")?);
+    keeps(alloc, &mut dialect)
+}
+
+/// What is said of registering `test.z` with another dialect.
+fn of_another(alloc: Global) -> Result<String, Fail> {
+    let mut dialect = Dialect::new(alloc, dialect_name(alloc, "builtin")?);
+    registered(alloc, &mut dialect, "", false)
 }
 
 #[test]
-fn an_operation_of_another_dialect_is_refused(rt: HostRuntime) -> Result<(), Fail> {
-    let alloc = rt.alloc();
-    let mut dialect = Dialect::new(alloc, DialectName::from(named(alloc, "builtin")?));
+fn dialects_and_their_names(rt: HostRuntime) -> Result<(), Fail> {
+    assert!(rt; comes_back(rt.alloc())?);
+    assert_eq!(rt; told(rt.alloc(), "test")?.as_str(), "test");
     assert_eq!(rt;
-        registered(alloc, &mut dialect, "", false)?.as_str(),
+        told(rt.alloc(), "1a")?.as_str(),
+        "Unexpected `1`, expected identifier"
+    );
+    assert!(rt; last_is_kept(rt.alloc())?);
+    assert_eq!(rt;
+        of_another(rt.alloc())?.as_str(),
         "Compilation error: invalid argument.\nOperation test.z is not of dialect builtin"
     );
     Ok(())

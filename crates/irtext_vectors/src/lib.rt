@@ -5,6 +5,8 @@
 #[cfg(test)]
 mod attributes;
 #[cfg(test)]
+mod causes;
+#[cfg(test)]
 mod concrete;
 #[cfg(test)]
 mod contexts;
@@ -17,6 +19,8 @@ mod dialects;
 mod errors;
 #[cfg(test)]
 mod formats;
+#[cfg(test)]
+mod helpers;
 #[cfg(test)]
 mod listed;
 #[cfg(test)]

@@ -1,38 +1,31 @@
 //! Lists whose items print themselves.
-use irtext_types::{DemoAttr, DemoType};
+use crate::helpers::Ctx;
 use pliron_text::base::Context;
 use pliron_text::irfmt::printers::{iter_with_sep, list_with_sep};
 use pliron_text::printable::{Disp, ListSeparator, State, fmt_iter};
+use std::alloc::Global;
 use std::test::Fail;
 
-#[test]
-fn printable_items_print_themselves(rt: HostRuntime) -> Result<(), Fail> {
-    let ctx: Context<DemoType, DemoAttr> = Context::new(rt.alloc());
+/// The items of a slice.
+fn of_slice(alloc: Global) -> Result<String, Fail> {
+    let ctx: Ctx = Context::new(alloc);
     let numbers = [1u64, 2];
     let list = list_with_sep(&numbers, ListSeparator::Char(','));
-    assert_eq!(rt;
-        format!(in rt.alloc(); "{}", list.disp(&ctx))?.as_str(),
-        "1,2"
-    );
-    Ok(())
+    Ok(format!(in alloc; "{}", list.disp(&ctx))?)
 }
 
-#[test]
-fn printable_items_of_an_iterator_print_themselves(rt: HostRuntime) -> Result<(), Fail> {
-    let ctx: Context<DemoType, DemoAttr> = Context::new(rt.alloc());
+/// The items of an iterator.
+fn of_iterator(alloc: Global) -> Result<String, Fail> {
+    let ctx: Ctx = Context::new(alloc);
     let list = iter_with_sep(0u64..3, ListSeparator::None);
-    assert_eq!(rt;
-        format!(in rt.alloc(); "{}", list.disp(&ctx))?.as_str(),
-        "012"
-    );
-    Ok(())
+    Ok(format!(in alloc; "{}", list.disp(&ctx))?)
 }
 
-#[test]
-fn items_are_written_to_a_text(rt: HostRuntime) -> Result<(), Fail> {
-    let ctx: Context<DemoType, DemoAttr> = Context::new(rt.alloc());
-    let mut state = State::new(rt.alloc(), ());
-    let mut text = String::new(rt.alloc());
+/// Items that are written to a text.
+fn written(alloc: Global) -> Result<String, Fail> {
+    let ctx: Ctx = Context::new(alloc);
+    let mut state = State::new(alloc, ());
+    let mut text = String::new(alloc);
     fmt_iter(
         1u64..3,
         &ctx,
@@ -42,6 +35,13 @@ fn items_are_written_to_a_text(rt: HostRuntime) -> Result<(), Fail> {
     )
     .ok()
     .ok_or("refused")?;
-    assert_eq!(rt; text.as_str(), "1+ 2");
+    Ok(text)
+}
+
+#[test]
+fn printable_items_print_themselves(rt: HostRuntime) -> Result<(), Fail> {
+    assert_eq!(rt; of_slice(rt.alloc())?.as_str(), "1,2");
+    assert_eq!(rt; of_iterator(rt.alloc())?.as_str(), "012");
+    assert_eq!(rt; written(rt.alloc())?.as_str(), "1+ 2");
     Ok(())
 }

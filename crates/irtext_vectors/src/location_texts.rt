@@ -1,16 +1,14 @@
 //! Locations of each kind as texts, and errors behind theirs: files by the paths that the context keeps.
+use crate::helpers::Ctx;
 use irtext_base::base::{AttrObj, Identifier};
-use irtext_types::{Characters, DemoAttr, DemoType};
-use pliron_text::base::{Context, Operation};
-use pliron_text::ir::OperationText;
+use irtext_types::{Characters, DemoAttr};
+use pliron_text::base::Context;
 use pliron_text::location::{Location, Source};
-use pliron_text::parsable::{SourcePosition, parse_from_str};
+use pliron_text::parsable::SourcePosition;
 use pliron_text::printable::Disp;
 use pliron_text::result::{Cause, Error};
 use std::alloc::Global;
 use std::test::Fail;
-
-type Ctx = Context<DemoType, DemoAttr>;
 
 /// What the locations print, each on a line.
 const TEXTS: &str = r#""foo.mlir": line: 42, column: 7
@@ -23,6 +21,9 @@ fused<builtin.string "testattr">[<in-memory>: line: 3, column: 4, ?]
 fused<builtin.identifier m>[<in-memory>: line: 3, column: 4, ?]
 fused<builtin.given_names [m, ?]>[<in-memory>: line: 3, column: 4, ?]
 callsite(? at ?)
+["/tmp/test.pliron": line: 1, column: 1] Compilation error: invalid input program.
+["/tmp/test.pliron": line: 1, column: 2] Compilation error: invalid input program.
+Test error
 "#;
 
 /// A place of a source.
@@ -94,53 +95,62 @@ fn location(alloc: Global, ctx: &mut Ctx, line: usize) -> Result<Location<DemoAt
     }
 }
 
+/// An error in a file.
+fn in_one_file(alloc: Global, ctx: &mut Ctx) -> Result<Error<DemoAttr>, Fail> {
+    let place = in_file(ctx, "/tmp/test.pliron", 1, 2)?;
+    Ok(pliron_text::input_error!(place, in alloc; "Test error"))
+}
+
+/// An error in a file, in another one.
+fn in_two_files(alloc: Global, ctx: &mut Ctx) -> Result<Error<DemoAttr>, Fail> {
+    let inner = Box::new(alloc, in_one_file(alloc, ctx)?)?;
+    let place = in_file(ctx, "/tmp/test.pliron", 1, 1)?;
+    Ok(pliron_text::input_error!(place, Cause::Nested(inner)))
+}
+
+/// What the error in files prints.
+fn shown_error(alloc: Global, ctx: &mut Ctx) -> Result<String, Fail> {
+    let error = in_two_files(alloc, ctx)?;
+    error_text(alloc, ctx, &error)
+}
+
+/// What an error prints behind its location.
+fn error_text(alloc: Global, ctx: &Ctx, error: &Error<DemoAttr>) -> Result<String, Fail> {
+    Ok(format!(in alloc; "{}", error.disp(ctx))?)
+}
+
+/// What the location of a line prints, or the error behind the last.
+fn shown(alloc: Global, ctx: &mut Ctx, line: usize) -> Result<String, Fail> {
+    if line == 10 {
+        return shown_error(alloc, ctx);
+    }
+    let location = location(alloc, ctx, line)?;
+    location_text(alloc, ctx, &location)
+}
+
+/// What a location prints.
+fn location_text(alloc: Global, ctx: &Ctx, location: &Location<DemoAttr>) -> Result<String, Fail> {
+    Ok(format!(in alloc; "{}", location.disp(ctx))?)
+}
+
+/// What the locations and the error print, each with a line end behind it.
+fn texts(alloc: Global, ctx: &mut Ctx) -> Result<String, Fail> {
+    let mut text = String::new(alloc);
+    for line in 0..11 {
+        let shown = shown(alloc, ctx, line)?;
+        write!(text, "{shown}\n")?;
+    }
+    Ok(text)
+}
+
+/// The same with a context of its own.
+fn all(alloc: Global) -> Result<String, Fail> {
+    let mut ctx: Ctx = Context::new(alloc);
+    texts(alloc, &mut ctx)
+}
+
 #[test]
 fn each_location_has_its_text(rt: HostRuntime) -> Result<(), Fail> {
-    let mut ctx: Ctx = Context::new(rt.alloc());
-    let mut text = String::new(rt.alloc());
-    for line in 0..10 {
-        let location = location(rt.alloc(), &mut ctx, line)?;
-        write!(text, "{}\n", location.disp(&ctx))?;
-    }
-    assert_eq!(rt; text.as_str(), TEXTS);
-    Ok(())
-}
-
-#[test]
-fn an_error_prints_behind_its_file(rt: HostRuntime) -> Result<(), Fail> {
-    let mut ctx: Ctx = Context::new(rt.alloc());
-    let place = in_file(&mut ctx, "/tmp/test.pliron", 1, 2)?;
-    let inner = pliron_text::input_error!(place, in rt.alloc(); "Test error");
-    let place = in_file(&mut ctx, "/tmp/test.pliron", 1, 1)?;
-    let error: Error<DemoAttr> = pliron_text::input_error!(
-        place,
-        Cause::Nested(Box::new(rt.alloc(), inner)?)
-    );
-    assert_eq!(rt;
-        format!(in rt.alloc(); "{}", error.disp(&ctx))?.as_str(),
-        "[\"/tmp/test.pliron\": line: 1, column: 1] Compilation error: invalid input program.
-[\"/tmp/test.pliron\": line: 1, column: 2] Compilation error: invalid input program.\nTest error"
-    );
-    Ok(())
-}
-
-#[test]
-fn a_root_shows_its_location(rt: HostRuntime) -> Result<(), Fail> {
-    let mut ctx: Ctx = Context::new(rt.alloc());
-    let root = parse_from_str(
-        |s| Operation::top_level_parse(s),
-        &mut ctx,
-        "builtin.module @bar {}",
-    )
-    .ok()
-    .ok_or("refused")?;
-    let place = in_file(&mut ctx, "é.mlir", 1, 2)?;
-    assert!(rt; ctx.contains_operation(root));
-    root.set_loc(&mut ctx, place);
-    assert!(rt; ctx.contains_operation(root));
-    assert_eq!(rt;
-        format!(in rt.alloc(); "{}", root.disp(&ctx))?.as_str(),
-        "builtin.module @bar \n{\n  \n} !0\n\noutlined_attributes:\n!0 = @[\"é.mlir\": line: 1, column: 2], []\n"
-    );
+    assert_eq!(rt; all(rt.alloc())?.as_str(), TEXTS);
     Ok(())
 }

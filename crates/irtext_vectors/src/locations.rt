@@ -1,20 +1,12 @@
 //! The sources, copies and hashes of locations, and the paths that a context keeps.
-use irtext_base::base::{AttrObj, AttributeDict, Context, Identifier, OpId};
+use crate::helpers::{Ctx, named};
+use irtext_base::base::{AttrObj, AttributeDict, Context, OpId, Operation, Ptr};
 use irtext_base::location::{Location, Source, erase_locations};
 use irtext_base::parsable::SourcePosition;
-use irtext_base::result::Result as Answer;
-use irtext_types::{DemoAttr, DemoType};
+use irtext_types::DemoAttr;
 use std::alloc::Global;
 use std::hash::{DefaultHasher, Hash, Hasher};
 use std::test::Fail;
-
-type Ctx = Context<DemoType, DemoAttr>;
-
-/// The identifier of a text that is one.
-fn named(alloc: Global, text: &str) -> Result<Identifier, Fail> {
-    let name: Answer<Identifier, DemoAttr> = Identifier::try_new(alloc, text);
-    Ok(name.ok().ok_or("no identifier")?)
-}
 
 /// The source of a file.
 fn file(ctx: &mut Ctx, path: &str) -> Result<Source, Fail> {
@@ -54,109 +46,144 @@ fn hash_of(ctx: &Ctx, location: &Location<DemoAttr>) -> u64 {
     state.finish()
 }
 
-#[test]
-fn a_context_keeps_each_path_once(rt: HostRuntime) -> Result<(), Fail> {
-    let mut ctx: Ctx = Context::new(rt.alloc());
-    let b = file(&mut ctx, "b")?;
-    assert!(rt; b != file(&mut ctx, "c")?);
-    assert!(rt; b == file(&mut ctx, "b")?);
-    assert_eq!(rt; ctx.num_paths(), 2);
-    let other: Ctx = Context::new(rt.alloc());
-    assert!(rt; b.is_of(&ctx) && !b.is_of(&other));
-    assert!(rt; !other.contains_paths(&at(b)));
-    if let Source::File(key) = b {
-        if b.is_of(&ctx) {
-            assert_eq!(rt; ctx.path(key), "b");
+/// Whether a context keeps each path once.
+fn once(alloc: Global, ctx: &mut Ctx, other: &Ctx) -> Result<bool, Fail> {
+    let b = file(ctx, "b")?;
+    let c = file(ctx, "c")?;
+    let again = file(ctx, "b")?;
+    let kept = b != c && b == again && ctx.num_paths() == 2;
+    let known = b.is_of(ctx) && !b.is_of(other) && !other.contains_paths(&at(b));
+    Ok(kept && known && path_of(ctx, b) == "b" && in_order(alloc, b)?)
+}
+
+/// The path of a source of the context.
+fn path_of(ctx: &Ctx, source: Source) -> &str {
+    if let Source::File(key) = source {
+        if source.is_of(ctx) {
+            return ctx.path(key);
         }
     }
-    Ok(())
+    ""
 }
 
-#[test]
-fn sources_stand_in_order_of_first_mention(rt: HostRuntime) -> Result<(), Fail> {
-    let alloc = rt.alloc();
-    let mut ctx: Ctx = Context::new(alloc);
-    let b = file(&mut ctx, "b")?;
+/// Whether sources stand in the order of their first mention.
+fn in_order(alloc: Global, b: Source) -> Result<bool, Fail> {
     let one = fused(alloc, at(b), at(b))?;
-    assert!(rt; one.source() == Some(b));
+    let single = one.source() == Some(b);
     let all = fused(alloc, one, at(Source::InMemory))?;
-    assert!(rt; all.source().is_none());
+    let several = all.source().is_none();
     let sources = all.sources(alloc).ok().ok_or("refused")?;
-    assert_eq!(rt; sources.len(), 2);
-    assert!(rt; sources[0] == b);
-    assert!(rt; sources[1] == Source::InMemory);
-    Ok(())
+    let ordered = sources.len() == 2 && sources[0] == b && sources[1] == Source::InMemory;
+    Ok(single && several && ordered)
 }
 
-#[test]
-fn copies_equal_their_sources(rt: HostRuntime) -> Result<(), Fail> {
-    let alloc = rt.alloc();
+/// Whether a copy equals its source.
+fn copied(alloc: Global) -> Result<bool, Fail> {
     let location = fused(alloc, at(Source::InMemory), Location::Unknown)?;
     let copy = location.try_clone(alloc).ok().ok_or("refused")?;
-    assert!(rt; copy == location);
-    let attribute: AttrObj<DemoAttr> = AttrObj::Ident(named(alloc, "x")?);
-    assert!(rt; attribute.try_clone(alloc)? == attribute);
-    Ok(())
+    Ok(copy == location)
 }
 
-#[test]
-fn the_hash_of_a_place_is_made_of_its_path(rt: HostRuntime) -> Result<(), Fail> {
-    let mut ctx: Ctx = Context::new(rt.alloc());
-    let place = at(file(&mut ctx, "b")?);
+/// Whether the copy of an attribute equals it.
+fn attribute_copied(alloc: Global) -> Result<bool, Fail> {
+    let attribute: AttrObj<DemoAttr> = AttrObj::Ident(named(alloc, "x")?);
+    let copy = attribute.try_clone(alloc)?;
+    Ok(copy == attribute)
+}
+
+/// Whether the hash of a place is made of its path.
+fn hashed(ctx: &mut Ctx) -> Result<bool, Fail> {
+    let place = at(file(ctx, "b")?);
     let mut wanted = DefaultHasher::new();
     wanted.write_u8(0);
     wanted.write_u8(0);
     "b".hash(&mut wanted);
     wanted.write_i32(1);
     wanted.write_i32(2);
-    assert_eq!(rt; hash_of(&ctx, &place), wanted.finish());
-    Ok(())
+    Ok(hash_of(ctx, &place) == wanted.finish())
 }
 
-#[test]
-fn the_hash_counts_locations(rt: HostRuntime) -> Result<(), Fail> {
-    let alloc = rt.alloc();
-    let ctx: Ctx = Context::new(alloc);
+/// Whether the hash of fused locations counts them.
+fn counted(alloc: Global, ctx: &Ctx) -> Result<bool, Fail> {
+    let metadata = Box::new(alloc, None)?;
+    let locations = Box::new(alloc, Vec::new(alloc))?;
     let none: Location<DemoAttr> = Location::Fused {
-        metadata: Box::new(alloc, None)?,
-        locations: Box::new(alloc, Vec::new(alloc))?,
+        metadata,
+        locations,
     };
     let mut wanted = DefaultHasher::new();
     wanted.write_u8(1);
     wanted.write_u8(0);
     wanted.write_u64(0);
-    assert_eq!(rt; hash_of(&ctx, &none), wanted.finish());
-    Ok(())
+    Ok(hash_of(ctx, &none) == wanted.finish())
 }
 
-#[test]
-fn sources_move_under_the_same_path(rt: HostRuntime) -> Result<(), Fail> {
-    let mut from: Ctx = Context::new(rt.alloc());
-    let mut to: Ctx = Context::new(rt.alloc());
-    let b = file(&mut from, "b")?;
-    assert!(rt; file(&mut to, "a")? == b);
-    if b.is_of(&from) {
-        let moved = b.clone_into_context(&from, &mut to).ok().ok_or("refused")?;
-        assert!(rt; moved != b);
-        assert!(rt; moved == file(&mut to, "b")?);
+/// Whether a source moves to another context under the same path, and a place without a path stays the same.
+fn moved(from: &mut Ctx, to: &mut Ctx) -> Result<bool, Fail> {
+    let b = file(from, "b")?;
+    let a = file(to, "a")?;
+    if !b.is_of(from) {
+        return Ok(false);
     }
+    let moved = b.clone_into_context(from, to).ok().ok_or("refused")?;
+    let same = moved == file(to, "b")?;
     let position = SourcePosition { line: 3, column: 4 };
-    let moved = position.clone_into_context(&from, &mut to);
-    assert!(rt; moved.ok() == Some(position));
-    Ok(())
+    let place = position.clone_into_context(from, to).ok();
+    Ok(a == b && moved != b && same && place == Some(position))
 }
 
-#[test]
-fn locations_are_erased(rt: HostRuntime) -> Result<(), Fail> {
-    let alloc = rt.alloc();
-    let mut ctx: Ctx = Context::new(alloc);
+/// Makes a module with a place.
+fn make(alloc: Global, ctx: &mut Ctx) -> Result<Ptr<Operation>, Fail> {
     let id = OpId {
         dialect: named(alloc, "builtin")?,
         name: named(alloc, "module")?,
     };
-    let op = ctx.make_operation(id, AttributeDict::new(alloc), at(Source::InMemory))?;
-    assert!(rt; !op.loc(&ctx).is_unknown());
-    erase_locations(&mut ctx, op);
-    assert!(rt; op.loc(&ctx).is_unknown());
+    let attributes = AttributeDict::new(alloc);
+    Ok(ctx.make_operation(id, attributes, at(Source::InMemory))?)
+}
+
+/// Whether a location that was there is erased.
+fn erased(alloc: Global, ctx: &mut Ctx) -> Result<bool, Fail> {
+    let op = make(alloc, ctx)?;
+    if !ctx.contains_operation(op) || op.loc(ctx).is_unknown() {
+        return Ok(false);
+    }
+    erase_locations(ctx, op);
+    Ok(ctx.contains_operation(op) && op.loc(ctx).is_unknown())
+}
+
+/// Whether what a line asks holds.
+fn holds(alloc: Global, ctx: &mut Ctx, other: &mut Ctx, number: usize) -> Result<bool, Fail> {
+    match number {
+        0 => once(alloc, ctx, other),
+        1 => copied(alloc),
+        2 => attribute_copied(alloc),
+        3 => hashed(ctx),
+        4 => counted(alloc, ctx),
+        5 => moved(ctx, other),
+        _ => erased(alloc, ctx),
+    }
+}
+
+/// The number of the first line that does not hold.
+fn differing(alloc: Global, ctx: &mut Ctx, other: &mut Ctx) -> Result<Option<usize>, Fail> {
+    for number in 0..7 {
+        if !holds(alloc, ctx, other, number)? {
+            return Ok(Some(number));
+        }
+    }
+    Ok(None)
+}
+
+/// The same with contexts of its own.
+fn first_differing(alloc: Global) -> Result<Option<usize>, Fail> {
+    let mut ctx: Ctx = Context::new(alloc);
+    let mut other: Ctx = Context::new(alloc);
+    differing(alloc, &mut ctx, &mut other)
+}
+
+#[test]
+fn sources_hashes_and_copies_of_locations(rt: HostRuntime) -> Result<(), Fail> {
+    assert_eq!(rt; first_differing(rt.alloc())?, None);
     Ok(())
 }

@@ -1,234 +1,272 @@
-//! Numbers of every type, in decimal and hexadecimal digits and as their text, and truth values.
-use irtext_base::base::{Context, Identifier};
-use irtext_base::location::Source;
-use irtext_base::parsable::{CharStream, ParseFault, TextStream};
+//! Numbers of every type, in decimal and hexadecimal digits and as their text, truth values, and what is read with a context.
+use crate::helpers::{Stream, in_context, line};
+use irtext_base::base::Identifier;
+use irtext_base::parsable::{CharStream, ParseResult, TextStream};
 use irtext_read::irfmt::parsers::{
     FromStrRadix, bool_parse, hex_int_parse, int_parse, number_as_string_parse,
 };
-use irtext_types::{DemoAttr, DemoType};
-use pliron_text::parsable::{Parsable, State, StateStream};
+use irtext_types::DemoAttr;
+use pliron_text::parsable::Parsable;
+use std::alloc::Global;
+use std::fmt;
 use std::test::Fail;
 
-/// A fault's place and cause, behind `!` where it is committed.
-fn refused(rt: &HostRuntime, fault: ParseFault<DemoAttr>) -> Result<String, Fail> {
-    let at = fault.pos;
-    let mark = if fault.committed { "! " } else { "" };
-    Ok(format!(in rt.alloc(); "{mark}{at}: {}", fault.cause)?)
+/// What is read: an integer of a type, one in hexadecimal digits, the text of a number, or a truth value.
+#[derive(Clone, Copy)]
+enum Kind {
+    U8,
+    U16,
+    U32,
+    U64,
+    Usize,
+    I8,
+    I16,
+    I32,
+    I64,
+    Isize,
+    HexU8,
+    HexU16,
+    HexU32,
+    HexU64,
+    HexUsize,
+    HexI64,
+    Text,
+    Truth,
 }
 
-#[test]
-fn numbers_in_eight_bits(rt: HostRuntime) -> Result<(), Fail> {
-    for (text, wanted) in [
-        ("-128", "-128"),
-        ("127", "127"),
-        ("-129", "! line: 1, column: 1: Number out of range: -129"),
-    ] {
-        let mut stream = TextStream::new(rt.alloc(), text)?;
-        let told = match int_parse::<TextStream, i8, DemoAttr>(&mut stream) {
-            Ok(value) => format!(in rt.alloc(); "{value}")?,
-            Err(fault) => refused(&rt, fault)?,
-        };
-        assert_eq!(rt; told.as_str(), wanted);
+/// What a text is read as, and what is said of it.
+const READ: &[(Kind, &str, &str)] = &[
+    (Kind::I8, "-128", "-128"),
+    (Kind::I8, "127", "127"),
+    (
+        Kind::I8,
+        "-129",
+        "line: 1, column: 1: Number out of range: -129!",
+    ),
+    (
+        Kind::I32,
+        "- 1",
+        "line: 1, column: 2: Unexpected ` `, expected digit!",
+    ),
+    (
+        Kind::I32,
+        "",
+        "line: 1, column: 1: Unexpected end of input, expected digit",
+    ),
+    (
+        Kind::U32,
+        "-1",
+        "line: 1, column: 1: Number out of range: -1!",
+    ),
+    (Kind::I16, "-32768", "-32768"),
+    (
+        Kind::I64,
+        "9223372036854775808",
+        "line: 1, column: 1: Number out of range: 9223372036854775808!",
+    ),
+    (Kind::Isize, "-9223372036854775808", "-9223372036854775808"),
+    (
+        Kind::U8,
+        "256",
+        "line: 1, column: 1: Number out of range: 256!",
+    ),
+    (Kind::U16, "+065535", "65535"),
+    (Kind::U64, "18446744073709551615", "18446744073709551615"),
+    (
+        Kind::Usize,
+        "18446744073709551616",
+        "line: 1, column: 1: Number out of range: 18446744073709551616!",
+    ),
+    (Kind::HexU64, "0xff", "255"),
+    (Kind::HexU64, "0xDEAD", "57005"),
+    (
+        Kind::HexU64,
+        "0x",
+        "line: 1, column: 3: Unexpected end of input, expected hexadecimal digit!",
+    ),
+    (
+        Kind::HexU64,
+        "ff",
+        "line: 1, column: 1: Unexpected `f`, expected `0x`",
+    ),
+    (
+        Kind::HexU64,
+        "0y1",
+        "line: 1, column: 2: Unexpected `y`, expected `0x`!",
+    ),
+    (
+        Kind::HexU64,
+        "0xg",
+        "line: 1, column: 3: Unexpected `g`, expected hexadecimal digit!",
+    ),
+    (Kind::HexI64, "0x1234", "4660"),
+    (Kind::HexUsize, "0xABCDEF", "11259375"),
+    (Kind::HexU32, "0xCAFE", "51966"),
+    (Kind::HexU8, "0x7f", "127"),
+    (
+        Kind::HexU8,
+        "0x100",
+        "line: 1, column: 1: Number out of range: 0x100!",
+    ),
+    (
+        Kind::HexU16,
+        "0x10000",
+        "line: 1, column: 1: Number out of range: 0x10000!",
+    ),
+    (Kind::Text, "0", "0"),
+    (Kind::Text, "42", "42"),
+    (Kind::Text, "+42", "+42"),
+    (Kind::Text, "-42", "-42"),
+    (
+        Kind::Text,
+        "-1606938044258990275541962092341162602522202993782792835301376",
+        "-1606938044258990275541962092341162602522202993782792835301376",
+    ),
+    (
+        Kind::Text,
+        "",
+        "line: 1, column: 1: Unexpected end of input, expected digit",
+    ),
+    (
+        Kind::Text,
+        "-",
+        "line: 1, column: 2: Unexpected end of input, expected digit!",
+    ),
+    (
+        Kind::Text,
+        "+",
+        "line: 1, column: 2: Unexpected end of input, expected digit!",
+    ),
+    (
+        Kind::Text,
+        "x1",
+        "line: 1, column: 1: Unexpected `x`, expected digit",
+    ),
+    (Kind::Truth, "true", "true"),
+    (Kind::Truth, "falsehood", "false"),
+    (
+        Kind::Truth,
+        "no",
+        "line: 1, column: 1: Unexpected `n`, expected true or false",
+    ),
+    (
+        Kind::Truth,
+        "trie",
+        "line: 1, column: 3: Unexpected `i`, expected `true`!",
+    ),
+    (
+        Kind::Truth,
+        "fals",
+        "line: 1, column: 5: Unexpected end of input, expected `false`!",
+    ),
+];
+
+/// What is read behind so many characters: an integer of eight bits, and then a truth value.
+const BEHIND: &[(u8, &str, &str)] = &[
+    (
+        0,
+        "- 1",
+        "line: 1, column: 2: Unexpected ` `, expected digit! line: 1, column: 2: The stream has failed!",
+    ),
+    (
+        3,
+        "\n\né300",
+        "line: 3, column: 2: Number out of range: 300! line: 3, column: 5: The stream has failed!",
+    ),
+];
+
+/// An integer of a type.
+fn int<N: FromStrRadix + fmt::Display + Drop>(alloc: Global, text: &str) -> Result<String, Fail> {
+    let mut stream = TextStream::new(alloc, text)?;
+    let answer = int_parse::<TextStream, N, DemoAttr>(&mut stream);
+    line(alloc, &answer)
+}
+
+/// An integer of a type in hexadecimal digits.
+fn hex<N: FromStrRadix + fmt::Display + Drop>(alloc: Global, text: &str) -> Result<String, Fail> {
+    let mut stream = TextStream::new(alloc, text)?;
+    let answer = hex_int_parse::<TextStream, N, DemoAttr>(&mut stream);
+    line(alloc, &answer)
+}
+
+/// The text of a number.
+fn text_of(alloc: Global, text: &str) -> Result<String, Fail> {
+    let mut stream = TextStream::new(alloc, text)?;
+    let answer = number_as_string_parse::<TextStream, DemoAttr>(&mut stream);
+    line(alloc, &answer)
+}
+
+/// A truth value.
+fn truth(alloc: Global, text: &str) -> Result<String, Fail> {
+    let mut stream = TextStream::new(alloc, text)?;
+    let answer = bool_parse::<TextStream, DemoAttr>(&mut stream);
+    line(alloc, &answer)
+}
+
+/// What a text is read as.
+fn read(alloc: Global, kind: Kind, text: &str) -> Result<String, Fail> {
+    match kind {
+        Kind::U8 => int::<u8>(alloc, text),
+        Kind::U16 => int::<u16>(alloc, text),
+        Kind::U32 => int::<u32>(alloc, text),
+        Kind::U64 => int::<u64>(alloc, text),
+        Kind::Usize => int::<usize>(alloc, text),
+        Kind::I8 => int::<i8>(alloc, text),
+        Kind::I16 => int::<i16>(alloc, text),
+        Kind::I32 => int::<i32>(alloc, text),
+        Kind::I64 => int::<i64>(alloc, text),
+        Kind::Isize => int::<isize>(alloc, text),
+        Kind::HexU8 => hex::<u8>(alloc, text),
+        Kind::HexU16 => hex::<u16>(alloc, text),
+        Kind::HexU32 => hex::<u32>(alloc, text),
+        Kind::HexU64 => hex::<u64>(alloc, text),
+        Kind::HexUsize => hex::<usize>(alloc, text),
+        Kind::HexI64 => hex::<i64>(alloc, text),
+        Kind::Text => text_of(alloc, text),
+        Kind::Truth => truth(alloc, text),
     }
-    Ok(())
 }
 
-#[test]
-fn no_number_of_its_type(rt: HostRuntime) -> Result<(), Fail> {
-    for (text, wanted) in [
-        (
-            "- 1",
-            "! line: 1, column: 2: Unexpected ` `, expected digit",
-        ),
-        (
-            "",
-            "line: 1, column: 1: Unexpected end of input, expected digit",
-        ),
-    ] {
-        let mut stream = TextStream::new(rt.alloc(), text)?;
-        let fault = int_parse::<TextStream, i32, DemoAttr>(&mut stream)
-            .err()
-            .ok_or("accepted")?;
-        assert_eq!(rt; refused(&rt, fault)?.as_str(), wanted);
+/// What is read behind so many characters: an integer of eight bits, and then a truth value.
+fn behind(alloc: Global, skipped: u8, text: &str) -> Result<String, Fail> {
+    let mut stream = TextStream::new(alloc, text)?;
+    for _ in 0..skipped {
+        let _ = stream.take();
     }
-    let mut stream = TextStream::new(rt.alloc(), "-1")?;
-    let fault = int_parse::<TextStream, u32, DemoAttr>(&mut stream)
-        .err()
-        .ok_or("accepted")?;
-    assert_eq!(rt;
-        refused(&rt, fault)?.as_str(),
-        "! line: 1, column: 1: Number out of range: -1"
-    );
-    Ok(())
+    let number = int_parse::<TextStream, i8, DemoAttr>(&mut stream);
+    let truth = bool_parse::<TextStream, DemoAttr>(&mut stream);
+    both(alloc, &number, &truth)
+}
+
+/// What two answers say.
+fn both(
+    alloc: Global,
+    number: &ParseResult<i8, DemoAttr>,
+    truth: &ParseResult<bool, DemoAttr>,
+) -> Result<String, Fail> {
+    let number = line(alloc, number)?;
+    let truth = line(alloc, truth)?;
+    Ok(format!(in alloc; "{number} {truth}")?)
 }
 
 #[test]
-fn hexadecimal_numbers(rt: HostRuntime) -> Result<(), Fail> {
-    for (text, wanted) in [
-        ("0xff", "255"),
-        ("0xDEAD", "57005"),
-        (
-            "0x",
-            "! line: 1, column: 3: Unexpected end of input, expected hexadecimal digit",
-        ),
-        ("ff", "line: 1, column: 1: Unexpected `f`, expected `0x`"),
-        ("0y1", "! line: 1, column: 2: Unexpected `y`, expected `0x`"),
-        (
-            "0xg",
-            "! line: 1, column: 3: Unexpected `g`, expected hexadecimal digit",
-        ),
-    ] {
-        let mut stream = TextStream::new(rt.alloc(), text)?;
-        let told = match hex_int_parse::<TextStream, u64, DemoAttr>(&mut stream) {
-            Ok(value) => format!(in rt.alloc(); "{value}")?,
-            Err(fault) => refused(&rt, fault)?,
-        };
-        assert_eq!(rt; told.as_str(), wanted);
-    }
-    Ok(())
-}
-
-#[test]
-fn hexadecimal_numbers_of_other_types(rt: HostRuntime) -> Result<(), Fail> {
-    let mut stream = TextStream::new(rt.alloc(), "0x1234")?;
-    assert_eq!(rt;
-        hex_int_parse::<TextStream, i64, DemoAttr>(&mut stream).ok(),
-        Some(4660)
-    );
-    let mut stream = TextStream::new(rt.alloc(), "0xABCDEF")?;
-    assert_eq!(rt;
-        hex_int_parse::<TextStream, usize, DemoAttr>(&mut stream).ok(),
-        Some(11259375)
-    );
-    let mut stream = TextStream::new(rt.alloc(), "0xCAFE")?;
-    assert_eq!(rt;
-        hex_int_parse::<TextStream, u32, DemoAttr>(&mut stream).ok(),
-        Some(51966)
-    );
-    let mut stream = TextStream::new(rt.alloc(), "0x7f")?;
-    assert_eq!(rt;
-        hex_int_parse::<TextStream, u8, DemoAttr>(&mut stream).ok(),
-        Some(127)
-    );
-    Ok(())
-}
-
-#[test]
-fn hexadecimal_numbers_out_of_range(rt: HostRuntime) -> Result<(), Fail> {
-    let mut stream = TextStream::new(rt.alloc(), "0x100")?;
-    let fault = hex_int_parse::<TextStream, u8, DemoAttr>(&mut stream)
-        .err()
-        .ok_or("accepted")?;
-    assert_eq!(rt;
-        refused(&rt, fault)?.as_str(),
-        "! line: 1, column: 1: Number out of range: 0x100"
-    );
-    let mut stream = TextStream::new(rt.alloc(), "0x10000")?;
-    let fault = hex_int_parse::<TextStream, u16, DemoAttr>(&mut stream)
-        .err()
-        .ok_or("accepted")?;
-    assert_eq!(rt;
-        refused(&rt, fault)?.as_str(),
-        "! line: 1, column: 1: Number out of range: 0x10000"
-    );
-    Ok(())
-}
-
-#[test]
-fn numbers_as_text(rt: HostRuntime) -> Result<(), Fail> {
-    for (text, wanted) in [
-        ("0", "0"),
-        ("42", "42"),
-        ("+42", "+42"),
-        ("-42", "-42"),
-        (
-            "-1606938044258990275541962092341162602522202993782792835301376",
-            "-1606938044258990275541962092341162602522202993782792835301376",
-        ),
-        (
-            "",
-            "line: 1, column: 1: Unexpected end of input, expected digit",
-        ),
-        (
-            "-",
-            "! line: 1, column: 2: Unexpected end of input, expected digit",
-        ),
-        (
-            "+",
-            "! line: 1, column: 2: Unexpected end of input, expected digit",
-        ),
-        ("x1", "line: 1, column: 1: Unexpected `x`, expected digit"),
-    ] {
-        let mut stream = TextStream::new(rt.alloc(), text)?;
-        let told = match number_as_string_parse::<TextStream, DemoAttr>(&mut stream) {
-            Ok(value) => value,
-            Err(fault) => refused(&rt, fault)?,
-        };
-        assert_eq!(rt; told.as_str(), wanted);
-    }
-    Ok(())
-}
-
-#[test]
-fn truth_values(rt: HostRuntime) -> Result<(), Fail> {
-    for (text, wanted) in [
-        ("true", "true"),
-        ("falsehood", "false"),
-        (
-            "no",
-            "line: 1, column: 1: Unexpected `n`, expected true or false",
-        ),
-        (
-            "trie",
-            "! line: 1, column: 3: Unexpected `i`, expected `true`",
-        ),
-        (
-            "fals",
-            "! line: 1, column: 5: Unexpected end of input, expected `false`",
-        ),
-    ] {
-        let mut stream = TextStream::new(rt.alloc(), text)?;
-        let told = match bool_parse::<TextStream, DemoAttr>(&mut stream) {
-            Ok(value) => format!(in rt.alloc(); "{value}")?,
-            Err(fault) => refused(&rt, fault)?,
-        };
-        assert_eq!(rt; told.as_str(), wanted);
+fn numbers_and_truth_values_of_a_text(rt: HostRuntime) -> Result<(), Fail> {
+    for row in READ {
+        assert_eq!(rt; read(rt.alloc(), row.0, row.1)?.as_str(), row.2);
     }
     Ok(())
 }
 
 #[test]
 fn a_refused_number_leaves_the_stream_failed(rt: HostRuntime) -> Result<(), Fail> {
-    let mut stream = TextStream::new(rt.alloc(), "- 1")?;
-    assert!(rt; int_parse::<TextStream, i32, DemoAttr>(&mut stream).is_err());
-    let fault = bool_parse::<TextStream, DemoAttr>(&mut stream)
-        .err()
-        .ok_or("accepted")?;
-    assert_eq!(rt;
-        refused(&rt, fault)?.as_str(),
-        "! line: 1, column: 2: The stream has failed"
-    );
+    for row in BEHIND {
+        assert_eq!(rt; behind(rt.alloc(), row.0, row.1)?.as_str(), row.2);
+    }
     Ok(())
 }
 
 #[test]
-fn a_number_on_a_later_line(rt: HostRuntime) -> Result<(), Fail> {
-    let mut stream = TextStream::new(rt.alloc(), "\n\né300")?;
-    let _ = stream.take();
-    let _ = stream.take();
-    let _ = stream.take();
-    let fault = int_parse::<TextStream, i8, DemoAttr>(&mut stream)
-        .err()
-        .ok_or("accepted")?;
-    assert_eq!(rt;
-        refused(&rt, fault)?.as_str(),
-        "! line: 3, column: 2: Number out of range: 300"
-    );
-    Ok(())
-}
-
-#[test]
-fn numbers_in_a_radix(rt: HostRuntime) -> Result<(), Fail> {
+fn numbers_in_a_radix(rt: HostRuntime) {
     assert_eq!(rt;
         <u8 as FromStrRadix>::from_str_radix("ff", 16).ok(),
         Some(255)
@@ -259,35 +297,38 @@ fn numbers_in_a_radix(rt: HostRuntime) -> Result<(), Fail> {
     assert!(rt; <isize as FromStrRadix>::from_str_radix("8", 8).is_err());
     assert_eq!(rt; i64::from_magnitude(true, 1 << 63), Some(i64::MIN));
     assert_eq!(rt; u8::from_magnitude(true, 0), None);
-    Ok(())
+}
+
+/// Whether the values that stand there are read.
+fn unsigned(s: &mut Stream<'_>) -> bool {
+    usize::parse(s, ()).ok() == Some(1)
+        && u64::parse(s, ()).ok() == Some(u64::MAX)
+        && u32::parse(s, ()).ok() == Some(3)
+        && u16::parse(s, ()).ok() == Some(65535)
+        && u8::parse(s, ()).ok() == Some(255)
+        && bool::parse(s, ()).ok() == Some(true)
+}
+
+/// Whether the signed values that stand there are read.
+fn signed(s: &mut Stream<'_>) -> bool {
+    i8::parse(s, ()).ok() == Some(-1)
+        && i16::parse(s, ()).ok() == Some(0)
+        && i32::parse(s, ()).ok() == Some(-3)
+        && i64::parse(s, ()).ok() == Some(i64::MIN)
+}
+
+/// The identifier that is read behind these.
+fn values(alloc: Global, s: &mut Stream<'_>) -> Result<String, Fail> {
+    if unsigned(s) && signed(s) {
+        let name = Identifier::parse(s, ());
+        return line(alloc, &name);
+    }
+    Err(Fail::from("another value"))
 }
 
 #[test]
-fn unsigned_numbers_with_a_context(rt: HostRuntime) -> Result<(), Fail> {
-    let mut ctx: Context<DemoType, DemoAttr> = Context::new(rt.alloc());
-    let stream = TextStream::new(rt.alloc(), "+1+18446744073709551615+3+00065535+255true_a1")?;
-    let state = State::new(&mut ctx, Source::InMemory, ());
-    let mut s = StateStream { stream, state };
-    assert_eq!(rt; usize::parse(&mut s, ()).ok(), Some(1));
-    assert_eq!(rt; u64::parse(&mut s, ()).ok(), Some(u64::MAX));
-    assert_eq!(rt; u32::parse(&mut s, ()).ok(), Some(3));
-    assert_eq!(rt; u16::parse(&mut s, ()).ok(), Some(65535));
-    assert_eq!(rt; u8::parse(&mut s, ()).ok(), Some(255));
-    assert_eq!(rt; bool::parse(&mut s, ()).ok(), Some(true));
-    let name = Identifier::parse(&mut s, ()).ok().ok_or("refused")?;
-    assert_eq!(rt; name.as_str(), "_a1");
-    Ok(())
-}
-
-#[test]
-fn signed_numbers_with_a_context(rt: HostRuntime) -> Result<(), Fail> {
-    let mut ctx: Context<DemoType, DemoAttr> = Context::new(rt.alloc());
-    let stream = TextStream::new(rt.alloc(), "-1-0-3-9223372036854775808")?;
-    let state = State::new(&mut ctx, Source::InMemory, ());
-    let mut s = StateStream { stream, state };
-    assert_eq!(rt; i8::parse(&mut s, ()).ok(), Some(-1));
-    assert_eq!(rt; i16::parse(&mut s, ()).ok(), Some(0));
-    assert_eq!(rt; i32::parse(&mut s, ()).ok(), Some(-3));
-    assert_eq!(rt; i64::parse(&mut s, ()).ok(), Some(i64::MIN));
+fn values_are_read_with_a_context(rt: HostRuntime) -> Result<(), Fail> {
+    let text = "+1+18446744073709551615+3+00065535+255true-1-0-3-9223372036854775808_a1";
+    assert_eq!(rt; in_context(rt.alloc(), text, values)?.as_str(), "_a1");
     Ok(())
 }

@@ -1,107 +1,154 @@
 //! Roots that are read, one behind the other, and what a refusal leaves.
+use crate::helpers::{Ctx, Stream, root};
 use irtext_types::{DemoAttr, DemoType};
 use pliron_text::base::{Context, Operation, Ptr};
 use pliron_text::ir::{OperationParserConfig, OperationText};
 use pliron_text::irfmt::parsers::location;
 use pliron_text::location::{Location, Source};
 use pliron_text::parsable::{
-    Parsable, SourcePosition, State, StateStream, StreamLocation, TextStream, parse_from_str,
+    Parsable, ParseResult, State, StateStream, StreamLocation, TextStream,
     state_stream_from_iterator,
 };
 use pliron_text::printable::Disp;
+use std::alloc::Global;
 use std::test::Fail;
 
-/// The text of a root.
-fn shown(
-    rt: &HostRuntime,
-    ctx: &Context<DemoType, DemoAttr>,
+/// Two roots on one stream.
+fn two(s: &mut Stream<'_>) -> Option<(Ptr<Operation>, Ptr<Operation>)> {
+    let first = Operation::top_level_parse(s).ok()?;
+    let second = Operation::top_level_parse(s).ok()?;
+    Some((first, second))
+}
+
+/// The location of the second of two roots, and how many objects there are.
+fn located(
+    alloc: Global,
+    ctx: &Ctx,
+    first: Ptr<Operation>,
     root: Ptr<Operation>,
 ) -> Result<String, Fail> {
-    if !ctx.contains_operation(root) {
+    if !ctx.contains_operation(first) || !ctx.contains_operation(root) {
         return Err(Fail::from("no such operation"));
     }
-    Ok(format!(in rt.alloc(); "{}", root.disp(ctx))?)
+    Ok(format!(in alloc; "{} {}", root.loc(ctx).disp(ctx), ctx.num_live())?)
+}
+
+/// What is said of the second of two roots on one stream.
+fn in_a_row(alloc: Global, text: &str) -> Result<String, Fail> {
+    let stream = TextStream::new(alloc, text)?;
+    let mut ctx: Ctx = Context::new(alloc);
+    let state = State::new(&mut ctx, Source::InMemory, ());
+    let mut s = StateStream { stream, state };
+    let roots = two(&mut s);
+    let ctx = s.into_ctx();
+    match roots {
+        Some((first, second)) => located(alloc, ctx, first, second),
+        None => Err(Fail::from("refused")),
+    }
+}
+
+/// Reads a root without looking for its section.
+fn alone(s: &mut Stream<'_>) -> ParseResult<Ptr<Operation>, DemoAttr> {
+    let alone = OperationParserConfig {
+        look_for_outlined_attrs: false,
+    };
+    <Operation as Parsable<DemoType, DemoAttr, ()>>::parse(s, alone)
+}
+
+/// What an answer says that is refused.
+fn refused(
+    alloc: Global,
+    answer: &ParseResult<Ptr<Operation>, DemoAttr>,
+    marks: bool,
+) -> Result<String, Fail> {
+    match answer {
+        Ok(_) => Err(Fail::from("accepted")),
+        Err(fault) => Ok(format!(in alloc; "{marks} {}: {}", fault.pos, fault.cause)?),
+    }
+}
+
+/// Reads two roots with the same mark: whether the first one's mark is in the state, and what is said of the second one.
+fn with_marks(alloc: Global, s: &mut Stream<'_>) -> Result<String, Fail> {
+    let first = alone(s).is_ok();
+    let marks = s.state.has_marks();
+    let answer = alone(s);
+    let places = matches!(s.loc(), Location::SrcPos { .. })
+        && matches!(location(s), Location::SrcPos { .. });
+    refused(alloc, &answer, first && marks && places)
+}
+
+/// The same on a stream of characters, and how many objects there are then.
+fn marked(alloc: Global, text: &str) -> Result<(String, u64), Fail> {
+    let mut ctx: Ctx = Context::new(alloc);
+    let state = State::new(&mut ctx, Source::InMemory, ());
+    let mut s = state_stream_from_iterator(text.chars(), state)?;
+    let said = with_marks(alloc, &mut s);
+    let live = s.into_ctx().num_live();
+    Ok((said?, live))
 }
 
 #[test]
 fn roots_follow_each_other_on_one_stream(rt: HostRuntime) -> Result<(), Fail> {
     let text =
         "builtin.module @m {} !0 outlined_attributes: builtin.module @n {} !0 outlined_attributes:";
-    let mut ctx: Context<DemoType, DemoAttr> = Context::new(rt.alloc());
-    let stream = TextStream::new(rt.alloc(), text)?;
-    let state = State::new(&mut ctx, Source::InMemory, ());
-    let mut s = StateStream { stream, state };
-    let first = Operation::top_level_parse(&mut s).ok().ok_or("refused")?;
-    let second = Operation::top_level_parse(&mut s).ok().ok_or("refused")?;
-    let ctx = s.into_ctx();
-    assert!(rt; ctx.contains_operation(first));
-    assert!(rt; ctx.contains_operation(second));
-    assert!(rt;
-        matches!(
-            second.loc(ctx),
-            Location::SrcPos {
-                src: Source::InMemory,
-                pos: SourcePosition {
-                    line: 1,
-                    column: 46
-                }
-            }
-        )
+    assert_eq!(rt;
+        in_a_row(rt.alloc(), text)?.as_str(),
+        "<in-memory>: line: 1, column: 46 4"
     );
-    assert_eq!(rt; ctx.num_live(), 4);
+    let text = "builtin.module @m {} !0 builtin.module @n {} !0";
+    let (said, live) = marked(rt.alloc(), text)?;
+    assert_eq!(rt;
+        said.as_str(),
+        "true line: 1, column: 46: Duplicate outline index: 0"
+    );
+    assert_eq!(rt; live, 2);
     Ok(())
 }
 
-#[test]
-fn a_mark_without_its_section_stays_in_the_state(rt: HostRuntime) -> Result<(), Fail> {
-    let mut ctx: Context<DemoType, DemoAttr> = Context::new(rt.alloc());
-    let state = State::new(&mut ctx, Source::InMemory, ());
-    let mut s = state_stream_from_iterator(
-        "builtin.module @m {} !0 builtin.module @n {} !0".chars(),
-        state,
-    )?;
-    let alone = OperationParserConfig {
-        look_for_outlined_attrs: false,
-    };
-    let _ = <Operation as Parsable<DemoType, DemoAttr, ()>>::parse(&mut s, alone)
-        .ok()
-        .ok_or("refused")?;
-    assert!(rt; s.state.has_marks());
-    let refused = <Operation as Parsable<DemoType, DemoAttr, ()>>::parse(&mut s, alone)
-        .err()
-        .ok_or("accepted")?;
-    assert_eq!(rt;
-        format!(in rt.alloc(); "{}: {}", refused.pos, refused.cause)?.as_str(),
-        "line: 1, column: 46: Duplicate outline index: 0"
-    );
-    assert!(rt; matches!(s.loc(), Location::SrcPos { .. }));
-    assert!(rt; matches!(location(&s), Location::SrcPos { .. }));
-    let ctx = s.into_ctx();
-    assert_eq!(rt; ctx.num_live(), 2);
-    Ok(())
+/// Texts that are refused.
+const REFUSED: &[&str] = &[
+    "",
+    "builtin.module",
+    "builtin.module @n {} !0",
+    "builtin.module @n {} !0 outlined_attributes: !1 = []",
+    "builtin.module @n {} !0 outlined_attributes: !0 = @[<in-memory>: line: 1, column: 2147483648], []",
+];
+
+/// The text of a root.
+fn shown(alloc: Global, ctx: &Ctx, root: Ptr<Operation>) -> Result<String, Fail> {
+    if !ctx.contains_operation(root) {
+        return Err(Fail::from("no such operation"));
+    }
+    Ok(format!(in alloc; "{}", root.disp(ctx))?)
+}
+
+/// Whether a text is refused, and the root that stood is as it was, and none else is there.
+fn leaves(alloc: Global, ctx: &mut Ctx, stands: Ptr<Operation>, text: &str) -> Result<bool, Fail> {
+    let before = shown(alloc, ctx, stands)?;
+    let read = root(ctx, text).is_some();
+    let behind = shown(alloc, ctx, stands)?;
+    Ok(!read && ctx.num_live() == 2 && before == behind)
+}
+
+/// The number of the first text that is not refused, or leaves something else.
+fn differing(alloc: Global, ctx: &mut Ctx) -> Result<Option<usize>, Fail> {
+    let stands = root(ctx, "builtin.module @m {}").ok_or("refused")?;
+    for (number, text) in REFUSED.iter().enumerate() {
+        if !leaves(alloc, ctx, stands, text)? {
+            return Ok(Some(number));
+        }
+    }
+    Ok(None)
+}
+
+/// The same with a context of its own.
+fn first_differing(alloc: Global) -> Result<Option<usize>, Fail> {
+    let mut ctx: Ctx = Context::new(alloc);
+    differing(alloc, &mut ctx)
 }
 
 #[test]
 fn a_refusal_leaves_what_stood(rt: HostRuntime) -> Result<(), Fail> {
-    let mut ctx: Context<DemoType, DemoAttr> = Context::new(rt.alloc());
-    let stands = parse_from_str(
-        |s| Operation::top_level_parse(s),
-        &mut ctx,
-        "builtin.module @m {}",
-    )
-    .ok()
-    .ok_or("refused")?;
-    let before = shown(&rt, &ctx, stands)?;
-    for text in [
-        "",
-        "builtin.module",
-        "builtin.module @n {} !0",
-        "builtin.module @n {} !0 outlined_attributes: !1 = []",
-        "builtin.module @n {} !0 outlined_attributes: !0 = @[<in-memory>: line: 1, column: 2147483648], []",
-    ] {
-        assert!(rt; parse_from_str(|s| Operation::top_level_parse(s), &mut ctx, text).is_err());
-        assert_eq!(rt; ctx.num_live(), 2);
-        assert_eq!(rt; shown(&rt, &ctx, stands)?.as_str(), before.as_str());
-    }
+    assert_eq!(rt; first_differing(rt.alloc())?, None);
     Ok(())
 }

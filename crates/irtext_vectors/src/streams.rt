@@ -1,5 +1,8 @@
 //! The stream of a text, places, faults and tokens.
-use irtext_base::parsable::{CharStream, ParseFault, ParseResult, SourcePosition, TextStream};
+use crate::helpers::{line, told};
+use irtext_base::parsable::{
+    CharStream, ParseFault, ParseResult, Place, SourcePosition, TextStream,
+};
 use irtext_base::result::{Cause, Expected};
 use irtext_read::irfmt::faults::{
     begins, demand, demanded, next_is, pass, refuse, refuse_at, unexpected,
@@ -9,21 +12,55 @@ use irtext_read::irfmt::parsers::{
     usize_parse,
 };
 use irtext_types::DemoAttr;
+use std::alloc::Global;
 use std::test::Fail;
 
-/// The text of a fault's cause, with its place.
-fn told(rt: &HostRuntime, fault: &ParseFault<DemoAttr>) -> Result<String, Fail> {
-    let at = fault.pos;
-    Ok(format!(in rt.alloc(); "{at}: {}", fault.cause)?)
-}
+/// Texts, and what is said of the number below 2 ^ 64 that each begins with.
+const INDICES: &[(&str, &str)] = &[
+    ("0", "0"),
+    ("+0042x", "42"),
+    ("18446744073709551615", "18446744073709551615"),
+    (
+        "18446744073709551616",
+        "line: 1, column: 1: Number out of range: 18446744073709551616!",
+    ),
+    ("-0", "line: 1, column: 1: Number out of range: -0!"),
+    (
+        "",
+        "line: 1, column: 1: Unexpected end of input, expected digit",
+    ),
+    ("+x", "line: 1, column: 2: Unexpected `x`, expected digit!"),
+];
 
-/// The fault of an answer that is one.
-fn fault_of<X: Drop>(answer: ParseResult<X, DemoAttr>) -> Result<ParseFault<DemoAttr>, Fail> {
-    match answer {
-        Ok(_) => Err(Fail::from("accepted")),
-        Err(fault) => Ok(fault),
-    }
-}
+/// Texts, and what is said of the integer that each begins with.
+const INTEGERS: &[(&str, &str)] = &[
+    ("-2147483648", "-2147483648"),
+    ("+2147483647", "2147483647"),
+    (
+        "2147483648",
+        "line: 1, column: 1: Number out of range: 2147483648!",
+    ),
+    ("-0", "0"),
+    ("- 1", "line: 1, column: 2: Unexpected ` `, expected digit!"),
+];
+
+/// What is said of the words and fixed texts of ` \t_a1 builtin.module ->x`, one behind the other.
+const WORDS: &[&str] = &[
+    "_a1",
+    "builtin.module",
+    "read",
+    "line: 1, column: 24: Unexpected `x`, expected `y`",
+    "line: 1, column: 25: Unexpected end of input, expected `xy`!",
+    "line: 1, column: 25: The stream has failed!",
+];
+
+/// What is said of faults behind `a` in `ab`.
+const FAULTS: &[&str] = &[
+    "line: 1, column: 2: Unexpected escaped character \\q",
+    "line: 1, column: 2: Unexpected `b`, expected digit!",
+    "line: 1, column: 2: No operation or block found for outline index: 3!",
+    "line: 1, column: 1: Duplicate outline index: 3!",
+];
 
 #[test]
 fn a_stream_counts_lines_and_characters(rt: HostRuntime) -> Result<(), Fail> {
@@ -52,137 +89,120 @@ fn a_stream_counts_lines_and_characters(rt: HostRuntime) -> Result<(), Fail> {
     Ok(())
 }
 
-#[test]
-fn a_failed_stream_refuses_each_reader(rt: HostRuntime) -> Result<(), Fail> {
-    let mut stream = TextStream::new(rt.alloc(), "x")?;
-    stream.fail();
-    let fault = fault_of(identifier_parse::<TextStream, DemoAttr>(&mut stream))?;
-    assert!(rt; fault.committed);
-    assert_eq!(rt;
-        told(&rt, &fault)?.as_str(),
-        "line: 1, column: 1: The stream has failed"
-    );
-    Ok(())
+/// What is said of a fixed text.
+fn fixed(alloc: Global, stream: &mut TextStream, text: &'static str) -> Result<String, Fail> {
+    let answer = text_parse::<TextStream, DemoAttr>(stream, text);
+    whether_read(alloc, &answer)
+}
+
+/// What is said of a text that is read or not.
+fn whether_read(alloc: Global, answer: &ParseResult<(), DemoAttr>) -> Result<String, Fail> {
+    match answer {
+        Ok(()) => Ok(String::from_str(alloc, "read")?),
+        Err(fault) => told(alloc, fault),
+    }
+}
+
+/// What is said of the identifier behind white space.
+fn identifier(alloc: Global, stream: &mut TextStream) -> Result<String, Fail> {
+    skip_white_space(stream);
+    let answer = identifier_parse::<TextStream, DemoAttr>(stream);
+    line(alloc, &answer)
+}
+
+/// What is said of the operation's id behind white space.
+fn id(alloc: Global, stream: &mut TextStream) -> Result<String, Fail> {
+    skip_class(stream, Class::WhiteSpace);
+    let answer = id_parse::<TextStream, DemoAttr>(stream);
+    line(alloc, &answer)
+}
+
+/// What is said of the word or fixed text of a line.
+fn word(alloc: Global, number: usize, stream: &mut TextStream) -> Result<String, Fail> {
+    match number {
+        0 => identifier(alloc, stream),
+        1 => id(alloc, stream),
+        2 => {
+            skip_white_space(stream);
+            fixed(alloc, stream, "->")
+        }
+        3 => fixed(alloc, stream, "y"),
+        4 => fixed(alloc, stream, "xy"),
+        _ => identifier(alloc, stream),
+    }
 }
 
 #[test]
 fn words_and_fixed_texts(rt: HostRuntime) -> Result<(), Fail> {
     let mut stream = TextStream::new(rt.alloc(), " \t_a1 builtin.module ->x")?;
-    skip_white_space(&mut stream);
-    let name = identifier_parse::<TextStream, DemoAttr>(&mut stream)
-        .ok()
-        .ok_or("refused")?;
-    assert_eq!(rt; name.as_str(), "_a1");
-    skip_class(&mut stream, Class::WhiteSpace);
-    let id = id_parse::<TextStream, DemoAttr>(&mut stream)
-        .ok()
-        .ok_or("refused")?;
-    assert_eq!(rt; format!(in rt.alloc(); "{id}")?.as_str(), "builtin.module");
-    skip_white_space(&mut stream);
-    assert!(rt; next_is(&stream, '-'));
-    assert!(rt; !begins(&stream, Class::Beginning));
-    text_parse::<TextStream, DemoAttr>(&mut stream, "->")
-        .ok()
-        .ok_or("refused")?;
-    let fault = fault_of(text_parse::<TextStream, DemoAttr>(&mut stream, "y"))?;
-    assert!(rt; !fault.committed);
-    assert_eq!(rt;
-        told(&rt, &fault)?.as_str(),
-        "line: 1, column: 24: Unexpected `x`, expected `y`"
-    );
-    let fault = fault_of(text_parse::<TextStream, DemoAttr>(&mut stream, "xy"))?;
-    assert!(rt; fault.committed);
-    assert_eq!(rt;
-        told(&rt, &fault)?.as_str(),
-        "line: 1, column: 25: Unexpected end of input, expected `xy`"
-    );
+    for (number, wanted) in WORDS.iter().enumerate() {
+        assert_eq!(rt; word(rt.alloc(), number, &mut stream)?.as_str(), *wanted);
+    }
     Ok(())
 }
 
-/// What `usize_parse` answers to a text, as a text.
-fn index(rt: &HostRuntime, text: &str) -> Result<String, Fail> {
-    let mut stream = TextStream::new(rt.alloc(), text)?;
-    match usize_parse::<TextStream, DemoAttr>(&mut stream) {
-        Ok(number) => Ok(format!(in rt.alloc(); "{number}")?),
-        Err(fault) => told(rt, &fault),
-    }
+/// What is said of the number that a text begins with.
+fn index(alloc: Global, text: &str) -> Result<String, Fail> {
+    let mut stream = TextStream::new(alloc, text)?;
+    let answer = usize_parse::<TextStream, DemoAttr>(&mut stream);
+    line(alloc, &answer)
 }
 
-/// What `i32_parse` answers to a text, as a text.
-fn integer(rt: &HostRuntime, text: &str) -> Result<String, Fail> {
-    let mut stream = TextStream::new(rt.alloc(), text)?;
-    match i32_parse::<TextStream, DemoAttr>(&mut stream) {
-        Ok(number) => Ok(format!(in rt.alloc(); "{number}")?),
-        Err(fault) => told(rt, &fault),
-    }
+/// What is said of the integer that a text begins with.
+fn integer(alloc: Global, text: &str) -> Result<String, Fail> {
+    let mut stream = TextStream::new(alloc, text)?;
+    let answer = i32_parse::<TextStream, DemoAttr>(&mut stream);
+    line(alloc, &answer)
 }
 
 #[test]
 fn numbers_that_fit_and_that_do_not(rt: HostRuntime) -> Result<(), Fail> {
-    assert_eq!(rt; index(&rt, "0")?.as_str(), "0");
-    assert_eq!(rt; index(&rt, "+0042x")?.as_str(), "42");
-    assert_eq!(rt;
-        index(&rt, "18446744073709551615")?.as_str(),
-        "18446744073709551615"
-    );
-    assert_eq!(rt;
-        index(&rt, "18446744073709551616")?.as_str(),
-        "line: 1, column: 1: Number out of range: 18446744073709551616"
-    );
-    assert_eq!(rt;
-        index(&rt, "-0")?.as_str(),
-        "line: 1, column: 1: Number out of range: -0"
-    );
-    assert_eq!(rt;
-        index(&rt, "")?.as_str(),
-        "line: 1, column: 1: Unexpected end of input, expected digit"
-    );
-    assert_eq!(rt;
-        index(&rt, "+x")?.as_str(),
-        "line: 1, column: 2: Unexpected `x`, expected digit"
-    );
-    assert_eq!(rt; integer(&rt, "-2147483648")?.as_str(), "-2147483648");
-    assert_eq!(rt; integer(&rt, "+2147483647")?.as_str(), "2147483647");
-    assert_eq!(rt;
-        integer(&rt, "2147483648")?.as_str(),
-        "line: 1, column: 1: Number out of range: 2147483648"
-    );
-    assert_eq!(rt; integer(&rt, "-0")?.as_str(), "0");
-    assert_eq!(rt;
-        integer(&rt, "- 1")?.as_str(),
-        "line: 1, column: 2: Unexpected ` `, expected digit"
-    );
+    for row in INDICES {
+        assert_eq!(rt; index(rt.alloc(), row.0)?.as_str(), row.1);
+    }
+    for row in INTEGERS {
+        assert_eq!(rt; integer(rt.alloc(), row.0)?.as_str(), row.1);
+    }
     Ok(())
+}
+
+/// The fault of a line, where the stream stands, or at its start.
+fn fault(number: usize, stream: &mut TextStream, start: Place) -> ParseFault<DemoAttr> {
+    match number {
+        0 => pass(stream, Cause::BadEscape('q')),
+        1 => {
+            let missing = unexpected(stream, Expected::Digit);
+            demanded(stream, missing)
+        }
+        2 => refuse(stream, Cause::UnknownIndex(3)),
+        _ => refuse_at(stream, start, Cause::DuplicateIndex(3)),
+    }
+}
+
+/// What is said of the fault of a line.
+fn refused(
+    alloc: Global,
+    number: usize,
+    stream: &mut TextStream,
+    start: Place,
+) -> Result<String, Fail> {
+    let fault = fault(number, stream, start);
+    told(alloc, &fault)
 }
 
 #[test]
 fn faults_are_committed_or_not(rt: HostRuntime) -> Result<(), Fail> {
     let mut stream = TextStream::new(rt.alloc(), "ab")?;
     let start = stream.position();
+    assert!(rt; next_is(&stream, 'a') && begins(&stream, Class::Beginning));
     let _ = stream.take();
-    let passed: ParseFault<DemoAttr> = pass(
-        &stream,
-        Cause::OwnText(String::from_str(rt.alloc(), "no")?),
-    );
-    assert!(rt; !passed.committed);
-    assert_eq!(rt; told(&rt, &passed)?.as_str(), "line: 1, column: 2: no");
-    let missing: ParseFault<DemoAttr> = unexpected(&stream, Expected::Digit);
-    let same = demanded(&mut stream, missing);
-    assert!(rt; same.committed);
-    assert_eq!(rt;
-        told(&rt, &same)?.as_str(),
-        "line: 1, column: 2: Unexpected `b`, expected digit"
-    );
-    let fault: ParseFault<DemoAttr> = refuse(&mut stream, Cause::UnknownIndex(3));
-    assert_eq!(rt;
-        told(&rt, &fault)?.as_str(),
-        "line: 1, column: 2: No operation or block found for outline index: 3"
-    );
-    let fault: ParseFault<DemoAttr> = refuse_at(&mut stream, start, Cause::DuplicateIndex(3));
-    assert_eq!(rt;
-        told(&rt, &fault)?.as_str(),
-        "line: 1, column: 1: Duplicate outline index: 3"
-    );
+    assert!(rt; !next_is(&stream, 'a') && !begins(&stream, Class::WhiteSpace));
+    for (number, wanted) in FAULTS.iter().enumerate() {
+        assert_eq!(rt;
+            refused(rt.alloc(), number, &mut stream, start)?.as_str(),
+            *wanted
+        );
+    }
     let value: ParseResult<u8, DemoAttr> = demand(&mut stream, Ok(7));
     assert_eq!(rt; value.ok(), Some(7));
     Ok(())
