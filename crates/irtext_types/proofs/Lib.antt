@@ -5,3 +5,4 @@ pub mod IntegersFit
 pub mod Quoted
 pub mod ListSteps
 pub mod FunctionTexts
+pub mod Sincere

@@ -21,33 +21,35 @@ use Rattle.pliron_text.specs.Roots.{SaysNotFailed, IsSincere}
 use Rattle.pliron_text.proofs.Spares.{Spares, NotFailed, unexpected_fine, range_fine, spares-prefixed, spares-followed, spares-mapped, spares-text, spares-word, spares-spaced, spares-position}
 
 -- the reading's cause does not say so
-record Fine {X : Type 0} (o : Outcome X) : Type 0 where
-  spares : Spares NotFailed o
+pub record Fine {X : Type 0} (o : Outcome X) : Type 0 where
+  pub spares : Spares NotFailed o
 
 module _ {X : Type 0} where
-  fine_read : (x : X) (taken rest : Text) → Fine (Read x taken rest)
+  pub fine_read : (x : X) (taken rest : Text) → Fine (Read x taken rest)
   fine_read x taken rest = record { spares = tt }
 
-  fine_missing : (cause : Fault) → NotFailed cause → Fine {X = X} (Missing cause)
+  pub fine_missing : (cause : Fault) → NotFailed cause → Fine {X = X} (Missing cause)
   fine_missing cause h = record { spares = h }
 
-  fine_bad : (cause : Fault) (upto : Text) → NotFailed cause → Fine {X = X} (Bad cause upto)
+  pub fine_bad : (cause : Fault) (upto : Text) → NotFailed cause → Fine {X = X} (Bad cause upto)
   fine_bad cause upto h = record { spares = h }
 
-fine_either : {X : Type 0} (test : Bool) (o p : Outcome X) → Fine o → Fine p → Fine (cond test o p)
+-- readings put together
+pub fine_either : {X : Type 0} (test : Bool) (o p : Outcome X) → Fine o → Fine p → Fine (cond test o p)
 fine_either true o p h k = h
 fine_either false o p h k = k
 
-fine_prefixed : {X : Type 0} (t : Text) (o : Outcome X) → Fine o → Fine (prefixed t o)
+pub fine_prefixed : {X : Type 0} (t : Text) (o : Outcome X) → Fine o → Fine (prefixed t o)
 fine_prefixed t o h = record { spares = spares-prefixed NotFailed t o h.spares }
 
-fine_followed : {X Y : Type 0} (o : Outcome X) (k : X → Text → Outcome Y) → Fine o → ((x : X) (t : Text) → Fine (k x t)) → Fine (followed o k)
+pub fine_followed : {X Y : Type 0} (o : Outcome X) (k : X → Text → Outcome Y) → Fine o → ((x : X) (t : Text) → Fine (k x t)) → Fine (followed o k)
 fine_followed o k h g = record { spares = spares-followed NotFailed o k h.spares (λ x t. (g x t).spares) }
 
-fine_mapped : {X Y : Type 0} (f : X → Y) (o : Outcome X) → Fine o → Fine (mapped f o)
+pub fine_mapped : {X Y : Type 0} (f : X → Y) (o : Outcome X) → Fine o → Fine (mapped f o)
 fine_mapped f o h = record { spares = spares-mapped NotFailed f o h.spares }
 
-fine_text : (word text : Text) → Fine (text_at word text)
+-- tokens
+pub fine_text : (word text : Text) → Fine (text_at word text)
 fine_text word text = record { spares = spares-text NotFailed unexpected_fine word text }
 
 fine_spaced : (word text : Text) → Fine (spaced_at word text)
@@ -101,7 +103,7 @@ fine_units (d ∷ left) [] = fine_bad _ _ (unexpected_fine None (Word (codes "\"
 fine_units [] (c ∷ text) = fine_either (c == 34) (Read [] (c ∷ []) text) (unit_before (unit_at (c ∷ text)) (λ left. units_at left text)) (fine_read _ _ _) (fine_before (unit_at (c ∷ text)) (λ left. units_at left text) (fine_unit (c ∷ text)) (λ left. fine_units left text))
 fine_units (d ∷ left) (c ∷ text) = fine_units left text
 
-fine_quoted : (text : Text) → Fine (quoted_at text)
+pub fine_quoted : (text : Text) → Fine (quoted_at text)
 unfolding quoted_at
 fine_quoted text = fine_followed _ _ (fine_text (codes "\"") text) (λ _ t. fine_units [] t)
 
