@@ -321,7 +321,7 @@ pub trait OperationText {
     /// The root's location is the place where it begins, unless its entry in the section gives another. A fault says why the text
     /// is refused, and where: at which line and column, both counted from 1, in characters. It is uncommitted where nothing was
     /// read; else the stream has failed, and each later reader on it answers that. Whatever the fault, want of memory too, the
-    /// context's objects, the marks, the source and the caller's data are as they were.
+    /// context's objects, the marks, the source and the caller's data are as they were; the context may keep more paths.
     fn top_level_parse<T: IrText<A>, A: AttrText, U>(
         stream: &mut StateStream<'_, T, A, U>,
     ) -> ParseResult<Ptr<Operation>, A>
