@@ -19,12 +19,13 @@ use Rattle.irtext_base.specs.Reading.{the}
 use Rattle.pliron_text.specs.LocationText.{space_at}
 use Rattle.irtext_base.specs.Faults.{Fault}
 use Rattle.irtext_base.proofs.Compose.{answers_demanded}
+use Rattle.irtext_base.proofs.Characters.{and_left, and_right}
 use Rattle.pliron_text.proofs.Answered.{answered}
 use Rattle.pliron_text.proofs.JoinTokens.{text_read}
 use Rattle.pliron_text.proofs.Rooted.{alone}
 use Rattle.pliron_text.proofs.Steps.{Passed, starts, turned, more, spaced, last, ends, starved, mapped_followed, mapped_mapped, mapped_as}
 use Rattle.pliron_text.proofs.LocationBegins.{is_missing, one_begins}
-use Rattle.pliron_text.proofs.NewPaths.{both_true, left_true, right_true, row_stays_known, row_written_same}
+use Rattle.pliron_text.proofs.NewPaths.{both_true, row_stays_known, row_written_same}
 
 -- what is left is no longer
 left_of : (t r w : Text) → t ++ r ≡ w → length r ≤ length w
@@ -140,7 +141,7 @@ module _ {A : Type 0} where
   known_pushed count [] l h k = both_true (known_location count l) true k refl
   known_pushed count (j ∷ ls) l h k =
       let rest = row_known count (in_row (map location_view ls)) in
-      both_true (known_location count j) (row_known count (in_row (map location_view (ls ++ l ∷ [])))) (left_true (known_location count j) rest h) (known_pushed count ls l (right_true (known_location count j) rest h) k)
+      both_true (known_location count j) (row_known count (in_row (map location_view (ls ++ l ∷ [])))) (and_left (known_location count j) rest h) (known_pushed count ls l (and_right (known_location count j) rest h) k)
 
 module _ {A : Type 0} (attr : Text → Outcome (AttrView A)) where
   -- what follows a location of a row, at a depth

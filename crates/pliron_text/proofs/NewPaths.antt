@@ -13,6 +13,7 @@ use Rattle.irtext_base.specs.Paths.{path_index, with_path, index_or_next, found_
 use Rattle.irtext_base.specs.declared.location.PathKey.{PathKey}
 use Rattle.irtext_base.specs.declared.location.Source.{Source}
 use Rattle.irtext_base.specs.declared.location.Source.TheVariants.{File, InMemory}
+use Rattle.irtext_base.proofs.Characters.{and_left, and_right}
 use Rattle.pliron_text.specs.NewPaths.{AddsPaths}
 
 -- a test passes where it is found to
@@ -125,14 +126,6 @@ still_known p q i k h = by (slice_get p i) refl
     by (Some x) e = less i (length q) (slice_get_within q i x (k i x e))
 
 -- both tests pass
-pub left_true : (a b : Bool) → (a && b) ≡ true → a ≡ true
-left_true true b h = refl
-left_true false b h = h
-
-pub right_true : (a b : Bool) → (a && b) ≡ true → b ≡ true
-right_true true b h = h
-right_true false b h = absurd (true≢false (sym h))
-
 pub both_true : (a b : Bool) → a ≡ true → b ≡ true → (a && b) ≡ true
 both_true a b h k = ap₂ ◌&&◌ h k
 
@@ -153,15 +146,15 @@ module _ (p q : List (List ℕ)) (k : KeepsPaths p q) where
     stays_known (fused metadata locations) h = row_stays_known locations h
     stays_known (named name child) h = stays_known child h
     stays_known (call_site callee caller) h = both_true (are_known (length q) callee) (are_known (length q) caller)
-        (stays_known callee (left_true (are_known (length p) callee) (are_known (length p) caller) h))
-        (stays_known caller (right_true (are_known (length p) callee) (are_known (length p) caller) h))
+        (stays_known callee (and_left (are_known (length p) callee) (are_known (length p) caller) h))
+        (stays_known caller (and_right (are_known (length p) callee) (are_known (length p) caller) h))
     stays_known unknown h = refl
 
     pub row_stays_known : {A : Type 0} (ls : LocationViews A) → row_known (length p) ls ≡ true → row_known (length q) ls ≡ true
     row_stays_known no_location h = refl
     row_stays_known (location l ls) h = both_true (are_known (length q) l) (row_known (length q) ls)
-        (stays_known l (left_true (are_known (length p) l) (row_known (length p) ls) h))
-        (row_stays_known ls (right_true (are_known (length p) l) (row_known (length p) ls) h))
+        (stays_known l (and_left (are_known (length p) l) (row_known (length p) ls) h))
+        (row_stays_known ls (and_right (are_known (length p) l) (row_known (length p) ls) h))
 
   mutual
     -- what is written of a known location stays
@@ -170,12 +163,12 @@ module _ (p q : List (List ℕ)) (k : KeepsPaths p q) where
     written_same (fused metadata locations) h = ap (fused metadata) (row_written_same locations h)
     written_same (named name child) h = ap (named name) (written_same child h)
     written_same (call_site callee caller) h = ap₂ call_site
-        (written_same callee (left_true (are_known (length p) callee) (are_known (length p) caller) h))
-        (written_same caller (right_true (are_known (length p) callee) (are_known (length p) caller) h))
+        (written_same callee (and_left (are_known (length p) callee) (are_known (length p) caller) h))
+        (written_same caller (and_right (are_known (length p) callee) (are_known (length p) caller) h))
     written_same unknown h = refl
 
     pub row_written_same : {A : Type 0} (ls : LocationViews A) → row_known (length p) ls ≡ true → row_sourced (path_of q) ls ≡ row_sourced (path_of p) ls
     row_written_same no_location h = refl
     row_written_same (location l ls) h = ap₂ location
-        (written_same l (left_true (are_known (length p) l) (row_known (length p) ls) h))
-        (row_written_same ls (right_true (are_known (length p) l) (row_known (length p) ls) h))
+        (written_same l (and_left (are_known (length p) l) (row_known (length p) ls) h))
+        (row_written_same ls (and_right (are_known (length p) l) (row_known (length p) ls) h))
