@@ -2,6 +2,7 @@
 ghost use Rattle.std.specs.Prelude.{◌≤◌, ◌≡◌, IsSome};
 ghost use Rattle.irtext_base.specs.Context.{operation};
 
+use irtext_types::dialects::register_demo;
 use irtext_types::{DemoAttr, DemoType};
 use pliron_text::base::{Context, Operation, Ptr};
 use pliron_text::ir::{OperationText, print_dbg};
@@ -105,6 +106,9 @@ fn write_root(
 /// The text in this form of the root that `text` spells.
 fn formatted(alloc: Global, form: Form, text: &str) -> Result<String, Fault> {
     let mut ctx = Context::new(alloc);
+    if let Err(error) = register_demo(&mut ctx) {
+        return Err(refusal(alloc, &ctx, &error));
+    }
     let root = match parse_from_str(|stream| Operation::top_level_parse(stream), &mut ctx, text) {
         Ok(root) => root,
         Err(error) => return Err(refusal(alloc, &ctx, &error)),

@@ -8,6 +8,7 @@ use Rattle.std.specs.Char.{encode_utf8}
 use lib.Utf8.{scalar}
 use Rattle.irtext_base.specs.Text.{Text}
 use Rattle.irtext_base.specs.Stream.{StreamView, first_of, advanced_by}
+use Rattle.irtext_base.proofs.Scalars.{scalars_more}
 
 -- a text whose first character is known is that character and another text
 pub first_some : (text : Text) (c : ℕ) → Some c ≡ first_of text → (rest : Text) × (text ≡ c ∷ rest)
@@ -26,13 +27,6 @@ scalars_parts (c ∷ xs) ys e =
     let p = both (scalar c) (all_scalars (xs ++ ys)) e in
     let q = scalars_parts xs ys p.1 in
     (rw (p.0, q.0) refl, q.1)
-
--- two texts make a text
-scalars-append : (xs ys : Text) → all_scalars xs ≡ true → all_scalars ys ≡ true → all_scalars (xs ++ ys) ≡ true
-scalars-append [] ys e f = f
-scalars-append (c ∷ xs) ys e f =
-    let p = both (scalar c) (all_scalars xs) e in
-    rw (p.0, scalars-append xs ys p.1 f) refl
 
 -- the first character, where it is one byte
 first_by_byte : (bs : List ℕ) → IsUtf8 bs → 0 < length bs → get_or bs 0 0 < 128 → Some (get_or bs 0 0) ≡ first_of (chars bs)
@@ -104,7 +98,7 @@ whole bs o f u =
 pub parts_at : (bs : List ℕ) (o n : ℕ) (passed rest : Text) → IsUtf8 (take o bs) → IsUtf8 (drop o bs) → passed ++ rest ≡ chars (take o bs) ++ chars (drop o bs) → n ≡ length (encode_utf8_all passed) → Parts bs n passed rest
 parts_at bs o n passed rest f u e m =
     let b : encode_utf8_all passed ++ encode_utf8_all rest ≡ bs = sym (encodes-append passed rest) ∙ (ap encode_utf8_all e ∙ whole bs o f u) in
-    let s : all_scalars (passed ++ rest) ≡ true = rw e (scalars-append (chars (take o bs)) (chars (drop o bs)) (scalars-chars (take o bs) f) (scalars-chars (drop o bs) u)) in
+    let s : all_scalars (passed ++ rest) ≡ true = rw e (scalars_more (chars (take o bs)) (chars (drop o bs)) (scalars-chars (take o bs) f) (scalars-chars (drop o bs) u)) in
     let p = scalars_parts passed rest s in
     let t : take n bs ≡ encode_utf8_all passed = rw (m, ← b) (take-append_seam (encode_utf8_all passed) (encode_utf8_all rest)) in
     let d : drop n bs ≡ encode_utf8_all rest = rw (m, ← b) (drop-append_seam (encode_utf8_all passed) (encode_utf8_all rest)) in

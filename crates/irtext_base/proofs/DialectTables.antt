@@ -52,6 +52,10 @@ pub at_ok : {X E P : Type 0} (r : Result X E) → P → OnOk r P
 at_ok (Ok x) p = p
 at_ok (Err e) p = tt
 
+pub at_err : {X E P : Type 0} (r : Result X E) → P → OnErr r P
+at_err (Ok x) p = tt
+at_err (Err e) p = p
+
 -- what a refusal shows
 pub err_along : {X E P Q : Type 0} (r : Result X E) → (P → Q) → OnErr r P → OnErr r Q
 err_along (Ok x) f p = tt

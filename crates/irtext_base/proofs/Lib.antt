@@ -20,3 +20,9 @@ pub mod Meetings
 pub mod Sources
 pub mod KeptPaths
 pub mod StableHashes
+pub mod Sincere
+pub mod Scalars
+pub mod PathKeys
+pub mod LocationViews
+pub mod Moves
+pub mod Equality

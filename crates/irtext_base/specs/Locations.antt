@@ -4,7 +4,6 @@ use Rattle.std.specs.List.{list_any}
 use Rattle.irtext_base.specs.Text.{Text}
 use Rattle.irtext_base.specs.declared.base.attributes.AttrObj.{AttrObj}
 use Rattle.irtext_base.specs.declared.base.attributes.AttrObj.TheVariants as attr
-use Rattle.irtext_base.specs.declared.location.PathKey.{PathKey}
 use Rattle.irtext_base.specs.declared.location.Source.{Source}
 use Rattle.irtext_base.specs.declared.location.Source.TheVariants.{File, InMemory}
 use Rattle.irtext_base.specs.declared.location.Location.{Location, fold-Location, Unknown}

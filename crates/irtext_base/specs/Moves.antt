@@ -1,20 +1,63 @@
--- Sources in another context: the same texts of paths, under the keys that the other context has for them or gives them.
-use Rattle.std.specs.Prelude.{ℕ, Option, Some, None, List, slice_get}
+-- Sources and locations in another context: the same texts of paths, under the keys that the other context has for them or gives them.
+use Rattle.std.specs.Prelude.{◌≡◌, ℕ, Bool, true, false, Option, Some, None, List, ◌++◌}
 use Rattle.irtext_base.specs.declared.location.Source.{Source}
 use Rattle.irtext_base.specs.declared.location.Source.TheVariants.{File, InMemory}
 use Rattle.irtext_base.specs.Context.{ContextView}
-use Rattle.irtext_base.specs.Paths.{path_index, with_path}
+use Rattle.irtext_base.specs.Locations.{LocationView, LocationViews, LocationsOf, src_pos, fused, named, call_site, unknown, no_location, location}
+use Rattle.irtext_base.specs.Paths.{Written, path_index, with_path}
 
--- the file of a path, and the paths once it is kept
-abbrev pub moved_path : List (List ℕ) → Option (List ℕ) → Source × List (List ℕ)
-moved_path to None = (InMemory, to)
-moved_path to (Some path) = (File (record { index = path_index to path }), with_path to path)
+-- the file of a path, under the key that these paths have for it or give it; without a path the source is in memory
+abbrev pub source_under : List (List ℕ) → Option (List ℕ) → Source
+source_under paths None = InMemory
+source_under paths (Some path) = File (record { index = path_index paths path })
 
--- a source of the one context in the other, and what paths the other keeps then
-abbrev pub moved_source : List (List ℕ) → List (List ℕ) → Source → Source × List (List ℕ)
-moved_source from to (File key) = moved_path to (slice_get from key.index)
-moved_source from to InMemory = (InMemory, to)
+-- the paths once that of a source is kept, if it has one
+abbrev pub path_kept : List (List ℕ) → Option (List ℕ) → List (List ℕ)
+path_kept paths None = paths
+path_kept paths (Some path) = with_path paths path
+
+abbrev mutual
+  -- the paths once those of a location are kept, in the order in which it mentions them
+  pub all_kept : {A : Type 0} → List (List ℕ) → Written A → List (List ℕ)
+  all_kept paths (src_pos src pos) = path_kept paths src
+  all_kept paths (fused metadata locations) = row_kept paths locations
+  all_kept paths (named name child) = all_kept paths child
+  all_kept paths (call_site callee caller) = all_kept (all_kept paths callee) caller
+  all_kept paths unknown = paths
+
+  -- the same of each location in a row
+  pub row_kept : {A : Type 0} → List (List ℕ) → LocationsOf (Option (List ℕ)) A → List (List ℕ)
+  row_kept paths no_location = paths
+  row_kept paths (location l ls) = row_kept (all_kept paths l) ls
+
+abbrev mutual
+  -- the location that a text says, with its files under the keys that these paths have for them or give them
+  pub all_under : {A : Type 0} → List (List ℕ) → Written A → LocationView A
+  all_under paths (src_pos src pos) = src_pos (source_under paths src) pos
+  all_under paths (fused metadata locations) = fused metadata (row_under paths locations)
+  all_under paths (named name child) = named name (all_under paths child)
+  all_under paths (call_site callee caller) = call_site (all_under paths callee) (all_under (all_kept paths callee) caller)
+  all_under paths unknown = unknown
+
+  -- the same of each location in a row
+  pub row_under : {A : Type 0} → List (List ℕ) → LocationsOf (Option (List ℕ)) A → LocationViews A
+  row_under paths no_location = no_location
+  row_under paths (location l ls) = location (all_under paths l) (row_under (all_kept paths l) ls)
+
+-- nothing of the location has to be kept or to be allocated: it is a place in memory, or none
+abbrev pub is_free : {A : Type 0} → Written A → Bool
+is_free (src_pos None pos) = true
+is_free (src_pos (Some path) pos) = false
+is_free (fused metadata locations) = false
+is_free (named name child) = false
+is_free (call_site callee caller) = false
+is_free unknown = true
 
 -- a context with other paths, and all else as it was
 abbrev pub with_paths : {T A : Type 0} → ContextView T A → List (List ℕ) → ContextView T A
 with_paths c paths = record c { paths = paths }
+
+-- a context came to keep more paths behind those that it kept, or none, and all else is as it was
+pub record KeepsMore {T A : Type 0} (old new : ContextView T A) : Type 0 where
+  pub more : List (List ℕ)
+  pub with_more : new ≡ with_paths old (old.paths ++ more)

@@ -1,9 +1,11 @@
 -- What a caller's types and attributes mean by their texts, and the law that reading and writing them keep.
 use Rattle.std.specs.Prelude.{◌≡◌, ℕ, true, false, ◌==◌, ◌⊎◌, ◌||◌, ◌++◌, Bool, Option, [], codes, length, ⊤}
 use Rattle.std.specs.Char.{is_whitespace}
+use Rattle.std.specs.Str.{all_scalars}
 use Rattle.irtext_base.specs.Text.{Text, begins, after_space, begins_word}
 use Rattle.irtext_base.specs.Reading.{Reading, never, keyword}
 use Rattle.irtext_base.specs.Answers.{Outcome, Read, Missing, Bad}
+use Rattle.irtext_base.specs.Faults.{Fault, Unexpected, NumberRange, BadEscape, BadUnicodeEscape, EmptyItem, BadSeparator, OwnText}
 use Rattle.irtext_base.specs.Format.{Format, Id, has}
 
 -- what the grammar looks at of a reading: a value and the rest, or that no such thing begins here, or that the text is bad
@@ -51,11 +53,41 @@ can_follow c = is_whitespace c || has ◌==◌ c (codes ",;:)]}>")
 abbrev pub Ends : Text → Type 0
 Ends text = (text ≡ []) ⊎ (begins can_follow text ≡ true)
 
--- the law of reading and writing one kind of value
+-- the law of reading and writing one kind of value: how its texts begin, where none is found, that each is read back, and that it is one of Unicode scalar values
 pub record Lawful (X : Type 0) (texts : Texts X) : Type 0 where
   pub starts : (x : X) (rest : Text) → begins begins_word (texts.written x ++ rest) ≡ true
   pub misses : (text : Text) → begins begins_word text ≡ false → texts.outcome text ≡ missing
   pub again : (x : X) (rest : Text) → Ends rest → (left : Text) × (texts.outcome (texts.written x ++ rest) ≡ found x left) × (after_space left ≡ after_space rest)
+  pub scalars : (x : X) → all_scalars (texts.written x) ≡ true
+
+-- a cause of a text of which nothing was taken: something else stands there, a separator is white space, or the caller's own words
+abbrev pub is_first_fault : Fault → Bool
+is_first_fault (Unexpected c demand) = true
+is_first_fault BadSeparator = true
+is_first_fault (OwnText text) = true
+is_first_fault _ = false
+
+-- a cause of a text of which something was taken alone: a number is out of range, an escape is bad, or an item reads nothing
+abbrev pub is_later_fault : Fault → Bool
+is_later_fault (NumberRange text) = true
+is_later_fault (BadEscape c) = true
+is_later_fault (BadUnicodeEscape digits) = true
+is_later_fault EmptyItem = true
+is_later_fault _ = false
+
+-- a cause of a text: neither want of memory, nor a stream that had failed, nor one of the operations round it
+abbrev pub is_text_fault : Fault → Bool
+is_text_fault cause = is_first_fault cause || is_later_fault cause
+
+-- the text begins so
+abbrev pub IsFront : Text → Text → Type 0
+IsFront front text = (left : Text) × (front ++ left ≡ text)
+
+-- What a reader says of a text is of that text: what is read takes a front of it, an uncommitted fault has a cause of a text of which nothing was taken, and a committed one a cause of a text, at a place in it.
+pub record Sincere {X : Type 0} (reading : Text → Outcome X) : Type 0 where
+  pub reads : (text : Text) (x : X) (taken left : Text) → reading text ≡ Read x taken left → taken ++ left ≡ text
+  pub passes : (text : Text) (cause : Fault) → reading text ≡ Missing cause → is_first_fault cause ≡ true
+  pub commits : (text : Text) (cause : Fault) (upto : Text) → reading text ≡ Bad cause upto → (is_text_fault cause ≡ true) × IsFront upto text
 
 -- no attribute's text begins with a word that is read before it
 pub record Unreserved (A : Type 0) (texts : Texts A) : Type 0 where

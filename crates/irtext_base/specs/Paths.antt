@@ -1,9 +1,10 @@
 -- The paths of files that a context keeps, each in bytes, and the locations whose sources are among them.
-use Rattle.std.specs.Prelude.{ℕ, Bool, true, ◌&&◌, nat_lt, Option, Some, None, List, [], ◌∷◌, ◌++◌, length, position, slice_get}
+use Rattle.std.specs.Prelude.{◌≡◌, ◌≤◌, ◌^◌, ◌⊎◌, ℕ, Bool, true, false, ◌&&◌, nat_lt, Option, Some, None, List, [], ◌∷◌, ◌++◌, length, position, slice_get}
+use Rattle.std.specs.List.{list_any}
 use Rattle.std.specs.Str.{bytes_eq}
 use Rattle.irtext_base.specs.declared.location.Source.{Source}
 use Rattle.irtext_base.specs.declared.location.Source.TheVariants.{File, InMemory}
-use Rattle.irtext_base.specs.Locations.{LocationOf, LocationView, location_view, sourced, src_pos, fused, named, call_site, unknown, LocationViews, no_location, location}
+use Rattle.irtext_base.specs.Locations.{LocationOf, LocationView, sourced, src_pos, fused, named, call_site, unknown, LocationViews, no_location, location}
 
 -- the index of a path that was found, or else the next one
 abbrev pub index_or_next : Option ℕ → List (List ℕ) → ℕ
@@ -22,6 +23,10 @@ path_index paths path = index_or_next (position (bytes_eq path) paths) paths
 -- the paths once one more is kept: equal ones are kept once, and a new one is the last
 abbrev pub with_path : List (List ℕ) → List ℕ → List (List ℕ)
 with_path paths path = found_or_last (position (bytes_eq path) paths) paths path
+
+-- a path that a context may refuse to keep: it is not kept yet, or its index takes more than 32 bits
+abbrev pub MayBeRefused : List (List ℕ) → List ℕ → Type 0
+MayBeRefused paths path = (list_any (bytes_eq path) paths ≡ false) ⊎ (2 ^ 32 ≤ path_index paths path)
 
 -- the path of a source, where it is a file whose path is kept
 abbrev pub path_of : List (List ℕ) → Source → Option (List ℕ)

@@ -1,5 +1,5 @@
 -- What the hash of a location feeds a hasher: the same for the same location in any context, whatever the keys of its paths.
-use Rattle.std.specs.Prelude.{ℕ, zero, suc, Option, Some, None, List, [], ◌∷◌, ◌++◌, pos, slice_get}
+use Rattle.std.specs.Prelude.{ℕ, zero, suc, Option, Some, None, List, [], ◌++◌, pos, slice_get}
 use Rattle.std.specs.Hash as fed
 use Rattle.std.specs.Hash.{HashWrites}
 use Rattle.irtext_base.specs.declared.location.Source.{Source}

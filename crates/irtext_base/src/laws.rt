@@ -1,7 +1,18 @@
 //! What the definitions say, in other words. Each function does nothing: its contract is the statement.
-ghost use Rattle.std.specs.Prelude.{◌≡◌, ◌↔◌, true, List};
+ghost use Rattle.std.specs.Prelude.{◌≡◌, ◌↔◌, ℕ, true, List, IsTrue, length};
 ghost use Rattle.irtext_base.specs.Conditions.{C1, C2, C3, C4, C5, C6, C7, C8};
 ghost use Rattle.irtext_base.specs.Format.{Directive, c1, c2, c3, c4, c5, c6, c7, c8};
+ghost use Rattle.irtext_base.specs.Locations.{LocationView, attr_view, location_view};
+ghost use Rattle.irtext_base.specs.Paths.{path_of, is_known, are_known, written_with};
+ghost use Rattle.irtext_base.specs.StableHash.{source_writes, location_writes};
+ghost use Rattle.irtext_base.specs.declared.base.attributes.AttrObj.{AttrObj};
+ghost use Rattle.irtext_base.specs.declared.location.Location.{Location};
+ghost use Rattle.irtext_base.specs.declared.location.Source.{Source};
+
+use crate::base::AttrObj;
+use crate::location::{Location, Source};
+use crate::text::AttrText;
+use std::hash::Hash;
 
 /// Each condition on formats is met exactly where what it says of places, keys and characters holds.
 pub fn conditions_on_formats()
@@ -13,4 +24,23 @@ pub fn conditions_on_formats()
     ensures attributes { (ds : List Directive) → (c6 ds ≡ true) ↔ C6 ds }
     ensures order { (ds : List Directive) → (c7 ds ≡ true) ↔ C7 ds }
     ensures lists { (ds : List Directive) → (c8 ds ≡ true) ↔ C8 ds }
+{}
+
+/// Attributes and locations are equal exactly where definitions see the same of them.
+pub fn equal_where_alike<A: AttrText>()
+    ensures attributes { (x y : AttrObj A) → (⟦<AttrObj<A> as PartialEq>⟧.eq x y ≡ true) ↔ (attr_view x ≡ attr_view y) }
+    ensures locations { (k l : Location A) → (⟦<Location<A> as PartialEq>⟧.eq k l ≡ true) ↔ (location_view k ≡ location_view l) }
+{}
+
+/// What is equal feeds a hasher alike.
+pub fn equal_ones_hash_alike<A: AttrText>()
+    ensures sources { (s t : Source) → ⟦<Source as PartialEq>⟧.eq s t ≡ true → ⟦<Source as Hash>⟧.hash_input s ≡ ⟦<Source as Hash>⟧.hash_input t }
+    ensures attributes { (x y : AttrObj A) → ⟦<AttrObj<A> as PartialEq>⟧.eq x y ≡ true → ⟦<AttrObj<A> as Hash>⟧.hash_input x ≡ ⟦<AttrObj<A> as Hash>⟧.hash_input y }
+    ensures locations { (k l : Location A) → ⟦<Location<A> as PartialEq>⟧.eq k l ≡ true → ⟦<Location<A> as Hash>⟧.hash_input k ≡ ⟦<Location<A> as Hash>⟧.hash_input l }
+{}
+
+/// The hash of a source or a location that is made from the texts of paths is the same in any two contexts that keep their paths.
+pub fn stable_hashes_agree<A: AttrText>()
+    ensures sources { (paths others : List (List ℕ)) (s t : Source) → IsTrue (is_known (length paths) s) → IsTrue (is_known (length others) t) → path_of paths s ≡ path_of others t → source_writes paths s ≡ source_writes others t }
+    ensures locations { (paths others : List (List ℕ)) (k l : LocationView A) → IsTrue (are_known (length paths) k) → IsTrue (are_known (length others) l) → written_with paths k ≡ written_with others l → location_writes A.hash_input paths k ≡ location_writes A.hash_input others l }
 {}

@@ -7,6 +7,7 @@ mod copy;
 mod erase;
 mod hash;
 mod into_context;
+mod made;
 mod paths;
 pub mod sources;
 

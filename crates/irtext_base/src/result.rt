@@ -24,10 +24,12 @@ pub enum ErrorKind {
 }
 
 /// What must stand where something else stands.
-#[derive(Clone, Copy, Debug, Drop)]
+#[derive(Debug, Drop)]
 pub enum Expected {
     /// This fixed text.
     Text(&'static str),
+    /// This text of a format.
+    Literal(String),
     /// This character.
     Char(char),
     Identifier,
@@ -174,6 +176,7 @@ impl Display for Expected {
     fn fmt<W: fmt::Write>(&self, f: &mut fmt::Formatter<W>) -> fmt::Result {
         match self {
             Expected::Text(text) => write!(f, "`{text}`"),
+            Expected::Literal(text) => write!(f, "`{text}`"),
             Expected::Char(c) => write!(f, "`{c}`"),
             Expected::Identifier => write!(f, "identifier"),
             Expected::Digit => write!(f, "digit"),

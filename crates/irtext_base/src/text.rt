@@ -1,22 +1,24 @@
 //! The law of the caller's types and attributes: how their texts are read and written.
-ghost use Rattle.std.specs.Prelude.{◌≡◌, ℕ, List, ◌++◌, Bool, MatchResult, IfOk, string_bytes};
+ghost use Rattle.std.specs.Prelude.{◌≡◌, ℕ, List, ◌++◌, ◌↔◌, Bool, IsTrue, MatchResult, IfOk, string_bytes};
 ghost use Rattle.std.specs.Str.{encode_utf8_all};
 ghost use Rattle.irtext_base.specs.Answers.{Outcome, Answers, unless_failed};
-ghost use Rattle.irtext_base.specs.Own.{Lawful, Unreserved, texts_of};
+ghost use Rattle.irtext_base.specs.Own.{Lawful, Sincere, Unreserved, texts_of};
 
 use crate::parsable::{ParseResult, TextStream};
 use std::alloc::AllocError;
 use std::fmt;
 use std::hash::Hash;
 
-/// A type or an attribute of the caller, with its texts.
+/// A type or an attribute of the caller, with its texts. Each impl proves the law of these: how a text begins and that it is read
+/// back (`lawful`), that what is said of a text is of that text (`sincere`), and that equality is equality of values (`decides`).
 pub trait IrText<A>: Sized + Drop + Eq {
     // what a text is to `read`, from where the stream stands
     ghost reading: { List ℕ → Outcome Self };
     // the characters that `write_text` appends
     ghost written: { Self → List ℕ };
 
-    /// Reads a value where the stream stands.
+    /// Reads a value where the stream stands. Where none begins, the fault is uncommitted and the stream is as it was; a text that is
+    /// bad further on, want of memory and a stream that had failed are committed faults, and the stream has failed.
     fn read(stream: &mut TextStream) -> ParseResult<Self, A>
         ensures { Answers (λ s. s) (λ s v. v) (λ x. x) (unless_failed stream.old.failed (reading stream.old.rest)) stream.old result stream.new };
 
@@ -25,6 +27,10 @@ pub trait IrText<A>: Sized + Drop + Eq {
         ensures { IfOk result (λ _. string_bytes f.new ≡ string_bytes f.old ++ encode_utf8_all (written self.now)) };
 
     ghost lawful: { Lawful Self (texts_of reading written) };
+
+    ghost sincere: { Sincere reading };
+
+    ghost decides: { (x y : Self) → IsTrue (Self.eq x y) ↔ (x ≡ y) };
 }
 
 /// An attribute of the caller.

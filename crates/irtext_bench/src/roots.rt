@@ -1,5 +1,6 @@
 //! Roots in a row: read from one stream, and printed.
 
+use irtext_types::dialects::register_demo;
 use irtext_types::{DemoAttr, DemoType};
 use pliron_text::base::{Context, Operation, Ptr};
 use pliron_text::ir::OperationText;
@@ -51,6 +52,9 @@ fn print_roots(
 /// Reads all roots and prints them so many times. It tells how many roots and bytes there were.
 pub fn roots(alloc: Global, text: &str, times: usize) -> Result<String, AllocError> {
     let mut ctx = Context::new(alloc);
+    if register_demo(&mut ctx).is_err() {
+        return Err(AllocError);
+    }
     let roots = read_roots(alloc, text, &mut ctx)?;
     let mut printed = String::new(alloc);
     for _ in 0..times {

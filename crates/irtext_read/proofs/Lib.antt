@@ -15,3 +15,4 @@ pub mod ItemsMet
 pub mod SeparatedMet
 pub mod ListOutcomes
 pub mod Attributes
+pub mod SincereTokens

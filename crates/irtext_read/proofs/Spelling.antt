@@ -4,16 +4,12 @@ use Rattle.irtext_base.specs.Text.{Text, begins}
 use Rattle.irtext_base.specs.Reading.{the}
 use Rattle.irtext_base.specs.Stream.{StreamView, first_of, advanced, advanced_by, behind}
 use Rattle.irtext_base.specs.Faults.{Unexpected, Word}
-use Rattle.irtext_base.specs.Answers.{Outcome, Read, Missing, Bad, Takes, Passes, Starves, Demands, Answers, Gives, Refuses, demanded, prefixed}
+use Rattle.irtext_base.specs.Answers.{Outcome, Read, Missing, Bad, Takes, Passes, Starves, Gives, Refuses, prefixed}
 use Rattle.irtext_base.specs.declared.parsable.fault.ParseFault.{ParseFault}
-use Rattle.irtext_base.proofs.Compose.{answers_after, answers_demanded, seen_after, takes_more}
+use Rattle.irtext_base.proofs.Compose.{answers_after, starves_after, seen_after, takes_more}
 use Rattle.std.proofs.lemmas.Bool.Decides.{nat_tests}
+use Rattle.irtext_read.specs.Spelled.{begun_by, Spelling, Differs, Misses}
 use Rattle.irtext_read.specs.Tokens.{spelled_at, text_at}
-
--- what is left of the word decides, from before the characters taken
-abbrev pub begun_by : {X : Type 0} → Bool → Text → Outcome X → Outcome X
-begun_by false taken o = o
-begun_by true taken o = prefixed taken o
 
 -- two fronts of an outcome are one
 pub prefixed-prefixed : {X : Type 0} (t u : Text) (o : Outcome X) → prefixed t (prefixed u o) ≡ prefixed (t ++ u) o
@@ -39,12 +35,6 @@ the-same : (c : ℕ) → the c c ≡ true
 the-same c = grind (arith, nat_tests)
 
 module _ {S : Type 0} (view : S → StreamView) (at : S → StreamView → S) where
-  -- the characters taken are the word's up to what is left of it
-  pub record Spelling (word : Text) (old now : S) (begun : Bool) (taken left : Text) : Type 0 where
-    pub takes : Takes view at taken (view now).rest old now
-    pub untaken : begun ≡ false → taken ≡ []
-    pub so_far : text_at word (view old).rest ≡ begun_by begun taken (spelled_at word left (view now).rest)
-
   module _ (view_at : (s : S) (v : StreamView) → view (at s v) ≡ v) (at_view : (s : S) → at s (view s) ≡ s) (at_at : (s : S) (v w : StreamView) → at (at s v) w ≡ at s w) where
     -- no character is taken yet
     pub takes_none : (s : S) → Takes view at [] (view s).rest s s
@@ -61,14 +51,14 @@ module _ {S : Type 0} (view : S → StreamView) (at : S → StreamView → S) wh
     takes_next now next c rest e n =
         record { is = n ∙ ap (λ z. at now (advanced_by (view now).passed z (view now).failed)) e; same = sym e }
 
-    pub spelling_start : (word : Text) (old : S) → Spelling word old old false [] word
+    pub spelling_start : (word : Text) (old : S) → Spelling view at word old old false [] word
     spelling_start word old = record { takes = takes_none old; untaken = λ e. refl; so_far = refl }
 
     begun_more : {X : Type 0} (begun : Bool) (taken : Text) (c : ℕ) (o : Outcome X) → (begun ≡ false → taken ≡ []) → begun_by begun taken (prefixed (c ∷ []) o) ≡ prefixed (taken ++ (c ∷ [])) o
     begun_more true taken c o u = prefixed-prefixed taken (c ∷ []) o
     begun_more false taken c o u = ap (λ z. prefixed (z ++ (c ∷ [])) o) (sym (u refl))
 
-    pub spelling_more : (word : Text) (old now next : S) (begun : Bool) (taken left : Text) (c : ℕ) → Spelling word old now begun taken (c ∷ left) → begins (the c) (view now).rest ≡ true → next ≡ at now (advanced (view now)) → Spelling word old next true (taken ++ (c ∷ [])) left
+    pub spelling_more : (word : Text) (old now next : S) (begun : Bool) (taken left : Text) (c : ℕ) → Spelling view at word old now begun taken (c ∷ left) → begins (the c) (view now).rest ≡ true → next ≡ at now (advanced (view now)) → Spelling view at word old next true (taken ++ (c ∷ [])) left
     spelling_more word old now next begun taken left c s e n =
         let f = begins_the c (view now).rest e in
         let k = takes_next now next c f.0 f.1 n in
@@ -83,22 +73,22 @@ module _ {S : Type 0} (view : S → StreamView) (at : S → StreamView → S) wh
         }
 
     -- all of the word was read
-    pub spelling_all : (word : Text) (old now : S) (begun : Bool) (taken : Text) → Spelling word old now begun taken [] → Gives view at (text_at word (view old).rest) old tt now
+    pub spelling_all : (word : Text) (old now : S) (begun : Bool) (taken : Text) → Spelling view at word old now begun taken [] → Gives view at (text_at word (view old).rest) old tt now
     spelling_all word old now true taken s = rw s.so_far (refl, rw (append-nil taken) s.takes)
     spelling_all word old now false taken s = rw s.so_far (refl, rw (sym (s.untaken refl)) s.takes)
 
     module _ {A : Type 0} where
-      -- the first character of the word doesn't come
-      pub spelling_misses : (word : Text) (old now : S) (taken left : Text) (c : ℕ) (fault : ParseFault A) → Spelling word old now false taken (c ∷ left) → begins (the c) (view now).rest ≡ false → Passes view at (Unexpected (first_of (view now).rest) (Word word)) now fault now → Refuses view at (text_at word (view old).rest) old fault now
-      spelling_misses word old now taken left c fault s e p =
-          let q : text_at word (view old).rest ≡ Missing (Unexpected (first_of (view now).rest) (Word word)) = s.so_far ∙ spelled-misses word left (view now).rest c e in
-          let n : now ≡ old = takes_none_is old now (view now).rest (subst (λ z. Takes view at z (view now).rest old now) (s.untaken refl) s.takes) in
-          rw q (subst (λ z. Passes view at (Unexpected (first_of (view now).rest) (Word word)) z fault now) n p)
-
-      -- a later character of the word doesn't come
-      pub spelling_differs : (word : Text) (old now new : S) (taken left : Text) (c : ℕ) (fault last : ParseFault A) → Spelling word old now true taken (c ∷ left) → begins (the c) (view now).rest ≡ false → Passes view at (Unexpected (first_of (view now).rest) (Word word)) now fault now → Demands view at fault now last new → Starves view at old last new ⊎ Refuses view at (text_at word (view old).rest) old last new
-      spelling_differs word old now new taken left c fault last s e p d =
+      -- the next character of the word doesn't come
+      pub spelling_refused : (word : Text) (old now new : S) (begun : Bool) (fault : ParseFault A) → Differs view at word old begun now → Misses view at begun (Unexpected (first_of (view now).rest) (Word word)) now fault new → Starves view at old fault new ⊎ Refuses view at (text_at word (view old).rest) old fault new
+      spelling_refused word old now new true fault h m =
           let o : Outcome Unit = Missing (Unexpected (first_of (view now).rest) (Word word)) in
-          let q : text_at word (view old).rest ≡ prefixed taken o = s.so_far ∙ ap (prefixed taken) (spelled-misses word left (view now).rest c e) in
-          let a : Answers view at (λ u. u) (demanded o) now (Err last) new = answers_demanded view at view_at at_at (λ u. u) o now now new (Err fault) (Err last) (inr p) (last, refl, d) in
-          rw q (answers_after view at view_at at_at (λ u. u) o old now new taken (view now).rest (Err last) s.takes a)
+          let q : text_at word (view old).rest ≡ prefixed h.taken o = h.spelling.so_far ∙ ap (prefixed h.taken) (spelled-misses word h.left (view now).rest h.next h.other) in
+          rw q (answers_after view at view_at at_at (λ u. u) o old now new h.taken (view now).rest (Err fault) h.spelling.takes (inr m))
+      spelling_refused word old now new false fault h m =
+          let q : text_at word (view old).rest ≡ Missing (Unexpected (first_of (view now).rest) (Word word)) = h.spelling.so_far ∙ spelled-misses word h.left (view now).rest h.next h.other in
+          let n : now ≡ old = takes_none_is old now (view now).rest (subst (λ z. Takes view at z (view now).rest old now) (h.spelling.untaken refl) h.spelling.takes) in
+          rw q (inr (subst (λ z. Passes view at (Unexpected (first_of (view now).rest) (Word word)) z fault new) n m))
+
+      -- memory is refused behind the characters taken
+      pub spelling_starved : (word : Text) (old now new : S) (begun : Bool) (fault : ParseFault A) → Differs view at word old begun now → Starves view at now fault new → Starves view at old fault new
+      spelling_starved word old now new begun fault h s = starves_after view at view_at at_at old now new h.taken (view now).rest fault h.spelling.takes s

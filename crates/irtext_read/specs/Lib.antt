@@ -1,4 +1,5 @@
 pub mod Tokens
+pub mod Spelled
 pub mod QuotedTexts
 pub mod States
 pub mod FromText

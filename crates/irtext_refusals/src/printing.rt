@@ -1,6 +1,7 @@
 //! Printing a root where a request for memory is refused: the first printing fails, and a second one writes the text.
 
 use crate::Fault;
+use irtext_types::dialects::register_demo;
 use irtext_types::{DemoAttr, DemoType};
 use pliron_text::base::{Context, Operation};
 use pliron_text::ir::OperationText;
@@ -25,6 +26,13 @@ pub(crate) fn is_memory(cause: &Cause<DemoAttr>) -> bool {
 /// The text of the root that stands in the text. It is printed twice; where the first printing is refused the second has to write it.
 pub fn displayed(alloc: Global, text: &str) -> Result<String, Fault> {
     let mut ctx: Context<DemoType, DemoAttr> = Context::new(alloc);
+    if let Err(error) = register_demo(&mut ctx) {
+        return Err(if is_memory(&error.err) {
+            Fault::Memory
+        } else {
+            Fault::Wrong
+        });
+    }
     let root = match parse_from_str(|stream| Operation::top_level_parse(stream), &mut ctx, text) {
         Ok(root) => root,
         Err(error) if is_memory(&error.err) => return Err(Fault::Memory),

@@ -1,8 +1,4 @@
 pub mod Steps
-pub mod TypeTexts
-pub mod IntegerTexts
 pub mod IntegersFit
 pub mod Quoted
 pub mod ListSteps
-pub mod FunctionTexts
-pub mod Sincere

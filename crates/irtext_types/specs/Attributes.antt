@@ -6,6 +6,7 @@ use Rattle.irtext_base.specs.Faults.{AnAttribute}
 use Rattle.irtext_base.specs.Quoted.{quoted}
 use Rattle.irtext_base.specs.Answers.{Outcome, mapped, followed}
 use Rattle.irtext_read.specs.QuotedTexts.{quoted_at}
+use Rattle.irtext_types.specs.ScalarTexts.{ScalarText, scalar_text}
 use Rattle.irtext_types.specs.Words.{dotted_at, behind_space}
 use Rattle.irtext_types.specs.FunctionAttributes.{function_text, function_at}
 use Rattle.irtext_types.specs.IntegerAttributes.{integer_attr_text, integer_attr_at}
@@ -22,16 +23,20 @@ attr_word text = cond (bytes_eq text (codes "builtin.integer")) (Some word.Integ
 -- the text that is written of an attribute
 abbrev pub attr_text : DemoAttr → Text
 attr_text (attr.Integer a) = codes "builtin.integer " ++ integer_attr_text a
-attr_text (attr.String text) = codes "builtin.string " ++ quoted text
+attr_text (attr.String text) = codes "builtin.string " ++ quoted text.characters
 attr_text (attr.Function a) = codes "builtin.function " ++ function_text a
-attr_text (attr.Debug text) = codes "test.dbg " ++ quoted text
+attr_text (attr.Debug text) = codes "test.dbg " ++ quoted text.characters
+
+-- a quoted text, as an attribute holds it
+abbrev pub characters_at : Text → Outcome ScalarText
+characters_at text = mapped scalar_text (quoted_at text)
 
 -- what stands behind the word of an attribute
 abbrev pub attr_behind : AttrWord → Text → Outcome DemoAttr
 attr_behind word.Integer text = mapped attr.Integer (integer_attr_at text)
-attr_behind word.String text = mapped attr.String (behind_space quoted_at text)
+attr_behind word.String text = mapped attr.String (behind_space characters_at text)
 attr_behind word.Function text = mapped attr.Function (function_at text)
-attr_behind word.Debug text = mapped attr.Debug (behind_space quoted_at text)
+attr_behind word.Debug text = mapped attr.Debug (behind_space characters_at text)
 
 -- an attribute's word, and what stands behind it
 abbrev pub attr_at : Text → Outcome DemoAttr

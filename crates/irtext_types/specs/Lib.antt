@@ -2,6 +2,7 @@ pub mod Widths
 pub mod WidthOf
 pub mod WidthLaws
 pub mod Words
+pub mod ScalarTexts
 pub mod IntegerTypes
 pub mod Types
 pub mod TypesBack
@@ -15,3 +16,11 @@ pub mod FunctionAttributes
 pub mod FunctionsBack
 pub mod Attributes
 pub mod AttributeLaws
+pub mod TypeTexts
+pub mod IntegerTexts
+pub mod FunctionTexts
+pub mod SincereTypes
+pub mod SincereAttributes
+pub mod EqualTypes
+pub mod EqualAttributes
+pub mod DemoDialects

@@ -3,8 +3,7 @@ ghost use Rattle.std.specs.Prelude.{◌≡◌, ◌++◌, OnOk, codes, string_byt
 ghost use Rattle.std.specs.Str.{encode_utf8_all};
 ghost use Rattle.irtext_base.specs.Answers.{Answers, unless_failed};
 ghost use Rattle.irtext_base.specs.Quoted.{quoted};
-ghost use Rattle.irtext_read.specs.QuotedTexts.{quoted_at};
-ghost use Rattle.irtext_types.specs.Attributes.{attr_behind};
+ghost use Rattle.irtext_types.specs.Attributes.{attr_behind, characters_at};
 ghost use Rattle.irtext_types.specs.IntegerAttributes.{integer_attr_text};
 ghost use Rattle.irtext_types.specs.Words.{behind_space};
 
@@ -76,7 +75,7 @@ impl DottedWord for AttrWord {
 
 /// Reads a quoted text.
 fn characters_parse<A>(stream: &mut TextStream) -> ParseResult<Characters, A>
-    ensures { Answers (λ s. s) (λ s v. v) (λ c. c) (unless_failed stream.old.failed (quoted_at stream.old.rest)) stream.old result stream.new }
+    ensures { Answers (λ s. s) (λ s v. v) (λ c. c) (unless_failed stream.old.failed (characters_at stream.old.rest)) stream.old result stream.new }
 {
     match quoted_string_parse(stream) {
         Ok(text) => Ok(Characters::new(text)),
@@ -86,7 +85,7 @@ fn characters_parse<A>(stream: &mut TextStream) -> ParseResult<Characters, A>
 
 /// Reads a quoted text behind white space, where it must stand.
 fn characters_behind<A>(stream: &mut TextStream) -> ParseResult<Characters, A>
-    ensures { Answers (λ s. s) (λ s v. v) (λ c. c) (unless_failed stream.old.failed (behind_space quoted_at stream.old.rest)) stream.old result stream.new }
+    ensures { Answers (λ s. s) (λ s v. v) (λ c. c) (unless_failed stream.old.failed (behind_space characters_at stream.old.rest)) stream.old result stream.new }
 {
     if stream.has_failed() {
         return Err(refuse(stream, Cause::StreamFailed));
@@ -122,7 +121,7 @@ fn attr_parse<A>(stream: &mut TextStream, word: AttrWord) -> ParseResult<DemoAtt
 
 /// Appends a word and a quoted text.
 fn write_quoted(word: &str, text: &Characters, f: &mut String) -> fmt::Result
-    ensures { OnOk result (string_bytes f.new ≡ string_bytes f.old ++ (word.now ++ encode_utf8_all (quoted text.now))) }
+    ensures { OnOk result (string_bytes f.new ≡ string_bytes f.old ++ (word.now ++ encode_utf8_all (quoted text.now.characters))) }
 {
     f.push_str(word)?;
     fmt_quoted(text.as_str(), f)?;
@@ -140,12 +139,18 @@ fn write_integer(attr: &IntegerAttr, f: &mut String) -> fmt::Result
 impl IrText<DemoAttr> for DemoAttr {
     ghost use Rattle.irtext_types.specs.Attributes.{attr_at, attr_text};
     ghost use Rattle.irtext_types.specs.AttributeLaws.{attr_lawful};
+    ghost use Rattle.irtext_types.specs.EqualAttributes.{attr_decides};
+    ghost use Rattle.irtext_types.specs.SincereAttributes.{attr_sincere};
 
     ghost reading = { attr_at };
 
     ghost written = { attr_text };
 
     ghost lawful = { attr_lawful };
+
+    ghost sincere = { attr_sincere };
+
+    ghost decides = { attr_decides };
 
     fn read(stream: &mut TextStream) -> ParseResult<DemoAttr, DemoAttr> {
         match dotted_parse(stream, "Unregistered attribute ", Expected::Attribute) {

@@ -19,29 +19,29 @@ pub struct Characters {
 }
 
 impl Model for Characters {
-    ghost use Rattle.std.specs.Prelude.{ℕ, List, string_bytes};
-    ghost use Rattle.std.specs.Coded.{coded_list, coded_ℕ};
+    ghost use Rattle.std.specs.Prelude.{string_bytes};
     ghost use Rattle.std.specs.Str.{chars};
+    ghost use Rattle.irtext_types.specs.ScalarTexts.{ScalarText, scalar_text, scalar_text_code};
 
-    ghost Value = { List ℕ };
+    ghost Value = { ScalarText };
 
-    ghost coded = { coded_list coded_ℕ };
+    ghost coded = { scalar_text_code };
 
-    ghost view = { λ c. chars (string_bytes c.text) };
+    ghost view = { λ c. scalar_text (chars (string_bytes c.text)) };
 }
 
 impl Characters {
     /// The characters of a text, which is kept.
     pub fn new(text: String) -> Characters
-        ensures { result ≡ chars (string_bytes text) }
+        ensures { result.characters ≡ chars (string_bytes text) }
     {
         Characters { text }
     }
 
     /// The text.
     pub fn as_str(&self) -> &str
-        ensures characters { chars result.now ≡ self.now }
-        ensures bytes { result.now ≡ encode_utf8_all self.now }
+        ensures characters { chars result.now ≡ self.now.characters }
+        ensures bytes { result.now ≡ encode_utf8_all self.now.characters }
     {
         self.text.as_str()
     }
@@ -62,9 +62,9 @@ impl fmt::Debug for Characters {
 }
 
 impl PartialEq for Characters {
-    ghost eq = { λ x y. bytes_eq (encode_utf8_all x) (encode_utf8_all y) };
+    ghost eq = { λ x y. bytes_eq (encode_utf8_all x.characters) (encode_utf8_all y.characters) };
 
-    ghost laws = { on_per encode_utf8_all (partial_equiv_from_equiv nat_list_eq_equiv) };
+    ghost laws = { on_per (λ s. encode_utf8_all s.characters) (partial_equiv_from_equiv nat_list_eq_equiv) };
 
     fn eq(&self, other: &Self) -> bool {
         self.as_str() == other.as_str()
@@ -72,11 +72,11 @@ impl PartialEq for Characters {
 }
 
 impl Eq for Characters {
-    ghost laws = { on_equiv encode_utf8_all nat_list_eq_equiv };
+    ghost laws = { on_equiv (λ s. encode_utf8_all s.characters) nat_list_eq_equiv };
 }
 
 impl Hash for Characters {
-    ghost hash_input = { λ s. fed.str (encode_utf8_all s) };
+    ghost hash_input = { λ s. fed.str (encode_utf8_all s.characters) };
 
     ghost respects_eq = { Prim.search (hashing, rules) };
 

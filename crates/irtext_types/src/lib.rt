@@ -3,8 +3,8 @@
 
 pub mod attributes;
 pub mod characters;
+pub mod dialects;
 pub mod integer_type;
-pub mod laws;
 pub mod type_list;
 pub mod type_list_text;
 pub mod types;

@@ -1,5 +1,5 @@
 //! Lists of demo types.
-ghost use Rattle.std.specs.Prelude.{◌≡◌, ◌++◌, ◌∷◌, [], IfOk};
+ghost use Rattle.std.specs.Prelude.{◌≡◌, ◌++◌, ◌∷◌, [], IfOk, OnOk, OnErr};
 ghost use Rattle.std.specs.Cmp.{on_equiv, on_per};
 ghost use Rattle.std.specs.Cmp.Lexicographic.{pointwise, lists_equiv, lists_per};
 ghost use Rattle.std.specs.Hash as fed;
@@ -38,9 +38,10 @@ impl TypeList {
         }
     }
 
-    /// Adds a type behind the others. Only memory can be refused.
+    /// Adds a type behind the others. Only memory can be refused, and the list is then as it was.
     pub fn push(&mut self, ty: DemoType) -> Result<(), AllocError>
-        ensures { IfOk result (λ _. self.new ≡ self.old ++ ty ∷ []) }
+        ensures ok { OnOk result (self.new ≡ self.old ++ ty ∷ []) }
+        ensures err { OnErr result (self.new ≡ self.old) }
     {
         self.types.push(ty)?;
         Ok(())

@@ -76,6 +76,8 @@ fn type_parse<A>(stream: &mut TextStream, word: TypeWord) -> ParseResult<DemoTyp
 
 impl<A> IrText<A> for DemoType {
     ghost use Rattle.irtext_types.specs.Types.{type_at, type_text};
+    ghost use Rattle.irtext_types.specs.EqualTypes.{type_decides};
+    ghost use Rattle.irtext_types.specs.SincereTypes.{type_sincere};
     ghost use Rattle.irtext_types.specs.TypeLaws.{type_lawful};
 
     ghost reading = { type_at };
@@ -83,6 +85,10 @@ impl<A> IrText<A> for DemoType {
     ghost written = { type_text };
 
     ghost lawful = { type_lawful };
+
+    ghost sincere = { type_sincere };
+
+    ghost decides = { type_decides };
 
     fn read(stream: &mut TextStream) -> ParseResult<DemoType, A> {
         match dotted_parse(stream, "Unregistered type ", Expected::Type) {

@@ -44,6 +44,7 @@ const CAUSES: &[&str] = &[
     "Invalid unicode escape \\u{110000}",
     "110000",
     "110000",
+    "Unexpected end of input, expected `110000`",
     "Unregistered Op test.z",
     "Operation test.z is not of dialect builtin",
     "Parse error at line: 1, column: 1\nCompilation error: invalid argument.\nOut of memory\n",
@@ -111,14 +112,18 @@ fn with_text(number: usize, text: String) -> Cause<DemoAttr> {
         28 => Cause::NumberRange(text),
         29 => Cause::BadUnicodeEscape(text),
         30 => Cause::OwnText(text),
-        _ => Cause::Text(StringError(text)),
+        31 => Cause::Text(StringError(text)),
+        _ => Cause::Unexpected {
+            found: None,
+            expected: Expected::Literal(text),
+        },
     }
 }
 
 /// A cause with this operation's id.
 fn with_id(number: usize, id: OpId, dialect: Identifier) -> Cause<DemoAttr> {
     match number {
-        32 => Cause::UnregisteredOp(id),
+        33 => Cause::UnregisteredOp(id),
         _ => Cause::WrongDialect { id, dialect },
     }
 }
@@ -146,8 +151,8 @@ fn cause(alloc: Global, number: usize) -> Result<Cause<DemoAttr>, Fail> {
     match number {
         0..=22 => Ok(plain(number)),
         23..=27 => Ok(with_name(number, named(alloc, "x")?)),
-        28..=31 => Ok(with_text(number, String::from_str(alloc, "110000")?)),
-        32..=33 => of_operation(alloc, number),
+        28..=32 => Ok(with_text(number, String::from_str(alloc, "110000")?)),
+        33..=34 => of_operation(alloc, number),
         _ => nested(alloc),
     }
 }

@@ -1,6 +1,6 @@
 //! The texts of a root: whole, concrete, without its regions, for those who debug, and with its location in a file.
-use crate::helpers::{Ctx, root};
-use pliron_text::base::{Context, Operation, Ptr};
+use crate::helpers::{Ctx, demo, root};
+use pliron_text::base::{Operation, Ptr};
 use pliron_text::ir::{OpDbg, OperationText, print_dbg};
 use pliron_text::location::{Location, Source};
 use pliron_text::parsable::SourcePosition;
@@ -92,7 +92,7 @@ fn differing(alloc: Global, ctx: &mut Ctx) -> Result<Option<usize>, Fail> {
 
 /// The same with a context of its own.
 fn first_differing(alloc: Global) -> Result<Option<usize>, Fail> {
-    let mut ctx: Ctx = Context::new(alloc);
+    let mut ctx = demo(alloc)?;
     differing(alloc, &mut ctx)
 }
 

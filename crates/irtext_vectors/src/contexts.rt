@@ -92,7 +92,8 @@ fn get(alloc: Global, dictionary: &AttributeDict<DemoAttr>) -> Result<String, Fa
 /// Whether `k` stands at place 1.
 fn at_one(alloc: Global, dictionary: &AttributeDict<DemoAttr>) -> Result<bool, Fail> {
     let key = named(alloc, "k")?;
-    Ok(matches!(dictionary.get_index(1), Some((name, _)) if *name == key))
+    let there = dictionary.get_str("k").is_some();
+    Ok(there && matches!(dictionary.get_index(1), Some((name, _)) if *name == key))
 }
 
 /// Whether the dictionary has two pairs.

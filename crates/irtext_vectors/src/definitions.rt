@@ -1,6 +1,6 @@
 //! What the definitions say of worked texts, trees, graphs and formats. Each function does nothing: its contract is a row that
 //! is computed.
-ghost use Rattle.std.specs.Prelude.{◌≡◌, ◌==◌, ℕ, List, [], ◌∷◌, ◌++◌, codes, length, pos, Some, None, true};
+ghost use Rattle.std.specs.Prelude.{◌≡◌, ◌==◌, ℕ, List, [], ◌∷◌, ◌++◌, codes, length, pos, Some, None, true, false};
 ghost use Rattle.irtext_base.specs.Answers.{Bad, Read};
 ghost use Rattle.irtext_base.specs.Faults.{Unexpected, Word};
 ghost use Rattle.irtext_base.specs.Faults as fault;
@@ -23,8 +23,8 @@ ghost use Rattle.pliron_text.specs.Closed.{Closed, Fit};
 ghost use Rattle.pliron_text.specs.Fillable.{GraphKeepsKeys};
 ghost use Rattle.pliron_text.specs.Graph.{written};
 ghost use Rattle.pliron_text.specs.Links.{Linked, links};
-ghost use Rattle.pliron_text.specs.ModuleText.{module_at, module_with};
-ghost use Rattle.pliron_text.specs.Modules.{module_id};
+ghost use Rattle.pliron_text.specs.OperationText.{led_id_at};
+ghost use Rattle.pliron_text.specs.Pieces.{body_at};
 ghost use Rattle.pliron_text.specs.ReadSection.{of_once};
 ghost use Rattle.pliron_text.specs.Reads.{reads};
 ghost use Rattle.pliron_text.specs.RoundTrip.{GraphHeld};
@@ -35,7 +35,7 @@ ghost use Rattle.pliron_text.specs.Section.{text};
 ghost use Rattle.pliron_text.specs.SectionText.{entry_at};
 ghost use Rattle.pliron_text.specs.Spell.{spelled};
 ghost use Rattle.pliron_text.specs.TopLevel.{location_of};
-ghost use Rattle.pliron_text.specs.Tree.{Tree, own};
+ghost use Rattle.pliron_text.specs.Tree.{Tree, ident, own};
 ghost use Rattle.pliron_text.specs.Wordy.{Wordy};
 ghost use Rattle.pliron_text.specs.WrittenSection.{SmallSection};
 
@@ -194,10 +194,14 @@ pub fn lines_and_columns()
     ensures second_line { (line_behind (codes "ab\nc") ≡ 2) × (column_behind (codes "ab\nc") ≡ 2) }
 {}
 
-/// A module reads whole; without its brace it is bad behind its last character; an entry of another index is unknown where it begins.
+/// What a module's format reads behind its id: whole; without the brace bad behind the last character; where it isn't isolated bad
+/// at the region. An id of an unknown dialect is bad where it begins, and an entry of another index is unknown where it begins.
 pub fn what_readers_answer()
-    ensures module { module_at (codes "builtin.module @m {}") ≡ Read (module_with module_id (codes "m") None) (codes "builtin.module @m {}") [] }
-    ensures open { module_at (codes "builtin.module @m {") ≡ Bad (Unexpected None (Word (codes "}"))) (codes "builtin.module @m {") }
+    ensures module { body_at note_at true (format.custom (format.header ∷ format.region 0 ∷ [])) (codes " @m {}")
+        ≡ Read (record { attributes = (format.sym_name_key, ident (codes "m")) ∷ []; regions = 1 }) (codes " @m {}") [] }
+    ensures open { body_at note_at true (format.custom (format.header ∷ format.region 0 ∷ [])) (codes " @m {") ≡ Bad (Unexpected None (Word (codes "}"))) (codes " @m {") }
+    ensures not_isolated { body_at note_at false (format.custom (format.header ∷ format.region 0 ∷ [])) (codes " @m {}") ≡ Bad fault.NotIsolated (codes " @m ") }
+    ensures no_dialect { led_id_at [] (codes " builtin.module") ≡ Bad (fault.UnregisteredDialect (codes "builtin")) (codes " ") }
     ensures entry { entry_at note_at (λ i. i == 5) (codes "!5 = @[<in-memory>: line: 7, column: 3], []") ≡ Read (5, Some (place None 7 3)) (codes "!5 = @[<in-memory>: line: 7, column: 3], []") [] }
     ensures nested { entry_at note_at (λ i. i == 5) (codes "!5 = @[fused<note>[?]], []") ≡ Read (5, Some (fused (Some (seen.own tt)) (location seen.unknown no_location))) (codes "!5 = @[fused<note>[?]], []") [] }
     ensures unknown { entry_at note_at (λ i. i == 0) (codes "!1 = []") ≡ Bad (fault.UnknownIndex 1) [] }

@@ -65,7 +65,7 @@ fn directive(alloc: Global, letter: char) -> Result<Directive, Fail> {
 }
 
 /// The format with one directive for each character.
-fn format_of(alloc: Global, letters: &str) -> Result<OpFormat, Fail> {
+pub(crate) fn format_of(alloc: Global, letters: &str) -> Result<OpFormat, Fail> {
     let mut directives = Vec::new(alloc);
     for letter in letters.chars() {
         directives.push(directive(alloc, letter)?)?;

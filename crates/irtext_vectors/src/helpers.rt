@@ -3,6 +3,7 @@ use irtext_base::base::Identifier;
 use irtext_base::location::Source;
 use irtext_base::parsable::{ParseFault, ParseResult, TextStream};
 use irtext_base::result::Result as Answer;
+use irtext_types::dialects::register_demo;
 use irtext_types::{DemoAttr, DemoType};
 use pliron_text::base::{Context, Operation, Ptr};
 use pliron_text::ir::OperationText;
@@ -21,6 +22,13 @@ pub(crate) type Stream<'c> = StateStream<'c, DemoType, DemoAttr, ()>;
 pub(crate) fn named(alloc: Global, text: &str) -> Result<Identifier, Fail> {
     let name: Answer<Identifier, DemoAttr> = Identifier::try_new(alloc, text);
     Ok(name.ok().ok_or("no identifier")?)
+}
+
+/// A context with the demo dialects.
+pub(crate) fn demo(alloc: Global) -> Result<Ctx, Fail> {
+    let mut ctx = Context::new(alloc);
+    register_demo(&mut ctx).ok().ok_or("not registered")?;
+    Ok(ctx)
 }
 
 /// What a fault says: where and why, with `!` behind it where it is committed.

@@ -16,6 +16,8 @@ mod demo;
 #[cfg(test)]
 mod dialects;
 #[cfg(test)]
+mod directives;
+#[cfg(test)]
 mod errors;
 #[cfg(test)]
 mod formats;
@@ -34,6 +36,7 @@ mod location_texts;
 mod locations;
 #[cfg(test)]
 mod numbers;
+pub mod plain_roots;
 #[cfg(test)]
 mod printing;
 #[cfg(test)]

@@ -2,7 +2,9 @@
 ghost use Rattle.std.specs.Prelude.{◌≡◌, [], ◌∷◌, ◌++◌, codes, None, Some};
 ghost use Rattle.irtext_base.specs.Answers.{Bad, Missing, Read};
 ghost use Rattle.irtext_base.specs.Faults.{ALocation, Unexpected, Word};
-ghost use Rattle.irtext_base.specs.Locations.{call_site, fused, location, no_location, own, unknown};
+ghost use Rattle.irtext_base.specs.Locations.{all_noted, call_site, fused, location, no_location, own, unknown};
+ghost use Rattle.irtext_base.specs.Moves.{all_kept, all_under};
+ghost use Rattle.irtext_base.specs.declared.location.Source.TheVariants.{File};
 ghost use Rattle.irtext_vectors.specs.LocationRows.{name_alone, nested, note_at, note_text, place, Says, two_as_one};
 ghost use Rattle.pliron_text.specs.LocationReading.{location_at};
 ghost use Rattle.pliron_text.specs.WrittenBack.{AllFit, AllRead};
@@ -33,4 +35,10 @@ pub fn space_in_locations()
 /// A location with metadata that meets every premise of what is read back.
 pub fn premises_of_a_location()
     ensures { AllRead note_at note_text nested × AllFit nested }
+{}
+
+/// A location in a context that keeps one of its two paths: the other comes last, and each file stands under its key there.
+pub fn a_location_in_another_context()
+    ensures paths { all_kept (codes "b" ∷ []) (call_site (place (Some (codes "a")) 1 2) (place (Some (codes "b")) 3 4)) ≡ codes "b" ∷ codes "a" ∷ [] }
+    ensures keys { all_noted [] (all_under (codes "b" ∷ []) (call_site (place (Some (codes "a")) 1 2) (place (Some (codes "b")) 3 4))) ≡ File (record { index = 1 }) ∷ File (record { index = 0 }) ∷ [] }
 {}

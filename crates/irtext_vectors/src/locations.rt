@@ -132,6 +132,18 @@ fn moved(from: &mut Ctx, to: &mut Ctx) -> Result<bool, Fail> {
     Ok(a == b && moved != b && same && place == Some(position))
 }
 
+/// Whether a location moves to another context with the same text, and keeps there only the path that is new.
+fn carried(alloc: Global, from: &mut Ctx, to: &mut Ctx) -> Result<bool, Fail> {
+    let location = fused(alloc, at(file(from, "d")?), at(file(from, "a")?))?;
+    if !from.contains_paths(&location) {
+        return Ok(false);
+    }
+    let moved = location.clone_into_context(from, to);
+    let moved = moved.ok().ok_or("refused")?;
+    let alike = hash_of(to, &moved) == hash_of(from, &location);
+    Ok(alike && moved != location && to.num_paths() == 3)
+}
+
 /// Makes a module with a place.
 fn make(alloc: Global, ctx: &mut Ctx) -> Result<Ptr<Operation>, Fail> {
     let id = OpId {
@@ -161,13 +173,14 @@ fn holds(alloc: Global, ctx: &mut Ctx, other: &mut Ctx, number: usize) -> Result
         3 => hashed(ctx),
         4 => counted(alloc, ctx),
         5 => moved(ctx, other),
+        6 => carried(alloc, ctx, other),
         _ => erased(alloc, ctx),
     }
 }
 
 /// The number of the first line that does not hold.
 fn differing(alloc: Global, ctx: &mut Ctx, other: &mut Ctx) -> Result<Option<usize>, Fail> {
-    for number in 0..7 {
+    for number in 0..8 {
         if !holds(alloc, ctx, other, number)? {
             return Ok(Some(number));
         }

@@ -1,7 +1,7 @@
 //! Roots that are read, one behind the other, and what a refusal leaves.
-use crate::helpers::{Ctx, Stream, root};
+use crate::helpers::{Ctx, Stream, demo, root};
 use irtext_types::{DemoAttr, DemoType};
-use pliron_text::base::{Context, Operation, Ptr};
+use pliron_text::base::{Operation, Ptr};
 use pliron_text::ir::{OperationParserConfig, OperationText};
 use pliron_text::irfmt::parsers::location;
 use pliron_text::location::{Location, Source};
@@ -36,7 +36,7 @@ fn located(
 /// What is said of the second of two roots on one stream.
 fn in_a_row(alloc: Global, text: &str) -> Result<String, Fail> {
     let stream = TextStream::new(alloc, text)?;
-    let mut ctx: Ctx = Context::new(alloc);
+    let mut ctx = demo(alloc)?;
     let state = State::new(&mut ctx, Source::InMemory, ());
     let mut s = StateStream { stream, state };
     let roots = two(&mut s);
@@ -79,7 +79,7 @@ fn with_marks(alloc: Global, s: &mut Stream<'_>) -> Result<String, Fail> {
 
 /// The same on a stream of characters, and how many objects there are then.
 fn marked(alloc: Global, text: &str) -> Result<(String, u64), Fail> {
-    let mut ctx: Ctx = Context::new(alloc);
+    let mut ctx = demo(alloc)?;
     let state = State::new(&mut ctx, Source::InMemory, ());
     let mut s = state_stream_from_iterator(text.chars(), state)?;
     let said = with_marks(alloc, &mut s);
@@ -143,7 +143,7 @@ fn differing(alloc: Global, ctx: &mut Ctx) -> Result<Option<usize>, Fail> {
 
 /// The same with a context of its own.
 fn first_differing(alloc: Global) -> Result<Option<usize>, Fail> {
-    let mut ctx: Ctx = Context::new(alloc);
+    let mut ctx = demo(alloc)?;
     differing(alloc, &mut ctx)
 }
 

@@ -1,4 +1,5 @@
 //! Sections whose entries give locations of each kind: what is read is printed again; and one that breaks off is refused there.
+use crate::helpers::demo;
 use irtext_types::{DemoAttr, DemoType};
 use pliron_text::base::{Context, Operation, Ptr};
 use pliron_text::ir::OperationText;
@@ -23,7 +24,7 @@ fn root_of(ctx: &mut Context<DemoType, DemoAttr>, text: &str) -> Result<Ptr<Oper
 
 /// What is printed of a module whose entry gives this location, in a context of its own.
 fn printed(alloc: Global, given: &str) -> Result<String, Fail> {
-    let mut ctx: Context<DemoType, DemoAttr> = Context::new(alloc);
+    let mut ctx = demo(alloc)?;
     let text = format!(in alloc; "{}{}], []", READ, given)?;
     let root = root_of(&mut ctx, text.as_str())?;
     if !ctx.contains_operation(root) {
@@ -79,7 +80,7 @@ fn an_unknown_location_leaves_no_mark(rt: HostRuntime) -> Result<(), Fail> {
 
 #[test]
 fn a_location_that_breaks_off_is_refused_there(rt: HostRuntime) -> Result<(), Fail> {
-    let mut ctx: Context<DemoType, DemoAttr> = Context::new(rt.alloc());
+    let mut ctx = demo(rt.alloc())?;
     let text = format!(in rt.alloc();
         "{}callsite(\"c.mlir\": line: 1, column: 2 at x)], []",
         READ

@@ -8,8 +8,8 @@ use irtext_read::irfmt::faults::{
     begins, demand, demanded, next_is, pass, refuse, refuse_at, unexpected,
 };
 use irtext_read::irfmt::parsers::{
-    Class, i32_parse, id_parse, identifier_parse, skip_class, skip_white_space, text_parse,
-    usize_parse,
+    Class, i32_parse, id_parse, identifier_parse, literal_parse, skip_class, skip_white_space,
+    text_parse, usize_parse,
 };
 use irtext_types::DemoAttr;
 use std::alloc::Global;
@@ -95,6 +95,12 @@ fn fixed(alloc: Global, stream: &mut TextStream, text: &'static str) -> Result<S
     whether_read(alloc, &answer)
 }
 
+/// What is said of a format's literal.
+fn literal(alloc: Global, stream: &mut TextStream, text: &str) -> Result<String, Fail> {
+    let answer = literal_parse::<TextStream, DemoAttr>(stream, text);
+    whether_read(alloc, &answer)
+}
+
 /// What is said of a text that is read or not.
 fn whether_read(alloc: Global, answer: &ParseResult<(), DemoAttr>) -> Result<String, Fail> {
     match answer {
@@ -126,7 +132,7 @@ fn word(alloc: Global, number: usize, stream: &mut TextStream) -> Result<String,
             skip_white_space(stream);
             fixed(alloc, stream, "->")
         }
-        3 => fixed(alloc, stream, "y"),
+        3 => literal(alloc, stream, "y"),
         4 => fixed(alloc, stream, "xy"),
         _ => identifier(alloc, stream),
     }

@@ -8,7 +8,7 @@ use Rattle.irtext_base.specs.declared.parsable.fault.ParseFault.{ParseFault}
 use Rattle.irtext_base.proofs.Compose.{takes_more}
 use Rattle.pliron_text.specs.MustRead.{MustRead, MayRead}
 use Rattle.pliron_text.specs.Roots.{itself, replaced}
-use Rattle.pliron_text.specs.SectionRead.{Moves, FaultAt, Faults}
+use Rattle.pliron_text.specs.SectionRead.{Moves, FaultAt, Faults, IsReported, ReportedAt, Reports}
 use Rattle.pliron_text.specs.SoFar.{RefusedAs}
 use Rattle.pliron_text.proofs.Rooted.{alone}
 
@@ -91,6 +91,31 @@ module _ {A : Type 0} where
   pub faults_as : {old : StreamView} {fault : ParseFault A} (P Q : Fault → Text → Type 0) → ((cause : Fault) (upto : Text) → P cause upto → Q cause upto) → Faults P old fault → Faults Q old fault
   faults_as P Q f (inl e) = inl e
   faults_as P Q f (inr h) = inr (h.0, h.1, f h.0 h.1 h.2, h.3)
+
+-- the same of what a root reports
+module _ {A : Type 0} where
+  reported_behind : {old mid : StreamView} {fault : ParseFault A} (cause : Fault) (taken rest upto : Text) → Takes itself replaced taken rest old mid → ReportedAt cause upto mid fault → ReportedAt cause (taken ++ upto) old fault
+  reported_behind {old = old} {mid = mid} {fault = fault} cause taken rest upto k h =
+      let p : mid.passed ++ upto ≡ old.passed ++ (taken ++ upto) = ap (λ v. v.passed ++ upto) k.is ∙ append_assoc old.passed taken upto in
+      record { because = h.because; place = subst (λ z. IsReported cause z fault.pos) p h.place }
+
+  pub reports_behind : {old mid : StreamView} {fault : ParseFault A} (P Q : Fault → Text → Type 0) (taken rest : Text) → Takes itself replaced taken rest old mid → ((cause : Fault) (upto : Text) → P cause upto → Q cause (taken ++ upto)) → Reports P mid fault → Reports Q old fault
+  reports_behind P Q taken rest k f (inl e) = inl e
+  reports_behind P Q taken rest k f (inr h) = inr (h.0, taken ++ h.1, f h.0 h.1 h.2, reported_behind h.0 taken rest h.1 k h.3)
+
+  pub reports_as : {old : StreamView} {fault : ParseFault A} (P Q : Fault → Text → Type 0) → ((cause : Fault) (upto : Text) → P cause upto → Q cause upto) → Reports P old fault → Reports Q old fault
+  reports_as P Q f (inl e) = inl e
+  reports_as P Q f (inr h) = inr (h.0, h.1, f h.0 h.1 h.2, h.3)
+
+  -- a fault that is reported so, in the place of one that stands there
+  pub record ReportOf (fault first : ParseFault A) : Type 0 where
+    pub cause : fault.cause ≡ first.cause
+    pub at : (passed : Text) → IsAt first.pos.line first.pos.column passed → IsReported (fault_of first.cause) passed fault.pos
+
+  pub reports : {old : StreamView} {first fault : ParseFault A} (P : Fault → Text → Type 0) → ReportOf fault first → Faults P old first → Reports P old fault
+  reports P k (inl e) = inl (ap fault_of k.cause ∙ e)
+  reports {old = old} {fault = fault} P k (inr h) =
+      inr (h.0, h.1, h.2, record { because = ap fault_of k.cause ∙ h.3.because; place = subst (λ c. IsReported c (old.passed ++ h.1) fault.pos) h.3.because (k.at (old.passed ++ h.1) h.3.place) })
 
 -- nothing was taken yet
 pub moves_none : (v : StreamView) → Moves v v

@@ -1,28 +1,28 @@
 -- What the reader of attributes answers, and the grammar's readings of them.
-use Rattle.std.proofs.Common.{◌≡◌, ◌∙◌, ◌≤◌, ℕ, zero, suc, Bool, true, false, cond, Some, None, Option, List, [], ◌∷◌, ◌++◌, map, length, length-append, codes, refl, sym, ap, subst, arith, append_assoc, append-nil, true≢false, ◌⊎◌, inl, inr}
+use Rattle.std.proofs.Common.{◌≡◌, ◌∙◌, ℕ, Bool, true, false, cond, Some, None, Option, List, [], ◌∷◌, ◌++◌, map, codes, refl, sym, ap, subst, true≢false}
+use Rattle.std.proofs.lemmas.List.{map-id}
 use Rattle.std.specs.Prelude.{◌||◌, ◌==◌}
 use Rattle.std.specs.Str.{bytes_eq}
 use Rattle.std.specs.Cmp.Lexicographic.{bytes_decides}
 use Rattle.std.specs.List.{list_all}
 use Rattle.std.specs.Char.{is_whitespace}
 use Rattle.irtext_base.specs.Text.{Text, begins, front, after, after_space, in_dotted, begins_word}
-use Rattle.irtext_base.specs.Reading.{the, keyword, identifier, separated, more}
-use Rattle.irtext_base.specs.Faults.{Fault, AnIdentifier, Unexpected}
-use Rattle.irtext_base.specs.Answers.{Outcome, Read, Missing, Bad, mapped, followed, prefixed}
+use Rattle.irtext_base.specs.Reading.{the, keyword, identifier, separated}
+use Rattle.irtext_base.specs.Faults.{Fault, AnIdentifier, EmptyItem, Unexpected}
+use Rattle.irtext_base.specs.Answers.{Outcome, Read, Missing, mapped, followed, prefixed}
 use Rattle.irtext_base.specs.Locations.{AttrView}
 use Rattle.irtext_base.specs.Locations as view
 use Rattle.irtext_base.specs.Own.{Language, standing}
-use Rattle.irtext_base.proofs.Along.{front_after}
-use Rattle.irtext_base.proofs.Characters.{after_twice, front_all, is_false}
+use Rattle.irtext_base.proofs.Characters.{front_all, is_false}
 use Rattle.irtext_read.specs.Tokens.{word_at, space_at, text_at, identifier_at}
-use Rattle.irtext_read.specs.ListOutcomes.{item_after, items_after, or_empty}
 use Rattle.irtext_read.specs.AttrTexts.{leads, given_name_at, names_at, given_names_at, ident_at, attr_at}
 use Rattle.irtext_read.proofs.Attributes.{given_name_takes, names_lead, ident_leads, own_leads}
 use Rattle.pliron_text.specs.AttrText.{attr_tree}
 use Rattle.pliron_text.specs.Reads as reads
 use Rattle.pliron_text.proofs.AttrBack.{leads_keyword, no_question, read_there}
-use Rattle.pliron_text.proofs.JoinAnswers.{followed_read, followed-read, mapped_read}
-use Rattle.pliron_text.proofs.JoinTokens.{text_read, text-literal, word_read, word-identifier}
+use Rattle.pliron_text.proofs.JoinAnswers.{followed_read, followed-read, mapped_read, Splits, splits_followed, splits_mapped}
+use Rattle.pliron_text.proofs.JoinLists.{Items, list_read, list_tight, list_found, ListFound, all_fine, one_stops, splits_separated}
+use Rattle.pliron_text.proofs.JoinTokens.{text_read, text-literal, splits_text, splits_space, word_read, word-identifier, splits_word}
 
 -- ---- a given name
 name_read : (x : Option Text) (text taken rest : Text) → given_name_at text ≡ Read x taken rest → reads.given_name x text rest
@@ -58,149 +58,68 @@ unfolding word_at
 name-missed [] e = (_, refl)
 name-missed (c ∷ text) e = missing_by (c == 63) (begins_word c) c text refl refl e
 
--- ---- names behind the first
-record More (text : Text) (before all : List (Option Text)) (rest : Text) : Type 0 where
-  names : List (Option Text)
-  whole : all ≡ before ++ names
-  read : more 44 (map reads.given_name names) text rest
-
--- no more names
-stopped : (text : Text) (before all : List (Option Text)) (taken rest : Text) → begins (the 44) text ≡ false → ◌≡◌ {A = Outcome (List (Option Text))} (Read before [] text) (Read all taken rest) → More text before all rest
-stopped text before all taken rest b e =
-    let f : before ≡ all = cc e in
-    let g : text ≡ rest = cc e in
-    record { names = []; whole = sym f ∙ sym (append-nil before); read = (b, sym g) }
-
--- what an item and the white space behind it leave
-record One (text : Text) (before all : List (Option Text)) (rest : Text) : Type 0 where
-  name : Option Text
-  middle : Text
-  read : reads.given_name name text middle
-  whole : all ≡ before ++ (name ∷ [])
-  left : rest ≡ after_space middle
-  shorter : length rest ≤ length text
-
-one_read : (text : Text) (before all : List (Option Text)) (taken rest : Text) → item_after 44 given_name_at before text ≡ Read all taken rest → One text before all rest
-one_read text before all taken rest e =
-    let f = followed_read (given_name_at text) (λ x t. mapped (λ _. before ++ (x ∷ [])) (space_at t)) all taken rest e in
-    let g : before ++ (f.value ∷ []) ≡ all = cc f.second in
-    let h : after is_whitespace f.middle ≡ rest = cc f.second in
-    record {
-      name = f.value;
-      middle = f.middle;
-      read = name_read f.value text f.front f.middle f.first;
-      whole = sym g;
-      left = sym h;
-      shorter = omega (arith, ap length h, ap length (front_after is_whitespace f.middle), length-append (front is_whitespace f.middle) (after is_whitespace f.middle), ap length (given_name_takes text f.value f.front f.middle f.first), length-append f.front f.middle);
-    }
-
-more_read : (m : ℕ) (before all : List (Option Text)) (text taken rest : Text) → length text ≤ m → items_after 44 given_name_at m before text ≡ Read all taken rest → More text before all rest
-more_read zero before all [] taken rest l e = stopped [] before all taken rest refl e
-more_read zero before all (c ∷ text) taken rest l e = absurd (omega (arith, l))
-more_read (suc m) before all text taken rest l e =
-    elim (begins (the 44) text) as (λ b. begins (the 44) text ≡ b → cond b (followed (text_at (44 ∷ []) text) (λ _ t. followed (space_at t) (λ _ u. followed (item_after 44 given_name_at before u) (λ more v. items_after 44 given_name_at m more v)))) (Read before [] text) ≡ Read all taken rest → More text before all rest) [
-      | false ↦ (λ b q. stopped text before all taken rest b q)
-      | true ↦ (λ b q.
-          let f1 = followed_read (text_at (44 ∷ []) text) (λ _ t. followed (space_at t) (λ _ u. followed (item_after 44 given_name_at before u) (λ more v. items_after 44 given_name_at m more v))) all taken rest q in
-          let f2 = followed_read (space_at f1.middle) (λ _ u. followed (item_after 44 given_name_at before u) (λ more v. items_after 44 given_name_at m more v)) all f1.more rest f1.second in
-          let spaced : after is_whitespace f1.middle ≡ f2.middle = cc f2.first in
-          let f3 = followed_read (item_after 44 given_name_at before f2.middle) (λ more v. items_after 44 given_name_at m more v) all f2.more rest f2.second in
-          let one = one_read f2.middle before f3.value f3.front f3.middle f3.first in
-          let first : text ≡ 44 ∷ f1.middle = text_read (44 ∷ []) text f1.front f1.middle f1.first in
-          let enough : length f3.middle ≤ m = omega (arith, l, one.shorter, ap length first, ap length spaced, ap length (front_after is_whitespace f1.middle), length-append (front is_whitespace f1.middle) (after is_whitespace f1.middle)) in
-          let i = more_read m f3.value all f3.middle f3.more rest enough f3.second in
-          record {
-            names = one.name ∷ i.names;
-            whole = i.whole ∙ (ap (λ z. z ++ i.names) one.whole ∙ append_assoc before (one.name ∷ []) i.names);
-            read = (f1.middle, first, (one.middle, subst (λ z. reads.given_name one.name z one.middle) (sym spaced) one.read, subst (λ z. more 44 (map reads.given_name i.names) z rest) one.left i.read));
-          })
-    ] refl e
-
-more-reads : (names : List (Option Text)) (m : ℕ) (before : List (Option Text)) (text rest : Text) → length text ≤ m → more 44 (map reads.given_name names) text rest → (taken : Text) × (items_after 44 given_name_at m before text ≡ Read (before ++ names) taken rest)
-more-reads [] zero before text rest l h = ([], ap (λ z. Read before [] z) (sym h.1) ∙ ap (λ z. Read z [] rest) (sym (append-nil before)))
-more-reads [] (suc m) before text rest l h = ([], rw h.0 (ap (λ z. Read before [] z) (sym h.1) ∙ ap (λ z. Read z [] rest) (sym (append-nil before))))
-more-reads (x ∷ names) zero before text rest l h = absurd (omega (arith, l, ap length h.1))
-more-reads (x ∷ names) (suc m) before text rest l h =
-    let between = h.0 in
-    let item = h.2 in
-    let n = name-reads x (after_space between) item.0 item.1 in
-    let some : begins (the 44) text ≡ true = ap (begins (the 44)) h.1 in
-    let enough : length (after_space item.0) ≤ m = omega (
-      arith,
-      l,
-      ap length h.1,
-      ap length (front_after is_whitespace between),
-      length-append (front is_whitespace between) (after_space between),
-      ap length (given_name_takes (after_space between) x n.0 item.0 n.1),
-      length-append n.0 item.0,
-      ap length (front_after is_whitespace item.0),
-      length-append (front is_whitespace item.0) (after_space item.0),
-    ) in
-    let i = more-reads names m (before ++ (x ∷ [])) (after_space item.0) rest enough item.2 in
-    let k = λ (more : List (Option Text)) (v : Text). items_after 44 given_name_at m more v in
-    let last = followed-read (item_after 44 given_name_at before (after_space between)) k (before ++ (x ∷ [])) (before ++ (x ∷ names)) (n.0 ++ front is_whitespace item.0) (after_space item.0) i.0 rest
-    (ap (λ z. followed z (λ x t. mapped (λ _. before ++ (x ∷ [])) (space_at t))) n.1) (i.1 ∙ ap (λ z. Read z i.0 rest) (append_assoc before (x ∷ []) names)) in (
-      (44 ∷ []) ++ (front is_whitespace between ++ ((n.0 ++ front is_whitespace item.0) ++ i.0)),
-      rw some (followed-read (text_at (44 ∷ []) text) (λ _ t. followed (space_at t) (λ _ u. followed (item_after 44 given_name_at before u) k)) tt (before ++ (x ∷ names)) (44 ∷ []) between (front is_whitespace between ++ ((n.0 ++ front is_whitespace item.0) ++ i.0)) rest
-          (text-literal (44 ∷ []) text between h.1) (ap (prefixed (front is_whitespace between)) last)),
-    )
-
 -- ---- the names
-record Names (text rest : Text) (all : List (Option Text)) : Type 0 where
-  read : separated 44 reads.no_given_name (map reads.given_name all) text rest
+-- given names, as the grammar and their reader have them; each is allowed
+abbrev given : Items (Option Text) (Option Text)
+given = record {
+  item = given_name_at;
+  reading = reads.given_name;
+  missing = reads.no_given_name;
+  see = λ x. x;
+  allowed = λ x. true;
+  wrong = λ x. EmptyItem;
+  splits = given_name_takes;
+  reads = λ text x taken rest e. record { item = x; read = name_read x text taken rest e; sees = refl; fine = refl };
+  misses = name_missed;
+  found = λ x text rest r f. name-reads x text rest r;
+  refused = λ x text rest r f. absurd (true≢false f);
+  missed = name-missed;
+}
 
--- the list that was read, or the first name was missing
-or_read : (o : Outcome (List (Option Text))) (text : Text) (all : List (Option Text)) (taken rest : Text) → or_empty o text ≡ Read all taken rest → (o ≡ Read all taken rest) ⊎ ((cause : Fault) × (o ≡ Missing cause) × (all ≡ []) × (rest ≡ text))
-or_read (Read xs t r) text all taken rest e = inl e
-or_read (Missing cause) text all taken rest e = inr (cause, refl, cc e, cc e)
-or_read (Bad cause upto) text all taken rest e = inl e
-
-prefixed_there : {X : Type 0} (t : Text) (o : Outcome X) (cause : Fault) → prefixed t o ≡ Missing cause → ⊥
-prefixed_there t (Read x m r) cause e = cc e
-prefixed_there t (Missing c) cause e = cc e
-prefixed_there t (Bad c u) cause e = cc e
-
-first_missing : {X Y : Type 0} (o : Outcome X) (next : X → Text → Outcome Y) (cause : Fault) → followed o next ≡ Missing cause → o ≡ Missing cause
-first_missing (Read x t r) next cause e = absurd (prefixed_there t (next x r) cause e)
-first_missing (Missing c) next cause e = let f : c ≡ cause = cc e in ap (λ c. Missing c) f
-first_missing (Bad c u) next cause e = absurd (cc e)
-
-names_read : (text : Text) (all : List (Option Text)) (taken rest : Text) → names_at text ≡ Read all taken rest → Names text rest all
+names_read : (text : Text) (all : List (Option Text)) (taken rest : Text) → names_at text ≡ Read all taken rest → separated 44 reads.no_given_name (map reads.given_name all) text rest
 names_read text all taken rest e =
-    let k = λ (before : List (Option Text)) (t : Text). items_after 44 given_name_at (length t) before t in
-    elim (or_read (followed (item_after 44 given_name_at [] text) k) text all taken rest e) [
-      | inr h ↦
-          let item = first_missing (item_after 44 given_name_at [] text) k h.0 h.1 in
-          let name = first_missing (given_name_at text) (λ x t. mapped (λ _. [] ++ (x ∷ [])) (space_at t)) h.0 item in
-          record { read = subst (λ z. separated 44 reads.no_given_name (map reads.given_name z) text rest) (sym h.2) (name_missed text h.0 name, h.3) }
-      | inl h ↦
-          let f = followed_read (item_after 44 given_name_at [] text) k all taken rest h in
-          let one = one_read text [] f.value f.front f.middle f.first in
-          let i = more_read (length f.middle) f.value all f.middle f.more rest (omega arith) f.second in
-          let whole : one.name ∷ i.names ≡ all = sym (i.whole ∙ ap (λ z. z ++ i.names) one.whole) in
-          record { read = subst (λ z. separated 44 reads.no_given_name (map reads.given_name z) text rest) whole (one.middle, one.read, subst (λ z. more 44 (map reads.given_name i.names) z rest) one.left i.read) }
-    ]
+    let k = list_read 44 given text all taken rest e in
+    subst (λ z. separated 44 reads.no_given_name (map reads.given_name z) text rest) (sym (map-id k.items) ∙ k.whole) k.read
 
 names-reads : (all : List (Option Text)) (text rest : Text) → separated 44 reads.no_given_name (map reads.given_name all) text rest → (taken : Text) × (names_at text ≡ Read all taken rest)
-names-reads [] text rest h =
-    let m = name-missed text h.0 in
-    ([], ap (λ z. or_empty (followed (followed z (λ x t. mapped (λ _. [] ++ (x ∷ [])) (space_at t))) (λ before t. items_after 44 given_name_at (length t) before t)) text) m.1 ∙ ap (λ z. Read [] [] z) (sym h.1))
-names-reads (x ∷ names) text rest h =
-    let n = name-reads x text h.0 h.1 in
-    let i = more-reads names (length (after_space h.0)) (x ∷ []) (after_space h.0) rest (omega arith) h.2 in (
-      (n.0 ++ front is_whitespace h.0) ++ i.0,
-      ap (λ z. or_empty (followed (followed z (λ x t. mapped (λ _. [] ++ (x ∷ [])) (space_at t))) (λ before t. items_after 44 given_name_at (length t) before t)) text) n.1
-          ∙ ap (λ z. or_empty (prefixed (n.0 ++ front is_whitespace h.0) z) text) i.1,
-    )
+names-reads all text rest h = go (list_found 44 given all text rest h)
+  where
+    go : ListFound 44 given [] all text rest (names_at text) → (taken : Text) × (names_at text ≡ Read all taken rest)
+    go (all_fine f taken e) = (taken, e ∙ ap (λ z. Read z taken rest) (map-id all))
+    go (one_stops k) = absurd (true≢false k.refused)
 
 -- behind names no white space stands
-more_tight : (names : List (Option Text)) (text rest : Text) → more 44 (map reads.given_name names) (after_space text) rest → after_space rest ≡ rest
-more_tight [] text rest h = ap after_space h.1 ∙ (after_twice is_whitespace text ∙ sym h.1)
-more_tight (x ∷ names) text rest h = more_tight names h.2.0 rest h.2.2
-
 separated_tight : (names : List (Option Text)) (text rest : Text) → separated 44 reads.no_given_name (map reads.given_name names) (after_space text) rest → after_space rest ≡ rest
-separated_tight [] text rest h = ap after_space h.1 ∙ (after_twice is_whitespace text ∙ sym h.1)
-separated_tight (x ∷ names) text rest h = more_tight names h.0 rest h.2
+separated_tight names text rest h = list_tight 44 given names text rest h
+
+-- ---- what attributes take
+splits_names : Splits names_at
+splits_names = splits_separated 44 given_name_at given_name_takes
+
+abbrev pub shut_next : {X : Type 0} → X → Text → Outcome X
+shut_next x text = mapped (λ _. x) (text_at (codes "]") text)
+
+pub splits_shut : {X : Type 0} (x : X) → Splits (shut_next x)
+splits_shut x = splits_mapped (λ _. x) (text_at (codes "]")) (splits_text (codes "]"))
+
+splits_given_names : Splits given_names_at
+unfolding given_names_at
+splits_given_names = splits_followed (text_at (codes "builtin.given_names")) _ (splits_text (codes "builtin.given_names")) (λ a. splits_followed space_at _ splits_space
+    (λ b. splits_followed (text_at (codes "[")) _ (splits_text (codes "[")) (λ c. splits_followed space_at _ splits_space (λ d. splits_followed names_at shut_next splits_names splits_shut))))
+
+splits_ident : Splits ident_at
+unfolding ident_at
+splits_ident = splits_followed (text_at (codes "builtin.identifier")) _ (splits_text (codes "builtin.identifier")) (λ a. splits_followed space_at _ splits_space (λ b. splits_word AnIdentifier))
+
+-- an attribute takes a front of the text, where the caller's own reader does
+pub splits_attr : {A : Type 0} (reading : Text → Outcome A) → Splits reading → Splits (attr_at reading)
+unfolding attr_at
+splits_attr reading h text v taken rest e = go (leads (codes "builtin.given_names") text) (leads (codes "builtin.identifier") text) e
+  where
+    go : (b c : Bool) → cond b (mapped view.given_names (given_names_at text)) (cond c (mapped view.ident (ident_at text)) (mapped view.own (reading text))) ≡ Read v taken rest → taken ++ rest ≡ text
+    go true c e = splits_mapped view.given_names given_names_at splits_given_names text v taken rest e
+    go false true e = splits_mapped view.ident ident_at splits_ident text v taken rest e
+    go false false e = splits_mapped view.own reading h text v taken rest e
 
 -- ---- attributes
 cancel_front : (word a b : Text) → word ++ a ≡ word ++ b → a ≡ b
@@ -227,7 +146,7 @@ module _ {P T A : Type 0} (reading : Text → Outcome A) (L : Language P T A) (s
       let s4 : after is_whitespace f3.middle ≡ f4.middle = cc f4.first in
       let word : text ≡ codes "builtin.given_names" ++ f1.middle = text_read (codes "builtin.given_names") text f1.front f1.middle f1.first in
       let behind : after in_dotted text ≡ f1.middle = cancel_front (codes "builtin.given_names") (after in_dotted text) f1.middle (sym k.0 ∙ word) in
-      let names = (names_read f4.middle f5.value f5.front f5.middle f5.first).read in
+      let names = names_read f4.middle f5.value f5.front f5.middle f5.first in
       let listed : separated 44 reads.no_given_name (map reads.given_name all) (after_space f3.middle) f5.middle = subst (λ z. separated 44 reads.no_given_name (map reads.given_name all) z f5.middle) (sym s4) (subst (λ z. separated 44 reads.no_given_name (map reads.given_name z) f4.middle f5.middle) m.2 names) in (
         f1.middle,
         (word, subst (λ z. begins in_dotted z ≡ false) behind k.1),

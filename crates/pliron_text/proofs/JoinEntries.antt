@@ -8,6 +8,7 @@ use Rattle.irtext_base.specs.Format.{same_text}
 use Rattle.irtext_base.specs.Faults.{Fault}
 use Rattle.irtext_base.specs.Faults as fault
 use Rattle.irtext_base.specs.Answers.{Outcome, Read, Missing, Bad, mapped, followed}
+use Rattle.irtext_base.specs.Dialects.{Table}
 use Rattle.irtext_base.specs.Own.{Texts}
 use Rattle.irtext_base.specs.Locations.{AttrView}
 use Rattle.irtext_base.specs.Paths.{Written}
@@ -20,7 +21,7 @@ use Rattle.pliron_text.specs.ModuleText.{index_at}
 use Rattle.pliron_text.specs.SectionText.{content_at, known_index, entry_at, may_have, Entries}
 use Rattle.pliron_text.specs.SoFar.{so_far, location_standing, AreSoFar, DescribeEntries}
 use Rattle.pliron_text.proofs.JoinAnswers.{followed_read, followed-read, mapped_read}
-use Rattle.pliron_text.proofs.JoinModule.{index_read, index_found}
+use Rattle.pliron_text.proofs.JoinMarks.{index_read, index_found}
 use Rattle.pliron_text.proofs.JoinSection.{Content, content_read, content_found}
 
 -- ---- one entry
@@ -40,12 +41,12 @@ said_next attr i text = mapped (λ x. (i, x)) (content_at attr text)
 pub entry_unknown : {A : Type 0} (attr : Text → Outcome (AttrView A)) (test : ℕ → Bool) (text : Text) (i : ℕ) (taken rest : Text) → index_at text ≡ Read i taken rest → test i ≡ false → entry_at attr test text ≡ Bad (fault.UnknownIndex i) []
 entry_unknown attr test text i taken rest e f = ap (λ o. followed (known_index test o) (said_next attr)) e ∙ rw f refl
 
-module _ {T A : Type 0} (types : Texts T) (owns : Texts A) (attr : Text → Outcome (AttrView A)) where
+module _ {T A : Type 0} (dialects : List (Text × Table)) (types : Texts T) (owns : Texts A) (attr : Text → Outcome (AttrView A)) where
   abbrev item : Mark ℕ → Option (Written A) → Entry ℕ A (Written A)
   item m x = of_item m x []
 
   abbrev Entry_ : Entry ℕ A (Written A) → Reading
-  Entry_ e = entry (so_far types owns) (location_standing attr) e
+  Entry_ e = entry (so_far dialects types owns) (location_standing attr) e
 
   pub entry_reads : (test : ℕ → Bool) (text : Text) (e : ℕ × Option (Written A)) (taken rest : Text) → entry_at attr test text ≡ Read e taken rest
       → Entry_ (item (record { place = length text; index = e.0 }) e.1) text rest × (test e.0 ≡ true)
@@ -55,14 +56,14 @@ module _ {T A : Type 0} (types : Texts T) (owns : Texts A) (attr : Text → Outc
       let k = known_read test (index_at text) a.value a.front a.middle a.first in
       let same : a.value ≡ e.0 = ap (λ e. e.0) b.2 in
       let number : (literal (codes "!") ▸ number e.0) text a.middle = subst (λ i. (literal (codes "!") ▸ number i) text a.middle) same (index_read text a.value a.front a.middle k.0) in
-      let content : Content types owns attr e.1 (after_space a.middle) rest = subst (λ x. Content types owns attr x (after_space a.middle) rest) (ap (λ e. e.1) b.2) (content_read types owns attr a.middle b.0 a.more rest b.1) in
+      let content : Content dialects types owns attr e.1 (after_space a.middle) rest = subst (λ x. Content dialects types owns attr x (after_space a.middle) rest) (ap (λ e. e.1) b.2) (content_read dialects types owns attr a.middle b.0 a.more rest b.1) in
       ((a.middle, (refl, number), content), ap test (sym same) ∙ k.1)
 
   entry_found : (test : ℕ → Bool) (text : Text) (m : Mark ℕ) (x : Option (Written A)) (rest : Text) → Entry_ (item m x) text rest → test m.index ≡ true
       → (taken : Text) × (entry_at attr test text ≡ Read (m.index, x) taken rest)
   entry_found test text m x rest (mid, (p, r), c) f =
       let i = index_found text m.index mid r in
-      let k = content_found types owns attr mid x rest c in
+      let k = content_found dialects types owns attr mid x rest c in
       (i.0 ++ k.0, followed-read (known_index test (index_at text)) (said_next attr) m.index (m.index, x) i.0 mid k.0 rest (ap (known_index test) i.1 ∙ rw f refl) (ap (mapped (λ x. (m.index, x))) k.1))
 
   entry_begins : (m : Mark ℕ) (x : Option (Written A)) (text rest : Text) → Entry_ (item m x) text rest → begins (the 33) text ≡ true
@@ -129,12 +130,12 @@ abbrev pub onto : {X : Type 0} → List X → List X → List X
 onto [] earlier = earlier
 onto (e ∷ es) earlier = onto es (e ∷ earlier)
 
-module _ {T A : Type 0} (types : Texts T) (owns : Texts A) (attr : Text → Outcome (AttrView A)) (i : ℕ) where
+module _ {T A : Type 0} (dialects : List (Text × Table)) (types : Texts T) (owns : Texts A) (attr : Text → Outcome (AttrView A)) (i : ℕ) where
   abbrev pub Said : Type 0
   Said = List (ℕ × Option (Written A))
 
   abbrev pub readings : List (Entry ℕ A (Written A)) → List Reading
-  readings es = map (entry (so_far types owns) (location_standing attr)) es
+  readings es = map (entry (so_far dialects types owns) (location_standing attr)) es
 
   -- the entries that stand there, as the grammar has them, of which nothing is refused
   pub record EntriesRead (indices : List ℕ) (es : Said) (text rest : Text) : Type 0 where
@@ -147,7 +148,7 @@ module _ {T A : Type 0} (types : Texts T) (owns : Texts A) (attr : Text → Outc
   pub entries_read : (earlier : Said) (indices : List ℕ) (es : Said) (text rest : Text) → Allow (Option (Written A)) i earlier indices → Entries attr (i ∷ []) earlier es text rest → begins (the 33) rest ≡ false → EntriesRead indices es text rest
   entries_read earlier indices [] text rest h e none = record { entries = []; reads = (ap (begins (the 33)) (sym e) ∙ none, e); so_far = tt; describe = tt; allowed = refl }
   entries_read earlier indices (e ∷ es) text rest h (taken, mid, b, r, more) none =
-      let a = entry_reads types owns attr (may_have (i ∷ []) earlier) text e taken mid r in
+      let a = entry_reads dialects types owns attr (may_have (i ∷ []) earlier) text e taken mid r in
       let k = entries_read (e ∷ earlier) (indices ++ (e.0 ∷ [])) es (after_space mid) rest (allow_more (Option (Written A)) i earlier indices e h) more none in
       let m : Mark ℕ = record { place = length text; index = e.0 } in
       record {
@@ -188,21 +189,21 @@ module _ {T A : Type 0} (types : Texts T) (owns : Texts A) (attr : Text → Outc
       on : may_have (i ∷ []) earlier m.index ≡ true → Accepted ((m.index, x) ∷ earlier) (indices ++ (m.index ∷ [])) es (after_space mid) rest ⊎ Stopped ((m.index, x) ∷ earlier) (indices ++ (m.index ∷ [])) es (after_space mid)
           → Accepted earlier indices (of_item m x [] ∷ es) text rest ⊎ Stopped earlier indices (of_item m x [] ∷ es) text
       on f (inl a) =
-          let k = entry_found types owns attr (may_have (i ∷ []) earlier) text m x mid r f in
+          let k = entry_found dialects types owns attr (may_have (i ∷ []) earlier) text m x mid r f in
           inl (record {
             es = (m.index, x) ∷ a.es;
-            stand = (k.0, mid, entry_begins types owns attr m x text mid r, k.1, a.stand);
+            stand = (k.0, mid, entry_begins dialects types owns attr m x text mid r, k.1, a.stand);
             all = a.all;
             describe = (refl, refl, a.describe);
             allowed = refused_known i indices m x es (sym (h m.index) ∙ f) ∙ a.allowed;
           })
       on f (inr s) =
-          let k = entry_found types owns attr (may_have (i ∷ []) earlier) text m x mid r f in
+          let k = entry_found dialects types owns attr (may_have (i ∷ []) earlier) text m x mid r f in
           inr (record {
             before = (m.index, x) ∷ s.before;
             mid = s.mid;
             index = s.index;
-            stand = (k.0, mid, entry_begins types owns attr m x text mid r, k.1, s.stand);
+            stand = (k.0, mid, entry_begins dialects types owns attr m x text mid r, k.1, s.stand);
             more = s.more;
             taken = s.taken;
             rest = s.rest;
@@ -222,7 +223,7 @@ module _ {T A : Type 0} (types : Texts T) (owns : Texts A) (attr : Text → Outc
             mid = text;
             index = m.index;
             stand = refl;
-            more = entry_begins types owns attr m x text mid r;
+            more = entry_begins dialects types owns attr m x text mid r;
             taken = n.0;
             rest = r.0;
             is_index = n.1;

@@ -1,21 +1,24 @@
--- Where the readers of a module and of its section stop in a text: at one place alone.
+-- Where the readers of an operation and of its section stop in a text: at one place alone.
 use Rattle.std.proofs.Common.{◌≡◌, ℕ, Bool, true, false, List, Option, Some, [], ◌∷◌, ◌++◌, refl, sym, ◌∙◌, ap, ap₂, subst, append-nil, append_assoc, true≢false}
 use Rattle.std.specs.Prelude.{codes}
 use Rattle.irtext_base.specs.Text.{Text, begins, after_space}
 use Rattle.irtext_base.specs.Reading.{the}
 use Rattle.irtext_base.specs.Faults.{Fault, UnknownIndex}
 use Rattle.irtext_base.specs.Answers.{Outcome, Read, Bad, followed}
+use Rattle.irtext_base.specs.Dialects.{Table}
 use Rattle.irtext_base.specs.Own.{Texts}
 use Rattle.irtext_base.specs.Locations.{AttrView}
 use Rattle.irtext_base.specs.Paths.{Written}
+use Rattle.irtext_read.specs.AttrTexts.{attr_at}
 use Rattle.irtext_read.specs.Tokens.{text_at}
 use Rattle.pliron_text.specs.LocationText.{space_at}
-use Rattle.pliron_text.specs.ModuleText.{Module, module_at}
+use Rattle.pliron_text.specs.Formats.{IsAccepted}
+use Rattle.pliron_text.specs.OperationText.{ReadOp, root_at}
 use Rattle.pliron_text.specs.SectionText.{entry_at, may_have, Entries, AllEntries, heading_at}
-use Rattle.pliron_text.specs.SoFar.{StopsAt, SectionStands, RefusedAs, EntriesRefused, SectionRefused, no_heading, no_entry, RootRefused, no_module, no_section}
+use Rattle.pliron_text.specs.SoFar.{StopsAt, SectionStands, RefusedAs, EntriesRefused, SectionRefused, no_heading, no_entry, RootRefused, no_operation, no_section}
 use Rattle.pliron_text.proofs.JoinAnswers.{Splits, splits_followed}
 use Rattle.pliron_text.proofs.JoinTokens.{splits_text, splits_space}
-use Rattle.pliron_text.proofs.JoinModule.{module_read}
+use Rattle.pliron_text.proofs.JoinOperation.{Accepts, id_of_read, operation_read}
 use Rattle.pliron_text.proofs.JoinEntries.{onto}
 use Rattle.pliron_text.proofs.JoinRoot.{may_have-onto}
 
@@ -114,19 +117,22 @@ module _ {A : Type 0} (attr : Text → Outcome (AttrView A)) where
       let k = entries_stop (i ∷ []) behind' stop j cause last r (subst (λ t. StopsAt attr (i ∷ []) t stop j) at s) in
       (k.0, splits_twice taken' last upto behind' stop text (splits_heading text tt taken' behind' f) k.1 w)
 
-module _ {T A : Type 0} (types : Texts T) (owns : Texts A) (attr : Text → Outcome (AttrView A)) where
+module _ {T A : Type 0} (types : Texts T) (reading : Text → Outcome A) (written : A → Text) (dialects : List (Text × Table)) (fronts : Splits reading) where
+  abbrev attr : Text → Outcome (AttrView A)
+  attr = attr_at reading
+
   -- ---- a root
-  -- the section that is refused behind a module, where its module reads
-  record BehindModule (m : Module) (text mid : Text) (cause : Fault) (upto : Text) : Type 0 where
+  -- the section that is refused behind an operation, where its operation reads
+  record BehindOperation (m : ReadOp A) (text mid : Text) (cause : Fault) (upto : Text) : Type 0 where
     pub mark : ℕ
     pub is_marked : m.mark ≡ Some mark
     pub last : Text
     pub section : SectionRefused attr (mark ∷ []) mid cause last
     pub splits : (stop : Text) → last ++ stop ≡ mid → upto ++ stop ≡ text
 
-  behind_module : (text : Text) (m : Module) (taken mid : Text) (cause : Fault) (upto : Text) → RootRefused attr text cause upto → module_at text ≡ Read m taken mid → BehindModule m text mid cause upto
-  behind_module text m taken mid cause upto (no_module r) e = absurd (not_refused (module_at text) m taken mid cause upto e r)
-  behind_module text m taken mid cause upto (no_section m' taken' mid' i last f k r w) e =
+  behind_operation : (text : Text) (m : ReadOp A) (taken mid : Text) (cause : Fault) (upto : Text) → RootRefused dialects attr text cause upto → root_at dialects attr text ≡ Read m taken mid → BehindOperation m text mid cause upto
+  behind_operation text m taken mid cause upto (no_operation r) e = absurd (not_refused (root_at dialects attr text) m taken mid cause upto e r.refused)
+  behind_operation text m taken mid cause upto (no_section m' taken' mid' i last f accepted k r w) e =
       let same : m ≡ m' = same_value m m' taken taken' mid mid' (sym e ∙ f) in
       let at : mid' ≡ mid = sym (same_rest m m' taken taken' mid mid' (sym e ∙ f)) in
       record {
@@ -134,21 +140,33 @@ module _ {T A : Type 0} (types : Texts T) (owns : Texts A) (attr : Text → Outc
         is_marked = ap (λ m. m.mark) same ∙ k;
         last = last;
         section = subst (λ t. SectionRefused attr (i ∷ []) t cause last) at r;
-        splits = λ stop h. splits_twice taken' last upto mid' stop text (module_read types owns text m' taken' mid' f).5 (h ∙ sym at) w;
+        splits = λ stop h. splits_twice taken' last upto mid' stop text (operation_read types reading written dialects fronts text m' taken' mid' accepted f).5 (h ∙ sym at) w;
       }
 
+  -- The format of a root that is refused, if its id is read, reads uniquely.
+  pub refused_accepts : (text : Text) (cause : Fault) (upto : Text) → RootRefused dialects attr text cause upto → Accepts types reading written dialects fronts text
+  refused_accepts text cause upto (no_operation r) = r.accepted
+  refused_accepts text cause upto (no_section m taken mid i last f accepted k r w) = λ id front rest e.
+      let j = id_of_read types reading written dialects fronts text m taken mid f in
+      subst (λ id. IsAccepted dialects id) (same_value m.id id j.0 front j.1 rest (sym j.2 ∙ e)) accepted
+
   -- A root that is refused does not stand whole.
-  pub root_whole : (text : Text) (m : Module) (es : List (ℕ × Option (Written A))) (taken mid rest : Text) (cause : Fault) (upto : Text) → RootRefused attr text cause upto
-      → module_at text ≡ Read m taken mid → SectionStands attr m.mark es mid rest → ⊥
+  pub root_whole : (text : Text) (m : ReadOp A) (es : List (ℕ × Option (Written A))) (taken mid rest : Text) (cause : Fault) (upto : Text) → RootRefused dialects attr text cause upto
+      → root_at dialects attr text ≡ Read m taken mid → SectionStands attr m.mark es mid rest → ⊥
   root_whole text m es taken mid rest cause upto r e s =
-      let b = behind_module text m taken mid cause upto r e in
+      let b = behind_operation text m taken mid cause upto r e in
       section_whole attr b.mark es mid rest cause b.last b.section (subst (λ k. SectionStands attr k es mid rest) b.is_marked s)
 
   -- A root is refused where an entry of its section has an unknown index: with that cause, and at that place.
-  pub root_stop : (text : Text) (m : Module) (taken mid : Text) (i : ℕ) (heading behind stop : Text) (j : ℕ) (cause : Fault) (upto : Text) → RootRefused attr text cause upto → module_at text ≡ Read m taken mid
+  pub root_stop : (text : Text) (m : ReadOp A) (taken mid : Text) (i : ℕ) (heading behind stop : Text) (j : ℕ) (cause : Fault) (upto : Text) → RootRefused dialects attr text cause upto → root_at dialects attr text ≡ Read m taken mid
       → m.mark ≡ Some i → heading_at mid ≡ Read tt heading behind → StopsAt attr (i ∷ []) behind stop j → (cause ≡ UnknownIndex j) × (upto ++ stop ≡ text)
   root_stop text m taken mid i heading behind stop j cause upto r e k h s =
-      let b = behind_module text m taken mid cause upto r e in
+      let b = behind_operation text m taken mid cause upto r e in
       let same : i ≡ b.mark = let f : Some i ≡ Some b.mark = sym k ∙ b.is_marked in cc f in
       let z = section_stop attr b.mark mid heading behind stop j cause b.last b.section h (subst (λ i. StopsAt attr (i ∷ []) behind stop j) same s) in
       (z.0, b.splits stop z.1)
+
+  -- A root is refused where its operation is bad, as that.
+  pub root_bad : (text : Text) (c : Fault) (u : Text) (cause : Fault) (upto : Text) → RootRefused dialects attr text cause upto → root_at dialects attr text ≡ Bad c u → (c ≡ cause) × (u ≡ upto)
+  root_bad text c u cause upto (no_operation r) e = bad_refused (root_at dialects attr text) c u cause upto e r.refused
+  root_bad text c u cause upto (no_section m taken mid i last f accepted k r w) e = absurd (let g : Read m taken mid ≡ Bad c u = sym f ∙ e in cc g)

@@ -1,10 +1,11 @@
 -- What the readers of a section's parts answer, and the grammar's readings of them.
-use Rattle.std.proofs.Common.{◌≡◌, Bool, true, false, cond, Option, Some, None, [], ◌∷◌, ◌++◌, refl, sym, ◌∙◌, ap, ap₂, subst}
+use Rattle.std.proofs.Common.{◌≡◌, Bool, true, false, cond, List, Option, Some, None, [], ◌∷◌, ◌++◌, refl, sym, ◌∙◌, ap, ap₂, subst}
 use Rattle.std.specs.Prelude.{codes}
 use Rattle.std.specs.Char.{is_whitespace}
 use Rattle.irtext_base.specs.Text.{Text, begins, front, after_space, begins_word}
 use Rattle.irtext_base.specs.Reading.{Reading, ◌▹◌, the, literal, separated}
 use Rattle.irtext_base.specs.Answers.{Outcome, Read, Missing, Bad, mapped, followed}
+use Rattle.irtext_base.specs.Dialects.{Table}
 use Rattle.irtext_base.specs.Own.{Texts, found, standing}
 use Rattle.irtext_base.specs.Locations.{AttrView}
 use Rattle.irtext_base.specs.Paths.{Written}
@@ -77,10 +78,10 @@ module _ {A : Type 0} (attr : Text → Outcome (AttrView A)) where
   abbrev content_next : Unit {0} → Text → Outcome (Option (Written A))
   content_next _ text = followed (entry_location_at attr text) open_next
 
-module _ {T A : Type 0} (types : Texts T) (owns : Texts A) (attr : Text → Outcome (AttrView A)) where
+module _ {T A : Type 0} (dialects : List (Text × Table)) (types : Texts T) (owns : Texts A) (attr : Text → Outcome (AttrView A)) where
   -- a location between its brackets, as the grammar has it
   abbrev Located : Option (Written A) → Reading
-  Located = located (so_far types owns) (location_standing attr)
+  Located = located (so_far dialects types owns) (location_standing attr)
 
   -- the location's text, where no white space stands in front
   entry_location_read : (text : Text) (x : Option (Written A)) (taken rest : Text) → after_space text ≡ text → entry_location_at attr text ≡ Read x taken rest

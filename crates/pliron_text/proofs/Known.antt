@@ -1,27 +1,22 @@
 -- Indices of entries that may stand, and those that may not.
-use Rattle.std.proofs.Common.{◌≡◌, ℕ, ◌<◌, Bool, true, false, cond, Ok, Err, [], ◌∷◌, List, is_some, length, length-append, Option, Some, None, codes, refl, sym, ◌∙◌, ap, subst, ◌⊎◌, inl, inr, arith}
-use Rattle.irtext_base.specs.Text.{Text, front, after}
+use Rattle.std.proofs.Common.{◌≡◌, ℕ, ◌<◌, Bool, true, false, cond, Ok, Err, [], ◌∷◌, length, length-append, Option, Some, codes, refl, sym, ◌∙◌, ap, subst, ◌⊎◌, inl, inr, arith}
+use Rattle.irtext_base.specs.Text.{Text}
 use Rattle.irtext_base.specs.Stream.{StreamView, IsAt, after_failure}
-use Rattle.irtext_base.specs.Faults.{UnknownIndex, DuplicateIndex, UnregisteredOp, UnregisteredDialect, Unexpected, Word, fault_of}
+use Rattle.irtext_base.specs.Faults.{UnknownIndex, Unexpected, Word, fault_of}
 use Rattle.irtext_base.specs.Answers.{Outcome, Read, Missing, Bad, Takes, Starves, Refuses, Gives, demanded, prefixed, mapped, followed, unless_failed}
 use Rattle.irtext_base.specs.declared.parsable.fault.ParseFault.{ParseFault}
 use Rattle.irtext_base.specs.Reading.{the}
 use Rattle.irtext_base.specs.Locations.{AttrView}
 use Rattle.irtext_base.specs.Paths.{Written}
 use Rattle.irtext_read.specs.AttrTexts.{attr_at}
-use Rattle.irtext_read.specs.Tokens.{text_at, number_at, id_at}
-use Rattle.irtext_base.specs.Format.{Id, same_text}
-use Rattle.std.specs.Map.{lookup}
-use Rattle.std.specs.Char.{is_whitespace}
-use Rattle.irtext_read.specs.States.{same_index}
-use Rattle.pliron_text.specs.Modules.{module_id}
-use Rattle.pliron_text.specs.ModuleText.{index_at, mark_at, braces_at, module_with, header_at, led_id_at, lead_of, behind_lead, behind, registered_behind}
-use Rattle.pliron_text.proofs.Led.{header_at-led}
+use Rattle.irtext_read.specs.Tokens.{text_at, number_at}
+use Rattle.pliron_text.specs.ModuleText.{index_at}
 use Rattle.irtext_base.proofs.Compose.{refuses_before}
 use Rattle.pliron_text.specs.MustRead.{MustRead, MayRead}
 use Rattle.pliron_text.specs.SectionText.{known_index, entry_at, content_at, heading_at}
-use Rattle.pliron_text.specs.Roots.{itself, replaced, IsSincere, Refusal, Demand, unnoted, fresh_mark_at, operation_at}
-use Rattle.pliron_text.proofs.Spares.{Spares, rest_of, NotFailed, unexpected_fine, range_fine, spares-followed, spares-prefixed, spares-behind, spares-id, spares-rest, spares-braces, spares-mark, spares-mapped, spares-index, spares-content, spares-spaced}
+use Rattle.irtext_base.specs.Own.{Sincere}
+use Rattle.pliron_text.specs.Roots.{itself, replaced, Refusal, Demand}
+use Rattle.pliron_text.proofs.Spares.{Spares, NotFailed, unexpected_fine, range_fine, spares-followed, spares-mapped, spares-index, spares-content, spares-spaced}
 use Rattle.pliron_text.proofs.LocationSpares.{attr_spares, location_spares}
 use Rattle.pliron_text.proofs.Rooted.{alone}
 
@@ -62,40 +57,44 @@ known_spares test (Read x t r) h = elim (test x) as (λ b. Spares NotFailed (con
 known_spares test (Missing cause) h = h
 known_spares test (Bad cause upto) h = h
 
-module _ {A : Type 0} {reading : Text → Outcome A} where
-  demands_of : {X : Type 0} (b : Bool) (o : Outcome X) (old new : StreamView) (fault : ParseFault A) → old.failed ≡ b → (IsSincere reading → Spares NotFailed o) → Starves itself replaced old fault new ⊎ Refuses itself replaced (demanded (unless_failed b o)) old fault new → Demand reading old fault new
-  demands_of b o old new fault e s (inl h) = record { committed = h.committed; fails = ap (λ v. v.failed) h.left.is ∙ h.left.fails; failed = λ k f. absurd (cc (h.because)) }
-  demands_of true o old new fault e s (inr h) = record { committed = h.committed; fails = ap (λ v. v.failed) h.left.is ∙ h.left.fails; failed = λ k f. e }
+module _ {A : Type 0} where
+  demands_of : {X : Type 0} (b : Bool) (o : Outcome X) (old new : StreamView) (fault : ParseFault A) → old.failed ≡ b → Spares NotFailed o → Starves itself replaced old fault new ⊎ Refuses itself replaced (demanded (unless_failed b o)) old fault new → Demand old fault new
+  demands_of b o old new fault e s (inl h) = record { committed = h.committed; fails = ap (λ v. v.failed) h.left.is ∙ h.left.fails; failed = λ f. absurd (cc (h.because)) }
+  demands_of true o old new fault e s (inr h) = record { committed = h.committed; fails = ap (λ v. v.failed) h.left.is ∙ h.left.fails; failed = λ f. e }
   demands_of false (Read x t r) old new fault e s (inr h) = absurd h
-  demands_of false (Missing cause) old new fault e s (inr h) = record { committed = h.committed; fails = ap (λ v. v.failed) h.left.is ∙ h.left.fails; failed = λ k f. absurd (s k (sym h.because ∙ f)) }
-  demands_of false (Bad cause upto) old new fault e s (inr h) = record { committed = h.committed; fails = ap (λ v. v.failed) h.left.is ∙ h.left.fails; failed = λ k f. absurd (s k (sym h.because ∙ f)) }
+  demands_of false (Missing cause) old new fault e s (inr h) = record { committed = h.committed; fails = ap (λ v. v.failed) h.left.is ∙ h.left.fails; failed = λ f. absurd (s (sym h.because ∙ f)) }
+  demands_of false (Bad cause upto) old new fault e s (inr h) = record { committed = h.committed; fails = ap (λ v. v.failed) h.left.is ∙ h.left.fails; failed = λ f. absurd (s (sym h.because ∙ f)) }
 
   -- a refusal of what must be read
-  pub demands : {X Y : Type 0} {see : Y → X} {f : Text → Outcome X} {old new : StreamView} {fault : ParseFault A} → (IsSincere reading → (text : Text) → Spares NotFailed (f text)) → MustRead {Y = Y} itself replaced see f old (Err fault) new → Demand reading old fault new
-  demands {f = f} {old = old} {new = new} {fault = fault} s h = demands_of old.failed (f old.rest) old new fault refl (λ k. s k old.rest) h.answers
+  pub demands : {X Y : Type 0} {see : Y → X} {f : Text → Outcome X} {old new : StreamView} {fault : ParseFault A} → ((text : Text) → Spares NotFailed (f text)) → MustRead {Y = Y} itself replaced see f old (Err fault) new → Demand old fault new
+  demands {f = f} {old = old} {new = new} {fault = fault} s h = demands_of old.failed (f old.rest) old new fault refl (s old.rest) h.answers
 
-  refusal_of : {X : Type 0} (b : Bool) (o : Outcome X) (old new : StreamView) (fault : ParseFault A) → old.failed ≡ b → Spares NotFailed o → Starves itself replaced old fault new ⊎ Refuses itself replaced (unless_failed b o) old fault new → Refusal reading old fault new
-  refusal_of b o old new fault e s (inl h) = record { committed = λ _. ap (λ v. v.failed) h.left.is ∙ h.left.fails; uncommitted = λ q. absurd (cc (h.committed)); failed = λ k f. absurd (cc (h.because)) }
-  refusal_of true o old new fault e s (inr h) = record { committed = λ _. ap (λ v. v.failed) h.left.is ∙ h.left.fails; uncommitted = λ q. absurd (cc (h.committed)); failed = λ k f. e }
+  refusal_of : {X : Type 0} (b : Bool) (o : Outcome X) (old new : StreamView) (fault : ParseFault A) → old.failed ≡ b → Spares NotFailed o → Starves itself replaced old fault new ⊎ Refuses itself replaced (unless_failed b o) old fault new → Refusal old fault new
+  refusal_of b o old new fault e s (inl h) = record { committed = λ _. ap (λ v. v.failed) h.left.is ∙ h.left.fails; uncommitted = λ q. absurd (cc (h.committed)); failed = λ f. absurd (cc (h.because)) }
+  refusal_of true o old new fault e s (inr h) = record { committed = λ _. ap (λ v. v.failed) h.left.is ∙ h.left.fails; uncommitted = λ q. absurd (cc (h.committed)); failed = λ f. e }
   refusal_of false (Read x t r) old new fault e s (inr h) = absurd h
-  refusal_of false (Missing cause) old new fault e s (inr h) = record { committed = λ q. absurd (cc (h.committed)); uncommitted = λ _. h.left; failed = λ k f. absurd (s (sym h.because ∙ f)) }
-  refusal_of false (Bad cause upto) old new fault e s (inr h) = record { committed = λ _. ap (λ v. v.failed) h.left.is ∙ h.left.fails; uncommitted = λ q. absurd (cc (h.committed)); failed = λ k f. absurd (s (sym h.because ∙ f)) }
+  refusal_of false (Missing cause) old new fault e s (inr h) = record { committed = λ q. absurd (cc (h.committed)); uncommitted = λ _. h.left; failed = λ f. absurd (s (sym h.because ∙ f)) }
+  refusal_of false (Bad cause upto) old new fault e s (inr h) = record { committed = λ _. ap (λ v. v.failed) h.left.is ∙ h.left.fails; uncommitted = λ q. absurd (cc (h.committed)); failed = λ f. absurd (s (sym h.because ∙ f)) }
 
   -- a refusal of what may be read
-  pub refusal : {X Y : Type 0} {see : Y → X} {f : Text → Outcome X} {old new : StreamView} {fault : ParseFault A} → ((text : Text) → Spares NotFailed (f text)) → MayRead {Y = Y} itself replaced see f old (Err fault) new → Refusal reading old fault new
+  pub refusal : {X Y : Type 0} {see : Y → X} {f : Text → Outcome X} {old new : StreamView} {fault : ParseFault A} → ((text : Text) → Spares NotFailed (f text)) → MayRead {Y = Y} itself replaced see f old (Err fault) new → Refusal old fault new
   refusal {f = f} {old = old} {new = new} {fault = fault} s h = refusal_of old.failed (f old.rest) old new fault refl (s old.rest) h.answers
 
   -- a refusal of what must be read, behind what was read
-  pub demanded_refusal : {old mid new : StreamView} {fault : ParseFault A} → (mid.failed ≡ true → old.failed ≡ true) → Demand reading mid fault new → Refusal reading old fault new
-  demanded_refusal e h = record { committed = λ _. h.fails; uncommitted = λ q. absurd (cc (h.committed)); failed = λ k f. e (h.failed k f) }
+  pub demanded_refusal : {old mid new : StreamView} {fault : ParseFault A} → (mid.failed ≡ true → old.failed ≡ true) → Demand mid fault new → Refusal old fault new
+  demanded_refusal e h = record { committed = λ _. h.fails; uncommitted = λ q. absurd (cc (h.committed)); failed = λ f. e (h.failed f) }
+
+  -- the same refusal, reported at another place
+  pub reported_refusal : {old new : StreamView} {first fault : ParseFault A} → fault.cause ≡ first.cause → fault.committed ≡ first.committed → Refusal old first new → Refusal old fault new
+  reported_refusal same kept h = record { committed = λ e. h.committed (sym kept ∙ e); uncommitted = λ e. h.uncommitted (sym kept ∙ e); failed = λ e. h.failed (sym (ap fault_of same) ∙ e) }
 
   -- memory is refused where something must be read
-  pub demands_memory : {old new : StreamView} {fault : ParseFault A} → Starves itself replaced old fault new → Demand reading old fault new
-  demands_memory h = record { committed = h.committed; fails = ap (λ v. v.failed) h.left.is ∙ h.left.fails; failed = λ k f. absurd (cc (h.because)) }
+  pub demands_memory : {old new : StreamView} {fault : ParseFault A} → Starves itself replaced old fault new → Demand old fault new
+  demands_memory h = record { committed = h.committed; fails = ap (λ v. v.failed) h.left.is ∙ h.left.fails; failed = λ f. absurd (cc (h.because)) }
 
   -- a refusal behind what was read
-  pub demands_behind : {old mid new : StreamView} {fault : ParseFault A} → mid.failed ≡ old.failed → Demand reading mid fault new → Demand reading old fault new
-  demands_behind e h = record { committed = h.committed; fails = h.fails; failed = λ k f. sym e ∙ h.failed k f }
+  pub demands_behind : {old mid new : StreamView} {fault : ParseFault A} → mid.failed ≡ old.failed → Demand mid fault new → Demand old fault new
+  demands_behind e h = record { committed = h.committed; fails = h.fails; failed = λ f. sym e ∙ h.failed f }
 
 -- some character is taken of what is read
 abbrev Grows : {X : Type 0} → Outcome X → Type 0
@@ -154,42 +153,14 @@ entry_shorter attr test see old mid new e t r h k =
     let q : new.rest ≡ r = ap (λ v. v.rest) k.is in
     omega (arith, s, ap length q, ap length k.same, length-append t r)
 
--- no entry's cause says that the stream had failed, where the reader of the caller's attributes never says so
-pub entry_spares : {A : Type 0} (reading : Text → Outcome A) (test : ℕ → Bool) → IsSincere reading → (text : Text) → Spares NotFailed (entry_at (attr_at reading) test text)
+-- no entry's cause says that the stream had failed
+pub entry_spares : {A : Type 0} (reading : Text → Outcome A) (test : ℕ → Bool) → Sincere reading → (text : Text) → Spares NotFailed (entry_at (attr_at reading) test text)
 entry_spares reading test k text = spares-followed NotFailed (known_index test (index_at text)) (λ i t. mapped (λ l. (i, l)) (content_at (attr_at reading) t)) (known_spares test (index_at text) (spares-index NotFailed unexpected_fine range_fine text))
     (λ i t. spares-mapped NotFailed (λ l. (i, l)) (content_at (attr_at reading) t) (spares-content NotFailed unexpected_fine range_fine (attr_at reading) (location_spares (attr_at reading) (attr_spares reading k)) t))
 
 -- nor does that of the section's heading
 pub heading_spares : (text : Text) → Spares NotFailed (heading_at text)
 heading_spares text = spares-spaced NotFailed unexpected_fine (codes "outlined_attributes:") text
-
-module _ (text : Text) where
-  registered_spares : (lead : Text) (o : Outcome Id) → Spares NotFailed o → Spares NotFailed (registered_behind lead o)
-  registered_spares lead (Read id t r) h =
-      elim (same_text id.dialect module_id.dialect) as (λ a. Spares NotFailed (cond a (cond (same_text id.name module_id.name) (Read id t r) (Bad (UnregisteredOp id) [])) (Bad (UnregisteredDialect id.dialect) lead))) [
-        | true ↦ elim (same_text id.name module_id.name) as (λ b. Spares NotFailed (cond b (Read id t r) (Bad (UnregisteredOp id) []))) [ true ↦ tt | false ↦ (λ e. absurd (cc)) ]
-        | false ↦ (λ e. absurd (cc))
-      ]
-  registered_spares lead (Missing cause) h = h
-  registered_spares lead (Bad cause upto) h = h
-
-  header_spares : Spares NotFailed (header_at text)
-  header_spares =
-      let o = id_at (behind_lead text) in
-      let s = registered_spares (lead_of text) (behind (lead_of text) o) (spares-behind NotFailed (lead_of text) o (spares-id NotFailed unexpected_fine (behind_lead text))) in
-      subst (Spares NotFailed) (sym (header_at-led text)) (spares-followed NotFailed (led_id_at text) rest_of s (spares-rest NotFailed unexpected_fine))
-
-unnoted_spares : {X : Type 0} (marks : List (ℕ × X)) (o : Outcome (Option ℕ)) → Spares NotFailed o → Spares NotFailed (unnoted marks o)
-unnoted_spares marks (Read None t r) h = tt
-unnoted_spares marks (Read (Some i) t r) h = elim (is_some (lookup (same_index i) marks)) as (λ b. Spares NotFailed (cond b (Bad (DuplicateIndex i) []) (Read (Some i) t r))) [ true ↦ (λ e. absurd (cc)) | false ↦ tt ]
-unnoted_spares marks (Missing cause) h = h
-unnoted_spares marks (Bad cause upto) h = h
-
--- no module's cause says that the stream had failed
-pub operation_spares : {X : Type 0} (marks : List (ℕ × X)) (text : Text) → Spares NotFailed (operation_at marks text)
-operation_spares marks text = spares-followed NotFailed (header_at text) _ (header_spares text) (λ h t. spares-prefixed NotFailed (front is_whitespace t) _
-    (spares-followed NotFailed (braces_at (after is_whitespace t)) _ (spares-braces NotFailed unexpected_fine (after is_whitespace t)) (λ _ u. spares-prefixed NotFailed (front is_whitespace u) _
-    (spares-mapped NotFailed (module_with h.0 h.1) (fresh_mark_at marks (after is_whitespace u)) (unnoted_spares marks (mark_at (after is_whitespace u)) (spares-mark NotFailed unexpected_fine range_fine (after is_whitespace u)))))))
 
 may_fine : {X : Type 0} (b : Bool) (o : Outcome X) (old new : StreamView) (x : X) → Gives itself replaced (unless_failed b o) old x new → new.failed ≡ old.failed
 may_fine true o old new x h = absurd h

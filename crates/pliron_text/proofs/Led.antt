@@ -1,15 +1,18 @@
 -- A lead, and what stands behind it.
-use Rattle.std.proofs.Common.{◌≡◌, ℕ, ◌<◌, arith, length-append, Bool, true, false, not, cond, Result, Ok, Err, [], ◌∷◌, ◌++◌, length, eqb, Option, refl, sym, ◌∙◌, ap, subst, append_assoc, append-nil, ◌⊎◌, inl, inr}
-use Rattle.std.specs.Str.{bytes_eq, encode_utf8_all}
+use Rattle.std.proofs.Common.{◌≡◌, ℕ, ◌<◌, List, is_some, IsSome, IfOk, arith, length-append, Bool, true, false, not, cond, Result, Ok, Err, [], ◌∷◌, ◌++◌, length, eqb, refl, sym, ◌∙◌, ap, subst, append_assoc, append-nil, ◌⊎◌, inl, inr}
+use Rattle.std.specs.Str.{encode_utf8_all}
 use Rattle.std.specs.Char.{is_whitespace, encode_utf8}
 use Rattle.std.proofs.lemmas.Bool.Decides.{nat_tests}
 use Rattle.std.proofs.lemmas.Str.{len_utf8_bounds, length-encode}
 use Rattle.irtext_base.specs.Text.{Text, begins, front, after_space}
 use Rattle.irtext_base.specs.Reading.{the}
 use Rattle.irtext_base.specs.Stream.{advanced}
-use Rattle.irtext_base.specs.Format.{Id, same_text}
-use Rattle.irtext_base.specs.Faults.{Fault, UnregisteredOp, UnregisteredDialect, Unexpected, Demand, id_of}
-use Rattle.irtext_base.specs.Answers.{Outcome, Read, Missing, Bad, Takes, Starves, Refuses, Commits, Answers, Gives, DemandsOf, demanded, prefixed, followed, unless_failed}
+use Rattle.irtext_base.specs.Format.{Id}
+use Rattle.irtext_base.specs.Dialects.{Table}
+use Rattle.irtext_base.specs.DialectTable as table
+use Rattle.irtext_base.specs.DialectTable.{dialect_of}
+use Rattle.irtext_base.specs.Faults.{Fault, UnregisteredOp, UnregisteredDialect, id_of}
+use Rattle.irtext_base.specs.Answers.{Outcome, Read, Missing, Bad, Takes, Starves, Refuses, Commits, Answers, Gives, DemandsOf, demanded, unless_failed}
 use Rattle.irtext_base.specs.Places.{StandsBehind}
 use Rattle.irtext_base.specs.declared.base.identifier.OpId.{OpId}
 use Rattle.irtext_base.specs.declared.parsable.fault.ParseFault.{ParseFault}
@@ -17,74 +20,12 @@ use Rattle.irtext_base.specs.declared.parsable.position.Place.{Place}
 use Rattle.irtext_base.proofs.Compose.{seen_after, takes_more, answers_after, answers_demanded, takes_stands, stands_failed}
 use Rattle.irtext_read.proofs.Spelling.{begins_the, takes_next, takes_none_is}
 use Rattle.irtext_read.specs.Tokens.{id_at}
-use Rattle.pliron_text.specs.Modules.{module_id}
-use Rattle.pliron_text.specs.ModuleText.{registered, led, lead_of, behind_lead, header_at, behind, registered_behind, led_id_at, is_led}
+use Rattle.pliron_text.specs.Formats.{op_id}
+use Rattle.pliron_text.specs.ModuleText.{lead_of, behind_lead, behind, is_led}
+use Rattle.pliron_text.specs.OperationText.{registered_behind, led_id_at}
 use Rattle.pliron_text.specs.MustRead.{MayRead}
 use Rattle.pliron_text.specs.Registered.{Registers, RefusesAt}
-use Rattle.pliron_text.proofs.Spares.{Spares, rest_of, spares-prefixed, spares-id, spares-rest}
-use Rattle.pliron_text.proofs.Steps.{Lens, prefixed-prefixed}
-
--- the test on texts is std's
-pub same_text-bytes_eq : (s t : Text) → same_text s t ≡ bytes_eq s t
-same_text-bytes_eq [] [] = refl
-same_text-bytes_eq [] (d ∷ t) = refl
-same_text-bytes_eq (c ∷ s) [] = refl
-same_text-bytes_eq (c ∷ s) (d ∷ t) = rw (same_text-bytes_eq s t) refl
-
-pub ruleset texts = same_text-bytes_eq
-
--- a cause that is not an operation without a reader
-abbrev IsPlain : Fault → Type 0
-IsPlain cause = (id : Id) → cause ≡ UnregisteredOp id → ⊥
-
-unexpected_plain : (found : Option ℕ) (demand : Demand) → IsPlain (Unexpected found demand)
-unexpected_plain found demand = λ id e. absurd (cc)
-
-abbrev Plain : {X : Type 0} → Outcome X → Type 0
-Plain o = Spares IsPlain o
-
--- what stands behind a lead is seen so from before it
-led-behind : {X : Type 0} (lead : Text) (o : Outcome X) → Plain o → led lead o ≡ behind lead o
-led-behind [] (Read x taken rest) h = refl
-led-behind (c ∷ lead) (Read x taken rest) h = refl
-led-behind [] (Missing cause) h = refl
-led-behind (c ∷ lead) (Missing cause) h = refl
-led-behind [] (Bad (UnregisteredOp id) upto) h = absurd (h id refl)
-led-behind (c ∷ lead) (Bad (UnregisteredOp id) upto) h = absurd (h id refl)
-led-behind [] (Bad _ upto) h = refl
-led-behind (c ∷ lead) (Bad _ upto) h = refl
-
-behind-prefixed : {X : Type 0} (lead taken : Text) (o : Outcome X) → behind lead (prefixed taken o) ≡ prefixed (lead ++ taken) o
-behind-prefixed [] taken o = refl
-behind-prefixed (c ∷ lead) taken o = prefixed-prefixed (c ∷ lead) taken o
-
-plain-rest : (id : Id) (t : Text) → Plain (rest_of id t)
-plain-rest id t = spares-rest IsPlain unexpected_plain id t
-
-by_tests : (a b : Bool) (lead : Text) (id : Id) (taken rest : Text) → led lead (followed (cond a (cond b (Read id taken rest) (Bad (UnregisteredOp id) [])) (Bad (UnregisteredDialect id.dialect) [])) rest_of) ≡ followed (cond a (cond b (Read id (lead ++ taken) rest) (Bad (UnregisteredOp id) [])) (Bad (UnregisteredDialect id.dialect) lead)) rest_of
-by_tests true true lead id taken rest = led-behind lead (prefixed taken (rest_of id rest)) (spares-prefixed IsPlain taken (rest_of id rest) (plain-rest id rest)) ∙ behind-prefixed lead taken (rest_of id rest)
-by_tests true false [] id taken rest = refl
-by_tests true false (c ∷ lead) id taken rest = refl
-by_tests false b [] id taken rest = refl
-by_tests false b (c ∷ lead) id taken rest = ap (Bad (UnregisteredDialect id.dialect)) (append-nil (c ∷ lead))
-
-behind-read : {X : Type 0} (lead : Text) (x : X) (taken rest : Text) → behind lead (Read x taken rest) ≡ Read x (lead ++ taken) rest
-behind-read [] x taken rest = refl
-behind-read (c ∷ lead) x taken rest = refl
-
-behind-bad : (lead : Text) (cause : Fault) (upto : Text) → behind lead (Bad cause upto) ≡ followed (registered_behind lead (behind lead (Bad cause upto))) rest_of
-behind-bad [] cause upto = refl
-behind-bad (c ∷ lead) cause upto = refl
-
-led-followed : (lead : Text) (o : Outcome Id) → Plain o → led lead (followed (registered o) rest_of) ≡ followed (registered_behind lead (behind lead o)) rest_of
-led-followed lead (Read id taken rest) h = by_tests (same_text id.dialect module_id.dialect) (same_text id.name module_id.name) lead id taken rest ∙ ap (λ o. followed (registered_behind lead o) rest_of) (sym (behind-read lead id taken rest))
-led-followed [] (Missing cause) h = refl
-led-followed (c ∷ lead) (Missing cause) h = refl
-led-followed lead (Bad cause upto) h = led-behind lead (Bad cause upto) h ∙ behind-bad lead cause upto
-
--- a header is a lead and a registered id, and what stands behind them
-pub header_at-led : (text : Text) → header_at text ≡ followed (led_id_at text) rest_of
-header_at-led text = led-followed (lead_of text) (id_at (behind_lead text)) (spares-id IsPlain unexpected_plain (behind_lead text))
+use Rattle.pliron_text.proofs.Steps.{Lens}
 
 nonzero : (n : ℕ) → 0 < n → not (eqb n 0) ≡ true
 nonzero n h = grind (arith, nat_tests)
@@ -119,7 +60,7 @@ module _ {S : Type 0} (l : Lens S) where
       let w : after_space text ≡ 61 ∷ f.0 = sym v ∙ f.1 in
       rw (b, w) (rw append_assoc at q)
 
-module _ {S A : Type 0} (l : Lens S) where
+module _ {S A : Type 0} (dialects : List (Text × Table)) (l : Lens S) where
   led_answered : (lead text : Text) (old mid next new : S) (a r : Result OpId (ParseFault A)) → (l.view old).failed ≡ false → Takes l.view l.at lead text old mid → Answers l.view l.at id_of (unless_failed (l.view mid).failed (id_at (l.view mid).rest)) mid a next →
       cond (is_led lead) (DemandsOf l.view l.at a next r new) ((r ≡ a) × (new ≡ next)) → Answers l.view l.at id_of (behind lead (id_at text)) old r new
   led_answered [] text old mid next new a r f t h d =
@@ -142,18 +83,19 @@ module _ {S A : Type 0} (l : Lens S) where
   by_dialect true n lead start place i t r old mid new fault k p q h = inr (rw h.0 (refused_at (UnregisteredOp (id_of i)) [] start old mid new fault t r k (rw append-nil p) h.1))
   by_dialect false n lead start place i t r old mid new fault k p q h = inr (refused_at (UnregisteredDialect i.dialect) lead place old mid new fault t r k q h)
 
-  registers : (lead : Text) (o : Outcome Id) (start place : Place) (i : OpId) (old mid new : S) (r : Result OpId (ParseFault A)) → StandsBehind start (l.view old).passed → StandsBehind place ((l.view old).passed ++ lead) → Gives l.view l.at o old (id_of i) mid → Registers l.view l.at start place i mid r new → Answers l.view l.at id_of (registered_behind lead o) old r new
+  registers : (lead : Text) (o : Outcome Id) (start place : Place) (i : OpId) (old mid new : S) (r : Result OpId (ParseFault A)) → StandsBehind start (l.view old).passed → StandsBehind place ((l.view old).passed ++ lead) → Gives l.view l.at o old (id_of i) mid → Registers l.view l.at dialects start place i mid r new
+      → Answers l.view l.at id_of (registered_behind dialects lead o) old r new
   registers lead (Read x t q) start place i old mid new (Ok j) p s h k =
-      let d : same_text x.dialect module_id.dialect ≡ true = subst (λ y. same_text y.dialect module_id.dialect ≡ true) h.0 k.0 in
-      let n : same_text x.name module_id.name ≡ true = subst (λ y. same_text y.name module_id.name ≡ true) h.0 k.1 in
+      let d : is_some (dialect_of dialects x.dialect) ≡ true = subst (λ y. is_some (dialect_of dialects y.dialect) ≡ true) h.0 k.0 in
+      let n : is_some (table.registered dialects (op_id x)) ≡ true = subst (λ y. is_some (table.registered dialects (op_id y)) ≡ true) h.0 k.1 in
       rw (d, n) (rw k.2 h.0, rw k.3 h.1)
   registers lead (Read x t q) start place i old mid new (Err fault) p s h k =
-      subst (λ y. Starves l.view l.at old fault new ⊎ Refuses l.view l.at (registered_behind lead (Read y t q)) old fault new) h.0
-      (by_dialect (same_text i.dialect module_id.dialect) (same_text i.name module_id.name) lead start place i t q old mid new fault h.1 p s k)
+      subst (λ y. Starves l.view l.at old fault new ⊎ Refuses l.view l.at (registered_behind dialects lead (Read y t q)) old fault new) h.0
+      (by_dialect (is_some (dialect_of dialects i.dialect)) (is_some (table.registered dialects i)) lead start place i t q old mid new fault h.1 p s k)
   registers lead (Missing cause) start place i old mid new r p s h k = absurd h
   registers lead (Bad cause upto) start place i old mid new r p s h k = absurd h
 
-  unregistered : (lead : Text) (o : Outcome Id) (old new : S) (fault : ParseFault A) → Starves l.view l.at old fault new ⊎ Refuses l.view l.at o old fault new → Starves l.view l.at old fault new ⊎ Refuses l.view l.at (registered_behind lead o) old fault new
+  unregistered : (lead : Text) (o : Outcome Id) (old new : S) (fault : ParseFault A) → Starves l.view l.at old fault new ⊎ Refuses l.view l.at o old fault new → Starves l.view l.at old fault new ⊎ Refuses l.view l.at (registered_behind dialects lead o) old fault new
   unregistered lead o old new fault (inl h) = inl h
   unregistered lead (Read x t r) old new fault (inr h) = absurd h
   unregistered lead (Missing cause) old new fault (inr h) = inr h
@@ -170,14 +112,19 @@ module _ {S A : Type 0} (l : Lens S) where
   led_is old mid next a r new h = led_answered (lead_of (l.view old).rest) (behind_lead (l.view old).rest) old mid next new a r h.fine h.takes h.id h.demands
 
   -- the id is refused
-  pub id_refused : {old mid next new : S} {a : Result OpId (ParseFault A)} {fault : ParseFault A} → Led old mid next a (Err fault) new → MayRead {A = A} l.view l.at id_of led_id_at old (Err fault) new
+  pub id_refused : {old mid next new : S} {a : Result OpId (ParseFault A)} {fault : ParseFault A} → Led old mid next a (Err fault) new → MayRead {A = A} l.view l.at id_of (led_id_at dialects) old (Err fault) new
   id_refused {old = old} {mid = mid} {next = next} {new = new} {a = a} {fault = fault} h =
       record { answers = rw h.fine (unregistered (lead_of (l.view old).rest) (behind (lead_of (l.view old).rest) (id_at (behind_lead (l.view old).rest))) old new fault (led_is old mid next a (Err fault) new h)) }
 
   -- the id is read, and looked up
-  pub id_registered : {old mid next now new : S} {a : Result OpId (ParseFault A)} {i : OpId} (r : Result OpId (ParseFault A)) (start place : Place) → Led old mid next a (Ok i) now → StandsBehind start (l.view old).passed → StandsBehind place (l.view mid).passed → Registers l.view l.at start place i now r new → MayRead {A = A} l.view l.at id_of led_id_at old r new
+  pub id_registered : {old mid next now new : S} {a : Result OpId (ParseFault A)} {i : OpId} (r : Result OpId (ParseFault A)) (start place : Place) → Led old mid next a (Ok i) now → StandsBehind start (l.view old).passed → StandsBehind place (l.view mid).passed → Registers l.view l.at dialects start place i now r new → MayRead {A = A} l.view l.at id_of (led_id_at dialects) old r new
   id_registered {old = old} {mid = mid} {next = next} {now = now} {new = new} {a = a} {i = i} r start place h p q k =
       let lead = lead_of (l.view old).rest in
       let v = seen_after l.view l.at l.view_at l.at_at old mid lead (behind_lead (l.view old).rest) h.takes in
       let s : StandsBehind place ((l.view old).passed ++ lead) = rw v at q in
       record { answers = rw h.fine (registers lead (behind lead (id_at (behind_lead (l.view old).rest))) start place i old now new r p s (led_is old mid next a (Ok i) now h) k) }
+
+  -- an id that is answered is one of a registered operation
+  pub known_id : (start place : Place) (i : OpId) (old new : S) (r : Result OpId (ParseFault A)) → Registers l.view l.at dialects start place i old r new → IfOk r (λ id. IsSome (table.registered dialects id))
+  known_id start place i old new (Ok j) h = subst (λ id. IsSome (table.registered dialects id)) (sym h.2) h.1
+  known_id start place i old new (Err fault) h = tt

@@ -13,7 +13,6 @@ pub mod Lists
 pub mod Sets
 pub mod Names
 pub mod NewPaths
-pub mod LocationViews
 pub mod LocationBegins
 pub mod LocationRows
 pub mod OnePass
@@ -61,7 +60,6 @@ pub mod SectionBack
 pub mod SectionMarked
 pub mod SectionBare
 pub mod RootBack
-pub mod EmptyModule
 pub mod Numbers
 pub mod MarksWritten
 pub mod SectionOnce
@@ -73,11 +71,14 @@ pub mod SectionIndices
 pub mod SharedOnce
 pub mod WholeRoot
 pub mod JoinAnswers
-pub mod JoinModule
 pub mod JoinTokens
 pub mod JoinSection
 pub mod JoinEntries
 pub mod JoinRoot
+pub mod JoinMarks
+pub mod JoinLead
+pub mod JoinOperation
+pub mod JoinPlain
 pub mod JoinRefused
 pub mod JoinTop
 mod Requirements
@@ -87,8 +88,7 @@ pub mod Items
 mod QuotedText
 mod PrintedModules
 mod Ascii
-mod ModulesText
-mod PrintedRoots
+pub mod RootParts
 pub mod UniqueRoot
 pub mod Used
 pub mod Steps
@@ -96,7 +96,9 @@ pub mod Spares
 pub mod LocationSpares
 pub mod Led
 pub mod Rooted
+pub mod OperationSpares
 pub mod Known
+pub mod OperationSteps
 pub mod Answered
 pub mod SectionSteps
 pub mod LocationBack
@@ -115,7 +117,30 @@ pub mod RootSteps
 pub mod TopLevel
 pub mod PrintedText
 pub mod LabelPlaces
+pub mod PieceTexts
+pub mod OpPrinters
+pub mod PrintedOperations
+pub mod OperationTexts
+pub mod DirectiveTexts
+pub mod FitsTests
+pub mod RegionTexts
 pub mod MarkerSteps
 pub mod AttrTexts
 pub mod AttrBack
 pub mod JoinAttributes
+mod PlainClosed
+mod PlainSection
+mod PlainRead
+mod PlainRoot
+mod PlainPrinted
+mod PlainText
+mod OwnEquality
+pub mod JoinLists
+pub mod JoinPieces
+pub mod JoinDictionary
+pub mod JoinPartSteps
+pub mod JoinParts
+pub mod JoinPartsFound
+pub mod JoinBody
+pub mod PieceSteps
+pub mod RegionSteps

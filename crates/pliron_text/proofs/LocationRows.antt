@@ -1,10 +1,11 @@
 -- Steps of the readers of locations: how far they come, and what is made of what they read.
-use Rattle.std.proofs.Common.{inr, ◌≡◌, ◌∙◌, ap, refl, sym, subst, ℕ, zero, suc, ◌≤◌, ◌<◌, Bool, true, false, Result, Ok, Err, List, [], ◌∷◌, ◌++◌, Vec, map, length, length-append, arith, cond, codes, true≢false}
+use Rattle.std.proofs.Common.{inr, ◌≡◌, ◌∙◌, ap, refl, sym, subst, ℕ, zero, suc, ◌≤◌, ◌<◌, Bool, true, false, Result, Ok, Err, IfOk, List, [], ◌∷◌, ◌++◌, Vec, map, length, length-append, arith, cond, codes, true≢false}
 use Rattle.std.specs.Char.{is_whitespace}
 use Rattle.irtext_base.specs.Text.{Text, begins, front, after}
 use Rattle.irtext_base.specs.Stream.{StreamView}
 use Rattle.irtext_base.specs.Answers.{Outcome, Read, Missing, Bad, Takes, Passes, Demands, Answers, demanded, unless_failed, mapped, followed}
 use Rattle.irtext_base.specs.Locations.{LocationView, LocationsOf, AttrView, location_view, in_row, no_location, location, row_sourced}
+use Rattle.irtext_base.specs.Moves.{all_kept, row_kept}
 use Rattle.irtext_base.specs.Paths.{Written, path_of, are_known, row_known, written_with}
 use Rattle.irtext_base.specs.declared.location.Location.{Location}
 use Rattle.irtext_base.specs.declared.parsable.fault.ParseFault.{ParseFault}
@@ -25,7 +26,7 @@ use Rattle.pliron_text.proofs.JoinTokens.{text_read}
 use Rattle.pliron_text.proofs.Rooted.{alone}
 use Rattle.pliron_text.proofs.Steps.{Passed, starts, turned, more, spaced, last, ends, starved, mapped_followed, mapped_mapped, mapped_as}
 use Rattle.pliron_text.proofs.LocationBegins.{is_missing, one_begins}
-use Rattle.pliron_text.proofs.NewPaths.{both_true, row_stays_known, row_written_same}
+use Rattle.irtext_base.proofs.PathKeys.{both_true, row_stays_known, row_written_same}
 
 -- what is left is no longer
 left_of : (t r w : Text) → t ++ r ≡ w → length r ≤ length w
@@ -75,6 +76,12 @@ module _ {A : Type 0} {outcome : Text → Outcome (Written A)} {paths : List (Li
         read = subst (λ s. MustRead {A = A} itself replaced (location_over paths) outcome old (Ok l) s) (sym h.1) (ends alone (location_over paths) l (turned alone (λ t. Read (location_over paths l) [] t) (ap (λ v. Read (written_with paths v) [] mid.rest) (sym h.0)) p));
       }
   made {result = Err fault} view p k h = record { known = tt; read = starved alone p h }
+
+-- what is kept for a location that looks so is what is kept for the one that was made
+pub made_kept : {A : Type 0} (old paths : List (List ℕ)) (view : LocationView A) (mid new : StreamView) (result : Result (Location A) (ParseFault A)) → paths ≡ all_kept old (written_with paths view) → Makes view mid result new
+    → IfOk result (λ l. paths ≡ all_kept old (location_over paths l))
+made_kept old paths view mid new (Ok l) k h = subst (λ v. paths ≡ all_kept old (written_with paths v)) (sym h.0) k
+made_kept old paths view mid new (Err fault) k h = tt
 
 module _ {A : Type 0} (attr : Text → Outcome (AttrView A)) {paths : List (List ℕ)} {old new : StreamView} {r : Result (Location A) (ParseFault A)} where
   -- the reader of the kind that the first character names answers for the location
@@ -130,6 +137,11 @@ joined_none (location l ls) = ap (location l) (joined_none ls)
 joined_one : {S A : Type 0} (ls more : LocationsOf S A) (l : _) → joined_rows (joined_rows ls (location l no_location)) more ≡ joined_rows ls (location l more)
 joined_one no_location more l = refl
 joined_one (location k ls) more l = ap (location k) (joined_one ls more l)
+
+-- what is kept for two rows is what is kept for the one and then for the other
+kept_joined : {A : Type 0} (paths : List (List ℕ)) (ls more : WrittenRow A) → row_kept paths (joined_rows ls more) ≡ row_kept (row_kept paths ls) more
+kept_joined paths no_location more = refl
+kept_joined paths (location l ls) more = kept_joined (all_kept paths l) ls more
 
 module _ {A : Type 0} where
   -- one more stands last
@@ -255,6 +267,12 @@ module _ {A : Type 0} (attr : Text → Outcome (AttrView A)) where
     pub all_over : row_over paths fuller ≡ joined_rows (row_over before found) (location (location_over paths l) no_location)
     all_over = ap (λ ls. row_sourced (path_of paths) (in_row (map location_view ls))) p.items ∙ (row_pushed paths found.items l
         ∙ ap (λ row. joined_rows row (location (location_over paths l) no_location)) (row_written_same before paths p.kept (in_row (map location_view found.items)) p.known))
+
+    -- what was kept for those before it, and then for it, is what was kept for all
+    pub pushed_kept : (old : List (List ℕ)) → before ≡ row_kept old (row_over before found) → paths ≡ all_kept before (location_over paths l) → paths ≡ row_kept old (row_over paths fuller)
+    pushed_kept old e k =
+        k ∙ (ap (λ p. all_kept p (location_over paths l)) e
+        ∙ sym (ap (row_kept old) all_over ∙ kept_joined old (row_over before found) (location (location_over paths l) no_location)))
 
     -- what follows stands behind it
     pub pushed_one : {outcome : Text → Outcome (WrittenRow A)} {old mid new end : StreamView} {B : Type 0} (b : Behind (row_over before found) outcome old mid)

@@ -1,4 +1,4 @@
--- No location's cause says that the stream had failed, where the reader of the caller's attributes never says so.
+-- No location's cause says that the stream had failed.
 use Rattle.std.proofs.Common.{ℕ, zero, suc, Bool, true, false, cond, Option, Some, None, List, [], ◌∷◌, ◌++◌, length}
 use Rattle.std.specs.Prelude.{◌==◌, codes}
 use Rattle.std.specs.Char.{is_ascii_hexdigit}
@@ -17,7 +17,8 @@ use Rattle.irtext_read.specs.ListOutcomes.{or_empty, item_after, items_after, se
 use Rattle.irtext_read.specs.AttrTexts.{given_name_at, given_names_at, ident_at, leads, attr_at}
 use Rattle.pliron_text.specs.LocationText.{spaced_at}
 use Rattle.pliron_text.specs.LocationReading.{WrittenRow, bytes_at, name_at, source_at, place_at, metadata_at, behind_location, row_of, more_at, fused_at, named_at, call_site_at, kind_at, location_within, more_within, location_at}
-use Rattle.pliron_text.specs.Roots.{SaysNotFailed, IsSincere}
+use Rattle.irtext_base.specs.Own.{Sincere}
+use Rattle.irtext_base.proofs.Sincere.{Of, first_of_text, not_failed, of_sincere}
 use Rattle.pliron_text.proofs.Spares.{Spares, NotFailed, unexpected_fine, range_fine, spares-prefixed, spares-followed, spares-mapped, spares-text, spares-word, spares-spaced, spares-position}
 
 -- the reading's cause does not say so
@@ -52,10 +53,10 @@ fine_mapped f o h = record { spares = spares-mapped NotFailed f o h.spares }
 pub fine_text : (word text : Text) → Fine (text_at word text)
 fine_text word text = record { spares = spares-text NotFailed unexpected_fine word text }
 
-fine_spaced : (word text : Text) → Fine (spaced_at word text)
+pub fine_spaced : (word text : Text) → Fine (spaced_at word text)
 fine_spaced word text = record { spares = spares-spaced NotFailed unexpected_fine word text }
 
-fine_identifier : (text : Text) → Fine (identifier_at text)
+pub fine_identifier : (text : Text) → Fine (identifier_at text)
 fine_identifier text = record { spares = spares-word NotFailed unexpected_fine AnIdentifier text }
 
 -- ---- texts between quotation marks
@@ -125,7 +126,7 @@ module _ {X : Type 0} (separator : ℕ) (item : Text → Outcome X) (items : (te
   fine_items (suc n) found text = fine_either (begins (the separator) text) _ _
       (fine_followed _ _ (fine_text (separator ∷ []) text) (λ _ t. fine_prefixed _ _ (fine_followed _ _ (fine_item found (after_space t)) (λ more v. fine_items n more v)))) (fine_read _ _ _)
 
-  fine_separated : (text : Text) → Fine (separated_at separator item text)
+  pub fine_separated : (text : Text) → Fine (separated_at separator item text)
   fine_separated text = fine_or_empty _ text (fine_followed _ _ (fine_item [] text) (λ found t. fine_items (length t) found t))
 
 fine_given : (text : Text) → Fine (given_name_at text)
@@ -140,18 +141,19 @@ fine_ident : (text : Text) → Fine (ident_at text)
 unfolding ident_at
 fine_ident text = fine_followed _ _ (fine_text (codes "builtin.identifier") text) (λ _ t. fine_prefixed _ _ (fine_identifier (after_space t)))
 
-says_fine : {X : Type 0} (o : Outcome X) → SaysNotFailed o → Fine o
-says_fine (Read x taken rest) h = fine_read _ _ _
-says_fine (Missing cause) h = fine_missing cause h
-says_fine (Bad cause upto) h = fine_bad cause upto h
+-- what is said of a text does not say so
+of_fine : {X : Type 0} (text : Text) (o : Outcome X) → Of text o → Fine o
+of_fine text (Read x taken rest) h = fine_read _ _ _
+of_fine text (Missing cause) h = fine_missing cause (not_failed cause (first_of_text cause h.says))
+of_fine text (Bad cause upto) h = fine_bad cause upto (not_failed cause h.says.0)
 
-fine_attr : {A : Type 0} (reading : Text → Outcome A) → IsSincere reading → (text : Text) → Fine (attr_at reading text)
+pub fine_attr : {A : Type 0} (reading : Text → Outcome A) → Sincere reading → (text : Text) → Fine (attr_at reading text)
 unfolding attr_at
 fine_attr reading s text = fine_either (leads (codes "builtin.given_names") text) _ _ (fine_mapped given_names _ (fine_names text))
-    (fine_either (leads (codes "builtin.identifier") text) _ _ (fine_mapped ident _ (fine_ident text)) (fine_mapped own _ (says_fine (reading text) (s.says text))))
+    (fine_either (leads (codes "builtin.identifier") text) _ _ (fine_mapped ident _ (fine_ident text)) (fine_mapped own _ (of_fine text (reading text) (of_sincere reading s text))))
 
 -- an attribute's cause does not say so
-pub attr_spares : {A : Type 0} (reading : Text → Outcome A) → IsSincere reading → (text : Text) → Spares NotFailed (attr_at reading text)
+pub attr_spares : {A : Type 0} (reading : Text → Outcome A) → Sincere reading → (text : Text) → Spares NotFailed (attr_at reading text)
 attr_spares reading s text = (fine_attr reading s text).spares
 
 -- ---- locations

@@ -13,7 +13,7 @@ use Rattle.irtext_base.specs.Text.{Text, is_identifier}
 use Rattle.irtext_base.specs.Causes.{position_text}
 use Rattle.irtext_base.specs.declared.parsable.position.SourcePosition.{SourcePosition}
 use Rattle.pliron_text.specs.LocationsText.{between, framed}
-use Rattle.pliron_text.specs.PrintedModule.{entry_text}
+use Rattle.pliron_text.specs.PrintedOperation.{entry_text}
 use Rattle.pliron_text.specs.Spell.{joined, joined_from, comma}
 use Rattle.pliron_text.proofs.Ascii.{ascii-from, ascii-identifier, ascii-position, encodes-ascii}
 

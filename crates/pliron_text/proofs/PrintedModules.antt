@@ -6,7 +6,7 @@ use Rattle.irtext_base.specs.Text.{Text}
 use Rattle.irtext_base.specs.Context.{ContextView}
 use Rattle.irtext_base.specs.declared.base.arena.Ptr.{Ptr}
 use Rattle.irtext_base.specs.declared.base.operation.Operation.{Operation}
-use Rattle.pliron_text.specs.PrintedModule.{entry_at, entries_from, section_text}
+use Rattle.pliron_text.specs.PrintedOperation.{entry_at, entries_from, section_text}
 use Rattle.pliron_text.proofs.LocationTexts.{more}
 
 module _ {T A : Type 0} (written : A → Text) (ctx : ContextView T A) where

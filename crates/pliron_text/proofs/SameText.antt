@@ -3,6 +3,7 @@ use Rattle.std.proofs.Common.{◌≡◌, ℕ, Bool, true, false, ◌&&◌, ◌==
 use Rattle.irtext_base.specs.Text.{Text}
 use Rattle.irtext_base.specs.Format.{same_text}
 use Rattle.std.proofs.lemmas.Bool.Decides.{nat_tests}
+use Rattle.std.specs.Str.{bytes_eq}
 
 pub same_itself : (c : ℕ) → (c == c) ≡ true
 same_itself c = grind (arith, nat_tests)
@@ -33,3 +34,12 @@ other_text s t n = go (same_text s t) refl
     go : (b : Bool) → same_text s t ≡ b → b ≡ false
     go true e = absurd (n (same_text_true s t e))
     go false e = refl
+
+-- the test on texts is std's
+pub same_text-bytes_eq : (s t : Text) → same_text s t ≡ bytes_eq s t
+same_text-bytes_eq [] [] = refl
+same_text-bytes_eq [] (d ∷ t) = refl
+same_text-bytes_eq (c ∷ s) [] = refl
+same_text-bytes_eq (c ∷ s) (d ∷ t) = rw (same_text-bytes_eq s t) refl
+
+pub ruleset texts = same_text-bytes_eq

@@ -19,13 +19,13 @@ use Rattle.irtext_read.specs.States.{same_index}
 use Rattle.pliron_text.specs.ModuleText.{index_at}
 use Rattle.pliron_text.specs.Roots.{may_follow}
 use Rattle.pliron_text.specs.SectionText.{content_at, known_index, entry_at, may_have, Entries}
-use Rattle.pliron_text.specs.SectionRead.{indices_of, known_given, given_over, known_entry, entry_over, entries_over, is_noted, Moves, Faults, Applies, AppliesAll, ReadsEntry}
+use Rattle.pliron_text.specs.SectionRead.{indices_of, known_given, given_over, known_entry, entry_over, entries_over, is_noted, Moves, Faults, Applies, AppliesAll, ReadsEntry, given_kept, entries_kept}
 use Rattle.pliron_text.specs.SoFar.{RefusedAs, EntriesRefused}
 use Rattle.pliron_text.proofs.Answered.{faults_behind}
 use Rattle.pliron_text.proofs.JoinAnswers.{followed_read, mapped_read}
 use Rattle.pliron_text.proofs.JoinEntries.{known_read, said_next, onto}
 use Rattle.pliron_text.proofs.JoinRoot.{may_have-onto}
-use Rattle.pliron_text.proofs.NewPaths.{stays_known, written_same}
+use Rattle.irtext_base.proofs.PathKeys.{stays_known, written_same}
 
 -- an entry depends on its index's test alone
 pub entry_at-same : {A : Type 0} (attr : Text → Outcome (AttrView A)) (test other : ℕ → Bool) → ((j : ℕ) → test j ≡ other j) → (text : Text) → entry_at attr test text ≡ entry_at attr other text
@@ -122,6 +122,10 @@ module _ {A : Type 0} where
     all_same [] h = refl
     all_same (e ∷ es) h = ap₂ (λ l xs. (e.0, l) ∷ xs) (given_same e.1 h.0) (all_same es h.1)
 
+  entries_kept_last : (paths : List (List ℕ)) (es : List (ℕ × Option (Written A))) (e : ℕ × Option (Written A)) → entries_kept paths (es ++ (e ∷ [])) ≡ given_kept (entries_kept paths es) e.1
+  entries_kept_last paths [] e = refl
+  entries_kept_last paths (d ∷ es) e = entries_kept_last (given_kept paths d.1) es e
+
 -- ---- one entry behind others
 module _ {A : Type 0} (attr : Text → Outcome (AttrView A)) (marks : List ℕ) where
   entries_behind : (earlier es : List (ℕ × Option (Written A))) (e : ℕ × Option (Written A)) (text mid taken left : Text) → Entries attr marks earlier es text mid → begins (the 33) mid ≡ true
@@ -147,7 +151,7 @@ module _ {A X : Type 0} (attr : Text → Outcome (AttrView A)) (marks : List (�
 
   -- the reader's entry is one entry more
   pub entry_noted : {old new : StreamView} (before paths : List (List ℕ)) (es es' : List (ℕ × Option (Location A))) (text : Text) → KeepsPaths before paths → EntriesSoFar before es text old.rest → begins (the 33) old.rest ≡ true
-      → ReadsEntry attr marks paths es old es' new → EntriesSoFar paths es' text new.rest
+      → ReadsEntry attr marks before paths es old es' new → EntriesSoFar paths es' text new.rest
   entry_noted {old = old} {new = new} before paths es es' text k h b r =
       let same = all_same before paths k es h.known in
       let stand : Entries attr (indices_of marks) [] (entries_over paths es) text old.rest = subst (λ z. Entries attr (indices_of marks) [] z text old.rest) (sym same) h.stand in
@@ -157,6 +161,14 @@ module _ {A X : Type 0} (attr : Text → Outcome (AttrView A)) (marks : List (�
         known = subst (AllKnown (length paths)) (sym r.noted) (known_more (length paths) es r.entry (all_stay_known before paths k es h.known) r.known);
         stand = subst (λ z. Entries attr (indices_of marks) [] z text new.rest) (sym all) (subst (λ z. Entries attr (indices_of marks) [] (entries_over paths es ++ (entry_over paths r.entry ∷ [])) text z) (sym r.left) more);
       }
+
+  -- what is kept for the entries so far, and then for one more, is what is kept for all
+  pub entries_kept_more : {old new : StreamView} (first before paths : List (List ℕ)) (es es' : List (ℕ × Option (Location A))) (text : Text) → KeepsPaths before paths → EntriesSoFar before es text old.rest
+      → ReadsEntry attr marks before paths es old es' new → before ≡ entries_kept first (entries_over before es) → paths ≡ entries_kept first (entries_over paths es')
+  entries_kept_more first before paths es es' text k h r e =
+      let all : entries_over paths es' ≡ entries_over paths es ++ (entry_over paths r.entry ∷ []) = ap (entries_over paths) r.noted ∙ over_more paths es r.entry in
+      r.kept ∙ (ap (λ p. given_kept p (given_over paths r.entry.1)) (e ∙ sym (ap (entries_kept first) (all_same before paths k es h.known)))
+      ∙ sym (ap (entries_kept first) all ∙ entries_kept_last first (entries_over paths es) (entry_over paths r.entry)))
 
   -- the reader's refusal of one more entry refuses the entries
   pub entries_stop : {old mid : StreamView} {fault : ParseFault A} (paths : List (List ℕ)) (es : List (ℕ × Option (Location A))) (h : Moves old mid) → Entries attr (indices_of marks) [] (entries_over paths es) old.rest mid.rest → begins (the 33) mid.rest ≡ true

@@ -4,7 +4,6 @@ use Rattle.std.specs.Char.{is_ascii_digit, is_whitespace}
 use Rattle.irtext_base.specs.Text.{Text, begins, front, after, begins_word, in_word}
 use Rattle.irtext_base.specs.Reading.{the}
 use Rattle.irtext_base.specs.Stream.{first_of}
-use Rattle.irtext_base.specs.Format.{Id}
 use Rattle.irtext_base.specs.Faults.{Fault, Failed, Unexpected, NumberRange, Demand, Word, AnOperation, AnIdentifier, ADigit}
 use Rattle.irtext_base.specs.Answers.{Outcome, Read, Missing, Bad, prefixed, mapped, followed}
 use Rattle.irtext_read.specs.Tokens.{text_at, spelled_at, word_at, identifier_at, id_at, id_with, number_at, numbered, no_digit, sign_of, after_sign, value_of, integer_at, integered, integer_of, no_integer}
@@ -19,10 +18,6 @@ abbrev pub Spares : (Fault → Type 0) → {X : Type 0} → Outcome X → Type 0
 Spares P (Read x taken rest) = Unit {0}
 Spares P (Missing cause) = P cause
 Spares P (Bad cause upto) = P cause
-
--- an operation's id, and its symbol's name behind white space
-abbrev pub rest_of : Id → Text → Outcome (Id × Text)
-rest_of id t = followed (space_at t) (λ _ u. mapped (λ name. (id, name)) (symbol_at u))
 
 module _ (P : Fault → Type 0) where
   pub spares-prefixed : {X : Type 0} (t : Text) (o : Outcome X) → Spares P o → Spares P (prefixed t o)
@@ -74,9 +69,6 @@ module _ (P : Fault → Type 0) where
 
     pub spares-symbol : (text : Text) → Spares P (symbol_at text)
     spares-symbol text = spares-followed (text_at (codes "@") text) (λ _ t. identifier_at t) (spares-text (codes "@") text) (λ _ t. spares-word AnIdentifier t)
-
-    pub spares-rest : (id : Id) (text : Text) → Spares P (rest_of id text)
-    spares-rest id text = spares-followed (space_at text) (λ _ u. mapped (λ name. (id, name)) (symbol_at u)) tt (λ _ u. spares-mapped (λ name. (id, name)) (symbol_at u) (spares-symbol u))
 
     pub spares-braces : (text : Text) → Spares P (braces_at text)
     spares-braces text = spares-followed (text_at (codes "{") text) (λ _ t. followed (space_at t) (λ _ u. text_at (codes "}") u)) (spares-text (codes "{") text) (λ _ t.

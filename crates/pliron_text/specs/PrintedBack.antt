@@ -1,7 +1,8 @@
--- What is promised of the text of a module that is read back.
-use Rattle.std.specs.Prelude.{◌≡◌, true, false, [], Some, FitsSigned}
+-- What is promised of the text of a root that is read back.
+use Rattle.std.specs.Prelude.{◌≡◌, true, false, List, [], Some, FitsSigned}
 use Rattle.std.specs.Int.{w32}
 use Rattle.irtext_base.specs.Text.{Text, after_space}
+use Rattle.irtext_base.specs.Dialects.{Table}
 use Rattle.irtext_base.specs.Locations.{src_pos}
 use Rattle.irtext_base.specs.Paths.{Written}
 use Rattle.irtext_base.specs.declared.base.arena.Ptr.{Ptr}
@@ -11,7 +12,7 @@ use Rattle.irtext_read.specs.declared.parsable.state.StateStream.{StateStream}
 use Rattle.pliron_text.specs.Build.{Built}
 use Rattle.pliron_text.specs.Graph.{Graph, Printing}
 use Rattle.pliron_text.specs.LocationWriting.{written_text}
-use Rattle.pliron_text.specs.Modules.{isolated}
+use Rattle.pliron_text.specs.Formats.{isolated}
 use Rattle.pliron_text.specs.Same.{Locations, UpToFillings, stood}
 use Rattle.pliron_text.specs.Stands.{stands}
 
@@ -26,6 +27,6 @@ pub record Fits32 (at : SourcePosition) : Type 0 where
 
 -- what stands under the answer is equal to the graph up to fillings, its location over the answer's paths, and only white space is
 -- left of the text
-abbrev pub StandsBack : {T A U : Type 0} → (A → Text) → Printing T A → Graph T A → Ptr Operation → StateStream T A U → Type 0
-StandsBack {T} {A} written C g q new =
-    (b : Built T A (Written A)) × (stands new.state.ctx.now q ≡ Some b) × UpToFillings (locations written) (stood C isolated g) b × (after_space new.stream.rest ≡ [])
+abbrev pub StandsBack : {T A U : Type 0} → (A → Text) → List (Text × Table) → Printing T A → Graph T A → Ptr Operation → StateStream T A U → Type 0
+StandsBack {T} {A} written dialects C g q new =
+    (b : Built T A (Written A)) × (stands new.state.ctx.now q ≡ Some b) × UpToFillings (locations written) (stood C (isolated dialects) g) b × (after_space new.stream.rest ≡ [])

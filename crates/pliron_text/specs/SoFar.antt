@@ -1,27 +1,29 @@
 -- The form of text that is read so far: which trees and entries have it, and what a reader's answer says of them.
-use Rattle.std.specs.Prelude.{◌≡◌, ℕ, true, Option, Some, None, List, [], ◌∷◌, ◌++◌, ⊤}
+use Rattle.std.specs.Prelude.{◌≡◌, ℕ, zero, suc, true, Option, Some, None, List, [], ◌∷◌, ◌++◌, ⊤}
 use Rattle.std.specs.Option.{option_map}
 use Rattle.irtext_base.specs.Text.{Text, begins}
 use Rattle.irtext_base.specs.Own.{Standing, standing, Texts, Language, language}
 use Rattle.irtext_base.specs.Reading.{the}
-use Rattle.irtext_base.specs.Format.{Id, sym_name_key}
+use Rattle.irtext_base.specs.Format.{Id}
+use Rattle.irtext_base.specs.Dialects.{Table}
 use Rattle.irtext_base.specs.Faults.{Fault, UnknownIndex}
 use Rattle.irtext_base.specs.Answers.{Outcome, Read, Missing, Bad}
 use Rattle.irtext_base.specs.Locations.{AttrView}
 use Rattle.irtext_base.specs.Paths.{Written}
 use Rattle.pliron_text.specs.Forest.{Regions, no_regions, region, no_blocks, block}
-use Rattle.pliron_text.specs.Tree as tree
-use Rattle.pliron_text.specs.Tree.{Mark, Tree, shown, ident}
+use Rattle.pliron_text.specs.Tree.{Mark, Tree}
 use Rattle.pliron_text.specs.ReadSection.{Entry, of_item, of_once}
 use Rattle.pliron_text.specs.Build.{Built}
-use Rattle.pliron_text.specs.Modules.{format_of}
+use Rattle.pliron_text.specs.Formats.{format_of, IsAccepted}
 use Rattle.pliron_text.specs.LocationReading.{location_at}
-use Rattle.pliron_text.specs.ModuleText.{Module, module_at}
+use Rattle.pliron_text.specs.ModuleText.{mark_at}
+use Rattle.pliron_text.specs.OperationText.{ReadOp, led_id_at, operation_by, root_at}
+use Rattle.pliron_text.specs.Pieces.{Pieces, IsRead}
 use Rattle.pliron_text.specs.SectionText.{may_have, entry_at, Entries, AllEntries, heading_at}
 
--- the language of the texts that are read so far: a module is the one operation
-abbrev pub so_far : {T A : Type 0} → Texts T → Texts A → Language ℕ T A
-so_far types owns = language types owns format_of
+-- the language of the texts that are read by these dialects
+abbrev pub so_far : {T A : Type 0} → List (Text × Table) → Texts T → Texts A → Language ℕ T A
+so_far dialects types owns = language types owns (format_of dialects)
 
 -- what the grammar looks at of a location's reading
 abbrev pub location_standing : {A : Type 0} → (Text → Outcome (AttrView A)) → Text → Standing (Written A)
@@ -33,10 +35,11 @@ HaveNoBlocks no_regions = ⊤
 HaveNoBlocks (region r no_blocks rs) = HaveNoBlocks rs
 HaveNoBlocks (region r (block b os bs) rs) = ⊥
 
--- the trees of the form that is read so far: no result has a name, and no region has a block
+-- the trees of the form that is read so far: no result has a name, no region has a block, and the parts are of the kinds that are read
 pub record IsSoFar {T A : Type 0} (t : Tree ℕ T A) : Type 0 where
   pub names : t.own.names ≡ []
   pub blocks : HaveNoBlocks t.regions
+  pub body : IsRead t.own.body
 
 -- the entries of the form that is read so far: each gives an item a location or none, and no attribute
 abbrev pub AreSoFar : {A X : Type 0} → List (Entry ℕ A X) → Type 0
@@ -48,15 +51,6 @@ AreSoFar (of_once m a ∷ es) = ⊥
 -- the index of a mark, where there is one
 abbrev pub index_of : {P : Type 0} → Option (Mark P) → Option ℕ
 index_of m = option_map (λ m. m.index) m
-
--- the tree is the module's: it has its id, its symbol's name, its mark's index, and one region without blocks
-pub record Describes {T A : Type 0} (t : Tree ℕ T A) (m : Module) : Type 0 where
-  pub id : t.own.id ≡ m.id
-  pub name_place : ℕ
-  pub body : t.own.body ≡ tree.custom (tree.piece (tree.header (record { place = name_place; text = m.name })) ∷ tree.region 0 ∷ [])
-  pub mark : index_of t.own.mark ≡ m.mark
-  pub brace_place : ℕ
-  pub regions : t.regions ≡ region (shown brace_place) no_blocks no_regions
 
 -- the entries have these indices and give these locations, in this order, and no attribute
 abbrev pub DescribeEntries : {A X : Type 0} → List (Entry ℕ A X) → List (ℕ × Option X) → Type 0
@@ -83,11 +77,16 @@ location_given x [] = x
 location_given x ((i, None) ∷ es) = x
 location_given x ((i, Some y) ∷ es) = y
 
--- what is built of a module: its symbol's name is its one attribute, and its one region has no blocks
-abbrev pub module_built : {T A X : Type 0} → Id → Text → X → Built T A X
-module_built id name location = record {
-  own = record { id = id; result_types = []; operands = []; successors = []; attributes = (sym_name_key, ident name) ∷ []; location = location };
-  regions = region tt no_blocks no_regions;
+-- as many regions without blocks
+abbrev pub bare_regions : {O B : Type 0} → ℕ → Regions O B ⊤
+bare_regions zero = no_regions
+bare_regions (suc n) = region tt no_blocks (bare_regions n)
+
+-- what is built of an operation: its pieces, and no results, operands and successors
+abbrev pub operation_built : {T A X : Type 0} → Id → Pieces A → X → Built T A X
+operation_built id pieces location = record {
+  own = record { id = id; result_types = []; operands = []; successors = []; attributes = pieces.attributes; location = location };
+  regions = bare_regions pieces.regions;
 }
 
 -- a reader finds nothing of its kind where the text begins, or something bad behind these characters
@@ -115,9 +114,14 @@ pub data SectionRefused {A : Type 0} (attr : Text → Outcome (AttrView A)) (mar
   -- a heading, and entries that are refused
   no_entry : (taken behind last : Text) → heading_at text ≡ Read tt taken behind → EntriesRefused attr marks behind cause last → taken ++ last ≡ upto → SectionRefused attr marks text cause upto
 
+-- the readers refuse the text where an operation must stand, with its mark by this reader; if its id is read, its format reads uniquely
+pub record OperationRefused {A : Type 0} (dialects : List (Text × Table)) (attr : Text → Outcome (AttrView A)) (mark : Text → Outcome (Option ℕ)) (text : Text) (cause : Fault) (upto : Text) : Type 0 where
+  pub refused : RefusedAs (operation_by dialects attr mark text) cause upto
+  pub accepted : (id : Id) (taken rest : Text) → led_id_at dialects text ≡ Read id taken rest → IsAccepted dialects id
+
 -- the readers refuse the text where a root must stand: with this cause, behind these characters
-pub data RootRefused {A : Type 0} (attr : Text → Outcome (AttrView A)) (text : Text) (cause : Fault) (upto : Text) : Type 0 where
-  -- no module stands there
-  no_module : RefusedAs (module_at text) cause upto → RootRefused attr text cause upto
-  -- a module with a mark, and a section that is refused
-  no_section : (m : Module) (taken mid : Text) (i : ℕ) (last : Text) → module_at text ≡ Read m taken mid → m.mark ≡ Some i → SectionRefused attr (i ∷ []) mid cause last → taken ++ last ≡ upto → RootRefused attr text cause upto
+pub data RootRefused {A : Type 0} (dialects : List (Text × Table)) (attr : Text → Outcome (AttrView A)) (text : Text) (cause : Fault) (upto : Text) : Type 0 where
+  -- no operation stands there
+  no_operation : OperationRefused dialects attr mark_at text cause upto → RootRefused dialects attr text cause upto
+  -- an operation with a mark, and a section that is refused
+  no_section : (m : ReadOp A) (taken mid : Text) (i : ℕ) (last : Text) → root_at dialects attr text ≡ Read m taken mid → IsAccepted dialects m.id → m.mark ≡ Some i → SectionRefused attr (i ∷ []) mid cause last → taken ++ last ≡ upto → RootRefused dialects attr text cause upto

@@ -1,11 +1,12 @@
 -- What reading a root promises: a tree of the form that is read so far, which resolves, and what it builds; or else why not.
-use Rattle.std.specs.Prelude.{◌≡◌, ◌≢◌, ℕ, ◌-◌, false, Option, Some, None, List, [], ◌∷◌, length, take, ⊤}
+use Rattle.std.specs.Prelude.{◌≡◌, ◌≢◌, ℕ, ◌-◌, false, Option, Some, None, List, [], ◌∷◌, length, take}
 use Rattle.irtext_base.specs.Text.{Text, line_behind, column_behind}
 use Rattle.irtext_base.specs.Own.{Texts}
-use Rattle.irtext_base.specs.Stream.{StreamView, cut}
+use Rattle.irtext_base.specs.Stream.{StreamView, cut, IsAt}
 use Rattle.irtext_base.specs.Faults.{Fault, fault_of}
 use Rattle.irtext_base.specs.Faults as fault
 use Rattle.irtext_base.specs.Answers.{Outcome, Read}
+use Rattle.irtext_base.specs.Dialects.{Table}
 use Rattle.irtext_base.specs.Context.{ContextView, get, operation, region, regions_in, KeepsPaths}
 use Rattle.irtext_base.specs.declared.base.arena.Ptr.{Ptr}
 use Rattle.irtext_base.specs.declared.base.operation.Operation.{Operation}
@@ -20,14 +21,14 @@ use Rattle.irtext_read.specs.declared.parsable.state.StateStream.{StateStream}
 use Rattle.pliron_text.specs.Acts.{failures_of}
 use Rattle.pliron_text.specs.Build.{build}
 use Rattle.pliron_text.specs.Marked.{reads_root}
-use Rattle.pliron_text.specs.ModuleText.{Module, module_at}
-use Rattle.pliron_text.specs.Modules.{isolated}
+use Rattle.pliron_text.specs.Formats.{isolated, IsAccepted}
+use Rattle.pliron_text.specs.OperationText.{ReadOp, root_at}
 use Rattle.pliron_text.specs.Placeholders.{In}
 use Rattle.pliron_text.specs.ReadSection.{Entry}
 use Rattle.pliron_text.specs.Script.{Cause, Failure}
 use Rattle.pliron_text.specs.Script as script
-use Rattle.pliron_text.specs.SectionRead.{Moves, FaultAt}
-use Rattle.pliron_text.specs.SoFar.{so_far, location_standing, IsSoFar, AreSoFar, SectionStands, RootRefused, location_given, module_built}
+use Rattle.pliron_text.specs.SectionRead.{Moves, ReportedAt}
+use Rattle.pliron_text.specs.SoFar.{so_far, location_standing, IsSoFar, AreSoFar, SectionStands, RootRefused, location_given, operation_built}
 use Rattle.pliron_text.specs.Stands.{stands, whole, StandsAt}
 use Rattle.pliron_text.specs.Tree.{Tree}
 
@@ -54,16 +55,17 @@ module _ {T A U : Type 0} where
     pub marks : marks_of s.state ≡ []
     pub fine : s.stream.failed ≡ false
 
-  -- the readers found a module where the stream stood, and its section where it has a mark; it stands under the answer, and only it is new
+  -- the readers found an operation where the stream stood, and its section where it has a mark; it stands under the answer, and only it is new
   pub record ReadsRoot (attr : Text → Outcome (AttrView A)) (op : Ptr Operation) (old new : StateStream T A U) : Type 0 where
-    pub m : Module
+    pub m : ReadOp A
     pub taken : Text
     pub mid : Text
-    pub reads : module_at old.stream.rest ≡ Read m taken mid
+    pub reads : root_at old.state.ctx.now.dialects attr old.stream.rest ≡ Read m taken mid
+    pub accepted : IsAccepted old.state.ctx.now.dialects m.id
     pub entries : List (ℕ × Option (Written A))
     pub section : SectionStands attr m.mark entries mid new.stream.rest
     pub moves : Moves old.stream new.stream
-    pub builds : stands new.state.ctx.now op ≡ Some (module_built m.id m.name (location_given (location_of new.state.ctx.now.paths old.state.src (whole old.stream) (length old.stream.rest)) entries))
+    pub builds : stands new.state.ctx.now op ≡ Some (operation_built m.id m.pieces (location_given (location_of new.state.ctx.now.paths old.state.src (whole old.stream) (length old.stream.rest)) entries))
     pub fresh : marks_of new.state ≡ []
     pub only : OnlyNew op old.state.ctx.now new.state.ctx.now
 
@@ -71,11 +73,13 @@ module _ {T A U : Type 0} where
 abbrev pub IsCause : Cause Text → Fault → Type 0
 IsCause (script.DuplicateIndex i) cause = cause ≡ fault.DuplicateIndex i
 IsCause (script.UnknownIndex i) cause = cause ≡ fault.UnknownIndex i
+IsCause (script.ReservedKey key) cause = cause ≡ fault.ReservedKey key
+IsCause script.NotIsolated cause = cause ≡ fault.NotIsolated
 IsCause _ cause = ⊥
 
--- a position stands at the place of a failure, if it has one of its own
+-- a position stands at the place of a failure, or at the beginning of the text where it has none of its own
 abbrev pub IsPlace : Text → Option ℕ → SourcePosition → Type 0
-IsPlace text None at = ⊤
+IsPlace text None at = IsAt at.line at.column []
 IsPlace text (Some place) at = StandsAt text place at
 
 -- the fault is the first of these failures, with its cause and its place in the text
@@ -83,28 +87,30 @@ abbrev pub IsFirst : {A : Type 0} → Text → List (Failure Text ℕ) → Parse
 IsFirst text [] fault = ⊥
 IsFirst text (f ∷ fs) fault = IsCause f.cause (fault_of fault.cause) × IsPlace text f.at fault.pos
 
-module _ {T A : Type 0} (types : Texts T) (owns : Texts A) (attr : Text → Outcome (AttrView A)) where
-  -- Whatever the text reads as, in that form, does not resolve, and the fault is its first failure; and it is the fault of the
-  -- readers of the module and its section, where nothing reads too.
+module _ {T A : Type 0} (types : Texts T) (owns : Texts A) (attr : Text → Outcome (AttrView A)) (dialects : List (Text × Table)) where
+  -- Whatever the text reads as by these dialects, in that form, does not resolve, and the fault is its first failure; and it is the
+  -- fault of the readers of the operation and its section, where nothing reads too.
   pub record RefusesRoot (old : StreamView) (fault : ParseFault A) : Type 0 where
     pub first : (tree : Tree ℕ T A) (entries : List (Entry ℕ A (Written A))) (rest : Text)
-        → reads_root (so_far types owns) (location_standing attr) tree entries old.rest rest → IsSoFar tree → AreSoFar entries → IsFirst (whole old) (failures_of isolated tree entries) fault
+        → reads_root (so_far dialects types owns) (location_standing attr) tree entries old.rest rest → IsSoFar tree → AreSoFar entries
+        → IsFirst (whole old) (failures_of (isolated dialects) tree entries) fault
     pub cause : Fault
     pub upto : Text
-    pub refused : RootRefused attr old.rest cause upto
-    pub at : FaultAt cause upto old fault
+    pub refused : RootRefused dialects attr old.rest cause upto
+    pub at : ReportedAt cause upto old fault
 
 module _ {T A U : Type 0} (types : Texts T) (owns : Texts A) (attr : Text → Outcome (AttrView A)) where
-  -- A root stood where the stream stood: the text reads, with its section, as a tree of the form that is read so far, up to where
-  -- the stream stands now, and the tree resolves. What it builds stands under the answer, only that is new, and no mark is noted.
+  -- A root stood where the stream stood: the text reads by the context's dialects, with its section, as a tree of the form that is
+  -- read so far, up to where the stream stands now, and the tree resolves. What it builds stands under the answer, only that is new,
+  -- and no mark is noted.
   pub record BuildsRoot (op : Ptr Operation) (old new : StateStream T A U) : Type 0 where
     pub tree : Tree ℕ T A
     pub entries : List (Entry ℕ A (Written A))
-    pub reads : reads_root (so_far types owns) (location_standing attr) tree entries old.stream.rest new.stream.rest
+    pub reads : reads_root (so_far old.state.ctx.now.dialects types owns) (location_standing attr) tree entries old.stream.rest new.stream.rest
     pub tree_form : IsSoFar tree
     pub entries_form : AreSoFar entries
-    pub resolves : failures_of isolated tree entries ≡ []
+    pub resolves : failures_of (isolated old.state.ctx.now.dialects) tree entries ≡ []
     pub moves : Moves old.stream new.stream
-    pub builds : stands new.state.ctx.now op ≡ Some (build isolated (location_of new.state.ctx.now.paths old.state.src (whole old.stream)) entries tree)
+    pub builds : stands new.state.ctx.now op ≡ Some (build (isolated old.state.ctx.now.dialects) (location_of new.state.ctx.now.paths old.state.src (whole old.stream)) entries tree)
     pub fresh : marks_of new.state ≡ []
     pub only : OnlyNew op old.state.ctx.now new.state.ctx.now

@@ -1,6 +1,6 @@
 //! Operations and regions as text.
 
-mod print;
+pub(crate) mod print;
 mod read;
 mod verify;
 

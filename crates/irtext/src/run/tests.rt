@@ -83,6 +83,14 @@ fn roots_are_read_and_printed(rt: HostRuntime) -> Result<(), Fail> {
                 FIRST,
             ),
             accepted(b"builtin.module @m {} !7 outlined_attributes:", FIRST),
+            accepted(
+                b"builtin.func @f: builtin.function <()->(builtin.integer si64)> {}",
+                b"builtin.func @f: builtin.function <()->(builtin.integer si64)> \n{\n  \n} !0\n\noutlined_attributes:\n!0 = @[<in-memory>: line: 1, column: 1], []\n",
+            ),
+            accepted(
+                b"= test.nop",
+                b"test.nop !0\n\noutlined_attributes:\n!0 = @[<in-memory>: line: 1, column: 1], []\n",
+            ),
         ],
     )
 }
@@ -107,6 +115,14 @@ fn texts_of_no_root_are_refused(rt: HostRuntime) -> Result<(), Fail> {
             refused(
                 b"\n  tests.nop",
                 b"[<in-memory>: line: 2, column: 3] Compilation error: invalid input program.\nParse error at line: 2, column: 3\nUnregistered dialect tests\n",
+            ),
+            refused(
+                b"  test.nopx",
+                b"[<in-memory>: line: 1, column: 1] Compilation error: invalid input program.\nParse error at line: 1, column: 1\nUnregistered Op test.nopx\n",
+            ),
+            refused(
+                b"\n test.scope {}",
+                b"[<in-memory>: line: 1, column: 1] Compilation error: invalid input program.\nParse error at line: 1, column: 1\nRegions in a top-level operation must be IsolatedFromAbove\n",
             ),
             refused(
                 b"  builtin.modul @m {}",

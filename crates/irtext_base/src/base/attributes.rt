@@ -66,10 +66,16 @@ impl<A> Model for AttributeDict<A> {
     ghost invariant = { λ d. IsSound d.given (entries_of d.others) };
 }
 
+fn is_reserved_text(key: &str) -> bool
+    ensures { result ≡ bytes_eq given_names_key key.now }
+{
+    "builtin_given_names" == key
+}
+
 fn is_reserved(key: &Identifier) -> bool
     ensures { result ≡ bytes_eq given_names_key key.now }
 {
-    "builtin_given_names" == key.as_str()
+    is_reserved_text(key.as_str())
 }
 
 fn given_attr<A>(given: &Option<Given<A>>) -> Option<&AttrObj<A>>
@@ -129,7 +135,7 @@ fn put_other<A: Drop>(
     }
 }
 
-fn get_other<'a, A: Drop>(others: &'a Others<A>, key: &Identifier) -> Option<&'a AttrObj<A>>
+fn get_other<'a, A: Drop>(others: &'a Others<A>, key: &str) -> Option<&'a AttrObj<A>>
     ensures { option_copied result ≡ lookup (bytes_eq key.now) (entries_of others.now) }
 {
     match others {
@@ -208,7 +214,14 @@ impl<A: Drop> AttributeDict<A> {
     pub fn get(&self, key: &Identifier) -> Option<&AttrObj<A>>
         ensures { option_copied result ≡ lookup (bytes_eq key.now) self.now }
     {
-        if is_reserved(key) {
+        self.get_str(key.as_str())
+    }
+
+    /// The attribute under the key of this text.
+    pub fn get_str(&self, key: &str) -> Option<&AttrObj<A>>
+        ensures { option_copied result ≡ lookup (bytes_eq key.now) self.now }
+    {
+        if is_reserved_text(key) {
             return given_attr(&self.given);
         }
         get_other(&self.others, key)

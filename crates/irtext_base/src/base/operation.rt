@@ -10,6 +10,7 @@ use crate::base::arena::Arena;
 use crate::base::{AttributeDict, Context, OpId, Ptr, Region};
 use crate::location::Location;
 use crate::text::{AttrText, IrText};
+pub use make::add_regions;
 use std::alloc::AllocError;
 
 /// The kind of operations, for pointers to them.

@@ -1,23 +1,11 @@
 //! Copies of locations.
 ghost use Rattle.std.specs.Prelude.{◌≡◌, false, map, IfOk, IfErr, OnErr};
-ghost use Rattle.irtext_base.specs.Locations.{location_view, attr_view_in, is_plain, out_of_memory};
+ghost use Rattle.irtext_base.specs.Locations.{location_view, is_plain, out_of_memory};
 
-use crate::base::AttrObj;
+use crate::location::made::{call_site, fused, named};
 use crate::location::{Location, out_of_memory};
 use crate::text::AttrText;
 use std::alloc::{AllocError, Global};
-
-fn copy_metadata<A: AttrText>(
-    alloc: Global,
-    metadata: &Option<AttrObj<A>>,
-) -> Result<Option<AttrObj<A>>, AllocError>
-    ensures { IfOk result (λ copy. attr_view_in copy ≡ attr_view_in metadata.now) }
-{
-    match metadata {
-        Some(attr) => Ok(Some(attr.try_clone(alloc)?)),
-        None => Ok(None),
-    }
-}
 
 #[cycle(copy)]
 fn copy_location<A: AttrText>(
@@ -36,22 +24,17 @@ fn copy_location<A: AttrText>(
             metadata,
             locations,
         } => {
-            let metadata = Box::new(alloc, copy_metadata(alloc, metadata)?)?;
-            let locations = Box::new(alloc, copy_locations(alloc, locations)?)?;
-            Ok(Location::Fused {
-                metadata,
-                locations,
-            })
+            let locations = copy_locations(alloc, locations)?;
+            fused(alloc, metadata, locations)
         }
         Location::Named { name, child_loc } => {
-            let name = Box::new(alloc, (**name).clone()?)?;
-            let child_loc = Box::new(alloc, copy_location(alloc, child_loc)?)?;
-            Ok(Location::Named { name, child_loc })
+            let child = copy_location(alloc, child_loc)?;
+            named(alloc, name, child)
         }
         Location::CallSite { callee, caller } => {
-            let callee = Box::new(alloc, copy_location(alloc, callee)?)?;
-            let caller = Box::new(alloc, copy_location(alloc, caller)?)?;
-            Ok(Location::CallSite { callee, caller })
+            let callee = copy_location(alloc, callee)?;
+            let caller = copy_location(alloc, caller)?;
+            call_site(alloc, callee, caller)
         }
         Location::Unknown => Ok(Location::Unknown),
     }

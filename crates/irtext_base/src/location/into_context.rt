@@ -1,11 +1,12 @@
-//! Sources and positions for another context, under its keys for the same paths.
-ghost use Rattle.std.specs.Prelude.{◌≡◌, ◌≢◌, length, Ok, IfOk, IfErr, OnOk, OnErr, IsTrue};
-ghost use Rattle.irtext_base.specs.Locations.{out_of_memory};
-ghost use Rattle.irtext_base.specs.Paths.{is_known};
-ghost use Rattle.irtext_base.specs.Moves.{moved_source, with_paths};
+//! Sources, positions and locations for another context, under its keys for the same paths.
+ghost use Rattle.std.specs.Prelude.{◌≡◌, ◌≢◌, false, map, length, Ok, IfOk, IfErr, OnOk, OnErr, IsTrue};
+ghost use Rattle.irtext_base.specs.Locations.{location_view, in_row, row_sourced, out_of_memory};
+ghost use Rattle.irtext_base.specs.Paths.{path_of, is_known, are_known, row_known, written_with};
+ghost use Rattle.irtext_base.specs.Moves.{source_under, path_kept, all_under, all_kept, row_under, row_kept, is_free, with_paths, KeepsMore};
 
 use crate::base::Context;
-use crate::location::{Source, out_of_memory};
+use crate::location::made::{call_site, fused, named};
+use crate::location::{Location, Source, out_of_memory};
 use crate::parsable::SourcePosition;
 use crate::text::{AttrText, IrText};
 use std::alloc::AllocError;
@@ -16,8 +17,8 @@ fn move_source<T: IrText<A>, A: AttrText>(
     to: &mut Context<T, A>,
 ) -> Result<Source, AllocError>
     requires { IsTrue (is_known (length from.now.paths) source) }
-    ensures ok { IfOk result (λ s. s ≡ (moved_source from.now.paths to.old.paths source).0) }
-    ensures kept { OnOk result (to.new ≡ with_paths to.old (moved_source from.now.paths to.old.paths source).1) }
+    ensures ok { IfOk result (λ s. s ≡ source_under to.old.paths (path_of from.now.paths source)) }
+    ensures kept { OnOk result (to.new ≡ with_paths to.old (path_kept to.old.paths (path_of from.now.paths source))) }
     ensures err { OnErr result (to.new ≡ to.old) }
     ensures file { OnErr result (source ≢ Source.InMemory) }
 {
@@ -25,6 +26,63 @@ fn move_source<T: IrText<A>, A: AttrText>(
         Source::File(key) => Ok(Source::File(to.keep_path(from.path(key))?)),
         Source::InMemory => Ok(Source::InMemory),
     }
+}
+
+/// The location for the other context, which may keep more paths also where memory is refused.
+#[cycle(moved)]
+fn move_location<T: IrText<A>, A: AttrText>(
+    location: &Location<A>,
+    from: &Context<T, A>,
+    to: &mut Context<T, A>,
+) -> Result<Location<A>, AllocError>
+    requires { IsTrue (are_known (length from.now.paths) (location_view location.now)) }
+    ensures ok { IfOk result (λ l. location_view l ≡ all_under to.old.paths (written_with from.now.paths (location_view location.now))) }
+    ensures kept { OnOk result (to.new.paths ≡ all_kept to.old.paths (written_with from.now.paths (location_view location.now))) }
+    ensures more { KeepsMore to.old to.new }
+    ensures free { OnErr result (is_free (written_with from.now.paths (location_view location.now)) ≡ false) }
+{
+    let alloc = to.allocator();
+    match location {
+        Location::SrcPos { src, pos } => {
+            let src = move_source(*src, from, to)?;
+            Ok(Location::SrcPos { src, pos: *pos })
+        }
+        Location::Fused {
+            metadata,
+            locations,
+        } => {
+            let locations = move_locations(locations, from, to)?;
+            fused(alloc, metadata, locations)
+        }
+        Location::Named { name, child_loc } => {
+            let child = move_location(child_loc, from, to)?;
+            named(alloc, name, child)
+        }
+        Location::CallSite { callee, caller } => {
+            let callee = move_location(callee, from, to)?;
+            let caller = move_location(caller, from, to)?;
+            call_site(alloc, callee, caller)
+        }
+        Location::Unknown => Ok(Location::Unknown),
+    }
+}
+
+#[cycle(moved)]
+fn move_locations<T: IrText<A>, A: AttrText>(
+    locations: &Vec<Location<A>>,
+    from: &Context<T, A>,
+    to: &mut Context<T, A>,
+) -> Result<Vec<Location<A>>, AllocError>
+    requires { IsTrue (row_known (length from.now.paths) (in_row (map location_view locations.now.items))) }
+    ensures ok { IfOk result (λ moved. in_row (map location_view moved.items) ≡ row_under to.old.paths (row_sourced (path_of from.now.paths) (in_row (map location_view locations.now.items)))) }
+    ensures kept { OnOk result (to.new.paths ≡ row_kept to.old.paths (row_sourced (path_of from.now.paths) (in_row (map location_view locations.now.items)))) }
+    ensures more { KeepsMore to.old to.new }
+{
+    let mut moved = Vec::with_capacity(to.allocator(), locations.len())?;
+    for location in locations {
+        moved.push(move_location(location, from, to)?)?;
+    }
+    Ok(moved)
 }
 
 impl Source {
@@ -37,8 +95,8 @@ impl Source {
         dst_ctx: &mut Context<T, A>,
     ) -> crate::result::Result<Source, A>
         requires { IsTrue (is_known (length src_ctx.now.paths) self.now) }
-        ensures ok { IfOk result (λ s. s ≡ (moved_source src_ctx.now.paths dst_ctx.old.paths self.now).0) }
-        ensures kept { OnOk result (dst_ctx.new ≡ with_paths dst_ctx.old (moved_source src_ctx.now.paths dst_ctx.old.paths self.now).1) }
+        ensures ok { IfOk result (λ s. s ≡ source_under dst_ctx.old.paths (path_of src_ctx.now.paths self.now)) }
+        ensures kept { OnOk result (dst_ctx.new ≡ with_paths dst_ctx.old (path_kept dst_ctx.old.paths (path_of src_ctx.now.paths self.now))) }
         ensures err { OnErr result (dst_ctx.new ≡ dst_ctx.old) }
         ensures memory { IfErr result (λ e. e ≡ out_of_memory) }
         ensures file { OnErr result (self.now ≢ Source.InMemory) }
@@ -61,5 +119,35 @@ impl SourcePosition {
         ensures same { dst_ctx.new ≡ dst_ctx.old }
     {
         Ok(*self)
+    }
+}
+
+impl<A: AttrText> Location<A> {
+    /// The same location for another context: each of its files under the key that the other context has for its path or gives
+    /// it, in the order in which the location mentions them. It is refused only for want of memory, by `Memory`, an error of
+    /// kind invalid argument, and then the other context keeps what paths it kept. `Unknown`, and a place of a text in memory,
+    /// are never refused.
+    pub fn clone_into_context<T: IrText<A>>(
+        &self,
+        src_ctx: &Context<T, A>,
+        dst_ctx: &mut Context<T, A>,
+    ) -> crate::result::Result<Location<A>, A>
+        requires { IsTrue (are_known (length src_ctx.now.paths) (location_view self.now)) }
+        ensures ok { IfOk result (λ l. location_view l ≡ all_under dst_ctx.old.paths (written_with src_ctx.now.paths (location_view self.now))) }
+        ensures kept { OnOk result (dst_ctx.new ≡ with_paths dst_ctx.old (all_kept dst_ctx.old.paths (written_with src_ctx.now.paths (location_view self.now)))) }
+        ensures known { IfOk result (λ l. IsTrue (are_known (length dst_ctx.new.paths) (location_view l))) }
+        ensures text { IfOk result (λ l. written_with dst_ctx.new.paths (location_view l) ≡ written_with src_ctx.now.paths (location_view self.now)) }
+        ensures err { OnErr result (dst_ctx.new ≡ dst_ctx.old) }
+        ensures memory { IfErr result (λ e. e ≡ out_of_memory) }
+        ensures free { OnErr result (is_free (written_with src_ctx.now.paths (location_view self.now)) ≡ false) }
+    {
+        let count = dst_ctx.num_paths();
+        match move_location(self, src_ctx, dst_ctx) {
+            Ok(location) => Ok(location),
+            Err(_) => {
+                dst_ctx.truncate_paths(count);
+                Err(out_of_memory())
+            }
+        }
     }
 }

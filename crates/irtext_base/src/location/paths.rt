@@ -1,7 +1,7 @@
 //! Files as sources, and whether the files of a location are those of a context.
 ghost use Rattle.std.specs.Prelude.{◌≡◌, map, length, nat_lt, Some, IfOk, IfErr, OnOk, OnErr};
 ghost use Rattle.irtext_base.specs.Locations.{location_view, in_row, out_of_memory};
-ghost use Rattle.irtext_base.specs.Paths.{path_index, with_path, path_of, is_known, are_known, row_known};
+ghost use Rattle.irtext_base.specs.Paths.{path_index, with_path, MayBeRefused, path_of, is_known, are_known, row_known};
 
 use crate::base::Context;
 use crate::location::{Location, Source, out_of_memory};
@@ -9,7 +9,8 @@ use crate::text::{AttrText, IrText};
 
 impl Source {
     /// The source of a file with this path, under the key that the context has for it or gives it. It is refused only for want
-    /// of memory, by `Memory`, an error of kind invalid argument, and then changes nothing.
+    /// of memory, by `Memory`, an error of kind invalid argument, and then changes nothing. A path that the context keeps already
+    /// takes none; so it is refused only where its index takes more than 32 bits.
     pub fn new_from_file<T: IrText<A>, A: AttrText>(
         ctx: &mut Context<T, A>,
         path: &str,
@@ -18,6 +19,7 @@ impl Source {
         ensures kept { OnOk result (ctx.new ≡ record ctx.old { paths = with_path ctx.old.paths path.now }) }
         ensures err { OnErr result (ctx.new ≡ ctx.old) }
         ensures memory { IfErr result (λ e. e ≡ out_of_memory) }
+        ensures known { OnErr result (MayBeRefused ctx.old.paths path.now) }
     {
         match ctx.keep_path(path) {
             Ok(key) => Ok(Source::File(key)),

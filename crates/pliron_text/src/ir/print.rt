@@ -1,12 +1,12 @@
 //! Printing of roots.
-ghost use Rattle.std.specs.Prelude.{◌≡◌, ◌++◌, [], Some, OnOk, IfErr, IsSome, IsSomeAnd, IfSome, IsTrue, string_bytes, length};
+ghost use Rattle.std.specs.Prelude.{◌≡◌, ◌++◌, [], Some, OnOk, IfErr, IsSome, IsTrue, codes, decimal, string_bytes, length};
 ghost use Rattle.std.specs.Str.{encode_utf8_all};
 ghost use Rattle.irtext_base.specs.Context.{OperationView, operation};
 ghost use Rattle.irtext_base.specs.Own.{texts_of, unplaced};
-ghost use Rattle.irtext_base.specs.Text.{is_identifier};
+ghost use Rattle.pliron_text.specs.ConcreteText as concrete;
+ghost use Rattle.pliron_text.specs.Formats.{format_of};
 ghost use Rattle.pliron_text.specs.LocationWriting.{known_text};
-ghost use Rattle.pliron_text.specs.Modules as modules;
-ghost use Rattle.pliron_text.specs.PrintedModule as printed;
+ghost use Rattle.pliron_text.specs.PrintedOperation as printed;
 ghost use Rattle.pliron_text.specs.Printing.{gathered_of, with_gathered};
 ghost use Rattle.pliron_text.specs.declared.printable.refusal.Refusal.TheVariants as refusal;
 
@@ -21,6 +21,19 @@ use std::fmt;
 
 pub mod concrete;
 pub mod debug;
+mod directives;
+mod fits;
+pub(crate) mod pieces;
+pub(crate) mod regions;
+
+/// Appends a mark with this index.
+fn fmt_index(index: usize, f: &mut String) -> Result<(), Refusal>
+    ensures text { OnOk result (string_bytes f.new ≡ string_bytes f.old ++ encode_utf8_all (codes " !" ++ decimal index)) }
+    ensures refused { IfErr result (λ e. e ≡ refusal.Memory) }
+{
+    write!(f, " !{index}")?;
+    Ok(())
+}
 
 /// Appends the mark of an operation whose location is known, and gathers the operation.
 fn fmt_mark<A, U>(
@@ -29,7 +42,7 @@ fn fmt_mark<A, U>(
     state: &mut State<U>,
     f: &mut String,
 ) -> Result<(), Refusal>
-    ensures text { OnOk result (string_bytes f.new ≡ string_bytes f.old ++ printed.mark_text location.now (length (gathered_of state.old))) }
+    ensures text { OnOk result (string_bytes f.new ≡ string_bytes f.old ++ encode_utf8_all (printed.mark_text location.now (length (gathered_of state.old)))) }
     ensures state { OnOk result (state.new ≡ with_gathered state.old (gathered_of state.old ++ printed.gathered_at location.now op)) }
     ensures refused { IfErr result (λ e. e ≡ refusal.Memory) }
 {
@@ -37,8 +50,7 @@ fn fmt_mark<A, U>(
         return Ok(());
     }
     let index = state.gather(op)?;
-    write!(f, " !{index}")?;
-    Ok(())
+    fmt_index(index, f)
 }
 
 /// Appends the entry of a marked operation. It fails only where memory is refused.
@@ -110,10 +122,10 @@ fn fmt_root<T: IrText<A>, A: AttrText, U>(
     f: &mut String,
 ) -> Result<(), Refusal>
     requires live { IsSome (operation ctx.now op) }
-    ensures text { (view : OperationView T A) → operation ctx.now op ≡ Some view → OnOk result (IsSomeAnd (printed.root_text A.written ctx.now op view state.old) (λ text. string_bytes f.new ≡ string_bytes f.old ++ text)) }
-    ensures name { (view : OperationView T A) → operation ctx.now op ≡ Some view → OnOk result (IfSome (printed.module_symbol view) (λ symbol. IsTrue (is_identifier symbol))) }
+    ensures text { (view : OperationView T A) → operation ctx.now op ≡ Some view → OnOk result (string_bytes f.new ≡ string_bytes f.old ++ encode_utf8_all (printed.root_text A.written ctx.now op view state.old (concrete.concrete_text (unplaced (texts_of T.reading T.written) (texts_of A.reading A.written) (format_of ctx.now.dialects)) (printed.printing ctx.now.dialects A.outlined A.print_once A.eq) view state.old))) }
+    ensures fits { OnOk result (IsTrue (printed.is_printed_in (printed.printing ctx.now.dialects A.outlined A.print_once A.eq) (operation ctx.now op))) }
     ensures state { OnOk result (state.new ≡ with_gathered state.old []) }
-    ensures refused { (view : OperationView T A) → operation ctx.now op ≡ Some view → IfErr result (printed.RefusesConcrete view state.old) }
+    ensures refused { (view : OperationView T A) → operation ctx.now op ≡ Some view → IfErr result (printed.RefusesConcrete (printed.printing ctx.now.dialects A.outlined A.print_once A.eq) view state.old) }
 {
     fmt_concrete(ctx, op, state, f)?;
     fmt_mark(op.loc(ctx), op, state, f)?;
@@ -126,7 +138,7 @@ fn fmt_root<T: IrText<A>, A: AttrText, U>(
 impl<T: IrText<A>, A: AttrText, U> Printable<U, T, A> for Ptr<Operation> {
     ghost can_print = { λ op ctx. IsSome (operation ctx op) };
 
-    ghost gives = { λ op ctx s. printed.printed (unplaced (texts_of T.reading T.written) (texts_of A.reading A.written) modules.format_of) (printed.printing A.outlined A.print_once A.eq) ctx op s };
+    ghost gives = { λ op ctx s. printed.printed (unplaced (texts_of T.reading T.written) (texts_of A.reading A.written) (format_of ctx.dialects)) (printed.printing ctx.dialects A.outlined A.print_once A.eq) ctx op s };
 
     fn fmt(&self, ctx: &Context<T, A>, state: &mut State<U>, f: &mut String) -> fmt::Result {
         fmt_root(ctx, *self, state, f)?;

@@ -1,46 +1,49 @@
 //! Reading of roots, and the calls of operations that are about text.
 ghost use Rattle.std.specs.Prelude.{◌≡◌, ◌≤◌, ◌⊎◌, ℕ, false, List, cond, None, ◌++◌, IsSome, IfOk, IfErr, OnOk, OnErr};
 ghost use Rattle.irtext_base.specs.Answers.{Takes, DemandsOf, Starves};
-ghost use Rattle.irtext_base.specs.Context.{operation, before, KeepsOlder, MakesOperation, AddsRegion};
-ghost use Rattle.irtext_base.specs.Format.{same_text};
+ghost use Rattle.irtext_base.specs.Context.{operation, before, KeepsOlder};
+ghost use Rattle.irtext_base.specs.DialectTable.{registered};
 ghost use Rattle.irtext_base.specs.Faults.{Memory, fault_of, id_of};
-ghost use Rattle.irtext_base.specs.Made.{SameObjects};
+ghost use Rattle.irtext_base.specs.Made.{SameObjects, AddsRegions};
 ghost use Rattle.irtext_base.specs.Own.{texts_of};
-ghost use Rattle.irtext_base.specs.declared.base.region.Region.{Region};
+ghost use Rattle.irtext_base.specs.Stream.{IsAt};
 ghost use Rattle.irtext_read.specs.AttrTexts.{attr_at};
 ghost use Rattle.irtext_read.specs.States.{marks_of};
-ghost use Rattle.pliron_text.specs.ModuleText.{symbol_at, header_at, led_id_at, braces_at, mark_at, lead_of, behind_lead, is_led};
+ghost use Rattle.pliron_text.specs.Formats.{IsAccepted};
+ghost use Rattle.pliron_text.specs.ModuleText.{mark_at, lead_of, behind_lead, is_led};
 ghost use Rattle.pliron_text.specs.MustRead.{MustRead, MayRead};
-ghost use Rattle.pliron_text.specs.Roots.{itself, replaced, symbol_entries, made_view, fresh_mark_at, noted, KeepsRest, ReadsModule, MissesModule, Refusal};
-ghost use Rattle.pliron_text.specs.Registered.{Registers, header_of};
-ghost use Rattle.pliron_text.specs.SectionRead.{ReadsWith, MissesWith};
+ghost use Rattle.pliron_text.specs.OperationRead.{MakesWith, ReadsOperation, MissesOperation};
+ghost use Rattle.pliron_text.specs.OperationText.{led_id_at, body_of};
+ghost use Rattle.pliron_text.specs.PiecesOf.{pieces_of};
+ghost use Rattle.pliron_text.specs.Registered.{Registers};
+ghost use Rattle.pliron_text.specs.Roots.{itself, replaced, fresh_mark_at, noted, KeepsRest, Refusal};
+ghost use Rattle.pliron_text.specs.SectionRead.{Faults, ReadsWith, MissesWith, is_unplaced, IsReported};
+ghost use Rattle.pliron_text.specs.SoFar.{OperationRefused};
 ghost use Rattle.pliron_text.specs.TopLevel.{IsFresh, BuildsRoot, RefusesRoot};
 
+use crate::format::pieces::{Pieces, body_parse};
 use crate::ir::print::concrete::OpObj;
-use crate::irfmt::demanded::{identifier_demanded, index_demanded, text_demanded};
+use crate::irfmt::demanded::index_demanded;
 use crate::irfmt::outlined::section_parse;
 use crate::parsable::{Parsable, out_of_memory};
-use irtext_base::base::{AttrObj, AttributeDict, Context, Identifier, OpId, Operation, Ptr};
+use irtext_base::base::operation::add_regions;
+use irtext_base::base::{Context, OpId, Operation, Ptr};
 use irtext_base::location::Location;
-use irtext_base::parsable::{CharStream, ParseResult, Place};
+use irtext_base::parsable::{
+    CharStream, ParseFault, ParseResult, ParserNameTrackerError, Place, SourcePosition, TextStream,
+};
 use irtext_base::result::Cause;
 use irtext_base::text::{AttrText, IrText};
 use irtext_read::irfmt::faults::{demand, next_is, refuse, refuse_at};
 use irtext_read::irfmt::parsers::{id_parse, skip_white_space};
 use irtext_read::parsable::{StateStream, StreamLocation};
-use std::alloc::{AllocError, Global};
+use std::alloc::AllocError;
 
 /// How an operation is read.
 #[derive(Clone, Copy)]
 pub struct OperationParserConfig {
     /// Whether the section of its marked items is read behind it.
     pub look_for_outlined_attrs: bool,
-}
-
-/// What stands before an operation's region.
-struct Header {
-    id: OpId,
-    symbol: Identifier,
 }
 
 /// Passes white space, and `=` with white space where it stands: an operation without results may begin so.
@@ -80,35 +83,32 @@ fn demand_if<S: CharStream, X, A>(
     }
 }
 
-/// Whether a name is this text.
-#[tactic(auto, using(crate::proofs::Led::texts))]
-fn is_text(name: &Identifier, text: &str) -> bool
-    ensures { result ≡ same_text name.now text.now }
-{
-    name.as_str() == text
-}
-
 /// The id, where its operation is registered. `start` is where the operation begins, `at` where its id does.
-fn registered<S: CharStream, A: Drop>(
+fn registered<S: CharStream, T: IrText<A>, A: AttrText>(
     stream: &mut S,
+    ctx: &Context<T, A>,
     start: Place,
     at: Place,
     id: OpId,
 ) -> ParseResult<OpId, A>
-    ensures { Registers S.view S.at start at id stream.old result stream.new }
+    ensures { Registers S.view S.at ctx.now.dialects start at id stream.old result stream.new }
 {
-    if !is_text(&id.dialect, "builtin") {
+    if !ctx.has_dialect(&id.dialect) {
         return Err(refuse_at(stream, at, Cause::UnregisteredDialect(id.dialect)));
     }
-    if !is_text(&id.name, "module") {
+    if ctx.op_info(&id).is_none() {
         return Err(refuse_at(stream, start, Cause::UnregisteredOp(id)));
     }
     Ok(id)
 }
 
 /// The id of a registered operation, behind what may stand in front of it.
-fn led_id_parse<S: CharStream, A: Drop>(stream: &mut S) -> ParseResult<OpId, A>
-    ensures { MayRead S.view S.at id_of led_id_at stream.old result stream.new }
+fn led_id_parse<S: CharStream, T: IrText<A>, A: AttrText>(
+    stream: &mut S,
+    ctx: &Context<T, A>,
+) -> ParseResult<OpId, A>
+    ensures read { MayRead S.view S.at id_of (led_id_at ctx.now.dialects) stream.old result stream.new }
+    ensures known { IfOk result (λ id. IsSome (registered ctx.now.dialects id)) }
 {
     if stream.has_failed() {
         return Err(refuse(stream, Cause::StreamFailed));
@@ -118,34 +118,23 @@ fn led_id_parse<S: CharStream, A: Drop>(stream: &mut S) -> ParseResult<OpId, A>
     let at = stream.position();
     let answer = id_parse(stream);
     let id = demand_if(stream, led, answer)?;
-    registered(stream, start, at, id)
+    registered(stream, ctx, start, at, id)
 }
 
-/// `@` and a name, which must stand there.
-fn symbol_parse<S: CharStream, A>(stream: &mut S) -> ParseResult<Identifier, A>
-    ensures { MustRead S.view S.at (λ name. name) symbol_at stream.old result stream.new }
+/// What stands behind the id of a registered operation, by its format.
+fn known_body_parse<T: IrText<A>, A: AttrText>(
+    stream: &mut TextStream,
+    ctx: &Context<T, A>,
+    id: &OpId,
+) -> ParseResult<Pieces<A>, A>
+    requires { IsSome (registered ctx.now.dialects id.now) }
+    ensures read { MustRead itself replaced pieces_of (body_of ctx.now.dialects (attr_at A.IrText.reading) (id_of id.now)) stream.old result stream.new }
+    ensures accepted { IsAccepted ctx.now.dialects (id_of id.now) }
 {
-    text_demanded(stream, "@")?;
-    identifier_demanded(stream)
-}
-
-/// An operation up to its region.
-fn header_parse<S: CharStream, A: Drop>(stream: &mut S) -> ParseResult<Header, A>
-    ensures { MayRead S.view S.at header_of header_at stream.old result stream.new }
-{
-    let id = led_id_parse(stream)?;
-    skip_white_space(stream);
-    let symbol = symbol_parse(stream)?;
-    Ok(Header { id, symbol })
-}
-
-/// The braces of a region without blocks, which must stand there.
-fn braces_parse<S: CharStream, A>(stream: &mut S) -> ParseResult<(), A>
-    ensures { MustRead S.view S.at (λ u. u) braces_at stream.old result stream.new }
-{
-    text_demanded(stream, "{")?;
-    skip_white_space(stream);
-    text_demanded(stream, "}")
+    match ctx.op_info(id) {
+        Some(info) => body_parse(stream, &info.format, info.isolated),
+        None => unreachable!(),
+    }
 }
 
 /// A mark's index, where a mark stands.
@@ -162,62 +151,49 @@ fn mark_parse<S: CharStream, A>(stream: &mut S) -> ParseResult<Option<usize>, A>
     Ok(Some(index))
 }
 
-/// The dictionary of a module: its symbol's name.
-fn symbol_dictionary<A: Drop>(
-    alloc: Global,
-    symbol: Identifier,
-) -> Result<AttributeDict<A>, AllocError>
-    ensures { IfOk result (λ d. d ≡ symbol_entries symbol) }
-{
-    let key = Identifier::from_word(alloc, "builtin_sym_name")?;
-    let mut attributes = AttributeDict::new(alloc);
-    match attributes.insert(key, AttrObj::Ident(symbol)) {
-        Ok(()) => Ok(attributes),
-        Err(_) => Err(AllocError),
-    }
-}
-
-/// The operation of a header, which has no region yet.
-fn make_module<T: IrText<A>, A: AttrText, U>(
+/// The operation that was read, with its regions. What was made stays where memory is refused.
+fn make_read<T: IrText<A>, A: AttrText, U>(
     s: &mut StateStream<'_, T, A, U>,
+    id: OpId,
+    pieces: Pieces<A>,
     loc: Location<A>,
-    header: Header,
 ) -> ParseResult<Ptr<Operation>, A>
     ensures lent { s.new.state.ctx.ghost_name ≡ s.old.state.ctx.ghost_name }
     ensures rest { KeepsRest s.old.state s.new.state }
     ensures marks { marks_of s.new.state ≡ marks_of s.old.state }
-    ensures makes { IfOk result (λ op. MakesOperation s.old.state.ctx.now s.new.state.ctx.now op (made_view header.id header.symbol loc)) }
+    ensures makes { IfOk result (λ op. MakesWith id pieces.attributes loc pieces.regions op s.old.state.ctx.now s.new.state.ctx.now) }
     ensures stream { OnOk result (s.new.stream ≡ s.old.stream) }
     ensures starved { IfErr result (λ fault. Starves itself replaced s.old.stream fault s.new.stream) }
-    ensures unmade { OnErr result (s.new.state.ctx.now ≡ s.old.state.ctx.now) }
     ensures kept { (mark : ℕ) → mark ≤ s.old.state.ctx.now.made → KeepsOlder mark s.old.state.ctx.now s.new.state.ctx.now }
 {
-    let Header { id, symbol } = header;
-    let Ok(attributes) = symbol_dictionary(s.stream.allocator(), symbol) else {
-        return Err(out_of_memory(s));
-    };
+    let Pieces {
+        attributes,
+        regions,
+    } = pieces;
     match s.state.ctx.make_operation(id, attributes, loc) {
-        Ok(op) => Ok(op),
+        Ok(op) => with_regions(s, op, regions),
         Err(AllocError) => Err(out_of_memory(s)),
     }
 }
 
-/// A region without blocks, which becomes the last of the operation.
-fn region_parse<T: IrText<A>, A: AttrText, U>(
+/// The same operation, with as many regions more.
+fn with_regions<T: IrText<A>, A: AttrText, U>(
     s: &mut StateStream<'_, T, A, U>,
     op: Ptr<Operation>,
-) -> ParseResult<(), A>
+    regions: usize,
+) -> ParseResult<Ptr<Operation>, A>
     requires { IsSome (operation s.old.state.ctx.now op) }
     ensures lent { s.new.state.ctx.ghost_name ≡ s.old.state.ctx.ghost_name }
     ensures rest { KeepsRest s.old.state s.new.state }
     ensures marks { marks_of s.new.state ≡ marks_of s.old.state }
-    ensures read { MustRead itself replaced (λ u. u) braces_at s.old.stream result s.new.stream }
-    ensures adds { OnOk result ((region : Ptr Region) × AddsRegion s.old.state.ctx.now s.new.state.ctx.now op region) }
+    ensures adds { IfOk result (λ p. (p ≡ op) × AddsRegions regions s.old.state.ctx.now s.new.state.ctx.now op) }
+    ensures stream { OnOk result (s.new.stream ≡ s.old.stream) }
+    ensures starved { IfErr result (λ fault. Starves itself replaced s.old.stream fault s.new.stream) }
     ensures kept { (mark : ℕ) → mark ≤ s.old.state.ctx.now.made → before mark s.old.state.ctx.now.operations op ≡ None → KeepsOlder mark s.old.state.ctx.now s.new.state.ctx.now }
 {
-    braces_parse(&mut s.stream)?;
-    match s.state.ctx.add_region(op) {
-        Ok(_) => Ok(()),
+    let ctx = &mut *s.state.ctx;
+    match add_regions(ctx, op, regions) {
+        Ok(()) => Ok(op),
         Err(AllocError) => Err(out_of_memory(s)),
     }
 }
@@ -251,19 +227,50 @@ fn operation_parse<T: IrText<A>, A: AttrText, U>(
 ) -> ParseResult<Ptr<Operation>, A>
     ensures lent { s.new.state.ctx.ghost_name ≡ s.old.state.ctx.ghost_name }
     ensures rest { KeepsRest s.old.state s.new.state }
-    ensures read { IfOk result (λ op. ReadsModule op s.old s.new) }
-    ensures refused { IfErr result (λ fault. MissesModule s.old fault s.new) }
+    ensures read { IfOk result (λ op. ReadsOperation (attr_at A.IrText.reading) op s.old s.new) }
+    ensures refused { IfErr result (λ fault. MissesOperation (attr_at A.IrText.reading) s.old fault s.new) }
+    ensures missed { s.old.stream.failed ≡ false → IfErr result (λ fault. Faults (OperationRefused s.old.state.ctx.now.dialects (attr_at A.IrText.reading) (fresh_mark_at (marks_of s.old.state)) s.old.stream.rest) s.old.stream fault) }
     ensures unmarked { OnErr result (marks_of s.new.state ≡ marks_of s.old.state) }
     ensures kept { (mark : ℕ) → mark ≤ s.old.state.ctx.now.made → KeepsOlder mark s.old.state.ctx.now s.new.state.ctx.now }
 {
     let loc = s.loc();
-    let header = header_parse(&mut s.stream)?;
-    let op = make_module(s, loc, header)?;
-    skip_white_space(&mut s.stream);
-    region_parse(s, op)?;
+    let ctx = &mut *s.state.ctx;
+    let id = led_id_parse(&mut s.stream, ctx)?;
+    let pieces = known_body_parse(&mut s.stream, ctx, &id)?;
+    let op = make_read(s, id, pieces, loc)?;
     skip_white_space(&mut s.stream);
     operation_mark_parse(s, op)?;
     Ok(op)
+}
+
+/// Whether a fault's place is that of what stands round it.
+fn is_unplaced<A>(cause: &Cause<A>) -> bool
+    ensures { result ≡ is_unplaced (fault_of cause.now) }
+{
+    match cause {
+        Cause::ParserNameTracker(ParserNameTrackerError::TopLevelOpRegionNotIsolatedFromAbove) => {
+            true
+        }
+        _ => false,
+    }
+}
+
+/// The fault as a root reports it: an unplaced one at the beginning of the text, since nothing stands round the root.
+fn reported<A>(fault: ParseFault<A>) -> ParseFault<A>
+    ensures cause { result.cause ≡ fault.cause }
+    ensures committed { result.committed ≡ fault.committed }
+    ensures at { (passed : List ℕ) → IsAt fault.pos.line fault.pos.column passed → IsReported (fault_of fault.cause) passed result.pos }
+{
+    let pos = if is_unplaced(&fault.cause) {
+        SourcePosition::default()
+    } else {
+        fault.pos
+    };
+    ParseFault {
+        pos,
+        cause: fault.cause,
+        committed: fault.committed,
+    }
 }
 
 /// An operation, and the section behind it where it is looked for and a mark stands. What it made stays where it is refused.
@@ -273,18 +280,23 @@ fn root_parse<T: IrText<A>, A: AttrText, U>(
 ) -> ParseResult<Ptr<Operation>, A>
     ensures lent { s.new.state.ctx.ghost_name ≡ s.old.state.ctx.ghost_name }
     ensures rest { KeepsRest s.old.state s.new.state }
-    ensures refused { IfErr result (λ fault. Refusal A.IrText.reading s.old.stream fault s.new.stream) }
+    ensures refused { IfErr result (λ fault. Refusal s.old.stream fault s.new.stream) }
     ensures read { IfOk result (λ op. ReadsWith (attr_at A.IrText.reading) config.look_for_outlined_attrs op s.old s.new) }
     ensures missed { s.old.stream.failed ≡ false → IfErr result (λ fault. MissesWith (attr_at A.IrText.reading) config.look_for_outlined_attrs s.old fault) }
     ensures marks { OnErr result ((more : List (ℕ × Ptr Operation)) × (marks_of s.new.state ≡ marks_of s.old.state ++ more)) }
     ensures kept { OnErr result ((mark : ℕ) → mark ≤ s.old.state.ctx.now.made → KeepsOlder mark s.old.state.ctx.now s.new.state.ctx.now) }
 {
-    let op = operation_parse(s)?;
+    let op = match operation_parse(s) {
+        Ok(op) => op,
+        Err(fault) => return Err(reported(fault)),
+    };
     if !config.look_for_outlined_attrs || !s.state.has_marks() {
         return Ok(op);
     }
-    section_parse(s)?;
-    Ok(op)
+    match section_parse(s) {
+        Ok(()) => Ok(op),
+        Err(fault) => Err(reported(fault)),
+    }
 }
 
 /// The outermost reading: it gives back what it made where it is refused.
@@ -294,7 +306,7 @@ fn outermost_parse<T: IrText<A>, A: AttrText, U>(
 ) -> ParseResult<Ptr<Operation>, A>
     ensures lent { s.new.state.ctx.ghost_name ≡ s.old.state.ctx.ghost_name }
     ensures rest { KeepsRest s.old.state s.new.state }
-    ensures refused { IfErr result (λ fault. Refusal A.IrText.reading s.old.stream fault s.new.stream) }
+    ensures refused { IfErr result (λ fault. Refusal s.old.stream fault s.new.stream) }
     ensures read { IfOk result (λ op. ReadsWith (attr_at A.IrText.reading) config.look_for_outlined_attrs op s.old s.new) }
     ensures missed { s.old.stream.failed ≡ false → IfErr result (λ fault. MissesWith (attr_at A.IrText.reading) config.look_for_outlined_attrs s.old fault) }
     ensures objects { OnErr result (SameObjects s.old.state.ctx.now s.new.state.ctx.now) }
@@ -327,9 +339,9 @@ pub trait OperationText {
     ) -> ParseResult<Ptr<Operation>, A>
         ensures lent { stream.new.state.ctx.ghost_name ≡ stream.old.state.ctx.ghost_name }
         ensures rest { KeepsRest stream.old.state stream.new.state }
-        ensures refused { IfErr result (λ fault. Refusal A.IrText.reading stream.old.stream fault stream.new.stream) }
+        ensures refused { IfErr result (λ fault. Refusal stream.old.stream fault stream.new.stream) }
         ensures builds { IsFresh stream.old → IfOk result (λ op. BuildsRoot (texts_of T.reading T.written) (texts_of A.reading A.written) (attr_at A.reading) op stream.old stream.new) }
-        ensures unresolved { IsFresh stream.old → IfErr result (λ fault. (fault_of fault.cause ≡ Memory) ⊎ RefusesRoot (texts_of T.reading T.written) (texts_of A.reading A.written) (attr_at A.reading) stream.old.stream fault) }
+        ensures unresolved { IsFresh stream.old → IfErr result (λ fault. (fault_of fault.cause ≡ Memory) ⊎ RefusesRoot (texts_of T.reading T.written) (texts_of A.reading A.written) (attr_at A.reading) stream.old.state.ctx.now.dialects stream.old.stream fault) }
         ensures objects { OnErr result (SameObjects stream.old.state.ctx.now stream.new.state.ctx.now) }
         ensures marks { OnErr result (marks_of stream.new.state ≡ marks_of stream.old.state) };
 
@@ -369,7 +381,7 @@ impl<T: IrText<A>, A: AttrText, U> Parsable<T, A, U> for Operation {
     ) -> ParseResult<Ptr<Operation>, A>
         ensures lent { stream.new.state.ctx.ghost_name ≡ stream.old.state.ctx.ghost_name }
         ensures rest { KeepsRest stream.old.state stream.new.state }
-        ensures refused { IfErr result (λ fault. Refusal A.IrText.reading stream.old.stream fault stream.new.stream) }
+        ensures refused { IfErr result (λ fault. Refusal stream.old.stream fault stream.new.stream) }
         ensures read { IfOk result (λ op. ReadsWith (attr_at A.IrText.reading) config.look_for_outlined_attrs op stream.old stream.new) }
         ensures missed { stream.old.stream.failed ≡ false → IfErr result (λ fault. MissesWith (attr_at A.IrText.reading) config.look_for_outlined_attrs stream.old fault) }
         ensures objects { OnErr result (SameObjects stream.old.state.ctx.now stream.new.state.ctx.now) }

@@ -3,8 +3,9 @@ ghost use Rattle.irtext_base.specs.Faults.{characters};
 ghost use Rattle.irtext_read.specs.Tokens.{number_at, integer_at};
 ghost use Rattle.pliron_text.specs.MustRead.{MustRead};
 ghost use Rattle.pliron_text.specs.LocationText.{spaced_at};
-ghost use Rattle.pliron_text.specs.ModuleText.{index_at};
+ghost use Rattle.pliron_text.specs.ModuleText.{index_at, symbol_at, braces_at};
 
+use irtext_base::base::Identifier;
 use irtext_base::parsable::{CharStream, ParseResult};
 use irtext_base::result::Cause;
 pub(crate) use irtext_read::irfmt::demanded::{identifier_demanded, text_demanded};
@@ -49,4 +50,21 @@ pub(crate) fn i32_demanded<S: CharStream, A>(stream: &mut S) -> ParseResult<i32,
 {
     let answer = i32_parse(stream);
     demand(stream, answer)
+}
+
+/// `@` and a name, which must stand there.
+pub(crate) fn symbol_parse<S: CharStream, A>(stream: &mut S) -> ParseResult<Identifier, A>
+    ensures { MustRead S.view S.at (λ name. name) symbol_at stream.old result stream.new }
+{
+    text_demanded(stream, "@")?;
+    identifier_demanded(stream)
+}
+
+/// The braces of a region without blocks, which must stand there.
+pub(crate) fn braces_parse<S: CharStream, A>(stream: &mut S) -> ParseResult<(), A>
+    ensures { MustRead S.view S.at (λ u. u) braces_at stream.old result stream.new }
+{
+    text_demanded(stream, "{")?;
+    skip_white_space(stream);
+    text_demanded(stream, "}")
 }

@@ -7,7 +7,7 @@ ghost use Rattle.pliron_text.specs.ModuleText.{index_at};
 ghost use Rattle.pliron_text.specs.MustRead.{MustRead};
 ghost use Rattle.pliron_text.specs.NewPaths.{AddsPaths, MustReadOver};
 ghost use Rattle.pliron_text.specs.SoFar.{RefusedAs, EntriesRefused, SectionRefused};
-ghost use Rattle.pliron_text.specs.SectionRead.{indices_of, known_given, given_over, known_entry, entry_over, Faults, Locates, Applies, AppliesAll, ReadsEntry, ReadsEntries, ReadsSection};
+ghost use Rattle.pliron_text.specs.SectionRead.{indices_of, known_given, given_over, known_entry, entry_over, Faults, Locates, Applies, AppliesAll, ReadsEntry, ReadsEntries, ReadsSection, given_kept, entries_kept, entries_over};
 ghost use Rattle.pliron_text.specs.SectionText.{entry_location_at, content_at, known_index, entry_at};
 ghost use Rattle.pliron_text.specs.Roots.{itself, replaced, may_follow, Demand, KeepsRest};
 
@@ -62,6 +62,7 @@ fn entry_location<T: IrText<A>, A: AttrText>(
 ) -> ParseResult<Option<Location<A>>, A>
     ensures adds { AddsPaths ctx.old ctx.new }
     ensures read { MustReadOver known_given given_over (entry_location_at (attr_at A.IrText.reading)) ctx.new.paths stream.old result stream.new }
+    ensures paths { IfOk result (λ given. ctx.new.paths ≡ given_kept ctx.old.paths (given_over ctx.new.paths given)) }
 {
     if stream.has_failed() {
         return Err(refuse(stream, Cause::StreamFailed));
@@ -85,6 +86,7 @@ fn entry_content<T: IrText<A>, A: AttrText>(
 ) -> ParseResult<Option<Location<A>>, A>
     ensures adds { AddsPaths ctx.old ctx.new }
     ensures read { MustReadOver known_given given_over (content_at (attr_at A.IrText.reading)) ctx.new.paths stream.old result stream.new }
+    ensures paths { IfOk result (λ given. ctx.new.paths ≡ given_kept ctx.old.paths (given_over ctx.new.paths given)) }
 {
     spaced_text(stream, "=")?;
     let location = entry_location(stream, ctx)?;
@@ -104,6 +106,7 @@ fn entry_read<T: IrText<A>, A: AttrText, U>(
     ensures marks { marks_of s.new.state ≡ marks_of s.old.state }
     ensures adds { AddsPaths s.old.state.ctx.now s.new.state.ctx.now }
     ensures read { MustReadOver known_entry entry_over (entry_at (attr_at A.IrText.reading) (may_follow (marks_of s.old.state) entries.now.entries)) s.new.state.ctx.now.paths s.old.stream result s.new.stream }
+    ensures paths { IfOk result (λ e. s.new.state.ctx.now.paths ≡ given_kept s.old.state.ctx.now.paths (given_over s.new.state.ctx.now.paths e.1)) }
 {
     let index = entry_index(s, entries)?;
     let ctx = &mut *s.state.ctx;
@@ -122,9 +125,9 @@ fn entry_parse<T: IrText<A>, A: AttrText, U>(
     ensures adds { AddsPaths s.old.state.ctx.now s.new.state.ctx.now }
     ensures shorter { OnOk result (length s.new.stream.rest < length s.old.stream.rest) }
     ensures fine { OnOk result (s.new.stream.failed ≡ s.old.stream.failed) }
-    ensures read { OnOk result (ReadsEntry (attr_at A.IrText.reading) (marks_of s.old.state) s.new.state.ctx.now.paths entries.old.entries s.old.stream entries.new.entries s.new.stream) }
+    ensures read { OnOk result (ReadsEntry (attr_at A.IrText.reading) (marks_of s.old.state) s.old.state.ctx.now.paths s.new.state.ctx.now.paths entries.old.entries s.old.stream entries.new.entries s.new.stream) }
     ensures missed { s.old.stream.failed ≡ false → IfErr result (λ fault. Faults (RefusedAs (entry_at (attr_at A.IrText.reading) (may_follow (marks_of s.old.state) entries.old.entries) s.old.stream.rest)) s.old.stream fault) }
-    ensures refused { IfErr result (λ fault. Demand A.IrText.reading s.old.stream fault s.new.stream) }
+    ensures refused { IfErr result (λ fault. Demand s.old.stream fault s.new.stream) }
 {
     let entry = entry_read(s, entries)?;
     if entries.insert(entry.0, entry.1).is_err() {
@@ -145,7 +148,8 @@ fn entries_parse<T: IrText<A>, A: AttrText, U>(
     ensures fine { OnOk result (s.new.stream.failed ≡ s.old.stream.failed) }
     ensures read { IfOk result (λ entries. ReadsEntries (attr_at A.IrText.reading) (indices_of (marks_of s.old.state)) s.new.state.ctx.now.paths entries.entries s.old.stream s.new.stream) }
     ensures missed { s.old.stream.failed ≡ false → IfErr result (λ fault. Faults (EntriesRefused (attr_at A.IrText.reading) (indices_of (marks_of s.old.state)) s.old.stream.rest) s.old.stream fault) }
-    ensures refused { IfErr result (λ fault. Demand A.IrText.reading s.old.stream fault s.new.stream) }
+    ensures refused { IfErr result (λ fault. Demand s.old.stream fault s.new.stream) }
+    ensures paths { IfOk result (λ entries. s.new.state.ctx.now.paths ≡ entries_kept s.old.state.ctx.now.paths (entries_over s.new.state.ctx.now.paths entries.entries)) }
 {
     let mut entries = IndexMap::new(s.stream.allocator());
     while next_is(&s.stream, '!') {
@@ -215,7 +219,7 @@ pub(crate) fn section_parse<T: IrText<A>, A: AttrText, U>(
     ensures rest { KeepsRest s.old.state s.new.state }
     ensures read { OnOk result (ReadsSection (attr_at A.IrText.reading) s.old s.new) }
     ensures missed { s.old.stream.failed ≡ false → IfErr result (λ fault. Faults (SectionRefused (attr_at A.IrText.reading) (indices_of (marks_of s.old.state)) s.old.stream.rest) s.old.stream fault) }
-    ensures refused { IfErr result (λ fault. Demand A.IrText.reading s.old.stream fault s.new.stream) }
+    ensures refused { IfErr result (λ fault. Demand s.old.stream fault s.new.stream) }
     ensures marks { OnErr result (marks_of s.new.state ≡ marks_of s.old.state) }
     ensures adds { OnErr result (AddsPaths s.old.state.ctx.now s.new.state.ctx.now) }
 {

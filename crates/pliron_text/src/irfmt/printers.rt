@@ -1,4 +1,5 @@
-//! Stored printers: values that print a closure's text, a quoted text, the items of an iterator, or a text between two others.
+//! Stored printers: values that print a closure's text, a quoted text, the items of an iterator, a text between two others, or parts
+//! of an operation.
 ghost use Rattle.std.specs.Prelude.{◌≡◌};
 ghost use Rattle.std.specs.Slice.Iter.{iter_rest};
 
@@ -10,6 +11,7 @@ use std::fmt;
 
 pub mod closures;
 pub mod lists;
+pub mod op;
 pub mod texts;
 
 pub use closures::PrinterFn;

@@ -37,7 +37,7 @@ pub fn equal_up_to_fillings<T: IrText<A>, A: AttrText, X>()
 /// printed names where there were no given names.
 pub fn text_comes_back<T: IrText<A>, A: AttrText, X>()
     ensures { (location_at : List ℕ → Standing X) (K : Locations X) (first : ℕ → X) (C : Printing T A) (isolated : Id → Bool) (g : Graph T A) (width n : ℕ) →
-        ((p : ℕ) → K.is_position (first p) ≡ true) → ((a b : A) → C.same_own a b ≡ true → a ≡ b) → ((a : A) → C.same_own a a ≡ true) →
+        ((p : ℕ) → K.is_position (first p) ≡ true) → C.same_own ≡ A.eq →
         Wordy C g → Fit C isolated g → SmallGraph C isolated g → GraphKeepsKeys g → GraphHeld location_at K g → Closed C isolated g → SmallSection C g →
         ComesBack (texts_of T.reading T.written) (texts_of A.reading A.written) location_at K first C isolated g width n }
 {}
@@ -48,7 +48,7 @@ pub fn each_reading_comes_back<T: IrText<A>, A: AttrText, X>()
     ensures { (location_at : List ℕ → Standing X) (K : Locations X) (first : ℕ → X) (C : Printing T A) (isolated : Id → Bool) (g : Graph T A) (width n : ℕ) →
         let types = texts_of T.reading T.written in
         let owns = texts_of A.reading A.written in
-        ((p : ℕ) → K.is_position (first p) ≡ true) → ((a b : A) → C.same_own a b ≡ true → a ≡ b) → ((a : A) → C.same_own a a ≡ true) →
+        ((p : ℕ) → K.is_position (first p) ≡ true) → C.same_own ≡ A.eq →
         Wordy C g → Fit C isolated g → SmallGraph C isolated g → GraphKeepsKeys g → GraphHeld location_at K g → Closed C isolated g → SmallSection C g →
         (t : Tree ℕ T A) (es : List (Entry ℕ A X)) (rest : List ℕ) →
         reads_root (language types owns C.format_of) location_at t es (text (unplaced types owns C.format_of) C g n width None) rest →

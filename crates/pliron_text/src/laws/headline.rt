@@ -1,4 +1,4 @@
-//! The law that ties printing to reading: what is written of a module is read back.
+//! The law that ties printing to reading: what is written of a root is read back.
 ghost use Rattle.std.specs.Prelude.{◌≡◌, ℕ, List, Some, None};
 ghost use Rattle.std.specs.Str.{chars};
 ghost use Rattle.irtext_base.specs.Context.{ContextView, OperationView, operation};
@@ -9,32 +9,34 @@ ghost use Rattle.irtext_base.specs.declared.parsable.fault.ParseFault.{ParseFaul
 ghost use Rattle.irtext_read.specs.AttrTexts.{attr_at};
 ghost use Rattle.irtext_read.specs.declared.parsable.state.StateStream.{StateStream};
 ghost use Rattle.pliron_text.specs.Graph.{Graph};
-ghost use Rattle.pliron_text.specs.Modules.{format_of};
-ghost use Rattle.pliron_text.specs.KeptModule.{IsKept};
+ghost use Rattle.pliron_text.specs.Formats.{format_of};
+ghost use Rattle.pliron_text.specs.KeptRoot.{IsKept, StandsAlone};
 ghost use Rattle.pliron_text.specs.PrintedBack.{StandsBack};
-ghost use Rattle.pliron_text.specs.PrintedModule.{levels, printed, printing};
+ghost use Rattle.pliron_text.specs.PrintedOperation.{levels, printed, printing};
 ghost use Rattle.pliron_text.specs.Shown.{Shown};
 ghost use Rattle.pliron_text.specs.Stands.{graph_of};
 ghost use Rattle.pliron_text.specs.TopLevel.{BuildsRoot, RefusesRoot};
 
 use irtext_base::text::{AttrText, IrText};
 
-/// What `disp` or `print` writes of a module, its section too, without a limit that leaves regions out, is read back, from its
-/// bytes, in any context: each root that is answered is equal to the module up to fillings, and all was read but white space.
-/// Nothing but want of memory refuses it.
+/// What `disp` or `print` writes of a root without blocks by the formats of its context's dialects, its section too, without a limit
+/// that leaves regions out, is read back, from its bytes, in any context with the same dialects: each root that is answered is equal
+/// to it up to fillings, and all was read but white space. Nothing but want of memory refuses it. The root is isolated, or has no region.
 pub fn printed_root_comes_back<T: IrText<A>, A: AttrText, U, V>()
     ensures builds { (ctx : ContextView T A) (p : Ptr Operation) (op : OperationView T A) (s after : Shown V) (bytes : List ℕ) (g : Graph T A) →
         let types = texts_of T.reading T.written in
         let owns = texts_of A.reading A.written in
-        let C = printing A.outlined A.print_once A.eq in
-        operation ctx p ≡ Some op → IsKept A.reading A.written ctx.paths op → graph_of A.written ctx p ≡ Some g → levels s.limit ≡ None →
-        printed (unplaced types owns format_of) C ctx p s ≡ Some (bytes, after) →
-        (q : Ptr Operation) (old new : StateStream T A U) → old.stream.rest ≡ chars bytes → BuildsRoot types owns (attr_at A.reading) q old new → StandsBack A.written C g q new }
+        let C = printing ctx.dialects A.outlined A.print_once A.eq in
+        operation ctx p ≡ Some op → IsKept ctx op → StandsAlone ctx.dialects op → graph_of A.written ctx p ≡ Some g → levels s.limit ≡ None →
+        printed (unplaced types owns (format_of ctx.dialects)) C ctx p s ≡ Some (bytes, after) →
+        (q : Ptr Operation) (old new : StateStream T A U) → old.stream.rest ≡ chars bytes → old.state.ctx.now.dialects ≡ ctx.dialects →
+        BuildsRoot types owns (attr_at A.reading) q old new → StandsBack A.written ctx.dialects C g q new }
     ensures never_refused { (ctx : ContextView T A) (p : Ptr Operation) (op : OperationView T A) (s after : Shown V) (bytes : List ℕ) (g : Graph T A) →
         let types = texts_of T.reading T.written in
         let owns = texts_of A.reading A.written in
-        let C = printing A.outlined A.print_once A.eq in
-        operation ctx p ≡ Some op → IsKept A.reading A.written ctx.paths op → graph_of A.written ctx p ≡ Some g → levels s.limit ≡ None →
-        printed (unplaced types owns format_of) C ctx p s ≡ Some (bytes, after) →
-        (old : StateStream T A U) (fault : ParseFault A) → old.stream.rest ≡ chars bytes → RefusesRoot types owns (attr_at A.reading) old.stream fault → ⊥ }
+        let C = printing ctx.dialects A.outlined A.print_once A.eq in
+        operation ctx p ≡ Some op → IsKept ctx op → StandsAlone ctx.dialects op → graph_of A.written ctx p ≡ Some g → levels s.limit ≡ None →
+        printed (unplaced types owns (format_of ctx.dialects)) C ctx p s ≡ Some (bytes, after) →
+        (old : StateStream T A U) (fault : ParseFault A) → old.stream.rest ≡ chars bytes → old.state.ctx.now.dialects ≡ ctx.dialects →
+        RefusesRoot types owns (attr_at A.reading) old.state.ctx.now.dialects old.stream fault → ⊥ }
 {}

@@ -7,11 +7,10 @@ ghost use Rattle.pliron_text.specs.Bare.{bare};
 ghost use Rattle.pliron_text.specs.Build.{build};
 ghost use Rattle.pliron_text.specs.Closed.{Closed, Fit};
 ghost use Rattle.pliron_text.specs.Contents.{Contents};
-ghost use Rattle.pliron_text.specs.EmptyModule.{empty_module, module_format};
 ghost use Rattle.pliron_text.specs.Fillable.{GraphKeepsKeys};
-ghost use Rattle.pliron_text.specs.Fine.{IsWord};
 ghost use Rattle.pliron_text.specs.Graph.{entries_of, shared, written, Graph, Printing};
 ghost use Rattle.pliron_text.specs.Marked.{reads_root};
+ghost use Rattle.pliron_text.specs.PlainRoot.{GivesWords, PlainRoot};
 ghost use Rattle.pliron_text.specs.ReadSection.{Entry};
 ghost use Rattle.pliron_text.specs.RoundTrip.{ComesBack, GraphHeld, LocationReads};
 ghost use Rattle.pliron_text.specs.Same.{stood, Locations, SameShapes, SmallGraph};
@@ -24,13 +23,13 @@ ghost use Rattle.pliron_text.specs.WrittenSection.{bare_section, index_of, numbe
 
 use irtext_base::text::{AttrText, IrText};
 
-/// The printed text of an empty module, with the section of its location where that is known, reads as a tree and entries that
-/// resolve, and what they build is equal to the module: a position stands where the location was unknown, and nothing else differs.
-pub fn module_comes_back<T: IrText<A>, A: AttrText, X>()
-    ensures { (location_at : List ℕ → Standing X) (K : Locations X) (first : ℕ → X) (C : Printing T A) (isolated : Id → Bool) (id : Id) (name : List ℕ) (location : Option (List ℕ)) (width n : ℕ) →
-        ((p : ℕ) → K.is_position (first p) ≡ true) → IsWord id.dialect → IsWord id.name → IsWord name →
-        C.format_of id ≡ Some module_format → isolated id ≡ true → LocationReads location_at K location →
-        ComesBack (texts_of T.reading T.written) (texts_of A.reading A.written) location_at K first C isolated (empty_module id name location) width n }
+/// The printed text of a root without blocks, values and outlined attributes, whose format names no value, block or type, with the
+/// section of its location where that is known, reads as a tree and entries that resolve, and what they build is equal to the root:
+/// a position stands where the location was unknown, and nothing else differs.
+pub fn plain_root_comes_back<T: IrText<A>, A: AttrText, X>()
+    ensures { (location_at : List ℕ → Standing X) (K : Locations X) (first : ℕ → X) (C : Printing T A) (isolated : Id → Bool) (g : Graph T A) (width n : ℕ) →
+        ((p : ℕ) → K.is_position (first p) ≡ true) → GivesWords C → PlainRoot C isolated g → LocationReads location_at K g.own.location →
+        ComesBack (texts_of T.reading T.written) (texts_of A.reading A.written) location_at K first C isolated g width n }
 {}
 
 /// The text of a closed root whose operations fit accepted formats, with its section, reads as a tree and entries, which
@@ -41,8 +40,7 @@ pub fn section_comes_back<T: IrText<A>, A: AttrText, X>()
         let types = texts_of T.reading T.written in
         let owns = texts_of A.reading A.written in
         let printing = unplaced types owns C.format_of in
-        ((a b : A) → C.same_own a b ≡ true → a ≡ b) → ((a : A) → C.same_own a a ≡ true) →
-        Wordy C g → Fit C isolated g → SmallGraph C isolated g → GraphKeepsKeys g → GraphHeld location_at K g → Closed C isolated g → SmallSection C g →
+        C.same_own ≡ A.eq → Wordy C g → Fit C isolated g → SmallGraph C isolated g → GraphKeepsKeys g → GraphHeld location_at K g → Closed C isolated g → SmallSection C g →
         (t : Tree ℕ T A) × (es : List (Entry ℕ A X)) × (u : List ℕ) × reads_root (language types owns C.format_of) location_at t es (text printing C g n width None) u
         × (bare t ≡ written C None g) × (bare_section K.text es ≡ written_section C (entries_of C None g))
         × (failures_of isolated t es ≡ []) × Contents C K.text es g t × SameShapes (stood C isolated g) (build isolated first es t) }

@@ -1,8 +1,9 @@
 //! Reading of locations of every kind. The context keeps the paths of their files from then on.
-ghost use Rattle.std.specs.Prelude.{◌≡◌, ◌<◌, false, IsTrue, OnOk, length, string_bytes};
+ghost use Rattle.std.specs.Prelude.{◌≡◌, ◌<◌, ℕ, List, false, IsTrue, IfOk, OnOk, length, string_bytes};
 ghost use Rattle.irtext_base.specs.Text.{begins};
 ghost use Rattle.irtext_base.specs.Answers.{mapped};
 ghost use Rattle.irtext_base.specs.Locations.{attr_view, attr_view_in};
+ghost use Rattle.irtext_base.specs.Moves.{all_kept, row_kept};
 ghost use Rattle.irtext_read.specs.AttrTexts.{attr_at};
 ghost use Rattle.pliron_text.specs.LocationReading.{begins_source, begins_location, metadata_at, name_at, row_at, fused_at, named_at, call_site_at, location_within, more_within, location_at};
 ghost use Rattle.pliron_text.specs.MustRead.{MustRead};
@@ -107,6 +108,7 @@ fn more_read<T: IrText<A>, A: AttrText>(
     requires fine { stream.old.failed ≡ false }
     ensures adds { AddsPaths ctx.old ctx.new }
     ensures read { MustReadWithin known_row row_over (λ depth text. mapped (joined_rows (row_over ctx.old.paths found)) (more_within (attr_at A.IrText.reading) depth text)) ctx.new.paths stream.old result stream.new }
+    ensures paths { IfOk result (λ ls. (before : List (List ℕ)) → ctx.old.paths ≡ row_kept before (row_over ctx.old.paths found) → ctx.new.paths ≡ row_kept before (row_over ctx.new.paths ls)) }
 {
     while next_is(stream, ',') {
         text_demanded(stream, ",")?;
@@ -125,6 +127,7 @@ fn row_read<T: IrText<A>, A: AttrText>(
 ) -> ParseResult<Vec<Location<A>>, A>
     ensures adds { AddsPaths ctx.old ctx.new }
     ensures read { MustReadWithin known_row row_over (λ depth. row_at (location_within (attr_at A.IrText.reading) depth) (more_within (attr_at A.IrText.reading) depth)) ctx.new.paths stream.old result stream.new }
+    ensures paths { IfOk result (λ ls. ctx.new.paths ≡ row_kept ctx.old.paths (row_over ctx.new.paths ls)) }
 {
     if stream.has_failed() {
         return Err(refuse(stream, Cause::StreamFailed));
@@ -146,6 +149,7 @@ fn fused_read<T: IrText<A>, A: AttrText>(
 ) -> ParseResult<Location<A>, A>
     ensures adds { AddsPaths ctx.old ctx.new }
     ensures read { MustReadInside known_location location_over (λ depth. fused_at (location_within (attr_at A.IrText.reading) depth) (more_within (attr_at A.IrText.reading) depth) (attr_at A.IrText.reading)) ctx.new.paths stream.old result stream.new }
+    ensures paths { IfOk result (λ l. ctx.new.paths ≡ all_kept ctx.old.paths (location_over ctx.new.paths l)) }
 {
     text_demanded(stream, "fused")?;
     skip_white_space(stream);
@@ -165,6 +169,7 @@ fn named_read<T: IrText<A>, A: AttrText>(
 ) -> ParseResult<Location<A>, A>
     ensures adds { AddsPaths ctx.old ctx.new }
     ensures read { MustReadInside known_location location_over (λ depth. named_at (location_within (attr_at A.IrText.reading) depth) (more_within (attr_at A.IrText.reading) depth)) ctx.new.paths stream.old result stream.new }
+    ensures paths { IfOk result (λ l. ctx.new.paths ≡ all_kept ctx.old.paths (location_over ctx.new.paths l)) }
 {
     let name = name_read(stream)?;
     let child = location_read(stream, ctx)?;
@@ -180,6 +185,7 @@ fn call_site_read<T: IrText<A>, A: AttrText>(
 ) -> ParseResult<Location<A>, A>
     ensures adds { AddsPaths ctx.old ctx.new }
     ensures read { MustReadInside known_location location_over (λ depth. call_site_at (location_within (attr_at A.IrText.reading) depth) (more_within (attr_at A.IrText.reading) depth)) ctx.new.paths stream.old result stream.new }
+    ensures paths { IfOk result (λ l. ctx.new.paths ≡ all_kept ctx.old.paths (location_over ctx.new.paths l)) }
 {
     text_demanded(stream, "callsite")?;
     spaced_text(stream, "(")?;
@@ -198,6 +204,7 @@ pub(crate) fn location_read<T: IrText<A>, A: AttrText>(
 ) -> ParseResult<Location<A>, A>
     ensures adds { AddsPaths ctx.old ctx.new }
     ensures read { MustReadWithin known_location location_over (location_within (attr_at A.IrText.reading)) ctx.new.paths stream.old result stream.new }
+    ensures paths { IfOk result (λ l. ctx.new.paths ≡ all_kept ctx.old.paths (location_over ctx.new.paths l)) }
 {
     if stream.has_failed() {
         return Err(refuse(stream, Cause::StreamFailed));
@@ -229,6 +236,7 @@ pub(crate) fn location_may<T: IrText<A>, A: AttrText>(
 ) -> ParseResult<Location<A>, A>
     ensures adds { AddsPaths ctx.old ctx.new }
     ensures read { MayReadOver known_location location_over (location_at (attr_at A.IrText.reading)) ctx.new.paths stream.old result stream.new }
+    ensures paths { IfOk result (λ l. ctx.new.paths ≡ all_kept ctx.old.paths (location_over ctx.new.paths l)) }
 {
     if stream.has_failed() {
         return Err(refuse(stream, Cause::StreamFailed));

@@ -1,5 +1,6 @@
 //! Reading of places: of sources, lines and columns.
-ghost use Rattle.std.specs.Prelude.{string_bytes};
+ghost use Rattle.std.specs.Prelude.{◌≡◌, IfOk, string_bytes};
+ghost use Rattle.irtext_base.specs.Moves.{path_kept, all_kept};
 ghost use Rattle.irtext_base.specs.Paths.{path_of, is_known};
 ghost use Rattle.pliron_text.specs.LocationText.{position_at};
 ghost use Rattle.pliron_text.specs.LocationReading.{bytes_at, path_at, source_at, place_at};
@@ -33,6 +34,7 @@ fn path_read<T: IrText<A>, A: AttrText>(
 ) -> ParseResult<Source, A>
     ensures adds { AddsPaths ctx.old ctx.new }
     ensures read { MustReadOver is_known path_of path_at ctx.new.paths stream.old result stream.new }
+    ensures paths { IfOk result (λ source. ctx.new.paths ≡ path_kept ctx.old.paths (path_of ctx.new.paths source)) }
 {
     let path = quoted_demanded(stream)?;
     let Ok(key) = ctx.keep_path(&path) else {
@@ -48,6 +50,7 @@ fn source_read<T: IrText<A>, A: AttrText>(
 ) -> ParseResult<Source, A>
     ensures adds { AddsPaths ctx.old ctx.new }
     ensures read { MustReadOver is_known path_of source_at ctx.new.paths stream.old result stream.new }
+    ensures paths { IfOk result (λ source. ctx.new.paths ≡ path_kept ctx.old.paths (path_of ctx.new.paths source)) }
 {
     if stream.has_failed() {
         return Err(refuse(stream, Cause::StreamFailed));
@@ -70,6 +73,7 @@ pub(crate) fn place_read<T: IrText<A>, A: AttrText>(
 ) -> ParseResult<Location<A>, A>
     ensures adds { AddsPaths ctx.old ctx.new }
     ensures read { MustReadOver known_location location_over place_at ctx.new.paths stream.old result stream.new }
+    ensures paths { IfOk result (λ l. ctx.new.paths ≡ all_kept ctx.old.paths (location_over ctx.new.paths l)) }
 {
     let src = source_read(stream, ctx)?;
     spaced_text(stream, ":")?;
@@ -84,6 +88,7 @@ pub(crate) fn source_may<T: IrText<A>, A: AttrText>(
 ) -> ParseResult<Source, A>
     ensures adds { AddsPaths ctx.old ctx.new }
     ensures read { MayReadOver is_known path_of source_at ctx.new.paths stream.old result stream.new }
+    ensures paths { IfOk result (λ source. ctx.new.paths ≡ path_kept ctx.old.paths (path_of ctx.new.paths source)) }
 {
     if stream.has_failed() {
         return Err(refuse(stream, Cause::StreamFailed));

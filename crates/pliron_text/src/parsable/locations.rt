@@ -1,5 +1,6 @@
 //! Locations and their parts as things that are read from a stream with a context.
-ghost use Rattle.std.specs.Prelude.{◌≡◌};
+ghost use Rattle.std.specs.Prelude.{◌≡◌, IfOk};
+ghost use Rattle.irtext_base.specs.Moves.{path_kept, all_kept};
 ghost use Rattle.irtext_base.specs.Paths.{path_of, is_known};
 ghost use Rattle.irtext_read.specs.AttrTexts.{attr_at};
 ghost use Rattle.irtext_read.specs.States.{marks_of};
@@ -44,6 +45,7 @@ impl<T: IrText<A>, A: AttrText, U> Parsable<T, A, U> for Source {
         ensures rest { KeepsRest stream.old.state stream.new.state }
         ensures marks { marks_of stream.new.state ≡ marks_of stream.old.state }
         ensures read { MayReadOver is_known path_of source_at stream.new.state.ctx.now.paths stream.old.stream result stream.new.stream }
+        ensures paths { IfOk result (λ source. stream.new.state.ctx.now.paths ≡ path_kept stream.old.state.ctx.now.paths (path_of stream.new.state.ctx.now.paths source)) }
     {
         let ctx = &mut *stream.state.ctx;
         source_may(&mut stream.stream, ctx)
@@ -65,6 +67,7 @@ impl<T: IrText<A>, A: AttrText, U> Parsable<T, A, U> for Location<A> {
         ensures rest { KeepsRest stream.old.state stream.new.state }
         ensures marks { marks_of stream.new.state ≡ marks_of stream.old.state }
         ensures read { MayReadOver known_location location_over (location_at (attr_at A.IrText.reading)) stream.new.state.ctx.now.paths stream.old.stream result stream.new.stream }
+        ensures paths { IfOk result (λ l. stream.new.state.ctx.now.paths ≡ all_kept stream.old.state.ctx.now.paths (location_over stream.new.state.ctx.now.paths l)) }
     {
         let ctx = &mut *stream.state.ctx;
         location_may(&mut stream.stream, ctx)

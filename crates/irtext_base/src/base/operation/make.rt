@@ -13,8 +13,8 @@ use crate::result::{Cause, ErrorKind};
 use crate::text::{AttrText, IrText};
 use std::alloc::AllocError;
 
-/// Adds as many regions to an operation. Those that were added stay where memory is refused.
-fn add_regions<T: IrText<A>, A: AttrText>(
+/// Adds as many empty regions to an operation. Those that were added stay where memory is refused or a counter is full.
+pub fn add_regions<T: IrText<A>, A: AttrText>(
     ctx: &mut Context<T, A>,
     op: Ptr<Operation>,
     count: usize,
@@ -57,7 +57,7 @@ impl Operation {
         ensures registered { OnOk result (IsSome (registered ctx.old.dialects id)) }
         ensures kept { (mark : ℕ) → mark ≤ ctx.old.made → KeepsOlder mark ctx.old ctx.new }
         ensures objects { OnErr result (SameObjects ctx.old ctx.new) }
-        ensures refused { IfErr result (λ e. (e.err ≡ Cause.Memory) ⊎ IsUnregistered ctx.old.dialects id e.err) }
+        ensures refused { IfErr result (λ e. (IsSome (registered ctx.old.dialects id) × (e.err ≡ Cause.Memory)) ⊎ IsUnregistered ctx.old.dialects id e.err) }
         ensures kind { IfErr result (λ e. (e.kind ≡ ErrorKind.InvalidArgument) × (e.loc ≡ Unknown)) }
     {
         let id = match ctx.known_id(id) {

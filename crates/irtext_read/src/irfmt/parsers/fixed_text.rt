@@ -1,11 +1,40 @@
-//! The reader of fixed texts.
+//! The readers of fixed texts and of a format's literals.
+ghost use Rattle.std.specs.Str.{chars};
 ghost use Rattle.irtext_base.specs.Answers.{Answers, unless_failed};
-ghost use Rattle.irtext_base.specs.Faults.{characters};
+ghost use Rattle.irtext_base.specs.Faults.{Unexpected, characters, demand_of};
+ghost use Rattle.irtext_base.specs.Stream.{first_of};
+ghost use Rattle.irtext_read.specs.Spelled.{Spells, Misses};
 ghost use Rattle.irtext_read.specs.Tokens.{text_at};
 
 use crate::irfmt::faults::{demanded, next_is, refuse, unexpected};
-use irtext_base::parsable::{CharStream, ParseResult};
+use irtext_base::parsable::{CharStream, ParseFault, ParseResult};
 use irtext_base::result::{Cause, Expected};
+
+/// Takes the characters of a text as long as they come. Where not all of them do, it answers whether one did.
+fn spell<S: CharStream>(stream: &mut S, text: &str) -> Option<bool>
+    ensures { Spells S.view S.at text.now stream.old result stream.new }
+{
+    let mut begun = false;
+    for c in text.chars() {
+        if !next_is(stream, c) {
+            return Some(begun);
+        }
+        let _ = stream.take();
+        begun = true;
+    }
+    None
+}
+
+/// The fault where this is expected and doesn't stand: committed where something of it was begun.
+fn missing<S: CharStream, A>(stream: &mut S, begun: bool, expected: Expected) -> ParseFault<A>
+    ensures { Misses S.view S.at begun (Unexpected (first_of (S.view stream.old).rest) (demand_of expected)) stream.old result stream.new }
+{
+    let fault = unexpected(stream, expected);
+    if begun {
+        return demanded(stream, fault);
+    }
+    fault
+}
 
 /// Reads a fixed text. The fault stands at the first character that differs; it is uncommitted where that is the first of all.
 pub fn text_parse<S: CharStream, A>(stream: &mut S, text: &'static str) -> ParseResult<(), A>
@@ -14,17 +43,25 @@ pub fn text_parse<S: CharStream, A>(stream: &mut S, text: &'static str) -> Parse
     if stream.has_failed() {
         return Err(refuse(stream, Cause::StreamFailed));
     }
-    let mut begun = false;
-    for c in text.chars() {
-        if !next_is(stream, c) {
-            let fault = unexpected(stream, Expected::Text(text));
-            if begun {
-                return Err(demanded(stream, fault));
-            }
-            return Err(fault);
-        }
-        let _ = stream.take();
-        begun = true;
+    match spell(stream, text) {
+        None => Ok(()),
+        Some(begun) => Err(missing(stream, begun, Expected::Text(text))),
     }
-    Ok(())
+}
+
+/// Reads a literal of a format as `text_parse` does a fixed text. The fault holds a copy of the literal; where there is no memory
+/// for it, that is the fault.
+pub fn literal_parse<S: CharStream, A>(stream: &mut S, text: &str) -> ParseResult<(), A>
+    ensures { Answers S.view S.at (λ u. u) (unless_failed (S.view stream.old).failed (text_at (chars text.now) (S.view stream.old).rest)) stream.old result stream.new }
+{
+    if stream.has_failed() {
+        return Err(refuse(stream, Cause::StreamFailed));
+    }
+    let Some(begun) = spell(stream, text) else {
+        return Ok(());
+    };
+    match String::from_str(stream.allocator(), text) {
+        Ok(copy) => Err(missing(stream, begun, Expected::Literal(copy))),
+        Err(_) => Err(refuse(stream, Cause::Memory)),
+    }
 }

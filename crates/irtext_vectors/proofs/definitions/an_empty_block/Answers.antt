@@ -8,7 +8,7 @@ use Rattle.irtext_vectors.specs.Trees.{none, only_modules, empty_block}
 use Rattle.irtext_vectors.proofs.definitions.an_empty_block.Goals as goal
 
 lawful_none : Lawful ⊥ none
-lawful_none = record { starts = λ x rest. absurd x; misses = λ text e. refl; again = λ x rest e. absurd x }
+lawful_none = record { starts = λ x rest. absurd x; misses = λ text e. refl; again = λ x rest e. absurd x; scalars = λ x. absurd x }
 
 unreserved_none : Unreserved ⊥ none
 unreserved_none = record { given_names = λ a rest left k. absurd a; identifier = λ a rest left k. absurd a }

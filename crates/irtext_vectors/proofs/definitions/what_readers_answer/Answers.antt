@@ -3,12 +3,20 @@ use Rattle.irtext_read.specs.Tokens.{word_at, id_at, number_at, integer_at}
 use Rattle.irtext_vectors.proofs.definitions.what_readers_answer.Goals as goal
 
 pub returns-clause-module : goal.returns-clause-module
-unfolding word_at id_at
+unfolding word_at
 returns-clause-module c = refl
 
 pub returns-clause-open : goal.returns-clause-open
-unfolding word_at id_at
+unfolding word_at
 returns-clause-open c = refl
+
+pub returns-clause-not_isolated : goal.returns-clause-not_isolated
+unfolding word_at
+returns-clause-not_isolated c = refl
+
+pub returns-clause-no_dialect : goal.returns-clause-no_dialect
+unfolding word_at id_at
+returns-clause-no_dialect c = refl
 
 pub returns-clause-entry : goal.returns-clause-entry
 unfolding number_at integer_at

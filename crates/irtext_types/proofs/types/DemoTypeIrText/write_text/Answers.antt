@@ -1,4 +1,4 @@
-use Rattle.irtext_types.proofs.TypeTexts.{encodes-type}
+use Rattle.irtext_types.specs.TypeTexts.{encodes-type}
 use Rattle.irtext_types.proofs.types.DemoTypeIrText.write_text.Goals as goal
 
 pub returns : goal.returns

@@ -1,6 +1,6 @@
 use Rattle.std.proofs.Common.{◌++◌, string_bytes}
 use Rattle.std.specs.Str.{encode_utf8_all}
-use Rattle.pliron_text.specs.PrintedModule.{entries_from}
+use Rattle.pliron_text.specs.PrintedOperation.{entries_from}
 use Rattle.pliron_text.proofs.PrintedModules.{entries-more}
 use Rattle.pliron_text.proofs.ir.print.fmt_entries.Goals as goal
 

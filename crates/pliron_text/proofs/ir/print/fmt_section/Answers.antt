@@ -1,5 +1,5 @@
 use Rattle.std.proofs.Common.{◌≡◌, ◌<◌, ◌++◌, ◌∙◌, ◌==◌, codes, length, string_bytes, refl, sym, ap}
-use Rattle.pliron_text.specs.PrintedModule.{entries_from, section_text}
+use Rattle.pliron_text.specs.PrintedOperation.{entries_from, section_text}
 use Rattle.pliron_text.specs.Printing.{gathered_of}
 use Rattle.pliron_text.proofs.Appended.{then}
 use Rattle.pliron_text.proofs.LocationTexts.{worded}

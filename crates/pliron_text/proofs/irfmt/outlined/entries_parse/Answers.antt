@@ -8,7 +8,7 @@ use Rattle.pliron_text.specs.SoFar.{RefusedAs}
 use Rattle.pliron_text.specs.Roots.{may_follow}
 use Rattle.pliron_text.proofs.Answered.{moves_more}
 use Rattle.pliron_text.proofs.NewPaths.{adds_more}
-use Rattle.pliron_text.proofs.SectionSteps.{entry_noted, entries_stop}
+use Rattle.pliron_text.proofs.SectionSteps.{entry_noted, entries_kept_more, entries_stop}
 use Rattle.pliron_text.proofs.irfmt.outlined.entries_parse.Goals as goal
 
 pub loop-s-preserved : goal.loop-s-preserved
@@ -19,12 +19,13 @@ loop-s-preserved g c =
     let e = c.in_ok-entry_parse.ensures in
     let before = c.loop-s.s.state.ctx.now.paths in
     let paths = c.entry_parse.new.s.state.ctx.now.paths in
-    let r = subst (λ m. ReadsEntry attr m paths c.loop-s.entries.entries c.loop-s.s.stream c.entry_parse.new.entries.entries c.entry_parse.new.s.stream) i.marks e.read in
+    let r = subst (λ m. ReadsEntry attr m before paths c.loop-s.entries.entries c.loop-s.s.stream c.entry_parse.new.entries.entries c.entry_parse.new.s.stream) i.marks e.read in
     record {
       lent = e.lent ∙ i.lent;
       rest = record { src = e.rest.src ∙ i.rest.src; aux_data = e.rest.aux_data ∙ i.rest.aux_data };
       marks = e.marks ∙ i.marks;
       adds = adds_more i.adds e.adds;
+      kept = entries_kept_more attr marks c.args.s.now.state.ctx.now.paths before paths c.loop-s.entries.entries c.entry_parse.new.entries.entries c.args.s.now.stream.rest e.adds.kept i.so_far r i.kept;
       fine = e.fine ∙ i.fine;
       moves = moves_more i.moves r.moves;
       so_far = entry_noted attr marks before paths c.loop-s.entries.entries c.entry_parse.new.entries.entries c.args.s.now.stream.rest e.adds.kept i.so_far (sym c.next_is.ensures ∙ c.loop-s-test.true) r;

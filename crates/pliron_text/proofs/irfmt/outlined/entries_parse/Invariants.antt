@@ -3,7 +3,7 @@ use Rattle.irtext_read.specs.AttrTexts.{attr_at}
 use Rattle.irtext_read.specs.States.{marks_of}
 use Rattle.pliron_text.specs.NewPaths.{AddsPaths}
 use Rattle.pliron_text.specs.Roots.{KeepsRest}
-use Rattle.pliron_text.specs.SectionRead.{Moves}
+use Rattle.pliron_text.specs.SectionRead.{Moves, entries_kept, entries_over}
 use Rattle.pliron_text.proofs.SectionSteps.{EntriesSoFar}
 use Rattle.pliron_text.proofs.irfmt.outlined.entries_parse.Given as goal
 
@@ -13,6 +13,7 @@ invariant-loop-s g l = record {
   rest : KeepsRest l.fn.s.state l.s.state;
   marks : marks_of l.s.state ≡ marks_of l.fn.s.state;
   adds : AddsPaths l.fn.s.state.ctx.now l.s.state.ctx.now;
+  kept : l.s.state.ctx.now.paths ≡ entries_kept l.fn.s.state.ctx.now.paths (entries_over l.s.state.ctx.now.paths l.entries.entries);
   fine : l.s.stream.failed ≡ l.fn.s.stream.failed;
   moves : Moves l.fn.s.stream l.s.stream;
   so_far : EntriesSoFar (attr_at g.A.IrText.reading) (marks_of l.fn.s.state) l.s.state.ctx.now.paths l.entries.entries l.fn.s.stream.rest l.s.stream.rest;

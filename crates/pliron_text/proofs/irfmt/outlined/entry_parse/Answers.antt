@@ -13,7 +13,7 @@ use Rattle.pliron_text.proofs.irfmt.outlined.entry_parse.Goals as goal
 pub returns-in_err-entry-clause-refused : goal.returns-in_err-entry-clause-refused
 returns-in_err-entry-clause-refused g c =
     let p = err_from_is_err_and c.from_residual.result c.from_residual.ensures.1 in
-    rw (p.1, p.2) (demands (entry_spares g.A.IrText.reading (may_follow (marks_of c.args.s.now.state) c.args.entries.now.entries)) c.in_err-entry.ensures.read.read)
+    rw (p.1, p.2) (demands (entry_spares g.A.IrText.reading (may_follow (marks_of c.args.s.now.state) c.args.entries.now.entries) g.met.A.IrText.sincere) c.in_err-entry.ensures.read.read)
 
 pub returns-in_err-entry-clause-missed : goal.returns-in_err-entry-clause-missed
 returns-in_err-entry-clause-missed g c = λ e.
@@ -36,6 +36,7 @@ returns-clause-read g c =
     record {
       entry = c.in_ok-entry.entry;
       known = c.in_ok-entry.ensures.read.known;
+      kept = c.in_ok-entry.ensures.paths;
       taken = a.taken;
       mid = c.entry_read.new.s.stream.rest;
       reads = a.is;

@@ -12,7 +12,7 @@ use Rattle.pliron_text.proofs.irfmt.outlined.section_parse.Goals as goal
 pub returns-in_err-spaced_text-clause-refused : goal.returns-in_err-spaced_text-clause-refused
 returns-in_err-spaced_text-clause-refused g c =
     let p = err_from_is_err_and c.from_residual.result c.from_residual.ensures.1 in
-    rw (p.1, p.2) (demands (λ _. heading_spares) c.in_err-spaced_text.ensures)
+    rw (p.1, p.2) (demands heading_spares c.in_err-spaced_text.ensures)
 
 pub returns-in_err-spaced_text-clause-missed : goal.returns-in_err-spaced_text-clause-missed
 returns-in_err-spaced_text-clause-missed g c = λ e.
@@ -43,6 +43,7 @@ returns-clause-read g c =
       entries = c.in_ok-entries.entries.entries;
       middle = middle;
       adds = c.in_ok-entries.ensures.adds;
+      kept = c.in_ok-entries.ensures.paths;
       stand = subst (λ v. AllEntries attr (indices_of marks) (entries_over middle.paths c.in_ok-entries.entries.entries) c.spaced_text.new.stream.rest v.rest) (sym stream) r.stand;
       moves = subst (λ v. Moves c.args.s.now.stream v) (sym stream) (moves_more (moves_taken a.taken c.spaced_text.new.stream.rest a.takes) r.moves);
       applied = rw c.truncate_marks.ensures.ctx (subst (λ m. AppliesAll m c.in_ok-entries.entries.entries middle c.apply.new.s.state.ctx.now) c.in_ok-entries.ensures.marks c.apply.ensures.applied);

@@ -7,20 +7,23 @@ use Rattle.pliron_text.proofs.BareBuild.{shapes_bare}
 use Rattle.pliron_text.proofs.Match.{same_shapes}
 use Rattle.pliron_text.proofs.RootResolves.{root_resolves, text_back}
 use Rattle.pliron_text.proofs.SectionContent.{contents_back}
+use Rattle.pliron_text.proofs.OwnEquality.{sound, reflexive}
 use Rattle.pliron_text.proofs.laws.section.section_comes_back.Goals as goal
 
 pub returns : goal.returns
-returns g c location_at K first C isolated x width n sound reflexive wordy fit small keys held closed numbers =
+returns g c location_at K first C isolated x width n compared wordy fit small keys held closed numbers =
     let types = texts_of g.T.IrText.reading g.T.IrText.written in
     let owns = texts_of g.A.IrText.reading g.A.IrText.written in
-    let r = text_back types owns g.met.T.IrText.lawful g.met.A.IrText.lawful g.met.A.AttrText.unreserved location_at K C sound reflexive isolated x width n wordy fit small held numbers in (
+    let equal = sound g.A.PartialEq.eq g.met.A.IrText.decides compared in
+    let itself = reflexive g.A.PartialEq.eq g.met.A.IrText.decides compared in
+    let r = text_back types owns g.met.T.IrText.lawful g.met.A.IrText.lawful g.met.A.AttrText.unreserved location_at K C equal itself isolated x width n wordy fit small held numbers in (
       r.0,
       r.1,
       r.2,
       r.3,
       r.4,
       r.5,
-      root_resolves C sound reflexive isolated x wordy fit small keys closed K.text r.0 r.1 r.4 r.5,
-      contents_back C sound reflexive K.text x r.0 r.1 r.4 r.5,
+      root_resolves C equal itself isolated x wordy fit small keys closed K.text r.0 r.1 r.4 r.5,
+      contents_back C equal itself K.text x r.0 r.1 r.4 r.5,
       shapes_bare isolated first r.1 (λ p. first 0) [] (stood C isolated x) r.0 (subst (λ z. SameShapes (stood C isolated x) (build isolated (λ p. first 0) [] z)) (sym r.4) (same_shapes C isolated (λ p. first 0) [] x fit small)),
     )

@@ -1,7 +1,8 @@
 use Rattle.std.proofs.Common.{◌≡◌, ap, refl, sym, ◌∙◌, arith, codes, length, map, [], string_bytes, Option}
-use Rattle.std.proofs.lemmas.Result.{err_from_is_err_and}
+use Rattle.std.proofs.lemmas.Result.{err_from_is_err_and, IfOk-weaker}
 use Rattle.irtext_base.specs.Locations.{AttrView, call_site, fused, named, location_view, attr_view_in, in_row, unknown}
 use Rattle.irtext_base.specs.Answers.{Read, Outcome, followed, mapped}
+use Rattle.irtext_base.specs.Moves.{all_kept}
 use Rattle.irtext_base.specs.Paths.{Written, are_known, written_with}
 use Rattle.irtext_base.specs.declared.location.Location.{Location}
 use Rattle.irtext_read.specs.AttrTexts.{attr_at}
@@ -12,9 +13,10 @@ use Rattle.irtext_base.specs.Text.{Text}
 use Rattle.irtext_read.specs.Tokens.{text_at}
 use Rattle.pliron_text.specs.LocationText.{space_at}
 use Rattle.pliron_text.proofs.LocationBegins.{is_place, is_fused, is_named, is_call_site, is_unknown, is_none, none_begins, one_begins, nowhere}
-use Rattle.pliron_text.proofs.LocationRows.{IsPushed, row_begun, first_one, at_comma, behind_comma, behind_one, ended, row_begins, not_there, fine_after, all_known, all_over, pushed_one, no_longer, shorter, space_no_longer, refused_inside, refused_within, known_of, made, by_kind}
-use Rattle.pliron_text.proofs.LocationViews.{seen-unknown}
-use Rattle.pliron_text.proofs.NewPaths.{adds_none, adds_more, stays_known, written_same, both_true}
+use Rattle.pliron_text.proofs.LocationRows.{IsPushed, row_begun, first_one, at_comma, behind_comma, behind_one, ended, row_begins, not_there, fine_after, all_known, all_over, pushed_kept, pushed_one, no_longer, shorter, space_no_longer, refused_inside, refused_within, known_of, made, made_kept, by_kind}
+use Rattle.irtext_base.proofs.LocationViews.{seen-unknown}
+use Rattle.irtext_base.proofs.PathKeys.{stays_known, written_same, both_true}
+use Rattle.pliron_text.proofs.NewPaths.{adds_none, adds_more}
 use Rattle.pliron_text.proofs.Rooted.{alone}
 use Rattle.pliron_text.proofs.Steps.{first, more, spaced, turned, more_seen, refuses, refuses_seen, starved, last, last_seen, starts}
 use Rattle.pliron_text.proofs.location.nested.+locations.Goals as goal
@@ -79,6 +81,16 @@ call_site_read-returns-clause-read g t c =
           (more_seen alone _ (more alone _ (more alone _ (more alone _ (more alone _ (first alone _ c.in_ok-text_demanded.ensures) c.in_ok-spaced_text.ensures) (c.in_ok-callee.ensures.read.within d (omega (arith, s, shorter 99 (codes "allsite") c.in_ok-text_demanded.ensures, no_longer c.in_ok-spaced_text.ensures))).read) c.in_ok-spaced_text-2.ensures) (c.in_ok-caller.ensures.read.within d (omega (arith, s, shorter 99 (codes "allsite") c.in_ok-text_demanded.ensures, no_longer c.in_ok-spaced_text.ensures, no_longer (c.in_ok-callee.ensures.read.within d (omega (arith, s, shorter 99 (codes "allsite") c.in_ok-text_demanded.ensures, no_longer c.in_ok-spaced_text.ensures))).read, no_longer c.in_ok-spaced_text-2.ensures))).read) c.in_ok-spaced_text-3.ensures))
           (both_true (are_known (length paths) callee) (are_known (length paths) caller) (stays_known before paths kept callee k) (known_of c.in_ok-caller.ensures.read)) c.call_site_made.ensures;
     }
+
+pub call_site_read-returns-clause-paths : goal.call_site_read-returns-clause-paths
+call_site_read-returns-clause-paths g t c =
+    let old = c.args.ctx.now.paths in
+    let before = c.location_read.new.ctx.paths in
+    let paths = c.location_read-2.new.ctx.paths in
+    let callee = location_view c.in_ok-callee.callee in
+    let caller = location_view c.in_ok-caller.caller in
+    let same = written_same before paths c.in_ok-caller.ensures.adds.kept callee (known_of c.in_ok-callee.ensures.read) in
+    made_kept old paths (call_site callee caller) _ _ c.call_site_made.result (c.in_ok-caller.ensures.paths ∙ ap (λ p. all_kept p (written_with paths caller)) (c.in_ok-callee.ensures.paths ∙ sym (ap (all_kept old) same))) c.call_site_made.ensures
 
 pub named_read-returns-in_err-child-clause-read : goal.named_read-returns-in_err-child-clause-read
 named_read-returns-in_err-child-clause-read g t c =
@@ -212,8 +224,16 @@ row_read-returns-clause-read g t c =
           record { known = m.known; read = last alone (first_one (attr_at g.A.IrText.reading) p d c.new-found.ensures.items (row_begins (attr_at g.A.IrText.reading) d c.args.stream.now s (sym c.has_failed.ensures ∙ c.if-has_failed.false) (sym c.begins_location.ensures ∙ c.if-not-begins_location.false)) (c.in_ok-location.ensures.read.within d s).read c.in_ok-push_location.ensures.1) m.read };
     }
 
+pub row_read-returns-clause-paths : goal.row_read-returns-clause-paths
+row_read-returns-clause-paths g t c =
+    let old = c.args.ctx.now.paths in
+    let paths = c.location_read.new.ctx.paths in
+    let p : IsPushed (attr_at g.A.IrText.reading) old paths c.new-found.result c.push_location.new.found c.in_ok-location.location
+    = record { kept = c.in_ok-location.ensures.adds.kept; known = rw c.new-found.ensures.items refl; is_known = known_of c.in_ok-location.ensures.read; items = c.in_ok-push_location.ensures.0 } in
+    IfOk-weaker c.more_read.result _ _ (λ ls h. h old (pushed_kept (attr_at g.A.IrText.reading) p old (rw c.new-found.ensures.items refl) c.in_ok-location.ensures.paths)) c.more_read.ensures.paths
+
 pub more_read-loop-stream-init : goal.more_read-loop-stream-init
-more_read-loop-stream-init g t c = record { adds = adds_none c.args.ctx.now; row = row_begun (attr_at g.A.IrText.reading) c.requires.known c.requires.fine }
+more_read-loop-stream-init g t c = record { adds = adds_none c.args.ctx.now; kept = λ before e. e; row = row_begun (attr_at g.A.IrText.reading) c.requires.known c.requires.fine }
 
 pub more_read-loop-stream-preserved : goal.more_read-loop-stream-preserved
 more_read-loop-stream-preserved g t c =
@@ -223,6 +243,7 @@ more_read-loop-stream-preserved g t c =
     = record { kept = one.adds.kept; known = row.known; is_known = known_of one.read; items = c.in_ok-push_location.ensures.0 } in
     record {
       adds = adds_more c.loop-stream.invariant.adds one.adds;
+      kept = λ before e. pushed_kept (attr_at g.A.IrText.reading) p before (c.loop-stream.invariant.kept before e) one.paths;
       row = record {
         known = all_known (attr_at g.A.IrText.reading) p;
         fine = let b = (behind_comma (attr_at g.A.IrText.reading) c.loop-stream.invariant.row (at_comma (attr_at g.A.IrText.reading) c.loop-stream.invariant.row (sym c.next_is.ensures ∙ c.loop-stream-test.true) (length c.args.stream.now.rest) (omega arith)) c.in_ok-text_demanded.ensures c.skip_white_space.ensures) in fine_after (pushed_one (attr_at g.A.IrText.reading) p b (one.read.within b.depth b.enough).read c.in_ok-push_location.ensures.1);

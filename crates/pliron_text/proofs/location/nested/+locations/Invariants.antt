@@ -1,6 +1,7 @@
-use Rattle.std.proofs.Common.{ℕ, ◌+◌, ◌*◌, length}
+use Rattle.std.proofs.Common.{◌≡◌, ℕ, List, ◌+◌, ◌*◌, length}
+use Rattle.irtext_base.specs.Moves.{row_kept}
 use Rattle.irtext_read.specs.AttrTexts.{attr_at}
-use Rattle.pliron_text.specs.NewPaths.{AddsPaths}
+use Rattle.pliron_text.specs.NewPaths.{AddsPaths, row_over}
 use Rattle.pliron_text.proofs.LocationRows.{RowSoFar}
 use Rattle.pliron_text.proofs.location.nested.+locations.Given as goal
 
@@ -27,6 +28,7 @@ decreases-location_read g l = 3 * length l.stream.now.rest + 1
 abbrev pub invariant-more_read-loop-stream : goal.invariant-more_read-loop-stream
 invariant-more_read-loop-stream g l = record {
   adds : AddsPaths l.initial.ctx l.ctx;
+  kept : (before : List (List ℕ)) → l.initial.ctx.paths ≡ row_kept before (row_over l.initial.ctx.paths l.initial.found) → l.ctx.paths ≡ row_kept before (row_over l.ctx.paths l.found);
   row : RowSoFar (attr_at g.A.IrText.reading) l.initial.ctx.paths l.initial.found l.initial.stream l.ctx.paths l.found l.stream;
 }
 

@@ -6,7 +6,7 @@ use Rattle.irtext_base.specs.Paths.{path_of}
 use Rattle.pliron_text.specs.LocationWriting.{metadata_text, row_texts, location_text}
 use Rattle.pliron_text.specs.Spell.{joined, comma}
 use Rattle.pliron_text.proofs.LocationTexts.{two_framed, word, next_written}
-use Rattle.pliron_text.proofs.LocationViews.{seen-fused, seen-named, seen-call_site, seen-unknown}
+use Rattle.irtext_base.proofs.LocationViews.{seen-fused, seen-named, seen-call_site, seen-unknown}
 use Rattle.pliron_text.proofs.location.print.+printed.Goals as goal
 
 pub fmt_location-returns-in_ok-push_str-in-Fused-3 : goal.fmt_location-returns-in_ok-push_str-in-Fused-3

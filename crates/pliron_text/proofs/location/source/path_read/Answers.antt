@@ -1,7 +1,8 @@
-use Rattle.std.proofs.Common.{ap, ◌∙◌, Some, string_bytes}
+use Rattle.std.proofs.Common.{ap, sym, ◌∙◌, Some, string_bytes}
+use Rattle.irtext_base.specs.Moves.{path_kept}
 use Rattle.irtext_base.specs.Paths.{path_of}
 use Rattle.irtext_base.specs.declared.location.Source.TheVariants.{File}
-use Rattle.pliron_text.proofs.NewPaths.{path_found, path_known}
+use Rattle.irtext_base.proofs.PathKeys.{path_found, path_known}
 use Rattle.pliron_text.proofs.Rooted.{alone}
 use Rattle.pliron_text.proofs.Steps.{seen_alone}
 use Rattle.pliron_text.proofs.location.source.path_read.Goals as goal
@@ -15,3 +16,9 @@ returns-clause-read g c =
       known = path_known c.args.ctx.now.paths paths c.deref.result.now key c.in-Ok.ensures.key kept;
       read = seen_alone alone (path_of paths) Some (File key) (path_found c.args.ctx.now.paths paths c.deref.result.now key c.in-Ok.ensures.key kept ∙ ap Some c.deref.ensures) c.in_ok-path.ensures;
     }
+
+pub returns-clause-paths : goal.returns-clause-paths
+returns-clause-paths g c =
+    let old = c.args.ctx.now.paths in
+    let kept = ap (λ x. x.paths) c.in-Ok.ensures.kept in
+    kept ∙ sym (ap (path_kept old) (path_found old c.keep_path.new.self.paths c.deref.result.now c.in-Ok.key c.in-Ok.ensures.key kept))

@@ -4,7 +4,7 @@ use Rattle.irtext_base.specs.Locations.{src_pos}
 use Rattle.irtext_base.specs.Paths.{path_of, written_with}
 use Rattle.irtext_base.specs.declared.location.Location.{SrcPos}
 use Rattle.pliron_text.specs.NewPaths.{location_over}
-use Rattle.pliron_text.proofs.LocationViews.{seen-src_pos}
+use Rattle.irtext_base.proofs.LocationViews.{seen-src_pos}
 use Rattle.pliron_text.proofs.Rooted.{alone}
 use Rattle.pliron_text.proofs.Steps.{first, more, refuses, refuses_seen, last_seen}
 use Rattle.pliron_text.proofs.location.source.place_read.Goals as goal

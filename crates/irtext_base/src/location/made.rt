@@ -1,0 +1,62 @@
+//! Locations made of copies of their names and metadata, and of the locations that stand inside them.
+ghost use Rattle.std.specs.Prelude.{◌≡◌, map, IfOk, string_bytes};
+ghost use Rattle.irtext_base.specs.Locations.{location_view, attr_view_in, in_row, fused, named, call_site};
+
+use crate::base::AttrObj;
+use crate::location::Location;
+use crate::text::AttrText;
+use std::alloc::{AllocError, Global};
+
+fn copy_metadata<A: AttrText>(
+    alloc: Global,
+    metadata: &Option<AttrObj<A>>,
+) -> Result<Option<AttrObj<A>>, AllocError>
+    ensures { IfOk result (λ copy. attr_view_in copy ≡ attr_view_in metadata.now) }
+{
+    match metadata {
+        Some(attr) => Ok(Some(attr.try_clone(alloc)?)),
+        None => Ok(None),
+    }
+}
+
+/// Several locations as one, with a copy of the metadata.
+pub(super) fn fused<A: AttrText>(
+    alloc: Global,
+    metadata: &Option<AttrObj<A>>,
+    locations: Vec<Location<A>>,
+) -> Result<Location<A>, AllocError>
+    ensures { IfOk result (λ l. location_view l ≡ fused (attr_view_in metadata.now) (in_row (map location_view locations.items))) }
+{
+    let metadata = Box::new(alloc, copy_metadata(alloc, metadata)?)?;
+    let locations = Box::new(alloc, locations)?;
+    Ok(Location::Fused {
+        metadata,
+        locations,
+    })
+}
+
+/// A location under a copy of the name.
+pub(super) fn named<A: Drop>(
+    alloc: Global,
+    name: &String,
+    child: Location<A>,
+) -> Result<Location<A>, AllocError>
+    ensures { IfOk result (λ l. location_view l ≡ named (string_bytes name.now) (location_view child)) }
+{
+    let name = Box::new(alloc, name.clone()?)?;
+    let child_loc = Box::new(alloc, child)?;
+    Ok(Location::Named { name, child_loc })
+}
+
+/// A callee's location with its caller's.
+pub(super) fn call_site<A: Drop>(
+    alloc: Global,
+    callee: Location<A>,
+    caller: Location<A>,
+) -> Result<Location<A>, AllocError>
+    ensures { IfOk result (λ l. location_view l ≡ call_site (location_view callee) (location_view caller)) }
+{
+    let callee = Box::new(alloc, callee)?;
+    let caller = Box::new(alloc, caller)?;
+    Ok(Location::CallSite { callee, caller })
+}

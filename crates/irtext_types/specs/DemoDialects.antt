@@ -1,0 +1,66 @@
+-- The operations of the demo dialects `builtin` and `test`, and what registering them does to a context's dialects.
+use Rattle.std.specs.Prelude.{◌≡◌, Bool, true, false, List, [], ◌∷◌, codes}
+use Rattle.irtext_base.specs.Text.{Text}
+use Rattle.irtext_base.specs.Format.{Directive, custom, word, attribute, header, region}
+use Rattle.irtext_base.specs.Dialects.{Table, with_op}
+use Rattle.irtext_base.specs.DialectTable.{dialect_or_new, with_dialect}
+use Rattle.irtext_base.specs.Directives.{format_of}
+use Rattle.irtext_base.specs.declared.base.identifier.OpId.{OpId}
+use Rattle.irtext_base.specs.declared.format.OpFormat.{OpFormat}
+
+-- an operation: its id, the directives of its format, and whether it is isolated from above
+pub record DemoOp : Type 0 where
+  pub id : OpId
+  pub directives : List Directive
+  pub isolated : Bool
+
+-- the id with this dialect and this name
+abbrev pub id_with : Text → Text → OpId
+id_with dialect name = record { dialect = dialect; name = name }
+
+-- a symbol's name, and a region
+abbrev pub module_directives : List Directive
+module_directives = header ∷ region 0 ∷ []
+
+-- a symbol's name, its type behind `:`, and a region
+abbrev pub function_directives : List Directive
+function_directives = header ∷ word (codes ":") ∷ attribute (codes "builtin_func_type") ∷ region 0 ∷ []
+
+-- a region
+abbrev pub scope_directives : List Directive
+scope_directives = region 0 ∷ []
+
+-- `builtin.module`
+abbrev pub module_op : DemoOp
+module_op = record { id = id_with (codes "builtin") (codes "module"); directives = module_directives; isolated = true }
+
+-- `builtin.func`
+abbrev pub function_op : DemoOp
+function_op = record { id = id_with (codes "builtin") (codes "func"); directives = function_directives; isolated = true }
+
+-- `test.scope`, which is not isolated
+abbrev pub scope_op : DemoOp
+scope_op = record { id = id_with (codes "test") (codes "scope"); directives = scope_directives; isolated = false }
+
+-- `test.nop`, which is its id alone
+abbrev pub nop_op : DemoOp
+nop_op = record { id = id_with (codes "test") (codes "nop"); directives = []; isolated = false }
+
+-- the operations, in the order in which they are registered
+abbrev pub demo_operations : List DemoOp
+demo_operations = module_op ∷ function_op ∷ scope_op ∷ nop_op ∷ []
+
+-- the dialects with one more operation, or with another format and isolation of one that is there
+abbrev pub with_operation : List (Text × Table) → OpId → OpFormat → Bool → List (Text × Table)
+with_operation dialects id format isolated = with_dialect dialects id.dialect (with_op (dialect_or_new dialects id.dialect) id format isolated)
+
+-- the operation was registered with the dialects
+pub record Registers (old : List (Text × Table)) (op : DemoOp) (new : List (Text × Table)) : Type 0 where
+  pub format : OpFormat
+  pub is : format_of format ≡ custom op.directives
+  pub dialects : new ≡ with_operation old op.id format op.isolated
+
+-- the operations were registered with the dialects, one after the other
+abbrev pub RegistersAll : List (Text × Table) → List DemoOp → List (Text × Table) → Type 0
+RegistersAll old [] new = new ≡ old
+RegistersAll old (op ∷ ops) new = (mid : List (Text × Table)) × Registers old op mid × RegistersAll mid ops new

@@ -1,0 +1,25 @@
+-- What a context's dialects say of operations, as the grammar and printing ask it.
+use Rattle.std.specs.Prelude.{Bool, false, List, Option, Some, None, IfSome}
+use Rattle.std.specs.Option.{option_map}
+use Rattle.irtext_base.specs.Text.{Text}
+use Rattle.irtext_base.specs.Format.{Id, Format, Accepted}
+use Rattle.irtext_base.specs.Dialects.{Table}
+use Rattle.irtext_base.specs.DialectTable.{registered}
+use Rattle.irtext_base.specs.Directives as directives
+use Rattle.irtext_base.specs.declared.base.identifier.OpId.{OpId}
+
+-- the id, as the code has it
+abbrev pub op_id : Id → OpId
+op_id id = record { dialect = id.dialect; name = id.name }
+
+-- the format of each registered operation
+abbrev pub format_of : List (Text × Table) → Id → Option Format
+format_of dialects id = option_map (λ info. directives.format_of info.format) (registered dialects (op_id id))
+
+-- whether an operation is registered as isolated from above
+abbrev pub isolated : List (Text × Table) → Id → Bool
+isolated dialects id = elim (registered dialects (op_id id)) [ Some info ↦ info.isolated | None ↦ false ]
+
+-- the format of an operation, if it has one, reads uniquely
+abbrev pub IsAccepted : List (Text × Table) → Id → Type 0
+IsAccepted dialects id = IfSome (format_of dialects id) Accepted
