@@ -3,7 +3,7 @@ use Rattle.std.specs.Prelude.{◌≡◌, ℕ, zero, suc, ◌+◌, ◌<◌, Bool,
 use Rattle.std.proofs.Common.{inl, inr, sym, ◌∙◌, ap, subst, true≢false, append_assoc, arith}
 use Rattle.std.proofs.lemmas.Bool.Decides.{nat_tests}
 use Rattle.std.specs.Char.{is_whitespace, is_ascii_graphic}
-use Rattle.irtext_base.specs.Text.{Text, begins, after_space, begins_word, in_word, in_dotted}
+use Rattle.irtext_base.specs.Text.{Text, begins, after_space, begins_word, in_dotted}
 use Rattle.irtext_base.specs.Reading.{Reading, ◌▹◌, ◌▸◌, white, the, literal, keyword, identifier, separated, repeated}
 use Rattle.pliron_text.specs.Forest.{Regions, no_regions, region}
 use Rattle.irtext_base.specs.Format.{has, kind}

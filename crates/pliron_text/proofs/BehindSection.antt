@@ -7,7 +7,7 @@ use Rattle.irtext_base.specs.Format.{Format, Id, c7}
 use Rattle.irtext_base.specs.Own.{Language}
 use Rattle.pliron_text.specs.Forest.{Regions, no_regions, region, Blocks, regions_list}
 use Rattle.pliron_text.specs.Tree.{Mark, Op, Head, Brace}
-use Rattle.pliron_text.specs.Graph.{Graph, GraphOp, GraphBlock, Printing, Entry, Limit, written, tree_regions, is_marked, is_elided, entries_of}
+use Rattle.pliron_text.specs.Graph.{Graph, GraphOp, GraphBlock, Printing, Entry, Limit, written, tree_regions, is_marked, is_elided, entries_of, op_outlined}
 use Rattle.pliron_text.specs.Section.{section}
 use Rattle.pliron_text.specs.Closed.{Fit, FitsFormat}
 use Rattle.pliron_text.specs.Writable.{Behind, BehindRoot, has_region}
@@ -18,9 +18,9 @@ module _ {T A : Type 0} (C : Printing T A) (isolated : Id → Bool) (L : Languag
   regions_last f o n h ds e = let k = subst (λ f. FitsFormat C isolated f o n) e h in (meets ds k.0).seventh
 
   -- an unmarked root has an entry in its regions alone
-  deep : (l : Limit) (o : GraphOp T A) (rs : Regions (GraphOp T A) (GraphBlock T A) ⊤) (n : ℕ) (e : Entry C) (es : List (Entry C)) → is_marked C o.location o.attributes ≡ false
+  deep : (l : Limit) (o : GraphOp T A) (rs : Regions (GraphOp T A) (GraphBlock T A) ⊤) (n : ℕ) (e : Entry C) (es : List (Entry C)) → is_marked C o.location (op_outlined C o) ≡ false
       → entries_of C l (record { own = o; regions = rs }) ≡ e ∷ es → has_region (tree_regions C l n rs) ≡ true
-  deep l o no_regions n e es m q = absurd (no_entry (is_marked C o.location o.attributes) _ m q)
+  deep l o no_regions n e es m q = absurd (no_entry (is_marked C o.location (op_outlined C o)) _ m q)
     where
       no_entry : (b : Bool) (x : Entry C) → b ≡ false → cond b (x ∷ []) [] ≡ e ∷ es → ⊥
       no_entry true x m q = true≢false m
@@ -46,7 +46,7 @@ module _ {T A : Type 0} (C : Printing T A) (isolated : Id → Bool) (L : Languag
         ends = inr refl;
         one = λ m. inr (
           record {
-            has_one = deep l g.own g.regions 0 x es (unmarked _ (is_marked C g.own.location g.own.attributes) m) e;
+            has_one = deep l g.own g.regions 0 x es (unmarked _ (is_marked C g.own.location (op_outlined C g.own)) m) e;
             regions_last = λ ds q. regions_last (C.format_of g.own.id) g.own (length (regions_list g.regions)) fit.0 ds (sym (formats g.own.id) ∙ q);
           },
           inr refl,

@@ -1,6 +1,6 @@
 -- What a tree builds that is read of a written graph, with a section that says of each item what the item holds, is equal to the
 -- graph up to fillings.
-use Rattle.std.proofs.Common.{◌≡◌, ℕ, suc, Bool, true, false, cond, List, [], ◌∷◌, ◌++◌, map, filter, length, Option, Some, None, option_map, refl, sym, ap, ap₂, ◌∙◌, subst, true≢false}
+use Rattle.std.proofs.Common.{◌≡◌, ℕ, suc, Bool, true, false, cond, List, [], ◌∷◌, ◌++◌, map, length, Option, Some, None, option_map, refl, sym, ap, ap₂, ◌∙◌, subst, true≢false}
 use Rattle.std.specs.Prelude.{⊤}
 use Rattle.irtext_base.specs.Text.{Text}
 use Rattle.irtext_base.specs.Format.{same_text, Id}
@@ -8,7 +8,7 @@ use Rattle.pliron_text.specs.Forest.{Regions, no_regions, region, Blocks, no_blo
 use Rattle.pliron_text.specs.Tree as tree
 use Rattle.pliron_text.specs.Tree.{Name, Attribute, Piece, Part, Body, custom, canonical, Op, Head, Brace, Tree, views, parts_of}
 use Rattle.pliron_text.specs.Bare.{bare_name, bare_entry, bare_piece, bare_part, bare_argument, bare_body, bare}
-use Rattle.pliron_text.specs.Graph.{Graph, GraphOp, GraphBlock, Printing, value, inline, entries, outlined, is_marked, body_of, written}
+use Rattle.pliron_text.specs.Graph.{Graph, GraphOp, GraphBlock, Printing, value, inline, entries, is_marked, body_of, written, op_outlined, block_outlined, outlined_entries}
 use Rattle.pliron_text.specs.ReadSection.{Entry}
 use Rattle.pliron_text.specs.Script.{Path, Script}
 use Rattle.pliron_text.specs.Scopes.{Fact, no_scope, failures}
@@ -85,7 +85,7 @@ same_given K (Some l) None e = absurd (none e)
 module _ {P T A X : Type 0} (C : Printing T A) (K : Locations X) (all : List (Entry P A X)) where
   -- an item's mark leads to its location and its outlined attributes, if it has one of them
   abbrev SaysOf : Option Text → List (Text × Attribute A) → Option (tree.Mark P) → Type 0
-  SaysOf l es m = (x : Option X) × (content all m ≡ cond (is_marked C l es) (Some (x, filter (λ e. outlined C e.1) es)) None) × SameGiven K l x
+  SaysOf l es m = (x : Option X) × (content all m ≡ cond (is_marked C l es) (Some (x, es)) None) × SameGiven K l x
 
   marked_located : (l : Option Text) (es : List (Text × Attribute A)) → is_marked C l es ≡ false → l ≡ None
   marked_located None es h = refl
@@ -97,20 +97,20 @@ module _ {P T A X : Type 0} (C : Printing T A) (K : Locations X) (all : List (En
       none : {Y : Type 0} (y : Y) → Some y ≡ None → ⊥
       none y e = cc
 
-      go : (b : Bool) → is_marked C l es ≡ b → (c : Option (Option X × List (Text × Attribute A))) → content all m ≡ c → option_map (as_text K.text) c ≡ cond b (Some (l, filter (λ e. outlined C e.1) es)) None → SaysOf l es m
+      go : (b : Bool) → is_marked C l es ≡ b → (c : Option (Option X × List (Text × Attribute A))) → content all m ≡ c → option_map (as_text K.text) c ≡ cond b (Some (l, es)) None → SaysOf l es m
       go true k (Some (x, ds)) e h =
-          let q = some_inside (option_map K.text x, ds) (l, filter (λ e. outlined C e.1) es) h in
-          (x, e ∙ (ap (λ z. Some (x, z)) (ap (λ z. z.1) q) ∙ sym (ap (λ b. cond b (Some (x, filter (λ e. outlined C e.1) es)) None) k)), same_given K l x (ap (λ z. z.0) q))
+          let q = some_inside (option_map K.text x, ds) (l, es) h in
+          (x, e ∙ (ap (λ z. Some (x, z)) (ap (λ z. z.1) q) ∙ sym (ap (λ b. cond b (Some (x, es)) None) k)), same_given K l x (ap (λ z. z.0) q))
       go true k None e h = absurd (none _ (sym h))
       go false k (Some c) e h = absurd (none _ h)
       go false k None e h =
-          (None, e ∙ sym (ap (λ b. cond b (Some (None, filter (λ e. outlined C e.1) es)) None) k), subst (λ z. SameGiven K z None) (sym (marked_located l es k)) tt)
+          (None, e ∙ sym (ap (λ b. cond b (Some (None, es)) None) k), subst (λ z. SameGiven K z None) (sym (marked_located l es k)) tt)
 
 module _ {P T A X : Type 0} (C : Printing T A) (isolated : Id → Bool) (K : Locations X) (first : P → X) (is_first : (p : P) → K.is_position (first p) ≡ true) (es : List (Entry P A X)) where
   located_same : (l : Option Text) (ds : List (Text × Attribute A)) (m : Option (tree.Mark P)) (p : P) → SaysOf C K es l ds m → SameLocation K l (located (first p) (content es m))
   located_same None ds m p (None, e, g) = subst (λ c. SameLocation K None (located (first p) c)) (sym e) (go (is_marked C None ds))
     where
-      go : (b : Bool) → SameLocation K None (located (first p) (cond b (Some (None, filter (λ e. outlined C e.1) ds)) None))
+      go : (b : Bool) → SameLocation K None (located (first p) (cond b (Some (None, ds)) None))
       go true = is_first p
       go false = is_first p
   located_same None ds m p (Some x, e, g) = absurd g
@@ -119,16 +119,16 @@ module _ {P T A X : Type 0} (C : Printing T A) (isolated : Id → Bool) (K : Loc
 
   -- with what was read of the item, and what its mark's content is
   dictionary_same : (l : Option Text) (ds : List (Text × Attribute A)) (m : Option (tree.Mark P)) (names ns : List Text) (here shown : List (Text × Attribute A))
-      → KeysDiffer ds → KeepsKeys ds → Picks (inlined C) ds shown → here ≡ shown → ns ≡ names → SaysOf C K es l ds m → SameDictionary names ds (with_content (put_all [] (here ++ read_names ns)) (content es m))
+      → KeysDiffer ds → KeepsKeys ds → Picks (inlined C) ds shown → here ≡ shown → ns ≡ names → SaysOf C K es l (outlined_entries C ds) m → SameDictionary names ds (with_content (put_all [] (here ++ read_names ns)) (content es m))
   dictionary_same l ds m names ns here shown d k p e f s =
       subst (SameDictionary names ds)
       (sym (ap₂ (λ xs c. with_content (put_all [] (xs ++ read_names ns)) c) e s.1
-      ∙ (ap (λ z. with_content (put_all [] (shown ++ read_names z)) (cond (is_marked C l ds) (Some (s.0, filter (λ e. outlined C e.1) ds)) None)) f
-      ∙ content_added C l ds (put_all [] (shown ++ read_names names)) s.0)))
+      ∙ (ap (λ z. with_content (put_all [] (shown ++ read_names z)) (cond (is_marked C l (outlined_entries C ds)) (Some (s.0, outlined_entries C ds)) None)) f
+      ∙ content_added C l (outlined_entries C ds) (put_all [] (shown ++ read_names names)) s.0)))
       (same_dictionary C names ds shown d k p)
 
   op_same : (w m : List (Fact Thing)) (v l : List (Fact Text)) (o : GraphOp T A) (p : Op P T A) (n : ℕ) → FitsFormat C isolated (C.format_of o.id) o n → OpKeepsKeys o → KeysDiffer o.attributes → WrittenOp C o p
-      → SaysOf C K es o.location o.attributes p.mark → SameShape (stood_op C isolated w m o) (built_op isolated first es v l p) → OpLinked (built_op isolated first es v l p) → SameOp K (stood_op C isolated w m o) (built_op isolated first es v l p)
+      → SaysOf C K es o.location (op_outlined C o) p.mark → SameShape (stood_op C isolated w m o) (built_op isolated first es v l p) → OpLinked (built_op isolated first es v l p) → SameOp K (stood_op C isolated w m o) (built_op isolated first es v l p)
   op_same w m v l o p n f k d r s h t = record {
     shape = h;
     operands_there = t.0;
@@ -137,14 +137,14 @@ module _ {P T A X : Type 0} (C : Printing T A) (isolated : Id → Bool) (K : Loc
         dictionary_same o.location o.attributes p.mark _ (map (λ n. n.text) p.names) (inline_entries p) (views stored (parts_of (body_of C o (C.format_of o.id)))) d k (written_picks C isolated o d n (C.format_of o.id) f)
         (sym (body_stored p.body) ∙ ap (λ z. views stored (parts_of z.body)) r.1)
         (sym (mapped_twice bare_name (λ n. n.text) p.names) ∙ (ap (λ z. map (λ n. n.text) z.names) r.1 ∙ mapped_twice (λ (r : ℕ × T). value C r.0) (λ n. n.text) o.results)) s;
-    location = located_same o.location o.attributes p.mark p.place s;
+    location = located_same o.location (op_outlined C o) p.mark p.place s;
   }
 
   head_entries : (ds : List (Name ⊤ × Attribute A)) → entries_if (elim ds [ [] ↦ None | e ∷ rest ↦ Some (e ∷ rest) ]) ≡ ds
   head_entries [] = refl
   head_entries (e ∷ ds) = refl
 
-  block_same : (b : GraphBlock T A) (h : Head P T A) → BlockKeepsKeys b → KeysDiffer b.attributes → WrittenBlock C b h → SaysOf C K es b.location b.attributes h.mark → SameBlockShape (stood_block C isolated b) (built_head isolated first es h)
+  block_same : (b : GraphBlock T A) (h : Head P T A) → BlockKeepsKeys b → KeysDiffer b.attributes → WrittenBlock C b h → SaysOf C K es b.location (block_outlined C b) h.mark → SameBlockShape (stood_block C isolated b) (built_head isolated first es h)
       → SameBlock K (stood_block C isolated b) (built_head isolated first es h)
   block_same b h k d r s e = record {
     shape = e;
@@ -152,7 +152,7 @@ module _ {P T A X : Type 0} (C : Printing T A) (isolated : Id → Bool) (K : Loc
         dictionary_same b.location b.attributes h.mark _ (map (λ a. a.0.text) h.arguments) (map plain_entry (entries_if h.attributes)) (inline C b.attributes) d k (picks_filter (inlined C) b.attributes d)
         (sym (entries_stored h.attributes) ∙ (ap (λ z. map plain_entry (entries_if z.attributes)) r.1 ∙ (ap (map plain_entry) (head_entries (entries C (inline C b.attributes))) ∙ plainly C (inline C b.attributes))))
         (sym (mapped_twice bare_argument (λ (a : Name ⊤ × T). a.0.text) h.arguments) ∙ (ap (λ z. map (λ a. a.0.text) z.arguments) r.1 ∙ mapped_twice (λ (a : ℕ × T). (value C a.0, a.1)) (λ (a : Name ⊤ × T). a.0.text) b.arguments)) s;
-    location = located_same b.location b.attributes h.mark h.label.place s;
+    location = located_same b.location (block_outlined C b) h.mark h.label.place s;
   }
 
   abbrev Differ : GraphOp T A → Type 0
@@ -186,7 +186,7 @@ module _ {P T A X : Type 0} (C : Printing T A) (isolated : Id → Bool) (K : Loc
     blocks_same no_blocks (block g os bs) w m v l q i f k d r s h t = absurd r
     blocks_same (block c cs ds) no_blocks w m v l q i f k d r s h t = absurd r
     blocks_same (block c cs ds) (block g os bs) w m v l q i f k d r s h t =
-        (block_same c g k.0 d.0 r.0 (says_of C K es c.location c.attributes _ s.0) h.0, operations_same cs os w m v l (i ∷ q) 0 f.0 k.1 d.1 r.1 s.1 h.1 t.1, blocks_same ds bs w m v l q (suc i) f.1 k.2 d.2 r.2 s.2 h.2 t.2)
+        (block_same c g k.0 d.0 r.0 (says_of C K es c.location (block_outlined C c) _ s.0) h.0, operations_same cs os w m v l (i ∷ q) 0 f.0 k.1 d.1 r.1 s.1 h.1 t.1, blocks_same ds bs w m v l q (suc i) f.1 k.2 d.2 r.2 s.2 h.2 t.2)
 
     operations_same : (a : Operations (GraphOp T A) (GraphBlock T A) ⊤) (r : Operations (Op P T A) (Head P T A) (Brace P)) (w m : List (Fact Thing)) (v l : List (Fact Text)) (q : Path) (i : ℕ)
         → FitOperations C isolated a → AllOperations OpKeepsKeys BlockKeepsKeys (λ r. ⊤) a → AllOperations Differ BlockDiffer (λ r. ⊤) a → MatchOperations (WrittenOp C) (WrittenBlock C) (λ x y. ⊤) a r → MatchOperations Says BlockSays (λ x y. ⊤) a r
@@ -196,7 +196,7 @@ module _ {P T A X : Type 0} (C : Printing T A) (isolated : Id → Bool) (K : Loc
     operations_same no_operations (operation o rs os) w m v l q i f k d r s h t = absurd r
     operations_same (operation c cs ds) no_operations w m v l q i f k d r s h t = absurd r
     operations_same (operation c cs ds) (operation o rs os) w m v l q i f k d r s h t =
-        (op_same w m v l c o (length (regions_list cs)) f.0 k.0 d.0 r.0 (says_of C K es c.location c.attributes _ s.0) h.0 t.0, regions_same cs rs w v (i ∷ q) 0 _ _ f.1 k.1 d.1 r.1 s.1 h.1 t.1, operations_same ds os w m v l q (suc i) f.2 k.2 d.2 r.2 s.2 h.2 t.2)
+        (op_same w m v l c o (length (regions_list cs)) f.0 k.0 d.0 r.0 (says_of C K es c.location (op_outlined C c) _ s.0) h.0 t.0, regions_same cs rs w v (i ∷ q) 0 _ _ f.1 k.1 d.1 r.1 s.1 h.1 t.1, operations_same ds os w m v l q (suc i) f.2 k.2 d.2 r.2 s.2 h.2 t.2)
 
   pub fillings : (g : Graph T A) (t : Tree P T A) (x : Script Text P) → Fit C isolated g → SmallGraph C isolated g → GraphKeepsKeys g → GraphKeysDiffer g → bare t ≡ written C None g → Formed t
       → failures same_text no_scope (tree_script isolated t x) ≡ [] → Contents C K.text es g t → UpToFillings K (stood C isolated g) (build isolated first es t)
@@ -204,4 +204,4 @@ module _ {P T A X : Type 0} (C : Printing T A) (isolated : Id → Bool) (K : Loc
       let h = shapes_bare isolated first es (λ (p : ⊤). p) [] (stood C isolated g) t (subst (λ z. SameShapes (stood C isolated g) (build isolated (λ (p : ⊤). p) [] z)) (sym e) (same_shapes C isolated (λ (p : ⊤). p) [] g f small)) in
       let w = written_as C g t e in
       let t' = all_there isolated first es t formed x resolves in
-      (op_same [] [] [] [] g.own t.own (length (regions_list g.regions)) f.0 k.0 d.0 w.0 (says_of C K es g.own.location g.own.attributes t.own.mark s.0) h.0 t'.0, regions_same g.regions t.regions [] [] [] 0 _ _ f.1 k.1 d.1 w.1 s.1 h.1 t'.1)
+      (op_same [] [] [] [] g.own t.own (length (regions_list g.regions)) f.0 k.0 d.0 w.0 (says_of C K es g.own.location (op_outlined C g.own) t.own.mark s.0) h.0 t'.0, regions_same g.regions t.regions [] [] [] 0 _ _ f.1 k.1 d.1 w.1 s.1 h.1 t'.1)

@@ -9,7 +9,7 @@ use Rattle.irtext_base.specs.Format.{Format, Directive, same_text, has, sym_name
 use Rattle.pliron_text.specs.Forest.{Regions, no_regions, region, Blocks, no_blocks, block, Operations, no_operations, operation, regions_list, AllRegions, AllBlocks, AllOperations}
 use Rattle.pliron_text.specs.Tree as tree
 use Rattle.pliron_text.specs.Tree.{Name, Mark, Attribute, given_names, ident, own, Piece, Part, parts_of}
-use Rattle.pliron_text.specs.Graph.{Graph, GraphOp, GraphBlock, Printing, value, inline, entries, is_marked, mark_at, own_marks, part_of, body_of, tree_op, tree_head, tree_regions, tree_blocks, tree_operations, marks_in_regions, marks_in_blocks, marks_in_operations, written, lookup}
+use Rattle.pliron_text.specs.Graph.{Graph, GraphOp, GraphBlock, Printing, value, inline, entries, is_marked, mark_at, own_marks, part_of, body_of, tree_op, tree_head, tree_regions, tree_blocks, tree_operations, marks_in_regions, marks_in_blocks, marks_in_operations, written, lookup, op_outlined, block_outlined}
 use Rattle.pliron_text.specs.Script.{Path, Failure, Act, mark, claim, Script, done, does, within, does_all, DuplicateIndex}
 use Rattle.pliron_text.specs.Scopes.{Scopes, ◌⊳◌, fact_of, inside, is_among, facts, outward, act_failures}
 use Rattle.pliron_text.specs.Acts.{value_uses, label_uses, result_definitions, argument_definitions, mark_acts, key_act, keeps_key, entries_if, result_types, piece_acts, all_of, parts_script, closing_acts, header_acts, region_scripts, blocks_script, operations_script, tree_script}
@@ -235,20 +235,20 @@ module _ {T A : Type 0} (C : Printing T A) where
   lengths_agree (x ∷ xs) F = ap suc (lengths_agree xs F)
 
   module _ (isolated : Id → Bool) where
-    closing_good : (m k : ℕ) (p : Path) (o : GraphOp T A) (n : ℕ) (x : Script Text ⊤) → FitsFormat C isolated (C.format_of o.id) o n → k + own_marks C o.location o.attributes ≤ m → Good m (k + own_marks C o.location o.attributes) x
+    closing_good : (m k : ℕ) (p : Path) (o : GraphOp T A) (n : ℕ) (x : Script Text ⊤) → FitsFormat C isolated (C.format_of o.id) o n → k + own_marks C o.location (op_outlined C o) ≤ m → Good m (k + own_marks C o.location (op_outlined C o)) x
         → Good m k (does_all (closing_acts p (tree_op C k o)) x)
     closing_good m k p o n x fit h f =
         let ns = map (λ (r : ℕ × T). value C r.0) o.results in
         let t = (names_back C isolated o n k (C.format_of o.id) refl fit).2 in
         let same : length (result_types (body_of C o (C.format_of o.id))) ≡ length ns = ap length t ∙ (lengths_agree o.results (λ (r : ℕ × T). r.1) ∙ sym (lengths_agree o.results (λ (r : ℕ × T). value C r.0))) in
         good_act _ (claimed _ _ (subst (λ z. (length (result_types (body_of C o (C.format_of o.id))) == z) ≡ true) same (same_itself (length (result_types (body_of C o (C.format_of o.id)))))))
-        (subst (Good m k) (sym (does_both C (result_definitions p 0 ns) (mark_acts (mark_at C k o.location o.attributes)) x))
-        (good_acts _ (results_good p 0 ns) (mark_good m k o.location o.attributes x h f)))
+        (subst (Good m k) (sym (does_both C (result_definitions p 0 ns) (mark_acts (mark_at C k o.location (op_outlined C o))) x))
+        (good_acts _ (results_good p 0 ns) (mark_good m k o.location (op_outlined C o) x h f)))
 
-    header_good : (m n : ℕ) (p : Path) (b : GraphBlock T A) (x : Script Text ⊤) → BlockKeepsKeys b → n + own_marks C b.location b.attributes ≤ m → Good m (n + own_marks C b.location b.attributes) x
+    header_good : (m n : ℕ) (p : Path) (b : GraphBlock T A) (x : Script Text ⊤) → BlockKeepsKeys b → n + own_marks C b.location (block_outlined C b) ≤ m → Good m (n + own_marks C b.location (block_outlined C b)) x
         → Good m n (does_all (header_acts p (tree_head C n b)) x)
     header_good m n p b x e h f =
-        let k = mark_at C n b.location b.attributes in
+        let k = mark_at C n b.location (block_outlined C b) in
         let pairs = map (λ (a : ℕ × T). (value C a.0, a.1)) b.arguments in
         let es = entries_if (tree_head C n b).attributes in
         subst (Good m n) (sym (does_both C (map key_act es) _ x))
@@ -256,7 +256,7 @@ module _ {T A : Type 0} (C : Printing T A) where
         (subst (Good m n) (sym (does_both C (argument_definitions p 0 pairs) _ x))
         (good_acts _ (arguments_good p 0 pairs)
         (subst (Good m n) (sym (does_both C (mark_acts k) _ x))
-        (mark_good m n b.location b.attributes _ h (good_act _ (named_act _ refl refl) f))))))
+        (mark_good m n b.location (block_outlined C b) _ h (good_act _ (named_act _ refl refl) f))))))
 
     within_good : (m n k : ℕ) (iso : Bool) (body x : Script Text ⊤) → n ≤ k → k ≤ m → Good k n body → Good m k x → Good m n (within iso tt body x)
     within_good m n k iso body x l h b f = record {
@@ -287,7 +287,7 @@ module _ {T A : Type 0} (C : Printing T A) where
           → Good m n (blocks_script isolated p k (tree_blocks C None n bs))
       blocks_good m n p k no_blocks f e h = record { kept = λ s b. tt; below = tt }
       blocks_good m n p k (block b os bs) f e h =
-          let q = n + own_marks C b.location b.attributes in
+          let q = n + own_marks C b.location (block_outlined C b) in
           header_good m n (k ∷ p) b _ e.0 (omega arith)
           (operations_good m q (k ∷ p) 0 os _ f.0 e.1 (omega arith) (blocks_good m (q + marks_in_operations C None os) p (suc k) bs f.1 e.2 (omega arith)))
 
@@ -296,16 +296,16 @@ module _ {T A : Type 0} (C : Printing T A) where
       operations_good m n p i no_operations x f e h g = good_later (omega arith) g
       operations_good m n p i (operation o rs os) x f e h g =
           let q = n + marks_in_regions C None rs in
-          let w = q + own_marks C o.location o.attributes in
+          let w = q + own_marks C o.location (op_outlined C o) in
           parts_good m n q (i ∷ p) _ _ (parts_of (body_of C o (C.format_of o.id))) _ _ (body_keeps o e.0 (C.format_of o.id)) (regions_good m n (i ∷ p) 0 (isolated o.id) rs f.1 e.1 (omega arith))
           (closing_good m q (i ∷ p) o (length (regions_list rs)) _ f.0 (omega arith)
           (operations_good m w p (suc i) os x f.2 e.2 (omega arith) (subst (λ z. Good m z x) (omega arith) g)))
 
     -- of a whole root, before whatever is done then: all marks are numbered below their count
     pub root_good : (g : Graph T A) (x : Script Text ⊤) → Fit C isolated g → GraphKeepsKeys g
-        → let m = marks_in_regions C None g.regions + own_marks C g.own.location g.own.attributes in Good m m x → Good m 0 (tree_script isolated (written C None g) x)
+        → let m = marks_in_regions C None g.regions + own_marks C g.own.location (op_outlined C g.own) in Good m m x → Good m 0 (tree_script isolated (written C None g) x)
     root_good g x f e h =
         let q = marks_in_regions C None g.regions in
-        let m = q + own_marks C g.own.location g.own.attributes in
+        let m = q + own_marks C g.own.location (op_outlined C g.own) in
         parts_good m 0 q [] _ _ (parts_of (body_of C g.own (C.format_of g.own.id))) _ _ (body_keeps g.own e.0 (C.format_of g.own.id)) (subst (λ z. GoodRegions m 0 z (region_scripts isolated [] 0 (isolated g.own.id) (tree_regions C None 0 g.regions))) (omega arith) (regions_good m 0 [] 0 (isolated g.own.id) g.regions f.1 e.1 (omega arith)))
         (closing_good m q [] g.own (length (regions_list g.regions)) _ f.0 (omega arith) h)

@@ -6,14 +6,11 @@ use Rattle.irtext_base.specs.Reading.{the}
 use Rattle.irtext_base.specs.Stream.{first_of}
 use Rattle.irtext_base.specs.Faults.{Unexpected, ASource, ALocation, Word}
 use Rattle.irtext_base.specs.Answers.{Outcome, Read, Missing, Bad, prefixed, mapped, followed}
-use Rattle.irtext_base.specs.Locations.{AttrView, LocationsOf, unknown, no_location}
+use Rattle.irtext_base.specs.Locations.{AttrView, unknown}
 use Rattle.irtext_base.specs.Paths.{Written}
 use Rattle.irtext_read.specs.Tokens.{text_at, spelled_at}
 use Rattle.irtext_read.specs.QuotedTexts.{quoted_at, units_at}
-use Rattle.irtext_base.specs.Stream.{StreamView}
-use Rattle.irtext_base.specs.declared.location.Location.{Location}
-use Rattle.irtext_base.specs.declared.parsable.fault.ParseFault.{ParseFault}
-use Rattle.pliron_text.specs.LocationReading.{begins_source, begins_location, bytes_at, path_at, source_at, place_at, metadata_at, name_at, WrittenRow, behind_location, row_of, row_at, more_at, fused_at, named_at, call_site_at, kind_at, location_within, more_within}
+use Rattle.pliron_text.specs.LocationReading.{begins_source, begins_location, bytes_at, path_at, source_at, place_at, name_at, WrittenRow, fused_at, named_at, call_site_at, kind_at, location_within, more_within}
 
 -- nothing of its kind stands there
 abbrev pub is_missing : {X : Type 0} → Outcome X → Bool

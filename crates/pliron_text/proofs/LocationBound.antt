@@ -1,19 +1,19 @@
 -- A bound on the nesting of a location that its text meets changes nothing.
-use Rattle.std.proofs.Common.{◌≡◌, ℕ, zero, suc, ◌≤◌, cond, Option, List, [], ◌∷◌, length, refl, ◌∙◌, ap, ap₂, arith}
+use Rattle.std.proofs.Common.{◌≡◌, ℕ, zero, suc, ◌≤◌, cond, Option, [], ◌∷◌, length, refl, ◌∙◌, ap, ap₂, arith}
 use Rattle.std.proofs.Math.Nat.{le_refl}
 use Rattle.std.specs.Prelude.{codes}
 use Rattle.std.specs.Char.{is_whitespace}
 use Rattle.irtext_base.specs.Text.{Text, begins, after_space, front}
 use Rattle.irtext_base.specs.Reading.{the}
 use Rattle.irtext_base.specs.Answers.{Outcome, Read, Missing, Bad, followed, prefixed, mapped}
-use Rattle.irtext_base.specs.Locations.{AttrView, fused, named, call_site, no_location, location}
+use Rattle.irtext_base.specs.Locations.{AttrView, fused, call_site, no_location, location}
 use Rattle.irtext_base.specs.Paths.{Written}
 use Rattle.irtext_read.specs.Tokens.{text_at}
 use Rattle.pliron_text.specs.LocationBound.{Leaves, LeavesNoMore}
 use Rattle.pliron_text.specs.LocationText.{space_at, spaced_at}
 use Rattle.pliron_text.specs.LocationReading.{WrittenRow, begins_source, behind_location, row_of, row_at, more_at, fused_at, named_at, call_site_at, kind_at, location_within, more_within}
 use Rattle.pliron_text.proofs.Leaves.{leaves_followed, followed_same, first_same, leaves_text, leaves_word, space_bound, leaves_spaced}
-use Rattle.pliron_text.proofs.LocationLeaves.{leaves_title, leaves_bytes, leaves_metadata, leaves_within}
+use Rattle.pliron_text.proofs.LocationLeaves.{leaves_title, leaves_metadata, leaves_within}
 
 -- ---- two readers of inner locations that agree on texts of so many characters
 module _ {A : Type 0} (inner other : Text → Outcome (Written A)) (more others : Text → Outcome (WrittenRow A)) (b : ℕ)

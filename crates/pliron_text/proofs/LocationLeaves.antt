@@ -1,9 +1,9 @@
 -- A location that is read leaves no more than its text.
-use Rattle.std.proofs.Common.{ℕ, zero, suc, ◌≤◌, Option, Some, None, List, [], length, refl}
+use Rattle.std.proofs.Common.{ℕ, zero, suc, ◌≤◌, Option, Some, None, [], length, refl}
 use Rattle.std.specs.Prelude.{codes}
 use Rattle.irtext_base.specs.Text.{Text, after_space}
 use Rattle.irtext_base.specs.Answers.{Outcome, Read, Missing, Bad, followed, mapped}
-use Rattle.irtext_base.specs.Locations.{AttrView, fused, named, no_location}
+use Rattle.irtext_base.specs.Locations.{AttrView, fused, no_location}
 use Rattle.irtext_base.specs.Paths.{Written}
 use Rattle.irtext_read.specs.Tokens.{text_at}
 use Rattle.pliron_text.specs.LocationBound.{Leaves, LeavesNoMore}

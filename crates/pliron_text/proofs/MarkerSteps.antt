@@ -1,5 +1,5 @@
 -- How far a fixed text was taken, and what stands where it isn't whole.
-use Rattle.std.proofs.Common.{◌≡◌, ℕ, Bool, true, false, Option, Some, None, Result, Ok, Err, [], ◌∷◌, ◌++◌, refl, sym, ◌∙◌, ap, subst, append_assoc, append-nil, arith}
+use Rattle.std.proofs.Common.{◌≡◌, ℕ, Bool, true, false, [], ◌∷◌, ◌++◌, refl, sym, ◌∙◌, ap, subst, append_assoc, append-nil, arith}
 use Rattle.std.specs.Char.{is_whitespace}
 use Rattle.std.proofs.lemmas.Bool.Decides.{nat_tests}
 use Rattle.irtext_base.specs.Text.{Text, begins, front, after_space}
@@ -8,7 +8,7 @@ use Rattle.irtext_base.specs.Stream.{StreamView, advanced, behind}
 use Rattle.irtext_base.specs.Answers.{Takes, Stands}
 use Rattle.irtext_base.proofs.Compose.{seen_after, stands_after, takes_more, takes_stands}
 use Rattle.irtext_read.proofs.Spelling.{begins_the, takes_none, takes_next}
-use Rattle.pliron_text.specs.Marker.{starts_with, TakesOr, TakesWord}
+use Rattle.pliron_text.specs.Marker.{starts_with, TakesWord}
 
 the-same : (c : ℕ) → the c c ≡ true
 the-same c = grind (arith, nat_tests)

@@ -8,7 +8,7 @@ use Rattle.pliron_text.specs.Forest.{Regions, no_regions, region, Blocks, no_blo
 use Rattle.pliron_text.specs.Tree as tree
 use Rattle.pliron_text.specs.Tree.{Name, Attribute, Piece, Part, Op, Head, Brace, parts_of}
 use Rattle.pliron_text.specs.Fine.{IsWord, Enough}
-use Rattle.pliron_text.specs.Graph.{Graph, Limit, GraphOp, GraphBlock, Printing, value, is_marked, mark_at, own_marks, body_of, tree_op, tree_head, tree_regions, tree_blocks, tree_operations, marks_in_regions, marks_in_blocks, marks_in_operations, written}
+use Rattle.pliron_text.specs.Graph.{Graph, Limit, GraphOp, GraphBlock, Printing, value, is_marked, mark_at, own_marks, body_of, tree_op, tree_head, tree_regions, tree_blocks, tree_operations, marks_in_regions, marks_in_blocks, marks_in_operations, written, op_outlined, block_outlined}
 use Rattle.pliron_text.specs.Script.{Path, Act, Script, does, within, does_all}
 use Rattle.pliron_text.specs.Scopes.{fact_of, facts, outward}
 use Rattle.pliron_text.specs.Acts.{value_uses, label_uses, result_definitions, argument_definitions, mark_acts, key_act, entries_if, piece_acts, all_of, parts_script, closing_acts, header_acts, region_scripts, blocks_script, operations_script, tree_script}
@@ -141,16 +141,16 @@ module _ {T A : Type 0} (C : Printing T A) where
           record { count = suc f.count; sum = omega arith; marks = ap (λ z. n ∷ z) (f.marks ∙ ap (λ z. numbers z f.count) e); entries = f.entries }
 
   module _ (isolated : Id → Bool) (given : (v : ℕ) (n : Text) → C.given v ≡ Some n → IsWord n) (label : (b : ℕ × ℕ) (n : Text) → C.label b ≡ Some n → IsWord n) where
-    closing_numbered : (m k : ℕ) (p : Path) (o : GraphOp T A) (x : Script Text ⊤) → Numbered m (k + own_marks C o.location o.attributes) x → Numbered m k (does_all (closing_acts p (tree_op C k o)) x)
+    closing_numbered : (m k : ℕ) (p : Path) (o : GraphOp T A) (x : Script Text ⊤) → Numbered m (k + own_marks C o.location (op_outlined C o)) x → Numbered m k (does_all (closing_acts p (tree_op C k o)) x)
     closing_numbered m k p o x f =
         let ns = map (λ (r : ℕ × T). value C r.0) o.results in
         numbered_act _ (record { marks = refl; entries = refl })
-        (subst (Numbered m k) (sym (does_both C (result_definitions p 0 ns) (mark_acts (mark_at C k o.location o.attributes)) x))
-        (numbered_acts _ (results_silent p 0 ns) (mark_numbered m k o.location o.attributes x f)))
+        (subst (Numbered m k) (sym (does_both C (result_definitions p 0 ns) (mark_acts (mark_at C k o.location (op_outlined C o))) x))
+        (numbered_acts _ (results_silent p 0 ns) (mark_numbered m k o.location (op_outlined C o) x f)))
 
-    header_numbered : (m n : ℕ) (p : Path) (b : GraphBlock T A) (x : Script Text ⊤) → Numbered m (n + own_marks C b.location b.attributes) x → Numbered m n (does_all (header_acts p (tree_head C n b)) x)
+    header_numbered : (m n : ℕ) (p : Path) (b : GraphBlock T A) (x : Script Text ⊤) → Numbered m (n + own_marks C b.location (block_outlined C b)) x → Numbered m n (does_all (header_acts p (tree_head C n b)) x)
     header_numbered m n p b x f =
-        let k = mark_at C n b.location b.attributes in
+        let k = mark_at C n b.location (block_outlined C b) in
         let pairs = map (λ (a : ℕ × T). (value C a.0, a.1)) b.arguments in
         let es = entries_if (tree_head C n b).attributes in
         subst (Numbered m n) (sym (does_both C (map key_act es) _ x))
@@ -158,7 +158,7 @@ module _ {T A : Type 0} (C : Printing T A) where
         (subst (Numbered m n) (sym (does_both C (argument_definitions p 0 pairs) _ x))
         (numbered_acts _ (arguments_silent p 0 pairs)
         (subst (Numbered m n) (sym (does_both C (mark_acts k) _ x))
-        (mark_numbered m n b.location b.attributes _ (numbered_act _ (record { marks = refl; entries = refl }) f))))))
+        (mark_numbered m n b.location (block_outlined C b) _ (numbered_act _ (record { marks = refl; entries = refl }) f))))))
 
     enough_for : {P : Type 0} (ps : List (Part P T A)) (p : Path) (j : ℕ) (iso : Bool) (rs : Regions (Op ⊤ T A) (Head ⊤ T A) (Brace ⊤)) → Enough ps rs → EnoughFor ps (region_scripts isolated p j iso rs)
     enough_for [] p j iso no_regions h = tt
@@ -199,7 +199,7 @@ module _ {T A : Type 0} (C : Printing T A) where
       blocks_numbered : (l : Limit) (n : ℕ) (p : Path) (k : ℕ) (bs : Blocks (GraphOp T A) (GraphBlock T A) ⊤) → FitBlocks C isolated bs → Numbered (n + marks_in_blocks C l bs) n (blocks_script isolated p k (tree_blocks C l n bs))
       blocks_numbered l n p k no_blocks f = record { count = 0; sum = refl; marks = refl; entries = refl }
       blocks_numbered l n p k (block b os bs) f =
-          let q = n + own_marks C b.location b.attributes in
+          let q = n + own_marks C b.location (block_outlined C b) in
           let m = q + marks_in_operations C l os in
           header_numbered _ n (k ∷ p) b _
           (operations_numbered l _ q (k ∷ p) 0 os _ f.0 (subst (λ z. Numbered z m (blocks_script isolated p (suc k) (tree_blocks C l m bs))) (omega arith) (blocks_numbered l m p (suc k) bs f.1)))
@@ -208,13 +208,13 @@ module _ {T A : Type 0} (C : Printing T A) where
       operations_numbered l m n p i no_operations x f g = numbered_from (omega arith) g
       operations_numbered l m n p i (operation o rs os) x f g =
           let q = n + marks_in_regions C l rs in
-          let w = q + own_marks C o.location o.attributes in
+          let w = q + own_marks C o.location (op_outlined C o) in
           let ps = parts_of (body_of C o (C.format_of o.id)) in
           parts_numbered m n q (i ∷ p) _ _ ps _ _ (enough_for ps (i ∷ p) 0 (isolated o.id) (tree_regions C l n rs) (body_enough l o n rs (C.format_of o.id) f.0)) (regions_numbered l n (i ∷ p) 0 (isolated o.id) rs f.1)
           (closing_numbered m q (i ∷ p) o _ (operations_numbered l m w p (suc i) os x f.2 (subst (λ z. Numbered m z x) (omega arith) g)))
 
     -- of a whole root, before whatever is done then
-    pub root_numbered : (l : Limit) (g : Graph T A) (m : ℕ) (x : Script Text ⊤) → Fit C isolated g → Numbered m (marks_in_regions C l g.regions + own_marks C g.own.location g.own.attributes) x → Numbered m 0 (tree_script isolated (written C l g) x)
+    pub root_numbered : (l : Limit) (g : Graph T A) (m : ℕ) (x : Script Text ⊤) → Fit C isolated g → Numbered m (marks_in_regions C l g.regions + own_marks C g.own.location (op_outlined C g.own)) x → Numbered m 0 (tree_script isolated (written C l g) x)
     root_numbered l g m x f h =
         let q = marks_in_regions C l g.regions in
         let ps = parts_of (body_of C g.own (C.format_of g.own.id)) in

@@ -7,7 +7,7 @@ use Rattle.irtext_base.specs.Format.{Format, Directive, same_text, operand_place
 use Rattle.pliron_text.specs.Fine.{Each}
 use Rattle.pliron_text.specs.Forest.{Regions, no_regions, region, Blocks, no_blocks, block, Operations, no_operations, operation, regions_list, MatchRegions, MatchBlocks, MatchOperations, AllRegions, AllBlocks, AllOperations}
 use Rattle.pliron_text.specs.Tree.{Name}
-use Rattle.pliron_text.specs.Graph.{Graph, GraphOp, GraphBlock, Printing, value, target, tree_op, own_marks, tree_regions, tree_blocks, tree_operations, marks_in_regions, marks_in_blocks, marks_in_operations, written}
+use Rattle.pliron_text.specs.Graph.{Graph, GraphOp, GraphBlock, Printing, value, target, tree_op, own_marks, tree_regions, tree_blocks, tree_operations, marks_in_regions, marks_in_blocks, marks_in_operations, written, op_outlined, block_outlined}
 use Rattle.pliron_text.specs.Script.{Path, Script, does_all}
 use Rattle.pliron_text.specs.Scopes as scopes
 use Rattle.pliron_text.specs.Scopes.{Fact, facts}
@@ -181,7 +181,7 @@ module _ {T A : Type 0} (C : Printing T A) (isolated : Id → Bool) where
           → MatchBlocks SameShape SameBlockShape (λ r s. ⊤) (stood_blocks C isolated w m p k bs) (built_blocks isolated first es v l p k (tree_blocks C None n bs))
       same_blocks n v l w m p k no_blocks f e s t = tt
       same_blocks n v l w m p k (block h os bs) f e s t =
-          let q = n + own_marks C h.location h.attributes in
+          let q = n + own_marks C h.location (block_outlined C h) in
           (record { label = refl; argument_types = types_back h.arguments }, same_operations q v l w m (k ∷ p) 0 os f.0 e.1 s t, same_blocks (q + marks_in_operations C None os) v l w m p (suc k) bs f.1 e.2 s t)
 
       same_operations : (n : ℕ) (v l : List (Fact Text)) (w m : List (Fact Thing)) (p : Path) (i : ℕ) (os : Operations (GraphOp T A) (GraphBlock T A) ⊤) → FitOperations C isolated os → AllOperations (SmallOp C isolated) (SmallBlock C isolated) (λ r. ⊤) os → Scoped v w → Scoped l m
@@ -189,7 +189,7 @@ module _ {T A : Type 0} (C : Printing T A) (isolated : Id → Bool) where
       same_operations n v l w m p i no_operations f e s t = tt
       same_operations n v l w m p i (operation o rs os) f e s t =
           let q = n + marks_in_regions C None rs in
-          (same_op n q v l w m o rs (f.0, f.1, tt) e.0 s t, same_regions n v w (i ∷ p) 0 (isolated o.id) rs f.1 e.1 s, same_operations (q + own_marks C o.location o.attributes) v l w m p (suc i) os f.2 e.2 s t)
+          (same_op n q v l w m o rs (f.0, f.1, tt) e.0 s t, same_regions n v w (i ∷ p) 0 (isolated o.id) rs f.1 e.1 s, same_operations (q + own_marks C o.location (op_outlined C o)) v l w m p (suc i) os f.2 e.2 s t)
 
     pub same_shapes : (g : Graph T A) → Fit C isolated g → SmallGraph C isolated g → SameShapes (stood C isolated g) (build isolated first es (written C None g))
     same_shapes g f e =

@@ -10,7 +10,7 @@ use Rattle.pliron_text.specs.Bare.{bare}
 use Rattle.pliron_text.specs.Fine.{Each}
 use Rattle.pliron_text.specs.Fillable.{OpKeepsKeys, BlockKeepsKeys, GraphKeepsKeys}
 use Rattle.pliron_text.specs.Writable.{Behind}
-use Rattle.pliron_text.specs.Graph.{Graph, GraphOp, GraphBlock, Printing, marks_in_regions, mark_at, written, entries_of}
+use Rattle.pliron_text.specs.Graph.{Graph, GraphOp, GraphBlock, Printing, marks_in_regions, mark_at, written, entries_of, op_outlined}
 use Rattle.pliron_text.specs.Section as section
 use Rattle.pliron_text.specs.ReadSection.{Entry}
 use Rattle.pliron_text.specs.Script.{done, does_all, UnknownIndex}
@@ -84,7 +84,7 @@ module _ {T A : Type 0} (C : Printing T A) (isolated : Id → Bool) (g : Graph T
     label = gives.label;
     own = plain.wordy;
     regions = all_empty (WordyOp C) (WordyBlock C) g.regions plain.blocks;
-    marks = let m = no_marks C g.regions plain.blocks in let o = one_mark C g.own.location g.own.attributes in omega arith;
+    marks = let m = no_marks C g.regions plain.blocks in let o = one_mark C g.own.location (op_outlined C g.own) in omega arith;
   }
 
   small : SmallGraph C isolated g
@@ -146,7 +146,7 @@ module _ {T A X : Type 0} (types : Texts T) (owns : Texts A) (types_law : Lawful
   behind : Behind (written C None g).own.mark (section.section B C (entries_of C None g))
   behind = subst (λ es. Behind (written C None g).own.mark (section.section B C es)) (sym (entries_are C isolated g plain)) (go g.own.location)
     where
-      go : (l : Option Text) → Behind (mark_at C (marks_in_regions C None g.regions) l g.own.attributes) (section.section B C (plain_entries C l))
+      go : (l : Option Text) → Behind (mark_at C (marks_in_regions C None g.regions) l (op_outlined C g.own)) (section.section B C (plain_entries C l))
       go None = record { ends = inl refl; one = λ e. inl refl }
       go (Some l) = record { ends = inr refl; one = λ e. absurd (cc e) }
 

@@ -1,5 +1,5 @@
 -- The section of a plain root: an entry without attributes where the root's location is known, and else none.
-use Rattle.std.proofs.Common.{◌≡◌, ℕ, ◌+◌, ◌<◌, ◌^◌, Bool, true, false, cond, not, ◌||◌, List, [], ◌∷◌, ◌++◌, filter, length, Option, Some, None, refl, sym, ap, ap₂, ◌∙◌, subst, true≢false, arith}
+use Rattle.std.proofs.Common.{◌≡◌, ℕ, ◌+◌, ◌<◌, ◌^◌, Bool, true, false, cond, not, List, [], ◌∷◌, ◌++◌, filter, length, Option, Some, None, refl, sym, ap, ap₂, ◌∙◌, subst, true≢false, arith}
 use Rattle.std.specs.Prelude.{⊤}
 use Rattle.std.specs.List.{list_all}
 use Rattle.irtext_base.specs.Text.{Text}
@@ -7,7 +7,7 @@ use Rattle.irtext_base.specs.Format.{Id}
 use Rattle.pliron_text.specs.Forest.{Regions, no_regions, region, no_blocks, block}
 use Rattle.pliron_text.specs.Tree.{Attribute}
 use Rattle.pliron_text.specs.Graph as graph
-use Rattle.pliron_text.specs.Graph.{Graph, GraphOp, GraphBlock, Printing, outlined, is_marked, own_marks, marks_in_regions, entries_of_regions, entries_of}
+use Rattle.pliron_text.specs.Graph.{Graph, GraphOp, GraphBlock, Printing, outlined, outlined_entries, is_marked, own_marks, marks_in_regions, entries_of_regions, entries_of}
 use Rattle.pliron_text.specs.Build.{content}
 use Rattle.pliron_text.specs.ReadSection.{Entry, of_item, of_once}
 use Rattle.pliron_text.specs.PlainRoot.{PlainRoot}
@@ -15,19 +15,10 @@ use Rattle.pliron_text.specs.SoFar.{HaveNoBlocks, AreSoFar}
 use Rattle.pliron_text.specs.WrittenSection.{bare_section, written_section, SmallSection, mark_of, own_content}
 use Rattle.pliron_text.proofs.FitsFormat.{and_left, and_right}
 
--- an attribute that isn't outlined
-unmarked : (a b : Bool) → not a ≡ true → b ≡ false → a || b ≡ false
-unmarked true b e f = absurd (true≢false (sym e))
-unmarked false b e f = f
-
 module _ {T A : Type 0} (C : Printing T A) where
   -- no attribute is outlined
   abbrev Inline : List (Text × Attribute A) → Type 0
   Inline es = list_all (λ e. not (outlined C e.1)) es ≡ true
-
-  not_marked : (es : List (Text × Attribute A)) → Inline es → is_marked C None es ≡ false
-  not_marked [] h = refl
-  not_marked (e ∷ es) h = unmarked (outlined C e.1) (is_marked C None es) (and_left (not (outlined C e.1)) _ h) (not_marked es (and_right (not (outlined C e.1)) _ h))
 
   none_outlined : (es : List (Text × Attribute A)) → Inline es → filter (λ e. outlined C e.1) es ≡ []
   none_outlined [] h = refl
@@ -47,9 +38,12 @@ module _ {T A : Type 0} (C : Printing T A) where
   plain_section None = []
   plain_section (Some l) = of_item (mark_of 0) (Some l) [] ∷ []
 
-  own_entry_is : (l : Option Text) (es : List (Text × Attribute A)) → Inline es → graph.own_entry C l es ≡ plain_entries l
-  own_entry_is None es h = ap (λ b. cond b (record { location = None; attributes = filter (λ e. outlined C e.1) es } ∷ []) []) (not_marked es h)
-  own_entry_is (Some l) es h = ap (λ z. record { location = Some l; attributes = z } ∷ []) (none_outlined es h)
+  own_entry_is : (l : Option Text) (es : List (Text × Attribute A)) → Inline es → graph.own_entry C l (outlined_entries C es) ≡ plain_entries l
+  own_entry_is l es h = ap (graph.own_entry C l) (none_outlined es h) ∙ go l
+    where
+      go : (l : Option Text) → graph.own_entry C l [] ≡ plain_entries l
+      go None = refl
+      go (Some l) = refl
 
   no_entries : (rs : Regions (GraphOp T A) (GraphBlock T A) ⊤) → HaveNoBlocks rs → entries_of_regions C None rs ≡ []
   no_entries no_regions h = refl
@@ -69,9 +63,12 @@ module _ {T A : Type 0} (C : Printing T A) where
       go false = omega arith
 
   -- the mark leads to the root's location
-  pub content_written : (l : Option Text) (k : ℕ) (es : List (Text × Attribute A)) → k ≡ 0 → Inline es → content {P = ⊤} (plain_section l) (graph.mark_at C k l es) ≡ own_content C l es
-  content_written None k es z h = ap (λ b. content {P = ⊤} {A = A} {X = Text} [] (cond b (Some (mark_of k)) None)) (not_marked es h) ∙ ap (λ b. cond b (Some (None, filter (λ e. outlined C e.1) es)) None) (sym (not_marked es h))
-  content_written (Some l) k es z h = ap (λ j. content {P = ⊤} (plain_section (Some l)) (Some (mark_of j))) z ∙ ap (λ z. Some (Some l, z)) (sym (none_outlined es h))
+  pub content_written : (l : Option Text) (k : ℕ) (es : List (Text × Attribute A)) → k ≡ 0 → Inline es → content {P = ⊤} (plain_section l) (graph.mark_at C k l (outlined_entries C es)) ≡ own_content C l (outlined_entries C es)
+  content_written l k es z h = subst (λ ds. content {P = ⊤} (plain_section l) (graph.mark_at C k l ds) ≡ own_content C l ds) (sym (none_outlined es h)) (go l)
+    where
+      go : (l : Option Text) → content {P = ⊤} (plain_section l) (graph.mark_at C k l []) ≡ own_content C l []
+      go None = refl
+      go (Some l) = ap (λ j. content {P = ⊤} (plain_section (Some l)) (Some (mark_of j))) z
 
   module _ (isolated : Id → Bool) (g : Graph T A) (plain : PlainRoot C isolated g) where
     pub entries_are : entries_of C None g ≡ plain_entries g.own.location

@@ -16,7 +16,7 @@ use Rattle.pliron_text.specs.Tree as tree
 use Rattle.pliron_text.specs.Tree.{Name, Attribute, given_names, ident, own, Part, Piece}
 use Rattle.pliron_text.specs.Fine.{Each, FineAttribute}
 use Rattle.pliron_text.specs.Graph as graph
-use Rattle.pliron_text.specs.Graph.{Graph, GraphOp, GraphBlock, Printing, outlined, lookup, named, entries, inline, part_of, body_of, mark_at, marks_in_regions, entries_of, tree_regions, written, written_keys}
+use Rattle.pliron_text.specs.Graph.{Graph, GraphOp, GraphBlock, Printing, outlined, lookup, named, entries, inline, part_of, body_of, mark_at, marks_in_regions, entries_of, tree_regions, written, written_keys, op_outlined}
 use Rattle.pliron_text.specs.PlainRoot.{PlainRoot}
 use Rattle.pliron_text.specs.PrintedOperation.{is_written}
 use Rattle.pliron_text.specs.Section as section
@@ -208,6 +208,6 @@ module _ {T A : Type 0} (L : Language ⊤ T A) (lawful : Lawful A L.owns) where
           let id = spell.id L g.own.id in
           let named : AreScalars id = scalars_more g.own.id.dialect (codes "." ++ g.own.id.name) (scalars_word g.own.id.dialect plain.wordy.dialect) (scalars_more (codes ".") g.own.id.name refl (scalars_word g.own.id.name plain.wordy.name)) in
           let concrete = scalars_more (spell.results L t.own.names) (id ++ spell.body L t.own.body rs) (ap all_scalars no_results) (scalars_more id (spell.body L t.own.body rs) named body) in
-          let mark = mark_scalars g.own.location g.own.attributes (marks_in_regions C None g.regions) (no_marks C g.regions plain.blocks) in
+          let mark = mark_scalars g.own.location (op_outlined C g.own) (marks_in_regions C None g.regions) (no_marks C g.regions plain.blocks) in
           scalars_more (spell.concrete L t.own rs ++ spell.mark_if L t.own.mark) (section.section L C (entries_of C None g)) (scalars_more (spell.concrete L t.own rs) (spell.mark_if L t.own.mark) concrete mark)
           (subst (λ es. AreScalars (section.section L C es)) (sym (entries_are C isolated g plain)) (section_scalars g.own.location located))

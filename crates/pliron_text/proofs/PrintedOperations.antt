@@ -1,5 +1,5 @@
 -- What printing appends for an operation is what the definitions say, where they say something.
-use Rattle.std.proofs.Common.{◌≡◌, ◌++◌, ◌∙◌, ◌&&◌, ◌||◌, ◌==◌, ◌+◌, not, ℕ, List, [], ◌∷◌, Bool, true, false, true≢false, cond, filter, refl, sym, ap, subst, Option, Some, None, length, IfSome, codes}
+use Rattle.std.proofs.Common.{◌≡◌, ◌++◌, ◌∙◌, ◌&&◌, ◌==◌, ◌+◌, not, ℕ, List, [], ◌∷◌, Bool, true, false, true≢false, cond, filter, refl, sym, ap, subst, Option, Some, None, length, IfSome, codes}
 use Rattle.std.specs.Prelude.{⊤}
 use Rattle.std.proofs.lemmas.List.{append_assoc, append-nil}
 use Rattle.std.specs.List.{list_all}
@@ -17,7 +17,7 @@ use Rattle.irtext_base.specs.declared.base.operation.Operation.{Operation}
 use Rattle.irtext_base.specs.declared.base.region.Region.{Region}
 use Rattle.irtext_base.specs.declared.location.Location.{Location}
 use Rattle.pliron_text.specs.ConcreteText.{concrete_of, concrete_text, printed_concrete, debugging, debug_text}
-use Rattle.pliron_text.specs.Graph.{Graph, Printing, Limit, Entry, is_elided, is_marked, mark_at, marks_in_regions, entries_of_regions, own_entry, outlined}
+use Rattle.pliron_text.specs.Graph.{Graph, Printing, Limit, Entry, is_elided, mark_at, marks_in_regions, entries_of_regions, own_entry, outlined, outlined_entries}
 use Rattle.pliron_text.specs.LocationWriting.{known_text}
 use Rattle.pliron_text.specs.PrintedOperation.{printed, levels, is_printed, is_printed_in, is_written, fits_format, regions_fit, keys_there, symbol_fits, all_written, none_outlined, mark_text, gathered_at, entry_at, entry_text, section_text, root_text}
 use Rattle.pliron_text.specs.Printing.{gathered_of, with_gathered}
@@ -59,15 +59,7 @@ module _ {T A : Type 0} (C : Printing T A) where
       either true = refl
       either false = refl
 
-  -- where nothing is outlined, the mark is of the location alone
-  unmarked : (es : List (Text × Attribute A)) → none_outlined C es ≡ true → is_marked C None es ≡ false
-  unmarked [] h = refl
-  unmarked (e ∷ es) h = go (outlined C e.1) h (unmarked es)
-    where
-      go : (b : Bool) → (not b && none_outlined C es) ≡ true → (none_outlined C es ≡ true → is_marked C None es ≡ false) → (b || is_marked C None es) ≡ false
-      go true h more = absurd (true≢false (sym h))
-      go false h more = more h
-
+  -- where nothing is outlined, the section gives nothing
   none_kept : (es : List (Text × Attribute A)) → none_outlined C es ≡ true → filter (λ e. outlined C e.1) es ≡ []
   none_kept [] h = refl
   none_kept (e ∷ es) h = go (outlined C e.1) h (none_kept es)
@@ -91,15 +83,19 @@ module _ {T A : Type 0} (C : Printing T A) where
           and_right (all_written C ds (entries_of op.attributes)) (none_outlined C (entries_of op.attributes)) fits-2
 
 module _ {T A : Type 0} (L : Language ⊤ T A) (C : Printing T A) (es : List (Text × Attribute A)) (free : none_outlined C es ≡ true) where
-  mark_is : (l : Option Text) → mark_if L (mark_at C 0 l es) ≡ plain_mark l
-  mark_is None = ap (λ b. mark_if L (cond b (Some (record { place = tt; index = 0 })) None)) (unmarked C es free)
-  mark_is (Some l) = refl
+  mark_is : (l : Option Text) → mark_if L (mark_at C 0 l (outlined_entries C es)) ≡ plain_mark l
+  mark_is l = ap (λ ds. mark_if L (mark_at C 0 l ds)) (none_kept C es free) ∙ go l
+    where
+      go : (l : Option Text) → mark_if L (mark_at C 0 l []) ≡ plain_mark l
+      go None = refl
+      go (Some l) = refl
 
-  section_is : (l : Option Text) → section L C (own_entry C l es) ≡ plain_section l
-  section_is None = ap (λ b. section L C (cond b (record { location = None; attributes = filter (λ e. outlined C e.1) es } ∷ []) [])) (unmarked C es free)
-  section_is (Some l) =
-      ap (λ z. section L C (record { location = Some l; attributes = z } ∷ [])) (none_kept C es free)
-      ∙ ap (λ z. codes "\n\noutlined_attributes:\n" ++ z) (append-nil (entry_text 0 (Some l) ++ []))
+  section_is : (l : Option Text) → section L C (own_entry C l (outlined_entries C es)) ≡ plain_section l
+  section_is l = ap (λ ds. section L C (own_entry C l ds)) (none_kept C es free) ∙ go l
+    where
+      go : (l : Option Text) → section L C (own_entry C l []) ≡ plain_section l
+      go None = refl
+      go (Some l) = ap (λ z. codes "\n\noutlined_attributes:\n" ++ z) (append-nil (entry_text 0 (Some l) ++ []))
 
 module _ {T A U : Type 0} (L : Language ⊤ T A) (C : Printing T A) (ctx : ContextView T A) (p : Ptr Operation) (op : OperationView T A) (s : Shown U) where
   -- the text of the operation's location, where it is known
@@ -119,6 +115,7 @@ module _ {T A U : Type 0} (L : Language ⊤ T A) (C : Printing T A) (ctx : Conte
       → text L C (graph_at op location) s.indent s.width (levels s.limit) ≡ root_text L.owns.written ctx p op s (concrete_text L C op s)
   text_is o h nothing =
       let es = entries_of op.attributes in
+      let ds = outlined_entries C es in
       let free = none_of_printed C op h in
       let concrete = concrete_text L C op s in
       let regions = empty_regions {O = _} {B = _} op.regions in
@@ -126,9 +123,9 @@ module _ {T A U : Type 0} (L : Language ⊤ T A) (C : Printing T A) (ctx : Conte
       let mark : mark_text op.loc (length s.gathered) ≡ plain_mark location = ap (λ z. mark_text op.loc (length z)) nothing ∙ is.mark in
       let behind : section_text L.owns.written ctx (s.gathered ++ gathered_at op.loc p) ≡ plain_section location
       = ap (λ z. section_text L.owns.written ctx (z ++ gathered_at op.loc p)) nothing ∙ ap (section_text L.owns.written ctx) is.gathered ∙ gathered_section location o refl in
-      ap (λ m. (concrete ++ mark_if L (mark_at C m location es)) ++ section L C (entries_of_regions C (levels s.limit) regions ++ own_entry C location es)) (no_marks C (levels s.limit) op.regions)
-      ∙ ap (λ z. (concrete ++ mark_if L (mark_at C 0 location es)) ++ section L C (z ++ own_entry C location es)) (no_entries C (levels s.limit) op.regions)
-      ∙ ap (λ z. (concrete ++ z) ++ section L C (own_entry C location es)) (mark_is L C es free location)
+      ap (λ m. (concrete ++ mark_if L (mark_at C m location ds)) ++ section L C (entries_of_regions C (levels s.limit) regions ++ own_entry C location ds)) (no_marks C (levels s.limit) op.regions)
+      ∙ ap (λ z. (concrete ++ mark_if L (mark_at C 0 location ds)) ++ section L C (z ++ own_entry C location ds)) (no_entries C (levels s.limit) op.regions)
+      ∙ ap (λ z. (concrete ++ z) ++ section L C (own_entry C location ds)) (mark_is L C es free location)
       ∙ ap (λ z. (concrete ++ plain_mark location) ++ z) (section_is L C es free location)
       ∙ append_assoc concrete (plain_mark location) (plain_section location)
       ∙ ap (λ z. concrete ++ (z ++ plain_section location)) (sym mark)

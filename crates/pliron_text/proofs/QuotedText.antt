@@ -1,5 +1,5 @@
 -- Quoted texts, byte by byte.
-use Rattle.std.proofs.Common.{◌≡◌, ◌∙◌, ◌<◌, ◌≤◌, ◌+◌, ◌-◌, ℕ, suc, Bool, true, false, cond, ◌||◌, ◌==◌, List, [], ◌∷◌, ◌++◌, length, take, drop, get_or, codes, refl, sym, ap, subst, true≢false, arith, ⊎_elim}
+use Rattle.std.proofs.Common.{◌≡◌, ◌∙◌, ◌<◌, ◌≤◌, ◌+◌, ◌-◌, ℕ, suc, Bool, true, false, cond, ◌==◌, List, [], ◌∷◌, ◌++◌, length, take, drop, get_or, codes, refl, sym, ap, subst, true≢false, arith, ⊎_elim}
 use Rattle.std.proofs.lemmas.Bool.{cases_lt}
 use Rattle.std.proofs.lemmas.Bool.Decides.{nat_tests}
 use Rattle.std.proofs.lemmas.List.{append_assoc, append-nil, get_or-drop, length-drop, take_all, take_more, take_rest}
@@ -11,7 +11,7 @@ use Rattle.std.specs.Str.{bytes_eq}
 use Rattle.irtext_base.proofs.Characters.{ascii}
 use Rattle.std.specs.Char.{encode_utf8, is_ascii_control}
 use Rattle.std.specs.Str.{chars, encode_utf8_all, IsUtf8, IsCharBoundary}
-use Rattle.irtext_base.specs.Quoted.{hexadecimal, image_of, images, quoted}
+use Rattle.irtext_base.specs.Quoted.{hexadecimal, image_of, images}
 use Rattle.irtext_base.specs.Text.{Text}
 use Rattle.pliron_text.specs.Separator.{is_escaped, quoted_bytes}
 

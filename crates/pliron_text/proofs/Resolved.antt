@@ -2,7 +2,7 @@
 use Rattle.std.proofs.Common.{◌≡◌, ◌+◌, Bool, None, [], map, ap, ◌∙◌}
 use Rattle.std.specs.Prelude.{⊤}
 use Rattle.irtext_base.specs.Format.{same_text, Id}
-use Rattle.pliron_text.specs.Graph.{Graph, Printing, written, marks_in_regions, own_marks}
+use Rattle.pliron_text.specs.Graph.{Graph, Printing, written, marks_in_regions, own_marks, op_outlined}
 use Rattle.pliron_text.specs.Script.{done, failure_as}
 use Rattle.pliron_text.specs.Scopes.{no_scope, failures}
 use Rattle.pliron_text.specs.Acts.{tree_script}
@@ -31,6 +31,6 @@ module _ {T A : Type 0} (C : Printing T A) (isolated : Id → Bool) (g : Graph T
   -- with marks numbered on, counts that agree, and the reserved key kept
   pub tree_resolves : GraphKeepsKeys g → failures same_text no_scope (tree_script isolated (written C None g) done) ≡ []
   tree_resolves keys =
-      let m = marks_in_regions C None g.regions + own_marks C g.own.location g.own.attributes in
+      let m = marks_in_regions C None g.regions + own_marks C g.own.location (op_outlined C g.own) in
       let last : Good m m done = record { kept = λ s b. tt; below = tt } in
       resolves_if ((root_good C isolated g done fit keys last).kept no_scope tt)

@@ -1,5 +1,5 @@
 -- A closed root's text with its section reads as a tree and entries that resolve, in which each item has its own entry.
-use Rattle.std.proofs.Common.{◌≡◌, ℕ, ◌+◌, ◌<◌, ◌^◌, Bool, true, false, cond, List, [], ◌∷◌, ◌++◌, filter, length, Option, None, refl, sym, ap, ap₂, ◌∙◌, subst, arith, append-nil, inl}
+use Rattle.std.proofs.Common.{◌≡◌, ℕ, ◌+◌, ◌<◌, ◌^◌, Bool, true, false, cond, List, [], ◌∷◌, ◌++◌, length, Option, None, refl, sym, ap, ap₂, ◌∙◌, subst, arith, append-nil, inl}
 use Rattle.std.specs.Prelude.{⊤}
 use Rattle.irtext_base.specs.Text.{Text}
 use Rattle.irtext_base.specs.Format.{same_text, Id}
@@ -13,7 +13,7 @@ use Rattle.pliron_text.specs.Spell.{spelled}
 use Rattle.pliron_text.specs.Wordy.{WordyEntry, WordyOp, WordyBlock, Wordy}
 use Rattle.pliron_text.specs.Fillable.{KeepsKeys, OpKeepsKeys, BlockKeepsKeys, GraphKeepsKeys}
 use Rattle.pliron_text.specs.Graph as graph
-use Rattle.pliron_text.specs.Graph.{Graph, Limit, GraphOp, GraphBlock, Printing, outlined, shared, place_in, is_marked, own_marks, marks_in_regions, written, own_entry, entries_of_regions, entries_of_blocks, entries_of_operations, entries_of}
+use Rattle.pliron_text.specs.Graph.{Graph, Limit, GraphOp, GraphBlock, Printing, outlined, shared, place_in, is_marked, own_marks, marks_in_regions, written, own_entry, entries_of_regions, entries_of_blocks, entries_of_operations, entries_of, op_outlined, block_outlined, outlined_entries}
 use Rattle.pliron_text.specs.Section as section
 use Rattle.pliron_text.specs.ReadSection.{Entry}
 use Rattle.pliron_text.specs.Script.{Script, done, does_all}
@@ -53,7 +53,7 @@ each_two Q R S f [] h k = tt
 each_two Q R S f (x ∷ xs) h k = (f x h.0 k.0, each_two Q R S f xs h.1 k.1)
 
 -- what holds of each item's own entry holds of all entries
-module _ {T A : Type 0} (C : Printing T A) (Q : graph.Entry C → Type 0) (OfO : GraphOp T A → Type 0) (OfB : GraphBlock T A → Type 0) (op : (o : GraphOp T A) → OfO o → Each Q (own_entry C o.location o.attributes)) (head : (h : GraphBlock T A) → OfB h → Each Q (own_entry C h.location h.attributes)) where
+module _ {T A : Type 0} (C : Printing T A) (Q : graph.Entry C → Type 0) (OfO : GraphOp T A → Type 0) (OfB : GraphBlock T A → Type 0) (op : (o : GraphOp T A) → OfO o → Each Q (own_entry C o.location (op_outlined C o))) (head : (h : GraphBlock T A) → OfB h → Each Q (own_entry C h.location (block_outlined C h))) where
   mutual
     regions_each : (rs : Regions (GraphOp T A) (GraphBlock T A) ⊤) → AllRegions OfO OfB (λ r. ⊤) rs → Each Q (entries_of_regions C None rs)
     regions_each no_regions h = tt
@@ -62,21 +62,21 @@ module _ {T A : Type 0} (C : Printing T A) (Q : graph.Entry C → Type 0) (OfO :
     blocks_each : (bs : Blocks (GraphOp T A) (GraphBlock T A) ⊤) → AllBlocks OfO OfB (λ r. ⊤) bs → Each Q (entries_of_blocks C None bs)
     blocks_each no_blocks h = tt
     blocks_each (block b os bs) h =
-        each_append Q (own_entry C b.location b.attributes) _ (head b h.0) (each_append Q (entries_of_operations C None os) (entries_of_blocks C None bs) (operations_each os h.1) (blocks_each bs h.2))
+        each_append Q (own_entry C b.location (block_outlined C b)) _ (head b h.0) (each_append Q (entries_of_operations C None os) (entries_of_blocks C None bs) (operations_each os h.1) (blocks_each bs h.2))
 
     operations_each : (os : Operations (GraphOp T A) (GraphBlock T A) ⊤) → AllOperations OfO OfB (λ r. ⊤) os → Each Q (entries_of_operations C None os)
     operations_each no_operations h = tt
     operations_each (operation o rs os) h =
-        each_append Q (entries_of_regions C None rs) _ (regions_each rs h.1) (each_append Q (own_entry C o.location o.attributes) (entries_of_operations C None os) (op o h.0) (operations_each os h.2))
+        each_append Q (entries_of_regions C None rs) _ (regions_each rs h.1) (each_append Q (own_entry C o.location (op_outlined C o)) (entries_of_operations C None os) (op o h.0) (operations_each os h.2))
 
   graph_each : (g : Graph T A) → OfO g.own → AllRegions OfO OfB (λ r. ⊤) g.regions → Each Q (entries_of C None g)
-  graph_each g h k = each_append Q (entries_of_regions C None g.regions) (own_entry C g.own.location g.own.attributes) (regions_each g.regions k) (op g.own h)
+  graph_each g h k = each_append Q (entries_of_regions C None g.regions) (own_entry C g.own.location (op_outlined C g.own)) (regions_each g.regions k) (op g.own h)
 
 module _ {T A : Type 0} (C : Printing T A) where
-  own_each : (Q : graph.Entry C → Type 0) (l : Option Text) (es : List (Text × Attribute A)) → Q (record { location = l; attributes = filter (λ e. outlined C e.1) es }) → Each Q (own_entry C l es)
+  own_each : (Q : graph.Entry C → Type 0) (l : Option Text) (es : List (Text × Attribute A)) → Q (record { location = l; attributes = es }) → Each Q (own_entry C l es)
   own_each Q l es h = go (is_marked C l es)
     where
-      go : (b : Bool) → Each Q (cond b (record { location = l; attributes = filter (λ e. outlined C e.1) es } ∷ []) [])
+      go : (b : Bool) → Each Q (cond b (record { location = l; attributes = es } ∷ []) [])
       go true = (h, tt)
       go false = tt
 
@@ -93,14 +93,14 @@ module _ {T A : Type 0} (C : Printing T A) where
   abbrev EntryWordy : graph.Entry C → Type 0
   EntryWordy e = Each WordyEntry e.attributes
 
-  own_keeps : (l : Option Text) (es : List (Text × Attribute A)) → KeepsKeys es → Each EntryKeeps (own_entry C l es)
-  own_keeps l es h = own_each EntryKeeps l es (each_keeps _ (keeps_filter (λ e. outlined C e.1) es h))
+  own_keeps : (l : Option Text) (es : List (Text × Attribute A)) → KeepsKeys es → Each EntryKeeps (own_entry C l (outlined_entries C es))
+  own_keeps l es h = own_each EntryKeeps l (outlined_entries C es) (each_keeps _ (keeps_filter (λ e. outlined C e.1) es h))
 
   entries_keep : (g : Graph T A) → GraphKeepsKeys g → Each EntryKeeps (entries_of C None g)
   entries_keep g h = graph_each C EntryKeeps OpKeepsKeys BlockKeepsKeys (λ o k. own_keeps o.location o.attributes k) (λ b k. own_keeps b.location b.attributes k) g h.0 h.1
 
-  own_wordy : (l : Option Text) (es : List (Text × Attribute A)) → Each WordyEntry es → Each EntryWordy (own_entry C l es)
-  own_wordy l es h = own_each EntryWordy l es (each_filter WordyEntry (λ e. outlined C e.1) es h)
+  own_wordy : (l : Option Text) (es : List (Text × Attribute A)) → Each WordyEntry es → Each EntryWordy (own_entry C l (outlined_entries C es))
+  own_wordy l es h = own_each EntryWordy l (outlined_entries C es) (each_filter WordyEntry (λ e. outlined C e.1) es h)
 
   entries_wordy : (g : Graph T A) → Wordy C g → Each EntryWordy (entries_of C None g)
   entries_wordy g w = graph_each C EntryWordy (WordyOp C) (WordyBlock C) (λ o k. own_wordy o.location o.attributes k.attributes) (λ b k. own_wordy b.location b.attributes k.attributes) g w.own w.regions
@@ -110,7 +110,7 @@ module _ {T A : Type 0} (C : Printing T A) where
     EntryLocated e = LocationReads location_at K e.location
 
     entries_located : (g : Graph T A) → GraphHeld location_at K g → Each EntryLocated (entries_of C None g)
-    entries_located g h = graph_each C EntryLocated (λ o. Held location_at K o.location o.attributes) (λ b. Held location_at K b.location b.attributes) (λ o k. own_each EntryLocated o.location o.attributes k.0) (λ b k. own_each EntryLocated b.location b.attributes k.0) g h.0 h.1
+    entries_located g h = graph_each C EntryLocated (λ o. Held location_at K o.location o.attributes) (λ b. Held location_at K b.location b.attributes) (λ o k. own_each EntryLocated o.location (op_outlined C o) k.0) (λ b k. own_each EntryLocated b.location (block_outlined C b) k.0) g h.0 h.1
 
   -- one script and then another, in a root
   tree_follow : (isolated : Id → Bool) (t : Tree ⊤ T A) (x y : Script Text ⊤) → tree_script isolated t (follow x y) ≡ follow (tree_script isolated t x) y
@@ -119,7 +119,7 @@ module _ {T A : Type 0} (C : Printing T A) where
   -- the marks that are written, as many as there are entries
   pub marks_written : (isolated : Id → Bool) (l : Limit) (g : Graph T A) → Wordy C g → Fit C isolated g → Numbered (length (entries_of C l g)) 0 (tree_script isolated (written C l g) done)
   marks_written isolated l g wordy fit =
-      let n = marks_in_regions C l g.regions + own_marks C g.own.location g.own.attributes in
+      let n = marks_in_regions C l g.regions + own_marks C g.own.location (op_outlined C g.own) in
       let e : n ≡ length (entries_of C l g) = sym (length_entries C l g) in
       let e' : n + 0 ≡ n = omega arith in
       subst (λ m. Numbered m 0 (tree_script isolated (written C l g) done)) e (root_numbered C isolated wordy.given wordy.label l g n done fit (record { count = 0; sum = e'; marks = refl; entries = refl }))

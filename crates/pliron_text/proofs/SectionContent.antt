@@ -1,5 +1,5 @@
 -- The k-th entry has index k: each item's mark leads to the item's own location and outlined attributes.
-use Rattle.std.proofs.Common.{◌≡◌, ℕ, zero, suc, ◌+◌, ◌<◌, Bool, true, false, cond, ◌==◌, List, [], ◌∷◌, ◌++◌, map, filter, length, Option, Some, None, refl, sym, ap, ap₂, ◌∙◌, subst, append_assoc, append-nil, arith}
+use Rattle.std.proofs.Common.{◌≡◌, ℕ, zero, suc, ◌+◌, ◌<◌, Bool, true, false, cond, ◌==◌, List, [], ◌∷◌, ◌++◌, map, length, Option, Some, None, refl, sym, ap, ap₂, ◌∙◌, subst, append_assoc, append-nil, arith}
 use Rattle.std.specs.Prelude.{⊤, flat_map}
 use Rattle.std.proofs.lemmas.Bool.Decides.{nat_tests}
 use Rattle.irtext_base.specs.Text.{Text}
@@ -9,7 +9,7 @@ use Rattle.pliron_text.specs.Tree.{Attribute, given_names, ident, own, Op, Head,
 use Rattle.pliron_text.specs.Fine.{Each}
 use Rattle.pliron_text.specs.Bare.{bare_mark_if, bare_op, bare_head, bare_regions, bare_blocks, bare_operations, bare}
 use Rattle.pliron_text.specs.Graph as graph
-use Rattle.pliron_text.specs.Graph.{Graph, Limit, GraphOp, GraphBlock, Printing, outlined, shared, place_in, is_marked, mark_at, own_marks, marks_in_regions, marks_in_blocks, marks_in_operations, tree_regions, tree_blocks, tree_operations, written, own_entry, entries_of_regions, entries_of_blocks, entries_of_operations, entries_of}
+use Rattle.pliron_text.specs.Graph.{Graph, Limit, GraphOp, GraphBlock, Printing, outlined, shared, place_in, is_marked, mark_at, own_marks, marks_in_regions, marks_in_blocks, marks_in_operations, tree_regions, tree_blocks, tree_operations, written, own_entry, entries_of_regions, entries_of_blocks, entries_of_operations, entries_of, op_outlined, block_outlined}
 use Rattle.pliron_text.specs.ReadSection.{Entry, direct, reference}
 use Rattle.pliron_text.specs.Contents as contents
 use Rattle.pliron_text.specs.Contents.{as_text, Contents}
@@ -50,7 +50,7 @@ module _ {T A : Type 0} (C : Printing T A) where
   own_length : (l : Option Text) (es : List (Text × Attribute A)) → length (own_entry C l es) ≡ own_marks C l es
   own_length l es = go (is_marked C l es)
     where
-      go : (b : Bool) → length {A = graph.Entry C} (cond b (record { location = l; attributes = filter (λ e. outlined C e.1) es } ∷ []) []) ≡ cond b 1 0
+      go : (b : Bool) → length {A = graph.Entry C} (cond b (record { location = l; attributes = es } ∷ []) []) ≡ cond b 1 0
       go true = refl
       go false = refl
 
@@ -64,25 +64,25 @@ module _ {T A : Type 0} (C : Printing T A) where
     blocks_length : (l : Limit) (bs : Blocks (GraphOp T A) (GraphBlock T A) ⊤) → length (entries_of_blocks C l bs) ≡ marks_in_blocks C l bs
     blocks_length l no_blocks = refl
     blocks_length l (block h os bs) =
-        let x = own_length h.location h.attributes in
+        let x = own_length h.location (block_outlined C h) in
         let y = operations_length l os in
         let z = blocks_length l bs in
-        let e = length-both (own_entry C h.location h.attributes) (entries_of_operations C l os ++ entries_of_blocks C l bs) in
+        let e = length-both (own_entry C h.location (block_outlined C h)) (entries_of_operations C l os ++ entries_of_blocks C l bs) in
         let f = length-both (entries_of_operations C l os) (entries_of_blocks C l bs) in
         omega arith
 
     operations_length : (l : Limit) (os : Operations (GraphOp T A) (GraphBlock T A) ⊤) → length (entries_of_operations C l os) ≡ marks_in_operations C l os
     operations_length l no_operations = refl
     operations_length l (operation o rs os) =
-        let x = own_length o.location o.attributes in
+        let x = own_length o.location (op_outlined C o) in
         let y = regions_length l rs in
         let z = operations_length l os in
-        let e = length-both (entries_of_regions C l rs) (own_entry C o.location o.attributes ++ entries_of_operations C l os) in
-        let f = length-both (own_entry C o.location o.attributes) (entries_of_operations C l os) in
+        let e = length-both (entries_of_regions C l rs) (own_entry C o.location (op_outlined C o) ++ entries_of_operations C l os) in
+        let f = length-both (own_entry C o.location (op_outlined C o)) (entries_of_operations C l os) in
         omega arith
 
-  pub length_entries : (l : Limit) (g : Graph T A) → length (entries_of C l g) ≡ marks_in_regions C l g.regions + own_marks C g.own.location g.own.attributes
-  length_entries l g = length-both (entries_of_regions C l g.regions) (own_entry C g.own.location g.own.attributes) ∙ ap₂ ◌+◌ (regions_length l g.regions) (own_length g.own.location g.own.attributes)
+  pub length_entries : (l : Limit) (g : Graph T A) → length (entries_of C l g) ≡ marks_in_regions C l g.regions + own_marks C g.own.location (op_outlined C g.own)
+  length_entries l g = length-both (entries_of_regions C l g.regions) (own_entry C g.own.location (op_outlined C g.own)) ∙ ap₂ ◌+◌ (regions_length l g.regions) (own_length g.own.location (op_outlined C g.own))
 
   module _ (sound : (a b : A) → C.same_own a b ≡ true → a ≡ b) (reflexive : (a : A) → C.same_own a a ≡ true) (all : List (graph.Entry C)) where
     abbrev W : List (Entry ⊤ A Text)
@@ -130,16 +130,16 @@ module _ {T A : Type 0} (C : Printing T A) where
     own_there : (n : ℕ) (l : Option Text) (es : List (Text × Attribute A)) → Stands all n (own_entry C l es) → content W (mark_at C n l es) ≡ own_content C l es
     own_there n l es = go (is_marked C l es)
       where
-        go : (b : Bool) → Stands {X = graph.Entry C} all n (cond b (record { location = l; attributes = filter (λ e. outlined C e.1) es } ∷ []) [])
-            → content {P = ⊤} W (cond b (Some (mark_of n)) None) ≡ cond b (Some (l, filter (λ e. outlined C e.1) es)) None
-        go true s = content_there n (record { location = l; attributes = filter (λ e. outlined C e.1) es }) s
+        go : (b : Bool) → Stands {X = graph.Entry C} all n (cond b (record { location = l; attributes = es } ∷ []) [])
+            → content {P = ⊤} W (cond b (Some (mark_of n)) None) ≡ cond b (Some (l, es)) None
+        go true s = content_there n (record { location = l; attributes = es }) s
         go false s = refl
 
     abbrev WrittenOp : GraphOp T A → Op ⊤ T A → Type 0
-    WrittenOp o x = content W x.mark ≡ own_content C o.location o.attributes
+    WrittenOp o x = content W x.mark ≡ own_content C o.location (op_outlined C o)
 
     abbrev WrittenBlock : GraphBlock T A → Head ⊤ T A → Type 0
-    WrittenBlock h x = content W x.mark ≡ own_content C h.location h.attributes
+    WrittenBlock h x = content W x.mark ≡ own_content C h.location (block_outlined C h)
 
     mutual
       regions_content : (n : ℕ) (rs : Regions (GraphOp T A) (GraphBlock T A) ⊤) → Stands all n (entries_of_regions C None rs) → MatchRegions WrittenOp WrittenBlock Nothing rs (tree_regions C None n rs)
@@ -152,23 +152,23 @@ module _ {T A : Type 0} (C : Printing T A) where
       blocks_content : (n : ℕ) (bs : Blocks (GraphOp T A) (GraphBlock T A) ⊤) → Stands all n (entries_of_blocks C None bs) → MatchBlocks WrittenOp WrittenBlock Nothing bs (tree_blocks C None n bs)
       blocks_content n no_blocks s = tt
       blocks_content n (block h os bs) s =
-          let q = n + own_marks C h.location h.attributes in
-          let x = own_entry C h.location h.attributes in
+          let q = n + own_marks C h.location (block_outlined C h) in
+          let x = own_entry C h.location (block_outlined C h) in
           let y = entries_of_operations C None os in
           let z = entries_of_blocks C None bs in
-          let r = stands_right q x (y ++ z) s (ap (λ k. n + k) (own_length h.location h.attributes)) in
-          (own_there n h.location h.attributes (stands_left x (y ++ z) s), operations_content q os (stands_left y z r), blocks_content (q + marks_in_operations C None os) bs (stands_right _ y z r (ap (λ k. q + k) (operations_length None os))))
+          let r = stands_right q x (y ++ z) s (ap (λ k. n + k) (own_length h.location (block_outlined C h))) in
+          (own_there n h.location (block_outlined C h) (stands_left x (y ++ z) s), operations_content q os (stands_left y z r), blocks_content (q + marks_in_operations C None os) bs (stands_right _ y z r (ap (λ k. q + k) (operations_length None os))))
 
       operations_content : (n : ℕ) (os : Operations (GraphOp T A) (GraphBlock T A) ⊤) → Stands all n (entries_of_operations C None os) → MatchOperations WrittenOp WrittenBlock Nothing os (tree_operations C None n os)
       operations_content n no_operations s = tt
       operations_content n (operation o rs os) s =
           let q = n + marks_in_regions C None rs in
-          let w = q + own_marks C o.location o.attributes in
+          let w = q + own_marks C o.location (op_outlined C o) in
           let x = entries_of_regions C None rs in
-          let y = own_entry C o.location o.attributes in
+          let y = own_entry C o.location (op_outlined C o) in
           let z = entries_of_operations C None os in
           let r = stands_right q x (y ++ z) s (ap (λ k. n + k) (regions_length None rs)) in
-          (own_there q o.location o.attributes (stands_left y z r), regions_content n rs (stands_left x (y ++ z) s), operations_content w os (stands_right w y z r (ap (λ k. q + k) (own_length o.location o.attributes))))
+          (own_there q o.location (op_outlined C o) (stands_left y z r), regions_content n rs (stands_left x (y ++ z) s), operations_content w os (stands_right w y z r (ap (λ k. q + k) (own_length o.location (op_outlined C o)))))
 
   module _ (sound : (a b : A) → C.same_own a b ≡ true → a ≡ b) (reflexive : (a : A) → C.same_own a a ≡ true) where
     -- each item of what is written of a graph has its own entry
@@ -177,9 +177,9 @@ module _ {T A : Type 0} (C : Printing T A) where
         let q = marks_in_regions C None g.regions in
         let all = entries_of C None g in
         let x = entries_of_regions C None g.regions in
-        let y = own_entry C g.own.location g.own.attributes in
+        let y = own_entry C g.own.location (op_outlined C g.own) in
         let whole : Stands all 0 (x ++ y) = record { before = []; after = []; is = sym (append-nil (x ++ y)); place = refl } in
-        (own_there sound reflexive all q g.own.location g.own.attributes (stands_right q x y whole (ap (λ k. 0 + k) (regions_length None g.regions) ∙ omega arith)), regions_content sound reflexive all 0 g.regions (stands_left x y whole))
+        (own_there sound reflexive all q g.own.location (op_outlined C g.own) (stands_right q x y whole (ap (λ k. 0 + k) (regions_length None g.regions) ∙ omega arith)), regions_content sound reflexive all 0 g.regions (stands_left x y whole))
 
 -- what matches a tree without its places matches the tree
 module _ {O B R P T A : Type 0} (F : O → Op ⊤ T A → Type 0) (G : B → Head ⊤ T A → Type 0) (F' : O → Op P T A → Type 0) (G' : B → Head P T A → Type 0) (f : (o : O) (x : Op P T A) → F o (bare_op x) → F' o x) (g : (h : B) (x : Head P T A) → G h (bare_head x) → G' h x) where

@@ -34,26 +34,11 @@ module _ {T A : Type 0} (C : Printing T A) where
   given_outlined (ident n) h = absurd (true≢false (sym h))
   given_outlined (own x) h = absurd (true≢false (sym h))
 
-  -- an item without a mark has no outlined attribute
-  unmarked_inline : (es : List (Text × Attribute A)) → is_marked C None es ≡ false → filter (λ e. outlined C e.1) es ≡ []
-  unmarked_inline [] h = refl
-  unmarked_inline (e ∷ es) h = go (outlined C e.1) h (unmarked_inline es)
-    where
-      go : (b : Bool) → (b || is_marked C None es) ≡ false → (is_marked C None es ≡ false → filter (λ e. outlined C e.1) es ≡ []) → cond b (e ∷ filter (λ e. outlined C e.1) es) (filter (λ e. outlined C e.1) es) ≡ []
-      go true h f = absurd (true≢false h)
-      go false h f = f h
-
   -- what a mark's entry adds
-  pub content_added : {Y : Type 0} (l : Option Text) (es base : List (Text × Attribute A)) (y : Y) → with_content base (cond (is_marked C l es) (Some (y, filter (λ e. outlined C e.1) es)) None) ≡ put_all base (filter (λ e. outlined C e.1) es)
-  content_added l es base y = go l
-    where
-      one : (b : Bool) → (b ≡ false → filter (λ e. outlined C e.1) es ≡ []) → with_content base (cond b (Some (y, filter (λ e. outlined C e.1) es)) None) ≡ put_all base (filter (λ e. outlined C e.1) es)
-      one true h = refl
-      one false h = sym (ap (put_all base) (h refl))
-
-      go : (l : Option Text) → with_content base (cond (is_marked C l es) (Some (y, filter (λ e. outlined C e.1) es)) None) ≡ put_all base (filter (λ e. outlined C e.1) es)
-      go (Some t) = refl
-      go None = one (is_marked C None es) (unmarked_inline es)
+  pub content_added : {Y : Type 0} (l : Option Text) (es base : List (Text × Attribute A)) (y : Y) → with_content base (cond (is_marked C l es) (Some (y, es)) None) ≡ put_all base es
+  content_added (Some t) es base y = refl
+  content_added None [] base y = refl
+  content_added None (e ∷ es) base y = refl
 
   module _ (names : List Text) (es shown : List (Text × Attribute A)) (d : KeysDiffer es) (keeps : KeepsKeys es) (p : Picks inlined es shown) where
     abbrev base : List (Text × Attribute A)

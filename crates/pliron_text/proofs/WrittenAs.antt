@@ -7,7 +7,7 @@ use Rattle.irtext_base.specs.Own.{Language}
 use Rattle.pliron_text.specs.Forest.{Regions, no_regions, region, Blocks, no_blocks, block, Operations, no_operations, operation, MatchRegions, MatchBlocks, MatchOperations, MatchRoots, regions_list, AllRegions, AllBlocks, AllOperations}
 use Rattle.pliron_text.specs.Tree.{Op, Head, Brace, Tree}
 use Rattle.pliron_text.specs.Bare.{bare_op, bare_head, bare_regions, bare_blocks, bare_operations, bare}
-use Rattle.pliron_text.specs.Graph.{Graph, GraphOp, GraphBlock, Printing, tree_op, tree_head, own_marks, tree_regions, tree_blocks, tree_operations, marks_in_regions, marks_in_blocks, marks_in_operations, written}
+use Rattle.pliron_text.specs.Graph.{Graph, GraphOp, GraphBlock, Printing, tree_op, tree_head, own_marks, tree_regions, tree_blocks, tree_operations, marks_in_regions, marks_in_blocks, marks_in_operations, written, op_outlined, block_outlined}
 use Rattle.pliron_text.specs.Closed.{FitsFormat, FitRegions, FitBlocks, FitOperations, Fit}
 use Rattle.pliron_text.proofs.Formed.{KnownAccepted, AllAccepted}
 use Rattle.pliron_text.proofs.Numbering.{some_inside}
@@ -52,7 +52,7 @@ module _ {P T A : Type 0} (C : Printing T A) where
     written_blocks n no_blocks (block h os bs) e = absurd (block_none _ _ _ e)
     written_blocks n (block c cs ds) no_blocks e = absurd (block_none _ _ _ (sym e))
     written_blocks n (block c cs ds) (block h os bs) e =
-        let m = n + own_marks C c.location c.attributes in
+        let m = n + own_marks C c.location (block_outlined C c) in
         let q = block_parts (bare_head h) (tree_head C n c) (bare_operations os) (tree_operations C None m cs) (bare_blocks bs) (tree_blocks C None (m + marks_in_operations C None cs) ds) e in
         ((n, q.0), written_operations m cs os q.1, written_blocks (m + marks_in_operations C None cs) ds bs q.2)
 
@@ -62,8 +62,8 @@ module _ {P T A : Type 0} (C : Printing T A) where
     written_operations n (operation c cs ds) no_operations e = absurd (operation_none _ _ _ (sym e))
     written_operations n (operation c cs ds) (operation o rs os) e =
         let m = n + marks_in_regions C None cs in
-        let q = operation_parts (bare_op o) (tree_op C m c) (bare_regions rs) (tree_regions C None n cs) (bare_operations os) (tree_operations C None (m + own_marks C c.location c.attributes) ds) e in
-        ((m, q.0), written_regions n cs rs q.1, written_operations (m + own_marks C c.location c.attributes) ds os q.2)
+        let q = operation_parts (bare_op o) (tree_op C m c) (bare_regions rs) (tree_regions C None n cs) (bare_operations os) (tree_operations C None (m + own_marks C c.location (op_outlined C c)) ds) e in
+        ((m, q.0), written_regions n cs rs q.1, written_operations (m + own_marks C c.location (op_outlined C c)) ds os q.2)
 
   pub written_as : (g : Graph T A) (t : Tree P T A) → bare t ≡ written C None g → MatchRoots WrittenOp WrittenBlock (λ x y. ⊤) g t
   written_as g t e = ((marks_in_regions C None g.regions, ap (λ z. z.own) e), written_regions 0 g.regions t.regions (ap (λ z. z.regions) e))

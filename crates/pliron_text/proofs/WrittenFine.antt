@@ -12,7 +12,7 @@ use Rattle.pliron_text.specs.Forest.{Regions, no_regions, region, Blocks, no_blo
 use Rattle.pliron_text.specs.Tree as tree
 use Rattle.pliron_text.specs.Tree.{Name, Mark, Attribute, given_names, ident, own, Piece, Part, shown, elided}
 use Rattle.pliron_text.specs.Names.{value_name, block_name}
-use Rattle.pliron_text.specs.Graph.{Graph, Limit, inside, is_elided, GraphOp, GraphBlock, Printing, value, target, inline, entries, is_marked, mark_at, own_marks, part_of, body_of, tree_op, tree_head, tree_regions, tree_blocks, tree_operations, marks_in_regions, marks_in_blocks, marks_in_operations, written, outlined, lookup}
+use Rattle.pliron_text.specs.Graph.{Graph, Limit, inside, is_elided, GraphOp, GraphBlock, Printing, value, target, inline, entries, is_marked, mark_at, own_marks, part_of, body_of, tree_op, tree_head, tree_regions, tree_blocks, tree_operations, marks_in_regions, marks_in_blocks, marks_in_operations, written, outlined, lookup, op_outlined, block_outlined}
 use Rattle.pliron_text.specs.Fine.{Each, IsWord, IsName, FineAttribute, FineEntry, Fine, FineParts, Enough, FineMark}
 use Rattle.pliron_text.specs.Wordy.{WordyEntry, WordyOp, WordyBlock, Wordy}
 use Rattle.pliron_text.specs.Closed.{FitsFormat, FitRegions, FitBlocks, FitOperations, Fit}
@@ -279,7 +279,7 @@ module _ {T A : Type 0} (C : Printing T A) (isolated : Id → Bool) (given : (v 
           ),
         )
 
-    op_fine : (l : Limit) (k m : ℕ) (o : GraphOp T A) (rs : Regions (GraphOp T A) (GraphBlock T A) ⊤) → WordyOp C o → SmallOp C isolated o → FitsFormat C isolated (C.format_of o.id) o (length (regions_list rs)) → k + own_marks C o.location o.attributes < 2 ^ 64
+    op_fine : (l : Limit) (k m : ℕ) (o : GraphOp T A) (rs : Regions (GraphOp T A) (GraphBlock T A) ⊤) → WordyOp C o → SmallOp C isolated o → FitsFormat C isolated (C.format_of o.id) o (length (regions_list rs)) → k + own_marks C o.location (op_outlined C o) < 2 ^ 64
         → FineOp L (tree_op C k o) (tree_regions C l m rs)
     op_fine l k m o rs w s f h =
         let b = body_fine (C.format_of o.id) l m o rs w s f in
@@ -287,7 +287,7 @@ module _ {T A : Type 0} (C : Printing T A) (isolated : Id → Bool) (given : (v 
           names = each_map (λ (r : ℕ × T). r.0 < 2 ^ 64) IsName _ (λ r q. value_fine r.0 q) o.results s.results;
           dialect = w.dialect;
           name = w.name;
-          mark = mark_fine k o.location o.attributes h;
+          mark = mark_fine k o.location (op_outlined C o) h;
           its_format = b.0;
           is_format = formats o.id ∙ b.1;
           body = b.2;
@@ -297,12 +297,12 @@ module _ {T A : Type 0} (C : Printing T A) (isolated : Id → Bool) (given : (v 
     attributes_fine [] h = tt
     attributes_fine (e ∷ es) h = h
 
-    head_fine : (n : ℕ) (b : GraphBlock T A) → WordyBlock C b → SmallBlock C isolated b → n + own_marks C b.location b.attributes < 2 ^ 64 → FineHead L (tree_head C n b)
+    head_fine : (n : ℕ) (b : GraphBlock T A) → WordyBlock C b → SmallBlock C isolated b → n + own_marks C b.location (block_outlined C b) < 2 ^ 64 → FineHead L (tree_head C n b)
     head_fine n b w s h = record {
       label = target_fine b.place s.place;
       arguments = each_map (λ (r : ℕ × T). r.0 < 2 ^ 64) (FineArgument L) _ (λ r q. value_fine r.0 q) b.arguments s.arguments;
       attributes = attributes_fine (entries C (inline C b.attributes)) (entries_fine _ (each_filter WordyEntry _ b.attributes w.attributes));
-      mark = mark_fine n b.location b.attributes h;
+      mark = mark_fine n b.location (block_outlined C b) h;
     }
 
     -- where the limit leaves a region out, that is read
@@ -333,7 +333,7 @@ module _ {T A : Type 0} (C : Printing T A) (isolated : Id → Bool) (given : (v 
           → n + marks_in_blocks C l bs < 2 ^ 64 → WritableBlocks L (tree_blocks C l n bs)
       blocks_fine l n no_blocks k f w s h = tt
       blocks_fine l n (block b os bs) k f w s h =
-          let q = n + own_marks C b.location b.attributes in
+          let q = n + own_marks C b.location (block_outlined C b) in
           (head_fine n b w.0 s.0 (omega arith), operations_fine l q os k f.0 w.1 s.1 (omega arith), blocks_fine l (q + marks_in_operations C l os) bs k f.1 w.2 s.2 (omega arith))
 
       operations_fine : (l : Limit) (n : ℕ) (os : Operations (GraphOp T A) (GraphBlock T A) ⊤) → Allowed l → FitOperations C isolated os → AllOperations (WordyOp C) (WordyBlock C) (λ r. ⊤) os → AllOperations (SmallOp C isolated) (SmallBlock C isolated) (λ r. ⊤) os
@@ -341,7 +341,7 @@ module _ {T A : Type 0} (C : Printing T A) (isolated : Id → Bool) (given : (v 
       operations_fine l n no_operations k f w s h = tt
       operations_fine l n (operation o rs os) k f w s h =
           let q = n + marks_in_regions C l rs in
-          (op_fine l q n o rs w.0 s.0 f.0 (omega arith), regions_fine l n rs k f.1 w.1 s.1 (omega arith), operations_fine l (q + own_marks C o.location o.attributes) os k f.2 w.2 s.2 (omega arith))
+          (op_fine l q n o rs w.0 s.0 f.0 (omega arith), regions_fine l n rs k f.1 w.1 s.1 (omega arith), operations_fine l (q + own_marks C o.location (op_outlined C o)) os k f.2 w.2 s.2 (omega arith))
 
   -- a limit leaves marks out, and adds none
   mutual

@@ -8,7 +8,7 @@ use Rattle.irtext_base.specs.Format.{Format, Directive, operand_places, successo
 use Rattle.pliron_text.specs.Forest.{Regions, no_regions, region, Blocks, no_blocks, block, Operations, no_operations, operation, regions_list}
 use Rattle.pliron_text.specs.Tree as tree
 use Rattle.pliron_text.specs.Tree.{Name, Mark, Attribute, given_names, ident, own, Piece, Part, Op, Head, Brace, shown, parts_of}
-use Rattle.pliron_text.specs.Graph.{Graph, GraphOp, GraphBlock, Printing, value, target, part_of, body_of, tree_op, tree_head, mark_at, own_marks, tree_regions, tree_blocks, tree_operations, marks_in_regions, marks_in_blocks, marks_in_operations, written, outlined, lookup}
+use Rattle.pliron_text.specs.Graph.{Graph, GraphOp, GraphBlock, Printing, value, target, part_of, body_of, tree_op, tree_head, mark_at, own_marks, tree_regions, tree_blocks, tree_operations, marks_in_regions, marks_in_blocks, marks_in_operations, written, outlined, lookup, op_outlined, block_outlined}
 use Rattle.pliron_text.specs.Script.{Path, result, argument, block_at, operand, successor, Act, use_value, use_label, define_value, define_label, Script, done, does, within, does_all, script_as}
 use Rattle.pliron_text.specs.Acts.{value_uses, label_uses, result_definitions, argument_definitions, mark_acts, key_act, entries_if, singles, single_labels, all_of, parts_script, closing_acts, header_acts, region_scripts, blocks_script, operations_script, tree_script}
 use Rattle.pliron_text.specs.Closed.{Thing, a_value, a_block, printed, spot, uses_of_values, uses_of_blocks, defined_results, defined_arguments, use_if, use_block_if, directives_script, body_script, graph_regions, graph_blocks, graph_operations, graph_script, FitsFormat, FitRegions, FitBlocks, FitOperations, Fit}
@@ -123,14 +123,14 @@ module _ {T A : Type 0} (C : Printing T A) where
 
   closing_like : (p : Path) (n : ℕ) (o : GraphOp T A) {t : Script Text ⊤} {g : Script Thing ⊤} → Like t g → Like (does_all (closing_acts p (tree_op C n o)) t) (does_all (defined_results p 0 o.results) g)
   closing_like p n o {t = t} h =
-      let m = mark_at C n o.location o.attributes in
+      let m = mark_at C n o.location (op_outlined C o) in
       let ns = map (λ (r : ℕ × T). value C r.0) o.results in
       record { so = ap plain (does_both (result_definitions p 0 ns) (mark_acts m) t) ∙ (results_like p 0 o.results (mark_like m h)).so }
 
   header_like : (p : Path) (n : ℕ) (b : GraphBlock T A) {t : Script Text ⊤} {g : Script Thing ⊤} → Like t g
       → Like (does_all (header_acts p (tree_head C n b)) t) (does_all (defined_arguments p 0 b.arguments) (does (define_label (spot (a_block b.place)) (block_at p)) g))
   header_like p n b {t = t} {g = g} h =
-      let m = mark_at C n b.location b.attributes in
+      let m = mark_at C n b.location (block_outlined C b) in
       let pairs = map (λ (a : ℕ × T). (value C a.0, a.1)) b.arguments in
       let es = entries_if (tree_head C n b).attributes in
       let last : Like (does (define_label (record { name = printed C (a_block b.place); at = tt }) (block_at p)) t) (does (define_label (spot (a_block b.place)) (block_at p)) g) = record { so = ap (λ z. does (define_label (record { name = printed C (a_block b.place); at = tt }) (block_at p)) z) h.so } in
@@ -158,7 +158,7 @@ module _ {T A : Type 0} (C : Printing T A) where
       pub blocks_like : (n : ℕ) (p : Path) (k : ℕ) (bs : Blocks (GraphOp T A) (GraphBlock T A) ⊤) → FitBlocks C isolated bs → Like (blocks_script isolated p k (tree_blocks C None n bs)) (graph_blocks C isolated p k bs)
       blocks_like n p k no_blocks f = record { so = refl }
       blocks_like n p k (block b os bs) f =
-          let m = n + own_marks C b.location b.attributes in
+          let m = n + own_marks C b.location (block_outlined C b) in
           header_like (k ∷ p) n b (operations_like m (k ∷ p) 0 os f.0 (blocks_like (m + marks_in_operations C None os) p (suc k) bs f.1))
 
       operations_like : (n : ℕ) (p : Path) (i : ℕ) (os : Operations (GraphOp T A) (GraphBlock T A) ⊤) → FitOperations C isolated os → {t : Script Text ⊤} {g : Script Thing ⊤} → Like t g
@@ -167,7 +167,7 @@ module _ {T A : Type 0} (C : Printing T A) where
       operations_like n p i (operation o rs os) f h =
           let m = n + marks_in_regions C None rs in
           body_like (i ∷ p) o (length (regions_list rs)) (C.format_of o.id) f.0 _ _ (regions_like n (i ∷ p) 0 (isolated o.id) rs f.1)
-          (closing_like (i ∷ p) m o (operations_like (m + own_marks C o.location o.attributes) p (suc i) os f.2 h))
+          (closing_like (i ∷ p) m o (operations_like (m + own_marks C o.location (op_outlined C o)) p (suc i) os f.2 h))
 
     -- of a whole root, before whatever is done then
     pub written_like : (g : Graph T A) → Fit C isolated g → plain (tree_script isolated (written C None g) done) ≡ S (graph_script C isolated g)

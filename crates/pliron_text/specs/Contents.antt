@@ -3,7 +3,7 @@ use Rattle.std.specs.Prelude.{◌≡◌, List, Option, option_map, ⊤}
 use Rattle.irtext_base.specs.Text.{Text}
 use Rattle.pliron_text.specs.Forest.{MatchRoots}
 use Rattle.pliron_text.specs.Tree.{Attribute, Op, Head, Tree}
-use Rattle.pliron_text.specs.Graph.{Graph, GraphOp, GraphBlock, Printing}
+use Rattle.pliron_text.specs.Graph.{Graph, GraphOp, GraphBlock, Printing, op_outlined, block_outlined}
 use Rattle.pliron_text.specs.ReadSection.{Entry}
 use Rattle.pliron_text.specs.Build.{content}
 use Rattle.pliron_text.specs.WrittenSection.{own_content}
@@ -15,11 +15,11 @@ as_text text c = (option_map text c.0, c.1)
 module _ {P T A X : Type 0} (C : Printing T A) (text : X → Text) (es : List (Entry P A X)) where
   -- an operation's mark leads to its location and its outlined attributes, and where it has none of them there is no mark
   abbrev pub OpContent : GraphOp T A → Op P T A → Type 0
-  OpContent o x = option_map (as_text text) (content es x.mark) ≡ own_content C o.location o.attributes
+  OpContent o x = option_map (as_text text) (content es x.mark) ≡ own_content C o.location (op_outlined C o)
 
   -- the same of a block
   abbrev pub BlockContent : GraphBlock T A → Head P T A → Type 0
-  BlockContent h x = option_map (as_text text) (content es x.mark) ≡ own_content C h.location h.attributes
+  BlockContent h x = option_map (as_text text) (content es x.mark) ≡ own_content C h.location (block_outlined C h)
 
   -- the same of all items of a graph and of a tree with the same places
   abbrev pub Contents : Graph T A → Tree P T A → Type 0

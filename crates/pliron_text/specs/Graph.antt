@@ -1,6 +1,6 @@
 -- An operation as the arenas hold it, and the tree that is written of it: names and marks are filled in, and elided regions are
 -- left out.
-use Rattle.std.specs.Prelude.{ℕ, zero, suc, ◌+◌, Bool, true, false, cond, not, ◌||◌, ◌==◌, List, [], ◌∷◌, ◌++◌, map, drop, length, filter, filter_map, flat_map, slice_get, Option, Some, None, option_map, option_and_then, ⊤}
+use Rattle.std.specs.Prelude.{ℕ, zero, suc, ◌+◌, Bool, true, false, cond, not, ◌==◌, List, [], ◌∷◌, ◌++◌, map, drop, length, filter, filter_map, flat_map, slice_get, Option, Some, None, option_map, option_and_then, ⊤}
 use Rattle.irtext_base.specs.Text.{Text}
 use Rattle.pliron_text.specs.Forest.{Regions, no_regions, region, Blocks, no_blocks, block, Operations, no_operations, operation, Root}
 use Rattle.irtext_base.specs.Format as format
@@ -99,11 +99,23 @@ module _ {T A : Type 0} (C : Printing T A) where
   body_of o (Some format.canonical) = tree.canonical (map value o.operands) (map target o.successors) (entries (inline o.attributes)) (filter_map C.type_of o.operands) (map (λ r. r.1) o.results)
   body_of o (Some (format.custom ds)) = tree.custom (filter_map (part_of ds o) ds)
 
-  -- An item is marked where its location is known or an attribute is outlined.
+  -- the entries of a dictionary that are written in the section
+  abbrev pub outlined_entries : List (Text × Attribute A) → List (Text × Attribute A)
+  outlined_entries es = filter (λ e. outlined e.1) es
+
+  -- what the section gives of an operation, but for its location
+  abbrev pub op_outlined : GraphOp T A → List (Text × Attribute A)
+  op_outlined o = outlined_entries o.attributes
+
+  -- what it gives of a block
+  abbrev pub block_outlined : GraphBlock T A → List (Text × Attribute A)
+  block_outlined h = outlined_entries h.attributes
+
+  -- An item is marked where its location is known or the section gives something else of it.
   abbrev pub is_marked : Option Text → List (Text × Attribute A) → Bool
   is_marked (Some l) es = true
   is_marked None [] = false
-  is_marked None (e ∷ es) = outlined e.1 || is_marked None es
+  is_marked None (e ∷ es) = true
 
   -- 1 where the item is marked, else 0
   abbrev pub own_marks : Option Text → List (Text × Attribute A) → ℕ
@@ -134,16 +146,16 @@ module _ {T A : Type 0} (C : Printing T A) where
     -- how many marks are written in blocks
     pub marks_in_blocks : Limit → Blocks (GraphOp T A) (GraphBlock T A) ⊤ → ℕ
     marks_in_blocks l no_blocks = 0
-    marks_in_blocks l (block h os bs) = own_marks h.location h.attributes + marks_in_operations l os + marks_in_blocks l bs
+    marks_in_blocks l (block h os bs) = own_marks h.location (block_outlined h) + marks_in_operations l os + marks_in_blocks l bs
 
     -- how many marks are written in operations
     pub marks_in_operations : Limit → Operations (GraphOp T A) (GraphBlock T A) ⊤ → ℕ
     marks_in_operations l no_operations = 0
-    marks_in_operations l (operation o rs os) = marks_in_regions l rs + own_marks o.location o.attributes + marks_in_operations l os
+    marks_in_operations l (operation o rs os) = marks_in_regions l rs + own_marks o.location (op_outlined o) + marks_in_operations l os
 
   -- n marks stand before it; an operation's own comes after those of its regions
   abbrev pub tree_op : ℕ → GraphOp T A → Op ⊤ T A
-  tree_op n o = record { place = tt; names = map (λ r. value r.0) o.results; id = o.id; body = body_of o (C.format_of o.id); mark = mark_at n o.location o.attributes }
+  tree_op n o = record { place = tt; names = map (λ r. value r.0) o.results; id = o.id; body = body_of o (C.format_of o.id); mark = mark_at n o.location (op_outlined o) }
 
   -- what is written of a block's own, with n marks before it
   abbrev pub tree_head : ℕ → GraphBlock T A → Head ⊤ T A
@@ -151,7 +163,7 @@ module _ {T A : Type 0} (C : Printing T A) where
     label = target h.place;
     arguments = map (λ a. (value a.0, a.1)) h.arguments;
     attributes = elim (entries (inline h.attributes)) [ [] ↦ None | e ∷ es ↦ Some (e ∷ es) ];
-    mark = mark_at n h.location h.attributes;
+    mark = mark_at n h.location (block_outlined h);
   }
 
   -- The tree that is written, with n marks before it.
@@ -164,14 +176,14 @@ module _ {T A : Type 0} (C : Printing T A) where
     -- what is written of blocks, with n marks before them
     pub tree_blocks : Limit → ℕ → Blocks (GraphOp T A) (GraphBlock T A) ⊤ → Blocks (Op ⊤ T A) (Head ⊤ T A) (Brace ⊤)
     tree_blocks l n no_blocks = no_blocks
-    tree_blocks l n (block h os bs) = let m = n + own_marks h.location h.attributes in
+    tree_blocks l n (block h os bs) = let m = n + own_marks h.location (block_outlined h) in
         block (tree_head n h) (tree_operations l m os) (tree_blocks l (m + marks_in_operations l os) bs)
 
     -- what is written of operations, with n marks before them
     pub tree_operations : Limit → ℕ → Operations (GraphOp T A) (GraphBlock T A) ⊤ → Operations (Op ⊤ T A) (Head ⊤ T A) (Brace ⊤)
     tree_operations l n no_operations = no_operations
     tree_operations l n (operation o rs os) = let m = n + marks_in_regions l rs in
-        operation (tree_op m o) (tree_regions l n rs) (tree_operations l (m + own_marks o.location o.attributes) os)
+        operation (tree_op m o) (tree_regions l n rs) (tree_operations l (m + own_marks o.location (op_outlined o)) os)
 
   -- the tree that is written of a root
   abbrev pub written : Limit → Graph T A → Tree ⊤ T A
@@ -184,7 +196,7 @@ module _ {T A : Type 0} (C : Printing T A) where
 
   -- the item's entry, where it is marked
   abbrev pub own_entry : Option Text → List (Text × Attribute A) → List Entry
-  own_entry l es = cond (is_marked l es) (record { location = l; attributes = filter (λ e. outlined e.1) es } ∷ []) []
+  own_entry l es = cond (is_marked l es) (record { location = l; attributes = es } ∷ []) []
 
   abbrev mutual
     -- the entries of the marked items in regions
@@ -195,16 +207,16 @@ module _ {T A : Type 0} (C : Printing T A) where
     -- the entries of the marked items in blocks: a block's before those of its operations
     pub entries_of_blocks : Limit → Blocks (GraphOp T A) (GraphBlock T A) ⊤ → List Entry
     entries_of_blocks l no_blocks = []
-    entries_of_blocks l (block h os bs) = own_entry h.location h.attributes ++ (entries_of_operations l os ++ entries_of_blocks l bs)
+    entries_of_blocks l (block h os bs) = own_entry h.location (block_outlined h) ++ (entries_of_operations l os ++ entries_of_blocks l bs)
 
     -- the entries of the marked items among operations: an operation's behind those of its regions
     pub entries_of_operations : Limit → Operations (GraphOp T A) (GraphBlock T A) ⊤ → List Entry
     entries_of_operations l no_operations = []
-    entries_of_operations l (operation o rs os) = entries_of_regions l rs ++ (own_entry o.location o.attributes ++ entries_of_operations l os)
+    entries_of_operations l (operation o rs os) = entries_of_regions l rs ++ (own_entry o.location (op_outlined o) ++ entries_of_operations l os)
 
   -- the entries of the marked items of a root
   abbrev pub entries_of : Limit → Graph T A → List Entry
-  entries_of l g = entries_of_regions l g.regions ++ own_entry g.own.location g.own.attributes
+  entries_of l g = entries_of_regions l g.regions ++ own_entry g.own.location (op_outlined g.own)
 
   -- The attributes that are written once, each at its first mention.
   abbrev pub once : Attribute A → List A

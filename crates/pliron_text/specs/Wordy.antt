@@ -3,7 +3,7 @@ use Rattle.std.specs.Prelude.{◌≡◌, ℕ, ◌+◌, ◌<◌, ◌^◌, Some, N
 use Rattle.irtext_base.specs.Text.{Text}
 use Rattle.pliron_text.specs.Forest.{AllRegions}
 use Rattle.pliron_text.specs.Tree.{Attribute}
-use Rattle.pliron_text.specs.Graph.{Graph, GraphOp, GraphBlock, Printing, marks_in_regions, own_marks}
+use Rattle.pliron_text.specs.Graph.{Graph, GraphOp, GraphBlock, Printing, marks_in_regions, own_marks, op_outlined}
 use Rattle.pliron_text.specs.Fine.{Each, IsWord, FineAttribute}
 
 -- the key of an entry and the names in its attribute are identifiers
@@ -27,4 +27,4 @@ module _ {T A : Type 0} (C : Printing T A) where
     pub label : (b : ℕ × ℕ) (n : Text) → C.label b ≡ Some n → IsWord n
     pub own : WordyOp g.own
     pub regions : AllRegions WordyOp WordyBlock (λ r. ⊤) g.regions
-    pub marks : marks_in_regions C None g.regions + own_marks C g.own.location g.own.attributes < 2 ^ 64
+    pub marks : marks_in_regions C None g.regions + own_marks C g.own.location (op_outlined C g.own) < 2 ^ 64

@@ -1,5 +1,5 @@
 -- The section that is written of a graph, as entries without places and with the texts of locations.
-use Rattle.std.specs.Prelude.{ℕ, zero, suc, ◌+◌, ◌<◌, ◌^◌, cond, List, [], ◌∷◌, ◌++◌, map, filter, length, Option, Some, None, option_map, ⊤}
+use Rattle.std.specs.Prelude.{ℕ, zero, suc, ◌+◌, ◌<◌, ◌^◌, cond, List, [], ◌∷◌, ◌++◌, map, length, Option, Some, None, option_map, ⊤}
 use Rattle.irtext_base.specs.Text.{Text}
 use Rattle.pliron_text.specs.Tree.{Name, Mark, Attribute, own}
 use Rattle.pliron_text.specs.ReadSection.{Item, direct, reference, Entry, of_item, of_once}
@@ -68,6 +68,6 @@ module _ {T A : Type 0} (C : Printing T A) where
   abbrev pub SmallSection : Graph T A → Type 0
   SmallSection g = length (entries_of C None g) + length (shared C (entries_of C None g)) < 2 ^ 64
 
-  -- what an item's own entry has: its location, and its attributes that do not stand in its place
+  -- what an item's own entry has: its location, and what else the section gives of it
   abbrev pub own_content : Option Text → List (Text × Attribute A) → Option (Option Text × List (Text × Attribute A))
-  own_content location es = cond (is_marked C location es) (Some (location, filter (λ e. outlined C e.1) es)) None
+  own_content location es = cond (is_marked C location es) (Some (location, es)) None

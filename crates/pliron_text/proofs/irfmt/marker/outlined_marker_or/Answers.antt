@@ -1,7 +1,7 @@
-use Rattle.std.proofs.Common.{◌≡◌, Ok, Err, Some, sym, ◌∙◌, subst, true}
+use Rattle.std.proofs.Common.{Ok, Err, sym, ◌∙◌, subst}
 use Rattle.irtext_read.specs.Lists.{Calls}
 use Rattle.irtext_read.proofs.ListSteps.{called_at, rules_at, unless_met}
-use Rattle.pliron_text.specs.Marker.{MarkerOr, marked, unmarked, refused, marker, starts_with}
+use Rattle.pliron_text.specs.Marker.{MarkerOr, marked, unmarked, refused, marker}
 use Rattle.pliron_text.proofs.MarkerSteps.{marker_left, marker_none, marker_whole, set_back, set_within}
 use Rattle.pliron_text.proofs.irfmt.marker.outlined_marker_or.Goals as goal
 

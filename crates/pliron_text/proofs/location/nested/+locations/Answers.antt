@@ -1,24 +1,22 @@
-use Rattle.std.proofs.Common.{◌≡◌, ap, refl, sym, ◌∙◌, arith, codes, length, map, [], string_bytes, Option}
+use Rattle.std.proofs.Common.{ap, refl, sym, ◌∙◌, arith, codes, length, map, [], string_bytes, Option}
 use Rattle.std.proofs.lemmas.Result.{err_from_is_err_and, IfOk-weaker}
-use Rattle.irtext_base.specs.Locations.{AttrView, call_site, fused, named, location_view, attr_view_in, in_row, unknown}
+use Rattle.irtext_base.specs.Locations.{AttrView, call_site, fused, named, location_view, attr_view_in, in_row}
 use Rattle.irtext_base.specs.Answers.{Read, Outcome, followed, mapped}
 use Rattle.irtext_base.specs.Moves.{all_kept}
 use Rattle.irtext_base.specs.Paths.{Written, are_known, written_with}
-use Rattle.irtext_base.specs.declared.location.Location.{Location}
 use Rattle.irtext_read.specs.AttrTexts.{attr_at}
 use Rattle.pliron_text.specs.LocationReading.{begins_source, place_at, metadata_at, WrittenRow, row_at, fused_at, named_at, call_site_at, location_within, more_within}
-use Rattle.pliron_text.specs.NewPaths.{location_over, row_over}
+use Rattle.pliron_text.specs.NewPaths.{row_over}
 use Rattle.irtext_base.specs.Reading.{the}
 use Rattle.irtext_base.specs.Text.{Text}
 use Rattle.irtext_read.specs.Tokens.{text_at}
 use Rattle.pliron_text.specs.LocationText.{space_at}
-use Rattle.pliron_text.proofs.LocationBegins.{is_place, is_fused, is_named, is_call_site, is_unknown, is_none, none_begins, one_begins, nowhere}
-use Rattle.pliron_text.proofs.LocationRows.{IsPushed, row_begun, first_one, at_comma, behind_comma, behind_one, ended, row_begins, not_there, fine_after, all_known, all_over, pushed_kept, pushed_one, no_longer, shorter, space_no_longer, refused_inside, refused_within, known_of, made, made_kept, by_kind}
-use Rattle.irtext_base.proofs.LocationViews.{seen-unknown}
+use Rattle.pliron_text.proofs.LocationBegins.{is_place, is_fused, is_named, is_call_site, none_begins, nowhere}
+use Rattle.pliron_text.proofs.LocationRows.{IsPushed, row_begun, first_one, at_comma, behind_comma, behind_one, ended, row_begins, not_there, fine_after, all_known, pushed_kept, pushed_one, no_longer, shorter, space_no_longer, refused_inside, refused_within, known_of, made, made_kept, by_kind}
 use Rattle.irtext_base.proofs.PathKeys.{stays_known, written_same, both_true}
 use Rattle.pliron_text.proofs.NewPaths.{adds_none, adds_more}
 use Rattle.pliron_text.proofs.Rooted.{alone}
-use Rattle.pliron_text.proofs.Steps.{first, more, spaced, turned, more_seen, refuses, refuses_seen, starved, last, last_seen, starts}
+use Rattle.pliron_text.proofs.Steps.{first, more, spaced, turned, more_seen, refuses, refuses_seen, starved, last}
 use Rattle.pliron_text.proofs.location.nested.+locations.Goals as goal
 
 -- what stands behind the locations of a row

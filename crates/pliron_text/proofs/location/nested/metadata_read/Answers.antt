@@ -8,7 +8,7 @@ use Rattle.irtext_read.specs.AttrTexts.{attr_at}
 use Rattle.pliron_text.specs.LocationReading.{metadata_at}
 use Rattle.pliron_text.specs.LocationText.{space_at}
 use Rattle.pliron_text.proofs.Rooted.{alone}
-use Rattle.pliron_text.proofs.Steps.{starts, more, spaced, refuses, refuses_seen, last_seen}
+use Rattle.pliron_text.proofs.Steps.{starts, more, spaced, refuses_seen, last_seen}
 use Rattle.pliron_text.proofs.location.nested.metadata_read.Goals as goal
 
 -- what stands behind the attribute

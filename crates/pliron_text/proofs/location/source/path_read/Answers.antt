@@ -1,4 +1,4 @@
-use Rattle.std.proofs.Common.{ap, sym, ◌∙◌, Some, string_bytes}
+use Rattle.std.proofs.Common.{ap, sym, ◌∙◌, Some}
 use Rattle.irtext_base.specs.Moves.{path_kept}
 use Rattle.irtext_base.specs.Paths.{path_of}
 use Rattle.irtext_base.specs.declared.location.Source.TheVariants.{File}

@@ -1,7 +1,5 @@
-use Rattle.std.proofs.Common.{◌≡◌, ◌∙◌, ◌+◌, ◌<◌, ◌≤◌, ◌++◌, Bool, true, false, List, ℕ, length, take, get_or, refl, sym, ap, string_bytes, arith}
-use Rattle.std.proofs.lemmas.Str.{IsCharBoundary-after_ascii, IsCharBoundary-before_ascii, IsCharBoundary-start}
-use Rattle.std.specs.List.{slice_range}
-use Rattle.std.specs.Str.{IsCharBoundary}
+use Rattle.std.proofs.Common.{◌≡◌, ◌∙◌, ◌+◌, ◌<◌, ◌++◌, true, false, length, get_or, refl, sym, ap, string_bytes, arith}
+use Rattle.std.proofs.lemmas.Str.{IsCharBoundary-after_ascii, IsCharBoundary-start}
 use Rattle.irtext_base.specs.Quoted.{image_of}
 use Rattle.pliron_text.specs.Separator.{is_escaped}
 use Rattle.pliron_text.proofs.QuotedText.{Run, run-same, run-plain, run-escaped, run-last, escaped-ascii}

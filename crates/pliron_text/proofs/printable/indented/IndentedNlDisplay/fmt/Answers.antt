@@ -1,4 +1,4 @@
-use Rattle.std.proofs.Common.{◌∷◌, ap, replicate, rules}
+use Rattle.std.proofs.Common.{◌∷◌, ap, rules}
 use Rattle.std.proofs.Output.{has_written_append, has_written_of_eq}
 use Rattle.std.proofs.lemmas.List.{replicate_more}
 use Rattle.pliron_text.proofs.printable.indented.IndentedNlDisplay.fmt.Goals as goal
