@@ -11,7 +11,7 @@ use Rattle.pliron_text.specs.Tree.{Name, Tree}
 use Rattle.pliron_text.specs.Script.{Path, Place, User, operand, successor, Act, Script, done, does_all}
 use Rattle.pliron_text.specs.Scopes.{Fact, link, no_scope, failures, bound}
 use Rattle.pliron_text.specs.ReadSection.{Item, direct, reference, Entry, of_item, of_once}
-use Rattle.pliron_text.specs.Acts.{tree_script, item_acts, reference_acts, entry_acts, late_acts, section_acts, root_script}
+use Rattle.pliron_text.specs.Acts.{tree_script, item_acts, reference_acts, entry_acts, late_acts, section_acts, root_script, Rule, rule_of}
 use Rattle.pliron_text.specs.Build.{BuiltOp, BuiltBlock, Built, build}
 use Rattle.pliron_text.specs.Links.{OpLinked, Linked, links_from, op_links, region_links, block_links, operation_links, links}
 use Rattle.pliron_text.specs.Placeholders.{In}
@@ -96,30 +96,30 @@ module _ (v l : List (Fact Text)) where
   silent_both : {P : Type 0} → (xs ys : List (Act Text P)) → Silent xs → Silent ys → Silent (xs ++ ys)
   silent_both xs ys = nothing_both v l xs ys
 
-  silent_items : {P A : Type 0} → (es : List (Name P × Item P A)) → Silent (flat_map item_acts es)
-  silent_items [] = refl
-  silent_items ((n, direct a) ∷ es) = silent_items es
-  silent_items ((n, reference m) ∷ es) = silent_items es
+  silent_items : {P A : Type 0} → (rule : Rule A) (es : List (Name P × Item P A)) → Silent (flat_map (item_acts rule) es)
+  silent_items rule [] = refl
+  silent_items rule ((n, direct a) ∷ es) = silent_items rule es
+  silent_items rule ((n, reference m) ∷ es) = silent_items rule es
 
-  silent_entries : {P A X : Type 0} → (es : List (Entry P A X)) → Silent (flat_map entry_acts es)
-  silent_entries [] = refl
-  silent_entries (of_item m x items ∷ es) = silent_both (flat_map item_acts items) (flat_map entry_acts es) (silent_items items) (silent_entries es)
-  silent_entries (of_once m a ∷ es) = silent_entries es
+  silent_entries : {P A X : Type 0} → (rules : ℕ → Rule A) (es : List (Entry P A X)) → Silent (flat_map (entry_acts rules) es)
+  silent_entries rules [] = refl
+  silent_entries rules (of_item m x items ∷ es) = silent_both (flat_map (item_acts (rules m.index)) items) (flat_map (entry_acts rules) es) (silent_items (rules m.index) items) (silent_entries rules es)
+  silent_entries rules (of_once m a ∷ es) = silent_entries rules es
 
-  silent_references : {P A X : Type 0} → (all : List (Entry P A X)) (es : List (Name P × Item P A)) → Silent (flat_map (reference_acts all) es)
-  silent_references all [] = refl
-  silent_references all ((n, direct a) ∷ es) = silent_references all es
-  silent_references all ((n, reference m) ∷ es) = silent_references all es
+  silent_references : {P A X : Type 0} → (rule : Rule A) (all : List (Entry P A X)) (es : List (Name P × Item P A)) → Silent (flat_map (reference_acts rule all) es)
+  silent_references rule all [] = refl
+  silent_references rule all ((n, direct a) ∷ es) = silent_references rule all es
+  silent_references rule all ((n, reference m) ∷ es) = silent_references rule all es
 
-  silent_late : {P A X : Type 0} → (all es : List (Entry P A X)) → Silent (flat_map (late_acts all) es)
-  silent_late all [] = refl
-  silent_late all (of_item m x items ∷ es) = silent_both (flat_map (reference_acts all) items) (flat_map (late_acts all) es) (silent_references all items) (silent_late all es)
-  silent_late all (of_once m a ∷ es) = silent_late all es
+  silent_late : {P A X : Type 0} → (rules : ℕ → Rule A) (all es : List (Entry P A X)) → Silent (flat_map (late_acts rules all) es)
+  silent_late rules all [] = refl
+  silent_late rules all (of_item m x items ∷ es) = silent_both (flat_map (reference_acts (rules m.index) all) items) (flat_map (late_acts rules all) es) (silent_references (rules m.index) all items) (silent_late rules all es)
+  silent_late rules all (of_once m a ∷ es) = silent_late rules all es
 
-  section_means_nothing : {P A X : Type 0} → (es : List (Entry P A X)) → meant same_text v l (does_all (section_acts es) done) ≡ []
-  section_means_nothing es =
-      meant_all same_text v l (section_acts es) done
-      ∙ (append-nil (acts_meant same_text v l (section_acts es)) ∙ silent_both (flat_map entry_acts es) (flat_map (late_acts es) es) (silent_entries es) (silent_late es es))
+  section_means_nothing : {P A X : Type 0} → (rules : ℕ → Rule A) (es : List (Entry P A X)) → meant same_text v l (does_all (section_acts rules es) done) ≡ []
+  section_means_nothing rules es =
+      meant_all same_text v l (section_acts rules es) done
+      ∙ (append-nil (acts_meant same_text v l (section_acts rules es)) ∙ silent_both (flat_map (entry_acts rules) es) (flat_map (late_acts rules es) es) (silent_entries rules es) (silent_late rules es es))
 
 module _ {P T A X : Type 0} (isolated : Id → Bool) (first : P → X) (es : List (Entry P A X)) (t : Tree P T A) (f : Formed t) where
   -- what is bound is what the graph's links are
@@ -128,7 +128,7 @@ module _ {P T A X : Type 0} (isolated : Id → Bool) (first : P → X) (es : Lis
       let g = build isolated first es t in
       let b = bound_meant same_text [] [] (root_script isolated t es) u q in
       let w : Same (meant same_text [] [] (root_script isolated t es)) (slots g) =
-      same_then (tree_walk isolated first es t (does_all (section_acts es) done) f) (same_path _ _ (ap (λ z. slots g ++ z) (section_means_nothing [] [] es) ∙ append-nil (slots g))) in
+      same_then (tree_walk isolated first es t (does_all (section_acts (rule_of t) es) done) f) (same_path _ _ (ap (λ z. slots g ++ z) (section_means_nothing [] [] (rule_of t) es) ∙ append-nil (slots g))) in
       let s = linked u q g in
       ((λ h. s.1 (w.into (u, Some q) (b.0 h))), (λ h. b.1 (w.back (u, Some q) (s.0 h))))
 

@@ -231,21 +231,21 @@ module _ {T A : Type 0} (reading : Text → Outcome A) (types : Texts T) (owns :
 module _ {A : Type 0} where
   -- keys that are kept do nothing
   pub keys_quiet : (es : List (Name ℕ × Attribute A)) (then : Script Text ℕ) → list_all (λ e. keeps_key e.0.text e.1) es ≡ true
-      → failures same_text no_scope (does_all (map key_act es) then) ≡ failures same_text no_scope then
+      → failures same_text no_scope (does_all (map (key_act keeps_key) es) then) ≡ failures same_text no_scope then
   keys_quiet [] then f = refl
   keys_quiet (e ∷ es) then f =
       let kept = and_left (keeps_key e.0.text e.1) (list_all (λ e. keeps_key e.0.text e.1) es) f in
       let others = and_right (keeps_key e.0.text e.1) (list_all (λ e. keeps_key e.0.text e.1) es) f in
-      ap (λ b. cond b [] (record { cause = script.ReservedKey e.0.text; at = Some e.0.place } ∷ []) ++ failures same_text no_scope (does_all (map key_act es) then)) kept ∙ keys_quiet es then others
+      ap (λ b. cond b [] (record { cause = script.ReservedKey e.0.text; at = Some e.0.place } ∷ []) ++ failures same_text no_scope (does_all (map (key_act keeps_key) es) then)) kept ∙ keys_quiet es then others
 
   -- the first key that is not kept fails first
   pub keys_fail : (before : List (Name ℕ × Attribute A)) (e : Name ℕ × Attribute A) (behind : List (Name ℕ × Attribute A)) (then : Script Text ℕ) → list_all (λ e. keeps_key e.0.text e.1) before ≡ true → keeps_key e.0.text e.1 ≡ false
-      → (fs : List (Failure Text ℕ)) × (failures same_text no_scope (does_all (map key_act (before ++ (e ∷ behind))) then) ≡ record { cause = script.ReservedKey e.0.text; at = Some e.0.place } ∷ fs)
-  keys_fail [] e behind then f b = (_, ap (λ b. cond b [] (record { cause = script.ReservedKey e.0.text; at = Some e.0.place } ∷ []) ++ failures same_text no_scope (does_all (map key_act behind) then)) b)
+      → (fs : List (Failure Text ℕ)) × (failures same_text no_scope (does_all (map (key_act keeps_key) (before ++ (e ∷ behind))) then) ≡ record { cause = script.ReservedKey e.0.text; at = Some e.0.place } ∷ fs)
+  keys_fail [] e behind then f b = (_, ap (λ b. cond b [] (record { cause = script.ReservedKey e.0.text; at = Some e.0.place } ∷ []) ++ failures same_text no_scope (does_all (map (key_act keeps_key) behind) then)) b)
   keys_fail (d ∷ before) e behind then f b =
       let kept = and_left (keeps_key d.0.text d.1) (list_all (λ e. keeps_key e.0.text e.1) before) f in
       let others = and_right (keeps_key d.0.text d.1) (list_all (λ e. keeps_key e.0.text e.1) before) f in
       let k = keys_fail before e behind then others b in (
         k.0,
-        ap (λ b. cond b [] (record { cause = script.ReservedKey d.0.text; at = Some d.0.place } ∷ []) ++ failures same_text no_scope (does_all (map key_act (before ++ (e ∷ behind))) then)) kept ∙ k.1,
+        ap (λ b. cond b [] (record { cause = script.ReservedKey d.0.text; at = Some d.0.place } ∷ []) ++ failures same_text no_scope (does_all (map (key_act keeps_key) (before ++ (e ∷ behind))) then)) kept ∙ k.1,
       )

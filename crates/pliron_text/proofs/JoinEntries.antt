@@ -16,7 +16,7 @@ use Rattle.pliron_text.specs.Tree.{Mark}
 use Rattle.pliron_text.specs.ReadSection.{Entry, of_item, of_once, entry}
 use Rattle.pliron_text.specs.Script.{Failure, does_all, done, UnknownIndex}
 use Rattle.pliron_text.specs.Scopes.{Scopes, is_among, failures}
-use Rattle.pliron_text.specs.Acts.{entry_acts}
+use Rattle.pliron_text.specs.Acts.{entry_acts, keeps_key}
 use Rattle.pliron_text.specs.ModuleText.{index_at}
 use Rattle.pliron_text.specs.SectionText.{content_at, known_index, entry_at, may_have, Entries}
 use Rattle.pliron_text.specs.SoFar.{so_far, location_standing, AreSoFar, DescribeEntries}
@@ -110,7 +110,7 @@ behind_entries i indices = record { values = None; labels = None; marks = i ∷ 
 
 -- what is refused of entries there
 abbrev pub refused : {A X : Type 0} → ℕ → List ℕ → List (Entry ℕ A X) → List (Failure Text ℕ)
-refused i indices es = failures same_text (behind_entries i indices) (does_all (flat_map entry_acts es) done)
+refused i indices es = failures same_text (behind_entries i indices) (does_all (flat_map (entry_acts (λ i. keeps_key)) es) done)
 
 -- an index that no mark has, or an entry before
 abbrev pub unknown_at : ℕ → Text → Failure Text ℕ

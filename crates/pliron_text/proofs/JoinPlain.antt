@@ -4,7 +4,7 @@ use Rattle.std.specs.Prelude.{flat_map, ⊤}
 use Rattle.std.specs.List.{list_all}
 use Rattle.irtext_base.specs.Text.{Text}
 use Rattle.irtext_base.specs.Format.{Id, same_text}
-use Rattle.pliron_text.specs.Acts.{result_types, closing_acts, result_definitions, mark_acts, entry_acts, late_acts, section_acts, region_scripts, operation_script, failures_of}
+use Rattle.pliron_text.specs.Acts.{result_types, closing_acts, result_definitions, mark_acts, entry_acts, late_acts, section_acts, region_scripts, operation_script, failures_of, keeps_key}
 use Rattle.pliron_text.specs.Build.{Built, BuiltOp, BuiltBlock, build, built_regions, put_all, read_names, inline_entries, with_content, content, located}
 use Rattle.pliron_text.specs.Forest.{Regions, no_regions, region, no_blocks, block, regions_list}
 use Rattle.pliron_text.specs.Marked.{regions_marked, marked}
@@ -88,14 +88,14 @@ module _ {T A : Type 0} where
   marked_is t form = marked_or (is_some t.own.mark) (regions_marked t.regions) (none_marked t.regions form.blocks) ∙ mark_there t.own.mark
 
 -- ---- what fails behind the pieces
-no_late : {A X : Type 0} (all es : List (Entry ℕ A X)) → AreSoFar es → flat_map (late_acts all) es ≡ []
+no_late : {A X : Type 0} (all es : List (Entry ℕ A X)) → AreSoFar es → flat_map (late_acts (λ i. keeps_key) all) es ≡ []
 no_late all [] form = refl
 no_late all (of_item m x [] ∷ es) form = no_late all es form
 no_late all (of_item m x (k ∷ ks) ∷ es) form = absurd form
 no_late all (of_once m a ∷ es) form = absurd form
 
-section_acts-so_far : {A X : Type 0} (es : List (Entry ℕ A X)) → AreSoFar es → section_acts es ≡ flat_map entry_acts es
-section_acts-so_far es form = ap (λ xs. flat_map entry_acts es ++ xs) (no_late es es form) ∙ append-nil (flat_map entry_acts es)
+section_acts-so_far : {A X : Type 0} (es : List (Entry ℕ A X)) → AreSoFar es → section_acts (λ i. keeps_key) es ≡ flat_map (entry_acts (λ i. keeps_key)) es
+section_acts-so_far es form = ap (λ xs. flat_map (entry_acts (λ i. keeps_key)) es ++ xs) (no_late es es form) ∙ append-nil (flat_map (entry_acts (λ i. keeps_key)) es)
 
 module _ {T A : Type 0} (isolated : Id → Bool) (t : Tree ℕ T A) (form : IsSoFar t) where
   -- the claim that an operation without result types has no names
@@ -112,9 +112,9 @@ module _ {T A : Type 0} (isolated : Id → Bool) (t : Tree ℕ T A) (form : IsSo
 
   pub failures_marked : {X : Type 0} (k : Mark ℕ) (es : List (Entry ℕ A X)) → PiecesPass → t.own.mark ≡ Some k → AreSoFar es → failures_of isolated t es ≡ refused k.index [] es
   failures_marked k es p e so_far =
-      p.passes (does_all (section_acts es) done)
-      ∙ (ap (λ acts. failures same_text no_scope (does_all acts (does_all (section_acts es) done))) closing_is
-      ∙ (ap (λ m. failures same_text no_scope (does_all (no_results ∷ mark_acts m) (does_all (section_acts es) done))) e
+      p.passes (does_all (section_acts (λ i. keeps_key) es) done)
+      ∙ (ap (λ acts. failures same_text no_scope (does_all acts (does_all (section_acts (λ i. keeps_key) es) done))) closing_is
+      ∙ (ap (λ m. failures same_text no_scope (does_all (no_results ∷ mark_acts m) (does_all (section_acts (λ i. keeps_key) es) done))) e
       ∙ ap (λ xs. failures same_text (behind_entries k.index []) (does_all xs done)) (section_acts-so_far es so_far)))
 
   pub failures_unmarked : (X : Type 0) → PiecesPass → t.own.mark ≡ None → failures_of {A = A} {X = X} isolated t [] ≡ []

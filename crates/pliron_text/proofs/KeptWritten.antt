@@ -12,10 +12,10 @@ use Rattle.pliron_text.specs.Tree.{Name, Mark, Attribute, given_names, ident, ow
 use Rattle.pliron_text.specs.Graph.{Graph, GraphOp, GraphBlock, Printing, value, inline, entries, is_marked, mark_at, own_marks, part_of, body_of, tree_op, tree_head, tree_regions, tree_blocks, tree_operations, marks_in_regions, marks_in_blocks, marks_in_operations, written, lookup, op_outlined, block_outlined}
 use Rattle.pliron_text.specs.Script.{Path, Failure, Act, mark, claim, Script, done, does, within, does_all, DuplicateIndex}
 use Rattle.pliron_text.specs.Scopes.{Scopes, ◌⊳◌, fact_of, inside, is_among, facts, outward, act_failures}
-use Rattle.pliron_text.specs.Acts.{value_uses, label_uses, result_definitions, argument_definitions, mark_acts, key_act, keeps_key, entries_if, result_types, piece_acts, all_of, parts_script, closing_acts, header_acts, region_scripts, blocks_script, operations_script, tree_script}
+use Rattle.pliron_text.specs.Acts.{value_uses, label_uses, result_definitions, argument_definitions, mark_acts, key_act, keeps_key, entries_if, result_types, piece_acts, all_of, parts_script, closing_acts, header_acts, region_scripts, blocks_script, operations_script, tree_script, Rule, keeps_block_key}
 use Rattle.pliron_text.specs.Closed.{FitsFormat, FitRegions, FitBlocks, FitOperations, Fit}
 use Rattle.pliron_text.specs.Plain.{names_one, Kept}
-use Rattle.pliron_text.specs.Fillable.{KeepsKeys, OpKeepsKeys, BlockKeepsKeys, GraphKeepsKeys}
+use Rattle.pliron_text.specs.Fillable.{OpKeepsKeys, BlockKeepsKeys, GraphKeepsKeys, KeepsRule}
 use Rattle.pliron_text.proofs.WrittenScript.{does_both}
 use Rattle.pliron_text.proofs.FitsFormat.{and_left, and_right}
 use Rattle.pliron_text.proofs.SameText.{same_itself}
@@ -109,33 +109,33 @@ arguments_good : {T : Type 0} (p : Path) (k : ℕ) (ns : List (Name ⊤ × T)) �
 arguments_good p k [] = tt
 arguments_good p k (n ∷ ns) = (named_act _ refl refl, arguments_good p (suc k) ns)
 
-abbrev EntriesKeep : {A : Type 0} → List (Name ⊤ × Attribute A) → Type 0
-EntriesKeep [] = ⊤
-EntriesKeep (e ∷ es) = (keeps_key e.0.text e.1 ≡ true) × EntriesKeep es
+abbrev EntriesKeep : {A : Type 0} → Rule A → List (Name ⊤ × Attribute A) → Type 0
+EntriesKeep rule [] = ⊤
+EntriesKeep rule (e ∷ es) = (rule e.0.text e.1 ≡ true) × EntriesKeep rule es
 
-keys_good : {A : Type 0} (es : List (Name ⊤ × Attribute A)) → EntriesKeep es → GoodActs (map key_act es)
-keys_good [] h = tt
-keys_good (e ∷ es) h = (claimed _ _ h.0, keys_good es h.1)
+keys_good : {A : Type 0} (rule : Rule A) (es : List (Name ⊤ × Attribute A)) → EntriesKeep rule es → GoodActs (map (key_act rule) es)
+keys_good rule [] h = tt
+keys_good rule (e ∷ es) h = (claimed _ _ h.0, keys_good rule es h.1)
 
-pub keeps_filter : {A : Type 0} (test : Text × Attribute A → Bool) (es : List (Text × Attribute A)) → KeepsKeys es → KeepsKeys (filter test es)
-keeps_filter test [] h = refl
-keeps_filter test (e ∷ es) h = go (test e) (keeps_filter test es (and_right (keeps_key e.0 e.1) _ h))
+pub keeps_filter : {A : Type 0} (rule : Rule A) (test : Text × Attribute A → Bool) (es : List (Text × Attribute A)) → KeepsRule rule es → KeepsRule rule (filter test es)
+keeps_filter rule test [] h = refl
+keeps_filter rule test (e ∷ es) h = go (test e) (keeps_filter rule test es (and_right (rule e.0 e.1) _ h))
   where
-    go : (b : Bool) → KeepsKeys (filter test es) → KeepsKeys (cond b (e ∷ filter test es) (filter test es))
-    go true k = ap₂ ◌&&◌ (and_left (keeps_key e.0 e.1) _ h) k
+    go : (b : Bool) → KeepsRule rule (filter test es) → KeepsRule rule (cond b (e ∷ filter test es) (filter test es))
+    go true k = ap₂ ◌&&◌ (and_left (rule e.0 e.1) _ h) k
     go false k = k
 
 module _ {T A : Type 0} (C : Printing T A) where
-  entries_keep : (es : List (Text × Attribute A)) → KeepsKeys es → EntriesKeep (entries C es)
-  entries_keep [] h = tt
-  entries_keep (e ∷ es) h = (and_left (keeps_key e.0 e.1) _ h, entries_keep es (and_right (keeps_key e.0 e.1) _ h))
+  entries_keep : (rule : Rule A) (es : List (Text × Attribute A)) → KeepsRule rule es → EntriesKeep rule (entries C es)
+  entries_keep rule [] h = tt
+  entries_keep rule (e ∷ es) h = (and_left (rule e.0 e.1) _ h, entries_keep rule es (and_right (rule e.0 e.1) _ h))
 
-  entries_if_keep : (es : List (Name ⊤ × Attribute A)) → EntriesKeep es → EntriesKeep (entries_if (elim es [ [] ↦ None | e ∷ rest ↦ Some (e ∷ rest) ]))
-  entries_if_keep [] h = tt
-  entries_if_keep (e ∷ es) h = h
+  entries_if_keep : (rule : Rule A) (es : List (Name ⊤ × Attribute A)) → EntriesKeep rule es → EntriesKeep rule (entries_if (elim es [ [] ↦ None | e ∷ rest ↦ Some (e ∷ rest) ]))
+  entries_if_keep rule [] h = tt
+  entries_if_keep rule (e ∷ es) h = h
 
   abbrev PartKeeps : Part ⊤ T A → Type 0
-  PartKeeps (tree.piece (tree.dictionary es)) = EntriesKeep es
+  PartKeeps (tree.piece (tree.dictionary es)) = EntriesKeep keeps_key es
   PartKeeps _ = ⊤
 
   abbrev OptionKeeps : Option (Part ⊤ T A) → Type 0
@@ -157,7 +157,7 @@ module _ {T A : Type 0} (C : Printing T A) where
   part_keeps ds o h (format.successor i) = mapped_keeps _ (λ y. tt) (slice_get o.successors i)
   part_keeps ds o h format.successors = tt
   part_keeps ds o h (format.attribute k) = mapped_keeps _ (λ y. tt) (lookup k o.attributes)
-  part_keeps ds o h format.dictionary = entries_keep _ (keeps_filter _ (inline C o.attributes) (keeps_filter _ o.attributes h))
+  part_keeps ds o h format.dictionary = entries_keep keeps_key _ (keeps_filter keeps_key _ (inline C o.attributes) (keeps_filter keeps_key _ o.attributes h))
   part_keeps ds o h (format.result_type i) = mapped_keeps _ (λ y. tt) (slice_get o.results i)
   part_keeps ds o h (format.region i) = tt
   part_keeps ds o h format.regions = tt
@@ -179,7 +179,7 @@ module _ {T A : Type 0} (C : Printing T A) where
 
   body_keeps : (o : GraphOp T A) → OpKeepsKeys o → (f : Option Format) → PartsKeep (parts_of (body_of C o f))
   body_keeps o h None = tt
-  body_keeps o h (Some format.canonical) = (tt, (tt, (tt, (tt, (tt, (tt, (entries_keep _ (keeps_filter _ o.attributes h), (tt, (tt, (tt, (tt, (tt, (tt, (tt, (tt, (tt, (tt, (tt, tt))))))))))))))))))
+  body_keeps o h (Some format.canonical) = (tt, (tt, (tt, (tt, (tt, (tt, (entries_keep keeps_key _ (keeps_filter keeps_key _ o.attributes h), (tt, (tt, (tt, (tt, (tt, (tt, (tt, (tt, (tt, (tt, (tt, tt))))))))))))))))))
   body_keeps o h (Some (format.custom ds)) = parts_keep ds o h ds
 
   piece_good : (p : Path) (k l : ℕ) (x : Piece ⊤ T A) → PartKeeps (tree.piece x) → GoodActs (piece_acts p k l x)
@@ -189,7 +189,7 @@ module _ {T A : Type 0} (C : Printing T A) where
   piece_good p k l (tree.successor i n) h = (named_act _ refl refl, tt)
   piece_good p k l (tree.successors ns) h = labels_good p l ns
   piece_good p k l (tree.attribute key a) h = tt
-  piece_good p k l (tree.dictionary es) h = keys_good es h
+  piece_good p k l (tree.dictionary es) h = keys_good keeps_key es h
   piece_good p k l (tree.result_type i x) h = tt
   piece_good p k l (tree.header n) h = tt
   piece_good p k l (tree.types ts) h = tt
@@ -251,8 +251,8 @@ module _ {T A : Type 0} (C : Printing T A) where
         let k = mark_at C n b.location (block_outlined C b) in
         let pairs = map (λ (a : ℕ × T). (value C a.0, a.1)) b.arguments in
         let es = entries_if (tree_head C n b).attributes in
-        subst (Good m n) (sym (does_both C (map key_act es) _ x))
-        (good_acts _ (keys_good es (entries_if_keep (entries C (inline C b.attributes)) (entries_keep _ (keeps_filter _ b.attributes e))))
+        subst (Good m n) (sym (does_both C (map (key_act keeps_block_key) es) _ x))
+        (good_acts _ (keys_good keeps_block_key es (entries_if_keep keeps_block_key (entries C (inline C b.attributes)) (entries_keep keeps_block_key _ (keeps_filter keeps_block_key _ b.attributes e))))
         (subst (Good m n) (sym (does_both C (argument_definitions p 0 pairs) _ x))
         (good_acts _ (arguments_good p 0 pairs)
         (subst (Good m n) (sym (does_both C (mark_acts k) _ x))

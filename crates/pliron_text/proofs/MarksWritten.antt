@@ -11,7 +11,7 @@ use Rattle.pliron_text.specs.Fine.{IsWord, Enough}
 use Rattle.pliron_text.specs.Graph.{Graph, Limit, GraphOp, GraphBlock, Printing, value, is_marked, mark_at, own_marks, body_of, tree_op, tree_head, tree_regions, tree_blocks, tree_operations, marks_in_regions, marks_in_blocks, marks_in_operations, written, op_outlined, block_outlined}
 use Rattle.pliron_text.specs.Script.{Path, Act, Script, does, within, does_all}
 use Rattle.pliron_text.specs.Scopes.{fact_of, facts, outward}
-use Rattle.pliron_text.specs.Acts.{value_uses, label_uses, result_definitions, argument_definitions, mark_acts, key_act, entries_if, piece_acts, all_of, parts_script, closing_acts, header_acts, region_scripts, blocks_script, operations_script, tree_script}
+use Rattle.pliron_text.specs.Acts.{value_uses, label_uses, result_definitions, argument_definitions, mark_acts, key_act, entries_if, piece_acts, all_of, parts_script, closing_acts, header_acts, region_scripts, blocks_script, operations_script, tree_script, Rule, keeps_key, keeps_block_key}
 use Rattle.pliron_text.specs.Closed.{FitsFormat, FitRegions, FitBlocks, FitOperations, Fit}
 use Rattle.pliron_text.specs.WrittenSection.{numbers}
 use Rattle.pliron_text.proofs.FitsFormat.{meets, and_left, and_right}
@@ -66,9 +66,9 @@ arguments_silent : {T : Type 0} (p : Path) (k : ℕ) (ns : List (Name ⊤ × T))
 arguments_silent p k [] = tt
 arguments_silent p k (n ∷ ns) = (record { marks = refl; entries = refl }, arguments_silent p (suc k) ns)
 
-keys_silent : {A : Type 0} (es : List (Name ⊤ × Attribute A)) → AllSilent (map key_act es)
-keys_silent [] = tt
-keys_silent (e ∷ es) = (record { marks = refl; entries = refl }, keys_silent es)
+keys_silent : {A : Type 0} (rule : Rule A) (es : List (Name ⊤ × Attribute A)) → AllSilent (map (key_act rule) es)
+keys_silent rule [] = tt
+keys_silent rule (e ∷ es) = (record { marks = refl; entries = refl }, keys_silent rule es)
 
 -- the list of parts has a place for each of these, and no more
 abbrev pub EnoughFor : {P T A S : Type 0} → List (Part P T A) → List S → Type 0
@@ -115,7 +115,7 @@ module _ {T A : Type 0} where
   piece_silent p k l (tree.successor i n) = (record { marks = refl; entries = refl }, tt)
   piece_silent p k l (tree.successors ns) = labels_silent p l ns
   piece_silent p k l (tree.attribute key a) = tt
-  piece_silent p k l (tree.dictionary es) = keys_silent es
+  piece_silent p k l (tree.dictionary es) = keys_silent keeps_key es
   piece_silent p k l (tree.result_type i x) = tt
   piece_silent p k l (tree.header n) = tt
   piece_silent p k l (tree.types ts) = tt
@@ -153,8 +153,8 @@ module _ {T A : Type 0} (C : Printing T A) where
         let k = mark_at C n b.location (block_outlined C b) in
         let pairs = map (λ (a : ℕ × T). (value C a.0, a.1)) b.arguments in
         let es = entries_if (tree_head C n b).attributes in
-        subst (Numbered m n) (sym (does_both C (map key_act es) _ x))
-        (numbered_acts _ (keys_silent es)
+        subst (Numbered m n) (sym (does_both C (map (key_act keeps_block_key) es) _ x))
+        (numbered_acts _ (keys_silent keeps_block_key es)
         (subst (Numbered m n) (sym (does_both C (argument_definitions p 0 pairs) _ x))
         (numbered_acts _ (arguments_silent p 0 pairs)
         (subst (Numbered m n) (sym (does_both C (mark_acts k) _ x))

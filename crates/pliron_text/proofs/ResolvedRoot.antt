@@ -10,7 +10,7 @@ use Rattle.pliron_text.specs.Script.{use_value, use_label, define_value, define_
 use Rattle.pliron_text.specs.Scopes.{Fact, uses, defines, Facts, nothing, ◌⊕◌, Scopes, and_then, ◌⊳◌, fact_of, inside, no_scope, outward, facts, act_failures, not_isolated, left_open, failures}
 use Rattle.pliron_text.specs.Follow.{follow}
 use Rattle.pliron_text.specs.Writable.{has_region}
-use Rattle.pliron_text.specs.Acts.{section_acts, tree_script, root_script, failures_of, region_scripts}
+use Rattle.pliron_text.specs.Acts.{section_acts, tree_script, root_script, failures_of, region_scripts, rule_of}
 use Rattle.pliron_text.specs.Resolves.{texts, all_in_regions, all_in_blocks, shared, kept_inside, used_values, used_labels, marks_of, scopes_of, DefinesOnce, DefinesUsed, Resolves}
 use Rattle.pliron_text.proofs.Plainly.{both_empty, append_empty}
 use Rattle.pliron_text.proofs.Following.{operation_follow, regions_follow}
@@ -110,11 +110,11 @@ module _ {P T A X : Type 0} (isolated : Id → Bool) (t : Tree P T A) (es : List
   abbrev R : {Y : Type 0} → (Op P T A → List Y) → (Head P T A → List Y) → (Bool → List Y → List Y) → List Y
   R of_op of_head outward = all_in_regions isolated of_op of_head outward (isolated t.own.id) t.regions
 
-  root_parts : root_script isolated t es ≡ follow x (does_all (section_acts es) done)
-  root_parts = operation_follow [] t.own (region_scripts isolated [] 0 (isolated t.own.id) t.regions) done (does_all (section_acts es) done) (regions_follow isolated [] 0 (isolated t.own.id) t.regions)
+  root_parts : root_script isolated t es ≡ follow x (does_all (section_acts (rule_of t) es) done)
+  root_parts = operation_follow [] t.own (region_scripts isolated [] 0 (isolated t.own.id) t.regions) done (does_all (section_acts (rule_of t) es) done) (regions_follow isolated [] 0 (isolated t.own.id) t.regions)
 
-  parts_failures : failures_of isolated t es ≡ failures same_text no_scope x ++ failures same_text (no_scope ⊳ facts same_text x) (does_all (section_acts es) done)
-  parts_failures = ap (failures same_text no_scope) root_parts ∙ failures_follow no_scope x (does_all (section_acts es) done)
+  parts_failures : failures_of isolated t es ≡ failures same_text no_scope x ++ failures same_text (no_scope ⊳ facts same_text x) (does_all (section_acts (rule_of t) es) done)
+  parts_failures = ap (failures same_text no_scope) root_parts ∙ failures_follow no_scope x (does_all (section_acts (rule_of t) es) done)
 
   marks_are : (facts same_text x).marks ≡ marks_of isolated t
   marks_are = lists.marks_in_root isolated t w
@@ -146,7 +146,7 @@ module _ {P T A X : Type 0} (isolated : Id → Bool) (t : Tree P T A) (es : List
 
   pub resolves : failures_of isolated t es ≡ [] → Resolves isolated t es
   resolves e =
-      let b = both_empty (failures same_text no_scope x) (failures same_text (no_scope ⊳ facts same_text x) (does_all (section_acts es) done)) (sym parts_failures ∙ e) in
+      let b = both_empty (failures same_text no_scope x) (failures same_text (no_scope ⊳ facts same_text x) (does_all (section_acts (rule_of t) es) done)) (sym parts_failures ∙ e) in
       let g = good_of no_scope x (root_entryless isolated t w) b.0 in
       let c = (root_claims isolated t w).to g.claims in
       let s = each_zip DefinesOnce DefinesUsed (scopes_of isolated t) ((root_scopes isolated t w).to g.scopes) in
@@ -158,7 +158,7 @@ module _ {P T A X : Type 0} (isolated : Id → Bool) (t : Tree P T A) (es : List
         once = s.0;
         known = s.1;
         marks = ap (distinct ◌==◌) (sym marks_are) ∙ fresh_distinct ◌==◌ same_number_symmetric (facts same_text x).marks g.marks;
-        section = section_resolves es (no_scope ⊳ facts same_text x) (marks_of isolated t) marks_are entries_are b.1;
+        section = section_resolves (rule_of t) es (no_scope ⊳ facts same_text x) (marks_of isolated t) marks_are entries_are b.1;
       }
 
   pub not_refused : Resolves isolated t es → failures_of isolated t es ≡ []
@@ -171,5 +171,5 @@ module _ {P T A X : Type 0} (isolated : Id → Bool) (t : Tree P T A) (es : List
         outer = λ e. (root_outer isolated t w).from r.is_isolated;
         scopes = (root_scopes isolated t w).from (zip_each DefinesOnce DefinesUsed (scopes_of isolated t) r.once r.known);
       } in
-      parts_failures ∙ append_empty (failures same_text no_scope x) (failures same_text (no_scope ⊳ facts same_text x) (does_all (section_acts es) done)) (of_good no_scope x (root_entryless isolated t w) g)
-      (resolves_section es (no_scope ⊳ facts same_text x) (marks_of isolated t) marks_are entries_are r.section)
+      parts_failures ∙ append_empty (failures same_text no_scope x) (failures same_text (no_scope ⊳ facts same_text x) (does_all (section_acts (rule_of t) es) done)) (of_good no_scope x (root_entryless isolated t w) g)
+      (resolves_section (rule_of t) es (no_scope ⊳ facts same_text x) (marks_of isolated t) marks_are entries_are r.section)

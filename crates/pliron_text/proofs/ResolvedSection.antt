@@ -10,8 +10,8 @@ use Rattle.pliron_text.specs.Tree.{Name}
 use Rattle.pliron_text.specs.ReadSection.{Item, direct, reference, Entry, of_item, of_once}
 use Rattle.pliron_text.specs.Script.{Act, use_value, use_label, define_value, define_label, mark, entry, claim, done, does_all}
 use Rattle.pliron_text.specs.Scopes.{Scopes, ◌⊳◌, fact_of, is_among, act_failures, failures}
-use Rattle.pliron_text.specs.Acts.{item_acts, entry_acts, reference_acts, late_acts, section_acts}
-use Rattle.pliron_text.specs.Resolves.{items, indices, is_known, is_kept, SectionResolves}
+use Rattle.pliron_text.specs.Acts.{item_acts, entry_acts, reference_acts, late_acts, section_acts, Rule}
+use Rattle.pliron_text.specs.Resolves.{items, indices, is_known, is_kept, SectionResolves, EntryKept}
 use Rattle.pliron_text.proofs.Plainly.{both_empty, append_empty}
 use Rattle.pliron_text.proofs.Fresh.{Fresh, fresh_distinct, distinct_fresh, both, is_not, not_is}
 use Rattle.pliron_text.proofs.ResolvedScript.{among_has, each_both, each_left, each_right, if_nothing, nothing_if}
@@ -77,7 +77,7 @@ pub flat_both : {X Y : Type 0} (f : X → List Y) (xs ys : List X) → flat_map 
 flat_both f [] ys = refl
 flat_both f (x ∷ xs) ys = ap (λ z. f x ++ z) (flat_both f xs ys) ∙ sym (append_assoc (f x) (flat_map f xs) (flat_map f ys))
 
-module _ {P A X : Type 0} (all : List (Entry P A X)) where
+module _ {P A X : Type 0} (rules : ℕ → Rule A) (all : List (Entry P A X)) where
   abbrev Pair : Type 0
   Pair = Name P × Item P A
 
@@ -85,86 +85,86 @@ module _ {P A X : Type 0} (all : List (Entry P A X)) where
   abbrev Known : List Pair → Type 0
   Known = Each (λ i. is_known all i ≡ true)
 
-  abbrev Kept : List Pair → Type 0
-  Kept = Each (λ i. is_kept all i ≡ true)
+  abbrev Kept : Rule A → List Pair → Type 0
+  Kept rule = Each (λ i. is_kept rule all i ≡ true)
 
-  pairs_quiet : (ps : List Pair) → Each Quiet (flat_map item_acts ps)
-  pairs_quiet [] = tt
-  pairs_quiet ((n, direct a) ∷ ps) = (tt, pairs_quiet ps)
-  pairs_quiet ((n, reference m) ∷ ps) = pairs_quiet ps
+  pairs_quiet : (rule : Rule A) (ps : List Pair) → Each Quiet (flat_map (item_acts rule) ps)
+  pairs_quiet rule [] = tt
+  pairs_quiet rule ((n, direct a) ∷ ps) = (tt, pairs_quiet rule ps)
+  pairs_quiet rule ((n, reference m) ∷ ps) = pairs_quiet rule ps
 
-  pairs_index : (ps : List Pair) → flat_map index_of (flat_map item_acts ps) ≡ []
-  pairs_index [] = refl
-  pairs_index ((n, direct a) ∷ ps) = pairs_index ps
-  pairs_index ((n, reference m) ∷ ps) = pairs_index ps
+  pairs_index : (rule : Rule A) (ps : List Pair) → flat_map index_of (flat_map (item_acts rule) ps) ≡ []
+  pairs_index rule [] = refl
+  pairs_index rule ((n, direct a) ∷ ps) = pairs_index rule ps
+  pairs_index rule ((n, reference m) ∷ ps) = pairs_index rule ps
 
-  late_quiet : (ps : List Pair) → Each Quiet (flat_map (reference_acts all) ps)
-  late_quiet [] = tt
-  late_quiet ((n, direct a) ∷ ps) = late_quiet ps
-  late_quiet ((n, reference m) ∷ ps) = (tt, (tt, late_quiet ps))
+  late_quiet : (rule : Rule A) (ps : List Pair) → Each Quiet (flat_map (reference_acts rule all) ps)
+  late_quiet rule [] = tt
+  late_quiet rule ((n, direct a) ∷ ps) = late_quiet rule ps
+  late_quiet rule ((n, reference m) ∷ ps) = (tt, (tt, late_quiet rule ps))
 
-  late_index : (ps : List Pair) → flat_map index_of (flat_map (reference_acts all) ps) ≡ []
-  late_index [] = refl
-  late_index ((n, direct a) ∷ ps) = late_index ps
-  late_index ((n, reference m) ∷ ps) = late_index ps
+  late_index : (rule : Rule A) (ps : List Pair) → flat_map index_of (flat_map (reference_acts rule all) ps) ≡ []
+  late_index rule [] = refl
+  late_index rule ((n, direct a) ∷ ps) = late_index rule ps
+  late_index rule ((n, reference m) ∷ ps) = late_index rule ps
 
-  pairs_hold : (ps : List Pair) → Each Holds (flat_map item_acts ps) → Each Holds (flat_map (reference_acts all) ps) → Known ps × Kept ps
-  pairs_hold [] h k = (tt, tt)
-  pairs_hold ((n, direct a) ∷ ps) h k = let r = pairs_hold ps h.1 k in ((refl, r.0), (h.0, r.1))
-  pairs_hold ((n, reference m) ∷ ps) h k = let r = pairs_hold ps h k.1.1 in ((k.0, r.0), (k.1.0, r.1))
+  pairs_hold : (rule : Rule A) (ps : List Pair) → Each Holds (flat_map (item_acts rule) ps) → Each Holds (flat_map (reference_acts rule all) ps) → Known ps × Kept rule ps
+  pairs_hold rule [] h k = (tt, tt)
+  pairs_hold rule ((n, direct a) ∷ ps) h k = let r = pairs_hold rule ps h.1 k in ((refl, r.0), (h.0, r.1))
+  pairs_hold rule ((n, reference m) ∷ ps) h k = let r = pairs_hold rule ps h k.1.1 in ((k.0, r.0), (k.1.0, r.1))
 
-  hold_pairs : (ps : List Pair) → Known ps → Kept ps → Each Holds (flat_map item_acts ps) × Each Holds (flat_map (reference_acts all) ps)
-  hold_pairs [] a b = (tt, tt)
-  hold_pairs ((n, direct x) ∷ ps) a b = let r = hold_pairs ps a.1 b.1 in ((b.0, r.0), r.1)
-  hold_pairs ((n, reference m) ∷ ps) a b = let r = hold_pairs ps a.1 b.1 in (r.0, (a.0, (b.0, r.1)))
+  hold_pairs : (rule : Rule A) (ps : List Pair) → Known ps → Kept rule ps → Each Holds (flat_map (item_acts rule) ps) × Each Holds (flat_map (reference_acts rule all) ps)
+  hold_pairs rule [] a b = (tt, tt)
+  hold_pairs rule ((n, direct x) ∷ ps) a b = let r = hold_pairs rule ps a.1 b.1 in ((b.0, r.0), r.1)
+  hold_pairs rule ((n, reference m) ∷ ps) a b = let r = hold_pairs rule ps a.1 b.1 in (r.0, (a.0, (b.0, r.1)))
 
-  entries_quiet : (es : List (Entry P A X)) → Each Quiet (flat_map entry_acts es)
+  entries_quiet : (es : List (Entry P A X)) → Each Quiet (flat_map (entry_acts rules) es)
   entries_quiet [] = tt
-  entries_quiet (of_item m x ps ∷ es) = (tt, each_both Quiet (flat_map item_acts ps) (flat_map entry_acts es) (pairs_quiet ps) (entries_quiet es))
+  entries_quiet (of_item m x ps ∷ es) = (tt, each_both Quiet (flat_map (item_acts (rules m.index)) ps) (flat_map (entry_acts rules) es) (pairs_quiet (rules m.index) ps) (entries_quiet es))
   entries_quiet (of_once m a ∷ es) = entries_quiet es
 
-  entries_late : (es : List (Entry P A X)) → Each Quiet (flat_map (late_acts all) es)
+  entries_late : (es : List (Entry P A X)) → Each Quiet (flat_map (late_acts rules all) es)
   entries_late [] = tt
-  entries_late (of_item m x ps ∷ es) = each_both Quiet (flat_map (reference_acts all) ps) (flat_map (late_acts all) es) (late_quiet ps) (entries_late es)
+  entries_late (of_item m x ps ∷ es) = each_both Quiet (flat_map (reference_acts (rules m.index) all) ps) (flat_map (late_acts rules all) es) (late_quiet (rules m.index) ps) (entries_late es)
   entries_late (of_once m a ∷ es) = entries_late es
 
-  entries_index : (es : List (Entry P A X)) → flat_map index_of (flat_map entry_acts es) ≡ indices es
+  entries_index : (es : List (Entry P A X)) → flat_map index_of (flat_map (entry_acts rules) es) ≡ indices es
   entries_index [] = refl
-  entries_index (of_item m x ps ∷ es) = ap (λ z. m.index ∷ z) (flat_both index_of (flat_map item_acts ps) (flat_map entry_acts es) ∙ ap₂ ◌++◌ (pairs_index ps) (entries_index es))
+  entries_index (of_item m x ps ∷ es) = ap (λ z. m.index ∷ z) (flat_both index_of (flat_map (item_acts (rules m.index)) ps) (flat_map (entry_acts rules) es) ∙ ap₂ ◌++◌ (pairs_index (rules m.index) ps) (entries_index es))
   entries_index (of_once m a ∷ es) = entries_index es
 
-  entries_no_index : (es : List (Entry P A X)) → flat_map index_of (flat_map (late_acts all) es) ≡ []
+  entries_no_index : (es : List (Entry P A X)) → flat_map index_of (flat_map (late_acts rules all) es) ≡ []
   entries_no_index [] = refl
-  entries_no_index (of_item m x ps ∷ es) = flat_both index_of (flat_map (reference_acts all) ps) (flat_map (late_acts all) es) ∙ ap₂ ◌++◌ (late_index ps) (entries_no_index es)
+  entries_no_index (of_item m x ps ∷ es) = flat_both index_of (flat_map (reference_acts (rules m.index) all) ps) (flat_map (late_acts rules all) es) ∙ ap₂ ◌++◌ (late_index (rules m.index) ps) (entries_no_index es)
   entries_no_index (of_once m a ∷ es) = entries_no_index es
 
-  entries_hold : (es : List (Entry P A X)) → Each Holds (flat_map entry_acts es) → Each Holds (flat_map (late_acts all) es) → Known (items es) × Kept (items es)
+  entries_hold : (es : List (Entry P A X)) → Each Holds (flat_map (entry_acts rules) es) → Each Holds (flat_map (late_acts rules all) es) → Known (items es) × Each (EntryKept rules all) es
   entries_hold [] h k = (tt, tt)
   entries_hold (of_item m x ps ∷ es) h k =
-      let a = pairs_hold ps (each_left Holds (flat_map item_acts ps) (flat_map entry_acts es) h.1) (each_left Holds (flat_map (reference_acts all) ps) (flat_map (late_acts all) es) k) in
-      let b = entries_hold es (each_right Holds (flat_map item_acts ps) (flat_map entry_acts es) h.1) (each_right Holds (flat_map (reference_acts all) ps) (flat_map (late_acts all) es) k) in
-      (each_both _ ps (items es) a.0 b.0, each_both _ ps (items es) a.1 b.1)
-  entries_hold (of_once m a ∷ es) h k = entries_hold es h k
+      let a = pairs_hold (rules m.index) ps (each_left Holds (flat_map (item_acts (rules m.index)) ps) (flat_map (entry_acts rules) es) h.1) (each_left Holds (flat_map (reference_acts (rules m.index) all) ps) (flat_map (late_acts rules all) es) k) in
+      let b = entries_hold es (each_right Holds (flat_map (item_acts (rules m.index)) ps) (flat_map (entry_acts rules) es) h.1) (each_right Holds (flat_map (reference_acts (rules m.index) all) ps) (flat_map (late_acts rules all) es) k) in
+      (each_both _ ps (items es) a.0 b.0, (a.1, b.1))
+  entries_hold (of_once m a ∷ es) h k = let r = entries_hold es h k in (r.0, (tt, r.1))
 
-  hold_entries : (es : List (Entry P A X)) → Known (items es) → Kept (items es) → Each Holds (flat_map entry_acts es) × Each Holds (flat_map (late_acts all) es)
+  hold_entries : (es : List (Entry P A X)) → Known (items es) → Each (EntryKept rules all) es → Each Holds (flat_map (entry_acts rules) es) × Each Holds (flat_map (late_acts rules all) es)
   hold_entries [] h k = (tt, tt)
   hold_entries (of_item m x ps ∷ es) h k =
-      let a = hold_pairs ps (each_left _ ps (items es) h) (each_left _ ps (items es) k) in
-      let b = hold_entries es (each_right _ ps (items es) h) (each_right _ ps (items es) k) in
-      ((tt, each_both Holds (flat_map item_acts ps) (flat_map entry_acts es) a.0 b.0), each_both Holds (flat_map (reference_acts all) ps) (flat_map (late_acts all) es) a.1 b.1)
-  hold_entries (of_once m a ∷ es) h k = hold_entries es h k
+      let a = hold_pairs (rules m.index) ps (each_left _ ps (items es) h) k.0 in
+      let b = hold_entries es (each_right _ ps (items es) h) k.1 in
+      ((tt, each_both Holds (flat_map (item_acts (rules m.index)) ps) (flat_map (entry_acts rules) es) a.0 b.0), each_both Holds (flat_map (reference_acts (rules m.index) all) ps) (flat_map (late_acts rules all) es) a.1 b.1)
+  hold_entries (of_once m a ∷ es) h k = hold_entries es h k.1
 
-module _ {P A X : Type 0} (es : List (Entry P A X)) where
-  quiet : Each Quiet (section_acts es)
-  quiet = each_both Quiet (flat_map entry_acts es) (flat_map (late_acts es) es) (entries_quiet es es) (entries_late es es)
+module _ {P A X : Type 0} (rules : ℕ → Rule A) (es : List (Entry P A X)) where
+  quiet : Each Quiet (section_acts rules es)
+  quiet = each_both Quiet (flat_map (entry_acts rules) es) (flat_map (late_acts rules es) es) (entries_quiet rules es es) (entries_late rules es es)
 
-  index_all : flat_map index_of (section_acts es) ≡ indices es
-  index_all = flat_both index_of (flat_map entry_acts es) (flat_map (late_acts es) es) ∙ (ap₂ ◌++◌ (entries_index es es) (entries_no_index es es) ∙ append-nil (indices es))
+  index_all : flat_map index_of (section_acts rules es) ≡ indices es
+  index_all = flat_both index_of (flat_map (entry_acts rules) es) (flat_map (late_acts rules es) es) ∙ (ap₂ ◌++◌ (entries_index rules es es) (entries_no_index rules es es) ∙ append-nil (indices es))
 
-  pub section_resolves : (s : Scopes Text) (marks : List ℕ) → s.marks ≡ marks → s.entries ≡ [] → failures same_text s (does_all (section_acts es) done) ≡ [] → SectionResolves marks es
+  pub section_resolves : (s : Scopes Text) (marks : List ℕ) → s.marks ≡ marks → s.entries ≡ [] → failures same_text s (does_all (section_acts rules es) done) ≡ [] → SectionResolves rules marks es
   section_resolves s marks em en e =
-      let r = right_of s marks [] em en (section_acts es) quiet e in
-      let h = entries_hold es es (each_left Holds (flat_map entry_acts es) (flat_map (late_acts es) es) r.0) (each_right Holds (flat_map entry_acts es) (flat_map (late_acts es) es) r.0) in
+      let r = right_of s marks [] em en (section_acts rules es) quiet e in
+      let h = entries_hold rules es es (each_left Holds (flat_map (entry_acts rules) es) (flat_map (late_acts rules es) es) r.0) (each_right Holds (flat_map (entry_acts rules) es) (flat_map (late_acts rules es) es) r.0) in
       record {
         one_each = fresh_distinct ◌==◌ same_number_symmetric (indices es) (subst (Fresh ◌==◌ []) index_all r.1);
         marked = subst (Each (λ i. has ◌==◌ i marks ≡ true)) index_all r.2;
@@ -172,11 +172,11 @@ module _ {P A X : Type 0} (es : List (Entry P A X)) where
         kept = h.1;
       }
 
-  pub resolves_section : (s : Scopes Text) (marks : List ℕ) → s.marks ≡ marks → s.entries ≡ [] → SectionResolves marks es → failures same_text s (does_all (section_acts es) done) ≡ []
+  pub resolves_section : (s : Scopes Text) (marks : List ℕ) → s.marks ≡ marks → s.entries ≡ [] → SectionResolves rules marks es → failures same_text s (does_all (section_acts rules es) done) ≡ []
   resolves_section s marks em en r =
-      let h = hold_entries es es r.known r.kept in
-      of_right s marks [] em en (section_acts es) quiet (
-        each_both Holds (flat_map entry_acts es) (flat_map (late_acts es) es) h.0 h.1,
+      let h = hold_entries rules es es r.known r.kept in
+      of_right s marks [] em en (section_acts rules es) quiet (
+        each_both Holds (flat_map (entry_acts rules) es) (flat_map (late_acts rules es) es) h.0 h.1,
         subst (Fresh ◌==◌ []) (sym index_all) (distinct_fresh ◌==◌ same_number_symmetric (indices es) r.one_each),
         subst (Each (λ i. has ◌==◌ i marks ≡ true)) (sym index_all) r.marked,
       )

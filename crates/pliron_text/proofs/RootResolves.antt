@@ -1,5 +1,5 @@
 -- A closed root's text with its section reads as a tree and entries that resolve, in which each item has its own entry.
-use Rattle.std.proofs.Common.{◌≡◌, ℕ, ◌+◌, ◌<◌, ◌^◌, Bool, true, false, cond, List, [], ◌∷◌, ◌++◌, length, Option, None, refl, sym, ap, ap₂, ◌∙◌, subst, arith, append-nil, inl}
+use Rattle.std.proofs.Common.{◌≡◌, ℕ, suc, ◌+◌, ◌<◌, ◌^◌, Bool, true, false, cond, List, [], ◌∷◌, ◌++◌, length, Option, None, refl, sym, ap, ap₂, ◌∙◌, subst, arith, append-nil, inl}
 use Rattle.std.specs.Prelude.{⊤}
 use Rattle.irtext_base.specs.Text.{Text}
 use Rattle.irtext_base.specs.Format.{same_text, Id}
@@ -18,7 +18,7 @@ use Rattle.pliron_text.specs.Section as section
 use Rattle.pliron_text.specs.ReadSection.{Entry}
 use Rattle.pliron_text.specs.Script.{Script, done, does_all}
 use Rattle.pliron_text.specs.Scopes.{no_scope, facts, failures}
-use Rattle.pliron_text.specs.Acts.{keeps_key, section_acts, region_scripts, tree_script, failures_of}
+use Rattle.pliron_text.specs.Acts.{keeps_key, rule_of, section_acts, region_scripts, tree_script, failures_of}
 use Rattle.pliron_text.specs.Closed.{Closed, Fit}
 use Rattle.pliron_text.specs.Same.{Locations, SmallGraph}
 use Rattle.pliron_text.specs.RoundTrip.{LocationReads, Held, GraphHeld}
@@ -33,7 +33,7 @@ use Rattle.pliron_text.proofs.Resolved.{tree_resolves}
 use Rattle.pliron_text.proofs.SectionBack.{SmallItem, FinePair, FineEntryOf}
 use Rattle.pliron_text.proofs.SectionBare.{root_resolves_bare}
 use Rattle.pliron_text.proofs.SectionContent.{length_entries}
-use Rattle.pliron_text.proofs.SectionKept.{section_clean}
+use Rattle.pliron_text.proofs.SectionKept.{Ruled, section_clean}
 use Rattle.pliron_text.proofs.SectionOnce.{Mention, Mentions, place_below, each_shared}
 use Rattle.pliron_text.proofs.WrittenFine.{each_filter, written_fine}
 use Rattle.pliron_text.proofs.BackTree as back
@@ -94,10 +94,14 @@ module _ {T A : Type 0} (C : Printing T A) where
   EntryWordy e = Each WordyEntry e.attributes
 
   own_keeps : (l : Option Text) (es : List (Text × Attribute A)) → KeepsKeys es → Each EntryKeeps (own_entry C l (outlined_entries C es))
-  own_keeps l es h = own_each EntryKeeps l (outlined_entries C es) (each_keeps _ (keeps_filter (λ e. outlined C e.1) es h))
+  own_keeps l es h = own_each EntryKeeps l (outlined_entries C es) (each_keeps _ (keeps_filter keeps_key (λ e. outlined C e.1) es h))
 
   entries_keep : (g : Graph T A) → GraphKeepsKeys g → Each EntryKeeps (entries_of C None g)
   entries_keep g h = graph_each C EntryKeeps OpKeepsKeys BlockKeepsKeys (λ o k. own_keeps o.location o.attributes k) (λ b k. own_keeps b.location b.attributes k) g h.0 h.1
+
+  entries_ruled : (n : ℕ) (es : List (graph.Entry C)) → Each EntryKeeps es → Ruled C (λ i. keeps_key) n es
+  entries_ruled n [] h = tt
+  entries_ruled n (e ∷ es) h = (h.0, entries_ruled (suc n) es h.1)
 
   own_wordy : (l : Option Text) (es : List (Text × Attribute A)) → Each WordyEntry es → Each EntryWordy (own_entry C l (outlined_entries C es))
   own_wordy l es h = own_each EntryWordy l (outlined_entries C es) (each_filter WordyEntry (λ e. outlined C e.1) es h)
@@ -136,11 +140,11 @@ module _ {T A : Type 0} (C : Printing T A) where
     written_resolves =
         let t = written C None g in
         let x = tree_script isolated t done in
-        let y = does_all (section_acts (written_section C all)) done in
+        let y = does_all (section_acts (rule_of t) (written_section C all)) done in
         let m = marks_written isolated None g wordy fit in
         ap (failures same_text no_scope) (tree_follow isolated t done y)
         ∙ (failures_follow same_text no_scope x y
-        ∙ ap₂ ◌++◌ (tree_resolves C isolated g fit small closed keys) ((section_clean C sound reflexive all (entries_keep g keys)).nothing _ (record { marks = marks_in_order isolated None g wordy fit; entries = m.entries })))
+        ∙ ap₂ ◌++◌ (tree_resolves C isolated g fit small closed keys) ((section_clean C sound reflexive (rule_of t) all (entries_ruled 0 all (entries_keep g keys))).nothing _ (record { marks = marks_in_order isolated None g wordy fit; entries = m.entries })))
 
     pub root_resolves : {P X : Type 0} (text : X → Text) (t : Tree P T A) (es : List (Entry P A X)) → bare t ≡ written C None g → bare_section text es ≡ written_section C all → failures_of isolated t es ≡ []
     root_resolves text t es e f = root_resolves_bare text isolated t es (ap₂ (failures_of isolated) e f ∙ written_resolves)

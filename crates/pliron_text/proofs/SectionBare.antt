@@ -10,7 +10,7 @@ use Rattle.pliron_text.specs.WrittenSection.{bare_pair, bare_section_entry, bare
 use Rattle.pliron_text.specs.Script as script
 use Rattle.pliron_text.specs.Script.{Act, Script, done, does_all, act_as, failure_as}
 use Rattle.pliron_text.specs.Scopes.{no_scope, failures}
-use Rattle.pliron_text.specs.Acts.{item_acts, once_at, keeps_if, entry_acts, reference_acts, late_acts, section_acts, tree_script, root_script, failures_of}
+use Rattle.pliron_text.specs.Acts.{item_acts, once_at, keeps_if, entry_acts, reference_acts, late_acts, section_acts, tree_script, root_script, failures_of, Rule, rule_of}
 use Rattle.pliron_text.specs.Contents.{as_text}
 use Rattle.pliron_text.specs.Build.{resolved, content_in, content}
 use Rattle.pliron_text.proofs.Natural.{map_both, failures_natural}
@@ -24,9 +24,9 @@ module _ {P : Type 0} where
   flat_bare F G h e [] = refl
   flat_bare F G h e (u ∷ us) = ap₂ ◌++◌ (e u) (flat_bare F G h e us) ∙ sym (map_both B (F u) (flat_map F us))
 
-  item_bare : {A : Type 0} (e : Name P × Item P A) → item_acts (bare_pair e) ≡ map B (item_acts e)
-  item_bare (n, direct a) = refl
-  item_bare (n, reference m) = refl
+  item_bare : {A : Type 0} (rule : Rule A) (e : Name P × Item P A) → item_acts rule (bare_pair e) ≡ map B (item_acts rule e)
+  item_bare rule (n, direct a) = refl
+  item_bare rule (n, reference m) = refl
 
 module _ {P A X Y : Type 0} (text : X → Y) where
   pub once_bare : (i : ℕ) (es : List (Entry P A X)) → once_at i (bare_section text es) ≡ once_at i es
@@ -34,21 +34,21 @@ module _ {P A X Y : Type 0} (text : X → Y) where
   once_bare i (of_item m x items ∷ es) = once_bare i es
   once_bare i (of_once m a ∷ es) = ap (λ o. elim o [ Some b ↦ Some b | None ↦ cond (m.index == i) (Some a) None ]) (once_bare i es)
 
-  entry_bare : (e : Entry P A X) → entry_acts (bare_section_entry text e) ≡ map B (entry_acts e)
-  entry_bare (of_item m x items) = ap (λ z. script.entry m.index tt ∷ z) (flat_bare item_acts item_acts bare_pair item_bare items)
-  entry_bare (of_once m a) = refl
+  entry_bare : (rules : ℕ → Rule A) (e : Entry P A X) → entry_acts rules (bare_section_entry text e) ≡ map B (entry_acts rules e)
+  entry_bare rules (of_item m x items) = ap (λ z. script.entry m.index tt ∷ z) (flat_bare (item_acts (rules m.index)) (item_acts (rules m.index)) bare_pair (item_bare (rules m.index)) items)
+  entry_bare rules (of_once m a) = refl
 
-  reference_bare : (all : List (Entry P A X)) (e : Name P × Item P A) → reference_acts (bare_section text all) (bare_pair e) ≡ map B (reference_acts all e)
-  reference_bare all (n, direct a) = refl
-  reference_bare all (n, reference m) = ap (λ o. script.claim (is_some o) (record { cause = script.UnknownPrintOnce m.index; at = Some tt }) ∷ script.claim (keeps_if n.text o) (record { cause = script.ReservedKey n.text; at = Some tt }) ∷ []) (once_bare m.index all)
+  reference_bare : (rule : Rule A) (all : List (Entry P A X)) (e : Name P × Item P A) → reference_acts rule (bare_section text all) (bare_pair e) ≡ map B (reference_acts rule all e)
+  reference_bare rule all (n, direct a) = refl
+  reference_bare rule all (n, reference m) = ap (λ o. script.claim (is_some o) (record { cause = script.UnknownPrintOnce m.index; at = Some tt }) ∷ script.claim (keeps_if rule n.text o) (record { cause = script.ReservedKey n.text; at = Some tt }) ∷ []) (once_bare m.index all)
 
-  late_bare : (all : List (Entry P A X)) (e : Entry P A X) → late_acts (bare_section text all) (bare_section_entry text e) ≡ map B (late_acts all e)
-  late_bare all (of_item m x items) = flat_bare (reference_acts all) (reference_acts (bare_section text all)) bare_pair (reference_bare all) items
-  late_bare all (of_once m a) = refl
+  late_bare : (rules : ℕ → Rule A) (all : List (Entry P A X)) (e : Entry P A X) → late_acts rules (bare_section text all) (bare_section_entry text e) ≡ map B (late_acts rules all e)
+  late_bare rules all (of_item m x items) = flat_bare (reference_acts (rules m.index) all) (reference_acts (rules m.index) (bare_section text all)) bare_pair (reference_bare (rules m.index) all) items
+  late_bare rules all (of_once m a) = refl
 
-  section_bare : (es : List (Entry P A X)) → section_acts (bare_section text es) ≡ map B (section_acts es)
-  section_bare es = ap₂ ◌++◌ (flat_bare entry_acts entry_acts (bare_section_entry text) entry_bare es) (flat_bare (late_acts es) (late_acts (bare_section text es)) (bare_section_entry text) (late_bare es) es)
-      ∙ sym (map_both B (flat_map entry_acts es) (flat_map (late_acts es) es))
+  section_bare : (rules : ℕ → Rule A) (es : List (Entry P A X)) → section_acts rules (bare_section text es) ≡ map B (section_acts rules es)
+  section_bare rules es = ap₂ ◌++◌ (flat_bare (entry_acts rules) (entry_acts rules) (bare_section_entry text) (entry_bare rules) es) (flat_bare (late_acts rules es) (late_acts rules (bare_section text es)) (bare_section_entry text) (late_bare rules es) es)
+      ∙ sym (map_both B (flat_map (entry_acts rules) es) (flat_map (late_acts rules es) es))
 
   resolved_bare : (all : List (Entry P A X)) (e : Name P × Item P A) → resolved (bare_section text all) (bare_pair e) ≡ resolved all e
   resolved_bare all (n, direct a) = refl
@@ -75,7 +75,9 @@ module _ {P A X Y : Type 0} (text : X → Y) where
 
 module _ {P T A X Y : Type 0} (text : X → Y) (isolated : Id → Bool) where
   root_bare : (t : Tree P T A) (es : List (Entry P A X)) → E (root_script isolated t es) ≡ root_script isolated (bare t) (bare_section text es)
-  root_bare t es = tree_bare isolated t (does_all (section_acts es) done) ∙ ap (tree_script isolated (bare t)) (does_bare (section_acts es) done ∙ ap (λ z. does_all z done) (sym (section_bare text es)))
+  root_bare t es =
+      tree_bare isolated t (does_all (section_acts (rule_of t) es) done)
+      ∙ ap (tree_script isolated (bare t)) (does_bare (section_acts (rule_of t) es) done ∙ ap (λ z. does_all z done) (sym (section_bare text (rule_of t) es)))
 
   -- a root with its section resolves where it does without places
   pub root_resolves_bare : (t : Tree P T A) (es : List (Entry P A X)) → failures_of isolated (bare t) (bare_section text es) ≡ [] → failures_of isolated t es ≡ []

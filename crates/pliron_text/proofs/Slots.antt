@@ -10,7 +10,7 @@ use Rattle.pliron_text.specs.Tree.{Name, Mark, Attribute, Piece, Part, Op, Head,
 use Rattle.pliron_text.specs.Script.{Path, Place, User, operand, successor, Act, Script, does_all}
 use Rattle.pliron_text.specs.Script as script
 use Rattle.pliron_text.specs.Scopes.{Fact, lookup}
-use Rattle.pliron_text.specs.Acts.{value_uses, label_uses, result_definitions, argument_definitions, mark_acts, key_act, entries_if, singles, single_labels, piece_acts, closing_acts, header_acts}
+use Rattle.pliron_text.specs.Acts.{value_uses, label_uses, result_definitions, argument_definitions, mark_acts, key_act, entries_if, singles, single_labels, piece_acts, closing_acts, header_acts, Rule, keeps_key, keeps_block_key}
 use Rattle.pliron_text.specs.Build.{BuiltOp, BuiltBlock, Built}
 use Rattle.pliron_text.proofs.Sets.{Same, same_refl, same_path, same_then, same_both, same_swap}
 use Rattle.pliron_text.proofs.Meant.{acts_meant, meant}
@@ -103,9 +103,9 @@ module _ (v l : List (Fact Text)) where
   mark_means_nothing None = refl
   mark_means_nothing (Some m) = refl
 
-  keys_mean_nothing : {P A : Type 0} (es : List (Name P × Attribute A)) → M_acts (map key_act es) ≡ []
-  keys_mean_nothing [] = refl
-  keys_mean_nothing (e ∷ es) = keys_mean_nothing es
+  keys_mean_nothing : {P A : Type 0} (rule : Rule A) (es : List (Name P × Attribute A)) → M_acts (map (key_act rule) es) ≡ []
+  keys_mean_nothing rule [] = refl
+  keys_mean_nothing rule (e ∷ es) = keys_mean_nothing rule es
 
   module _ {P T A : Type 0} where
     pub closing_means_nothing : (p : Path) (o : Op P T A) → M_acts (closing_acts p o) ≡ []
@@ -114,7 +114,7 @@ module _ (v l : List (Fact Text)) where
     pub header_means_nothing : (p : Path) (h : Head P T A) → M_acts (header_acts p h) ≡ []
     header_means_nothing p h =
         let last = script.define_label (record { name = h.label.text; at = h.label.place }) (script.block_at p) ∷ [] in
-        nothing_both (map key_act (entries_if h.attributes)) (argument_definitions p 0 h.arguments ++ (mark_acts h.mark ++ last)) (keys_mean_nothing (entries_if h.attributes))
+        nothing_both (map (key_act keeps_block_key) (entries_if h.attributes)) (argument_definitions p 0 h.arguments ++ (mark_acts h.mark ++ last)) (keys_mean_nothing keeps_block_key (entries_if h.attributes))
         (nothing_both (argument_definitions p 0 h.arguments) (mark_acts h.mark ++ last) (arguments_mean_nothing p 0 h.arguments) (nothing_both (mark_acts h.mark) last (mark_means_nothing h.mark) refl))
 
     -- ---- the parts of a body
@@ -139,7 +139,7 @@ module _ (v l : List (Fact Text)) where
       piece_meant (tree.operands ns) = values_meant p k ns ∙ sym (append-nil (numbered (operand p) k (map look ns)))
       piece_meant (tree.successor i n) = refl
       piece_meant (tree.successors ns) = labels_meant p m ns
-      piece_meant (tree.dictionary es) = keys_mean_nothing es
+      piece_meant (tree.dictionary es) = keys_mean_nothing keeps_key es
       piece_meant (tree.word s) = refl
       piece_meant (tree.attribute key a) = refl
       piece_meant (tree.result_type i x) = refl

@@ -7,8 +7,8 @@ use Rattle.pliron_text.specs.Forest.{Blocks, no_operations, operation}
 use Rattle.pliron_text.specs.Tree.{Piece, Op, Head, Brace, Tree}
 use Rattle.pliron_text.specs.Script.{Path, Act, use_value, use_label, define_value, define_label, mark, entry, claim, Script, done, does, within, does_all}
 use Rattle.pliron_text.specs.Scopes.{Fact, uses, defines, facts}
-use Rattle.pliron_text.specs.Acts.{piece_acts, closing_acts, header_acts, blocks_script, tree_script}
-use Rattle.pliron_text.specs.Resolves.{texts, marked_as, all_in_regions, all_in_blocks, shared, kept_inside, everywhere}
+use Rattle.pliron_text.specs.Acts.{piece_acts, closing_acts, header_acts, blocks_script, tree_script, marked_as}
+use Rattle.pliron_text.specs.Resolves.{texts, all_in_regions, all_in_blocks, shared, kept_inside, everywhere}
 use Rattle.pliron_text.proofs.ResolvedScript.{defined, used, defined_both}
 use Rattle.pliron_text.proofs.ActsOfTrees.{act_of, values_in, labels_in, piece_gives, closing_gives, header_gives}
 use Rattle.pliron_text.proofs.InScripts as scripts

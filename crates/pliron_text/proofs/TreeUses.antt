@@ -9,8 +9,8 @@ use Rattle.pliron_text.specs.Tree as tree
 use Rattle.pliron_text.specs.Tree.{Name, Piece, Part, Op, Head, Brace, Tree, parts_of, views}
 use Rattle.pliron_text.specs.Script.{Path, Act, use_value, use_label, define_value, define_label, mark, entry, claim, Script, done, does, within, does_all}
 use Rattle.pliron_text.specs.Scopes.{facts}
-use Rattle.pliron_text.specs.Acts.{piece_acts, closing_acts, header_acts, blocks_script, tree_script}
-use Rattle.pliron_text.specs.Resolves.{texts, marked_as, all_in_regions, all_in_blocks, all_in_operations, shared, kept_inside, used_values, used_labels}
+use Rattle.pliron_text.specs.Acts.{piece_acts, closing_acts, header_acts, blocks_script, tree_script, marked_as}
+use Rattle.pliron_text.specs.Resolves.{texts, all_in_regions, all_in_blocks, all_in_operations, shared, kept_inside, used_values, used_labels}
 use Rattle.pliron_text.proofs.ResolvedScript.{used, each_both, each_left, each_right}
 use Rattle.pliron_text.proofs.ActsOfTrees.{act_of, values_in, labels_in, piece_gives, closing_gives, header_gives}
 use Rattle.pliron_text.proofs.InScripts as scripts

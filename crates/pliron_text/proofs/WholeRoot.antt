@@ -7,7 +7,7 @@ use Rattle.irtext_base.specs.Own.{Texts, Language, language, Lawful, Unreserved,
 use Rattle.pliron_text.specs.Forest.{Regions, no_regions, region, Blocks, no_blocks, block, Operations, no_operations, operation, AllRegions, AllBlocks, AllOperations}
 use Rattle.pliron_text.specs.Graph.{Graph, GraphOp, GraphBlock, Printing}
 use Rattle.pliron_text.specs.Script.{done, does_all}
-use Rattle.pliron_text.specs.Acts.{section_acts, failures_of}
+use Rattle.pliron_text.specs.Acts.{section_acts, failures_of, rule_of}
 use Rattle.pliron_text.specs.Closed.{Fit, Closed}
 use Rattle.pliron_text.specs.Fillable.{GraphKeepsKeys}
 use Rattle.pliron_text.specs.KeysDiffer.{GraphKeysDiffer}
@@ -71,7 +71,7 @@ module _ {T A X : Type 0} (types : Texts T) (owns : Texts A) (types_law : Lawful
       let resolves = root_resolves C sound reflexive isolated g wordy fit small keys closed K.text t es r.4 r.5 in
       let says = contents_back C sound reflexive K.text g t es r.4 r.5 in
       let formed = formed_read L (λ p q h. h) t _ r.3.0 (accepted_written C isolated L (λ i. refl) g t fit r.4) r.3.1 in
-      (t, es, r.2, r.3, r.6, resolves, fillings C isolated K first position es g t (does_all (section_acts es) done) fit small keys (held_differ location_at K g held) r.4 formed resolves says)
+      (t, es, r.2, r.3, r.6, resolves, fillings C isolated K first position es g t (does_all (section_acts (rule_of t) es) done) fit small keys (held_differ location_at K g held) r.4 formed resolves says)
 
   -- whatever the text reads as is that
   pub each_comes_back : (g : Graph T A) (width n : ℕ) → ComesBack types owns location_at K first C isolated g width n

@@ -1,5 +1,5 @@
 -- What the reading of a tree and of its section does with names: an act for each, in reading order.
-use Rattle.std.specs.Prelude.{ℕ, suc, Bool, true, false, cond, not, ◌||◌, ◌==◌, List, [], ◌∷◌, ◌++◌, length, map, flat_map, Option, Some, None, is_some}
+use Rattle.std.specs.Prelude.{ℕ, suc, Bool, true, false, cond, not, ◌||◌, ◌==◌, List, [], ◌∷◌, ◌++◌, length, map, flat_map, Option, Some, None, is_some, option_map, option_to_list}
 use Rattle.irtext_base.specs.Text.{Text}
 use Rattle.irtext_base.specs.Format.{same_text, given_names_key, Id}
 use Rattle.pliron_text.specs.Forest.{Regions, no_regions, region, Blocks, no_blocks, block, Operations, no_operations, operation}
@@ -47,9 +47,17 @@ is_given a = elim a [ given_names ns ↦ true | _ ↦ false ]
 abbrev pub keeps_key : {A : Type 0} → Text → Attribute A → Bool
 keeps_key k a = not (same_text k given_names_key) || is_given a
 
--- an entry of a dictionary: its key is not the reserved one, or has given names
-abbrev pub key_act : {P A : Type 0} → Name P × Attribute A → Act Text P
-key_act e = claim (keeps_key e.0.text e.1) (record { cause = ReservedKey e.0.text; at = Some e.0.place })
+-- which attributes may stand under a key
+abbrev pub Rule : Type 0 → Type 0
+Rule A = Text → Attribute A → Bool
+
+-- what may stand in a block's dictionary
+abbrev pub keeps_block_key : {A : Type 0} → Rule A
+keeps_block_key k a = keeps_key k a
+
+-- an entry of a dictionary: its attribute may stand under its key
+abbrev pub key_act : {P A : Type 0} → Rule A → Name P × Attribute A → Act Text P
+key_act rule e = claim (rule e.0.text e.1) (record { cause = ReservedKey e.0.text; at = Some e.0.place })
 
 -- how many operands, and successors, have a directive of their own
 abbrev pub singles : {P T A : Type 0} → List (Part P T A) → ℕ
@@ -86,7 +94,7 @@ module _ {P T A : Type 0} where
   piece_acts p k l (tree.operands ns) = value_uses p k ns
   piece_acts p k l (tree.successor i n) = use_label (word_of n) (successor p i) ∷ []
   piece_acts p k l (tree.successors ns) = label_uses p l ns
-  piece_acts p k l (tree.dictionary es) = map key_act es
+  piece_acts p k l (tree.dictionary es) = map (key_act keeps_key) es
   piece_acts p k l _ = []
 
   -- the parts, with what their regions do, in their order
@@ -104,7 +112,7 @@ module _ {P T A : Type 0} where
 
   -- the header is read whole before its names count
   abbrev pub header_acts : Path → Head P T A → List (Act Text P)
-  header_acts p h = map key_act (entries_if h.attributes) ++ (argument_definitions p 0 h.arguments ++ (mark_acts h.mark ++ define_label (word_of h.label) (block_at p) ∷ []))
+  header_acts p h = map (key_act keeps_block_key) (entries_if h.attributes) ++ (argument_definitions p 0 h.arguments ++ (mark_acts h.mark ++ define_label (word_of h.label) (block_at p) ∷ []))
 
   -- an operation: its parts in the order of the text, then its end
   abbrev pub operation_script : Path → Op P T A → List (Script Text P → Script Text P) → Script Text P → Script Text P
@@ -132,14 +140,14 @@ module _ {P T A : Type 0} where
     tree_script t then = operation_script [] t.own (region_scripts [] 0 (isolated t.own.id) t.regions) then
 
 -- ---- the section
-abbrev pub item_acts : {P A : Type 0} → Name P × Item P A → List (Act Text P)
-item_acts (n, direct a) = key_act (n, a) ∷ []
-item_acts (n, reference m) = []
+abbrev pub item_acts : {P A : Type 0} → Rule A → Name P × Item P A → List (Act Text P)
+item_acts rule (n, direct a) = key_act rule (n, a) ∷ []
+item_acts rule (n, reference m) = []
 
 -- the attribute, if there is one, may stand under the key
-abbrev pub keeps_if : {A : Type 0} → Text → Option (Attribute A) → Bool
-keeps_if k None = true
-keeps_if k (Some a) = keeps_key k a
+abbrev pub keeps_if : {A : Type 0} → Rule A → Text → Option (Attribute A) → Bool
+keeps_if rule k None = true
+keeps_if rule k (Some a) = rule k a
 
 module _ {P A X : Type 0} where
   -- the later of two entries of one index
@@ -148,29 +156,38 @@ module _ {P A X : Type 0} where
   once_at i (of_item m x items ∷ es) = once_at i es
   once_at i (of_once m a ∷ es) = elim (once_at i es) [ Some b ↦ Some b | None ↦ cond (m.index == i) (Some a) None ]
 
-  -- an entry as it stands: its index, and the keys that it writes out
-  abbrev pub entry_acts : Entry P A X → List (Act Text P)
-  entry_acts (of_item m x items) = entry m.index m.place ∷ flat_map item_acts items
-  entry_acts (of_once m a) = []
+  -- an entry as it stands: its index, and the keys that it writes out, by the rule of the item with that mark
+  abbrev pub entry_acts : (ℕ → Rule A) → Entry P A X → List (Act Text P)
+  entry_acts rules (of_item m x items) = entry m.index m.place ∷ flat_map (item_acts (rules m.index)) items
+  entry_acts rules (of_once m a) = []
 
   -- a reference of an entry: its index is one of those written once, and its key may have that attribute
-  abbrev pub reference_acts : List (Entry P A X) → Name P × Item P A → List (Act Text P)
-  reference_acts all (n, direct a) = []
-  reference_acts all (n, reference m) = claim (is_some (once_at m.index all)) (record { cause = UnknownPrintOnce m.index; at = Some m.place })
-      ∷ claim (keeps_if n.text (once_at m.index all)) (record { cause = ReservedKey n.text; at = Some n.place }) ∷ []
+  abbrev pub reference_acts : Rule A → List (Entry P A X) → Name P × Item P A → List (Act Text P)
+  reference_acts rule all (n, direct a) = []
+  reference_acts rule all (n, reference m) = claim (is_some (once_at m.index all)) (record { cause = UnknownPrintOnce m.index; at = Some m.place })
+      ∷ claim (keeps_if rule n.text (once_at m.index all)) (record { cause = ReservedKey n.text; at = Some n.place }) ∷ []
 
   -- what an entry does behind the last one: its references
-  abbrev pub late_acts : List (Entry P A X) → Entry P A X → List (Act Text P)
-  late_acts all (of_item m x items) = flat_map (reference_acts all) items
-  late_acts all (of_once m a) = []
+  abbrev pub late_acts : (ℕ → Rule A) → List (Entry P A X) → Entry P A X → List (Act Text P)
+  late_acts rules all (of_item m x items) = flat_map (reference_acts (rules m.index) all) items
+  late_acts rules all (of_once m a) = []
 
   -- each entry as it stands; references after the last
-  abbrev pub section_acts : List (Entry P A X) → List (Act Text P)
-  section_acts es = flat_map entry_acts es ++ flat_map (late_acts es) es
+  abbrev pub section_acts : (ℕ → Rule A) → List (Entry P A X) → List (Act Text P)
+  section_acts rules es = flat_map (entry_acts rules) es ++ flat_map (late_acts rules es) es
+
+-- the index of an item's mark, if it has one
+abbrev pub marked_as : {P : Type 0} → Option (Mark P) → List ℕ
+marked_as m = option_to_list (option_map (λ m. m.index) m)
+
+module _ {P T A : Type 0} where
+  -- what may stand in the entry of a mark
+  abbrev pub rule_of : Tree P T A → ℕ → Rule A
+  rule_of t i = keeps_key
 
 -- what reading a root with its section does, and what is wrong there: a root resolves where that is nothing
 abbrev pub root_script : {P T A X : Type 0} → (Id → Bool) → Tree P T A → List (Entry P A X) → Script Text P
-root_script isolated t es = tree_script isolated t (does_all (section_acts es) done)
+root_script isolated t es = tree_script isolated t (does_all (section_acts (rule_of t) es) done)
 
 -- what is wrong in a root and its section, in reading order
 abbrev pub failures_of : {P T A X : Type 0} → (Id → Bool) → Tree P T A → List (Entry P A X) → List (Failure Text P)

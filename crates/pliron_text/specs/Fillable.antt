@@ -5,11 +5,15 @@ use Rattle.irtext_base.specs.Text.{Text}
 use Rattle.pliron_text.specs.Forest.{AllRegions}
 use Rattle.pliron_text.specs.Tree.{Attribute}
 use Rattle.pliron_text.specs.Graph.{Graph, GraphOp, GraphBlock}
-use Rattle.pliron_text.specs.Acts.{keeps_key}
+use Rattle.pliron_text.specs.Acts.{Rule, keeps_key, keeps_block_key}
+
+-- each entry of the dictionary may stand there
+abbrev pub KeepsRule : {A : Type 0} → Rule A → List (Text × Attribute A) → Type 0
+KeepsRule rule es = list_all (λ e. rule e.0 e.1) es ≡ true
 
 -- an entry of the dictionary under the reserved key has given names
 abbrev pub KeepsKeys : {A : Type 0} → List (Text × Attribute A) → Type 0
-KeepsKeys es = list_all (λ e. keeps_key e.0 e.1) es ≡ true
+KeepsKeys es = KeepsRule keeps_key es
 
 -- the operation's dictionary keeps the reserved key
 abbrev pub OpKeepsKeys : {T A : Type 0} → GraphOp T A → Type 0
@@ -17,7 +21,7 @@ OpKeepsKeys o = KeepsKeys o.attributes
 
 -- the block's dictionary keeps the reserved key
 abbrev pub BlockKeepsKeys : {T A : Type 0} → GraphBlock T A → Type 0
-BlockKeepsKeys h = KeepsKeys h.attributes
+BlockKeepsKeys h = KeepsRule keeps_block_key h.attributes
 
 -- each dictionary of the graph keeps the reserved key
 abbrev pub GraphKeepsKeys : {T A : Type 0} → Graph T A → Type 0

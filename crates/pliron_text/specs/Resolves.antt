@@ -1,12 +1,12 @@
 -- Which roots resolve with their sections, property by property.
-use Rattle.std.specs.Prelude.{◌≡◌, ℕ, Bool, true, cond, ◌==◌, List, [], ◌∷◌, ◌++◌, map, flat_map, length, is_some, option_to_list, option_map, Option, ⊤}
+use Rattle.std.specs.Prelude.{◌≡◌, ℕ, Bool, true, cond, ◌==◌, List, [], ◌∷◌, ◌++◌, map, flat_map, length, is_some, ⊤}
 use Rattle.irtext_base.specs.Text.{Text}
 use Rattle.irtext_base.specs.Format.{Id, same_text, has, distinct}
 use Rattle.pliron_text.specs.Forest.{Regions, no_regions, region, Blocks, no_blocks, block, Operations, no_operations, operation, AllRegions}
 use Rattle.pliron_text.specs.Tree as tree
 use Rattle.pliron_text.specs.Tree.{Name, Mark, Attribute, Op, Head, Brace, Tree, parts_of, views}
 use Rattle.pliron_text.specs.ReadSection.{Item, direct, reference, Entry, of_item, of_once}
-use Rattle.pliron_text.specs.Acts.{once_at, keeps_key, keeps_if, result_types, entries_if}
+use Rattle.pliron_text.specs.Acts.{Rule, once_at, keeps_key, keeps_block_key, keeps_if, result_types, entries_if, marked_as, rule_of}
 use Rattle.pliron_text.specs.Fine.{Each}
 use Rattle.pliron_text.specs.Writable.{has_region}
 
@@ -14,13 +14,9 @@ use Rattle.pliron_text.specs.Writable.{has_region}
 abbrev pub texts : {P : Type 0} → List (Name P) → List Text
 texts ns = map (λ n. n.text) ns
 
--- the index of an item's mark, if it has one
-abbrev pub marked_as : {P : Type 0} → Option (Mark P) → List ℕ
-marked_as m = option_to_list (option_map (λ m. m.index) m)
-
--- the reserved keys of a dictionary have given names
-abbrev pub KeysKept : {P A : Type 0} → List (Name P × Attribute A) → Type 0
-KeysKept es = Each (λ e. keeps_key e.0.text e.1 ≡ true) es
+-- each entry of a dictionary may stand there
+abbrev pub KeysKept : {P A : Type 0} → Rule A → List (Name P × Attribute A) → Type 0
+KeysKept rule es = Each (λ e. rule e.0.text e.1 ≡ true) es
 
 -- what is defined and what is used where names have one meaning
 pub record Scope : Type 0 where
@@ -50,17 +46,22 @@ module _ {P A X : Type 0} where
   is_known es (n, direct a) = true
   is_known es (n, reference m) = is_some (once_at m.index es)
 
-  -- the reserved key has given names, itself or by its reference
-  abbrev pub is_kept : List (Entry P A X) → Name P × Item P A → Bool
-  is_kept es (n, direct a) = keeps_key n.text a
-  is_kept es (n, reference m) = keeps_if n.text (once_at m.index es)
+  -- the attribute may stand under its key, itself or by its reference
+  abbrev pub is_kept : Rule A → List (Entry P A X) → Name P × Item P A → Bool
+  is_kept rule es (n, direct a) = rule n.text a
+  is_kept rule es (n, reference m) = keeps_if rule n.text (once_at m.index es)
+
+  -- what the entry of an item gives may stand there
+  abbrev pub EntryKept : (ℕ → Rule A) → List (Entry P A X) → Entry P A X → Type 0
+  EntryKept rules es (of_item m x pairs) = Each (λ i. is_kept (rules m.index) es i ≡ true) pairs
+  EntryKept rules es (of_once m a) = ⊤
 
   -- each entry is of a mark, no mark has two, and references and reserved keys are right
-  pub record SectionResolves (marks : List ℕ) (es : List (Entry P A X)) : Type 0 where
+  pub record SectionResolves (rules : ℕ → Rule A) (marks : List ℕ) (es : List (Entry P A X)) : Type 0 where
     pub one_each : distinct ◌==◌ (indices es) ≡ true
     pub marked : Each (λ i. has ◌==◌ i marks ≡ true) (indices es)
     pub known : Each (λ i. is_known es i ≡ true) (items es)
-    pub kept : Each (λ i. is_kept es i ≡ true) (items es)
+    pub kept : Each (EntryKept rules es) es
 
 -- ---- the root
 -- the values of an isolated operation's region are its own; those of another belong to the scope round it
@@ -90,11 +91,11 @@ module _ {P T A : Type 0} where
 
   -- the reserved keys of an operation's dictionary have given names
   abbrev pub OpKeysKept : Op P T A → Type 0
-  OpKeysKept o = KeysKept (views (λ p. elim p [ tree.dictionary es ↦ es | _ ↦ [] ]) (parts_of o.body))
+  OpKeysKept o = KeysKept keeps_key (views (λ p. elim p [ tree.dictionary es ↦ es | _ ↦ [] ]) (parts_of o.body))
 
   -- those of a block's dictionary
   abbrev pub HeadKeysKept : Head P T A → Type 0
-  HeadKeysKept h = KeysKept (entries_if h.attributes)
+  HeadKeysKept h = KeysKept keeps_block_key (entries_if h.attributes)
 
   module _ (isolated : Id → Bool) where
     -- What the operations and the blocks of a forest have, the inner before the outer; `outward` is what a region says of
@@ -163,4 +164,4 @@ module _ {P T A : Type 0} where
       pub once : Each DefinesOnce (scopes_of t)
       pub known : Each DefinesUsed (scopes_of t)
       pub marks : distinct ◌==◌ (marks_of t) ≡ true
-      pub section : SectionResolves (marks_of t) es
+      pub section : SectionResolves (rule_of t) (marks_of t) es

@@ -1,5 +1,5 @@
 use Rattle.irtext_base.specs.Own.{language, texts_of}
-use Rattle.pliron_text.specs.Acts.{section_acts}
+use Rattle.pliron_text.specs.Acts.{section_acts, rule_of}
 use Rattle.pliron_text.specs.Script.{does_all, done}
 use Rattle.pliron_text.proofs.Formed.{each_accepted, formed_read}
 use Rattle.pliron_text.proofs.Holding.{all_there}
@@ -8,4 +8,4 @@ use Rattle.pliron_text.proofs.laws.operands_are_there.Goals as goal
 pub returns : goal.returns
 returns g c formats isolated first es t text rest accepted r e =
     let l = language (texts_of g.T.IrText.reading g.T.IrText.written) (texts_of g.A.IrText.reading g.A.IrText.written) formats in
-    all_there isolated first es t (formed_read l (λ p q h. h) t text rest (each_accepted l accepted t) r) (does_all (section_acts es) done) e
+    all_there isolated first es t (formed_read l (λ p q h. h) t text rest (each_accepted l accepted t) r) (does_all (section_acts (rule_of t) es) done) e

@@ -1,7 +1,7 @@
 use Rattle.std.specs.Prelude.{refl}
 use Rattle.irtext_base.specs.Own.{language, texts_of}
 use Rattle.pliron_text.specs.Script.{done, does_all}
-use Rattle.pliron_text.specs.Acts.{section_acts}
+use Rattle.pliron_text.specs.Acts.{section_acts, rule_of}
 use Rattle.pliron_text.proofs.Formed.{formed_read}
 use Rattle.pliron_text.proofs.WrittenAs.{accepted_written}
 use Rattle.pliron_text.proofs.Fillings.{fillings}
@@ -11,4 +11,4 @@ pub returns : goal.returns
 returns g c C isolated K first es x t text rest position fit small keys differ e r resolves says =
     let l = language (texts_of g.T.IrText.reading g.T.IrText.written) (texts_of g.A.IrText.reading g.A.IrText.written) C.format_of in
     let formed = formed_read l (λ p q h. h) t text rest (accepted_written C isolated l (λ i. refl) x t fit e) r in
-    fillings C isolated K first position es x t (does_all (section_acts es) done) fit small keys differ e formed resolves says
+    fillings C isolated K first position es x t (does_all (section_acts (rule_of t) es) done) fit small keys differ e formed resolves says
