@@ -38,7 +38,7 @@ module _ {P T A X Y : Type 0} (isolated : Id → Bool) (first : P → X) (es : L
   }
 
   shape_head : (a : StoodBlock T A) (h : Head P T A) → SameBlockShape a (built_head isolated bare_first bare_es (bare_head h)) → SameBlockShape a (built_head isolated first es h)
-  shape_head a h s = record { label = s.label; argument_types = s.argument_types ∙ mapped_twice bare_argument (λ (x : Name ⊤ × T). x.1) h.arguments }
+  shape_head a h s = record { argument_types = s.argument_types ∙ mapped_twice bare_argument (λ (x : Name ⊤ × T). x.1) h.arguments }
 
   mutual
     shape_regions : (a : Regions (StoodOp T A) (StoodBlock T A) ⊤) (w v : List (Fact Text)) (p : Path) (j : ℕ) (iso : Bool) (rs : Regions (Op P T A) (Head P T A) (Brace P)) → w ≡ v

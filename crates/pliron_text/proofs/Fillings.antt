@@ -8,16 +8,16 @@ use Rattle.pliron_text.specs.Forest.{Regions, no_regions, region, Blocks, no_blo
 use Rattle.pliron_text.specs.Tree as tree
 use Rattle.pliron_text.specs.Tree.{Name, Attribute, Piece, Part, Body, custom, canonical, Op, Head, Brace, Tree, views, parts_of}
 use Rattle.pliron_text.specs.Bare.{bare_name, bare_entry, bare_piece, bare_part, bare_argument, bare_body, bare}
-use Rattle.pliron_text.specs.Graph.{Graph, GraphOp, GraphBlock, Printing, value, inline, entries, is_marked, body_of, written, op_outlined, block_outlined, outlined_entries}
+use Rattle.pliron_text.specs.Graph.{Graph, GraphOp, GraphBlock, Printing, value, inline, entries, is_marked, body_of, written, op_outlined, block_outlined, outlined_entries, label_entry, outlined}
 use Rattle.pliron_text.specs.ReadSection.{Entry}
 use Rattle.pliron_text.specs.Script.{Path, Script}
 use Rattle.pliron_text.specs.Scopes.{Fact, no_scope, failures}
-use Rattle.pliron_text.specs.Acts.{entries_if, tree_script}
-use Rattle.pliron_text.specs.Build.{stored, plain_entry, inline_entries, put_all, read_names, content, located, with_content, built_op, built_head, built_regions, built_blocks, built_operations, build}
-use Rattle.pliron_text.specs.Closed.{Thing, FitsFormat, FitRegions, FitBlocks, FitOperations, Fit}
-use Rattle.pliron_text.specs.Fillable.{KeepsKeys, OpKeepsKeys, BlockKeepsKeys, GraphKeepsKeys}
+use Rattle.pliron_text.specs.Acts.{keeps_block_key, entries_if, tree_script}
+use Rattle.pliron_text.specs.Build.{stored, plain_entry, inline_entries, put_all, read_names, content, located, with_content, labelled, but_label, built_op, built_head, built_regions, built_blocks, built_operations, build}
+use Rattle.pliron_text.specs.Closed.{Thing, a_block, printed, FitsFormat, FitRegions, FitBlocks, FitOperations, Fit}
+use Rattle.pliron_text.specs.Fillable.{KeepsRule, KeepsKeys, OpKeepsKeys, BlockKeepsKeys, GraphKeepsKeys}
 use Rattle.pliron_text.specs.RoundTrip.{KeysDiffer}
-use Rattle.pliron_text.specs.Same.{SmallGraph, stood_op, stood_block, stood_regions, stood_blocks, stood_operations, stood, Locations, SameShape, SameBlockShape, SameDictionary, SameLocation, SameOp, SameBlock, SameShapes, UpToFillings}
+use Rattle.pliron_text.specs.Same.{SmallGraph, stood_op, stood_block, stood_regions, stood_blocks, stood_operations, stood, Locations, SameShape, SameBlockShape, SameDictionary, SameLocation, SameLabel, SameOp, SameBlock, SameShapes, UpToFillings}
 use Rattle.pliron_text.specs.KeysDiffer.{GraphKeysDiffer}
 use Rattle.pliron_text.specs.WrittenSection.{own_content}
 use Rattle.pliron_text.specs.Contents.{as_text, OpContent, BlockContent, Contents}
@@ -27,7 +27,8 @@ use Rattle.pliron_text.proofs.BareScript.{mapped_twice}
 use Rattle.pliron_text.proofs.BareBuild.{shapes_bare}
 use Rattle.pliron_text.proofs.Match.{same_shapes}
 use Rattle.pliron_text.proofs.Dictionaries.{Picks, picks_filter}
-use Rattle.pliron_text.proofs.Together.{inlined, content_added, same_dictionary}
+use Rattle.pliron_text.proofs.Together.{inlined, content_added, content_but_label, content_label, block_keeps, same_dictionary}
+use Rattle.pliron_text.proofs.KeptWritten.{keeps_filter}
 use Rattle.pliron_text.proofs.InlineEntries.{plainly, written_picks}
 use Rattle.pliron_text.proofs.Numbering.{some_inside}
 use Rattle.pliron_text.proofs.WrittenAs.{WrittenOp, WrittenBlock, written_as}
@@ -117,15 +118,27 @@ module _ {P T A X : Type 0} (C : Printing T A) (isolated : Id → Bool) (K : Loc
   located_same (Some l) ds m p (None, e, g) = absurd g
   located_same (Some l) ds m p (Some x, e, g) = subst (λ c. SameLocation K (Some l) (located (first p) c)) (sym e) g
 
-  -- with what was read of the item, and what its mark's content is
-  dictionary_same : (l : Option Text) (ds : List (Text × Attribute A)) (m : Option (tree.Mark P)) (names ns : List Text) (here shown : List (Text × Attribute A))
-      → KeysDiffer ds → KeepsKeys ds → Picks (inlined C) ds shown → here ≡ shown → ns ≡ names → SaysOf C K es l (outlined_entries C ds) m → SameDictionary names ds (with_content (put_all [] (here ++ read_names ns)) (content es m))
-  dictionary_same l ds m names ns here shown d k p e f s =
-      subst (SameDictionary names ds)
-      (sym (ap₂ (λ xs c. with_content (put_all [] (xs ++ read_names ns)) c) e s.1
-      ∙ (ap (λ z. with_content (put_all [] (shown ++ read_names z)) (cond (is_marked C l (outlined_entries C ds)) (Some (s.0, outlined_entries C ds)) None)) f
-      ∙ content_added C l (outlined_entries C ds) (put_all [] (shown ++ read_names names)) s.0)))
-      (same_dictionary C names ds shown d k p)
+  -- with what was read of the item, and what its mark's content adds to that
+  dictionary_same : (ds : List (Text × Attribute A)) (c : Option (Option X × List (Text × Attribute A))) (names ns : List Text) (here shown : List (Text × Attribute A))
+      → KeysDiffer ds → KeepsKeys ds → Picks (inlined C) ds shown → here ≡ shown → ns ≡ names → ((base : List (Text × Attribute A)) → with_content base c ≡ put_all base (outlined_entries C ds))
+      → SameDictionary names ds (with_content (put_all [] (here ++ read_names ns)) c)
+  dictionary_same ds c names ns here shown d k p e f adds =
+      subst (SameDictionary names ds) (sym (ap₂ (λ xs z. with_content (put_all [] (xs ++ read_names z)) c) e f ∙ adds (put_all [] (shown ++ read_names names)))) (same_dictionary C names ds shown d k p)
+
+  op_adds : (l : Option Text) (ds : List (Text × Attribute A)) (m : Option (tree.Mark P)) → SaysOf C K es l ds m → (base : List (Text × Attribute A)) → with_content base (content es m) ≡ put_all base ds
+  op_adds l ds m s base = ap (with_content base) s.1 ∙ content_added C l ds base s.0
+
+  block_adds : (l o : Option Text) (ds : List (Text × Attribute A)) (m : Option (tree.Mark P)) → KeepsRule keeps_block_key ds → SaysOf C K es l (label_entry o ++ ds) m
+      → (base : List (Text × Attribute A)) → with_content base (but_label (content es m)) ≡ put_all base ds
+  block_adds l o ds m k s base = ap (λ c. with_content base (but_label c)) s.1 ∙ content_but_label C l o ds base s.0 k
+
+  same_label : (o : Option Text) (name t x : Text) → t ≡ name → x ≡ elim o [ Some n ↦ n | None ↦ t ] → SameLabel name o x
+  same_label None name t x e h = h ∙ e
+  same_label (Some n) name t x e h = h
+
+  label_same : (l o : Option Text) (ds : List (Text × Attribute A)) (m : Option (tree.Mark P)) (name t : Text) → t ≡ name → KeepsRule keeps_block_key ds → SaysOf C K es l (label_entry o ++ ds) m
+      → SameLabel name o (labelled t (content es m))
+  label_same l o ds m name t e k s = same_label o name t _ e (ap (labelled t) s.1 ∙ content_label C l o ds t s.0 k)
 
   op_same : (w m : List (Fact Thing)) (v l : List (Fact Text)) (o : GraphOp T A) (p : Op P T A) (n : ℕ) → FitsFormat C isolated (C.format_of o.id) o n → OpKeepsKeys o → KeysDiffer o.attributes → WrittenOp C o p
       → SaysOf C K es o.location (op_outlined C o) p.mark → SameShape (stood_op C isolated w m o) (built_op isolated first es v l p) → OpLinked (built_op isolated first es v l p) → SameOp K (stood_op C isolated w m o) (built_op isolated first es v l p)
@@ -134,9 +147,9 @@ module _ {P T A X : Type 0} (C : Printing T A) (isolated : Id → Bool) (K : Loc
     operands_there = t.0;
     successors_there = t.1;
     dictionary =
-        dictionary_same o.location o.attributes p.mark _ (map (λ n. n.text) p.names) (inline_entries p) (views stored (parts_of (body_of C o (C.format_of o.id)))) d k (written_picks C isolated o d n (C.format_of o.id) f)
+        dictionary_same o.attributes (content es p.mark) _ (map (λ n. n.text) p.names) (inline_entries p) (views stored (parts_of (body_of C o (C.format_of o.id)))) d k (written_picks C isolated o d n (C.format_of o.id) f)
         (sym (body_stored p.body) ∙ ap (λ z. views stored (parts_of z.body)) r.1)
-        (sym (mapped_twice bare_name (λ n. n.text) p.names) ∙ (ap (λ z. map (λ n. n.text) z.names) r.1 ∙ mapped_twice (λ (r : ℕ × T). value C r.0) (λ n. n.text) o.results)) s;
+        (sym (mapped_twice bare_name (λ n. n.text) p.names) ∙ (ap (λ z. map (λ n. n.text) z.names) r.1 ∙ mapped_twice (λ (r : ℕ × T). value C r.0) (λ n. n.text) o.results)) (op_adds o.location (op_outlined C o) p.mark s);
     location = located_same o.location (op_outlined C o) p.mark p.place s;
   }
 
@@ -144,14 +157,18 @@ module _ {P T A X : Type 0} (C : Printing T A) (isolated : Id → Bool) (K : Loc
   head_entries [] = refl
   head_entries (e ∷ ds) = refl
 
+  kept : (b : GraphBlock T A) → BlockKeepsKeys b → KeepsRule keeps_block_key (outlined_entries C b.attributes)
+  kept b k = keeps_filter keeps_block_key (λ e. outlined C e.1) b.attributes k
+
   block_same : (b : GraphBlock T A) (h : Head P T A) → BlockKeepsKeys b → KeysDiffer b.attributes → WrittenBlock C b h → SaysOf C K es b.location (block_outlined C b) h.mark → SameBlockShape (stood_block C isolated b) (built_head isolated first es h)
       → SameBlock K (stood_block C isolated b) (built_head isolated first es h)
   block_same b h k d r s e = record {
     shape = e;
+    label = label_same b.location (C.label b.place) (outlined_entries C b.attributes) h.mark (printed C (a_block b.place)) h.label.text (ap (λ z. z.label.text) r.1) (kept b k) s;
     dictionary =
-        dictionary_same b.location b.attributes h.mark _ (map (λ a. a.0.text) h.arguments) (map plain_entry (entries_if h.attributes)) (inline C b.attributes) d k (picks_filter (inlined C) b.attributes d)
+        dictionary_same b.attributes (but_label (content es h.mark)) _ (map (λ a. a.0.text) h.arguments) (map plain_entry (entries_if h.attributes)) (inline C b.attributes) d (block_keeps b.attributes k) (picks_filter (inlined C) b.attributes d)
         (sym (entries_stored h.attributes) ∙ (ap (λ z. map plain_entry (entries_if z.attributes)) r.1 ∙ (ap (map plain_entry) (head_entries (entries C (inline C b.attributes))) ∙ plainly C (inline C b.attributes))))
-        (sym (mapped_twice bare_argument (λ (a : Name ⊤ × T). a.0.text) h.arguments) ∙ (ap (λ z. map (λ a. a.0.text) z.arguments) r.1 ∙ mapped_twice (λ (a : ℕ × T). (value C a.0, a.1)) (λ (a : Name ⊤ × T). a.0.text) b.arguments)) s;
+        (sym (mapped_twice bare_argument (λ (a : Name ⊤ × T). a.0.text) h.arguments) ∙ (ap (λ z. map (λ a. a.0.text) z.arguments) r.1 ∙ mapped_twice (λ (a : ℕ × T). (value C a.0, a.1)) (λ (a : Name ⊤ × T). a.0.text) b.arguments)) (block_adds b.location (C.label b.place) (outlined_entries C b.attributes) h.mark (kept b k) s);
     location = located_same b.location (block_outlined C b) h.mark h.label.place s;
   }
 

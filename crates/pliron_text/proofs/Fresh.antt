@@ -12,15 +12,15 @@ pub not_is : (b : Bool) → b ≡ false → not b ≡ true
 not_is true e = sym e
 not_is false e = refl
 
-neither_left : (a b : Bool) → (a || b) ≡ false → a ≡ false
+pub neither_left : (a b : Bool) → (a || b) ≡ false → a ≡ false
 neither_left true b e = e
 neither_left false b e = refl
 
-neither_right : (a b : Bool) → (a || b) ≡ false → b ≡ false
+pub neither_right : (a b : Bool) → (a || b) ≡ false → b ≡ false
 neither_right true b e = absurd (true≢false e)
 neither_right false b e = e
 
-neither : (a b : Bool) → a ≡ false → b ≡ false → (a || b) ≡ false
+pub neither : (a b : Bool) → a ≡ false → b ≡ false → (a || b) ≡ false
 neither true b e f = e
 neither false b e f = f
 
@@ -47,7 +47,7 @@ module _ {X : Type 0} (same : X → X → Bool) where
   fresh_right before (x ∷ xs) ys f = subst (λ b. Fresh b ys) (append_assoc before (x ∷ []) xs) (fresh_right (before ++ x ∷ []) xs ys f.1)
 
   module _ (symmetric : (x y : X) → same x y ≡ same y x) where
-    has_both : (x : X) (xs ys : List X) → has same x (xs ++ ys) ≡ (has same x xs || has same x ys)
+    pub has_both : (x : X) (xs ys : List X) → has same x (xs ++ ys) ≡ (has same x xs || has same x ys)
     has_both x [] ys = refl
     has_both x (y ∷ xs) ys = go (same x y) (has_both x xs ys)
       where

@@ -1,16 +1,16 @@
 -- Trees of the form that is read so far: what fails of them beside their pieces, and what is built of them.
-use Rattle.std.proofs.Common.{◌≡◌, ℕ, suc, Bool, true, false, ◌==◌, ◌&&◌, ◌||◌, List, Option, Some, None, [], ◌∷◌, ◌++◌, map, length, refl, sym, ◌∙◌, ap, ap₂, append-nil, true≢false, is_some}
+use Rattle.std.proofs.Common.{◌≡◌, ℕ, suc, Bool, true, false, ◌==◌, ◌&&◌, ◌||◌, List, Option, Some, None, [], ◌∷◌, ◌++◌, map, length, refl, sym, ◌∙◌, ap, ap₂, append-nil, true≢false, is_some, cond}
 use Rattle.std.specs.Prelude.{flat_map, ⊤}
 use Rattle.std.specs.List.{list_all}
 use Rattle.irtext_base.specs.Text.{Text}
 use Rattle.irtext_base.specs.Format.{Id, same_text}
-use Rattle.pliron_text.specs.Acts.{result_types, closing_acts, result_definitions, mark_acts, entry_acts, late_acts, section_acts, region_scripts, operation_script, failures_of, keeps_key}
+use Rattle.pliron_text.specs.Acts.{result_types, closing_acts, result_definitions, mark_acts, entry_acts, late_acts, section_acts, region_scripts, operation_script, failures_of, keeps_key, block_marks_in_regions, rule_of, keeps_label_key, tree_script}
 use Rattle.pliron_text.specs.Build.{Built, BuiltOp, BuiltBlock, build, built_regions, put_all, read_names, inline_entries, with_content, content, located}
 use Rattle.pliron_text.specs.Forest.{Regions, no_regions, region, no_blocks, block, regions_list}
 use Rattle.pliron_text.specs.Marked.{regions_marked, marked}
 use Rattle.pliron_text.specs.Pieces.{is_read, IsRead}
 use Rattle.pliron_text.specs.ReadSection.{Entry, of_item, of_once}
-use Rattle.pliron_text.specs.Scopes.{Fact, failures, no_scope, lookup}
+use Rattle.pliron_text.specs.Scopes.{Fact, failures, no_scope, lookup, is_among}
 use Rattle.pliron_text.specs.Script.{Path, Script, Act, claim, ResultCount, does_all, done}
 use Rattle.pliron_text.specs.SoFar.{HaveNoBlocks, IsSoFar, AreSoFar, index_of, bare_regions}
 use Rattle.pliron_text.specs.Tree as tree
@@ -88,6 +88,16 @@ module _ {T A : Type 0} where
   marked_is t form = marked_or (is_some t.own.mark) (regions_marked t.regions) (none_marked t.regions form.blocks) ∙ mark_there t.own.mark
 
 -- ---- what fails behind the pieces
+-- without blocks no mark is a block's, and every entry has the rule of operations
+module _ {T A : Type 0} where
+  no_block_marks : (rs : Regions (Op ℕ T A) (Head ℕ T A) (Brace ℕ)) → HaveNoBlocks rs → block_marks_in_regions rs ≡ []
+  no_block_marks no_regions h = refl
+  no_block_marks (region r no_blocks rs) h = no_block_marks rs h
+  no_block_marks (region r (block b os bs) rs) h = absurd h
+
+  rule_so_far : (t : Tree ℕ T A) → IsSoFar t → rule_of t ≡ (λ i. keeps_key)
+  rule_so_far t form = ap (λ ms i. cond (is_among i ms) keeps_label_key keeps_key) (no_block_marks t.regions form.blocks)
+
 no_late : {A X : Type 0} (all es : List (Entry ℕ A X)) → AreSoFar es → flat_map (late_acts (λ i. keeps_key) all) es ≡ []
 no_late all [] form = refl
 no_late all (of_item m x [] ∷ es) form = no_late all es form
@@ -112,10 +122,11 @@ module _ {T A : Type 0} (isolated : Id → Bool) (t : Tree ℕ T A) (form : IsSo
 
   pub failures_marked : {X : Type 0} (k : Mark ℕ) (es : List (Entry ℕ A X)) → PiecesPass → t.own.mark ≡ Some k → AreSoFar es → failures_of isolated t es ≡ refused k.index [] es
   failures_marked k es p e so_far =
-      p.passes (does_all (section_acts (λ i. keeps_key) es) done)
+      ap (λ rules. failures same_text no_scope (tree_script isolated t (does_all (section_acts rules es) done))) (rule_so_far t form)
+      ∙ (p.passes (does_all (section_acts (λ i. keeps_key) es) done)
       ∙ (ap (λ acts. failures same_text no_scope (does_all acts (does_all (section_acts (λ i. keeps_key) es) done))) closing_is
       ∙ (ap (λ m. failures same_text no_scope (does_all (no_results ∷ mark_acts m) (does_all (section_acts (λ i. keeps_key) es) done))) e
-      ∙ ap (λ xs. failures same_text (behind_entries k.index []) (does_all xs done)) (section_acts-so_far es so_far)))
+      ∙ ap (λ xs. failures same_text (behind_entries k.index []) (does_all xs done)) (section_acts-so_far es so_far))))
 
   pub failures_unmarked : (X : Type 0) → PiecesPass → t.own.mark ≡ None → failures_of {A = A} {X = X} isolated t [] ≡ []
   failures_unmarked X p e = p.passes done ∙ (ap (λ acts. failures same_text no_scope (does_all acts done)) closing_is ∙ ap (λ m. failures same_text no_scope (does_all (no_results ∷ mark_acts m) done)) e)

@@ -18,7 +18,7 @@ use Rattle.pliron_text.specs.ReadSection as reading
 use Rattle.pliron_text.specs.ReadSection.{Entry, of_item, of_once, section}
 use Rattle.pliron_text.specs.Marked.{section_if, reads_root}
 use Rattle.pliron_text.specs.Script.{Failure, does_all, done}
-use Rattle.pliron_text.specs.Acts.{singles, single_labels, closing_acts, section_acts, failures_of, keeps_key}
+use Rattle.pliron_text.specs.Acts.{singles, single_labels, closing_acts, section_acts, failures_of, keeps_key, rule_of}
 use Rattle.pliron_text.specs.Build.{build, with_content, content, located}
 use Rattle.pliron_text.specs.Formats.{isolated, IsAccepted}
 use Rattle.pliron_text.specs.OperationText.{ReadOp, root_at}
@@ -283,5 +283,5 @@ module _ {T A : Type 0} (types : Texts T) (reading : Text → Outcome A) (writte
       found (operation_reads m taken e d) =
           root_reads m taken mid e (go m d m.mark refl entries entries_form (subst (λ b. section_if (so_far dialects types owns) (location_standing attr) b entries mid rest) (marked_is t form ∙ ap is_some d.mark) s))
       found (operation_stops k) =
-          let f = k.fails.fails (singles (parts_of t.own.body)) (single_labels (parts_of t.own.body)) (does_all (closing_acts [] t.own) (does_all (section_acts (λ i. keeps_key) entries) done)) in
+          let f = k.fails.fails (singles (parts_of t.own.body)) (single_labels (parts_of t.own.body)) (does_all (closing_acts [] t.own) (does_all (section_acts (rule_of t) entries) done)) in
           root_stops (record { cause = k.cause; upto = k.upto; failure = k.failure; is_bad = k.is_bad; failures = f.0; refused_first = f.1; stops = k.stops })

@@ -66,10 +66,16 @@ pub mod SectionOnce
 pub mod SectionContent
 pub mod Followed
 pub mod SectionKept
+pub mod EntryRules
 pub mod RootResolves
 pub mod SectionIndices
 pub mod SharedOnce
 pub mod WholeRoot
+pub mod Regained
+pub mod Definite
+pub mod StandsClosed
+pub mod BuiltNamed
+pub mod BuiltClosed
 pub mod JoinAnswers
 pub mod JoinTokens
 pub mod JoinSection

@@ -40,16 +40,16 @@ arguments_small : {T : Type 0} (p : Path) (k : ℕ) (rs : List (ℕ × T)) (g : 
 arguments_small p k [] g e a = a
 arguments_small p k (r ∷ rs) g e a = (e.0, arguments_small p (suc k) rs g e.1 a)
 
-each_drop : {X : Type 0} (Q : X → Type 0) (n : ℕ) (xs : List X) → Each Q xs → Each Q (drop n xs)
+pub each_drop : {X : Type 0} (Q : X → Type 0) (n : ℕ) (xs : List X) → Each Q xs → Each Q (drop n xs)
 each_drop Q zero xs e = e
 each_drop Q (suc n) [] e = tt
 each_drop Q (suc n) (x ∷ xs) e = each_drop Q n xs e.1
 
-abbrev OfOption : {X : Type 0} → (X → Type 0) → Option X → Type 0
+abbrev pub OfOption : {X : Type 0} → (X → Type 0) → Option X → Type 0
 OfOption Q None = ⊤
 OfOption Q (Some x) = Q x
 
-each_at : {X : Type 0} (Q : X → Type 0) (xs : List X) (i : ℕ) → Each Q xs → OfOption Q (slice_get xs i)
+pub each_at : {X : Type 0} (Q : X → Type 0) (xs : List X) (i : ℕ) → Each Q xs → OfOption Q (slice_get xs i)
 each_at Q [] zero e = tt
 each_at Q [] (suc i) e = tt
 each_at Q (x ∷ xs) zero e = e.0
@@ -182,7 +182,7 @@ module _ {T A : Type 0} (C : Printing T A) (isolated : Id → Bool) where
       same_blocks n v l w m p k no_blocks f e s t = tt
       same_blocks n v l w m p k (block h os bs) f e s t =
           let q = n + own_marks C h.location (block_outlined C h) in
-          (record { label = refl; argument_types = types_back h.arguments }, same_operations q v l w m (k ∷ p) 0 os f.0 e.1 s t, same_blocks (q + marks_in_operations C None os) v l w m p (suc k) bs f.1 e.2 s t)
+          (record { argument_types = types_back h.arguments }, same_operations q v l w m (k ∷ p) 0 os f.0 e.1 s t, same_blocks (q + marks_in_operations C None os) v l w m p (suc k) bs f.1 e.2 s t)
 
       same_operations : (n : ℕ) (v l : List (Fact Text)) (w m : List (Fact Thing)) (p : Path) (i : ℕ) (os : Operations (GraphOp T A) (GraphBlock T A) ⊤) → FitOperations C isolated os → AllOperations (SmallOp C isolated) (SmallBlock C isolated) (λ r. ⊤) os → Scoped v w → Scoped l m
           → MatchOperations SameShape SameBlockShape (λ r s. ⊤) (stood_operations C isolated w m p i os) (built_operations isolated first es v l p i (tree_operations C None n os))

@@ -94,7 +94,7 @@ module _ {N : Type 0} (eq : N → N → Bool) where
   abbrev pub Means : User × Option Place → Type 0
   Means e = is_some e.1 ≡ true
 
-  abbrev Known : List (Fact N) → Fact N → Type 0
+  abbrev pub Known : List (Fact N) → Fact N → Type 0
   Known v (uses n u) = is_some (lookup eq n v) ≡ true
   Known v (defines n p) = ⊤
 

@@ -15,7 +15,7 @@ use Rattle.pliron_text.specs.Section as section
 use Rattle.pliron_text.specs.ReadSection.{Entry}
 use Rattle.pliron_text.specs.Script.{done, does_all, UnknownIndex}
 use Rattle.pliron_text.specs.Scopes.{Scopes, ◌⊳◌, no_scope, facts, failures, is_among}
-use Rattle.pliron_text.specs.Acts.{section_acts, region_scripts, tree_script, failures_of, keeps_key}
+use Rattle.pliron_text.specs.Acts.{section_acts, region_scripts, tree_script, failures_of, keeps_key, rule_of, Rule}
 use Rattle.pliron_text.specs.Build.{content, build}
 use Rattle.pliron_text.specs.Closed.{FitRegions, FitsFormat, Fit}
 use Rattle.pliron_text.specs.Contents.{OpContent, BlockContent, Contents}
@@ -60,9 +60,9 @@ all_empty OfO OfB (region r no_blocks rs) h = (tt, tt, all_empty OfO OfB rs h)
 all_empty OfO OfB (region r (block b os bs) rs) h = absurd h
 
 -- what a section's one entry does is not refused behind its mark
-entry_clean : (l : Option Text) (s : Scopes Text) {T A : Type 0} (C : Printing T A) → s.marks ≡ numbers 0 (length (plain_entries C l)) → s.entries ≡ [] → failures same_text s (does_all (section_acts (λ i. keeps_key) (plain_section C l)) done) ≡ []
-entry_clean None s C m e = refl
-entry_clean (Some l) s C m e =
+entry_clean : (l : Option Text) (s : Scopes Text) {T A : Type 0} (C : Printing T A) (rules : ℕ → Rule A) → s.marks ≡ numbers 0 (length (plain_entries C l)) → s.entries ≡ [] → failures same_text s (does_all (section_acts rules (plain_section C l)) done) ≡ []
+entry_clean None s C rules m e = refl
+entry_clean (Some l) s C rules m e =
     let unit : ⊤ = tt in
     ap₂ (λ a b. cond (is_among 0 a && not (is_among 0 b)) [] (record { cause = UnknownIndex 0; at = Some unit } ∷ []) ++ []) m e
 
@@ -108,13 +108,13 @@ module _ {T A : Type 0} (C : Printing T A) (isolated : Id → Bool) (g : Graph T
   written_resolves =
       let t = written C None g in
       let x = tree_script isolated t done in
-      let y = does_all (section_acts (λ i. keeps_key) (written_section C (entries_of C None g))) done in
+      let y = does_all (section_acts (rule_of t) (written_section C (entries_of C None g))) done in
       let m = marks_written C isolated None g wordy fit in
       let marks = marks_in_order C isolated None g wordy fit ∙ ap (λ es. numbers 0 (length es)) (entries_are C isolated g plain) in
       ap (failures same_text no_scope) (operation_follow [] t.own (region_scripts isolated [] 0 (isolated t.own.id) t.regions) done y (regions_follow isolated [] 0 (isolated t.own.id) t.regions))
       ∙ (failures_follow same_text no_scope x y
       ∙ ap₂ ◌++◌ (tree_resolves C isolated g fit small (plain_closed C isolated g plain) keys)
-      (ap (λ z. failures same_text (no_scope ⊳ facts same_text x) (does_all (section_acts (λ i. keeps_key) z) done)) (section_is C isolated g plain) ∙ entry_clean g.own.location (no_scope ⊳ facts same_text x) C marks m.entries))
+      (ap (λ z. failures same_text (no_scope ⊳ facts same_text x) (does_all (section_acts (rule_of t) z) done)) (section_is C isolated g plain) ∙ entry_clean g.own.location (no_scope ⊳ facts same_text x) C (rule_of t) marks m.entries))
 
   module _ {X : Type 0} (text : X → Text) (t : Tree ℕ T A) (es : List (Entry ℕ A X)) (same_tree : bare t ≡ written C None g) (same_section : bare_section text es ≡ written_section C (entries_of C None g)) where
     resolves : failures_of isolated t es ≡ []
@@ -179,7 +179,7 @@ module _ {T A X : Type 0} (types : Texts T) (owns : Texts A) (types_law : Lawful
         reads = r.3;
         ends = r.6;
         resolves = clean;
-        same = fillings C isolated K first positions es g t (does_all (section_acts (λ i. keeps_key) es) done) fits (small C isolated g plain gives) (keys C isolated g plain gives) (differ C isolated g plain gives) r.4 formed clean says;
+        same = fillings C isolated K first positions es g t (does_all (section_acts (rule_of t) es) done) fits (small C isolated g plain gives) (keys C isolated g plain gives) (differ C isolated g plain gives) r.4 formed clean says;
         tree_form = tree_so_far C isolated g plain t r.4;
         entries_form = are_so_far C K.text g.own.location es (r.5 ∙ section_is C isolated g plain);
       }

@@ -1,5 +1,5 @@
 -- A closed root's text with its section reads as a tree and entries that resolve, in which each item has its own entry.
-use Rattle.std.proofs.Common.{◌≡◌, ℕ, suc, ◌+◌, ◌<◌, ◌^◌, Bool, true, false, cond, List, [], ◌∷◌, ◌++◌, length, Option, None, refl, sym, ap, ap₂, ◌∙◌, subst, arith, append-nil, inl}
+use Rattle.std.proofs.Common.{◌≡◌, ℕ, ◌+◌, ◌<◌, ◌^◌, Bool, true, false, cond, List, [], ◌∷◌, ◌++◌, length, Option, None, refl, sym, ap, ap₂, ◌∙◌, subst, arith, append-nil, inl, Some}
 use Rattle.std.specs.Prelude.{⊤}
 use Rattle.irtext_base.specs.Text.{Text}
 use Rattle.irtext_base.specs.Format.{same_text, Id}
@@ -7,33 +7,32 @@ use Rattle.irtext_base.specs.Own.{Texts, Language, language, unplaced, Lawful, U
 use Rattle.pliron_text.specs.Forest.{Regions, no_regions, region, Blocks, no_blocks, block, Operations, no_operations, operation, AllRegions, AllBlocks, AllOperations}
 use Rattle.pliron_text.specs.Tree.{Attribute, given_names, ident, own, Tree}
 use Rattle.pliron_text.specs.Bare.{bare}
-use Rattle.pliron_text.specs.Fine.{Each}
+use Rattle.pliron_text.specs.Fine.{Each, IsWord}
 use Rattle.pliron_text.specs.Writable.{BehindRoot}
 use Rattle.pliron_text.specs.Spell.{spelled}
 use Rattle.pliron_text.specs.Wordy.{WordyEntry, WordyOp, WordyBlock, Wordy}
-use Rattle.pliron_text.specs.Fillable.{KeepsKeys, OpKeepsKeys, BlockKeepsKeys, GraphKeepsKeys}
+use Rattle.pliron_text.specs.Fillable.{GraphKeepsKeys}
 use Rattle.pliron_text.specs.Graph as graph
-use Rattle.pliron_text.specs.Graph.{Graph, Limit, GraphOp, GraphBlock, Printing, outlined, shared, place_in, is_marked, own_marks, marks_in_regions, written, own_entry, entries_of_regions, entries_of_blocks, entries_of_operations, entries_of, op_outlined, block_outlined, outlined_entries}
+use Rattle.pliron_text.specs.Graph.{Graph, Limit, GraphOp, GraphBlock, Printing, outlined, shared, place_in, is_marked, own_marks, marks_in_regions, written, own_entry, entries_of_regions, entries_of_blocks, entries_of_operations, entries_of, op_outlined, block_outlined, outlined_entries, label_entry}
 use Rattle.pliron_text.specs.Section as section
 use Rattle.pliron_text.specs.ReadSection.{Entry}
 use Rattle.pliron_text.specs.Script.{Script, done, does_all}
 use Rattle.pliron_text.specs.Scopes.{no_scope, facts, failures}
-use Rattle.pliron_text.specs.Acts.{keeps_key, rule_of, section_acts, region_scripts, tree_script, failures_of}
+use Rattle.pliron_text.specs.Acts.{section_acts, rule_of, region_scripts, tree_script, failures_of}
 use Rattle.pliron_text.specs.Closed.{Closed, Fit}
 use Rattle.pliron_text.specs.Same.{Locations, SmallGraph}
 use Rattle.pliron_text.specs.RoundTrip.{LocationReads, Held, GraphHeld}
 use Rattle.pliron_text.specs.Follow.{follow}
 use Rattle.pliron_text.specs.WrittenSection.{bare_section, written_section, SmallSection, numbers}
-use Rattle.pliron_text.proofs.FitsFormat.{and_left, and_right}
 use Rattle.pliron_text.proofs.Following.{regions_follow, operation_follow}
 use Rattle.pliron_text.proofs.Followed.{failures_follow}
-use Rattle.pliron_text.proofs.KeptWritten.{keeps_filter}
 use Rattle.pliron_text.proofs.MarksWritten.{Numbered, root_numbered}
 use Rattle.pliron_text.proofs.Resolved.{tree_resolves}
 use Rattle.pliron_text.proofs.SectionBack.{SmallItem, FinePair, FineEntryOf}
 use Rattle.pliron_text.proofs.SectionBare.{root_resolves_bare}
 use Rattle.pliron_text.proofs.SectionContent.{length_entries}
-use Rattle.pliron_text.proofs.SectionKept.{Ruled, section_clean}
+use Rattle.pliron_text.proofs.SectionKept.{section_clean}
+use Rattle.pliron_text.proofs.EntryRules.{entries_ruled}
 use Rattle.pliron_text.proofs.SectionOnce.{Mention, Mentions, place_below, each_shared}
 use Rattle.pliron_text.proofs.WrittenFine.{each_filter, written_fine}
 use Rattle.pliron_text.proofs.BackTree as back
@@ -80,34 +79,20 @@ module _ {T A : Type 0} (C : Printing T A) where
       go true = (h, tt)
       go false = tt
 
-  abbrev Keeps : Text × Attribute A → Type 0
-  Keeps e = keeps_key e.0 e.1 ≡ true
-
-  each_keeps : (es : List (Text × Attribute A)) → KeepsKeys es → Each Keeps es
-  each_keeps [] h = tt
-  each_keeps (e ∷ es) h = (and_left (keeps_key e.0 e.1) _ h, each_keeps es (and_right (keeps_key e.0 e.1) _ h))
-
-  abbrev EntryKeeps : graph.Entry C → Type 0
-  EntryKeeps e = Each Keeps e.attributes
-
   abbrev EntryWordy : graph.Entry C → Type 0
   EntryWordy e = Each WordyEntry e.attributes
 
-  own_keeps : (l : Option Text) (es : List (Text × Attribute A)) → KeepsKeys es → Each EntryKeeps (own_entry C l (outlined_entries C es))
-  own_keeps l es h = own_each EntryKeeps l (outlined_entries C es) (each_keeps _ (keeps_filter keeps_key (λ e. outlined C e.1) es h))
+  outlined_wordy : (es : List (Text × Attribute A)) → Each WordyEntry es → Each WordyEntry (outlined_entries C es)
+  outlined_wordy es h = each_filter WordyEntry (λ e. outlined C e.1) es h
 
-  entries_keep : (g : Graph T A) → GraphKeepsKeys g → Each EntryKeeps (entries_of C None g)
-  entries_keep g h = graph_each C EntryKeeps OpKeepsKeys BlockKeepsKeys (λ o k. own_keeps o.location o.attributes k) (λ b k. own_keeps b.location b.attributes k) g h.0 h.1
-
-  entries_ruled : (n : ℕ) (es : List (graph.Entry C)) → Each EntryKeeps es → Ruled C (λ i. keeps_key) n es
-  entries_ruled n [] h = tt
-  entries_ruled n (e ∷ es) h = (h.0, entries_ruled (suc n) es h.1)
-
-  own_wordy : (l : Option Text) (es : List (Text × Attribute A)) → Each WordyEntry es → Each EntryWordy (own_entry C l (outlined_entries C es))
-  own_wordy l es h = own_each EntryWordy l (outlined_entries C es) (each_filter WordyEntry (λ e. outlined C e.1) es h)
+  label_wordy : (l : Option Text) (es : List (Text × Attribute A)) → ((n : Text) → l ≡ Some n → IsWord n) → Each WordyEntry es → Each WordyEntry (label_entry l ++ es)
+  label_wordy None es h k = k
+  label_wordy (Some n) es h k = ((refl, h n refl), k)
 
   entries_wordy : (g : Graph T A) → Wordy C g → Each EntryWordy (entries_of C None g)
-  entries_wordy g w = graph_each C EntryWordy (WordyOp C) (WordyBlock C) (λ o k. own_wordy o.location o.attributes k.attributes) (λ b k. own_wordy b.location b.attributes k.attributes) g w.own w.regions
+  entries_wordy g w =
+      graph_each C EntryWordy (WordyOp C) (WordyBlock C) (λ o k. own_each EntryWordy o.location (op_outlined C o) (outlined_wordy o.attributes k.attributes))
+      (λ b k. own_each EntryWordy b.location (block_outlined C b) (label_wordy (C.label b.place) (outlined_entries C b.attributes) (w.label b.place) (outlined_wordy b.attributes k.attributes))) g w.own w.regions
 
   module _ {X : Type 0} (location_at : Text → Standing X) (K : Locations X) where
     abbrev EntryLocated : graph.Entry C → Type 0
@@ -144,7 +129,7 @@ module _ {T A : Type 0} (C : Printing T A) where
         let m = marks_written isolated None g wordy fit in
         ap (failures same_text no_scope) (tree_follow isolated t done y)
         ∙ (failures_follow same_text no_scope x y
-        ∙ ap₂ ◌++◌ (tree_resolves C isolated g fit small closed keys) ((section_clean C sound reflexive (rule_of t) all (entries_ruled 0 all (entries_keep g keys))).nothing _ (record { marks = marks_in_order isolated None g wordy fit; entries = m.entries })))
+        ∙ ap₂ ◌++◌ (tree_resolves C isolated g fit small closed keys) ((section_clean C sound reflexive (rule_of t) all (entries_ruled C g keys)).nothing _ (record { marks = marks_in_order isolated None g wordy fit; entries = m.entries })))
 
     pub root_resolves : {P X : Type 0} (text : X → Text) (t : Tree P T A) (es : List (Entry P A X)) → bare t ≡ written C None g → bare_section text es ≡ written_section C all → failures_of isolated t es ≡ []
     root_resolves text t es e f = root_resolves_bare text isolated t es (ap₂ (failures_of isolated) e f ∙ written_resolves)

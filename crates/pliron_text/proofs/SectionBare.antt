@@ -3,14 +3,15 @@ use Rattle.std.proofs.Common.{◌≡◌, ℕ, Bool, true, false, cond, ◌==◌,
 use Rattle.std.specs.Prelude.{⊤, flat_map, is_some}
 use Rattle.irtext_base.specs.Text.{Text}
 use Rattle.irtext_base.specs.Format.{same_text, Id}
-use Rattle.pliron_text.specs.Tree.{Name, Mark, Attribute, Tree}
-use Rattle.pliron_text.specs.Bare.{bare_mark_if, bare}
+use Rattle.pliron_text.specs.Forest.{Regions, no_regions, region, Blocks, no_blocks, block, Operations, no_operations, operation}
+use Rattle.pliron_text.specs.Tree.{Name, Mark, Attribute, Op, Head, Brace, Tree}
+use Rattle.pliron_text.specs.Bare.{bare_mark_if, bare_regions, bare_blocks, bare_operations, bare}
 use Rattle.pliron_text.specs.ReadSection.{Item, direct, reference, Entry, of_item, of_once}
 use Rattle.pliron_text.specs.WrittenSection.{bare_pair, bare_section_entry, bare_section}
 use Rattle.pliron_text.specs.Script as script
 use Rattle.pliron_text.specs.Script.{Act, Script, done, does_all, act_as, failure_as}
-use Rattle.pliron_text.specs.Scopes.{no_scope, failures}
-use Rattle.pliron_text.specs.Acts.{item_acts, once_at, keeps_if, entry_acts, reference_acts, late_acts, section_acts, tree_script, root_script, failures_of, Rule, rule_of}
+use Rattle.pliron_text.specs.Scopes.{is_among, no_scope, failures}
+use Rattle.pliron_text.specs.Acts.{item_acts, once_at, keeps_if, entry_acts, reference_acts, late_acts, section_acts, tree_script, root_script, failures_of, Rule, marked_as, block_marks_in_regions, block_marks_in_blocks, block_marks_in_operations, rule_of, keeps_key, keeps_label_key}
 use Rattle.pliron_text.specs.Contents.{as_text}
 use Rattle.pliron_text.specs.Build.{resolved, content_in, content}
 use Rattle.pliron_text.proofs.Natural.{map_both, failures_natural}
@@ -73,11 +74,33 @@ module _ {P A X Y : Type 0} (text : X → Y) where
   content_bare es None = refl
   content_bare es (Some m) = content_in_bare es es m.index
 
+-- the marks of a tree's blocks are those of the tree without places
+marked_bare : {P : Type 0} (m : Option (Mark P)) → marked_as m ≡ marked_as (bare_mark_if m)
+marked_bare None = refl
+marked_bare (Some m) = refl
+
+module _ {P T A : Type 0} where
+  mutual
+    regions_marks_bare : (rs : Regions (Op P T A) (Head P T A) (Brace P)) → block_marks_in_regions rs ≡ block_marks_in_regions (bare_regions rs)
+    regions_marks_bare no_regions = refl
+    regions_marks_bare (region r bs rs) = ap₂ ◌++◌ (blocks_marks_bare bs) (regions_marks_bare rs)
+
+    blocks_marks_bare : (bs : Blocks (Op P T A) (Head P T A) (Brace P)) → block_marks_in_blocks bs ≡ block_marks_in_blocks (bare_blocks bs)
+    blocks_marks_bare no_blocks = refl
+    blocks_marks_bare (block h os bs) = ap₂ ◌++◌ (marked_bare h.mark) (ap₂ ◌++◌ (operations_marks_bare os) (blocks_marks_bare bs))
+
+    operations_marks_bare : (os : Operations (Op P T A) (Head P T A) (Brace P)) → block_marks_in_operations os ≡ block_marks_in_operations (bare_operations os)
+    operations_marks_bare no_operations = refl
+    operations_marks_bare (operation o rs os) = ap₂ ◌++◌ (regions_marks_bare rs) (operations_marks_bare os)
+
+  rules_bare : (t : Tree P T A) → rule_of t ≡ rule_of (bare t)
+  rules_bare t = ap (λ ms i. cond (is_among i ms) keeps_label_key keeps_key) (regions_marks_bare t.regions)
+
 module _ {P T A X Y : Type 0} (text : X → Y) (isolated : Id → Bool) where
   root_bare : (t : Tree P T A) (es : List (Entry P A X)) → E (root_script isolated t es) ≡ root_script isolated (bare t) (bare_section text es)
   root_bare t es =
       tree_bare isolated t (does_all (section_acts (rule_of t) es) done)
-      ∙ ap (tree_script isolated (bare t)) (does_bare (section_acts (rule_of t) es) done ∙ ap (λ z. does_all z done) (sym (section_bare text (rule_of t) es)))
+      ∙ ap (tree_script isolated (bare t)) (does_bare (section_acts (rule_of t) es) done ∙ ap (λ z. does_all z done) (sym (section_bare text (rule_of t) es) ∙ ap (λ z. section_acts z (bare_section text es)) (rules_bare t)))
 
   -- a root with its section resolves where it does without places
   pub root_resolves_bare : (t : Tree P T A) (es : List (Entry P A X)) → failures_of isolated (bare t) (bare_section text es) ≡ [] → failures_of isolated t es ≡ []

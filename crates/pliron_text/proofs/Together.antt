@@ -1,13 +1,14 @@
 -- A dictionary whose inline attributes are read behind an item, and whose outlined ones are read in its entry, is the item's own, but
 -- that the names that were read may stand under the reserved key.
-use Rattle.std.proofs.Common.{◌≡◌, Bool, true, false, cond, not, ◌||◌, List, [], ◌∷◌, ◌++◌, map, filter, Option, Some, None, refl, sym, ap, ◌∙◌, ◌⊎◌, inl, inr, subst, true≢false}
+use Rattle.std.proofs.Common.{◌≡◌, Bool, true, false, cond, not, ◌||◌, List, [], ◌∷◌, ◌++◌, map, filter, Option, Some, None, refl, sym, ap, ◌∙◌, ◌⊎◌, inl, inr, subst, true≢false, ◌&&◌, ap₂}
 use Rattle.irtext_base.specs.Text.{Text}
 use Rattle.irtext_base.specs.Format.{same_text, given_names_key}
+use Rattle.pliron_text.specs.Tree.{block_label_key}
 use Rattle.pliron_text.specs.Tree.{Attribute, given_names, ident, own}
-use Rattle.pliron_text.specs.Graph.{Printing, outlined, is_marked, lookup}
-use Rattle.pliron_text.specs.Acts.{keeps_key, is_given}
-use Rattle.pliron_text.specs.Build.{put_all, read_names, with_content}
-use Rattle.pliron_text.specs.Fillable.{KeepsKeys}
+use Rattle.pliron_text.specs.Graph.{Printing, outlined, is_marked, lookup, label_entry}
+use Rattle.pliron_text.specs.Acts.{keeps_key, is_given, keeps_block_key}
+use Rattle.pliron_text.specs.Build.{put_all, read_names, with_content, labelled, but_label, label_among}
+use Rattle.pliron_text.specs.Fillable.{KeepsKeys, KeepsRule}
 use Rattle.pliron_text.specs.RoundTrip.{KeysDiffer}
 use Rattle.pliron_text.specs.Same.{SameDictionary}
 use Rattle.pliron_text.proofs.Lists.{or_else}
@@ -25,6 +26,25 @@ key_kept (d ∷ es) key a h e = go (same_text key d.0) refl e (key_kept es key a
     go true k e f = subst (λ z. keeps_key key z ≡ true) (some_inside d.1 a e) (subst (λ z. keeps_key z d.1 ≡ true) (sym (same_text_true key d.0 k)) (and_left (keeps_key d.0 d.1) _ h))
     go false k e f = f e
 
+-- ---- a block's dictionary has no label
+pub block_keeps : {A : Type 0} (es : List (Text × Attribute A)) → KeepsRule keeps_block_key es → KeepsKeys es
+block_keeps [] h = refl
+block_keeps (e ∷ es) h = ap₂ ◌&&◌ (and_left (keeps_key e.0 e.1) _ (and_left (keeps_block_key e.0 e.1) _ h)) (block_keeps es (and_right (keeps_block_key e.0 e.1) _ h))
+
+no_label : {A : Type 0} (es : List (Text × Attribute A)) → KeepsRule keeps_block_key es → filter (λ e. not (same_text e.0 block_label_key)) es ≡ es
+no_label [] h = refl
+no_label (e ∷ es) h =
+    ap (λ b. cond b (e ∷ filter (λ e. not (same_text e.0 block_label_key)) es) (filter (λ e. not (same_text e.0 block_label_key)) es)) (and_right (keeps_key e.0 e.1) _ (and_left (keeps_block_key e.0 e.1) _ h))
+    ∙ ap (λ z. e ∷ z) (no_label es (and_right (keeps_block_key e.0 e.1) _ h))
+
+label_stays : {A : Type 0} (l : Text) (es : List (Text × Attribute A)) → KeepsRule keeps_block_key es → label_among l es ≡ l
+label_stays l [] h = refl
+label_stays l (e ∷ es) h = go (same_text e.0 block_label_key) (and_right (keeps_key e.0 e.1) _ (and_left (keeps_block_key e.0 e.1) _ h)) (label_stays l es (and_right (keeps_block_key e.0 e.1) _ h))
+  where
+    go : (b : Bool) → not b ≡ true → label_among l es ≡ l → label_among (cond b (elim e.1 [ ident n ↦ n | _ ↦ l ]) l) es ≡ l
+    go true h f = absurd (true≢false (sym h))
+    go false h f = f
+
 module _ {T A : Type 0} (C : Printing T A) where
   abbrev pub inlined : Attribute A → Bool
   inlined a = not (outlined C a)
@@ -39,6 +59,23 @@ module _ {T A : Type 0} (C : Printing T A) where
   content_added (Some t) es base y = refl
   content_added None [] base y = refl
   content_added None (e ∷ es) base y = refl
+
+  -- what it adds to a block's dictionary, and what it makes of its label
+  pub content_but_label : {Y : Type 0} (l o : Option Text) (es base : List (Text × Attribute A)) (y : Y) → KeepsRule keeps_block_key es
+      → with_content base (but_label (cond (is_marked C l (label_entry o ++ es)) (Some (y, label_entry o ++ es)) None)) ≡ put_all base es
+  content_but_label None None [] base y h = refl
+  content_but_label None None (e ∷ es) base y h = ap (put_all base) (no_label (e ∷ es) h)
+  content_but_label None (Some n) es base y h = ap (put_all base) (no_label es h)
+  content_but_label (Some t) None es base y h = ap (put_all base) (no_label es h)
+  content_but_label (Some t) (Some n) es base y h = ap (put_all base) (no_label es h)
+
+  pub content_label : {Y : Type 0} (l o : Option Text) (es : List (Text × Attribute A)) (t : Text) (y : Y) → KeepsRule keeps_block_key es
+      → labelled t (cond (is_marked C l (label_entry o ++ es)) (Some (y, label_entry o ++ es)) None) ≡ elim o [ Some n ↦ n | None ↦ t ]
+  content_label None None [] t y h = refl
+  content_label None None (e ∷ es) t y h = label_stays t (e ∷ es) h
+  content_label None (Some n) es t y h = label_stays n es h
+  content_label (Some s) None es t y h = label_stays t es h
+  content_label (Some s) (Some n) es t y h = label_stays n es h
 
   module _ (names : List Text) (es shown : List (Text × Attribute A)) (d : KeysDiffer es) (keeps : KeepsKeys es) (p : Picks inlined es shown) where
     abbrev base : List (Text × Attribute A)

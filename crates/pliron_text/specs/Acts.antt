@@ -1,13 +1,14 @@
 -- What the reading of a tree and of its section does with names: an act for each, in reading order.
-use Rattle.std.specs.Prelude.{ℕ, suc, Bool, true, false, cond, not, ◌||◌, ◌==◌, List, [], ◌∷◌, ◌++◌, length, map, flat_map, Option, Some, None, is_some, option_map, option_to_list}
+use Rattle.std.specs.Prelude.{ℕ, suc, Bool, true, false, cond, not, ◌&&◌, ◌||◌, ◌==◌, List, [], ◌∷◌, ◌++◌, length, map, flat_map, Option, Some, None, is_some, option_map, option_to_list}
 use Rattle.irtext_base.specs.Text.{Text}
 use Rattle.irtext_base.specs.Format.{same_text, given_names_key, Id}
+use Rattle.pliron_text.specs.Tree.{block_label_key}
 use Rattle.pliron_text.specs.Forest.{Regions, no_regions, region, Blocks, no_blocks, block, Operations, no_operations, operation}
 use Rattle.pliron_text.specs.Tree as tree
-use Rattle.pliron_text.specs.Tree.{Name, Mark, Attribute, given_names, Piece, Part, Body, custom, canonical, Op, Head, Brace, shown, elided, Tree, parts_of, views, in_order}
+use Rattle.pliron_text.specs.Tree.{Name, Mark, Attribute, given_names, ident, Piece, Part, Body, custom, canonical, Op, Head, Brace, shown, elided, Tree, parts_of, views, in_order}
 use Rattle.pliron_text.specs.ReadSection.{Item, direct, reference, Entry, of_item, of_once}
 use Rattle.pliron_text.specs.Script.{Path, result, argument, block_at, operand, successor, Word, Failure, Act, use_value, use_label, define_value, define_label, mark, entry, claim, Script, done, within, does_all, ResultCount, UnknownPrintOnce, ReservedKey}
-use Rattle.pliron_text.specs.Scopes.{no_scope, failures}
+use Rattle.pliron_text.specs.Scopes.{is_among, no_scope, failures}
 
 module _ {P : Type 0} where
   -- a name of the tree, as a script has it
@@ -47,13 +48,21 @@ is_given a = elim a [ given_names ns ↦ true | _ ↦ false ]
 abbrev pub keeps_key : {A : Type 0} → Text → Attribute A → Bool
 keeps_key k a = not (same_text k given_names_key) || is_given a
 
+-- the attribute is an identifier
+abbrev pub is_label : {A : Type 0} → Attribute A → Bool
+is_label a = elim a [ ident n ↦ true | _ ↦ false ]
+
 -- which attributes may stand under a key
 abbrev pub Rule : Type 0 → Type 0
 Rule A = Text → Attribute A → Bool
 
--- what may stand in a block's dictionary
+-- what may stand in a block's dictionary: no label
 abbrev pub keeps_block_key : {A : Type 0} → Rule A
-keeps_block_key k a = keeps_key k a
+keeps_block_key k a = keeps_key k a && not (same_text k block_label_key)
+
+-- what may stand in a block's entry of a section: as label an identifier
+abbrev pub keeps_label_key : {A : Type 0} → Rule A
+keeps_label_key k a = keeps_key k a && (not (same_text k block_label_key) || is_label a)
 
 -- an entry of a dictionary: its attribute may stand under its key
 abbrev pub key_act : {P A : Type 0} → Rule A → Name P × Attribute A → Act Text P
@@ -181,9 +190,25 @@ abbrev pub marked_as : {P : Type 0} → Option (Mark P) → List ℕ
 marked_as m = option_to_list (option_map (λ m. m.index) m)
 
 module _ {P T A : Type 0} where
-  -- what may stand in the entry of a mark
+  abbrev mutual
+    -- the indices of the marks of blocks in regions
+    pub block_marks_in_regions : Regions (Op P T A) (Head P T A) (Brace P) → List ℕ
+    block_marks_in_regions no_regions = []
+    block_marks_in_regions (region brace bs rs) = block_marks_in_blocks bs ++ block_marks_in_regions rs
+
+    -- of blocks, and of those inside
+    pub block_marks_in_blocks : Blocks (Op P T A) (Head P T A) (Brace P) → List ℕ
+    block_marks_in_blocks no_blocks = []
+    block_marks_in_blocks (block h os bs) = marked_as h.mark ++ (block_marks_in_operations os ++ block_marks_in_blocks bs)
+
+    -- of blocks in operations
+    pub block_marks_in_operations : Operations (Op P T A) (Head P T A) (Brace P) → List ℕ
+    block_marks_in_operations no_operations = []
+    block_marks_in_operations (operation o rs os) = block_marks_in_regions rs ++ block_marks_in_operations os
+
+  -- what may stand in the entry of a mark: of a block's, or of an operation's
   abbrev pub rule_of : Tree P T A → ℕ → Rule A
-  rule_of t i = keeps_key
+  rule_of t i = cond (is_among i (block_marks_in_regions t.regions)) keeps_label_key keeps_key
 
 -- what reading a root with its section does, and what is wrong there: a root resolves where that is nothing
 abbrev pub root_script : {P T A X : Type 0} → (Id → Bool) → Tree P T A → List (Entry P A X) → Script Text P

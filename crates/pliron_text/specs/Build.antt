@@ -1,7 +1,8 @@
 -- The graph that a tree and its section build: the same forest, in which operands and successors are places in the tree.
-use Rattle.std.specs.Prelude.{ℕ, suc, Bool, cond, ◌==◌, List, [], ◌∷◌, ◌++◌, map, flat_map, Option, Some, None, option_and_then, ⊤}
+use Rattle.std.specs.Prelude.{ℕ, suc, Bool, cond, ◌==◌, List, [], ◌∷◌, ◌++◌, map, flat_map, Option, Some, None, option_and_then, option_map, filter, not, ⊤}
 use Rattle.irtext_base.specs.Text.{Text}
 use Rattle.irtext_base.specs.Format.{same_text, given_names_key, sym_name_key, Id}
+use Rattle.pliron_text.specs.Tree.{block_label_key}
 use Rattle.pliron_text.specs.Forest.{Regions, no_regions, region, Blocks, no_blocks, block, Operations, no_operations, operation, Root}
 use Rattle.pliron_text.specs.Tree as tree
 use Rattle.pliron_text.specs.Tree.{Name, Mark, Attribute, given_names, ident, Piece, Part, Op, Head, Brace, Tree, parts_of, views, operand_names, successor_labels}
@@ -82,6 +83,20 @@ located x None = x
 located x (Some (None, c)) = x
 located x (Some (Some y, c)) = y
 
+-- the label that an entry's attributes give, the later of two, else the first one
+abbrev pub label_among : {A : Type 0} → Text → List (Text × Attribute A) → Text
+label_among l [] = l
+label_among l (e ∷ es) = label_among (cond (same_text e.0 block_label_key) (elim e.1 [ ident n ↦ n | _ ↦ l ]) l) es
+
+-- the label of a block whose entry has this
+abbrev pub labelled : {A C : Type 0} → Text → Option (C × List (Text × Attribute A)) → Text
+labelled l None = l
+labelled l (Some c) = label_among l c.1
+
+-- what a block stores of its entry: all but the label
+abbrev pub but_label : {V C : Type 0} → Option (C × List (Text × V)) → Option (C × List (Text × V))
+but_label c = option_map (λ c. (c.0, filter (λ e. not (same_text e.0 block_label_key)) c.1)) c
+
 -- a dictionary with the entry's attributes put in
 abbrev pub with_content : {V X : Type 0} → List (Text × V) → Option (X × List (Text × V)) → List (Text × V)
 with_content es None = es
@@ -99,12 +114,12 @@ module _ {P T A X : Type 0} (isolated : Id → Bool) (first : P → X) (all : Li
     location = located (first o.place) (content all o.mark);
   }
 
-  -- what is built of a block's own: its arguments' names become given names
+  -- what is built of a block's own: its entry's label, and its arguments' names as given names
   abbrev pub built_head : Head P T A → BuiltBlock T A X
   built_head h = record {
-    label = h.label.text;
+    label = labelled h.label.text (content all h.mark);
     argument_types = map (λ a. a.1) h.arguments;
-    attributes = with_content (put_all [] (map plain_entry (entries_if h.attributes) ++ read_names (map (λ a. a.0.text) h.arguments))) (content all h.mark);
+    attributes = with_content (put_all [] (map plain_entry (entries_if h.attributes) ++ read_names (map (λ a. a.0.text) h.arguments))) (but_label (content all h.mark));
     location = located (first h.label.place) (content all h.mark);
   }
 

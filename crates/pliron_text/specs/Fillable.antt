@@ -1,4 +1,4 @@
--- What the dictionaries of a graph keep: the reserved key has given names.
+-- What the dictionaries of a graph keep: the reserved key has given names, and no label stands in a block's.
 use Rattle.std.specs.Prelude.{◌≡◌, true, List, ⊤}
 use Rattle.std.specs.List.{list_all}
 use Rattle.irtext_base.specs.Text.{Text}
@@ -19,7 +19,7 @@ KeepsKeys es = KeepsRule keeps_key es
 abbrev pub OpKeepsKeys : {T A : Type 0} → GraphOp T A → Type 0
 OpKeepsKeys o = KeepsKeys o.attributes
 
--- the block's dictionary keeps the reserved key
+-- the block's dictionary keeps the reserved key, and has no label
 abbrev pub BlockKeepsKeys : {T A : Type 0} → GraphBlock T A → Type 0
 BlockKeepsKeys h = KeepsRule keeps_block_key h.attributes
 

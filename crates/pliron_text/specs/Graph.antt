@@ -5,6 +5,7 @@ use Rattle.irtext_base.specs.Text.{Text}
 use Rattle.pliron_text.specs.Forest.{Regions, no_regions, region, Blocks, no_blocks, block, Operations, no_operations, operation, Root}
 use Rattle.irtext_base.specs.Format as format
 use Rattle.irtext_base.specs.Format.{Format, same_text, has, keys, operand_places, successor_places, is_header, sym_name_key, count, Id}
+use Rattle.pliron_text.specs.Tree.{block_label_key}
 use Rattle.pliron_text.specs.Tree as tree
 use Rattle.pliron_text.specs.Tree.{Name, Mark, Attribute, given_names, ident, own, Piece, Part, Body, Op, Head, Brace, shown, elided, Tree}
 use Rattle.pliron_text.specs.Names.{value_name, block_name}
@@ -47,6 +48,11 @@ Limit = Option ℕ
 abbrev pub lookup : {X : Type 0} → Text → List (Text × X) → Option X
 lookup key [] = None
 lookup key (e ∷ es) = cond (same_text key e.0) (Some e.1) (lookup key es)
+
+-- a label, as a section gives it
+abbrev pub label_entry : {A : Type 0} → Option Text → List (Text × Attribute A)
+label_entry None = []
+label_entry (Some l) = (block_label_key, ident l) ∷ []
 
 module _ {T A : Type 0} (C : Printing T A) where
   -- the attribute is written in the section, and not where it stands
@@ -107,9 +113,9 @@ module _ {T A : Type 0} (C : Printing T A) where
   abbrev pub op_outlined : GraphOp T A → List (Text × Attribute A)
   op_outlined o = outlined_entries o.attributes
 
-  -- what it gives of a block
+  -- what it gives of a block: its label first
   abbrev pub block_outlined : GraphBlock T A → List (Text × Attribute A)
-  block_outlined h = outlined_entries h.attributes
+  block_outlined h = label_entry (C.label h.place) ++ outlined_entries h.attributes
 
   -- An item is marked where its location is known or the section gives something else of it.
   abbrev pub is_marked : Option Text → List (Text × Attribute A) → Bool

@@ -83,3 +83,5 @@ pub mod Verification
 pub mod Marker
 pub mod DialectNames
 pub mod PiecesOf
+pub mod Regained
+pub mod StandsFor

@@ -93,7 +93,7 @@ module _ {P T A : Type 0} where
   abbrev pub OpKeysKept : Op P T A → Type 0
   OpKeysKept o = KeysKept keeps_key (views (λ p. elim p [ tree.dictionary es ↦ es | _ ↦ [] ]) (parts_of o.body))
 
-  -- those of a block's dictionary
+  -- a block's dictionary has no label, and its reserved keys have given names
   abbrev pub HeadKeysKept : Head P T A → Type 0
   HeadKeysKept h = KeysKept keeps_block_key (entries_if h.attributes)
 

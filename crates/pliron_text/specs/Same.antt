@@ -23,9 +23,10 @@ pub record StoodOp (T A : Type 0) : Type 0 where
   pub attributes : List (Text × Attribute A)
   pub location : Option Text
 
--- a block of a graph, with its printed label
+-- a block of a graph, with its label, if it has one, and its printed name
 pub record StoodBlock (T A : Type 0) : Type 0 where
-  pub label : Text
+  pub label : Option Text
+  pub name : Text
   pub argument_types : List T
   pub argument_names : List Text
   pub attributes : List (Text × Attribute A)
@@ -47,7 +48,8 @@ module _ {T A : Type 0} (C : Printing T A) (isolated : Id → Bool) where
   -- a block's own
   abbrev pub stood_block : GraphBlock T A → StoodBlock T A
   stood_block h = record {
-    label = printed C (a_block h.place);
+    label = C.label h.place;
+    name = printed C (a_block h.place);
     argument_types = map (λ (r : ℕ × T). r.1) h.arguments;
     argument_names = map (λ (r : ℕ × T). printed C (a_value r.0)) h.arguments;
     attributes = h.attributes;
@@ -109,9 +111,8 @@ module _ {T A X : Type 0} where
     pub operands : a.operands ≡ b.operands
     pub successors : a.successors ≡ b.successors
 
-  -- labels are the printed ones
+  -- types of arguments
   pub record SameBlockShape (a : StoodBlock T A) (b : BuiltBlock T A X) : Type 0 where
-    pub label : a.label ≡ b.label
     pub argument_types : a.argument_types ≡ b.argument_types
 
 -- Dictionaries as maps; given names stand, with the printed names, where they did not and there are some.
@@ -123,6 +124,11 @@ SameDictionary names es fs = (key : Text) → (lookup key fs ≡ lookup key es)
 abbrev pub SameLocation : {X : Type 0} → Locations X → Option Text → X → Type 0
 SameLocation L None x = L.is_position x ≡ true
 SameLocation L (Some l) x = L.text x ≡ l
+
+-- the label, where there was one, else the printed name
+abbrev pub SameLabel : Text → Option Text → Text → Type 0
+SameLabel name None l = l ≡ name
+SameLabel name (Some k) l = l ≡ k
 
 module _ {T A X : Type 0} (L : Locations X) where
   -- an operation and what was built of it are equal up to fillings
@@ -136,6 +142,7 @@ module _ {T A X : Type 0} (L : Locations X) where
   -- a block and what was built of it are equal up to fillings
   pub record SameBlock (a : StoodBlock T A) (b : BuiltBlock T A X) : Type 0 where
     pub shape : SameBlockShape a b
+    pub label : SameLabel a.name a.label b.label
     pub dictionary : SameDictionary a.argument_names a.attributes b.attributes
     pub location : SameLocation L a.location b.location
 

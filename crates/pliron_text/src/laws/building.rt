@@ -1,6 +1,6 @@
 //! Laws of the whole round trip: what is read of a written root and its section is equal to it up to fillings.
-ghost use Rattle.std.specs.Prelude.{◌≡◌, ℕ, Bool, List, [], Option, None, true};
-ghost use Rattle.irtext_base.specs.Format.{Format, Id};
+ghost use Rattle.std.specs.Prelude.{◌≡◌, ℕ, Bool, List, [], Option, None, Some, true};
+ghost use Rattle.irtext_base.specs.Format.{Accepted, Format, Id};
 ghost use Rattle.irtext_base.specs.Own.{Standing, language, texts_of, unplaced};
 ghost use Rattle.irtext_base.specs.Text.{after_space};
 ghost use Rattle.pliron_text.specs.Acts.{failures_of};
@@ -14,9 +14,11 @@ ghost use Rattle.pliron_text.specs.KeysDiffer.{GraphKeysDiffer};
 ghost use Rattle.pliron_text.specs.Marked.{reads_root};
 ghost use Rattle.pliron_text.specs.ReadSection.{Entry};
 ghost use Rattle.pliron_text.specs.Reads.{reads};
+ghost use Rattle.pliron_text.specs.Regained.{ComesBackWhole, Named};
 ghost use Rattle.pliron_text.specs.RoundTrip.{ComesBack, GraphHeld};
 ghost use Rattle.pliron_text.specs.Same.{Locations, SmallGraph, UpToFillings, stood};
 ghost use Rattle.pliron_text.specs.Section.{text};
+ghost use Rattle.pliron_text.specs.StandsFor.{Distinct, StandsFor};
 ghost use Rattle.pliron_text.specs.Tree.{Tree};
 ghost use Rattle.pliron_text.specs.Wordy.{Wordy};
 ghost use Rattle.pliron_text.specs.WrittenSection.{SmallSection};
@@ -33,8 +35,8 @@ pub fn equal_up_to_fillings<T: IrText<A>, A: AttrText, X>()
 {}
 
 /// The printed text of a closed root whose operations fit accepted formats, with its section, reads as a tree and entries that
-/// resolve, and what they build is equal to the root up to fillings: a position stands where a location was unknown, and the
-/// printed names where there were no given names.
+/// resolve, and what they build is equal to the root up to fillings: a position stands where a location was unknown, and
+/// printed names where there were no given names and no label.
 pub fn text_comes_back<T: IrText<A>, A: AttrText, X>()
     ensures { (location_at : List ℕ → Standing X) (K : Locations X) (first : ℕ → X) (C : Printing T A) (isolated : Id → Bool) (g : Graph T A) (width n : ℕ) →
         ((p : ℕ) → K.is_position (first p) ≡ true) → C.same_own ≡ A.eq →
@@ -53,6 +55,38 @@ pub fn each_reading_comes_back<T: IrText<A>, A: AttrText, X>()
         (t : Tree ℕ T A) (es : List (Entry ℕ A X)) (rest : List ℕ) →
         reads_root (language types owns C.format_of) location_at t es (text (unplaced types owns C.format_of) C g n width None) rest →
         (after_space rest ≡ []) × (failures_of isolated t es ≡ []) × UpToFillings K (stood C isolated g) (build isolated first es t) }
+{}
+
+/// Where each block of such a root has a label, and all that has results or arguments holds given names, nothing is filled in but
+/// a position in place of an unknown location. So it is with whatever the text reads as.
+pub fn named_root_comes_back<T: IrText<A>, A: AttrText, X>()
+    ensures { (location_at : List ℕ → Standing X) (K : Locations X) (first : ℕ → X) (C : Printing T A) (isolated : Id → Bool) (g : Graph T A) (width n : ℕ) →
+        ((p : ℕ) → K.is_position (first p) ≡ true) → C.same_own ≡ A.eq →
+        Wordy C g → Fit C isolated g → SmallGraph C isolated g → GraphKeepsKeys g → GraphHeld location_at K g → Closed C isolated g → SmallSection C g → Named C g →
+        ComesBackWhole (texts_of T.reading T.written) (texts_of A.reading A.written) location_at K first C isolated g width n }
+{}
+
+/// A root of the arenas that stands for what a tree and its section build, where these were read and resolve, is closed; its blocks
+/// have labels, and all that has results or arguments holds given names; and no label stands in a block's dictionary. Formats are
+/// accepted, and no two values or blocks of the root are one.
+pub fn built_root_is_closed<T: IrText<A>, A: AttrText, X>()
+    ensures { (first : ℕ → X) (C : Printing T A) (isolated : Id → Bool) (t : Tree ℕ T A) (es : List (Entry ℕ A X)) (g : Graph T A) (source rest : List ℕ) →
+        ((id : Id) (format : Format) → C.format_of id ≡ Some format → Accepted format) →
+        reads (language (texts_of T.reading T.written) (texts_of A.reading A.written) C.format_of) t source rest → failures_of isolated t es ≡ [] →
+        StandsFor (stood C isolated g) (build isolated first es t) → Distinct C isolated g →
+        Closed C isolated g × GraphKeepsKeys g × Named C g }
+{}
+
+/// So what was read comes back whole: where its operations fit, such a root is printed as a text that reads as an equal one, with a
+/// position where the location was unknown.
+pub fn read_root_comes_back<T: IrText<A>, A: AttrText, X>()
+    ensures { (location_at : List ℕ → Standing X) (K : Locations X) (before first : ℕ → X) (C : Printing T A) (isolated : Id → Bool) (t : Tree ℕ T A) (es : List (Entry ℕ A X)) (g : Graph T A) (source rest : List ℕ) (width n : ℕ) →
+        ((p : ℕ) → K.is_position (first p) ≡ true) → C.same_own ≡ A.eq →
+        ((id : Id) (format : Format) → C.format_of id ≡ Some format → Accepted format) →
+        reads (language (texts_of T.reading T.written) (texts_of A.reading A.written) C.format_of) t source rest → failures_of isolated t es ≡ [] →
+        StandsFor (stood C isolated g) (build isolated before es t) → Distinct C isolated g →
+        Wordy C g → Fit C isolated g → SmallGraph C isolated g → GraphHeld location_at K g → SmallSection C g →
+        ComesBackWhole (texts_of T.reading T.written) (texts_of A.reading A.written) location_at K first C isolated g width n }
 {}
 
 /// A text reads as one root with its section at most, and leaves one rest.
