@@ -37,7 +37,7 @@ found_text (Some c) = codes "`" ++ (encode_utf8 c ++ codes "`")
 
 -- a fixed text between backquotes, or the word for a thing
 abbrev pub expected_text : Expected → List ℕ
-expected_text (expected.Text text) = codes "`" ++ (text.now ++ codes "`")
+expected_text (expected.Text text) = codes "`" ++ (text.bytes ++ codes "`")
 expected_text (expected.Literal text) = codes "`" ++ (string_bytes text ++ codes "`")
 expected_text (expected.Char c) = codes "`" ++ (encode_utf8 c ++ codes "`")
 expected_text expected.Identifier = codes "identifier"

@@ -32,7 +32,7 @@ characters bytes = cond (list_all is_ascii bytes) bytes (chars bytes)
 
 -- the demand, as a cause holds it
 abbrev pub demand_of : Expected → Demand
-demand_of (expected.Text text) = Word (characters text.now)
+demand_of (expected.Text text) = Word (characters text.bytes)
 demand_of (expected.Literal text) = Word (chars (string_bytes text))
 demand_of (expected.Char c) = Word (c ∷ [])
 demand_of expected.Identifier = AnIdentifier

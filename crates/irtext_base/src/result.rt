@@ -9,6 +9,7 @@ use crate::base::{Identifier, OpId};
 use crate::format::FormatFault;
 use crate::location::Location;
 use crate::parsable::{ParserNameTrackerError, SourcePosition, UnresolvedReference};
+use arrayvec::ArrayString;
 use std::alloc::{AllocError, AllocFailed};
 use std::fmt;
 use std::fmt::Display;
@@ -23,11 +24,14 @@ pub enum ErrorKind {
     InvalidArgument,
 }
 
+/// A fixed text of at most 24 bytes, which needs no memory of its own.
+pub type Token = ArrayString<24>;
+
 /// What must stand where something else stands.
 #[derive(Debug, Drop)]
 pub enum Expected {
     /// This fixed text.
-    Text(&'static str),
+    Text(Token),
     /// This text of a format.
     Literal(String),
     /// This character.

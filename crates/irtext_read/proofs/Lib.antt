@@ -16,3 +16,5 @@ pub mod SeparatedMet
 pub mod ListOutcomes
 pub mod Attributes
 pub mod SincereTokens
+pub mod ListsAsOutcomes
+pub mod ListReads

@@ -6,6 +6,7 @@ use Rattle.irtext_base.specs.Reading.{the}
 use Rattle.irtext_base.specs.Answers.{Outcome, mapped, followed}
 use Rattle.irtext_base.specs.Locations.{AttrView, given_names, ident, own}
 use Rattle.irtext_read.specs.Tokens.{space_at, text_at, identifier_at}
+use Rattle.irtext_read.specs.Infix.{Reader, word, ◌▷◌, ◌◁◌}
 use Rattle.irtext_read.specs.ListOutcomes.{item_after, items_after, separated_at}
 
 -- the dotted word at the beginning of the text is this one
@@ -29,13 +30,12 @@ abbrev pub names_at : Text → Outcome (List (Option Text))
 names_at text = separated_at 44 given_name_at text
 
 -- given names behind their word, between brackets
-unfoldable pub given_names_at : Text → Outcome (List (Option Text))
-given_names_at text = followed (text_at (codes "builtin.given_names") text) (λ _ t. followed (space_at t) (λ _ u. followed (text_at (codes "[") u) (λ _ v. followed (space_at v) (λ _ w.
-    followed (names_at w) (λ names x. mapped (λ _. names) (text_at (codes "]") x))))))
+unfoldable pub given_names_at : Reader (List (Option Text))
+given_names_at = word (codes "builtin.given_names") ▷ space_at ▷ word (codes "[") ▷ space_at ▷ names_at ◁ word (codes "]")
 
 -- an identifier behind its word
-unfoldable pub ident_at : Text → Outcome Text
-ident_at text = followed (text_at (codes "builtin.identifier") text) (λ _ t. followed (space_at t) (λ _ u. identifier_at u))
+unfoldable pub ident_at : Reader Text
+ident_at = word (codes "builtin.identifier") ▷ space_at ▷ identifier_at
 
 module _ {A : Type 0} (reading : Text → Outcome A) where
   -- given names or an identifier, where their word stands, and else an attribute of the caller

@@ -9,4 +9,5 @@ pub mod Lists
 pub mod ListTexts
 pub mod MustRead
 pub mod ListOutcomes
+pub mod Infix
 pub mod AttrTexts

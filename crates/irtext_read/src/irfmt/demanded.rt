@@ -1,28 +1,19 @@
 //! Tokens that must stand where they are read: a missing one is a committed fault, which leaves the stream failed.
-ghost use Rattle.std.specs.Str.{chars};
 ghost use Rattle.irtext_base.specs.Faults.{characters};
 ghost use Rattle.irtext_read.specs.Tokens.{text_at, identifier_at};
 ghost use Rattle.irtext_read.specs.MustRead.{MustRead};
 
 use crate::irfmt::faults::demand;
-use crate::irfmt::parsers::fixed_text::{literal_parse, text_parse};
+use crate::irfmt::parsers::fixed_text::text_parse;
 use crate::irfmt::parsers::identifier::identifier_parse;
 use irtext_base::base::Identifier;
 use irtext_base::parsable::{CharStream, ParseResult};
 
 /// Reads a fixed text as `text_parse` does, with its faults committed.
-pub fn text_demanded<S: CharStream, A>(stream: &mut S, text: &'static str) -> ParseResult<(), A>
+pub fn text_demanded<S: CharStream, A>(stream: &mut S, text: &str) -> ParseResult<(), A>
     ensures { MustRead S.view S.at (λ u. u) (text_at (characters text.now)) stream.old result stream.new }
 {
     let answer = text_parse(stream, text);
-    demand(stream, answer)
-}
-
-/// Reads a literal of a format as `literal_parse` does, with its faults committed.
-pub fn literal_demanded<S: CharStream, A>(stream: &mut S, text: &str) -> ParseResult<(), A>
-    ensures { MustRead S.view S.at (λ u. u) (text_at (chars text.now)) stream.old result stream.new }
-{
-    let answer = literal_parse(stream, text);
     demand(stream, answer)
 }
 

@@ -7,7 +7,6 @@ pub mod from_str_radix;
 pub mod hexadecimal;
 pub mod identifier;
 pub mod integer;
-pub mod item;
 pub mod lists;
 pub mod number;
 pub mod operation_id;
@@ -17,12 +16,11 @@ pub mod truth;
 
 pub use attributes::{attr_from, attr_parse, type_parse};
 pub use class::{Class, skip_class, skip_white_space};
-pub use fixed_text::{literal_parse, text_parse};
+pub use fixed_text::text_parse;
 pub use from_str_radix::FromStrRadix;
 pub use hexadecimal::hex_int_parse;
 pub use identifier::identifier_parse;
 pub use integer::{int_parse, number_as_string_parse};
-pub use item::ItemAnswer;
 pub use lists::{
     delimited_list_parser, list_parser, list_with_sep_parser, spaced, zero_or_more_parser,
 };

@@ -1,18 +1,18 @@
 //! The readers of types and of attributes: each is the caller's own reader, but that two words lead to given names and to an identifier.
-ghost use Rattle.std.specs.Prelude.{◌≡◌, false, OnErr};
+ghost use Rattle.std.specs.Prelude.{◌≡◌};
 ghost use Rattle.irtext_base.specs.Locations.{attr_view};
-ghost use Rattle.irtext_read.specs.AttrTexts.{leads, given_name_at, name_after, names_after, names_at, given_names_at, ident_at, attr_at};
-ghost use Rattle.irtext_read.specs.MustRead.{MustRead, MayRead};
+ghost use Rattle.irtext_read.specs.AttrTexts.{leads, given_name_at, names_at, given_names_at, ident_at, attr_at};
+ghost use Rattle.irtext_read.specs.MustRead.{MayRead};
 
 use crate::irfmt::demanded::{identifier_demanded, text_demanded};
-use crate::irfmt::faults::{demand, next_is, refuse};
+use crate::irfmt::faults::next_is;
 use crate::irfmt::parsers::class::{Class, skip_class, skip_white_space};
 use crate::irfmt::parsers::fixed_text::text_parse;
 use crate::irfmt::parsers::identifier::identifier_parse;
+use crate::irfmt::parsers::lists::list_parser;
 use crate::parsable::StateStream;
 use irtext_base::base::{AttrObj, Identifier};
 use irtext_base::parsable::{CharStream, ParseResult, TextStream};
-use irtext_base::result::Cause;
 use irtext_base::text::{AttrText, IrText};
 
 /// Whether the dotted word that stands here is this one. The stream stays.
@@ -38,49 +38,18 @@ fn given_name<A>(stream: &mut TextStream) -> ParseResult<Option<Identifier>, A>
     Ok(Some(identifier_parse(stream)?))
 }
 
-/// Appends a given name to those found, and passes the white space behind it. A refusal leaves them as they were.
-fn push_name<A>(stream: &mut TextStream, found: &mut Vec<Option<Identifier>>) -> ParseResult<(), A>
-    ensures read { MayRead (λ s. s) (λ s v. v) (λ _. found.new.items) (name_after found.old.items) stream.old result stream.new }
-    ensures unread { OnErr result (found.new.items ≡ found.old.items) }
-{
-    let name = given_name(stream)?;
-    if found.push(name).is_err() {
-        return Err(refuse(stream, Cause::Memory));
-    }
-    skip_white_space(stream);
-    Ok(())
-}
-
-/// The given names found and those behind them, as long as `,` follows.
-fn more_names<A>(
-    stream: &mut TextStream,
-    mut found: Vec<Option<Identifier>>,
-) -> ParseResult<Vec<Option<Identifier>>, A>
-    ensures { stream.old.failed ≡ false → MustRead (λ s. s) (λ s v. v) (λ names. names.items) (names_after found.items) stream.old result stream.new }
-{
-    while next_is(stream, ',') {
-        let _ = stream.take();
-        skip_white_space(stream);
-        let answer = push_name(stream, &mut found);
-        demand(stream, answer)?;
-    }
-    Ok(found)
-}
-
 /// Given names with `,` between them.
 fn names<A: Drop>(stream: &mut TextStream) -> ParseResult<Vec<Option<Identifier>>, A>
     ensures { MayRead (λ s. s) (λ s v. v) (λ names. names.items) names_at stream.old result stream.new }
 {
-    let mut found = Vec::new(stream.allocator());
-    match push_name(stream, &mut found) {
-        Ok(()) => more_names(stream, found),
-        Err(fault) => {
-            if fault.committed {
-                return Err(fault);
-            }
-            Ok(found)
-        }
-    }
+    list_parser(stream, ',', |s: &mut TextStream| given_name(s))
+}
+
+/// Attributes with `,` between them, on a stream with its state.
+pub fn attrs_parse<T: IrText<A>, A: AttrText, U: Drop>(
+    stream: &mut StateStream<'_, T, A, U>,
+) -> ParseResult<Vec<AttrObj<A>>, A> {
+    list_parser(stream, ',', |s: &mut StateStream<'_, T, A, U>| attr_parse(s))
 }
 
 /// Given names behind their word, between brackets.

@@ -1,14 +1,15 @@
 //! The readers of fixed texts and of a format's literals.
-ghost use Rattle.std.specs.Str.{chars};
+ghost use Rattle.std.specs.Prelude.{◌≡◌, IfOk};
 ghost use Rattle.irtext_base.specs.Answers.{Answers, unless_failed};
-ghost use Rattle.irtext_base.specs.Faults.{Unexpected, characters, demand_of};
+ghost use Rattle.irtext_base.specs.Faults.{Unexpected, Word, characters, demand_of};
 ghost use Rattle.irtext_base.specs.Stream.{first_of};
 ghost use Rattle.irtext_read.specs.Spelled.{Spells, Misses};
 ghost use Rattle.irtext_read.specs.Tokens.{text_at};
 
 use crate::irfmt::faults::{demanded, next_is, refuse, unexpected};
 use irtext_base::parsable::{CharStream, ParseFault, ParseResult};
-use irtext_base::result::{Cause, Expected};
+use irtext_base::result::{Cause, Expected, Token};
+use std::alloc::{AllocError, Global};
 
 /// Takes the characters of a text as long as they come. Where not all of them do, it answers whether one did.
 fn spell<S: CharStream>(stream: &mut S, text: &str) -> Option<bool>
@@ -36,23 +37,23 @@ fn missing<S: CharStream, A>(stream: &mut S, begun: bool, expected: Expected) ->
     fault
 }
 
-/// Reads a fixed text. The fault stands at the first character that differs; it is uncommitted where that is the first of all.
-pub fn text_parse<S: CharStream, A>(stream: &mut S, text: &'static str) -> ParseResult<(), A>
-    ensures { Answers S.view S.at (λ u. u) (unless_failed (S.view stream.old).failed (text_at (characters text.now) (S.view stream.old).rest)) stream.old result stream.new }
+/// A fixed text as what is expected: inside the fault where it is short, and else as a copy.
+fn held(alloc: Global, text: &str) -> Result<Expected, AllocError>
+    ensures { IfOk result (λ e. demand_of e ≡ Word (characters text.now)) }
 {
-    if stream.has_failed() {
-        return Err(refuse(stream, Cause::StreamFailed));
-    }
-    match spell(stream, text) {
-        None => Ok(()),
-        Some(begun) => Err(missing(stream, begun, Expected::Text(text))),
+    match Token::from(text) {
+        Ok(token) => Ok(Expected::Text(token)),
+        Err(_) => match String::from_str(alloc, text) {
+            Ok(copy) => Ok(Expected::Literal(copy)),
+            Err(_) => Err(AllocError),
+        },
     }
 }
 
-/// Reads a literal of a format as `text_parse` does a fixed text. The fault holds a copy of the literal; where there is no memory
-/// for it, that is the fault.
-pub fn literal_parse<S: CharStream, A>(stream: &mut S, text: &str) -> ParseResult<(), A>
-    ensures { Answers S.view S.at (λ u. u) (unless_failed (S.view stream.old).failed (text_at (chars text.now) (S.view stream.old).rest)) stream.old result stream.new }
+/// Reads a fixed text. The fault stands at the first character that differs; it is uncommitted where that is the first of all. A text of
+/// more than 24 bytes is copied for the fault; where there is no memory for it, that is the fault.
+pub fn text_parse<S: CharStream, A>(stream: &mut S, text: &str) -> ParseResult<(), A>
+    ensures { Answers S.view S.at (λ u. u) (unless_failed (S.view stream.old).failed (text_at (characters text.now) (S.view stream.old).rest)) stream.old result stream.new }
 {
     if stream.has_failed() {
         return Err(refuse(stream, Cause::StreamFailed));
@@ -60,8 +61,8 @@ pub fn literal_parse<S: CharStream, A>(stream: &mut S, text: &str) -> ParseResul
     let Some(begun) = spell(stream, text) else {
         return Ok(());
     };
-    match String::from_str(stream.allocator(), text) {
-        Ok(copy) => Err(missing(stream, begun, Expected::Literal(copy))),
+    match held(stream.allocator(), text) {
+        Ok(expected) => Err(missing(stream, begun, expected)),
         Err(_) => Err(refuse(stream, Cause::Memory)),
     }
 }

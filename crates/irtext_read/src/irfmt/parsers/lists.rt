@@ -8,7 +8,6 @@ ghost use Rattle.irtext_read.specs.Lists.{AlwaysKeepsRules, Calls, KeepsRules, I
 
 use crate::irfmt::faults::{begins, demanded, next_is, pass, refuse, unexpected};
 use crate::irfmt::parsers::class::{Class, skip_white_space};
-use crate::irfmt::parsers::item::ItemAnswer;
 use irtext_base::parsable::{CharStream, ParseFault, ParseResult, Place};
 use irtext_base::printable::ListSeparator;
 use irtext_base::result::{Cause, Expected};
@@ -44,21 +43,19 @@ fn character_of(sep: ListSeparator) -> Option<char>
 }
 
 /// Items with white space after each, until one is missing.
-fn items<S: CharStream, R: ItemAnswer, F: FnMut(&mut S) -> R + Drop>(
+fn items<S: CharStream, X: Drop, A: Drop, F: FnMut(&mut S) -> ParseResult<X, A> + Drop>(
     stream: &mut S,
     mut item: F,
-) -> ParseResult<Vec<R::Value>, R::Own>
+) -> ParseResult<Vec<X>, A>
 where
-    R::Value: Drop,
-    R::Own: Drop,
     requires callable { F.IsAlwaysCallable item }
-    requires rules { AlwaysKeepsRules S.view S.at R.seen F.FnMut }
-    ensures { Items S.view S.at (Calls R.seen F.FnMut) item stream.old (listed result) stream.new }
+    requires rules { AlwaysKeepsRules S.view S.at (λ r. r) F.FnMut }
+    ensures { Items S.view S.at (Calls (λ r. r) F.FnMut) item stream.old (listed result) stream.new }
 {
     let mut found = Vec::new(stream.allocator());
     loop {
         let start = stream.position();
-        match item(stream).into_answer() {
+        match item(stream) {
             Ok(x) => {
                 if is_still_at(stream, start) {
                     return Err(refuse(stream, Cause::EmptyItem));
@@ -79,23 +76,21 @@ where
 }
 
 /// Separators and items behind the items found, as long as a separator follows.
-fn tail<S: CharStream, R: ItemAnswer, F: FnMut(&mut S) -> R + Drop>(
+fn tail<S: CharStream, X: Drop, A: Drop, F: FnMut(&mut S) -> ParseResult<X, A> + Drop>(
     stream: &mut S,
     sep: char,
-    mut found: Vec<R::Value>,
+    mut found: Vec<X>,
     mut item: F,
-) -> ParseResult<Vec<R::Value>, R::Own>
+) -> ParseResult<Vec<X>, A>
 where
-    R::Value: Drop,
-    R::Own: Drop,
     requires callable { F.IsAlwaysCallable item }
-    requires rules { AlwaysKeepsRules S.view S.at R.seen F.FnMut }
-    ensures { TailAfter S.view S.at (Calls R.seen F.FnMut) sep found.items item stream.old (listed result) stream.new }
+    requires rules { AlwaysKeepsRules S.view S.at (λ r. r) F.FnMut }
+    ensures { TailAfter S.view S.at (Calls (λ r. r) F.FnMut) sep found.items item stream.old (listed result) stream.new }
 {
     while next_is(stream, sep) {
         let _ = stream.take();
         skip_white_space(stream);
-        match item(stream).into_answer() {
+        match item(stream) {
             Ok(x) => {
                 if found.push(x).is_err() {
                     return Err(refuse(stream, Cause::Memory));
@@ -109,20 +104,18 @@ where
 }
 
 /// Items with a separator between them, white space after each item and each separator.
-fn separated<S: CharStream, R: ItemAnswer, F: FnMut(&mut S) -> R + Drop>(
+fn separated<S: CharStream, X: Drop, A: Drop, F: FnMut(&mut S) -> ParseResult<X, A> + Drop>(
     stream: &mut S,
     sep: char,
     mut item: F,
-) -> ParseResult<Vec<R::Value>, R::Own>
+) -> ParseResult<Vec<X>, A>
 where
-    R::Value: Drop,
-    R::Own: Drop,
     requires callable { F.IsAlwaysCallable item }
-    requires rules { AlwaysKeepsRules S.view S.at R.seen F.FnMut }
-    ensures { Separated S.view S.at (Calls R.seen F.FnMut) sep item stream.old (listed result) stream.new }
+    requires rules { AlwaysKeepsRules S.view S.at (λ r. r) F.FnMut }
+    ensures { Separated S.view S.at (Calls (λ r. r) F.FnMut) sep item stream.old (listed result) stream.new }
 {
     let mut found = Vec::new(stream.allocator());
-    match item(stream).into_answer() {
+    match item(stream) {
         Ok(x) => {
             if found.push(x).is_err() {
                 return Err(refuse(stream, Cause::Memory));
@@ -142,17 +135,15 @@ where
 /// Reads items with a separator between them, and white space after each item and each separator. Where the first item is missing
 /// the list is empty and the stream stays. Behind a separator an item must stand: its fault is committed, as are the faults of memory
 /// and of a failed stream.
-pub fn list_parser<S: CharStream, R: ItemAnswer, F: FnMut(&mut S) -> R + Drop>(
+pub fn list_parser<S: CharStream, X: Drop, A: Drop, F: FnMut(&mut S) -> ParseResult<X, A> + Drop>(
     stream: &mut S,
     sep: char,
     item: F,
-) -> ParseResult<Vec<R::Value>, R::Own>
+) -> ParseResult<Vec<X>, A>
 where
-    R::Value: Drop,
-    R::Own: Drop,
     requires callable { F.IsAlwaysCallable item }
-    requires rules { AlwaysKeepsRules S.view S.at R.seen F.FnMut }
-    ensures answers { UnlessFailed S.view S.at (Separated S.view S.at (Calls R.seen F.FnMut) sep item) (S.view stream.old).failed stream.old (listed result) stream.new }
+    requires rules { AlwaysKeepsRules S.view S.at (λ r. r) F.FnMut }
+    ensures answers { UnlessFailed S.view S.at (Separated S.view S.at (Calls (λ r. r) F.FnMut) sep item) (S.view stream.old).failed stream.old (listed result) stream.new }
     ensures kept { KeepsRules S.view S.at stream.old result stream.new }
 {
     if stream.has_failed() {
@@ -163,19 +154,17 @@ where
 
 /// Reads a character, white space, a list with a separator, and a character. Where the first character is missing the fault is
 /// uncommitted and the stream stays; each other fault is committed, also that of the last character.
-pub fn delimited_list_parser<S: CharStream, R: ItemAnswer, F: FnMut(&mut S) -> R + Drop>(
+pub fn delimited_list_parser<S: CharStream, X: Drop, A: Drop, F: FnMut(&mut S) -> ParseResult<X, A> + Drop>(
     stream: &mut S,
     left: char,
     right: char,
     sep: char,
     item: F,
-) -> ParseResult<Vec<R::Value>, R::Own>
+) -> ParseResult<Vec<X>, A>
 where
-    R::Value: Drop,
-    R::Own: Drop,
     requires callable { F.IsAlwaysCallable item }
-    requires rules { AlwaysKeepsRules S.view S.at R.seen F.FnMut }
-    ensures answers { UnlessFailed S.view S.at (Delimited S.view S.at (Calls R.seen F.FnMut) left right sep item) (S.view stream.old).failed stream.old (listed result) stream.new }
+    requires rules { AlwaysKeepsRules S.view S.at (λ r. r) F.FnMut }
+    ensures answers { UnlessFailed S.view S.at (Delimited S.view S.at (Calls (λ r. r) F.FnMut) left right sep item) (S.view stream.old).failed stream.old (listed result) stream.new }
     ensures kept { KeepsRules S.view S.at stream.old result stream.new }
 {
     if stream.has_failed() {
@@ -198,17 +187,15 @@ where
 /// Reads items with a separator between them as `list_parser` does, or, where the separator has no character, items with white space
 /// after each until one is missing. A separator of white space is an uncommitted fault, whatever the text. An item that takes no
 /// character is a committed fault where no separator stands between them.
-pub fn list_with_sep_parser<S: CharStream, R: ItemAnswer, F: FnMut(&mut S) -> R + Drop>(
+pub fn list_with_sep_parser<S: CharStream, X: Drop, A: Drop, F: FnMut(&mut S) -> ParseResult<X, A> + Drop>(
     stream: &mut S,
     sep: ListSeparator,
     item: F,
-) -> ParseResult<Vec<R::Value>, R::Own>
+) -> ParseResult<Vec<X>, A>
 where
-    R::Value: Drop,
-    R::Own: Drop,
     requires callable { F.IsAlwaysCallable item }
-    requires rules { AlwaysKeepsRules S.view S.at R.seen F.FnMut }
-    ensures answers { UnlessFailed S.view S.at (WithSeparator S.view S.at (Calls R.seen F.FnMut) (character_of sep) item) (S.view stream.old).failed stream.old (listed result) stream.new }
+    requires rules { AlwaysKeepsRules S.view S.at (λ r. r) F.FnMut }
+    ensures answers { UnlessFailed S.view S.at (WithSeparator S.view S.at (Calls (λ r. r) F.FnMut) (character_of sep) item) (S.view stream.old).failed stream.old (listed result) stream.new }
     ensures kept { KeepsRules S.view S.at stream.old result stream.new }
 {
     if stream.has_failed() {
@@ -225,16 +212,14 @@ where
 
 /// Reads white space, and items with white space after each, until one is missing. Each fault is committed: that of an item, of
 /// an item that takes no character, of memory and of a failed stream.
-pub fn zero_or_more_parser<S: CharStream, R: ItemAnswer, F: FnMut(&mut S) -> R + Drop>(
+pub fn zero_or_more_parser<S: CharStream, X: Drop, A: Drop, F: FnMut(&mut S) -> ParseResult<X, A> + Drop>(
     stream: &mut S,
     item: F,
-) -> ParseResult<Vec<R::Value>, R::Own>
+) -> ParseResult<Vec<X>, A>
 where
-    R::Value: Drop,
-    R::Own: Drop,
     requires callable { F.IsAlwaysCallable item }
-    requires rules { AlwaysKeepsRules S.view S.at R.seen F.FnMut }
-    ensures answers { UnlessFailed S.view S.at (SpacedItems S.view S.at (Calls R.seen F.FnMut) item) (S.view stream.old).failed stream.old (listed result) stream.new }
+    requires rules { AlwaysKeepsRules S.view S.at (λ r. r) F.FnMut }
+    ensures answers { UnlessFailed S.view S.at (SpacedItems S.view S.at (Calls (λ r. r) F.FnMut) item) (S.view stream.old).failed stream.old (listed result) stream.new }
     ensures kept { KeepsRules S.view S.at stream.old result stream.new }
 {
     if stream.has_failed() {
@@ -246,16 +231,14 @@ where
 
 /// Reads white space, the item and white space. White space counts as read: where it stands first, the item's fault is committed and
 /// the stream fails; where none does, the item's fault is the answer.
-pub fn spaced<S: CharStream, R: ItemAnswer, F: FnMut(&mut S) -> R + Drop>(
+pub fn spaced<S: CharStream, X: Drop, A: Drop, F: FnMut(&mut S) -> ParseResult<X, A> + Drop>(
     stream: &mut S,
     mut item: F,
-) -> ParseResult<R::Value, R::Own>
+) -> ParseResult<X, A>
 where
-    R::Value: Drop,
-    R::Own: Drop,
     requires callable { F.IsAlwaysCallable item }
-    requires rules { AlwaysKeepsRules S.view S.at R.seen F.FnMut }
-    ensures answers { UnlessFailed S.view S.at (Spaced S.view S.at (Calls R.seen F.FnMut) item) (S.view stream.old).failed stream.old result stream.new }
+    requires rules { AlwaysKeepsRules S.view S.at (λ r. r) F.FnMut }
+    ensures answers { UnlessFailed S.view S.at (Spaced S.view S.at (Calls (λ r. r) F.FnMut) item) (S.view stream.old).failed stream.old result stream.new }
     ensures kept { KeepsRules S.view S.at stream.old result stream.new }
 {
     if stream.has_failed() {
@@ -263,7 +246,7 @@ where
     }
     let begun = begins(stream, Class::WhiteSpace);
     skip_white_space(stream);
-    match item(stream).into_answer() {
+    match item(stream) {
         Ok(x) => {
             skip_white_space(stream);
             Ok(x)

@@ -1,15 +1,12 @@
-use Rattle.std.proofs.Common.{◌∙◌}
-use Rattle.irtext_read.specs.AttrTexts.{names_after}
-use Rattle.irtext_read.proofs.ListOutcomes.{list_begun, list_empty}
+use Rattle.std.proofs.Common.{◌≡◌, of_calls, map-id, refl, sym, subst}
+use Rattle.irtext_read.specs.AttrTexts.{given_name_at, names_at}
+use Rattle.irtext_read.specs.MustRead.{MayRead}
+use Rattle.irtext_read.proofs.ListReads.{list_reads}
 use Rattle.irtext_read.proofs.Steps.{alone}
 use Rattle.irtext_read.proofs.irfmt.parsers.attributes.names.Goals as goal
 
-pub returns-in-Ok : goal.returns-in-Ok
-returns-in-Ok g c =
-    let h = rw c.new-found.ensures.items at c.in-Ok.ensures.read in
-    list_begun alone names_after h c.more_names.ensures
-
-pub returns-else-fault : goal.returns-else-fault
-returns-else-fault g c =
-    let h = rw c.new-found.ensures.items at c.in-Err.ensures.read in
-    list_empty alone names_after c.push_name.new.found (c.in-Err.ensures.unread ∙ c.new-found.ensures.items) c.if-fault.false h
+pub returns : goal.returns
+returns g c =
+    list_reads alone (λ name. name) 44 given_name_at (λ r. r) _ (λ names. names.items) (λ v. sym (map-id v.items)) _ c.args.stream.now c.list_parser.result c.list_parser.new.stream (λ f s answer k t e.
+        let h : MayRead (λ s. s) (λ s v. v) (λ name. name) given_name_at e.shown.now answer e.left.now = search of_calls in
+        subst (λ z. MayRead (λ s. s) (λ s v. v) (λ name. name) given_name_at z answer t) e.shows (subst (λ z. MayRead (λ s. s) (λ s v. v) (λ name. name) given_name_at e.shown.now answer z) e.leaves h)) c.list_parser.ensures.answers

@@ -8,32 +8,32 @@ use Rattle.irtext_read.proofs.ListRules.{delimited_list_keeps}
 use Rattle.irtext_read.proofs.irfmt.parsers.lists.delimited_list_parser.Goals as goal
 
 pub returns-then-not-next_is-clause-answers : goal.returns-then-not-next_is-clause-answers
-returns-then-not-next_is-clause-answers g c = unless_met g.S.CharStream.view g.S.CharStream.at (Delimited g.S.CharStream.view g.S.CharStream.at (Calls g.R.ItemAnswer.seen g.F.FnMut) c.args.left c.args.right c.args.sep c.args.item) (g.S.CharStream.view c.args.stream.now).failed c.args.stream.now _ _ (sym c.has_failed.ensures ∙ c.if-has_failed.false) (no_left _ _ _ _ (sym c.next_is.ensures ∙ c.if-not-next_is.true) c.unexpected.ensures)
+returns-then-not-next_is-clause-answers g c = unless_met g.S.CharStream.view g.S.CharStream.at (Delimited g.S.CharStream.view g.S.CharStream.at (Calls (λ r. r) g.F.FnMut) c.args.left c.args.right c.args.sep c.args.item) (g.S.CharStream.view c.args.stream.now).failed c.args.stream.now _ _ (sym c.has_failed.ensures ∙ c.if-has_failed.false) (no_left _ _ _ _ (sym c.next_is.ensures ∙ c.if-not-next_is.true) c.unexpected.ensures)
 
 pub returns-in_err-found-clause-answers : goal.returns-in_err-found-clause-answers
 returns-in_err-found-clause-answers g c =
     let opens : Opens g.S.CharStream.view g.S.CharStream.at c.args.left c.args.stream.now c.skip_white_space.new.stream = record { mid = c.take.new.self; begins_so = sym c.next_is.ensures ∙ c.if-not-next_is.false; taken = c.take.ensures.after; skips = c.skip_white_space.ensures.is } in
     let p = err_from_is_err_and c.from_residual.result c.from_residual.ensures.1 in
-    rw (p.1, p.2) (unless_met g.S.CharStream.view g.S.CharStream.at (Delimited g.S.CharStream.view g.S.CharStream.at (Calls g.R.ItemAnswer.seen g.F.FnMut) c.args.left c.args.right c.args.sep c.args.item) (g.S.CharStream.view c.args.stream.now).failed c.args.stream.now _ _ (sym c.has_failed.ensures ∙ c.if-has_failed.false) (bad_inside _ _ _ _ _ opens c.in_err-found.ensures))
+    rw (p.1, p.2) (unless_met g.S.CharStream.view g.S.CharStream.at (Delimited g.S.CharStream.view g.S.CharStream.at (Calls (λ r. r) g.F.FnMut) c.args.left c.args.right c.args.sep c.args.item) (g.S.CharStream.view c.args.stream.now).failed c.args.stream.now _ _ (sym c.has_failed.ensures ∙ c.if-has_failed.false) (bad_inside _ _ _ _ _ opens c.in_err-found.ensures))
 
 pub returns-in_err-found-clause-kept : goal.returns-in_err-found-clause-kept
 returns-in_err-found-clause-kept g c =
     let opens : Opens g.S.CharStream.view g.S.CharStream.at c.args.left c.args.stream.now c.skip_white_space.new.stream = record { mid = c.take.new.self; begins_so = sym c.next_is.ensures ∙ c.if-not-next_is.false; taken = c.take.ensures.after; skips = c.skip_white_space.ensures.is } in
     let p = err_from_is_err_and c.from_residual.result c.from_residual.ensures.1 in
-    delimited_list_keeps g.S.CharStream.view g.S.CharStream.at g.met.S.CharStream.view_at g.R.ItemAnswer.seen g.F.FnMut c.requires.rules c.args.left c.args.right c.args.sep c.args.item c.args.stream.now c.from_residual.result c.separated.new.stream (rw (p.1, p.2) (bad_inside _ _ _ _ _ opens c.in_err-found.ensures))
+    delimited_list_keeps g.S.CharStream.view g.S.CharStream.at g.met.S.CharStream.view_at (λ r. r) g.F.FnMut c.requires.rules c.args.left c.args.right c.args.sep c.args.item c.args.stream.now c.from_residual.result c.separated.new.stream (rw (p.1, p.2) (bad_inside _ _ _ _ _ opens c.in_err-found.ensures))
 
 pub returns-then-not-next_is-2-clause-answers : goal.returns-then-not-next_is-2-clause-answers
 returns-then-not-next_is-2-clause-answers g c =
     let opens : Opens g.S.CharStream.view g.S.CharStream.at c.args.left c.args.stream.now c.skip_white_space.new.stream = record { mid = c.take.new.self; begins_so = sym c.next_is.ensures ∙ c.if-not-next_is.false; taken = c.take.ensures.after; skips = c.skip_white_space.ensures.is } in
     let missing = passes_demanded g.S.CharStream.view g.S.CharStream.at (Unexpected (first_of (g.S.CharStream.view c.separated.new.stream).rest) (Word (c.args.right ∷ []))) c.separated.new.stream c.unexpected-fault.result c.demanded.result c.demanded.new.stream c.unexpected-fault.ensures c.demanded.ensures in
-    unless_met g.S.CharStream.view g.S.CharStream.at (Delimited g.S.CharStream.view g.S.CharStream.at (Calls g.R.ItemAnswer.seen g.F.FnMut) c.args.left c.args.right c.args.sep c.args.item) (g.S.CharStream.view c.args.stream.now).failed c.args.stream.now _ _ (sym c.has_failed.ensures ∙ c.if-has_failed.false) (no_right _ _ _ _ _ _ _ opens c.in_ok-found.ensures (sym c.next_is-2.ensures ∙ c.if-not-next_is-2.true) missing)
+    unless_met g.S.CharStream.view g.S.CharStream.at (Delimited g.S.CharStream.view g.S.CharStream.at (Calls (λ r. r) g.F.FnMut) c.args.left c.args.right c.args.sep c.args.item) (g.S.CharStream.view c.args.stream.now).failed c.args.stream.now _ _ (sym c.has_failed.ensures ∙ c.if-has_failed.false) (no_right _ _ _ _ _ _ _ opens c.in_ok-found.ensures (sym c.next_is-2.ensures ∙ c.if-not-next_is-2.true) missing)
 
 pub returns-clause-answers : goal.returns-clause-answers
 returns-clause-answers g c =
     let opens : Opens g.S.CharStream.view g.S.CharStream.at c.args.left c.args.stream.now c.skip_white_space.new.stream = record { mid = c.take.new.self; begins_so = sym c.next_is.ensures ∙ c.if-not-next_is.false; taken = c.take.ensures.after; skips = c.skip_white_space.ensures.is } in
-    unless_met g.S.CharStream.view g.S.CharStream.at (Delimited g.S.CharStream.view g.S.CharStream.at (Calls g.R.ItemAnswer.seen g.F.FnMut) c.args.left c.args.right c.args.sep c.args.item) (g.S.CharStream.view c.args.stream.now).failed c.args.stream.now _ _ (sym c.has_failed.ensures ∙ c.if-has_failed.false) (closed _ _ _ _ _ _ opens c.in_ok-found.ensures (sym c.next_is-2.ensures ∙ c.if-not-next_is-2.false) c.take-2.ensures.after)
+    unless_met g.S.CharStream.view g.S.CharStream.at (Delimited g.S.CharStream.view g.S.CharStream.at (Calls (λ r. r) g.F.FnMut) c.args.left c.args.right c.args.sep c.args.item) (g.S.CharStream.view c.args.stream.now).failed c.args.stream.now _ _ (sym c.has_failed.ensures ∙ c.if-has_failed.false) (closed _ _ _ _ _ _ opens c.in_ok-found.ensures (sym c.next_is-2.ensures ∙ c.if-not-next_is-2.false) c.take-2.ensures.after)
 
 pub returns-clause-kept : goal.returns-clause-kept
 returns-clause-kept g c =
     let opens : Opens g.S.CharStream.view g.S.CharStream.at c.args.left c.args.stream.now c.skip_white_space.new.stream = record { mid = c.take.new.self; begins_so = sym c.next_is.ensures ∙ c.if-not-next_is.false; taken = c.take.ensures.after; skips = c.skip_white_space.ensures.is } in
-    delimited_list_keeps g.S.CharStream.view g.S.CharStream.at g.met.S.CharStream.view_at g.R.ItemAnswer.seen g.F.FnMut c.requires.rules c.args.left c.args.right c.args.sep c.args.item c.args.stream.now (Ok c.in_ok-found.found) c.take-2.new.self (closed _ _ _ _ _ _ opens c.in_ok-found.ensures (sym c.next_is-2.ensures ∙ c.if-not-next_is-2.false) c.take-2.ensures.after)
+    delimited_list_keeps g.S.CharStream.view g.S.CharStream.at g.met.S.CharStream.view_at (λ r. r) g.F.FnMut c.requires.rules c.args.left c.args.right c.args.sep c.args.item c.args.stream.now (Ok c.in_ok-found.found) c.take-2.new.self (closed _ _ _ _ _ _ opens c.in_ok-found.ensures (sym c.next_is-2.ensures ∙ c.if-not-next_is-2.false) c.take-2.ensures.after)

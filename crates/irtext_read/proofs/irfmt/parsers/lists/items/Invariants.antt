@@ -6,8 +6,8 @@ use Rattle.irtext_read.proofs.irfmt.parsers.lists.items.Given as goal
 abbrev pub invariant-loop-x : goal.invariant-loop-x
 invariant-loop-x g l =
     goal.F-IsAlwaysCallable g l.item
-    × ((r : _) (u : _) → Items g.S.CharStream.view g.S.CharStream.at (Calls g.R.ItemAnswer.seen g.F.FnMut) l.item l.stream r u
-    → Items g.S.CharStream.view g.S.CharStream.at (Calls g.R.ItemAnswer.seen g.F.FnMut) l.fn.item l.fn.stream (prepended l.found.items r) u)
+    × ((r : _) (u : _) → Items g.S.CharStream.view g.S.CharStream.at (Calls (λ r. r) g.F.FnMut) l.item l.stream r u
+    → Items g.S.CharStream.view g.S.CharStream.at (Calls (λ r. r) g.F.FnMut) l.fn.item l.fn.stream (prepended l.found.items r) u)
 
 abbrev pub decreases-loop-x : goal.decreases-loop-x
 decreases-loop-x g l = length (g.S.CharStream.view l.stream).rest

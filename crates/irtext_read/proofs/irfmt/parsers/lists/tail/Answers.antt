@@ -5,28 +5,28 @@ use Rattle.irtext_read.proofs.irfmt.parsers.lists.tail.Goals as goal
 
 pub returns-then-is_err : goal.returns-then-is_err
 returns-then-is_err g c =
-    let called : Calls g.R.ItemAnswer.seen g.F.FnMut c.loop-sep.item c.skip_white_space.new.stream (Ok c.in-Ok.x) c.item.new.self c.item.new.arg2 = called_at c.item.ensures c.in-Ok.ensures in
+    let called : Calls (λ r. r) g.F.FnMut c.loop-sep.item c.skip_white_space.new.stream (Ok c.in-Ok.x) c.item.new.self c.item.new.arg2 = called_at c.in-Ok.ensures refl in
     let opens : Opens g.S.CharStream.view g.S.CharStream.at c.args.sep c.loop-sep.stream c.skip_white_space.new.stream = record { mid = c.take.new.self; begins_so = sym c.loop-sep-test.ensures; taken = c.take.ensures.after; skips = c.skip_white_space.ensures.is } in
     let f = c.refuse.ensures in
     c.loop-sep.invariant.1 _ _ (_, no_more_room _ _ _ _ _ _ _ _ opens called (record { because = f.because; committed = f.committed; left = f.left }), refl)
 
 pub returns-in-Err : goal.returns-in-Err
 returns-in-Err g c =
-    let called : Calls g.R.ItemAnswer.seen g.F.FnMut c.loop-sep.item c.skip_white_space.new.stream (Err c.in-Err.fault) c.item.new.self c.item.new.arg2 = called_at c.item.ensures c.in-Err.ensures in
+    let called : Calls (λ r. r) g.F.FnMut c.loop-sep.item c.skip_white_space.new.stream (Err c.in-Err.fault) c.item.new.self c.item.new.arg2 = called_at c.in-Err.ensures refl in
     let opens : Opens g.S.CharStream.view g.S.CharStream.at c.args.sep c.loop-sep.stream c.skip_white_space.new.stream = record { mid = c.take.new.self; begins_so = sym c.loop-sep-test.ensures; taken = c.take.ensures.after; skips = c.skip_white_space.ensures.is } in
     c.loop-sep.invariant.1 _ _ (_, insisted _ _ _ _ _ _ _ _ opens called c.insisted.ensures, refl)
 
 pub loop-sep-smaller : goal.loop-sep-smaller
 loop-sep-smaller g c =
     let m = g.S.CharStream in
-    let called : Calls g.R.ItemAnswer.seen g.F.FnMut c.loop-sep.item c.skip_white_space.new.stream (Ok c.in-Ok.x) c.item.new.self c.item.new.arg2 = called_at c.item.ensures c.in-Ok.ensures in
+    let called : Calls (λ r. r) g.F.FnMut c.loop-sep.item c.skip_white_space.new.stream (Ok c.in-Ok.x) c.item.new.self c.item.new.arg2 = called_at c.in-Ok.ensures refl in
     let opens : Opens m.view m.at c.args.sep c.loop-sep.stream c.skip_white_space.new.stream = record { mid = c.take.new.self; begins_so = sym c.loop-sep-test.ensures; taken = c.take.ensures.after; skips = c.skip_white_space.ensures.is } in
     let hands : HandsOn m.view m.at c.skip_white_space.new.stream c.item.new.arg2 = rules_at m.view m.at c.requires.rules _ _ _ _ _ called in
     tail_lt m.view m.at g.met.S.CharStream.view_at g.met.S.CharStream.at_at _ _ _ _ _ opens hands c.skip_white_space-in-loop-sep.ensures.is
 
 pub loop-sep-preserved : goal.loop-sep-preserved
 loop-sep-preserved g c =
-    let called : Calls g.R.ItemAnswer.seen g.F.FnMut c.loop-sep.item c.skip_white_space.new.stream (Ok c.in-Ok.x) c.item.new.self c.item.new.arg2 = called_at c.item.ensures c.in-Ok.ensures in
+    let called : Calls (λ r. r) g.F.FnMut c.loop-sep.item c.skip_white_space.new.stream (Ok c.in-Ok.x) c.item.new.self c.item.new.arg2 = called_at c.in-Ok.ensures refl in
     let opens : Opens g.S.CharStream.view g.S.CharStream.at c.args.sep c.loop-sep.stream c.skip_white_space.new.stream = record { mid = c.take.new.self; begins_so = sym c.loop-sep-test.ensures; taken = c.take.ensures.after; skips = c.skip_white_space.ensures.is } in
     let grown : c.push.new.self.items ≡ c.loop-sep.found.items ++ (c.in-Ok.x ∷ []) = search rules in (
       search of_calls,

@@ -6,8 +6,8 @@ use Rattle.irtext_read.proofs.irfmt.parsers.lists.tail.Given as goal
 abbrev pub invariant-loop-sep : goal.invariant-loop-sep
 invariant-loop-sep g l =
     goal.F-IsAlwaysCallable g l.item
-    × ((q : _) (u : _) → TailAfter g.S.CharStream.view g.S.CharStream.at (Calls g.R.ItemAnswer.seen g.F.FnMut) l.sep l.found.items l.item l.stream q u
-    → TailAfter g.S.CharStream.view g.S.CharStream.at (Calls g.R.ItemAnswer.seen g.F.FnMut) l.sep l.fn.found.items l.fn.item l.fn.stream q u)
+    × ((q : _) (u : _) → TailAfter g.S.CharStream.view g.S.CharStream.at (Calls (λ r. r) g.F.FnMut) l.sep l.found.items l.item l.stream q u
+    → TailAfter g.S.CharStream.view g.S.CharStream.at (Calls (λ r. r) g.F.FnMut) l.sep l.fn.found.items l.fn.item l.fn.stream q u)
 
 abbrev pub decreases-loop-sep : goal.decreases-loop-sep
 decreases-loop-sep g l = length (g.S.CharStream.view l.stream).rest
