@@ -18,3 +18,4 @@ pub mod Attributes
 pub mod SincereTokens
 pub mod ListsAsOutcomes
 pub mod ListReads
+pub mod QuotedText

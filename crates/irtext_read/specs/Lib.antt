@@ -11,3 +11,4 @@ pub mod MustRead
 pub mod ListOutcomes
 pub mod Infix
 pub mod AttrTexts
+pub mod QuotedBytes

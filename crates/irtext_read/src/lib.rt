@@ -4,3 +4,4 @@
 pub mod irfmt;
 pub mod laws;
 pub mod parsable;
+pub mod printable;

@@ -21,7 +21,7 @@ use irtext_base::result::{Cause, Expected};
 use irtext_base::text::{AttrText, IrText};
 use irtext_read::irfmt::faults::{demand, refuse};
 use irtext_read::irfmt::parsers::{quoted_string_parse, skip_white_space};
-use pliron_text::printable::fmt_quoted;
+use irtext_read::printable::fmt_quoted;
 use std::alloc::AllocError;
 use std::fmt;
 

@@ -4,7 +4,7 @@ use Rattle.irtext_base.specs.Text.{Text}
 use Rattle.irtext_base.specs.Format as format
 use Rattle.irtext_base.specs.Format.{Id, same_text}
 use Rattle.irtext_base.specs.Own.{Language, language, unplaced, Texts, missing}
-use Rattle.pliron_text.specs.Graph.{Printing}
+use Rattle.irtext_grammar.specs.Graphs.Graph.{Printing}
 
 -- an id of the dialect `builtin`
 abbrev pub builtin : Text → Id

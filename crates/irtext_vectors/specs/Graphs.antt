@@ -1,9 +1,9 @@
 -- Worked roots, as the arenas hold them.
 use Rattle.std.specs.Prelude.{ℕ, [], ◌∷◌, ◌++◌, codes, Option, Some, None}
 use Rattle.irtext_base.specs.Text.{Text}
-use Rattle.pliron_text.specs.Forest.{no_regions, region, no_blocks, block, no_operations, operation}
-use Rattle.pliron_text.specs.Graph.{Graph, GraphOp, GraphBlock}
-use Rattle.pliron_text.specs.Tree.{ident, own}
+use Rattle.irtext_grammar.specs.Grammar.Forest.{no_regions, region, no_blocks, block, no_operations, operation}
+use Rattle.irtext_grammar.specs.Graphs.Graph.{Graph, GraphOp, GraphBlock}
+use Rattle.irtext_grammar.specs.Grammar.Tree.{ident, own}
 use Rattle.irtext_vectors.specs.Demo.{builtin, test}
 
 -- a location on line 1 of a text in memory

@@ -2,9 +2,9 @@
 use Rattle.std.specs.Prelude.{true, not, ◌==◌, codes, None}
 use Rattle.irtext_base.specs.Own.{found, Standing}
 use Rattle.irtext_base.specs.Text.{after, front, Text}
-use Rattle.pliron_text.specs.Forest.{no_regions, region, no_blocks, block, no_operations, operation}
-use Rattle.pliron_text.specs.Graph.{Graph}
-use Rattle.pliron_text.specs.Same.{Locations}
+use Rattle.irtext_grammar.specs.Grammar.Forest.{no_regions, region, no_blocks, block, no_operations, operation}
+use Rattle.irtext_grammar.specs.Graphs.Graph.{Graph}
+use Rattle.irtext_grammar.specs.Graphs.Same.{Locations}
 use Rattle.irtext_vectors.specs.Graphs.{first_block, module_m, noted, on_line_one}
 
 -- a location is read up to `]`

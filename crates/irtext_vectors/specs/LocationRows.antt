@@ -5,8 +5,8 @@ use Rattle.irtext_base.specs.Answers.{Outcome, Read, mapped}
 use Rattle.irtext_base.specs.Locations.{AttrView, own, src_pos, fused, named, call_site, unknown, no_location, location}
 use Rattle.irtext_base.specs.Paths.{Written}
 use Rattle.irtext_read.specs.Tokens.{text_at}
-use Rattle.pliron_text.specs.LocationReading.{location_at}
-use Rattle.pliron_text.specs.LocationWriting.{written_text}
+use Rattle.irtext_outcomes.specs.Readers.Locations.{location_at}
+use Rattle.irtext_grammar.specs.Spelling.Locations.{written_text}
 
 -- the one attribute is read as a word
 abbrev pub note_at : Text → Outcome (AttrView ⊤)

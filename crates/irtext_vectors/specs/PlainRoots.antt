@@ -14,9 +14,9 @@ use Rattle.irtext_base.specs.declared.format.Directive.{Directive}
 use Rattle.irtext_base.specs.declared.format.OpFormat.TheVariants.{Custom}
 use Rattle.irtext_base.specs.declared.location.Location.{Unknown}
 use Rattle.std.specs.declared.alloc.Global.{Global}
-use Rattle.pliron_text.specs.Forest.{no_regions, region, no_blocks}
-use Rattle.pliron_text.specs.Graph.{Graph, Printing}
-use Rattle.pliron_text.specs.Tree.{ident, own}
+use Rattle.irtext_grammar.specs.Grammar.Forest.{no_regions, region, no_blocks}
+use Rattle.irtext_grammar.specs.Graphs.Graph.{Graph, Printing}
+use Rattle.irtext_grammar.specs.Grammar.Tree.{ident, own}
 use Rattle.irtext_vectors.specs.Demo.{test, texts, inline_printing}
 
 -- a symbol's name, `->`, an attribute, a dictionary, one region and those that are left

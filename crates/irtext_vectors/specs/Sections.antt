@@ -1,13 +1,13 @@
 -- Worked roots with their sections. A place is a number that falls along the text.
 use Rattle.std.specs.Prelude.{ℕ, List, [], ◌∷◌, codes, Some, None, ⊤}
 use Rattle.irtext_base.specs.Text.{Text}
-use Rattle.pliron_text.specs.Acts.{failures_of}
-use Rattle.pliron_text.specs.Build.{BuiltOp, BuiltBlock}
-use Rattle.pliron_text.specs.Forest.{Regions, no_regions, region, no_blocks, block, no_operations, operation}
-use Rattle.pliron_text.specs.ReadSection.{Item, direct, reference, Entry, of_item, of_once}
-use Rattle.pliron_text.specs.Script.{Failure, result}
-use Rattle.pliron_text.specs.Tree as tree
-use Rattle.pliron_text.specs.Tree.{Name, given_names, own, shown}
+use Rattle.irtext_grammar.specs.Names.Acts.{failures_of}
+use Rattle.irtext_grammar.specs.Graphs.Build.{BuiltOp, BuiltBlock}
+use Rattle.irtext_grammar.specs.Grammar.Forest.{Regions, no_regions, region, no_blocks, block, no_operations, operation}
+use Rattle.irtext_grammar.specs.Grammar.Section.{Item, direct, reference, Entry, of_item, of_once}
+use Rattle.irtext_grammar.specs.Names.Script.{Failure, result}
+use Rattle.irtext_grammar.specs.Grammar.Tree as tree
+use Rattle.irtext_grammar.specs.Grammar.Tree.{Name, given_names, own, shown}
 use Rattle.irtext_vectors.specs.Demo.{builtin, test, isolated}
 use Rattle.irtext_vectors.specs.Trees.{TextTree, at, marked}
 

@@ -5,11 +5,11 @@ use Rattle.irtext_base.specs.Format as format
 use Rattle.irtext_base.specs.Format.{Id}
 use Rattle.irtext_base.specs.Reading.{never}
 use Rattle.irtext_base.specs.Own.{Language, Texts, missing}
-use Rattle.pliron_text.specs.Forest.{Blocks, no_regions, region, no_blocks, block, Operations, no_operations, operation}
-use Rattle.pliron_text.specs.Script.{Cause, Failure}
-use Rattle.pliron_text.specs.Acts.{failures_of}
-use Rattle.pliron_text.specs.Tree as tree
-use Rattle.pliron_text.specs.Tree.{Name, Mark, own, Part, Op, Head, Brace, shown, Tree}
+use Rattle.irtext_grammar.specs.Grammar.Forest.{Blocks, no_regions, region, no_blocks, block, Operations, no_operations, operation}
+use Rattle.irtext_grammar.specs.Names.Script.{Cause, Failure}
+use Rattle.irtext_grammar.specs.Names.Acts.{failures_of}
+use Rattle.irtext_grammar.specs.Grammar.Tree as tree
+use Rattle.irtext_grammar.specs.Grammar.Tree.{Name, Mark, own, Part, Op, Head, Brace, shown, Tree}
 use Rattle.irtext_vectors.specs.Demo.{builtin, test, isolated}
 
 -- ---- a tree of no types and no attributes

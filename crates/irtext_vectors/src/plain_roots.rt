@@ -12,14 +12,14 @@ ghost use Rattle.irtext_base.specs.declared.format.Directive.{Directive};
 ghost use Rattle.irtext_base.specs.declared.format.Directive.TheVariants.{Region, SymbolHeader};
 ghost use Rattle.irtext_vectors.specs.Demo.{texts};
 ghost use Rattle.irtext_vectors.specs.PlainRoots.{all_isolated, by_plain_formats, func_context, func_graph, func_with, never, plain_demo, two_regions};
-ghost use Rattle.pliron_text.specs.Formats.{format_of};
-ghost use Rattle.pliron_text.specs.KeptRoot.{IsKept, StandsAlone};
-ghost use Rattle.pliron_text.specs.PlainRoot.{GivesWords, PlainRoot};
-ghost use Rattle.pliron_text.specs.PrintedOperation.{levels, printed, printing};
-ghost use Rattle.pliron_text.specs.Stands.{graph_of};
-ghost use Rattle.pliron_text.specs.Written.{fresh};
-ghost use Rattle.pliron_text.specs.declared.printable.state.RegionPrintDepthLimit.TheVariants.{Unlimited};
-ghost use Rattle.pliron_text.specs.Section.{text};
+ghost use Rattle.irtext_grammar.specs.Contexts.Formats.{format_of};
+ghost use Rattle.irtext_outcomes.specs.Promises.KeptRoot.{IsKept, StandsAlone};
+ghost use Rattle.pliron_text.specs.Promises.PlainRoot.{GivesWords, PlainRoot};
+ghost use Rattle.irtext_print.specs.Printers.PrintedOperation.{levels, printed, printing};
+ghost use Rattle.irtext_grammar.specs.Contexts.Held.{graph_of};
+ghost use Rattle.irtext_print.specs.Printers.Appended.{fresh};
+ghost use Rattle.irtext_print.specs.declared.printable.state.RegionPrintDepthLimit.TheVariants.{Unlimited};
+ghost use Rattle.irtext_grammar.specs.Spelling.Section.{text};
 
 /// A root without blocks, with a symbol's name, two attributes and two regions: how it is written, and that it meets every premise
 /// of the round trip of such roots.

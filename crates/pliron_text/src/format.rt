@@ -1,7 +1,3 @@
-//! The formats of operations, which of them read uniquely, and the reading of what they read.
-
-mod entries;
-pub(crate) mod pieces;
-mod region;
+//! The formats of operations, and which of them read uniquely.
 
 pub use irtext_base::format::{Directive, FormatFault, OpFormat, check_format};

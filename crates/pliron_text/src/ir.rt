@@ -1,10 +1,9 @@
 //! Operations and regions as text.
 
-pub(crate) mod print;
-mod read;
-mod verify;
+mod text;
 
-pub use print::concrete::OpObj;
-pub use print::debug::{OpDbg, print_dbg};
-pub use read::{OperationParserConfig, OperationText};
-pub use verify::{BasicBlockVerifyErr, DefUseVerifyErr};
+pub use irtext_parse::ir::read::OperationParserConfig;
+pub use irtext_print::ir::print::concrete::OpObj;
+pub use irtext_print::ir::print::debug::{OpDbg, print_dbg};
+pub use irtext_print::ir::verify::{BasicBlockVerifyErr, DefUseVerifyErr};
+pub use text::OperationText;

@@ -1,8 +1,5 @@
 //! Readers of tokens, stored printers, and the section of marked items.
 
-pub(crate) mod demanded;
-mod marker;
-pub mod outlined;
-pub mod printers;
-
+pub use irtext_parse::irfmt::outlined;
+pub use irtext_print::irfmt::printers;
 pub use irtext_read::irfmt::parsers;

@@ -8,7 +8,8 @@ pub mod ir;
 pub mod irfmt;
 pub mod laws;
 pub mod location;
-pub mod parsable;
-pub mod printable;
 pub mod result;
 pub mod text;
+
+pub use irtext_parse::parsable;
+pub use irtext_print::printable;

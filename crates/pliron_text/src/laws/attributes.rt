@@ -7,8 +7,8 @@ ghost use Rattle.irtext_base.specs.Locations.{AttrView};
 ghost use Rattle.irtext_base.specs.Own.{Ends, language, texts_of};
 ghost use Rattle.irtext_base.specs.Text.{after_space, begins, begins_word};
 ghost use Rattle.irtext_read.specs.AttrTexts.{attr_at};
-ghost use Rattle.pliron_text.specs.AttrText.{attr_text, attr_tree, FineAttr};
-ghost use Rattle.pliron_text.specs.Reads.{attribute};
+ghost use Rattle.irtext_grammar.specs.Spelling.AttrText.{attr_text, attr_tree, FineAttr};
+ghost use Rattle.irtext_grammar.specs.Grammar.Reads.{attribute};
 
 use irtext_base::text::{AttrText, IrText};
 

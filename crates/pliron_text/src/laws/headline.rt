@@ -8,14 +8,14 @@ ghost use Rattle.irtext_base.specs.declared.base.operation.Operation.{Operation}
 ghost use Rattle.irtext_base.specs.declared.parsable.fault.ParseFault.{ParseFault};
 ghost use Rattle.irtext_read.specs.AttrTexts.{attr_at};
 ghost use Rattle.irtext_read.specs.declared.parsable.state.StateStream.{StateStream};
-ghost use Rattle.pliron_text.specs.Graph.{Graph};
-ghost use Rattle.pliron_text.specs.Formats.{format_of};
-ghost use Rattle.pliron_text.specs.KeptRoot.{IsKept, StandsAlone};
-ghost use Rattle.pliron_text.specs.PrintedBack.{StandsBack};
-ghost use Rattle.pliron_text.specs.PrintedOperation.{levels, printed, printing};
-ghost use Rattle.pliron_text.specs.Shown.{Shown};
-ghost use Rattle.pliron_text.specs.Stands.{graph_of};
-ghost use Rattle.pliron_text.specs.TopLevel.{BuildsRoot, RefusesRoot};
+ghost use Rattle.irtext_grammar.specs.Graphs.Graph.{Graph};
+ghost use Rattle.irtext_grammar.specs.Contexts.Formats.{format_of};
+ghost use Rattle.irtext_outcomes.specs.Promises.KeptRoot.{IsKept, StandsAlone};
+ghost use Rattle.irtext_outcomes.specs.Promises.PrintedBack.{StandsBack};
+ghost use Rattle.irtext_print.specs.Printers.PrintedOperation.{levels, printed, printing};
+ghost use Rattle.irtext_print.specs.Printers.Shown.{Shown};
+ghost use Rattle.irtext_grammar.specs.Contexts.Held.{graph_of};
+ghost use Rattle.irtext_outcomes.specs.Promises.Root.{BuildsRoot, RefusesRoot};
 
 use irtext_base::text::{AttrText, IrText};
 

@@ -5,15 +5,15 @@ ghost use Rattle.irtext_base.specs.Format.{Format, Id};
 ghost use Rattle.irtext_base.specs.Own.{language, Texts};
 ghost use Rattle.irtext_base.specs.Reading.{the};
 ghost use Rattle.irtext_base.specs.Text.{begins, front, in_word};
-ghost use Rattle.pliron_text.specs.Acts.{word_of};
-ghost use Rattle.pliron_text.specs.Forest.{Blocks};
-ghost use Rattle.pliron_text.specs.LabelPlaces.{Fails, IsDefined, Passes};
-ghost use Rattle.pliron_text.specs.Placeholders.{In};
-ghost use Rattle.pliron_text.specs.Reads.{block_readings, label, region_read, target};
-ghost use Rattle.pliron_text.specs.Scopes.{uses};
-ghost use Rattle.pliron_text.specs.Script.{define_label, use_label, within, MultipleDefinitions, NoActiveScope, Place, UnresolvedReference, User};
-ghost use Rattle.pliron_text.specs.TextScopes.{facts, failures, left_open, Fact, Failure, Scopes, Script};
-ghost use Rattle.pliron_text.specs.Tree.{shown, Brace, Head, Name, Op};
+ghost use Rattle.irtext_grammar.specs.Names.Acts.{word_of};
+ghost use Rattle.irtext_grammar.specs.Grammar.Forest.{Blocks};
+ghost use Rattle.irtext_grammar.specs.Names.LabelPlaces.{Fails, IsDefined, Passes};
+ghost use Rattle.irtext_grammar.specs.Names.Placeholders.{In};
+ghost use Rattle.irtext_grammar.specs.Grammar.Reads.{block_readings, label, region_read, target};
+ghost use Rattle.irtext_grammar.specs.Names.Scopes.{uses};
+ghost use Rattle.irtext_grammar.specs.Names.Script.{define_label, use_label, within, MultipleDefinitions, NoActiveScope, Place, UnresolvedReference, User};
+ghost use Rattle.irtext_grammar.specs.Names.TextScopes.{facts, failures, left_open, Fact, Failure, Scopes, Script};
+ghost use Rattle.irtext_grammar.specs.Grammar.Tree.{shown, Brace, Head, Name, Op};
 
 /// A label that is used stands at its name, which goes on behind the `^`. Outside of every region it fails there; in a region
 /// the use itself fails by nothing.

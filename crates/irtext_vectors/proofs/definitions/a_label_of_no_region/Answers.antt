@@ -3,8 +3,8 @@ use Rattle.std.proofs.Common.{inr, sym, ap, ◌∙◌, true≢false}
 use Rattle.irtext_base.specs.Text.{Text, begins, after_space}
 use Rattle.irtext_base.specs.Reading.{the}
 use Rattle.irtext_base.specs.Format as format
-use Rattle.pliron_text.specs.Tree.{Name}
-use Rattle.pliron_text.specs.Reads.{results}
+use Rattle.irtext_grammar.specs.Grammar.Tree.{Name}
+use Rattle.irtext_grammar.specs.Grammar.Reads.{results}
 use Rattle.irtext_vectors.specs.Demo.{counted_demo}
 use Rattle.irtext_vectors.proofs.definitions.a_label_of_no_region.Goals as goal
 

@@ -2,8 +2,8 @@ use Rattle.std.specs.Prelude.{[], ◌∷◌, refl}
 use Rattle.std.proofs.Common.{inl}
 use Rattle.irtext_base.specs.Format as format
 use Rattle.irtext_base.specs.Own.{Lawful, Unreserved}
-use Rattle.pliron_text.specs.Writable.{Writable}
-use Rattle.pliron_text.proofs.BackTree.{reads_back}
+use Rattle.irtext_grammar.specs.Spelling.Writable.{Writable}
+use Rattle.irtext_grammar.proofs.Grammar.BackTree.{reads_back}
 use Rattle.irtext_vectors.specs.Trees.{none, only_modules, empty_block}
 use Rattle.irtext_vectors.proofs.definitions.an_empty_block.Goals as goal
 

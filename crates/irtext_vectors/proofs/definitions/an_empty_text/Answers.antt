@@ -1,8 +1,8 @@
 use Rattle.std.specs.Prelude.{◌≡◌, ℕ, List, [], ◌∷◌, ◌==◌}
 use Rattle.std.proofs.Common.{inl, inr, sym, ◌∙◌, ap, true≢false}
 use Rattle.irtext_base.specs.Text.{Text, begins, begins_word, after_space}
-use Rattle.pliron_text.specs.Tree.{Name}
-use Rattle.pliron_text.specs.Reads.{results}
+use Rattle.irtext_grammar.specs.Grammar.Tree.{Name}
+use Rattle.irtext_grammar.specs.Grammar.Reads.{results}
 use Rattle.irtext_vectors.specs.Trees.{only_modules}
 use Rattle.irtext_vectors.proofs.definitions.an_empty_text.Goals as goal
 

@@ -5,12 +5,12 @@ use Rattle.irtext_base.proofs.Characters.{after_all, front_all}
 use Rattle.irtext_base.specs.Own.{found}
 use Rattle.irtext_base.specs.Reading.{the}
 use Rattle.irtext_base.specs.Text.{begins, Text}
-use Rattle.pliron_text.proofs.SameText.{same_text_refl, same_text_true}
-use Rattle.pliron_text.specs.Closed.{Fit}
-use Rattle.pliron_text.specs.Fillable.{GraphKeepsKeys}
-use Rattle.pliron_text.specs.RoundTrip.{GraphHeld, LocationReads}
-use Rattle.pliron_text.specs.Same.{SmallGraph}
-use Rattle.pliron_text.specs.Wordy.{Wordy}
+use Rattle.irtext_grammar.proofs.Lists.SameText.{same_text_refl, same_text_true}
+use Rattle.irtext_grammar.specs.Graphs.Closed.{Fit}
+use Rattle.irtext_grammar.specs.Graphs.Fillable.{GraphKeepsKeys}
+use Rattle.irtext_grammar.specs.Graphs.RoundTrip.{GraphHeld, LocationReads}
+use Rattle.irtext_grammar.specs.Graphs.Same.{SmallGraph}
+use Rattle.irtext_grammar.specs.Graphs.Wordy.{Wordy}
 use Rattle.irtext_vectors.specs.Demo.{isolated, plain_printing}
 use Rattle.irtext_vectors.specs.Graphs.{on_line_one}
 use Rattle.irtext_vectors.specs.Located.{note_on_line_one, text_locations, up_to_bracket}

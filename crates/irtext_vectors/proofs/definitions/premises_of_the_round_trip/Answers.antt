@@ -1,9 +1,9 @@
 use Rattle.std.specs.Prelude.{◌≡◌, refl, Some, None}
 use Rattle.std.proofs.Common.{arith}
-use Rattle.pliron_text.specs.Closed.{Fit}
-use Rattle.pliron_text.specs.Fillable.{GraphKeepsKeys}
-use Rattle.pliron_text.specs.Same.{SmallGraph}
-use Rattle.pliron_text.specs.Wordy.{Wordy}
+use Rattle.irtext_grammar.specs.Graphs.Closed.{Fit}
+use Rattle.irtext_grammar.specs.Graphs.Fillable.{GraphKeepsKeys}
+use Rattle.irtext_grammar.specs.Graphs.Same.{SmallGraph}
+use Rattle.irtext_grammar.specs.Graphs.Wordy.{Wordy}
 use Rattle.irtext_vectors.specs.Demo.{isolated, plain_printing}
 use Rattle.irtext_vectors.specs.Graphs.{use_before_definition}
 use Rattle.irtext_vectors.proofs.definitions.premises_of_the_round_trip.Goals as goal

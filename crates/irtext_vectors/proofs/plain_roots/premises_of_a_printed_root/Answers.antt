@@ -12,16 +12,16 @@ use Rattle.irtext_base.specs.declared.base.region.Region.{Region}
 use Rattle.irtext_base.specs.declared.format.Directive as code
 use Rattle.irtext_base.specs.declared.format.Directive.TheVariants as step
 use Rattle.irtext_base.specs.Paths.{written_with}
-use Rattle.pliron_text.specs.AttrText.{FineAttr}
-use Rattle.pliron_text.specs.Formats.{format_of}
-use Rattle.pliron_text.specs.Graph.{Printing, body_of, written}
-use Rattle.pliron_text.specs.KeptRoot.{AllHold, IsKept}
-use Rattle.pliron_text.specs.PrintedOperation.{fits_format, printing}
-use Rattle.pliron_text.specs.Shown.{Shown}
-use Rattle.pliron_text.specs.Spell.{spelled}
-use Rattle.pliron_text.specs.WrittenBack.{AllFit}
-use Rattle.pliron_text.specs.Written.{fresh}
-use Rattle.pliron_text.specs.declared.printable.state.RegionPrintDepthLimit.TheVariants.{Unlimited}
+use Rattle.irtext_grammar.specs.Spelling.AttrText.{FineAttr}
+use Rattle.irtext_grammar.specs.Contexts.Formats.{format_of}
+use Rattle.irtext_grammar.specs.Graphs.Graph.{Printing, body_of, written}
+use Rattle.irtext_outcomes.specs.Promises.KeptRoot.{AllHold, IsKept}
+use Rattle.irtext_print.specs.Printers.PrintedOperation.{fits_format, printing}
+use Rattle.irtext_print.specs.Printers.Shown.{Shown}
+use Rattle.irtext_grammar.specs.Spelling.Spell.{spelled}
+use Rattle.irtext_outcomes.specs.Promises.WrittenBack.{AllFit}
+use Rattle.irtext_print.specs.Printers.Appended.{fresh}
+use Rattle.irtext_print.specs.declared.printable.state.RegionPrintDepthLimit.TheVariants.{Unlimited}
 use Rattle.irtext_base.proofs.LocationViews.{seen-unknown}
 use Rattle.irtext_vectors.specs.Demo.{texts}
 use Rattle.irtext_vectors.specs.PlainRoots.{func_context, func_graph, func_with, never}

@@ -1,18 +1,18 @@
 use Rattle.std.specs.Prelude.{◌++◌, length, refl}
 use Rattle.std.proofs.Common.{inr, ap, sym, subst, ◌∙◌, append_assoc}
 use Rattle.irtext_base.specs.Own.{texts_of, unplaced, language}
-use Rattle.pliron_text.specs.Spell.{spelled}
-use Rattle.pliron_text.specs.Graph.{written, entries_of}
-use Rattle.pliron_text.specs.Section.{section}
-use Rattle.pliron_text.specs.Reads.{reads}
-use Rattle.pliron_text.specs.Bare.{bare}
-use Rattle.pliron_text.specs.LeftOut.{AllShown}
-use Rattle.pliron_text.proofs.BackTree as back
-use Rattle.pliron_text.proofs.Placed as placed
-use Rattle.pliron_text.proofs.Unique as unique
-use Rattle.pliron_text.proofs.Lenient.{lenient, lenient_reads, bare_all_shown}
-use Rattle.pliron_text.proofs.WrittenFine.{written_fine_under}
-use Rattle.pliron_text.proofs.BehindSection.{section_behind}
+use Rattle.irtext_grammar.specs.Spelling.Spell.{spelled}
+use Rattle.irtext_grammar.specs.Graphs.Graph.{written, entries_of}
+use Rattle.irtext_grammar.specs.Spelling.Section.{section}
+use Rattle.irtext_grammar.specs.Grammar.Reads.{reads}
+use Rattle.irtext_grammar.specs.Grammar.Bare.{bare}
+use Rattle.irtext_grammar.specs.Grammar.LeftOut.{AllShown}
+use Rattle.irtext_grammar.proofs.Grammar.BackTree as back
+use Rattle.irtext_grammar.proofs.Grammar.Placed as placed
+use Rattle.irtext_grammar.proofs.Grammar.Unique as unique
+use Rattle.irtext_grammar.proofs.Grammar.Lenient.{lenient, lenient_reads, bare_all_shown}
+use Rattle.irtext_grammar.proofs.Graphs.WrittenFine.{written_fine_under}
+use Rattle.irtext_grammar.proofs.Sections.BehindSection.{section_behind}
 use Rattle.pliron_text.proofs.laws.left_out_is_refused.Goals as goal
 
 pub returns : goal.returns

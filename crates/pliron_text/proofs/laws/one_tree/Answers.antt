@@ -1,6 +1,6 @@
 use Rattle.std.proofs.Common.{sym, ◌∙◌}
 use Rattle.irtext_base.specs.Own.{texts_of, language}
-use Rattle.pliron_text.proofs.Unique as unique
+use Rattle.irtext_grammar.proofs.Grammar.Unique as unique
 use Rattle.pliron_text.proofs.laws.one_tree.Goals as goal
 
 pub returns : goal.returns

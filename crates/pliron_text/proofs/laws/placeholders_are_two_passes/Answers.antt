@@ -1,5 +1,5 @@
-use Rattle.pliron_text.specs.Acts.{root_script}
-use Rattle.pliron_text.proofs.Reading.{reads_bound}
+use Rattle.irtext_grammar.specs.Names.Acts.{root_script}
+use Rattle.irtext_grammar.proofs.Names.Reading.{reads_bound}
 use Rattle.pliron_text.proofs.laws.placeholders_are_two_passes.Goals as goal
 
 pub returns : goal.returns

@@ -1,4 +1,4 @@
-use Rattle.pliron_text.proofs.Injective.{values_differ, blocks_differ, value_no_block}
+use Rattle.irtext_grammar.proofs.Names.Injective.{values_differ, blocks_differ, value_no_block}
 use Rattle.pliron_text.proofs.laws.printed_names_differ.Goals as goal
 
 pub returns-clause-values : goal.returns-clause-values

@@ -1,8 +1,8 @@
 use Rattle.std.specs.Prelude.{◌++◌, length, refl}
 use Rattle.irtext_base.specs.Own.{texts_of, unplaced, language}
-use Rattle.pliron_text.specs.Spell.{spelled}
-use Rattle.pliron_text.proofs.BackTree as back
-use Rattle.pliron_text.proofs.Placed as placed
+use Rattle.irtext_grammar.specs.Spelling.Spell.{spelled}
+use Rattle.irtext_grammar.proofs.Grammar.BackTree as back
+use Rattle.irtext_grammar.proofs.Grammar.Placed as placed
 use Rattle.pliron_text.proofs.laws.reads_back.Goals as goal
 
 pub returns : goal.returns

@@ -1,14 +1,14 @@
 use Rattle.std.specs.Prelude.{None, ◌++◌, length, refl}
 use Rattle.std.proofs.Common.{sym, subst, append_assoc}
 use Rattle.irtext_base.specs.Own.{texts_of, unplaced, language}
-use Rattle.pliron_text.specs.Spell.{spelled}
-use Rattle.pliron_text.specs.Graph.{written, entries_of}
-use Rattle.pliron_text.specs.Section.{section}
-use Rattle.pliron_text.specs.Reads.{reads}
-use Rattle.pliron_text.proofs.BackTree as back
-use Rattle.pliron_text.proofs.Placed as placed
-use Rattle.pliron_text.proofs.WrittenFine.{written_fine}
-use Rattle.pliron_text.proofs.BehindSection.{section_behind}
+use Rattle.irtext_grammar.specs.Spelling.Spell.{spelled}
+use Rattle.irtext_grammar.specs.Graphs.Graph.{written, entries_of}
+use Rattle.irtext_grammar.specs.Spelling.Section.{section}
+use Rattle.irtext_grammar.specs.Grammar.Reads.{reads}
+use Rattle.irtext_grammar.proofs.Grammar.BackTree as back
+use Rattle.irtext_grammar.proofs.Grammar.Placed as placed
+use Rattle.irtext_grammar.proofs.Graphs.WrittenFine.{written_fine}
+use Rattle.irtext_grammar.proofs.Sections.BehindSection.{section_behind}
 use Rattle.pliron_text.proofs.laws.root_before_section.Goals as goal
 
 pub returns : goal.returns

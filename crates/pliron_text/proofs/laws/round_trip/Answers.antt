@@ -1,21 +1,21 @@
 use Rattle.std.specs.Prelude.{[], None, ◌++◌, length, refl}
 use Rattle.std.proofs.Common.{ap, sym, subst, ◌∙◌}
 use Rattle.irtext_base.specs.Own.{texts_of, unplaced, language}
-use Rattle.pliron_text.specs.Spell.{spelled}
-use Rattle.pliron_text.specs.Graph.{written}
+use Rattle.irtext_grammar.specs.Spelling.Spell.{spelled}
+use Rattle.irtext_grammar.specs.Graphs.Graph.{written}
 use Rattle.irtext_base.specs.Format.{same_text}
-use Rattle.pliron_text.specs.Scopes.{no_scope, failures}
-use Rattle.pliron_text.specs.Script.{done}
-use Rattle.pliron_text.specs.Acts.{tree_script}
-use Rattle.pliron_text.specs.Build.{build}
-use Rattle.pliron_text.specs.Same.{stood, SameShapes}
-use Rattle.pliron_text.proofs.BackTree as back
-use Rattle.pliron_text.proofs.Placed as placed
-use Rattle.pliron_text.proofs.Resolved.{tree_resolves}
-use Rattle.pliron_text.proofs.Match.{same_shapes}
-use Rattle.pliron_text.proofs.WrittenFine.{written_fine}
-use Rattle.pliron_text.proofs.BareScript.{resolves_bare}
-use Rattle.pliron_text.proofs.BareBuild.{shapes_bare}
+use Rattle.irtext_grammar.specs.Names.Scopes.{no_scope, failures}
+use Rattle.irtext_grammar.specs.Names.Script.{done}
+use Rattle.irtext_grammar.specs.Names.Acts.{tree_script}
+use Rattle.irtext_grammar.specs.Graphs.Build.{build}
+use Rattle.irtext_grammar.specs.Graphs.Same.{stood, SameShapes}
+use Rattle.irtext_grammar.proofs.Grammar.BackTree as back
+use Rattle.irtext_grammar.proofs.Grammar.Placed as placed
+use Rattle.irtext_grammar.proofs.Names.Resolved.{tree_resolves}
+use Rattle.irtext_grammar.proofs.Graphs.Match.{same_shapes}
+use Rattle.irtext_grammar.proofs.Graphs.WrittenFine.{written_fine}
+use Rattle.irtext_grammar.proofs.Graphs.BareScript.{resolves_bare}
+use Rattle.irtext_grammar.proofs.Graphs.BareBuild.{shapes_bare}
 use Rattle.pliron_text.proofs.laws.round_trip.Goals as goal
 
 pub returns : goal.returns

@@ -1,6 +1,6 @@
 use Rattle.irtext_base.specs.Own.{texts_of, language}
-use Rattle.pliron_text.proofs.WholeTree.{whole}
-use Rattle.pliron_text.proofs.ResolvedRoot.{resolves, not_refused}
+use Rattle.irtext_grammar.proofs.Grammar.WholeTree.{whole}
+use Rattle.irtext_grammar.proofs.Names.ResolvedRoot.{resolves, not_refused}
 use Rattle.pliron_text.proofs.laws.what_resolves.Goals as goal
 
 pub returns-clause-is_needed : goal.returns-clause-is_needed

@@ -1,5 +1,5 @@
 use Rattle.irtext_base.specs.Own.{language, texts_of}
-use Rattle.pliron_text.proofs.BuiltClosed.{built_closed}
+use Rattle.irtext_grammar.proofs.Graphs.BuiltClosed.{built_closed}
 use Rattle.pliron_text.proofs.laws.building.built_root_is_closed.Goals as goal
 
 pub returns : goal.returns

@@ -1,10 +1,10 @@
 use Rattle.std.specs.Prelude.{refl}
 use Rattle.irtext_base.specs.Own.{language, texts_of}
-use Rattle.pliron_text.specs.Script.{done, does_all}
-use Rattle.pliron_text.specs.Acts.{section_acts, rule_of}
-use Rattle.pliron_text.proofs.Formed.{formed_read}
-use Rattle.pliron_text.proofs.WrittenAs.{accepted_written}
-use Rattle.pliron_text.proofs.Fillings.{fillings}
+use Rattle.irtext_grammar.specs.Names.Script.{done, does_all}
+use Rattle.irtext_grammar.specs.Names.Acts.{section_acts, rule_of}
+use Rattle.irtext_grammar.proofs.Grammar.Formed.{formed_read}
+use Rattle.irtext_grammar.proofs.Graphs.WrittenAs.{accepted_written}
+use Rattle.irtext_grammar.proofs.Graphs.Fillings.{fillings}
 use Rattle.pliron_text.proofs.laws.building.equal_up_to_fillings.Goals as goal
 
 pub returns : goal.returns

@@ -1,8 +1,8 @@
 use Rattle.irtext_base.specs.Own.{texts_of}
-use Rattle.pliron_text.specs.Build.{build}
-use Rattle.pliron_text.proofs.Regained.{regained}
-use Rattle.pliron_text.proofs.WholeRoot.{comes_back}
-use Rattle.pliron_text.proofs.OwnEquality.{sound, reflexive}
+use Rattle.irtext_grammar.specs.Graphs.Build.{build}
+use Rattle.irtext_grammar.proofs.Graphs.Regained.{regained}
+use Rattle.irtext_grammar.proofs.RoundTrips.WholeRoot.{comes_back}
+use Rattle.irtext_grammar.proofs.Graphs.OwnEquality.{sound, reflexive}
 use Rattle.pliron_text.proofs.laws.building.named_root_comes_back.Goals as goal
 
 pub returns : goal.returns

@@ -1,6 +1,6 @@
 use Rattle.std.proofs.Common.{sym, ◌∙◌}
 use Rattle.irtext_base.specs.Own.{texts_of, language}
-use Rattle.pliron_text.proofs.UniqueRoot as unique
+use Rattle.irtext_grammar.proofs.Grammar.UniqueRoot as unique
 use Rattle.pliron_text.proofs.laws.building.one_root.Goals as goal
 
 pub returns : goal.returns

@@ -1,6 +1,6 @@
 use Rattle.irtext_base.specs.Own.{texts_of}
-use Rattle.pliron_text.proofs.WholeRoot.{comes_back}
-use Rattle.pliron_text.proofs.OwnEquality.{sound, reflexive}
+use Rattle.irtext_grammar.proofs.RoundTrips.WholeRoot.{comes_back}
+use Rattle.irtext_grammar.proofs.Graphs.OwnEquality.{sound, reflexive}
 use Rattle.pliron_text.proofs.laws.building.text_comes_back.Goals as goal
 
 pub returns : goal.returns

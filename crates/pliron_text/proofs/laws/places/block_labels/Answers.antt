@@ -1,5 +1,5 @@
 use Rattle.std.specs.Prelude.{length}
-use Rattle.pliron_text.proofs.LabelPlaces.{defined_again, defined_first}
+use Rattle.irtext_grammar.proofs.Names.LabelPlaces.{defined_again, defined_first}
 use Rattle.pliron_text.proofs.laws.places.block_labels.Goals as goal
 
 pub returns-clause-again : goal.returns-clause-again

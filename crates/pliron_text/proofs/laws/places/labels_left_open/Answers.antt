@@ -1,5 +1,5 @@
-use Rattle.pliron_text.specs.TextScopes.{facts}
-use Rattle.pliron_text.proofs.LabelPlaces.{left_at_brace, all_at_brace}
+use Rattle.irtext_grammar.specs.Names.TextScopes.{facts}
+use Rattle.irtext_grammar.proofs.Names.LabelPlaces.{left_at_brace, all_at_brace}
 use Rattle.pliron_text.proofs.laws.places.labels_left_open.Goals as goal
 
 pub returns-clause-reported : goal.returns-clause-reported

@@ -1,7 +1,7 @@
-use Rattle.pliron_text.specs.Graph.{entries_of}
-use Rattle.pliron_text.proofs.RootResolves.{marks_in_order}
-use Rattle.pliron_text.proofs.SectionIndices.{section_indices}
-use Rattle.pliron_text.proofs.SharedOnce.{distinct_shared}
+use Rattle.irtext_grammar.specs.Graphs.Graph.{entries_of}
+use Rattle.irtext_grammar.proofs.RoundTrips.RootResolves.{marks_in_order}
+use Rattle.irtext_grammar.proofs.Sections.SectionIndices.{section_indices}
+use Rattle.irtext_grammar.proofs.Sections.SharedOnce.{distinct_shared}
 use Rattle.pliron_text.proofs.laws.section.indices_in_order.Goals as goal
 
 pub returns-clause-marks : goal.returns-clause-marks

@@ -1,13 +1,13 @@
 use Rattle.std.specs.Prelude.{[]}
 use Rattle.std.proofs.Common.{sym, subst}
 use Rattle.irtext_base.specs.Own.{texts_of}
-use Rattle.pliron_text.specs.Build.{build}
-use Rattle.pliron_text.specs.Same.{stood, SameShapes}
-use Rattle.pliron_text.proofs.BareBuild.{shapes_bare}
-use Rattle.pliron_text.proofs.Match.{same_shapes}
-use Rattle.pliron_text.proofs.RootResolves.{root_resolves, text_back}
-use Rattle.pliron_text.proofs.SectionContent.{contents_back}
-use Rattle.pliron_text.proofs.OwnEquality.{sound, reflexive}
+use Rattle.irtext_grammar.specs.Graphs.Build.{build}
+use Rattle.irtext_grammar.specs.Graphs.Same.{stood, SameShapes}
+use Rattle.irtext_grammar.proofs.Graphs.BareBuild.{shapes_bare}
+use Rattle.irtext_grammar.proofs.Graphs.Match.{same_shapes}
+use Rattle.irtext_grammar.proofs.RoundTrips.RootResolves.{root_resolves, text_back}
+use Rattle.irtext_grammar.proofs.Sections.SectionContent.{contents_back}
+use Rattle.irtext_grammar.proofs.Graphs.OwnEquality.{sound, reflexive}
 use Rattle.pliron_text.proofs.laws.section.section_comes_back.Goals as goal
 
 pub returns : goal.returns

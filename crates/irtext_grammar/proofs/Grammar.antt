@@ -1,0 +1,14 @@
+-- A text has one tree, and what is spelled is read back.
+pub mod Unique
+pub mod Through
+pub mod Follows
+pub mod Apart
+pub mod Back
+pub mod Placed
+pub mod Canonical
+pub mod BackTree
+pub mod Lenient
+pub mod WholeTree
+pub mod Formed
+pub mod UniqueRoot
+pub mod Used

@@ -1,0 +1,23 @@
+-- What a tree builds, and what is written of a graph.
+pub mod Fits
+pub mod WrittenScript
+pub mod FitsFormat
+pub mod Views
+pub mod Match
+pub mod KeptWritten
+pub mod BareScript
+pub mod BareBuild
+pub mod WrittenFine
+pub mod Chosen
+pub mod Slots
+pub mod Bound
+pub mod Holding
+pub mod Together
+pub mod InlineEntries
+pub mod WrittenAs
+pub mod Fillings
+pub mod Regained
+pub mod StandsClosed
+pub mod BuiltNamed
+pub mod BuiltClosed
+pub mod OwnEquality

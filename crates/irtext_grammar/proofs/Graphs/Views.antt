@@ -1,0 +1,218 @@
+-- The operands, successors and result types of what is written of an operation that fits are the operation's.
+use Rattle.std.proofs.Common.{◌≡◌, ℕ, zero, suc, ◌≤◌, Bool, true, cond, not, ◌==◌, nat_lt, List, [], ◌∷◌, ◌++◌, map, take, drop, length, filter_map, slice_get, Option, Some, None, is_some, option_map, option_and_then, refl, sym, ap, ap₂, ◌∙◌, subst, true≢false, append-nil, arith}
+use Rattle.std.specs.Prelude.{⊤}
+use Rattle.std.specs.List.{cons_option}
+use Rattle.std.proofs.lemmas.Bool.Decides.{nat_tests}
+use Rattle.std.proofs.lemmas.List.{take-append-drop}
+use Rattle.irtext_base.specs.Format as format
+use Rattle.irtext_base.specs.Format.{Format, Directive, count, operand_places, successor_places, type_places, sym_name_key, are_places, is_operands, is_successors, distinct, Id}
+use Rattle.irtext_grammar.specs.Grammar.Tree as tree
+use Rattle.irtext_grammar.specs.Grammar.Tree.{Name, Attribute, given_names, ident, own, Piece, Part, views, in_order, parts_of, operand_names, successor_labels}
+use Rattle.irtext_grammar.specs.Graphs.Graph.{Printing, GraphOp, value, target, part_of, body_of, tree_op, outlined, lookup}
+use Rattle.irtext_grammar.specs.Names.Acts.{result_types}
+use Rattle.irtext_grammar.specs.Graphs.Closed.{FitsCustom, FitsFormat}
+use Rattle.irtext_grammar.proofs.Graphs.Fits.{Fits}
+use Rattle.irtext_grammar.proofs.Graphs.FitsFormat.{Meets, meets, and_left, and_right, asked, custom_asks, no_less}
+use Rattle.irtext_grammar.proofs.Lists.InOrder.{AllFrom, firsts, firsts_length, in_order_front}
+use Rattle.irtext_grammar.proofs.Lists.SameText.{same_character}
+
+abbrev times : {X : Type 0} → ℕ → List X → List X
+times zero xs = []
+times (suc n) xs = xs ++ times n xs
+
+got_map : {X Y : Type 0} (F : X → Y) (xs : List X) (i : ℕ) (x : X) → slice_get xs i ≡ Some x → slice_get (map F xs) i ≡ Some (F x)
+got_map F [] zero x e = cc
+got_map F [] (suc i) x e = cc
+got_map F (y ∷ xs) zero x e = cc
+got_map F (y ∷ xs) (suc i) x e = got_map F xs i x e
+
+length_mapped : {X Y : Type 0} (F : X → Y) (xs : List X) → length (map F xs) ≡ length xs
+length_mapped F [] = refl
+length_mapped F (x ∷ xs) = ap suc (length_mapped F xs)
+
+take_mapped : {X Y : Type 0} (F : X → Y) (n : ℕ) (xs : List X) → take n (map F xs) ≡ map F (take n xs)
+take_mapped F zero xs = refl
+take_mapped F (suc n) [] = refl
+take_mapped F (suc n) (x ∷ xs) = ap (λ z. F x ∷ z) (take_mapped F n xs)
+
+take_all : {X : Type 0} (xs : List X) → take (length xs) xs ≡ xs
+take_all [] = refl
+take_all (x ∷ xs) = ap (λ z. x ∷ z) (take_all xs)
+
+map_joined : {X Y : Type 0} (F : X → Y) (xs ys : List X) → map F xs ++ map F ys ≡ map F (xs ++ ys)
+map_joined F [] ys = refl
+map_joined F (x ∷ xs) ys = ap (λ z. F x ∷ z) (map_joined F xs ys)
+
+module _ {T A : Type 0} where
+  skip : {X Y : Type 0} (view : Piece ⊤ T A → List X) (F : Y → Piece ⊤ T A) → ((y : Y) → view (F y) ≡ []) → (o : Option Y) (qs : List (Part ⊤ T A))
+      → views view (cons_option (option_map (λ y. tree.piece (F y)) o) qs) ≡ views view qs
+  skip view F h None qs = refl
+  skip view F h (Some y) qs = ap (λ z. z ++ views view qs) (h y)
+
+  skip_header : {X : Type 0} (view : Piece ⊤ T A → List X) → ((n : Name ⊤) → view (tree.header n) ≡ []) → (x : Option (Attribute A)) (qs : List (Part ⊤ T A))
+      → views view (cons_option (option_and_then (λ a. elim a [ ident n ↦ Some (tree.piece (tree.header (record { place = tt; text = n }))) | _ ↦ None ]) x) qs) ≡ views view qs
+  skip_header view h None qs = refl
+  skip_header view h (Some (given_names ns)) qs = refl
+  skip_header view h (Some (ident n)) qs = ap (λ z. z ++ views view qs) (h (record { place = tt; text = n }))
+  skip_header view h (Some (own x)) qs = refl
+
+module _ {T A : Type 0} (C : Printing T A) where
+  -- operand
+  operand_singles : (ds : List Directive) (o : GraphOp T A) (rest : List Directive) → Fits C ds o rest
+      → (firsts (views (λ p. elim p [ tree.operand i n ↦ (i, n) ∷ [] | _ ↦ [] ]) (filter_map (part_of C ds o) rest)) ≡ operand_places rest) × AllFrom (map (value C) o.operands) (views (λ p. elim p [ tree.operand i n ↦ (i, n) ∷ [] | _ ↦ [] ]) (filter_map (part_of C ds o) rest))
+  operand_singles ds o [] f = (refl, tt)
+  operand_singles ds o (format.word s ∷ rest) f = operand_singles ds o rest f.1
+  operand_singles ds o (format.operand i ∷ rest) f = go (slice_get o.operands i) refl f.0 (operand_singles ds o rest f.1)
+    where
+      go : (x : Option ℕ) → slice_get o.operands i ≡ x → (let r : Option (Part ⊤ T A) = option_map (λ v. tree.piece (tree.operand i (value C v))) x in is_some r) ≡ true
+          → (firsts (views (λ p. elim p [ tree.operand i n ↦ (i, n) ∷ [] | _ ↦ [] ]) (filter_map (part_of C ds o) rest)) ≡ operand_places rest) × AllFrom (map (value C) o.operands) (views (λ p. elim p [ tree.operand i n ↦ (i, n) ∷ [] | _ ↦ [] ]) (filter_map (part_of C ds o) rest))
+          → (firsts (views (λ p. elim p [ tree.operand i n ↦ (i, n) ∷ [] | _ ↦ [] ]) (cons_option (option_map (λ v. tree.piece (tree.operand i (value C v))) x) (filter_map (part_of C ds o) rest))) ≡ operand_places (format.operand i ∷ rest))
+          × AllFrom (map (value C) o.operands) (views (λ p. elim p [ tree.operand i n ↦ (i, n) ∷ [] | _ ↦ [] ]) (cons_option (option_map (λ v. tree.piece (tree.operand i (value C v))) x) (filter_map (part_of C ds o) rest)))
+      go None e s h = absurd (true≢false (sym s))
+      go (Some v) e s h = (ap (λ z. i ∷ z) h.0, (got_map (value C) o.operands i v e, h.1))
+  operand_singles ds o (format.operands ∷ rest) f = operand_singles ds o rest f.1
+  operand_singles ds o (format.successor i ∷ rest) f = subst (λ es. (firsts es ≡ operand_places rest) × AllFrom (map (value C) o.operands) es) (sym (skip (λ p. elim p [ tree.operand i n ↦ (i, n) ∷ [] | _ ↦ [] ]) (λ b. tree.successor i (target C b)) (λ x. refl) (slice_get o.successors i) (filter_map (part_of C ds o) rest))) (operand_singles ds o rest f.1)
+  operand_singles ds o (format.successors ∷ rest) f = operand_singles ds o rest f.1
+  operand_singles ds o (format.attribute key ∷ rest) f = subst (λ es. (firsts es ≡ operand_places rest) × AllFrom (map (value C) o.operands) es) (sym (skip (λ p. elim p [ tree.operand i n ↦ (i, n) ∷ [] | _ ↦ [] ]) (λ a. tree.attribute key (cond (outlined C a) None (Some a))) (λ x. refl) (lookup key o.attributes) (filter_map (part_of C ds o) rest))) (operand_singles ds o rest f.1)
+  operand_singles ds o (format.dictionary ∷ rest) f = operand_singles ds o rest f.1
+  operand_singles ds o (format.result_type i ∷ rest) f = subst (λ es. (firsts es ≡ operand_places rest) × AllFrom (map (value C) o.operands) es) (sym (skip (λ p. elim p [ tree.operand i n ↦ (i, n) ∷ [] | _ ↦ [] ]) (λ r. tree.result_type i r.1) (λ x. refl) (slice_get o.results i) (filter_map (part_of C ds o) rest))) (operand_singles ds o rest f.1)
+  operand_singles ds o (format.region i ∷ rest) f = operand_singles ds o rest f.1
+  operand_singles ds o (format.regions ∷ rest) f = operand_singles ds o rest f.1
+  operand_singles ds o (format.header ∷ rest) f = subst (λ es. (firsts es ≡ operand_places rest) × AllFrom (map (value C) o.operands) es) (sym (skip_header (λ p. elim p [ tree.operand i n ↦ (i, n) ∷ [] | _ ↦ [] ]) (λ n. refl) (lookup sym_name_key o.attributes) (filter_map (part_of C ds o) rest))) (operand_singles ds o rest f.1)
+
+  operand_lists : (ds : List Directive) (o : GraphOp T A) (rest : List Directive) → views (λ p. elim p [ tree.operands ns ↦ ns | _ ↦ [] ]) (filter_map (part_of C ds o) rest) ≡ times (count is_operands rest) (map (value C) (drop (length (operand_places ds)) o.operands))
+  operand_lists ds o [] = refl
+  operand_lists ds o (format.word s ∷ rest) = operand_lists ds o rest
+  operand_lists ds o (format.operand i ∷ rest) = skip (λ p. elim p [ tree.operands ns ↦ ns | _ ↦ [] ]) (λ v. tree.operand i (value C v)) (λ x. refl) (slice_get o.operands i) (filter_map (part_of C ds o) rest) ∙ operand_lists ds o rest
+  operand_lists ds o (format.operands ∷ rest) = ap (λ z. map (value C) (drop (length (operand_places ds)) o.operands) ++ z) (operand_lists ds o rest)
+  operand_lists ds o (format.successor i ∷ rest) = skip (λ p. elim p [ tree.operands ns ↦ ns | _ ↦ [] ]) (λ b. tree.successor i (target C b)) (λ x. refl) (slice_get o.successors i) (filter_map (part_of C ds o) rest) ∙ operand_lists ds o rest
+  operand_lists ds o (format.successors ∷ rest) = operand_lists ds o rest
+  operand_lists ds o (format.attribute key ∷ rest) = skip (λ p. elim p [ tree.operands ns ↦ ns | _ ↦ [] ]) (λ a. tree.attribute key (cond (outlined C a) None (Some a))) (λ x. refl) (lookup key o.attributes) (filter_map (part_of C ds o) rest) ∙ operand_lists ds o rest
+  operand_lists ds o (format.dictionary ∷ rest) = operand_lists ds o rest
+  operand_lists ds o (format.result_type i ∷ rest) = skip (λ p. elim p [ tree.operands ns ↦ ns | _ ↦ [] ]) (λ r. tree.result_type i r.1) (λ x. refl) (slice_get o.results i) (filter_map (part_of C ds o) rest) ∙ operand_lists ds o rest
+  operand_lists ds o (format.region i ∷ rest) = operand_lists ds o rest
+  operand_lists ds o (format.regions ∷ rest) = operand_lists ds o rest
+  operand_lists ds o (format.header ∷ rest) = skip_header (λ p. elim p [ tree.operands ns ↦ ns | _ ↦ [] ]) (λ n. refl) (lookup sym_name_key o.attributes) (filter_map (part_of C ds o) rest) ∙ operand_lists ds o rest
+
+  -- successor
+  successor_singles : (ds : List Directive) (o : GraphOp T A) (rest : List Directive) → Fits C ds o rest
+      → (firsts (views (λ p. elim p [ tree.successor i n ↦ (i, n) ∷ [] | _ ↦ [] ]) (filter_map (part_of C ds o) rest)) ≡ successor_places rest) × AllFrom (map (target C) o.successors) (views (λ p. elim p [ tree.successor i n ↦ (i, n) ∷ [] | _ ↦ [] ]) (filter_map (part_of C ds o) rest))
+  successor_singles ds o [] f = (refl, tt)
+  successor_singles ds o (format.word s ∷ rest) f = successor_singles ds o rest f.1
+  successor_singles ds o (format.operand i ∷ rest) f = subst (λ es. (firsts es ≡ successor_places rest) × AllFrom (map (target C) o.successors) es) (sym (skip (λ p. elim p [ tree.successor i n ↦ (i, n) ∷ [] | _ ↦ [] ]) (λ v. tree.operand i (value C v)) (λ x. refl) (slice_get o.operands i) (filter_map (part_of C ds o) rest))) (successor_singles ds o rest f.1)
+  successor_singles ds o (format.operands ∷ rest) f = successor_singles ds o rest f.1
+  successor_singles ds o (format.successor i ∷ rest) f = go (slice_get o.successors i) refl f.0 (successor_singles ds o rest f.1)
+    where
+      go : (x : Option (ℕ × ℕ)) → slice_get o.successors i ≡ x → (let r : Option (Part ⊤ T A) = option_map (λ v. tree.piece (tree.successor i (target C v))) x in is_some r) ≡ true
+          → (firsts (views (λ p. elim p [ tree.successor i n ↦ (i, n) ∷ [] | _ ↦ [] ]) (filter_map (part_of C ds o) rest)) ≡ successor_places rest) × AllFrom (map (target C) o.successors) (views (λ p. elim p [ tree.successor i n ↦ (i, n) ∷ [] | _ ↦ [] ]) (filter_map (part_of C ds o) rest))
+          → (firsts (views (λ p. elim p [ tree.successor i n ↦ (i, n) ∷ [] | _ ↦ [] ]) (cons_option (option_map (λ v. tree.piece (tree.successor i (target C v))) x) (filter_map (part_of C ds o) rest))) ≡ successor_places (format.successor i ∷ rest))
+          × AllFrom (map (target C) o.successors) (views (λ p. elim p [ tree.successor i n ↦ (i, n) ∷ [] | _ ↦ [] ]) (cons_option (option_map (λ v. tree.piece (tree.successor i (target C v))) x) (filter_map (part_of C ds o) rest)))
+      go None e s h = absurd (true≢false (sym s))
+      go (Some v) e s h = (ap (λ z. i ∷ z) h.0, (got_map (target C) o.successors i v e, h.1))
+  successor_singles ds o (format.successors ∷ rest) f = successor_singles ds o rest f.1
+  successor_singles ds o (format.attribute key ∷ rest) f = subst (λ es. (firsts es ≡ successor_places rest) × AllFrom (map (target C) o.successors) es) (sym (skip (λ p. elim p [ tree.successor i n ↦ (i, n) ∷ [] | _ ↦ [] ]) (λ a. tree.attribute key (cond (outlined C a) None (Some a))) (λ x. refl) (lookup key o.attributes) (filter_map (part_of C ds o) rest))) (successor_singles ds o rest f.1)
+  successor_singles ds o (format.dictionary ∷ rest) f = successor_singles ds o rest f.1
+  successor_singles ds o (format.result_type i ∷ rest) f = subst (λ es. (firsts es ≡ successor_places rest) × AllFrom (map (target C) o.successors) es) (sym (skip (λ p. elim p [ tree.successor i n ↦ (i, n) ∷ [] | _ ↦ [] ]) (λ r. tree.result_type i r.1) (λ x. refl) (slice_get o.results i) (filter_map (part_of C ds o) rest))) (successor_singles ds o rest f.1)
+  successor_singles ds o (format.region i ∷ rest) f = successor_singles ds o rest f.1
+  successor_singles ds o (format.regions ∷ rest) f = successor_singles ds o rest f.1
+  successor_singles ds o (format.header ∷ rest) f = subst (λ es. (firsts es ≡ successor_places rest) × AllFrom (map (target C) o.successors) es) (sym (skip_header (λ p. elim p [ tree.successor i n ↦ (i, n) ∷ [] | _ ↦ [] ]) (λ n. refl) (lookup sym_name_key o.attributes) (filter_map (part_of C ds o) rest))) (successor_singles ds o rest f.1)
+
+  successor_lists : (ds : List Directive) (o : GraphOp T A) (rest : List Directive) → views (λ p. elim p [ tree.successors ns ↦ ns | _ ↦ [] ]) (filter_map (part_of C ds o) rest) ≡ times (count is_successors rest) (map (target C) (drop (length (successor_places ds)) o.successors))
+  successor_lists ds o [] = refl
+  successor_lists ds o (format.word s ∷ rest) = successor_lists ds o rest
+  successor_lists ds o (format.operand i ∷ rest) = skip (λ p. elim p [ tree.successors ns ↦ ns | _ ↦ [] ]) (λ v. tree.operand i (value C v)) (λ x. refl) (slice_get o.operands i) (filter_map (part_of C ds o) rest) ∙ successor_lists ds o rest
+  successor_lists ds o (format.operands ∷ rest) = successor_lists ds o rest
+  successor_lists ds o (format.successor i ∷ rest) = skip (λ p. elim p [ tree.successors ns ↦ ns | _ ↦ [] ]) (λ b. tree.successor i (target C b)) (λ x. refl) (slice_get o.successors i) (filter_map (part_of C ds o) rest) ∙ successor_lists ds o rest
+  successor_lists ds o (format.successors ∷ rest) = ap (λ z. map (target C) (drop (length (successor_places ds)) o.successors) ++ z) (successor_lists ds o rest)
+  successor_lists ds o (format.attribute key ∷ rest) = skip (λ p. elim p [ tree.successors ns ↦ ns | _ ↦ [] ]) (λ a. tree.attribute key (cond (outlined C a) None (Some a))) (λ x. refl) (lookup key o.attributes) (filter_map (part_of C ds o) rest) ∙ successor_lists ds o rest
+  successor_lists ds o (format.dictionary ∷ rest) = successor_lists ds o rest
+  successor_lists ds o (format.result_type i ∷ rest) = skip (λ p. elim p [ tree.successors ns ↦ ns | _ ↦ [] ]) (λ r. tree.result_type i r.1) (λ x. refl) (slice_get o.results i) (filter_map (part_of C ds o) rest) ∙ successor_lists ds o rest
+  successor_lists ds o (format.region i ∷ rest) = successor_lists ds o rest
+  successor_lists ds o (format.regions ∷ rest) = successor_lists ds o rest
+  successor_lists ds o (format.header ∷ rest) = skip_header (λ p. elim p [ tree.successors ns ↦ ns | _ ↦ [] ]) (λ n. refl) (lookup sym_name_key o.attributes) (filter_map (part_of C ds o) rest) ∙ successor_lists ds o rest
+
+  -- result
+  result_singles : (ds : List Directive) (o : GraphOp T A) (rest : List Directive) → Fits C ds o rest
+      → (firsts (views (λ p. elim p [ tree.result_type i x ↦ (i, x) ∷ [] | _ ↦ [] ]) (filter_map (part_of C ds o) rest)) ≡ type_places rest) × AllFrom (map (λ (r : ℕ × T). r.1) o.results) (views (λ p. elim p [ tree.result_type i x ↦ (i, x) ∷ [] | _ ↦ [] ]) (filter_map (part_of C ds o) rest))
+  result_singles ds o [] f = (refl, tt)
+  result_singles ds o (format.word s ∷ rest) f = result_singles ds o rest f.1
+  result_singles ds o (format.operand i ∷ rest) f = subst (λ es. (firsts es ≡ type_places rest) × AllFrom (map (λ (r : ℕ × T). r.1) o.results) es) (sym (skip (λ p. elim p [ tree.result_type i x ↦ (i, x) ∷ [] | _ ↦ [] ]) (λ v. tree.operand i (value C v)) (λ x. refl) (slice_get o.operands i) (filter_map (part_of C ds o) rest))) (result_singles ds o rest f.1)
+  result_singles ds o (format.operands ∷ rest) f = result_singles ds o rest f.1
+  result_singles ds o (format.successor i ∷ rest) f = subst (λ es. (firsts es ≡ type_places rest) × AllFrom (map (λ (r : ℕ × T). r.1) o.results) es) (sym (skip (λ p. elim p [ tree.result_type i x ↦ (i, x) ∷ [] | _ ↦ [] ]) (λ b. tree.successor i (target C b)) (λ x. refl) (slice_get o.successors i) (filter_map (part_of C ds o) rest))) (result_singles ds o rest f.1)
+  result_singles ds o (format.successors ∷ rest) f = result_singles ds o rest f.1
+  result_singles ds o (format.attribute key ∷ rest) f = subst (λ es. (firsts es ≡ type_places rest) × AllFrom (map (λ (r : ℕ × T). r.1) o.results) es) (sym (skip (λ p. elim p [ tree.result_type i x ↦ (i, x) ∷ [] | _ ↦ [] ]) (λ a. tree.attribute key (cond (outlined C a) None (Some a))) (λ x. refl) (lookup key o.attributes) (filter_map (part_of C ds o) rest))) (result_singles ds o rest f.1)
+  result_singles ds o (format.dictionary ∷ rest) f = result_singles ds o rest f.1
+  result_singles ds o (format.result_type i ∷ rest) f = go (slice_get o.results i) refl f.0 (result_singles ds o rest f.1)
+    where
+      go : (x : Option (ℕ × T)) → slice_get o.results i ≡ x → (let r : Option (Part ⊤ T A) = option_map (λ v. tree.piece (tree.result_type i v.1)) x in is_some r) ≡ true
+          → (firsts (views (λ p. elim p [ tree.result_type i x ↦ (i, x) ∷ [] | _ ↦ [] ]) (filter_map (part_of C ds o) rest)) ≡ type_places rest) × AllFrom (map (λ (r : ℕ × T). r.1) o.results) (views (λ p. elim p [ tree.result_type i x ↦ (i, x) ∷ [] | _ ↦ [] ]) (filter_map (part_of C ds o) rest))
+          → (firsts (views (λ p. elim p [ tree.result_type i x ↦ (i, x) ∷ [] | _ ↦ [] ]) (cons_option (option_map (λ v. tree.piece (tree.result_type i v.1)) x) (filter_map (part_of C ds o) rest))) ≡ type_places (format.result_type i ∷ rest))
+          × AllFrom (map (λ (r : ℕ × T). r.1) o.results) (views (λ p. elim p [ tree.result_type i x ↦ (i, x) ∷ [] | _ ↦ [] ]) (cons_option (option_map (λ v. tree.piece (tree.result_type i v.1)) x) (filter_map (part_of C ds o) rest)))
+      go None e s h = absurd (true≢false (sym s))
+      go (Some v) e s h = (ap (λ z. i ∷ z) h.0, (got_map (λ r. r.1) o.results i v e, h.1))
+  result_singles ds o (format.region i ∷ rest) f = result_singles ds o rest f.1
+  result_singles ds o (format.regions ∷ rest) f = result_singles ds o rest f.1
+  result_singles ds o (format.header ∷ rest) f = subst (λ es. (firsts es ≡ type_places rest) × AllFrom (map (λ (r : ℕ × T). r.1) o.results) es) (sym (skip_header (λ p. elim p [ tree.result_type i x ↦ (i, x) ∷ [] | _ ↦ [] ]) (λ n. refl) (lookup sym_name_key o.attributes) (filter_map (part_of C ds o) rest))) (result_singles ds o rest f.1)
+
+  -- the front of a list and the rest of it, where there is a list directive; else the front is all of it
+  front_and_rest : {X Y : Type 0} (F : X → Y) (K lists : ℕ) (xs : List X) → nat_lt lists 2 ≡ true → cond (lists == 0) (length xs == K) (not (nat_lt (length xs) K)) ≡ true
+      → take K (map F xs) ++ times lists (map F (drop K xs)) ≡ map F xs
+  front_and_rest F K zero xs few e = append-nil (take K (map F xs)) ∙ (take_mapped F K xs ∙ ap (map F) (whole (length xs == K) refl e))
+    where
+      whole : (b : Bool) → (length xs == K) ≡ b → cond (0 == 0) (length xs == K) (not (nat_lt (length xs) K)) ≡ true → take K xs ≡ xs
+      whole b i e = let k : length xs ≡ K = same_character (length xs) K e in subst (λ n. take n xs ≡ xs) k (take_all xs)
+  front_and_rest F K (suc zero) xs few e =
+      ap₂ ◌++◌ (take_mapped F K xs) (append-nil (map F (drop K xs))) ∙ (map_joined F (take K xs) (drop K xs) ∙ ap (map F) (take-append-drop K xs))
+  front_and_rest F K (suc (suc n)) xs few e = absurd (many n few)
+    where
+      many : (n : ℕ) → nat_lt (suc (suc n)) 2 ≡ true → ⊥
+      many n e = grind (arith, nat_tests)
+
+  module _ (isolated : Id → Bool) (ds : List Directive) (o : GraphOp T A) (n : ℕ) (m : Meets ds) (f : FitsCustom C isolated ds o n) where
+    at_most : (K lists : ℕ) (k : ℕ) (b : Bool) → cond b (k == K) (not (nat_lt k K)) ≡ true → K ≤ k
+    at_most K lists k b e = no_less K lists k b e
+
+    pub operands_back : in_order (views (λ p. elim p [ tree.operand i n ↦ (i, n) ∷ [] | _ ↦ [] ]) (filter_map (part_of C ds o) ds)) ++ views (λ p. elim p [ tree.operands ns ↦ ns | _ ↦ [] ]) (filter_map (part_of C ds o) ds) ≡ map (value C) o.operands
+    operands_back =
+        let es = views (λ p. elim p [ tree.operand i n ↦ (i, n) ∷ [] | _ ↦ [] ]) (filter_map (part_of C ds o) ds) in
+        let s = operand_singles ds o ds (asked C ds o ds (custom_asks C isolated ds o n m f)) in
+        let places = and_left (are_places (operand_places ds)) (nat_lt (count is_operands ds) 2) m.second in
+        let k : length es ≡ length (operand_places ds) = sym (firsts_length es) ∙ ap length s.0 in
+        let low = at_most (length (operand_places ds)) 0 (length o.operands) (count is_operands ds == 0) f.operands in
+        let l = length_mapped (value C) o.operands in
+        ap₂ ◌++◌ (in_order_front (map (value C) o.operands) es (subst (λ z. are_places z ≡ true) (sym s.0) places) s.1 (omega arith) ∙ ap (λ z. take z (map (value C) o.operands)) k) (operand_lists ds o ds)
+        ∙ front_and_rest (value C) (length (operand_places ds)) (count is_operands ds) o.operands (and_right (are_places (operand_places ds)) (nat_lt (count is_operands ds) 2) m.second) f.operands
+
+    pub successors_back : in_order (views (λ p. elim p [ tree.successor i n ↦ (i, n) ∷ [] | _ ↦ [] ]) (filter_map (part_of C ds o) ds)) ++ views (λ p. elim p [ tree.successors ns ↦ ns | _ ↦ [] ]) (filter_map (part_of C ds o) ds) ≡ map (target C) o.successors
+    successors_back =
+        let es = views (λ p. elim p [ tree.successor i n ↦ (i, n) ∷ [] | _ ↦ [] ]) (filter_map (part_of C ds o) ds) in
+        let s = successor_singles ds o ds (asked C ds o ds (custom_asks C isolated ds o n m f)) in
+        let places = and_left (are_places (successor_places ds)) (nat_lt (count is_successors ds) 2) m.third in
+        let k : length es ≡ length (successor_places ds) = sym (firsts_length es) ∙ ap length s.0 in
+        let low = at_most (length (successor_places ds)) 0 (length o.successors) (count is_successors ds == 0) f.successors in
+        let l = length_mapped (target C) o.successors in
+        ap₂ ◌++◌ (in_order_front (map (target C) o.successors) es (subst (λ z. are_places z ≡ true) (sym s.0) places) s.1 (omega arith) ∙ ap (λ z. take z (map (target C) o.successors)) k) (successor_lists ds o ds)
+        ∙ front_and_rest (target C) (length (successor_places ds)) (count is_successors ds) o.successors (and_right (are_places (successor_places ds)) (nat_lt (count is_successors ds) 2) m.third) f.successors
+
+    pub results_back : in_order (views (λ p. elim p [ tree.result_type i x ↦ (i, x) ∷ [] | _ ↦ [] ]) (filter_map (part_of C ds o) ds)) ≡ map (λ (r : ℕ × T). r.1) o.results
+    results_back =
+        let es = views (λ p. elim p [ tree.result_type i x ↦ (i, x) ∷ [] | _ ↦ [] ]) (filter_map (part_of C ds o) ds) in
+        let s = result_singles ds o ds (asked C ds o ds (custom_asks C isolated ds o n m f)) in
+        let xs = map (λ (r : ℕ × T). r.1) o.results in
+        let k : length es ≡ length (type_places ds) = sym (firsts_length es) ∙ ap length s.0 in
+        let q : length o.results ≡ length (type_places ds) = same_character (length o.results) (length (type_places ds)) f.results in
+        let l : length xs ≡ length o.results = length_mapped (λ (r : ℕ × T). r.1) o.results in
+        in_order_front xs es (subst (λ z. are_places z ≡ true) (sym s.0) m.fourth) s.1 (omega arith)
+        ∙ (ap (λ z. take z xs) (k ∙ (sym q ∙ sym l)) ∙ take_all xs)
+
+  module _ (isolated : Id → Bool) (o : GraphOp T A) (n : ℕ) where
+    -- of an operation in any format that it fits
+    pub names_back : (k : ℕ) (f : Option Format) → C.format_of o.id ≡ f → FitsFormat C isolated f o n
+        → (operand_names (record (tree_op C k o) { body = body_of C o f }) ≡ map (value C) o.operands)
+        × (successor_labels (record (tree_op C k o) { body = body_of C o f }) ≡ map (target C) o.successors)
+        × (result_types (body_of C o f) ≡ map (λ (r : ℕ × T). r.1) o.results)
+    names_back k None e x = absurd x
+    names_back k (Some format.canonical) e x = (append-nil (map (value C) o.operands), append-nil (map (target C) o.successors), refl)
+    names_back k (Some (format.custom ds)) e x =
+        let m = meets ds x.0 in
+        (operands_back isolated ds o n m x.1, successors_back isolated ds o n m x.1, results_back isolated ds o n m x.1)

@@ -1,0 +1,10 @@
+-- Lists, texts, numbers and dictionaries.
+pub mod SameText
+pub mod Lists
+pub mod Sets
+pub mod InOrder
+pub mod Fresh
+pub mod Numbering
+pub mod Dictionaries
+pub mod Numbers
+pub mod Ascii

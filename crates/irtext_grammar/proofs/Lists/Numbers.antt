@@ -1,0 +1,39 @@
+-- Numbers in a row: joined, counted, and which are among them.
+use Rattle.std.proofs.Common.{◌≡◌, ℕ, zero, suc, ◌+◌, ◌<◌, ◌≤◌, Bool, true, false, cond, nat_eq, ◌∷◌, ◌++◌, length, refl, ap, ◌∙◌, arith}
+use Rattle.std.proofs.lemmas.Bool.Decides.{nat_tests}
+use Rattle.irtext_grammar.specs.Names.Scopes.{is_among}
+use Rattle.irtext_grammar.specs.Spelling.SectionEntries.{numbers}
+
+pub numbers_both : (n a b : ℕ) → numbers n a ++ numbers (n + a) b ≡ numbers n (a + b)
+numbers_both n zero b = let e : n + 0 ≡ n = omega arith in let f : b ≡ 0 + b = omega arith in ap (λ k. numbers k b) e ∙ ap (numbers n) f
+numbers_both n (suc a) b =
+    let e : n + suc a ≡ suc n + a = omega arith in
+    let f : suc (a + b) ≡ suc a + b = omega arith in
+    ap (λ z. n ∷ z) (ap (λ k. numbers (suc n) a ++ numbers k b) e ∙ numbers_both (suc n) a b) ∙ ap (numbers n) f
+
+pub length_numbers : (n k : ℕ) → length (numbers n k) ≡ k
+length_numbers n zero = refl
+length_numbers n (suc k) = ap suc (length_numbers (suc n) k)
+
+differ : (m n : ℕ) → m < n → nat_eq m n ≡ false
+differ m n h = grind (arith, nat_tests)
+
+alike : (n : ℕ) → nat_eq n n ≡ true
+alike n = grind (arith, nat_tests)
+
+-- a number in the row is among it
+pub among_numbers : (i n k : ℕ) → n ≤ i → i < n + k → is_among i (numbers n k) ≡ true
+among_numbers i n zero h l = absurd (omega arith)
+among_numbers i n (suc k) h l = go (nat_eq n i) refl (λ q. among_numbers i (suc n) k q (omega arith))
+  where
+    later : (n i : ℕ) → n ≤ i → nat_eq n i ≡ false → suc n ≤ i
+    later n i h e = grind (arith, nat_tests)
+
+    go : (b : Bool) → nat_eq n i ≡ b → (suc n ≤ i → is_among i (numbers (suc n) k) ≡ true) → cond b true (is_among i (numbers (suc n) k)) ≡ true
+    go true e more = refl
+    go false e more = more (later n i h e)
+
+-- a number behind the row is not
+pub beyond_numbers : (i n k : ℕ) → n + k ≤ i → is_among i (numbers n k) ≡ false
+beyond_numbers i n zero h = refl
+beyond_numbers i n (suc k) h = ap (λ b. cond b true (is_among i (numbers (suc n) k))) (differ n i (omega arith)) ∙ beyond_numbers i (suc n) k (omega arith)

@@ -1,0 +1,23 @@
+-- Scopes and names: one pass with placeholders is two passes, and what resolves.
+pub mod Names
+pub mod OnePass
+pub mod Building
+pub mod Reading
+pub mod Injective
+pub mod Natural
+pub mod Plainly
+pub mod Resolved
+pub mod Following
+pub mod InScripts
+pub mod ResolvedScript
+pub mod ResolvedSection
+pub mod ActsOfTrees
+pub mod TreeLists
+pub mod TreeUses
+pub mod TreeScopes
+pub mod TreeClaims
+pub mod ResolvedRoot
+pub mod Meant
+pub mod Followed
+pub mod Definite
+pub mod LabelPlaces

@@ -1,0 +1,61 @@
+-- What is done then follows: the events of a part and of what comes after it are joined.
+use Rattle.std.proofs.Common.{◌≡◌, ℕ, suc, Bool, List, [], ◌∷◌, ◌++◌, refl, sym, ap, ◌∙◌, append_assoc}
+use Rattle.std.specs.Prelude.{⊤}
+use Rattle.irtext_base.specs.Text.{Text}
+use Rattle.irtext_grammar.specs.Grammar.Forest.{Regions, no_regions, region, Operations, no_operations, operation}
+use Rattle.irtext_grammar.specs.Grammar.Tree as tree
+use Rattle.irtext_base.specs.Format.{Id}
+use Rattle.irtext_grammar.specs.Grammar.Tree.{Part, Op, Head, Brace, shown, elided, parts_of}
+use Rattle.irtext_grammar.specs.Names.Script.{Path, Act, Script, done, does, within, does_all}
+use Rattle.irtext_grammar.specs.Names.TextScopes as text
+use Rattle.irtext_grammar.specs.Names.History.{act, enter, leave, events}
+use Rattle.irtext_grammar.specs.Names.Acts.{piece_acts, all_of, parts_script, closing_acts, operation_script, region_script, region_scripts, blocks_script, operations_script, singles, single_labels}
+use Rattle.irtext_grammar.specs.Names.Follow.{follow}
+
+pub events_follow : (x y : text.Script) → events (follow x y) ≡ events x ++ events y
+events_follow done y = refl
+events_follow (does a k) y = ap (λ z. act a ∷ z) (events_follow k y)
+events_follow (within iso p body k) y =
+    ap (λ z. (enter iso ∷ (events body ++ leave iso p ∷ [])) ++ z) (events_follow k y)
+    ∙ sym (append_assoc (enter iso ∷ (events body ++ leave iso p ∷ [])) (events k) (events y))
+
+module _ {P : Type 0} where
+  does_follow : (xs : List (Act Text P)) (x y : Script Text P) → does_all xs (follow x y) ≡ follow (does_all xs x) y
+  does_follow [] x y = refl
+  does_follow (a ∷ xs) x y = ap (does a) (does_follow xs x y)
+
+  abbrev pub AllFollow : List (Script Text P → Script Text P) → Type 0
+  AllFollow [] = ⊤
+  AllFollow (r ∷ rs) = ((x y : Script Text P) → r (follow x y) ≡ follow (r x) y) × AllFollow rs
+
+  all_follow : (rs : List (Script Text P → Script Text P)) (x y : Script Text P) → AllFollow rs → all_of rs (follow x y) ≡ follow (all_of rs x) y
+  all_follow [] x y h = refl
+  all_follow (r ∷ rs) x y h = ap r (all_follow rs x y h.1) ∙ h.0 (all_of rs x) y
+
+  region_follow : (iso : Bool) (b : Brace P) (body x y : Script Text P) → region_script iso b body (follow x y) ≡ follow (region_script iso b body x) y
+  region_follow iso (shown p) body x y = refl
+  region_follow iso elided body x y = refl
+
+module _ {P T A : Type 0} where
+  parts_follow : (p : Path) (k l : ℕ) (ps : List (Part P T A)) (rs : List (Script Text P → Script Text P)) (x y : Script Text P) → AllFollow rs → parts_script p k l ps rs (follow x y) ≡ follow (parts_script p k l ps rs x) y
+  parts_follow p k l [] rs x y h = refl
+  parts_follow p k l (tree.piece z ∷ ps) rs x y h = ap (does_all (piece_acts p k l z)) (parts_follow p k l ps rs x y h) ∙ does_follow (piece_acts p k l z) (parts_script p k l ps rs x) y
+  parts_follow p k l (tree.region i ∷ ps) [] x y h = parts_follow p k l ps [] x y tt
+  parts_follow p k l (tree.region i ∷ ps) (r ∷ rs) x y h = ap r (parts_follow p k l ps rs x y h.1) ∙ h.0 (parts_script p k l ps rs x) y
+  parts_follow p k l (tree.regions ∷ ps) rs x y h = ap (all_of rs) (parts_follow p k l ps [] x y tt) ∙ all_follow rs (parts_script p k l ps [] x) y h
+
+  pub operation_follow : (p : Path) (o : Op P T A) (rs : List (Script Text P → Script Text P)) (x y : Script Text P) → AllFollow rs → operation_script p o rs (follow x y) ≡ follow (operation_script p o rs x) y
+  operation_follow p o rs x y h =
+      ap (parts_script p (singles (parts_of o.body)) (single_labels (parts_of o.body)) (parts_of o.body) rs) (does_follow (closing_acts p o) x y)
+      ∙ parts_follow p (singles (parts_of o.body)) (single_labels (parts_of o.body)) (parts_of o.body) rs (does_all (closing_acts p o) x) y h
+
+  module _ (isolated : Id → Bool) where
+    pub regions_follow : (p : Path) (j : ℕ) (iso : Bool) (rs : Regions (Op P T A) (Head P T A) (Brace P)) → AllFollow (region_scripts isolated p j iso rs)
+    regions_follow p j iso no_regions = tt
+    regions_follow p j iso (region b bs rs) = ((λ x y. region_follow iso b (blocks_script isolated (j ∷ p) 0 bs) x y), regions_follow p (suc j) iso rs)
+
+    pub operations_follow : (p : Path) (i : ℕ) (os : Operations (Op P T A) (Head P T A) (Brace P)) (x y : Script Text P) → operations_script isolated p i os (follow x y) ≡ follow (operations_script isolated p i os x) y
+    operations_follow p i no_operations x y = refl
+    operations_follow p i (operation o rs os) x y =
+        ap (operation_script (i ∷ p) o (region_scripts isolated (i ∷ p) 0 (isolated o.id) rs)) (operations_follow p (suc i) os x y)
+        ∙ operation_follow (i ∷ p) o (region_scripts isolated (i ∷ p) 0 (isolated o.id) rs) (operations_script isolated p (suc i) os x) y (regions_follow (i ∷ p) 0 (isolated o.id) rs)

@@ -1,0 +1,3 @@
+-- What a context holds under an operation, and what its dialects say of it.
+pub mod Formats
+pub mod Held

@@ -1,0 +1,40 @@
+-- Whether a tree has a mark; and the reading of a root, which includes the section exactly there.
+use Rattle.std.specs.Prelude.{Bool, true, false, ◌||◌, List, [], ◌∷◌, is_some}
+use Rattle.irtext_grammar.specs.Grammar.Forest.{Regions, no_regions, region, Blocks, no_blocks, block, Operations, no_operations, operation}
+use Rattle.irtext_base.specs.Text.{Text}
+use Rattle.irtext_base.specs.Reading.{Reading, ◌▸◌, nothing}
+use Rattle.irtext_grammar.specs.Grammar.Tree.{Op, Head, Brace, Tree}
+use Rattle.irtext_base.specs.Own.{Language, Standing}
+use Rattle.irtext_grammar.specs.Grammar.Reads.{reads}
+use Rattle.irtext_grammar.specs.Grammar.Section.{Entry, section}
+
+module _ {P T A : Type 0} where
+  abbrev mutual
+    -- some item in the regions has a mark
+    pub regions_marked : Regions (Op P T A) (Head P T A) (Brace P) → Bool
+    regions_marked no_regions = false
+    regions_marked (region r bs rs) = blocks_marked bs || regions_marked rs
+
+    -- some item in the blocks has a mark
+    pub blocks_marked : Blocks (Op P T A) (Head P T A) (Brace P) → Bool
+    blocks_marked no_blocks = false
+    blocks_marked (block h os bs) = is_some h.mark || operations_marked os || blocks_marked bs
+
+    -- some item among the operations has a mark
+    pub operations_marked : Operations (Op P T A) (Head P T A) (Brace P) → Bool
+    operations_marked no_operations = false
+    operations_marked (operation o rs os) = is_some o.mark || regions_marked rs || operations_marked os
+
+  -- some item of the root has a mark
+  abbrev pub marked : Tree P T A → Bool
+  marked t = is_some t.own.mark || regions_marked t.regions
+
+-- the section, where it is demanded; else nothing
+abbrev pub section_if : {P T A X : Type 0} → Language P T A → (Text → Standing X) → Bool → List (Entry P A X) → Reading
+section_if L location_at true es = section L location_at es
+section_if L location_at false [] = nothing
+section_if L location_at false (e ∷ es) = λ text rest. ⊥
+
+-- a root reads as its tree, and then as its section exactly where the tree has a mark
+abbrev pub reads_root : {P T A X : Type 0} → Language P T A → (Text → Standing X) → Tree P T A → List (Entry P A X) → Reading
+reads_root L location_at t es = reads L t ▸ section_if L location_at (marked t) es

@@ -1,0 +1,63 @@
+-- Roots in which all that can have a name has one, and roots that come back with nothing filled in but positions.
+use Rattle.std.specs.Prelude.{◌≡◌, ℕ, Bool, true, ◌⊎◌, List, [], Some, None, is_some, ⊤}
+use Rattle.std.specs.List.{list_all}
+use Rattle.irtext_base.specs.Text.{Text, after_space}
+use Rattle.irtext_base.specs.Format.{given_names_key, Id}
+use Rattle.irtext_base.specs.Own.{Texts, language, unplaced, Standing}
+use Rattle.irtext_grammar.specs.Grammar.Forest.{Root, MatchRoots, AllRegions}
+use Rattle.irtext_grammar.specs.Grammar.Tree.{Attribute, Tree}
+use Rattle.irtext_grammar.specs.Graphs.Graph.{Graph, GraphOp, GraphBlock, Printing, lookup}
+use Rattle.irtext_grammar.specs.Grammar.Section.{Entry}
+use Rattle.irtext_grammar.specs.Grammar.Marked.{reads_root}
+use Rattle.irtext_grammar.specs.Spelling.Section.{text}
+use Rattle.irtext_grammar.specs.Names.Acts.{failures_of}
+use Rattle.irtext_grammar.specs.Graphs.Build.{BuiltOp, BuiltBlock, Built, build}
+use Rattle.irtext_grammar.specs.Graphs.Same.{StoodOp, StoodBlock, stood, Locations, SameShape, SameBlockShape, SameLocation}
+
+-- given names stand in the dictionary, where there is something to name
+abbrev pub HoldsNames : {Y A : Type 0} → List Y → List (Text × Attribute A) → Type 0
+HoldsNames things es = (things ≡ []) ⊎ (is_some (lookup given_names_key es) ≡ true)
+
+module _ {T A : Type 0} (C : Printing T A) where
+  -- the results have given names
+  abbrev pub OpNamed : GraphOp T A → Type 0
+  OpNamed o = HoldsNames o.results o.attributes
+
+  -- the block has a label, and its arguments have given names
+  abbrev pub BlockNamed : GraphBlock T A → Type 0
+  BlockNamed h = (is_some (C.label h.place) ≡ true) × HoldsNames h.arguments h.attributes
+
+  -- each block of a root has a label, and all that has results or arguments holds given names
+  abbrev pub Named : Graph T A → Type 0
+  Named g = OpNamed g.own × AllRegions OpNamed BlockNamed (λ r. ⊤) g.regions
+
+-- dictionaries as maps
+abbrev pub EqualDictionary : {A : Type 0} → List (Text × Attribute A) → List (Text × Attribute A) → Type 0
+EqualDictionary es fs = (key : Text) → lookup key fs ≡ lookup key es
+
+module _ {T A X : Type 0} (L : Locations X) where
+  -- an operation and what was built of it are equal, but that a position stands where the location was unknown
+  pub record EqualOp (a : StoodOp T A) (b : BuiltOp T A X) : Type 0 where
+    pub shape : SameShape a b
+    pub operands_there : list_all is_some b.operands ≡ true
+    pub successors_there : list_all is_some b.successors ≡ true
+    pub dictionary : EqualDictionary a.attributes b.attributes
+    pub location : SameLocation L a.location b.location
+
+  -- the same of a block: its label too
+  pub record EqualBlock (a : StoodBlock T A) (b : BuiltBlock T A X) : Type 0 where
+    pub shape : SameBlockShape a b
+    pub label : a.label ≡ Some b.label
+    pub dictionary : EqualDictionary a.attributes b.attributes
+    pub location : SameLocation L a.location b.location
+
+  -- equal, but that positions stand where locations were unknown
+  abbrev pub UpToPositions : Root (StoodOp T A) (StoodBlock T A) ⊤ → Built T A X → Type 0
+  UpToPositions a b = MatchRoots EqualOp EqualBlock (λ r s. ⊤) a b
+
+module _ {T A X : Type 0} (types : Texts T) (owns : Texts A) (location_at : Text → Standing X) (K : Locations X) (first : ℕ → X) (C : Printing T A) (isolated : Id → Bool) where
+  -- what a root, the width and the indentation come back as, where nothing is filled in but positions
+  abbrev pub ComesBackWhole : Graph T A → ℕ → ℕ → Type 0
+  ComesBackWhole g width n = (t : Tree ℕ T A) × (es : List (Entry ℕ A X)) × (u : Text)
+      × reads_root (language types owns C.format_of) location_at t es (text (unplaced types owns C.format_of) C g n width None) u × (after_space u ≡ [])
+      × (failures_of isolated t es ≡ []) × UpToPositions K (stood C isolated g) (build isolated first es t)

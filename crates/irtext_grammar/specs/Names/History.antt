@@ -1,0 +1,101 @@
+-- A machine that reads a script's events one by one. Each open scope is the list of its facts so far.
+use Rattle.std.specs.Prelude.{ℕ, Bool, true, false, List, [], ◌∷◌, ◌++◌, Option, Some, None}
+use Rattle.irtext_grammar.specs.Names.Script.{Place, User, done, does, within}
+use Rattle.irtext_grammar.specs.Names.Scopes.{not_isolated, fact_of}
+use Rattle.irtext_grammar.specs.Names.TextScopes.{Fact, Facts, Act, Failure, Scopes, Script, act_failures, left_open, bound_in}
+
+-- an act, or that a region begins or ends
+pub data Event : Type 0 where
+  act : Act → Event
+  enter : Bool → Event
+  leave : Bool → ℕ → Event
+
+-- the events of a script, in order
+abbrev pub events : Script → List Event
+events done = []
+events (does a k) = act a ∷ events k
+events (within iso p body k) = (enter iso ∷ (events body ++ leave iso p ∷ [])) ++ events k
+
+-- the facts of each open scope, the innermost first, and what is fixed already
+pub record State : Type 0 where
+  pub values : List (List Fact)
+  pub labels : List (List Fact)
+  pub marks : List ℕ
+  pub entries : List ℕ
+  pub bound : List (User × Place)
+
+-- the innermost scope
+abbrev pub top : List (List Fact) → Option (List Fact)
+top [] = None
+top (f ∷ fs) = Some f
+
+-- the scopes round the innermost one
+abbrev pub under : List (List Fact) → List (List Fact)
+under [] = []
+under (f ∷ fs) = fs
+
+-- the facts of the innermost scope
+abbrev pub top_facts : List (List Fact) → List Fact
+top_facts [] = []
+top_facts (f ∷ fs) = f
+
+-- the facts are added to the innermost scope
+abbrev pub onto : List (List Fact) → List Fact → List (List Fact)
+onto [] gs = []
+onto (f ∷ fs) gs = (f ++ gs) ∷ fs
+
+-- the scopes as the two passes speak of them
+abbrev pub scopes_of : State → Scopes
+scopes_of st = record { values = top st.values; labels = top st.labels; marks = st.marks; entries = st.entries }
+
+-- the state with these facts added
+abbrev pub after : State → Facts → State
+after st f = record { values = onto st.values f.values; labels = onto st.labels f.labels; marks = st.marks ++ f.marks; entries = st.entries ++ f.entries; bound = st.bound ++ f.bound }
+
+-- the state in a region that begins
+abbrev pub entered : Bool → State → State
+entered true st = record st { values = [] ∷ st.values; labels = [] ∷ st.labels }
+entered false st = record st { labels = [] ∷ st.labels }
+
+-- the facts of the scopes that end
+abbrev pub ending : State → Facts
+ending st = record { values = top_facts st.values; labels = top_facts st.labels; marks = []; entries = []; bound = [] }
+
+-- the state behind a region: what its scopes bind is fixed
+abbrev pub left : Bool → State → State
+left true st = record st { values = under st.values; labels = under st.labels; bound = st.bound ++ (bound_in (top_facts st.values) (top_facts st.values) ++ bound_in (top_facts st.labels) (top_facts st.labels)) }
+left false st = record st { labels = under st.labels; bound = st.bound ++ bound_in (top_facts st.labels) (top_facts st.labels) }
+
+-- the machine goes on, or has failed
+pub data Outcome : Type 0 where
+  going : State → Outcome
+  failed : Failure → Outcome
+
+-- the first failure, if there is one
+abbrev pub outcome : List Failure → State → Outcome
+outcome [] st = going st
+outcome (f ∷ fs) st = failed f
+
+-- what one event comes to
+abbrev pub step : State → Event → Outcome
+step st (act a) = outcome (act_failures (scopes_of st) a) (after st (fact_of a))
+step st (enter iso) = outcome (not_isolated iso (top st.values)) (entered iso st)
+step st (leave iso a) = outcome (left_open a iso (ending st)) (left iso st)
+
+-- what one event comes to, where it has not failed before
+abbrev pub next : Outcome → Event → Outcome
+next (going st) e = step st e
+next (failed f) e = failed f
+
+-- what the events come to
+abbrev pub run : Outcome → List Event → Outcome
+run o [] = o
+run o (e ∷ es) = run (next o e) es
+
+-- no scope is open, and nothing is fixed
+abbrev pub start : State
+start = record { values = []; labels = []; marks = []; entries = []; bound = [] }
+
+-- no scope is open any more, and these facts are fixed
+abbrev pub ended : Facts → State
+ended f = record start { marks = f.marks; entries = f.entries; bound = f.bound }

@@ -1,0 +1,184 @@
+-- One pass over the events. A scope maps names to what they stand for: a use of a name that has no definition yet takes a
+-- placeholder, and a definition takes the placeholder's place wherever it stands.
+use Rattle.std.specs.Prelude.{ℕ, suc, Bool, true, false, cond, List, [], ◌∷◌, ◌++◌, map, Option, Some, None, not, ◌&&◌, nat_eq, Result, Ok, Err, ◌≡◌, ◌⊎◌, ◌↔◌}
+use Rattle.irtext_base.specs.Text.{Text}
+use Rattle.irtext_base.specs.Format.{same_text}
+use Rattle.irtext_grammar.specs.Names.Script.{Place, User, use_value, use_label, define_value, define_label, mark, entry, claim, NoActiveScope, UnresolvedReference, MultipleDefinitions, DuplicateIndex, UnknownIndex, NotIsolated, Cause}
+use Rattle.irtext_grammar.specs.Names.Scopes.{is_among}
+use Rattle.irtext_grammar.specs.Names.TextScopes.{Word, Act, Failure}
+use Rattle.irtext_grammar.specs.Names.History.{Event, act, enter, leave}
+
+-- what a name or an operand stands for
+pub data Held : Type 0 where
+  bound : Place → Held
+  hole : ℕ → Held
+
+-- of values, or of labels: the open scopes, the innermost first, each with its names in order of first mention, what each
+-- operand holds, and the next placeholder
+pub record Names : Type 0 where
+  pub scopes : List (List (Text × Held))
+  pub slots : List (User × Held)
+  pub fresh : ℕ
+
+-- what the name stands for in a scope
+abbrev pub find : Text → List (Text × Held) → Option Held
+find n [] = None
+find n (e ∷ es) = cond (same_text e.0 n) (Some e.1) (find n es)
+
+-- the definition p in place of the placeholder h
+abbrev pub fill : ℕ → Place → Held → Held
+fill h p (bound q) = bound q
+fill h p (hole k) = cond (nat_eq k h) (bound p) (hole k)
+
+-- the definition p in place of the placeholder h, in the second of a pair
+abbrev pub fill_second : {A : Type 0} → ℕ → Place → A × Held → A × Held
+fill_second h p e = (e.0, fill h p e.1)
+
+-- it fails, with or without a place of its own
+abbrev pub refused : {A : Type 0} → Cause Text → Option ℕ → Result A Failure
+refused cause place = Err (record { cause = cause; at = place })
+
+-- it fails at this place
+abbrev pub refuse : {A : Type 0} → Cause Text → ℕ → Result A Failure
+refuse cause place = refused cause (Some place)
+
+-- a use takes what the name stands for in the innermost scope, or a placeholder that is new
+abbrev pub used : Names → Word → User → List (Text × Held) → List (List (Text × Held)) → Option Held → Result Names Failure
+used s w u e es (Some h) = Ok (record s { slots = s.slots ++ (u, h) ∷ [] })
+used s w u e es None = Ok (record { scopes = (e ++ (w.name, hole s.fresh) ∷ []) ∷ es; slots = s.slots ++ (u, hole s.fresh) ∷ []; fresh = suc s.fresh })
+
+-- a name is used, where these scopes are open
+abbrev pub use_in : Names → Word → User → List (List (Text × Held)) → Result Names Failure
+use_in s w u [] = refuse (NoActiveScope w.name) w.at
+use_in s w u (e ∷ es) = used s w u e es (find w.name e)
+
+-- a name is used
+abbrev pub use_name : Names → Word → User → Result Names Failure
+use_name s w u = use_in s w u s.scopes
+
+-- a definition fills the name's placeholder, or stands first under its name
+abbrev pub defined : Names → Word → Place → List (Text × Held) → List (List (Text × Held)) → Option Held → Result Names Failure
+defined s w p e es (Some (bound q)) = refuse (MultipleDefinitions w.name) w.at
+defined s w p e es (Some (hole h)) = Ok (record s { scopes = map (fill_second h p) e ∷ es; slots = map (fill_second h p) s.slots })
+defined s w p e es None = Ok (record s { scopes = (e ++ (w.name, bound p) ∷ []) ∷ es })
+
+-- a name is defined, where these scopes are open
+abbrev pub define_in : Names → Word → Place → List (List (Text × Held)) → Result Names Failure
+define_in s w p [] = refuse (NoActiveScope w.name) w.at
+define_in s w p (e ∷ es) = defined s w p e es (find w.name e)
+
+-- a name is defined
+abbrev pub define_name : Names → Word → Place → Result Names Failure
+define_name s w p = define_in s w p s.scopes
+
+-- a scope begins, with no names
+abbrev pub enter_scope : Names → Names
+enter_scope s = record s { scopes = [] ∷ s.scopes }
+
+-- the first name that still has a placeholder
+abbrev pub pending : List (Text × Held) → Option Text
+pending [] = None
+pending ((n, bound p) ∷ es) = pending es
+pending ((n, hole h) ∷ es) = Some n
+
+-- a scope ends, unless a name of it still has a placeholder
+abbrev pub left_at : Names → ℕ → List (List (Text × Held)) → Option Text → Result Names Failure
+left_at s a es (Some n) = refuse (UnresolvedReference n) a
+left_at s a es None = Ok (record s { scopes = es })
+
+-- the innermost of these scopes ends
+abbrev pub leave_in : Names → ℕ → List (List (Text × Held)) → Result Names Failure
+leave_in s a [] = Ok s
+leave_in s a (e ∷ es) = left_at s a es (pending e)
+
+-- the innermost scope ends
+abbrev pub leave_scope : Names → ℕ → Result Names Failure
+leave_scope s a = leave_in s a s.scopes
+
+-- values and labels, and the indices that marks and entries have
+pub record Tracker : Type 0 where
+  pub values : Names
+  pub labels : Names
+  pub marks : List ℕ
+  pub entries : List ℕ
+
+-- the tracker with these values, unless they failed
+abbrev pub with_values : Tracker → Result Names Failure → Result Tracker Failure
+with_values t (Ok s) = Ok (record t { values = s })
+with_values t (Err f) = Err f
+
+-- the tracker with these labels, unless they failed
+abbrev pub with_labels : Tracker → Result Names Failure → Result Tracker Failure
+with_labels t (Ok s) = Ok (record t { labels = s })
+with_labels t (Err f) = Err f
+
+-- one act
+abbrev pub do_act : Tracker → Act → Result Tracker Failure
+do_act t (use_value w u) = with_values t (use_name t.values w u)
+do_act t (use_label w u) = with_labels t (use_name t.labels w u)
+do_act t (define_value w p) = with_values t (define_name t.values w p)
+do_act t (define_label w p) = with_labels t (define_name t.labels w p)
+do_act t (mark i p) = cond (is_among i t.marks) (refused (DuplicateIndex i) (Some p)) (Ok (record t { marks = t.marks ++ i ∷ [] }))
+do_act t (entry i p) = cond (is_among i t.marks && not (is_among i t.entries)) (Ok (record t { entries = t.entries ++ i ∷ [] })) (refused (UnknownIndex i) (Some p))
+do_act t (claim b x) = cond b (Ok t) (Err x)
+
+-- some scope is open
+abbrev pub has_scope : List (List (Text × Held)) → Bool
+has_scope [] = false
+has_scope (e ∷ es) = true
+
+-- a region begins: it has labels of its own, and values of its own where its operation is isolated
+abbrev pub enter_region : Tracker → Bool → Result Tracker Failure
+enter_region t true = Ok (record t { values = enter_scope t.values; labels = enter_scope t.labels })
+enter_region t false = cond (has_scope t.values.scopes) (Ok (record t { labels = enter_scope t.labels })) (refused NotIsolated None)
+
+-- and then the scope of labels ends
+abbrev pub then_labels : ℕ → Result Tracker Failure → Result Tracker Failure
+then_labels a (Ok t) = with_labels t (leave_scope t.labels a)
+then_labels a (Err f) = Err f
+
+-- a region ends: first its values, where its operation is isolated, then its labels
+abbrev pub leave_region : Tracker → Bool → ℕ → Result Tracker Failure
+leave_region t true a = then_labels a (with_values t (leave_scope t.values a))
+leave_region t false a = then_labels a (Ok t)
+
+-- one event
+abbrev pub do_event : Tracker → Event → Result Tracker Failure
+do_event t (act x) = do_act t x
+do_event t (enter iso) = enter_region t iso
+do_event t (leave iso a) = leave_region t iso a
+
+-- one event, where none failed before
+abbrev pub do_next : Result Tracker Failure → Event → Result Tracker Failure
+do_next (Ok t) e = do_event t e
+do_next (Err f) e = Err f
+
+-- the events, one after another, up to the first failure
+abbrev pub read : Result Tracker Failure → List Event → Result Tracker Failure
+read r [] = r
+read r (e ∷ es) = read (do_next r e) es
+
+-- no scope is open, and no name was used
+abbrev pub no_names : Names
+no_names = record { scopes = []; slots = []; fresh = 0 }
+
+-- nothing was read yet
+abbrev pub fresh_tracker : Tracker
+fresh_tracker = record { values = no_names; labels = no_names; marks = []; entries = [] }
+
+-- the element is in the list
+abbrev pub In : {A : Type 0} → A → List A → Type 0
+In x [] = ⊥
+In x (y ∷ ys) = (x ≡ y) ⊎ In x ys
+
+-- the operands hold the definitions that the two passes look up, and no placeholder
+pub record Resolved (bindings : List (User × Place)) (t : Tracker) : Type 0 where
+  pub no_scope_open : (t.values.scopes ≡ []) × (t.labels.scopes ≡ [])
+  pub each : (u : User) (h : Held) → In (u, h) (t.values.slots ++ t.labels.slots) ↔ ((p : Place) × (h ≡ bound p) × In (u, p) bindings)
+
+-- the first failure, or all resolved
+abbrev pub Answers : List Failure → List (User × Place) → Result Tracker Failure → Type 0
+Answers [] b (Ok t) = Resolved b t
+Answers [] b (Err f) = ⊥
+Answers (g ∷ gs) b (Ok t) = ⊥
+Answers (g ∷ gs) b (Err f) = f ≡ g

@@ -1,0 +1,9 @@
+-- The text that is written of a tree, a graph, a section, a location.
+pub mod Spell
+pub mod Fine
+pub mod AttrText
+pub mod Writable
+pub mod PrintedNames
+pub mod Section
+pub mod Locations
+pub mod SectionEntries

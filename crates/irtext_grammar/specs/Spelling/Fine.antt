@@ -1,0 +1,69 @@
+-- Trees that can be written: each name is an identifier, and each word prints.
+use Rattle.std.specs.Prelude.{◌≡◌, ◌<◌, ◌^◌, true, List, [], ◌∷◌, Option, Some, None, ⊤}
+use Rattle.std.specs.Char.{is_ascii_graphic}
+use Rattle.irtext_base.specs.Text.{Text, begins, is_identifier}
+use Rattle.irtext_grammar.specs.Grammar.Forest.{Regions, no_regions, region}
+use Rattle.irtext_grammar.specs.Grammar.Tree as tree
+use Rattle.irtext_grammar.specs.Grammar.Tree.{Name, Mark, Attribute, given_names, ident, own, Piece}
+
+-- all elements have the property, one by one
+abbrev pub Each : {X : Type 0} → (X → Type 0) → List X → Type 0
+Each Q [] = ⊤
+Each Q (x ∷ xs) = Q x × Each Q xs
+
+-- the text is an identifier
+abbrev pub IsWord : Text → Type 0
+IsWord s = is_identifier s ≡ true
+
+-- the name is an identifier
+abbrev pub IsName : {P : Type 0} → Name P → Type 0
+IsName n = IsWord n.text
+
+-- the given name is an identifier, if there is one
+abbrev pub IsGiven : Option Text → Type 0
+IsGiven None = ⊤
+IsGiven (Some s) = IsWord s
+
+-- the names in an attribute are identifiers
+abbrev pub FineAttribute : {A : Type 0} → Attribute A → Type 0
+FineAttribute (given_names ns) = Each IsGiven ns
+FineAttribute (ident s) = IsWord s
+FineAttribute (own a) = ⊤
+
+-- the key of an entry and the names in its attribute are identifiers
+abbrev pub FineEntry : {P A : Type 0} → Name P × Attribute A → Type 0
+FineEntry e = IsName e.0 × FineAttribute e.1
+
+-- what a directive writes begins as it must: names are identifiers, and a word's first character prints
+abbrev pub Fine : {P T A : Type 0} → Piece P T A → Type 0
+Fine (tree.word s) = begins is_ascii_graphic s ≡ true
+Fine (tree.operand i n) = IsName n
+Fine (tree.operands ns) = Each IsName ns
+Fine (tree.successor i n) = IsName n
+Fine (tree.successors ns) = Each IsName ns
+Fine (tree.attribute k None) = ⊤
+Fine (tree.attribute k (Some a)) = FineAttribute a
+Fine (tree.dictionary es) = Each FineEntry es
+Fine (tree.result_type i t) = ⊤
+Fine (tree.header n) = IsName n
+Fine (tree.types ts) = ⊥
+
+-- what each part writes is so, but for the regions
+abbrev pub FineParts : {P T A : Type 0} → List (tree.Part P T A) → Type 0
+FineParts [] = ⊤
+FineParts (tree.piece p ∷ ps) = Fine p × FineParts ps
+FineParts (_ ∷ ps) = FineParts ps
+
+-- the parts have a place for each region, and no more
+abbrev pub Enough : {P T A O B R : Type 0} → List (tree.Part P T A) → Regions O B R → Type 0
+Enough [] no_regions = ⊤
+Enough [] (region r bs rs) = ⊥
+Enough (tree.piece p ∷ ps) rs = Enough ps rs
+Enough (tree.region i ∷ ps) no_regions = ⊥
+Enough (tree.region i ∷ ps) (region r bs rs) = Enough ps rs
+Enough {P} {T} {A} {O} {B} {R} (tree.regions ∷ ps) rs = Enough {O = O} {B = B} {R = R} ps no_regions
+
+-- a mark's number is below 2 ^ 64
+abbrev pub FineMark : {P : Type 0} → Option (Mark P) → Type 0
+FineMark None = ⊤
+FineMark (Some m) = m.index < 2 ^ 64

@@ -1,0 +1,93 @@
+-- Trees whose text is read back: names are identifiers, each operation has its format's body, and no region is left out where that is not read.
+use Rattle.std.specs.Prelude.{◌≡◌, ℕ, Bool, true, false, List, [], map, Option, Some, None, ◌++◌, ⊤, codes, ◌==◌, ◌⊎◌}
+use Rattle.irtext_grammar.specs.Grammar.Forest.{Regions, no_regions, region, Blocks, no_blocks, block, Operations, no_operations, operation}
+use Rattle.irtext_base.specs.Format as format
+use Rattle.irtext_grammar.specs.Grammar.Tree as tree
+use Rattle.irtext_grammar.specs.Grammar.Tree.{Name, Mark, Body, Op, Head, Brace, shown, elided, Tree, directive}
+use Rattle.irtext_base.specs.Own.{Language, Ends}
+use Rattle.irtext_base.specs.Text.{Text, begins, after_space}
+use Rattle.irtext_base.specs.Format.{Format, has, kind, c7, c8}
+use Rattle.irtext_grammar.specs.Spelling.Fine.{Each, IsWord, IsName, FineEntry, FineParts, FineMark, Enough}
+
+-- the text is at its end, or its first character is of one of these kinds
+abbrev pub OneOf : List ℕ → Text → Type 0
+OneOf kinds t = (t ≡ []) ⊎ (begins (λ c. has ◌==◌ (kind c) kinds) t ≡ true)
+
+-- What printed IR has behind an operation: its own mark, or `;`, or white space and then `}` or `^`, or nothing.
+pub record Behind {P : Type 0} (mark : Option (Mark P)) (f : Text) : Type 0 where
+  pub ends : Ends f
+  pub one : mark ≡ None → OneOf (codes ";}^") (after_space f)
+
+-- whether there is a region
+abbrev pub has_region : {O B R : Type 0} → Regions O B R → Bool
+has_region no_regions = false
+has_region (region brace bs rs) = true
+
+module _ {P T A : Type 0} (L : Language P T A) where
+  -- the body of an operation of this format, which reads uniquely
+  abbrev pub FineBody : Format → Body P T A → Regions (Op P T A) (Head P T A) (Brace P) → Type 0
+  FineBody (format.custom directives) (tree.custom parts) rs = (c8 directives ≡ true) × (map directive parts ≡ map Some directives) × FineParts parts × Enough parts rs
+  FineBody format.canonical (tree.canonical names labels entries operand_types result_types) rs = Each IsName names × Each IsName labels × Each FineEntry entries
+  FineBody _ _ rs = ⊥
+
+  -- the operation's names are identifiers, and its body is its format's
+  pub record FineOp (op : Op P T A) (regions : Regions (Op P T A) (Head P T A) (Brace P)) : Type 0 where
+    pub names : Each IsName op.names
+    pub dialect : IsWord op.id.dialect
+    pub name : IsWord op.id.name
+    pub mark : FineMark op.mark
+    pub its_format : Format
+    pub is_format : L.format_of op.id ≡ Some its_format
+    pub body : FineBody its_format op.body regions
+
+  -- an argument's name is an identifier
+  abbrev pub FineArgument : Name P × T → Type 0
+  FineArgument a = IsName a.0
+
+  -- the names in a dictionary are identifiers, if there is one
+  abbrev pub FineEntries : Option (List (Name P × tree.Attribute A)) → Type 0
+  FineEntries None = ⊤
+  FineEntries (Some es) = Each FineEntry es
+
+  -- the names in a block's own are identifiers
+  pub record FineHead (h : Head P T A) : Type 0 where
+    pub label : IsName h.label
+    pub arguments : Each FineArgument h.arguments
+    pub attributes : FineEntries h.attributes
+    pub mark : FineMark h.mark
+
+  -- a region that is shown; or one that is left out, where that is read
+  abbrev pub IsRead : Brace P → Blocks (Op P T A) (Head P T A) (Brace P) → Type 0
+  IsRead (shown p) bs = ⊤
+  IsRead elided no_blocks = (f : Text) → L.left_out (codes "{..}" ++ f) f
+  IsRead elided (block h os bs) = ⊥
+
+  abbrev mutual
+    -- all in the regions can be written and read back
+    pub WritableRegions : Regions (Op P T A) (Head P T A) (Brace P) → Type 0
+    WritableRegions no_regions = ⊤
+    WritableRegions (region brace bs rs) = IsRead brace bs × WritableBlocks bs × WritableRegions rs
+
+    -- all in the blocks can be written and read back
+    pub WritableBlocks : Blocks (Op P T A) (Head P T A) (Brace P) → Type 0
+    WritableBlocks no_blocks = ⊤
+    WritableBlocks (block h os bs) = FineHead h × WritableOperations os × WritableBlocks bs
+
+    -- all operations can be written and read back
+    pub WritableOperations : Operations (Op P T A) (Head P T A) (Brace P) → Type 0
+    WritableOperations no_operations = ⊤
+    WritableOperations (operation o rs os) = FineOp o rs × WritableRegions rs × WritableOperations os
+
+  -- the tree can be written and read back
+  abbrev pub Writable : Tree P T A → Type 0
+  Writable t = FineOp t.own t.regions × WritableRegions t.regions
+
+  -- the root has a region, and behind a region its format has no operand, successor or result type
+  pub record Deep (t : Tree P T A) : Type 0 where
+    pub has_one : has_region t.regions ≡ true
+    pub regions_last : (directives : List format.Directive) → L.format_of t.own.id ≡ Some (format.custom directives) → c7 directives ≡ true
+
+  -- What printed IR has behind a root: what stands behind any operation, or, where the root has a region, the section's first word.
+  pub record BehindRoot (t : Tree P T A) (f : Text) : Type 0 where
+    pub ends : Ends f
+    pub one : t.own.mark ≡ None → OneOf (codes ";}^") (after_space f) ⊎ Deep t × OneOf (codes "_") (after_space f)

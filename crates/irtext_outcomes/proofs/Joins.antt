@@ -1,0 +1,20 @@
+-- What a reader answers agrees with the grammar.
+pub mod Answers
+pub mod Tokens
+pub mod Section
+pub mod Entries
+pub mod Root
+pub mod Marks
+pub mod Lead
+pub mod Operation
+pub mod Plain
+pub mod Refused
+pub mod Top
+pub mod Attributes
+pub mod Lists
+pub mod Pieces
+pub mod Dictionary
+pub mod PartSteps
+pub mod Parts
+pub mod PartsFound
+pub mod Body

@@ -1,0 +1,4 @@
+pub mod Joins
+pub mod Readers
+pub mod Locations
+pub mod RoundTrips

@@ -1,0 +1,30 @@
+-- What reading a location does to a context, one reading behind another: it may keep more paths.
+use Rattle.std.proofs.Common.{◌≡◌, ◌∙◌, ap, refl, ℕ, List, arith}
+use Rattle.irtext_base.specs.Context.{ContextView, KeepsOlder, before}
+use Rattle.irtext_base.specs.Moves.{with_paths}
+use Rattle.irtext_base.specs.Paths.{with_path}
+use Rattle.irtext_base.proofs.PathKeys.{paths_stay}
+use Rattle.irtext_outcomes.specs.Readers.NewPaths.{AddsPaths}
+
+module _ {T A : Type 0} where
+  -- nothing is added
+  pub adds_none : (c : ContextView T A) → AddsPaths c c
+  adds_none c = record { kept = λ i p h. h; rest = refl }
+
+  -- all objects stay where paths are added
+  pub adds_kept : {a b : ContextView T A} (mark : ℕ) → AddsPaths a b → KeepsOlder mark a b
+  adds_kept mark h = record {
+    operations = λ p. ap (λ c. before mark c.operations p) h.rest;
+    regions = λ p. ap (λ c. before mark c.regions p) h.rest;
+    count = let e = ap (λ c. c.made) h.rest in omega (arith, e);
+    paths = h.kept;
+    dialects = ap (λ c. c.dialects) h.rest;
+  }
+
+  -- the paths of one reading and then of another
+  pub adds_more : {a b c : ContextView T A} → AddsPaths a b → AddsPaths b c → AddsPaths a c
+  adds_more {a} {b} {c} h k = record { kept = λ i p e. k.kept i p (h.kept i p e); rest = k.rest ∙ ap (λ (x : ContextView T A). with_paths x c.paths) h.rest }
+
+  -- one path is kept
+  pub adds_path : (a b : ContextView T A) (path : List ℕ) → b ≡ record a { paths = with_path a.paths path } → AddsPaths a b
+  adds_path a b path e = rw e (record { kept = paths_stay a.paths path; rest = refl })

@@ -1,0 +1,4 @@
+-- Printed roots are read back.
+pub mod KeptBack
+pub mod KeptText
+pub mod AttrBack

@@ -1,0 +1,6 @@
+-- What a caller is told of a root.
+pub mod Supported
+pub mod Root
+pub mod PrintedBack
+pub mod KeptRoot
+pub mod WrittenBack

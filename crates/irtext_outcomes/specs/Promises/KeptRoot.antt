@@ -1,0 +1,48 @@
+-- What a root holds so that its text is read back.
+use Rattle.std.specs.Prelude.{◌≡◌, ◌⊎◌, true, IfSome, List, [], ℕ, Option, ⊤}
+use Rattle.irtext_base.specs.Context.{ContextView, OperationView}
+use Rattle.irtext_base.specs.Dialects.{Table}
+use Rattle.irtext_base.specs.Faults.{id_of}
+use Rattle.irtext_base.specs.Locations.{AttrView, src_pos, fused, named, call_site, unknown, LocationsOf, no_location, location}
+use Rattle.irtext_base.specs.Paths.{Written}
+use Rattle.irtext_base.specs.Text.{Text}
+use Rattle.irtext_grammar.specs.Spelling.AttrText.{FineAttr}
+use Rattle.irtext_grammar.specs.Graphs.Fillable.{KeepsKeys}
+use Rattle.irtext_grammar.specs.Spelling.Fine.{Each, IsWord}
+use Rattle.irtext_grammar.specs.Contexts.Formats.{isolated, IsAccepted}
+use Rattle.irtext_grammar.specs.Graphs.RoundTrip.{KeysDiffer}
+use Rattle.irtext_grammar.specs.Contexts.Held.{entries_of, location_over}
+use Rattle.irtext_grammar.specs.Graphs.Wordy.{WordyEntry}
+use Rattle.irtext_outcomes.specs.Promises.WrittenBack.{AllFit}
+
+module _ {A : Type 0} where
+  abbrev mutual
+    -- this holds of each attribute in the location
+    pub AllHold : (AttrView A → Type 0) → Written A → Type 0
+    AllHold P (src_pos s at) = ⊤
+    AllHold P (fused metadata ls) = IfSome metadata P × RowHold P ls
+    AllHold P (named name child) = AllHold P child
+    AllHold P (call_site callee caller) = AllHold P callee × AllHold P caller
+    AllHold P unknown = ⊤
+
+    -- the same of each location in a row
+    pub RowHold : (AttrView A → Type 0) → LocationsOf (Option (List ℕ)) A → Type 0
+    RowHold P no_location = ⊤
+    RowHold P (location l ls) = AllHold P l × RowHold P ls
+
+-- What the types of an operation's parts keep: its id and its keys are identifiers, and so are the names in its attributes; its keys
+-- differ, and the reserved one has given names; the paths and names in its location are UTF-8, the lines and columns there fit, and
+-- the names in the attributes there are identifiers; and its format, if it has one, reads uniquely.
+pub record IsKept {T A : Type 0} (ctx : ContextView T A) (op : OperationView T A) : Type 0 where
+  pub dialect : IsWord op.id.dialect
+  pub name : IsWord op.id.name
+  pub attributes : Each WordyEntry (entries_of op.attributes)
+  pub keys : KeepsKeys (entries_of op.attributes)
+  pub differ : KeysDiffer (entries_of op.attributes)
+  pub fits : AllFit (location_over ctx.paths op.loc)
+  pub holds : AllHold FineAttr (location_over ctx.paths op.loc)
+  pub accepted : IsAccepted ctx.dialects (id_of op.id)
+
+-- a root that can be read alone: it is isolated, or has no region
+abbrev pub StandsAlone : {T A : Type 0} → List (Text × Table) → OperationView T A → Type 0
+StandsAlone dialects op = (op.regions ≡ []) ⊎ (isolated dialects (id_of op.id) ≡ true)

@@ -1,0 +1,76 @@
+-- What reading a location does to the context: it may keep more paths.
+use Rattle.std.specs.Prelude.{◌≡◌, ℕ, suc, ◌≤◌, Bool, Option, Result, Ok, Err, List, IfOk, IsTrue, length, map, Vec, [], ◌∷◌, ◌++◌}
+use Rattle.std.specs.Global.{Global}
+use Rattle.std.specs.declared.alloc.AllocError.{AllocError}
+use Rattle.std.specs.Char.{is_whitespace}
+use Rattle.irtext_base.specs.Text.{Text, front, after}
+use Rattle.irtext_base.specs.Stream.{StreamView}
+use Rattle.irtext_base.specs.Answers.{Outcome, Starves, Takes}
+use Rattle.irtext_base.specs.Context.{ContextView, KeepsPaths}
+use Rattle.irtext_base.specs.Moves.{with_paths}
+use Rattle.irtext_base.specs.Locations.{LocationView, LocationsOf, no_location, location, location_view, in_row, row_sourced}
+use Rattle.irtext_base.specs.Paths.{Written, path_of, are_known, row_known, written_with}
+use Rattle.irtext_base.specs.declared.location.Location.{Location}
+use Rattle.irtext_base.specs.declared.parsable.fault.ParseFault.{ParseFault}
+use Rattle.irtext_outcomes.specs.Readers.MustRead.{MustRead, MayRead}
+use Rattle.irtext_outcomes.specs.Readers.Roots.{itself, replaced}
+
+-- each path stays under its key, and all else stays
+pub record AddsPaths {T A : Type 0} (old new : ContextView T A) : Type 0 where
+  pub kept : KeepsPaths old.paths new.paths
+  pub rest : new ≡ with_paths old new.paths
+
+-- the paths of the location's files are among so many
+abbrev pub known_location : {A : Type 0} → ℕ → Location A → Bool
+known_location count l = are_known count (location_view l)
+
+module _ {A X Y : Type 0} (is_known : ℕ → Y → Bool) (see : List (List ℕ) → Y → X) (outcome : Text → Outcome X) where
+  -- what must stand there was read: its paths are among these, and seen over them it is what the text says
+  pub record MustReadOver (paths : List (List ℕ)) (old : StreamView) (result : Result Y (ParseFault A)) (new : StreamView) : Type 0 where
+    pub known : IfOk result (λ y. IsTrue (is_known (length paths) y))
+    pub read : MustRead itself replaced (see paths) outcome old result new
+
+  -- the same of what may be missing
+  pub record MayReadOver (paths : List (List ℕ)) (old : StreamView) (result : Result Y (ParseFault A)) (new : StreamView) : Type 0 where
+    pub known : IfOk result (λ y. IsTrue (is_known (length paths) y))
+    pub read : MayRead itself replaced (see paths) outcome old result new
+
+module _ {A X Y : Type 0} (is_known : ℕ → Y → Bool) (see : List (List ℕ) → Y → X) (outcome : ℕ → Text → Outcome X) where
+  -- the same, where what the text says is given up to any depth: no depth passes the length of the text
+  pub record MustReadWithin (paths : List (List ℕ)) (old : StreamView) (result : Result Y (ParseFault A)) (new : StreamView) : Type 0 where
+    pub within : (depth : ℕ) → length old.rest ≤ depth → MustReadOver is_known see (outcome depth) paths old result new
+
+  -- the same of what takes a character before another location stands
+  pub record MustReadInside (paths : List (List ℕ)) (old : StreamView) (result : Result Y (ParseFault A)) (new : StreamView) : Type 0 where
+    pub inside : (depth : ℕ) → length old.rest ≤ suc depth → MustReadOver is_known see (outcome depth) paths old result new
+
+module _ {A : Type 0} where
+  -- what was made is answered, and where memory was refused for it that is the fault
+  abbrev pub AnswersMade : Result (Location A) AllocError → StreamView → Result (Location A) (ParseFault A) → StreamView → Type 0
+  AnswersMade (Ok l) old (Ok k) new = (k ≡ l) × (new ≡ old)
+  AnswersMade (Ok l) old (Err fault) new = ⊥
+  AnswersMade (Err e) old (Ok k) new = ⊥
+  AnswersMade (Err e) old (Err fault) new = Starves itself replaced old fault new
+
+  -- a location that looks so was made, or memory was refused for it
+  abbrev pub Makes : LocationView A → StreamView → Result (Location A) (ParseFault A) → StreamView → Type 0
+  Makes view old (Ok l) new = (location_view l ≡ view) × (new ≡ old)
+  Makes view old (Err fault) new = Starves itself replaced old fault new
+
+  -- locations in a row: whether their paths are among so many, and what their texts say
+  abbrev pub known_row : ℕ → Vec (Location A) Global → Bool
+  known_row count ls = row_known count (in_row (map location_view ls.items))
+
+  abbrev pub row_over : List (List ℕ) → Vec (Location A) Global → LocationsOf (Option (List ℕ)) A
+  row_over paths ls = row_sourced (path_of paths) (in_row (map location_view ls.items))
+
+-- one row and then another
+abbrev pub joined_rows : {S A : Type 0} → LocationsOf S A → LocationsOf S A → LocationsOf S A
+joined_rows no_location ls = ls
+joined_rows (location k ks) ls = location k (joined_rows ks ls)
+
+module _ {A : Type 0} where
+  -- a location came to stand last in a row, and the white space behind it was passed, or memory was refused for it
+  abbrev pub PushesRow : Vec (Location A) Global → Location A → StreamView → Vec (Location A) Global → Result Unit (ParseFault A) → StreamView → Type 0
+  PushesRow found l old more (Ok done) new = (more.items ≡ found.items ++ (l ∷ [])) × Takes itself replaced (front is_whitespace old.rest) (after is_whitespace old.rest) old new
+  PushesRow found l old more (Err fault) new = Starves itself replaced old fault new

@@ -1,0 +1,47 @@
+-- What a text reads as, where the parts stand that operations have in common, with each fault's cause and place.
+use Rattle.std.specs.Prelude.{ℕ, Bool, true, false, cond, Option, Some, None, [], ◌∷◌, ◌++◌, codes, ⊤}
+use Rattle.std.specs.Char.{is_whitespace}
+use Rattle.irtext_base.specs.Text.{Text, begins, front, after_space}
+use Rattle.irtext_base.specs.Reading.{the}
+use Rattle.irtext_base.specs.Answers.{Outcome, Read, prefixed, followed, mapped}
+use Rattle.irtext_read.specs.Tokens.{text_at, identifier_at, number_at}
+use Rattle.irtext_outcomes.specs.Readers.Positions.{space_at}
+
+-- a text without its first character
+abbrev pub without_first : Text → Text
+without_first [] = []
+without_first (c ∷ text) = text
+
+-- `@` and a name
+abbrev pub symbol_at : Text → Outcome Text
+symbol_at text = followed (text_at (codes "@") text) (λ _ t. identifier_at t)
+
+-- a region without blocks
+abbrev pub braces_at : Text → Outcome ⊤
+braces_at text = followed (text_at (codes "{") text) (λ _ t. followed (space_at t) (λ _ u. text_at (codes "}") u))
+
+-- `!` and an index
+abbrev pub index_at : Text → Outcome ℕ
+index_at text = followed (text_at (codes "!") text) (λ _ t. number_at t)
+
+-- a mark, where one stands
+abbrev pub mark_at : Text → Outcome (Option ℕ)
+mark_at text = cond (begins (the 33) text) (mapped Some (index_at text)) (Read None [] text)
+
+-- the characters in front of an operation's id: white space, and `=` with white space where it stands, since there are no result names
+abbrev pub lead_of : Text → Text
+lead_of text = front is_whitespace text ++ cond (begins (the 61) (after_space text)) (61 ∷ front is_whitespace (without_first (after_space text))) []
+
+-- what is left behind them
+abbrev pub behind_lead : Text → Text
+behind_lead text = cond (begins (the 61) (after_space text)) (after_space (without_first (after_space text))) (after_space text)
+
+-- what stands behind a lead, seen from before it: a missing thing is bad where there is a lead
+abbrev pub behind : {X : Type 0} → Text → Outcome X → Outcome X
+behind [] o = o
+behind (c ∷ lead) o = prefixed (c ∷ lead) o
+
+-- whether there is a lead
+abbrev pub is_led : Text → Bool
+is_led [] = false
+is_led (c ∷ lead) = true

@@ -1,0 +1,2 @@
+-- Steps of readers.
+pub mod PieceSteps

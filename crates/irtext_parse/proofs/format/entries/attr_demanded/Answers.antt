@@ -1,0 +1,7 @@
+use Rattle.irtext_read.proofs.Steps.{insisted}
+use Rattle.irtext_parse.proofs.Readers.PieceSteps.{as_tree}
+use Rattle.irtext_outcomes.proofs.Readers.Rooted.{alone}
+use Rattle.irtext_parse.proofs.format.entries.attr_demanded.Goals as goal
+
+pub returns : goal.returns
+returns g c = as_tree c.demand.result (insisted alone c.attr_from-answer.ensures c.demand.ensures)

@@ -1,0 +1,44 @@
+use Rattle.std.proofs.Common.{◌≡◌, ◌∷◌, sym, ap}
+use Rattle.std.proofs.lemmas.Result.{err_from_is_err_and}
+use Rattle.irtext_base.specs.Answers.{followed}
+use Rattle.irtext_base.specs.Directives.{directive_of, directives_of}
+use Rattle.irtext_read.specs.AttrTexts.{attr_at}
+use Rattle.irtext_read.proofs.Steps.{onward}
+use Rattle.irtext_outcomes.specs.Readers.Directives.{piece_after, pieces_after, no_pieces}
+use Rattle.irtext_parse.specs.Readers.PiecesOf.{pieces_of}
+use Rattle.irtext_grammar.specs.Contexts.Held.{entries_of}
+use Rattle.irtext_parse.proofs.Readers.PieceSteps.{with_attributes}
+use Rattle.irtext_outcomes.proofs.Readers.Rooted.{alone}
+use Rattle.irtext_outcomes.proofs.Readers.Steps.{starts, spaced, more, refuses}
+use Rattle.irtext_parse.proofs.format.pieces.pieces_parse.Goals as goal
+
+pub loop-directive-init : goal.loop-directive-init
+loop-directive-init g c = λ fine.
+    let outcome = pieces_after (attr_at g.A.IrText.reading) c.args.isolated (directives_of c.args.directives.now) in
+    let e : no_pieces ≡ pieces_of (record { attributes = c.new.result; regions = 0 }) = ap (λ es. with_attributes 0 (entries_of es)) (sym c.new.ensures) in
+    starts alone (outcome no_pieces) (outcome (pieces_of (record { attributes = c.new.result; regions = 0 }))) c.args.stream.now fine (ap (λ p. outcome p c.args.stream.now.rest) e)
+
+pub returns-in_err-piece_parse : goal.returns-in_err-piece_parse
+returns-in_err-piece_parse g c = λ fine.
+    let attr = attr_at g.A.IrText.reading in
+    let iso = c.args.isolated in
+    let found = pieces_of c.loop-directive.found in
+    let ds = directives_of c.in-Some.rest.now in
+    let e : c.loop-directive.left.now ≡ c.in-Some.directive.now ∷ c.in-Some.rest.now = c.in-Some.ensures.cases.0 in
+    let d = directive_of c.in-Some.directive.now in
+    let q = onward alone (pieces_after attr iso (directives_of c.loop-directive.left.now) found) (pieces_after attr iso (d ∷ ds) found) (ap (λ xs. pieces_after attr iso (directives_of xs) found c.loop-directive.stream.rest) e) (c.loop-directive.invariant fine) in
+    let q1 = spaced alone (λ _ t. followed (piece_after attr iso d found t) (λ p u. pieces_after attr iso ds p u)) q c.skip_white_space.ensures in
+    let p = err_from_is_err_and c.from_residual.result c.from_residual.ensures.1 in
+    rw (p.1, p.2) (refuses alone (λ p u. pieces_after attr iso ds p u) q1 c.in_err-piece_parse.ensures)
+
+pub loop-directive-preserved : goal.loop-directive-preserved
+loop-directive-preserved g c = λ fine.
+    let attr = attr_at g.A.IrText.reading in
+    let iso = c.args.isolated in
+    let found = pieces_of c.loop-directive.found in
+    let ds = directives_of c.in-Some.rest.now in
+    let e : c.loop-directive.left.now ≡ c.in-Some.directive.now ∷ c.in-Some.rest.now = c.in-Some.ensures.cases.0 in
+    let d = directive_of c.in-Some.directive.now in
+    let q = onward alone (pieces_after attr iso (directives_of c.loop-directive.left.now) found) (pieces_after attr iso (d ∷ ds) found) (ap (λ xs. pieces_after attr iso (directives_of xs) found c.loop-directive.stream.rest) e) (c.loop-directive.invariant fine) in
+    let q1 = spaced alone (λ _ t. followed (piece_after attr iso d found t) (λ p u. pieces_after attr iso ds p u)) q c.skip_white_space.ensures in
+    more alone (λ p u. pieces_after attr iso ds p u) q1 c.in_ok-piece_parse.ensures

@@ -1,0 +1,8 @@
+use Rattle.std.proofs.Common.{arith}
+use Rattle.irtext_base.proofs.Kept.{kept_trans, before_made}
+use Rattle.irtext_parse.proofs.ir.read.make_read.Goals as goal
+
+pub returns-in-Ok-clause-kept : goal.returns-in-Ok-clause-kept
+returns-in-Ok-clause-kept g c = λ mark h.
+    let k = c.in-Ok.ensures.made in
+    kept_trans (c.in-Ok.ensures.kept mark h) (c.with_regions.ensures.kept mark (omega (arith, h, k.made)) (before_made mark h k))

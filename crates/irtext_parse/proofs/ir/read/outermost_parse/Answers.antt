@@ -1,0 +1,16 @@
+use Rattle.std.proofs.Common.{ap, ◌∙◌, length, take, arith}
+use Rattle.std.proofs.Math.Seq.{take-append_seam}
+use Rattle.irtext_read.specs.States.{marks_of}
+use Rattle.irtext_base.proofs.Kept.{rolled_back}
+use Rattle.irtext_parse.proofs.ir.read.outermost_parse.Goals as goal
+
+pub returns-in-Err-clause-objects : goal.returns-in-Err-clause-objects
+returns-in-Err-clause-objects g c =
+    let k = c.in-Err.ensures.kept c.made-made.result (omega (arith, c.made-made.ensures.made)) in
+    rw c.truncate_marks.ensures.ctx (rolled_back c.made-made.ensures.older k c.roll_back.ensures.back)
+
+pub returns-in-Err-clause-marks : goal.returns-in-Err-clause-marks
+returns-in-Err-clause-marks g c =
+    let old = marks_of c.args.s.now.state in
+    let m = c.in-Err.ensures.marks in
+    c.truncate_marks.ensures.marks ∙ (ap (λ n. take n (marks_of c.root_parse.new.s.state)) c.num_marks-marks.ensures ∙ (ap (take (length old)) m.1 ∙ take-append_seam old m.0))

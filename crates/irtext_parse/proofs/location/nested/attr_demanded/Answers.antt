@@ -1,0 +1,12 @@
+use Rattle.irtext_base.specs.Answers.{unless_failed}
+use Rattle.irtext_base.specs.Locations.{attr_view}
+use Rattle.irtext_base.proofs.Compose.{answers_demanded}
+use Rattle.irtext_read.specs.AttrTexts.{attr_at}
+use Rattle.irtext_outcomes.specs.Readers.Roots.{itself, replaced}
+use Rattle.irtext_outcomes.proofs.Readers.Rooted.{alone}
+use Rattle.irtext_parse.proofs.location.nested.attr_demanded.Goals as goal
+
+pub returns : goal.returns
+returns g c =
+    let old = c.args.stream.now in
+    record { answers = answers_demanded itself replaced alone.view_at alone.at_at attr_view (unless_failed old.failed (attr_at g.A.IrText.reading old.rest)) old c.attr_from-answer.new.stream c.demand.new.stream c.attr_from-answer.result c.demand.result c.attr_from-answer.ensures.answers c.demand.ensures }

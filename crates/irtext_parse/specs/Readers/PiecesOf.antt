@@ -1,0 +1,41 @@
+-- What was read of an operation behind its id, as the code holds it.
+use Rattle.std.specs.Prelude.{◌≡◌, true, false, Result, Ok, Err, codes, ⊤}
+use Rattle.irtext_base.specs.Text.{Text}
+use Rattle.irtext_base.specs.Stream.{StreamView}
+use Rattle.irtext_base.specs.Answers.{Outcome, Starves, followed, mapped}
+use Rattle.irtext_base.specs.Faults.{ReservedKey}
+use Rattle.irtext_base.specs.Locations.{AttrView}
+use Rattle.irtext_base.specs.declared.base.attributes.AttrObj.{AttrObj}
+use Rattle.irtext_base.specs.declared.parsable.fault.ParseFault.{ParseFault}
+use Rattle.irtext_base.specs.declared.parsable.position.Place.{Place}
+use Rattle.irtext_read.specs.Tokens.{identifier_at}
+use Rattle.irtext_grammar.specs.Names.Acts.{keeps_key}
+use Rattle.irtext_outcomes.specs.Readers.Positions.{spaced_at}
+use Rattle.irtext_outcomes.specs.Readers.Directives.{Pieces, attribute_at}
+use Rattle.irtext_outcomes.specs.Readers.Registered.{RefusesAt}
+use Rattle.irtext_outcomes.specs.Readers.Roots.{itself, replaced}
+use Rattle.irtext_grammar.specs.Contexts.Held.{attribute_of, entries_of}
+use Rattle.irtext_grammar.specs.Grammar.Tree.{Attribute}
+use Rattle.irtext_parse.specs.declared.format.pieces.Pieces as code
+
+-- an entry of a dictionary
+abbrev pub entry_of : {A : Type 0} → Text × AttrObj A → Text × Attribute A
+entry_of e = (e.0, attribute_of e.1)
+
+-- the pieces, with the entries in order
+abbrev pub pieces_of : {A : Type 0} → code.Pieces A → Pieces A
+pieces_of p = record { attributes = entries_of p.attributes; regions = p.regions }
+
+-- a key, `:`, and an attribute, whether or not a dictionary may take them
+abbrev pub pair_at : {A : Type 0} → (Text → Outcome (AttrView A)) → Text → Outcome (Text × Attribute A)
+pair_at attr text = followed (identifier_at text) (λ key t. followed (spaced_at (codes ":") t) (λ _ u. mapped (λ a. (key, a)) (attribute_at attr u)))
+
+-- The entry is answered where a dictionary may take it: else its key is reserved, and the fault stands at the place.
+abbrev pub Allows : {A : Type 0} → Place → Text × AttrObj A → StreamView → Result (Text × AttrObj A) (ParseFault A) → StreamView → Type 0
+Allows place e old (Ok d) new = (keeps_key e.0 (attribute_of e.1) ≡ true) × (d ≡ e) × (new ≡ old)
+Allows place e old (Err fault) new = (keeps_key e.0 (attribute_of e.1) ≡ false) × RefusesAt itself replaced (ReservedKey e.0) place old fault new
+
+-- The pieces are these, and the stream is as it was, unless memory was refused.
+abbrev pub Adds : {A : Type 0} → Pieces A → Pieces A → StreamView → Result ⊤ (ParseFault A) → StreamView → Type 0
+Adds all found old (Ok _) new = (found ≡ all) × (new ≡ old)
+Adds all found old (Err fault) new = Starves itself replaced old fault new

@@ -1,0 +1,159 @@
+//! Reading of attributes under keys: the entries of a dictionary, and the attribute that a directive names.
+ghost use Rattle.std.specs.Prelude.{◌≡◌, OnErr, false, length};
+ghost use Rattle.irtext_base.specs.Answers.{mapped};
+ghost use Rattle.irtext_read.specs.AttrTexts.{attr_at};
+ghost use Rattle.irtext_read.specs.ListOutcomes.{item_after, items_after, separated_at};
+ghost use Rattle.irtext_grammar.specs.Names.Acts.{keeps_key};
+ghost use Rattle.irtext_outcomes.specs.Readers.MustRead.{MustRead, MayRead};
+ghost use Rattle.irtext_outcomes.specs.Readers.Directives.{attribute_at, entry_at, keyed_at, dictionary_at};
+ghost use Rattle.irtext_parse.specs.Readers.PiecesOf.{entry_of, pair_at, Allows};
+ghost use Rattle.irtext_outcomes.specs.Readers.Roots.{itself, replaced};
+ghost use Rattle.irtext_grammar.specs.Contexts.Held.{attribute_of, entries_of};
+
+use crate::irfmt::demanded::{spaced_text, text_demanded};
+use irtext_base::base::{AttrObj, Identifier};
+use irtext_base::parsable::{CharStream, ParseResult, Place, TextStream};
+use irtext_base::result::Cause;
+use irtext_base::text::AttrText;
+use irtext_read::irfmt::faults::{demand, next_is, refuse, refuse_at};
+use irtext_read::irfmt::parsers::{attr_from, identifier_parse, skip_white_space};
+
+/// A key and its attribute.
+pub(crate) type Entry<A> = (Identifier, AttrObj<A>);
+
+/// An attribute, which must stand there.
+fn attr_demanded<A: AttrText>(stream: &mut TextStream) -> ParseResult<AttrObj<A>, A>
+    ensures { MustRead itself replaced attribute_of (attribute_at (attr_at A.IrText.reading)) stream.old result stream.new }
+{
+    let answer = attr_from(stream);
+    demand(stream, answer)
+}
+
+/// Whether a dictionary may take the attribute under the key: the key of given names takes these alone.
+#[tactic(auto, using(irtext_grammar::proofs::Lists::SameText::texts))]
+fn is_allowed<A>(key: &Identifier, attr: &AttrObj<A>) -> bool
+    ensures { result ≡ keeps_key key.now (attribute_of attr.now) }
+{
+    if key.as_str() != "builtin_given_names" {
+        return true;
+    }
+    match attr {
+        AttrObj::GivenNames(_) => true,
+        AttrObj::Own(_) | AttrObj::Ident(_) => false,
+    }
+}
+
+/// The entry, where a dictionary may take it. `at` is where it begins.
+fn allowed<A: AttrText>(
+    stream: &mut TextStream,
+    at: Place,
+    entry: Entry<A>,
+) -> ParseResult<Entry<A>, A>
+    ensures { Allows at entry stream.old result stream.new }
+{
+    let (key, attr) = entry;
+    if !is_allowed(&key, &attr) {
+        return Err(refuse_at(stream, at, Cause::ReservedKey(key)));
+    }
+    Ok((key, attr))
+}
+
+/// A key, `:` and an attribute.
+fn pair_parse<A: AttrText>(stream: &mut TextStream) -> ParseResult<Entry<A>, A>
+    ensures { MayRead itself replaced entry_of (pair_at (attr_at A.IrText.reading)) stream.old result stream.new }
+{
+    let key = identifier_parse(stream)?;
+    spaced_text(stream, ":")?;
+    let attr = attr_demanded(stream)?;
+    Ok((key, attr))
+}
+
+/// An entry of a dictionary.
+fn entry_parse<A: AttrText>(stream: &mut TextStream) -> ParseResult<Entry<A>, A>
+    ensures { MayRead itself replaced entry_of (entry_at (attr_at A.IrText.reading)) stream.old result stream.new }
+{
+    let at = stream.position();
+    let entry = pair_parse(stream)?;
+    allowed(stream, at, entry)
+}
+
+/// An attribute, and a copy of this key.
+fn under_key<A: AttrText>(stream: &mut TextStream, key: &Identifier) -> ParseResult<Entry<A>, A>
+    ensures { MustRead itself replaced entry_of (λ t. mapped (λ a. (key.now, a)) (attribute_at (attr_at A.IrText.reading) t)) stream.old result stream.new }
+{
+    let attr = attr_demanded(stream)?;
+    match key.clone() {
+        Ok(key) => Ok((key, attr)),
+        Err(_) => Err(refuse(stream, Cause::Memory)),
+    }
+}
+
+/// Reads an attribute under the key that a directive names. A fault is committed.
+pub(crate) fn keyed_parse<A: AttrText>(
+    stream: &mut TextStream,
+    key: &Identifier,
+) -> ParseResult<Entry<A>, A>
+    ensures { MustRead itself replaced entry_of (keyed_at (attr_at A.IrText.reading) key.now) stream.old result stream.new }
+{
+    let at = stream.position();
+    let entry = under_key(stream, key)?;
+    allowed(stream, at, entry)
+}
+
+/// Appends an entry to those found, and passes the white space behind it. A refusal leaves them as they were.
+fn push_entry<A: AttrText>(stream: &mut TextStream, found: &mut Vec<Entry<A>>) -> ParseResult<(), A>
+    ensures read { MayRead itself replaced (λ _. entries_of found.new.items) (item_after 44 (entry_at (attr_at A.IrText.reading)) (entries_of found.old.items)) stream.old result stream.new }
+    ensures unread { OnErr result (found.new.items ≡ found.old.items) }
+{
+    let entry = entry_parse(stream)?;
+    let Ok(()) = found.push(entry) else {
+        return Err(refuse(stream, Cause::Memory));
+    };
+    skip_white_space(stream);
+    Ok(())
+}
+
+/// The entries found and those behind them, as long as `,` follows.
+fn more_entries<A: AttrText>(
+    stream: &mut TextStream,
+    mut found: Vec<Entry<A>>,
+) -> ParseResult<Vec<Entry<A>>, A>
+    ensures { stream.old.failed ≡ false → MustRead itself replaced (λ es. entries_of es.items) (λ t. items_after 44 (entry_at (attr_at A.IrText.reading)) (length t) (entries_of found.items) t) stream.old result stream.new }
+{
+    while next_is(stream, ',') {
+        let _ = stream.take();
+        skip_white_space(stream);
+        let answer = push_entry(stream, &mut found);
+        demand(stream, answer)?;
+    }
+    Ok(found)
+}
+
+/// Entries with `,` between them.
+fn entries<A: AttrText>(stream: &mut TextStream) -> ParseResult<Vec<Entry<A>>, A>
+    ensures { MayRead itself replaced (λ es. entries_of es.items) (separated_at 44 (entry_at (attr_at A.IrText.reading))) stream.old result stream.new }
+{
+    let mut found = Vec::new(stream.allocator());
+    match push_entry(stream, &mut found) {
+        Ok(()) => more_entries(stream, found),
+        Err(fault) => {
+            if fault.committed {
+                return Err(fault);
+            }
+            Ok(found)
+        }
+    }
+}
+
+/// Reads the entries of a dictionary, between brackets and with `,` between them. A fault is committed.
+pub(crate) fn dictionary_parse<A: AttrText>(
+    stream: &mut TextStream,
+) -> ParseResult<Vec<Entry<A>>, A>
+    ensures { MustRead itself replaced (λ es. entries_of es.items) (dictionary_at (attr_at A.IrText.reading)) stream.old result stream.new }
+{
+    text_demanded(stream, "[")?;
+    skip_white_space(stream);
+    let entries = entries(stream)?;
+    text_demanded(stream, "]")?;
+    Ok(entries)
+}

@@ -1,0 +1,233 @@
+//! Reading of what a format's directives read, behind an operation's id.
+ghost use Rattle.std.specs.Prelude.{◌≡◌, false, OnOk, [], ◌∷◌};
+ghost use Rattle.irtext_base.specs.Answers.{Starves, Commits, mapped};
+ghost use Rattle.irtext_base.specs.Directives.{directive_of, directives_of, format_of};
+ghost use Rattle.irtext_base.specs.Faults.{Unexpected, AnOperation};
+ghost use Rattle.irtext_base.specs.Format.{sym_name_key};
+ghost use Rattle.irtext_base.specs.Stream.{first_of};
+ghost use Rattle.irtext_read.specs.AttrTexts.{attr_at};
+ghost use Rattle.irtext_grammar.specs.Graphs.Build.{put_all};
+ghost use Rattle.irtext_outcomes.specs.Readers.Parts.{symbol_at};
+ghost use Rattle.irtext_outcomes.specs.Readers.MustRead.{MustRead};
+ghost use Rattle.irtext_outcomes.specs.Readers.Directives.{with_entries, with_regions, no_pieces, keyed_at, dictionary_at, region_at, regions_at, piece_after, pieces_after, body_at};
+ghost use Rattle.irtext_parse.specs.Readers.PiecesOf.{entry_of, pieces_of, Adds};
+ghost use Rattle.irtext_outcomes.specs.Readers.Roots.{itself, replaced};
+ghost use Rattle.irtext_grammar.specs.Contexts.Held.{entries_of};
+ghost use Rattle.irtext_grammar.specs.Grammar.Tree.{ident};
+
+use crate::format::entries::{Entry, dictionary_parse, keyed_parse};
+use crate::format::region::{region_parse, regions_parse};
+use crate::irfmt::demanded::symbol_parse;
+use irtext_base::base::{AttrObj, AttributeDict, Identifier, Refusal};
+use irtext_base::format::{Directive, OpFormat};
+use irtext_base::parsable::{CharStream, ParseFault, ParseResult, TextStream};
+use irtext_base::result::{Cause, Expected};
+use irtext_base::text::AttrText;
+use irtext_read::irfmt::demanded::literal_demanded;
+use irtext_read::irfmt::faults::{demanded, refuse, unexpected};
+use irtext_read::irfmt::parsers::skip_white_space;
+
+/// What was read of an operation behind its id: its attributes, and how many regions it has.
+#[derive(Drop)]
+pub(crate) struct Pieces<A> {
+    pub(crate) attributes: AttributeDict<A>,
+    pub(crate) regions: usize,
+}
+
+/// The fault where memory was refused. The stream has failed.
+fn no_memory<A>(stream: &mut TextStream) -> ParseFault<A>
+    ensures { Starves itself replaced stream.old result stream.new }
+{
+    refuse(stream, Cause::Memory)
+}
+
+/// The fault where a directive stands that is not read so far: an operation is expected. The stream has failed.
+fn not_read<A>(stream: &mut TextStream) -> ParseFault<A>
+    ensures { Commits itself replaced (Unexpected (first_of stream.old.rest) AnOperation) [] stream.old result stream.new }
+{
+    let fault = unexpected(stream, Expected::Operation);
+    demanded(stream, fault)
+}
+
+/// Puts entries in, one after the other. It is refused only where memory is.
+fn put_entries<A: Drop>(
+    attributes: &mut AttributeDict<A>,
+    entries: Vec<Entry<A>>,
+) -> Result<(), Refusal>
+    ensures { OnOk result (entries_of attributes.new ≡ put_all (entries_of attributes.old) (entries_of entries.items)) }
+{
+    for (key, attr) in entries {
+        attributes.insert(key, attr)?;
+    }
+    Ok(())
+}
+
+/// Adds entries to the pieces found.
+fn store_entries<A: Drop>(
+    stream: &mut TextStream,
+    entries: Vec<Entry<A>>,
+    found: &mut Pieces<A>,
+) -> ParseResult<(), A>
+    ensures { Adds (with_entries (pieces_of found.old) (entries_of entries.items)) (pieces_of found.new) stream.old result stream.new }
+{
+    match put_entries(&mut found.attributes, entries) {
+        Ok(()) => Ok(()),
+        Err(_) => Err(no_memory(stream)),
+    }
+}
+
+/// Adds an entry to the pieces found.
+fn store_entry<A: Drop>(
+    stream: &mut TextStream,
+    entry: Entry<A>,
+    found: &mut Pieces<A>,
+) -> ParseResult<(), A>
+    ensures { Adds (with_entries (pieces_of found.old) (entry_of entry ∷ [])) (pieces_of found.new) stream.old result stream.new }
+{
+    let (key, attr) = entry;
+    match found.attributes.insert(key, attr) {
+        Ok(()) => Ok(()),
+        Err(_) => Err(no_memory(stream)),
+    }
+}
+
+/// Adds so many regions to the pieces found.
+fn count_regions<A>(
+    stream: &mut TextStream,
+    regions: usize,
+    found: &mut Pieces<A>,
+) -> ParseResult<(), A>
+    ensures { Adds (with_regions (pieces_of found.old) regions) (pieces_of found.new) stream.old result stream.new }
+{
+    let Some(sum) = found.regions.checked_add(regions) else {
+        return Err(no_memory(stream));
+    };
+    found.regions = sum;
+    Ok(())
+}
+
+/// Reads the attribute of a directive, and adds it to the pieces found.
+fn attr_piece<A: AttrText>(
+    stream: &mut TextStream,
+    key: &Identifier,
+    found: &mut Pieces<A>,
+) -> ParseResult<(), A>
+    ensures { MustRead itself replaced (λ _. pieces_of found.new) (λ t. mapped (λ e. with_entries (pieces_of found.old) (e ∷ [])) (keyed_at (attr_at A.IrText.reading) key.now t)) stream.old result stream.new }
+{
+    let entry = keyed_parse(stream, key)?;
+    store_entry(stream, entry, found)
+}
+
+/// Reads a dictionary, and adds its entries to the pieces found.
+fn dictionary_piece<A: AttrText>(
+    stream: &mut TextStream,
+    found: &mut Pieces<A>,
+) -> ParseResult<(), A>
+    ensures { MustRead itself replaced (λ _. pieces_of found.new) (λ t. mapped (with_entries (pieces_of found.old)) (dictionary_at (attr_at A.IrText.reading) t)) stream.old result stream.new }
+{
+    let entries = dictionary_parse(stream)?;
+    store_entries(stream, entries, found)
+}
+
+/// Reads a symbol's name, and adds it to the pieces found under its key.
+fn header_piece<A: AttrText>(stream: &mut TextStream, found: &mut Pieces<A>) -> ParseResult<(), A>
+    ensures { MustRead itself replaced (λ _. pieces_of found.new) (λ t. mapped (λ name. with_entries (pieces_of found.old) ((sym_name_key, ident name) ∷ [])) (symbol_at t)) stream.old result stream.new }
+{
+    let symbol = symbol_parse(stream)?;
+    match Identifier::from_word(stream.allocator(), "builtin_sym_name") {
+        Ok(key) => store_entry(stream, (key, AttrObj::Ident(symbol)), found),
+        Err(_) => Err(no_memory(stream)),
+    }
+}
+
+/// Reads a region, and counts it.
+fn region_piece<A>(
+    stream: &mut TextStream,
+    isolated: bool,
+    found: &mut Pieces<A>,
+) -> ParseResult<(), A>
+    ensures { MustRead itself replaced (λ _. pieces_of found.new) (λ t. mapped (λ _. with_regions (pieces_of found.old) 1) (region_at isolated t)) stream.old result stream.new }
+{
+    region_parse(stream, isolated)?;
+    count_regions(stream, 1, found)
+}
+
+/// Reads regions, and counts them.
+fn regions_piece<A>(
+    stream: &mut TextStream,
+    isolated: bool,
+    found: &mut Pieces<A>,
+) -> ParseResult<(), A>
+    ensures { MustRead itself replaced (λ _. pieces_of found.new) (λ t. mapped (with_regions (pieces_of found.old)) (regions_at isolated t)) stream.old result stream.new }
+{
+    let regions = regions_parse(stream, isolated)?;
+    count_regions(stream, regions, found)
+}
+
+/// Reads what one directive reads, and adds it to the pieces found.
+fn piece_parse<A: AttrText>(
+    stream: &mut TextStream,
+    isolated: bool,
+    directive: &Directive,
+    found: &mut Pieces<A>,
+) -> ParseResult<(), A>
+    ensures { MustRead itself replaced (λ _. pieces_of found.new) (piece_after (attr_at A.IrText.reading) isolated (directive_of directive.now) (pieces_of found.old)) stream.old result stream.new }
+{
+    if stream.has_failed() {
+        return Err(refuse(stream, Cause::StreamFailed));
+    }
+    match directive {
+        Directive::Literal(text) => literal_demanded(stream, text.as_str()),
+        Directive::Attr(key) => attr_piece(stream, key, found),
+        Directive::AttrDict => dictionary_piece(stream, found),
+        Directive::SymbolHeader => header_piece(stream, found),
+        Directive::Region(_) => region_piece(stream, isolated, found),
+        Directive::Regions => regions_piece(stream, isolated, found),
+        Directive::Operand(_) => Err(not_read(stream)),
+        Directive::Operands => Err(not_read(stream)),
+        Directive::Successor(_) => Err(not_read(stream)),
+        Directive::Successors => Err(not_read(stream)),
+        Directive::ResultType(_) => Err(not_read(stream)),
+    }
+}
+
+/// Reads what directives read, with white space before each.
+fn pieces_parse<A: AttrText>(
+    stream: &mut TextStream,
+    isolated: bool,
+    directives: &[Directive],
+) -> ParseResult<Pieces<A>, A>
+    ensures { stream.old.failed ≡ false → MustRead itself replaced pieces_of (pieces_after (attr_at A.IrText.reading) isolated (directives_of directives.now) no_pieces) stream.old result stream.new }
+{
+    let mut found = Pieces {
+        attributes: AttributeDict::new(stream.allocator()),
+        regions: 0,
+    };
+    let mut left = directives;
+    while let Some((directive, rest)) = left.split_first() {
+        skip_white_space(stream);
+        piece_parse(stream, isolated, directive, &mut found)?;
+        left = rest;
+    }
+    Ok(found)
+}
+
+/// Reads what an operation's format reads behind its id, so far words, attributes, dictionaries, a symbol's name and regions without
+/// blocks; any other directive, and the form that any operation has, is refused where it would begin. A region is refused where the
+/// operation is not isolated from above, and a reserved key of given names with anything else. A fault is committed, and leaves the
+/// stream failed.
+pub(crate) fn body_parse<A: AttrText>(
+    stream: &mut TextStream,
+    format: &OpFormat,
+    isolated: bool,
+) -> ParseResult<Pieces<A>, A>
+    ensures { MustRead itself replaced pieces_of (body_at (attr_at A.IrText.reading) isolated (format_of format.now)) stream.old result stream.new }
+{
+    if stream.has_failed() {
+        return Err(refuse(stream, Cause::StreamFailed));
+    }
+    match format {
+        OpFormat::Canonical => Err(not_read(stream)),
+        OpFormat::Custom(directives) => pieces_parse(stream, isolated, directives.as_slice()),
+    }
+}

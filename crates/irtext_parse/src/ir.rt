@@ -1,0 +1,3 @@
+//! Operations and regions from text.
+
+pub mod read;

@@ -1,0 +1,54 @@
+//! What stands in the place of an attribute that is written in the section.
+ghost use Rattle.irtext_base.specs.Faults.{characters};
+ghost use Rattle.irtext_read.specs.Lists.{AlwaysKeepsRules, Calls, KeepsRules, UnlessFailed};
+ghost use Rattle.irtext_outcomes.specs.Readers.Marker.{MarkerOr, TakesWord};
+
+use irtext_base::parsable::{CharStream, ParseResult};
+use irtext_base::result::Cause;
+use irtext_read::irfmt::faults::{next_is, refuse};
+use irtext_read::irfmt::parsers::{ItemAnswer, skip_white_space};
+
+/// What stands in the place of an attribute that is written in the section.
+pub const OUTLINED_ATTR_MARKER: &'static str = "!outlined";
+
+/// Passes a fixed text as far as it stands there, and answers whether it stands whole.
+fn take_text<S: CharStream>(stream: &mut S, text: &'static str) -> bool
+    ensures { TakesWord S.view S.at (characters text.now) stream.old result stream.new }
+{
+    for c in text.chars() {
+        if !next_is(stream, c) {
+            return false;
+        }
+        let _ = stream.take();
+    }
+    true
+}
+
+/// Reads optional white space and the marker, and answers `None`. Where the marker doesn't stand whole, it reads the item where the
+/// call began, and answers `Some` of its value or its fault.
+pub fn outlined_marker_or<S: CharStream, R: ItemAnswer, F: FnMut(&mut S) -> R + Drop>(
+    stream: &mut S,
+    mut item: F,
+) -> ParseResult<Option<R::Value>, R::Own>
+where
+    R::Value: Drop,
+    R::Own: Drop,
+    requires callable { F.IsAlwaysCallable item }
+    requires rules { AlwaysKeepsRules S.view S.at R.seen F.FnMut }
+    ensures answers { UnlessFailed S.view S.at (MarkerOr S.view S.at (Calls R.seen F.FnMut) item) (S.view stream.old).failed stream.old result stream.new }
+    ensures kept { KeepsRules S.view S.at stream.old result stream.new }
+{
+    if stream.has_failed() {
+        return Err(refuse(stream, Cause::StreamFailed));
+    }
+    let start = stream.position();
+    skip_white_space(stream);
+    if take_text(stream, OUTLINED_ATTR_MARKER) {
+        return Ok(None);
+    }
+    stream.reset(start);
+    match item(stream).into_answer() {
+        Ok(x) => Ok(Some(x)),
+        Err(fault) => Err(fault),
+    }
+}

@@ -1,0 +1,6 @@
+//! Locations from text.
+
+mod made;
+pub mod nested;
+pub mod read;
+pub mod source;

@@ -1,0 +1,26 @@
+//! Reading of lines and columns.
+ghost use Rattle.irtext_base.specs.Faults.{characters};
+ghost use Rattle.irtext_outcomes.specs.Readers.MustRead.{MustRead};
+ghost use Rattle.irtext_outcomes.specs.Readers.Positions.{labelled_at, position_at};
+
+use crate::irfmt::demanded::{i32_demanded, spaced_text, text_demanded};
+use irtext_base::parsable::{CharStream, ParseResult, SourcePosition};
+
+/// A word, `:` and a number.
+fn labelled_number<S: CharStream, A>(stream: &mut S, word: &'static str) -> ParseResult<i32, A>
+    ensures { MustRead S.view S.at (λ z. z) (labelled_at (characters word.now)) stream.old result stream.new }
+{
+    text_demanded(stream, word)?;
+    spaced_text(stream, ":")?;
+    i32_demanded(stream)
+}
+
+/// A line and a column.
+pub(crate) fn position_parse<S: CharStream, A>(stream: &mut S) -> ParseResult<SourcePosition, A>
+    ensures { MustRead S.view S.at (λ at. at) position_at stream.old result stream.new }
+{
+    let line = labelled_number(stream, "line")?;
+    spaced_text(stream, ",")?;
+    let column = labelled_number(stream, "column")?;
+    Ok(SourcePosition { line, column })
+}

@@ -1,0 +1,76 @@
+//! Locations and their parts as things that are read from a stream with a context.
+ghost use Rattle.std.specs.Prelude.{◌≡◌, IfOk};
+ghost use Rattle.irtext_base.specs.Moves.{path_kept, all_kept};
+ghost use Rattle.irtext_base.specs.Paths.{path_of, is_known};
+ghost use Rattle.irtext_read.specs.AttrTexts.{attr_at};
+ghost use Rattle.irtext_read.specs.States.{marks_of};
+ghost use Rattle.irtext_outcomes.specs.Readers.Locations.{source_at, location_at};
+ghost use Rattle.irtext_outcomes.specs.Readers.Positions.{position_at};
+ghost use Rattle.irtext_outcomes.specs.Readers.MustRead.{MayRead};
+ghost use Rattle.irtext_grammar.specs.Contexts.Held.{location_over};
+ghost use Rattle.irtext_outcomes.specs.Readers.NewPaths.{AddsPaths, MayReadOver, known_location};
+ghost use Rattle.irtext_outcomes.specs.Readers.Roots.{itself, replaced, KeepsRest};
+
+use crate::location::nested::location_may;
+use crate::location::source::{position_may, source_may};
+use crate::parsable::{Parsable, ParseResult, StateStream};
+use irtext_base::location::{Location, Source};
+use irtext_base::parsable::SourcePosition;
+use irtext_base::text::{AttrText, IrText};
+
+impl<T: IrText<A>, A: AttrText, U> Parsable<T, A, U> for SourcePosition {
+    type Arg = ();
+
+    type Parsed = SourcePosition;
+
+    /// Reads `line: L, column: C`, with white space round each `:` and round `,`. Where it does not begin so the fault is
+    /// `Unexpected`, uncommitted; where a number does not fit, `NumberRange` at its beginning. Nothing but the stream changes.
+    fn parse(stream: &mut StateStream<'_, T, A, U>, _arg: ()) -> ParseResult<SourcePosition, A>
+        ensures read { MayRead itself replaced (λ at. at) position_at stream.old.stream result stream.new.stream }
+        ensures state { stream.new.state ≡ stream.old.state }
+    {
+        position_may(&mut stream.stream)
+    }
+}
+
+impl<T: IrText<A>, A: AttrText, U> Parsable<T, A, U> for Source {
+    type Arg = ();
+
+    type Parsed = Source;
+
+    /// Reads a quoted path, or `<in-memory>`. The context keeps the path from then on; nothing else of the state changes. Where
+    /// neither begins, the fault is `Unexpected`, uncommitted; else it is that of `quoted_string_parse`.
+    fn parse(stream: &mut StateStream<'_, T, A, U>, _arg: ()) -> ParseResult<Source, A>
+        ensures lent { stream.new.state.ctx.ghost_name ≡ stream.old.state.ctx.ghost_name }
+        ensures adds { AddsPaths stream.old.state.ctx.now stream.new.state.ctx.now }
+        ensures rest { KeepsRest stream.old.state stream.new.state }
+        ensures marks { marks_of stream.new.state ≡ marks_of stream.old.state }
+        ensures read { MayReadOver is_known path_of source_at stream.new.state.ctx.now.paths stream.old.stream result stream.new.stream }
+        ensures paths { IfOk result (λ source. stream.new.state.ctx.now.paths ≡ path_kept stream.old.state.ctx.now.paths (path_of stream.new.state.ctx.now.paths source)) }
+    {
+        let ctx = &mut *stream.state.ctx;
+        source_may(&mut stream.stream, ctx)
+    }
+}
+
+impl<T: IrText<A>, A: AttrText, U> Parsable<T, A, U> for Location<A> {
+    type Arg = ();
+
+    type Parsed = Location<A>;
+
+    /// Reads a location of any kind: a source with a line and a column, `fused[..]` or `fused<ATTRIBUTE>[..]`,
+    /// `name: "N", loc: (LOCATION)`, `callsite(LOCATION at LOCATION)`, or `?`. The context keeps the paths of its files from then
+    /// on, also where the location is refused; nothing else of the state changes. Where no location begins, the fault is
+    /// `Unexpected`, uncommitted; else it is committed and stands where a part of the location is missing or refused.
+    fn parse(stream: &mut StateStream<'_, T, A, U>, _arg: ()) -> ParseResult<Location<A>, A>
+        ensures lent { stream.new.state.ctx.ghost_name ≡ stream.old.state.ctx.ghost_name }
+        ensures adds { AddsPaths stream.old.state.ctx.now stream.new.state.ctx.now }
+        ensures rest { KeepsRest stream.old.state stream.new.state }
+        ensures marks { marks_of stream.new.state ≡ marks_of stream.old.state }
+        ensures read { MayReadOver known_location location_over (location_at (attr_at A.IrText.reading)) stream.new.state.ctx.now.paths stream.old.stream result stream.new.stream }
+        ensures paths { IfOk result (λ l. stream.new.state.ctx.now.paths ≡ all_kept stream.old.state.ctx.now.paths (location_over stream.new.state.ctx.now.paths l)) }
+    {
+        let ctx = &mut *stream.state.ctx;
+        location_may(&mut stream.stream, ctx)
+    }
+}

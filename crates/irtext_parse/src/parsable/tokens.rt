@@ -1,0 +1,165 @@
+//! Numbers, truth values and identifiers as things that are read from a stream with a context.
+ghost use Rattle.std.specs.Prelude.{◌≡◌, pos};
+ghost use Rattle.irtext_read.specs.Integers.{bool_at, int_at, signed_below, unsigned_below};
+ghost use Rattle.irtext_read.specs.Tokens.{identifier_at};
+ghost use Rattle.irtext_outcomes.specs.Readers.MustRead.{MayRead};
+ghost use Rattle.irtext_outcomes.specs.Readers.Roots.{itself, replaced};
+
+use crate::parsable::{Parsable, ParseResult, StateStream};
+use irtext_base::base::Identifier;
+use irtext_base::text::{AttrText, IrText};
+use irtext_read::irfmt::parsers::{bool_parse, identifier_parse, int_parse};
+
+impl<T: IrText<A>, A: AttrText, U> Parsable<T, A, U> for usize {
+    type Arg = ();
+
+    type Parsed = usize;
+
+    /// Reads a number as `int_parse` does, with its faults. Nothing but the stream changes.
+    fn parse(stream: &mut StateStream<'_, T, A, U>, _arg: ()) -> ParseResult<usize, A>
+        ensures read { MayRead itself replaced pos (int_at (unsigned_below 64)) stream.old.stream result stream.new.stream }
+        ensures state { stream.new.state ≡ stream.old.state }
+    {
+        int_parse(&mut stream.stream)
+    }
+}
+
+impl<T: IrText<A>, A: AttrText, U> Parsable<T, A, U> for u64 {
+    type Arg = ();
+
+    type Parsed = u64;
+
+    /// Reads a number as `int_parse` does, with its faults. Nothing but the stream changes.
+    fn parse(stream: &mut StateStream<'_, T, A, U>, _arg: ()) -> ParseResult<u64, A>
+        ensures read { MayRead itself replaced pos (int_at (unsigned_below 64)) stream.old.stream result stream.new.stream }
+        ensures state { stream.new.state ≡ stream.old.state }
+    {
+        int_parse(&mut stream.stream)
+    }
+}
+
+impl<T: IrText<A>, A: AttrText, U> Parsable<T, A, U> for u32 {
+    type Arg = ();
+
+    type Parsed = u32;
+
+    /// Reads a number as `int_parse` does, with its faults. Nothing but the stream changes.
+    fn parse(stream: &mut StateStream<'_, T, A, U>, _arg: ()) -> ParseResult<u32, A>
+        ensures read { MayRead itself replaced pos (int_at (unsigned_below 32)) stream.old.stream result stream.new.stream }
+        ensures state { stream.new.state ≡ stream.old.state }
+    {
+        int_parse(&mut stream.stream)
+    }
+}
+
+impl<T: IrText<A>, A: AttrText, U> Parsable<T, A, U> for u16 {
+    type Arg = ();
+
+    type Parsed = u16;
+
+    /// Reads a number as `int_parse` does, with its faults. Nothing but the stream changes.
+    fn parse(stream: &mut StateStream<'_, T, A, U>, _arg: ()) -> ParseResult<u16, A>
+        ensures read { MayRead itself replaced pos (int_at (unsigned_below 16)) stream.old.stream result stream.new.stream }
+        ensures state { stream.new.state ≡ stream.old.state }
+    {
+        int_parse(&mut stream.stream)
+    }
+}
+
+impl<T: IrText<A>, A: AttrText, U> Parsable<T, A, U> for u8 {
+    type Arg = ();
+
+    type Parsed = u8;
+
+    /// Reads a number as `int_parse` does, with its faults. Nothing but the stream changes.
+    fn parse(stream: &mut StateStream<'_, T, A, U>, _arg: ()) -> ParseResult<u8, A>
+        ensures read { MayRead itself replaced pos (int_at (unsigned_below 8)) stream.old.stream result stream.new.stream }
+        ensures state { stream.new.state ≡ stream.old.state }
+    {
+        int_parse(&mut stream.stream)
+    }
+}
+
+impl<T: IrText<A>, A: AttrText, U> Parsable<T, A, U> for i8 {
+    type Arg = ();
+
+    type Parsed = i8;
+
+    /// Reads a number as `int_parse` does, with its faults. Nothing but the stream changes.
+    fn parse(stream: &mut StateStream<'_, T, A, U>, _arg: ()) -> ParseResult<i8, A>
+        ensures read { MayRead itself replaced (λ z. z) (int_at (signed_below 8)) stream.old.stream result stream.new.stream }
+        ensures state { stream.new.state ≡ stream.old.state }
+    {
+        int_parse(&mut stream.stream)
+    }
+}
+
+impl<T: IrText<A>, A: AttrText, U> Parsable<T, A, U> for i16 {
+    type Arg = ();
+
+    type Parsed = i16;
+
+    /// Reads a number as `int_parse` does, with its faults. Nothing but the stream changes.
+    fn parse(stream: &mut StateStream<'_, T, A, U>, _arg: ()) -> ParseResult<i16, A>
+        ensures read { MayRead itself replaced (λ z. z) (int_at (signed_below 16)) stream.old.stream result stream.new.stream }
+        ensures state { stream.new.state ≡ stream.old.state }
+    {
+        int_parse(&mut stream.stream)
+    }
+}
+
+impl<T: IrText<A>, A: AttrText, U> Parsable<T, A, U> for i32 {
+    type Arg = ();
+
+    type Parsed = i32;
+
+    /// Reads a number as `int_parse` does, with its faults. Nothing but the stream changes.
+    fn parse(stream: &mut StateStream<'_, T, A, U>, _arg: ()) -> ParseResult<i32, A>
+        ensures read { MayRead itself replaced (λ z. z) (int_at (signed_below 32)) stream.old.stream result stream.new.stream }
+        ensures state { stream.new.state ≡ stream.old.state }
+    {
+        int_parse(&mut stream.stream)
+    }
+}
+
+impl<T: IrText<A>, A: AttrText, U> Parsable<T, A, U> for i64 {
+    type Arg = ();
+
+    type Parsed = i64;
+
+    /// Reads a number as `int_parse` does, with its faults. Nothing but the stream changes.
+    fn parse(stream: &mut StateStream<'_, T, A, U>, _arg: ()) -> ParseResult<i64, A>
+        ensures read { MayRead itself replaced (λ z. z) (int_at (signed_below 64)) stream.old.stream result stream.new.stream }
+        ensures state { stream.new.state ≡ stream.old.state }
+    {
+        int_parse(&mut stream.stream)
+    }
+}
+
+impl<T: IrText<A>, A: AttrText, U> Parsable<T, A, U> for bool {
+    type Arg = ();
+
+    type Parsed = bool;
+
+    /// Reads a truth value as `bool_parse` does, with its faults. Nothing but the stream changes.
+    fn parse(stream: &mut StateStream<'_, T, A, U>, _arg: ()) -> ParseResult<bool, A>
+        ensures read { MayRead itself replaced (λ b. b) bool_at stream.old.stream result stream.new.stream }
+        ensures state { stream.new.state ≡ stream.old.state }
+    {
+        bool_parse(&mut stream.stream)
+    }
+}
+
+impl<T: IrText<A>, A: AttrText, U> Parsable<T, A, U> for Identifier {
+    type Arg = ();
+
+    type Parsed = Identifier;
+
+    /// Reads an identifier as `identifier_parse` does, with its faults. Nothing but the stream changes.
+    fn parse(stream: &mut StateStream<'_, T, A, U>, _arg: ()) -> ParseResult<Identifier, A>
+        ensures read { MayRead itself replaced (λ name. name) identifier_at stream.old.stream result stream.new.stream }
+        ensures state { stream.new.state ≡ stream.old.state }
+    {
+        identifier_parse(&mut stream.stream)
+    }
+}

@@ -1,0 +1,16 @@
+-- What printers append.
+pub mod Requirements
+pub mod Appended
+pub mod Calls
+pub mod Items
+pub mod PrintedModules
+pub mod LocationTexts
+pub mod PieceTexts
+pub mod OpPrinters
+pub mod PrintedOperations
+pub mod OperationTexts
+pub mod DirectiveTexts
+pub mod FitsTests
+pub mod RegionTexts
+pub mod AttrTexts
+pub mod RootParts

@@ -1,0 +1,69 @@
+-- What was appended piece by piece, as one text.
+use Rattle.std.proofs.Common.{◌≡◌, ◌++◌, ◌∙◌, ℕ, List, refl, ap, Result, Ok, Err, OnOk, IfErr, codes, ◌+◌, ◌*◌, ◌/◌, ◌%◌, replicate, take, ◌-◌, ◌≤◌, zero, suc, arith}
+use Rattle.std.specs.Str.{IsAscii}
+use Rattle.std.proofs.lemmas.List.{append_assoc, replicate-append-replicate, take-replicate}
+use Rattle.std.specs.List.{slice_range}
+use Rattle.irtext_base.specs.Text.{Text}
+use Rattle.std.proofs.Common.{Box, Global}
+use Rattle.irtext_base.specs.Causes.{headed, kind_text, cause_text}
+use Rattle.irtext_base.specs.declared.result.Error.{Error}
+use Rattle.irtext_base.specs.declared.result.ErrorKind.{ErrorKind}
+use Rattle.irtext_base.specs.declared.result.Cause.{Cause, Nested, Nested'}
+use Rattle.irtext_print.specs.Errors.Located.{located_cause}
+
+-- what follows where a call succeeded
+pub then : {X E P Q : Type 0} (r : Result X E) → (P → Q) → OnOk r P → OnOk r Q
+then (Ok x) f p = f p
+then (Err e) f p = tt
+
+-- what is known where a call was refused
+pub then-err : {X E : Type 0} {P Q : E → Type 0} (r : Result X E) → ((e : E) → P e → Q e) → IfErr r P → IfErr r Q
+then-err (Ok x) f p = tt
+then-err (Err e) f p = f e p
+
+-- a location, a headline and a cause, as the text of an error
+pub error_appended : (known : List ℕ) (kind : ErrorKind) (cause : List ℕ) (old first second new : List ℕ)
+    → first ≡ old ++ known
+    → second ≡ first ++ (codes "Compilation error: " ++ (kind_text kind ++ codes ".\n"))
+    → new ≡ second ++ cause
+    → new ≡ old ++ (known ++ headed kind cause)
+error_appended known kind cause old first second new p q r =
+    r ∙ ap (λ z. z ++ cause) (q ∙ ap (λ z. z ++ (codes "Compilation error: " ++ (kind_text kind ++ codes ".\n"))) p) ∙ simp append_assoc
+
+-- a cause that holds no error prints as it shows itself
+pub located_cause-plain : {A : Type 0} (written : A → Text) (paths : List (List ℕ)) (cause : Cause A) → ((e : Box (Error A) Global) → cause ≡ Nested e → ⊥) → located_cause written paths cause ≡ cause_text cause
+located_cause-plain {A = A} written paths cause none = elim cause as (λ z. ((e : Box (Error A) Global) → z ≡ Nested e → ⊥) → located_cause written paths z ≡ cause_text z) [
+  | Nested' p kind err loc ↦ λ n. absurd (n (record { ptr = p.ptr; alloc = p.alloc; value = record { kind = kind; err = err; loc = loc } }) refl)
+  | _ ↦ λ n. refl
+] none
+
+-- one more block of spaces
+pub spaces-more : (blocks : ℕ) (old now new : List ℕ) → now ≡ old ++ replicate (64 * blocks) 32 → new ≡ now ++ replicate 64 32 → new ≡ old ++ replicate (64 * (blocks + 1)) 32
+spaces-more blocks old now new p q =
+    let sizes : 64 * blocks + 64 ≡ 64 * (blocks + 1) = omega arith in
+    q ∙ ap (λ z. z ++ replicate 64 32) p ∙ append_assoc old (replicate (64 * blocks) 32) (replicate 64 32)
+    ∙ ap (λ z. old ++ z) (replicate-append-replicate (64 * blocks) 64 32 ∙ ap (λ n. replicate n 32) sizes)
+
+-- the blocks, and the spaces that are left
+pub spaces-all : (count : ℕ) (old now new : List ℕ) → now ≡ old ++ replicate (64 * (count / 64)) 32 → new ≡ now ++ replicate (count % 64) 32 → new ≡ old ++ replicate count 32
+spaces-all count old now new p q =
+    let sizes : 64 * (count / 64) + count % 64 ≡ count = omega arith in
+    q ∙ ap (λ z. z ++ replicate (count % 64) 32) p ∙ append_assoc old (replicate (64 * (count / 64)) 32) (replicate (count % 64) 32)
+    ∙ ap (λ z. old ++ z) (replicate-append-replicate (64 * (count / 64)) (count % 64) 32 ∙ ap (λ n. replicate n 32) sizes)
+
+-- each of so many spaces is ASCII
+pub spaces-ascii : (n : ℕ) → IsAscii (replicate n 32)
+spaces-ascii zero i = omega arith
+spaces-ascii (suc n) zero = omega arith
+spaces-ascii (suc n) (suc i) = spaces-ascii n i
+
+-- a slice of spaces
+pub spaces-slice : (n : ℕ) → n ≤ 64 → slice_range {X = ℕ} (replicate 64 32) 0 n ≡ replicate n 32
+spaces-slice n few =
+    let size : n - 0 ≡ n = omega arith in
+    ap (λ k. take k (replicate 64 32)) size ∙ take-replicate n 64 32 few
+
+-- what is known in any case
+pub in_any_case : {X E P : Type 0} (r : Result X E) → P → OnOk r P
+in_any_case (Ok x) p = p
+in_any_case (Err e) p = tt

@@ -1,0 +1,100 @@
+-- What was appended piece by piece, as the text of a location.
+use Rattle.std.proofs.Math.Seq.{drop-cons}
+use Rattle.std.proofs.Common.{◌≡◌, ◌++◌, ◌∙◌, ◌<◌, ◌^◌, ◌+◌, length, get_or, drop, suc, ℕ, Bool, IsTrue, true, false, cond, List, [], ◌∷◌, refl, sym, ap, codes, Option, Some, None, arith}
+use Rattle.std.proofs.lemmas.List.{append_assoc, append-nil}
+use Rattle.std.proofs.lemmas.Str.{encodes-append, IsAscii-append}
+use Rattle.std.proofs.lemmas.Fmt.{IsAscii-decimal}
+use Rattle.std.specs.Char.{is_ascii}
+use Rattle.std.specs.Fmt.{decimal}
+use Rattle.std.specs.Int.Signed.{mag}
+use Rattle.std.specs.List.{list_all}
+use Rattle.std.specs.Str.{encode_utf8_all, IsAscii}
+use Rattle.irtext_base.specs.Text.{Text, is_identifier}
+use Rattle.irtext_base.specs.Causes.{position_text}
+use Rattle.irtext_base.specs.declared.parsable.position.SourcePosition.{SourcePosition}
+use Rattle.irtext_print.specs.Errors.Located.{between, framed}
+use Rattle.irtext_print.specs.Printers.PrintedOperation.{entry_text}
+use Rattle.irtext_grammar.specs.Spelling.Spell.{joined, joined_from, comma}
+use Rattle.irtext_grammar.proofs.Lists.Ascii.{ascii-from, ascii-identifier, ascii-position, encodes-ascii}
+
+-- a fixed word
+pub word : (w : Text) → list_all is_ascii w ≡ true → w ≡ encode_utf8_all w
+word w e = sym (encodes-ascii w (ascii-from w e))
+
+-- one text more
+pub more : (old mid new : List ℕ) (t u : Text) → mid ≡ old ++ encode_utf8_all t → new ≡ mid ++ encode_utf8_all u → new ≡ old ++ encode_utf8_all (t ++ u)
+more old mid new t u p q = q ∙ ap (λ z. z ++ encode_utf8_all u) p ∙ append_assoc old (encode_utf8_all t) (encode_utf8_all u) ∙ ap (λ z. old ++ z) (sym (encodes-append t u))
+
+-- one word more
+pub worded : (old mid new : List ℕ) (w u : Text) → list_all is_ascii w ≡ true → mid ≡ old ++ w → new ≡ mid ++ encode_utf8_all u → new ≡ old ++ encode_utf8_all (w ++ u)
+worded old mid new w u e p q = more old mid new w u (p ∙ ap (λ z. old ++ z) (word w e)) q
+
+-- a word at the end
+pub ending : (old mid new : List ℕ) (t w : Text) → list_all is_ascii w ≡ true → mid ≡ old ++ encode_utf8_all t → new ≡ mid ++ w → new ≡ old ++ encode_utf8_all (t ++ w)
+ending old mid new t w e p q = more old mid new t w p (q ∙ ap (λ z. mid ++ z) (word w e))
+
+-- a text between two words
+pub enclosed : (a t c : Text) (f0 f1 f2 f3 : List ℕ) → list_all is_ascii a ≡ true → list_all is_ascii c ≡ true
+    → f1 ≡ f0 ++ a → f2 ≡ f1 ++ encode_utf8_all t → f3 ≡ f2 ++ c → f3 ≡ f0 ++ encode_utf8_all (a ++ (t ++ c))
+enclosed a t c f0 f1 f2 f3 i k p q r = worded f0 f1 f3 a (t ++ c) i p (ending f1 f2 f3 t c k q r)
+
+-- two texts with a word in front, one between and one behind
+pub two_framed : (a t b u c : Text) (f0 f1 f2 f3 f4 f5 : List ℕ) → list_all is_ascii a ≡ true → list_all is_ascii b ≡ true → list_all is_ascii c ≡ true
+    → f1 ≡ f0 ++ a → f2 ≡ f1 ++ encode_utf8_all t → f3 ≡ f2 ++ b → f4 ≡ f3 ++ encode_utf8_all u → f5 ≡ f4 ++ c
+    → f5 ≡ f0 ++ encode_utf8_all (a ++ (t ++ (b ++ (u ++ c))))
+two_framed a t b u c f0 f1 f2 f3 f4 f5 i j k p q r s v = worded f0 f1 f5 a (t ++ (b ++ (u ++ c))) i p (more f1 f2 f5 t (b ++ (u ++ c)) q (enclosed b u c f2 f3 f4 f5 j k r s v))
+
+-- two texts with a word between
+pub between_two : (t b u : Text) (f0 f1 f2 f3 : List ℕ) → list_all is_ascii b ≡ true → f1 ≡ f0 ++ encode_utf8_all t → f2 ≡ f1 ++ b → f3 ≡ f2 ++ encode_utf8_all u
+    → f3 ≡ f0 ++ encode_utf8_all (t ++ (b ++ u))
+between_two t b u f0 f1 f2 f3 j p q r = more f0 f1 f3 t (b ++ u) p (worded f1 f2 f3 b u j q r)
+
+-- a position, as it shows itself
+pub position_appended : (pos : SourcePosition) (old new : List ℕ) → mag pos.line < 2 ^ 63 → mag pos.column < 2 ^ 63 → new ≡ old ++ position_text pos → new ≡ old ++ encode_utf8_all (position_text pos)
+position_appended pos old new l c p = p ∙ ap (λ z. old ++ z) (sym (encodes-ascii (position_text pos) (ascii-position pos l c)))
+
+-- what is left of items with `, ` between
+abbrev pub left_text : Bool → List Text → Text
+left_text true ts = joined comma ts
+left_text false ts = joined_from comma ts
+
+-- the first item, or one behind `, `
+pub item_written : (first : Bool) (t : Text) (ts : List Text) (now between next all : List ℕ) → between ≡ now ++ cond first [] comma → next ≡ between ++ encode_utf8_all t
+    → now ++ encode_utf8_all (left_text first (t ∷ ts)) ≡ all → next ++ encode_utf8_all (left_text false ts) ≡ all
+item_written true t ts now between next all p q h =
+    more now next (next ++ encode_utf8_all (joined_from comma ts)) t (joined_from comma ts) (q ∙ ap (λ z. z ++ encode_utf8_all t) (p ∙ append-nil now)) refl ∙ h
+item_written false t ts now between next all p q h =
+    worded now between (next ++ encode_utf8_all (joined_from comma ts)) comma (t ++ joined_from comma ts) refl p (more between next (next ++ encode_utf8_all (joined_from comma ts)) t (joined_from comma ts) q refl) ∙ h
+
+-- an identifier
+pub name_appended : (name text : Text) (old new : List ℕ) → text ≡ name → IsTrue (is_identifier name) → new ≡ old ++ text → new ≡ old ++ encode_utf8_all name
+name_appended name text old new e i p = p ∙ ap (λ z. old ++ z) (e ∙ sym (encodes-ascii name (ascii-identifier name i)))
+
+-- one item more of a list
+pub next_written : {X : Type 0} (texts : List X → List Text) (text : X → Text) → ((x : X) (xs : List X) → texts (x ∷ xs) ≡ text x ∷ texts xs)
+    → (items : List X) (i : ℕ) (x : X) (first : Bool) (now between next all : List ℕ) → i < length items → x ≡ get_or items i x
+    → between ≡ now ++ cond first [] comma → next ≡ between ++ encode_utf8_all (text x)
+    → now ++ encode_utf8_all (left_text first (texts (drop i items))) ≡ all → next ++ encode_utf8_all (left_text false (texts (drop (i + 1) items))) ≡ all
+next_written texts text cons items i x first now between next all l e p q h =
+    let after : suc i ≡ i + 1 = omega arith in
+    let left : texts (drop i items) ≡ text x ∷ texts (drop (i + 1) items) = ap texts (drop-cons items i x l ∙ ap (λ z. z ∷ drop (suc i) items) (sym e) ∙ ap (λ n. x ∷ drop n items) after) ∙ cons x (drop (i + 1) items) in
+    item_written first (text x) (texts (drop (i + 1) items)) now between next all p q (ap (λ z. now ++ encode_utf8_all (left_text first z)) (sym left) ∙ h)
+
+-- a text between two words, if there is one
+framed_bytes : (a c : Text) → list_all is_ascii a ≡ true → list_all is_ascii c ≡ true → (known : Option Text) → framed a c known ≡ encode_utf8_all (between a c known)
+framed_bytes a c i k None = refl
+framed_bytes a c i k (Some l) = sym (append_assoc a (encode_utf8_all l) c) ∙ enclosed a l c [] a (a ++ encode_utf8_all l) ((a ++ encode_utf8_all l) ++ c) i k refl refl refl
+
+-- an index, a location and brackets, as the text of an entry
+pub entry_appended : (known : Option Text) (index : ℕ) (old first second new : List ℕ) → index < 2 ^ 64
+    → first ≡ old ++ (codes "!" ++ (decimal index ++ codes " = "))
+    → second ≡ first ++ framed (codes "@[") (codes "], ") known
+    → new ≡ second ++ codes "[]\n"
+    → new ≡ old ++ encode_utf8_all (entry_text index known)
+entry_appended known index old first second new small p q r =
+    let head = codes "!" ++ (decimal index ++ codes " = ") in
+    let place = between (codes "@[") (codes "], ") known in
+    let ascii : IsAscii head = IsAscii-append (codes "!") (decimal index ++ codes " = ") (ascii-from (codes "!") refl) (IsAscii-append (decimal index) (codes " = ") (IsAscii-decimal index small) (ascii-from (codes " = ") refl)) in
+    more old first new head (place ++ codes "[]\n") (p ∙ ap (λ z. old ++ z) (sym (encodes-ascii head ascii)))
+    (ending first second new place (codes "[]\n") refl (q ∙ ap (λ z. first ++ z) (framed_bytes (codes "@[") (codes "], ") refl refl known)) r)
+    ∙ ap (λ z. old ++ encode_utf8_all (33 ∷ z)) (append_assoc (decimal index) (codes " = ") (place ++ codes "[]\n"))

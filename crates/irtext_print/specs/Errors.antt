@@ -1,0 +1,4 @@
+-- The texts of errors.
+pub mod Located
+pub mod Printed
+pub mod Verification

@@ -1,0 +1,22 @@
+-- What errors and answers print as.
+use Rattle.std.specs.Prelude.{List, ℕ, Option, Some, Result, Ok, Err, ⊤}
+use Rattle.irtext_base.specs.Text.{Text}
+use Rattle.irtext_base.specs.declared.base.context.Context.{Context}
+use Rattle.irtext_base.specs.declared.result.Error.{Error}
+use Rattle.irtext_print.specs.Errors.Located.{located_error}
+use Rattle.irtext_print.specs.Printers.Shown.{Shown}
+
+-- an error's text over these paths, which leaves the printing state as it is
+abbrev pub given_of : {A U : Type 0} → (A → Text) → List (List ℕ) → Error A → Shown U → Option (List ℕ × Shown U)
+given_of written paths error s = Some (located_error written paths error, s)
+
+module _ {X T A : Type 0} where
+  -- an answer may be printed where its value may, and where it is an error
+  abbrev pub can_be : (X → Context T A → Type 0) → Result X (Error A) → Context T A → Type 0
+  can_be can (Ok x) ctx = can x ctx
+  can_be can (Err error) ctx = ⊤
+
+  -- an answer gives what its value gives, or its error's text
+  abbrev pub given : {U : Type 0} → (A → Text) → (X → Context T A → Shown U → Option (List ℕ × Shown U)) → Result X (Error A) → Context T A → Shown U → Option (List ℕ × Shown U)
+  given written gives (Ok x) ctx s = gives x ctx s
+  given written gives (Err error) ctx s = given_of written ctx.paths error s

@@ -1,0 +1,14 @@
+-- What a printer appends, and under which state.
+pub mod Shown
+pub mod Printing
+pub mod Appended
+pub mod Shows
+pub mod Separator
+pub mod Calls
+pub mod Items
+pub mod Enclosed
+pub mod PrintedOperation
+pub mod PieceText
+pub mod OpPrinters
+pub mod Soles
+pub mod ConcreteText

@@ -1,0 +1,112 @@
+-- What is written of an operation's attributes and regions by the directives of its format.
+use Rattle.std.specs.Prelude.{ℕ, zero, suc, ◌+◌, ◌-◌, ◌==◌, Bool, false, cond, not, List, [], ◌∷◌, ◌++◌, map, filter, Option, Some, None, codes, ⊤}
+use Rattle.std.specs.List.{list_any}
+use Rattle.irtext_base.specs.Text.{Text, begins}
+use Rattle.irtext_base.specs.Format as format
+use Rattle.irtext_base.specs.Format.{Directive, same_text, has, sym_name_key}
+use Rattle.irtext_base.specs.Own.{Language, unplaced, missing}
+use Rattle.irtext_grammar.specs.Graphs.Graph.{Printing, lookup, outlined, inline}
+use Rattle.irtext_print.specs.Printers.Printing.{lowered}
+use Rattle.irtext_print.specs.Printers.Shown.{Shown}
+use Rattle.irtext_grammar.specs.Spelling.Spell.{hugs, newline, attribute, joined, comma}
+use Rattle.irtext_grammar.specs.Grammar.Tree.{Attribute, ident, given_names, own}
+
+-- what printing asks of the caller's attributes, where it is only whether one is outlined
+abbrev pub outlining : {A : Type 0} → (A → Bool) → Printing ⊤ A
+outlining outlined = record { given = λ v. None; label = λ b. None; type_of = λ v. None; own_outlined = outlined; own_once = λ a. false; same_own = λ a b. false; format_of = λ id. None }
+
+-- what is written of the caller's attributes, and of nothing else
+abbrev pub words : {A : Type 0} → (A → Text) → Language ⊤ ⊤ A
+words written = unplaced (record { outcome = λ t. missing; written = λ t. [] }) (record { outcome = λ t. missing; written = written }) (λ id. None)
+
+-- a text behind a space
+abbrev pub spaced : Text → Text
+spaced text = codes " " ++ text
+
+-- the same, where there is a text
+abbrev pub spaced_if : Option Text → Text
+spaced_if None = []
+spaced_if (Some text) = spaced text
+
+-- a fixed word, behind a space unless it hugs what stands before it
+abbrev pub word_text : Text → Text
+word_text s = cond (begins hugs s) [] (codes " ") ++ s
+
+-- a text so many times
+abbrev pub repeated : ℕ → Text → Text
+repeated zero text = []
+repeated (suc n) text = text ++ repeated n text
+
+-- how many regions are left behind a directive
+abbrev pub left_behind : ℕ → Directive → ℕ
+left_behind n (format.region i) = n - 1
+left_behind n format.regions = 0
+left_behind n _ = n
+
+-- the directive writes the attribute under a key
+abbrev pub writes_key : Text → Directive → Bool
+writes_key key (format.attribute named) = same_text key named
+writes_key key format.header = same_text key sym_name_key
+writes_key key _ = false
+
+-- one of the directives writes the attribute under a key
+abbrev pub write_key : Text → List Directive → Bool
+write_key key ds = list_any (writes_key key) ds
+
+-- a symbol's name behind `@`, where there is one
+abbrev pub symbol_text : Option Text → Text
+symbol_text None = []
+symbol_text (Some n) = spaced (codes "@" ++ n)
+
+module _ {A : Type 0} where
+  -- the symbol's name of an attribute that is an identifier
+  abbrev pub symbol_in : Option (Attribute A) → Option Text
+  symbol_in None = None
+  symbol_in (Some (ident n)) = Some n
+  symbol_in (Some (given_names ns)) = None
+  symbol_in (Some (own a)) = None
+
+  -- the entries that the dictionary writes: those that no other directive writes and that are not outlined
+  abbrev pub listed : (A → Bool) → List Directive → List (Text × Attribute A) → List (Text × Attribute A)
+  listed is_outlined ds es = filter (λ e. not (write_key e.0 ds)) (inline (outlining is_outlined) es)
+
+  module _ (written : A → Text) where
+    -- an entry
+    abbrev pub entry_text : Text × Attribute A → Text
+    entry_text e = e.0 ++ (codes ": " ++ attribute (words written) e.1)
+
+    -- entries with `, ` between them
+    abbrev pub rows_text : List (Text × Attribute A) → Text
+    rows_text es = joined comma (map entry_text es)
+
+    module _ (is_outlined : A → Bool) where
+      -- the text of an attribute, or in its place that it is outlined
+      abbrev pub inline_text : Attribute A → Text
+      inline_text a = cond (outlined (outlining is_outlined) a) (codes "!outlined") (attribute (words written) a)
+
+      -- the same, where there is an attribute
+      abbrev pub inline_text_in : Option (Attribute A) → Option Text
+      inline_text_in None = None
+      inline_text_in (Some a) = Some (inline_text a)
+
+      -- what a directive writes, where so many regions with this text are left
+      abbrev pub directive_text : List Directive → List (Text × Attribute A) → Text → ℕ → Directive → Text
+      directive_text ds es r n (format.word s) = word_text s
+      directive_text ds es r n (format.attribute k) = spaced_if (inline_text_in (lookup k es))
+      directive_text ds es r n format.dictionary = codes " [" ++ (rows_text (listed is_outlined ds es) ++ codes "]")
+      directive_text ds es r n format.header = symbol_text (symbol_in (lookup sym_name_key es))
+      directive_text ds es r n (format.region i) = cond (n == 0) [] (spaced r)
+      directive_text ds es r n format.regions = spaced (repeated n r)
+      directive_text ds es r n _ = []
+
+      -- what directives write, with that of the regions that are left of each
+      abbrev pub directives_text : List Directive → List (Text × Attribute A) → Text → ℕ → List Directive → Text
+      directives_text ds es r n [] = []
+      directives_text ds es r n (d ∷ rest) = directive_text ds es r n d ++ directives_text ds es r (left_behind n d) rest
+
+-- a region without blocks, unless the limit elides it
+abbrev pub region_text : {U : Type 0} → Shown U → Text
+region_text s = elim (lowered s.limit) [
+  | None ↦ codes "{..}"
+  | Some _ ↦ newline s.indent ++ (codes "{" ++ (newline (s.indent + s.width) ++ (newline s.indent ++ codes "}")))
+]

@@ -1,0 +1,85 @@
+-- Words on the printing state and its guards.
+use Rattle.std.specs.Prelude.{ℕ, zero, suc, List, Option, Some, None}
+use Rattle.std.specs.Borrow.{GName}
+use Rattle.irtext_base.specs.declared.base.arena.Ptr.{Ptr}
+use Rattle.irtext_base.specs.declared.base.operation.Operation.{Operation}
+use Rattle.irtext_print.specs.Printers.Shown.{Shown}
+use Rattle.irtext_print.specs.declared.printable.guards.IndentGuard.{IndentGuard}
+use Rattle.irtext_print.specs.declared.printable.guards.RegionDepthGuard.{RegionDepthGuard}
+use Rattle.irtext_print.specs.declared.printable.state.RegionPrintDepthLimit.{RegionPrintDepthLimit}
+use Rattle.irtext_print.specs.declared.printable.state.RegionPrintDepthLimit.TheVariants.{Unlimited, Max}
+
+-- the limit in a region, unless this one elides it
+abbrev pub lowered : RegionPrintDepthLimit → Option RegionPrintDepthLimit
+lowered Unlimited = Some Unlimited
+lowered (Max zero) = None
+lowered (Max (suc n)) = Some (Max n)
+
+module _ {U : Type 0} where
+  -- the spaces of one more indentation
+  abbrev pub width_of : Shown U → ℕ
+  width_of s = s.width
+
+  -- the indentation
+  abbrev pub indent_of : Shown U → ℕ
+  indent_of s = s.indent
+
+  -- how many levels of regions are printed
+  abbrev pub limit_of : Shown U → RegionPrintDepthLimit
+  limit_of s = s.limit
+
+  -- the operations that were gathered, in their order
+  abbrev pub gathered_of : Shown U → List (Ptr Operation)
+  gathered_of s = s.gathered
+
+  -- the caller's data
+  abbrev pub data_of : Shown U → U
+  data_of s = s.aux
+
+  -- the state at another indentation
+  abbrev pub with_indent : Shown U → ℕ → Shown U
+  with_indent s n = record s { indent = n }
+
+  -- the state under another limit
+  abbrev pub with_limit : Shown U → RegionPrintDepthLimit → Shown U
+  with_limit s l = record s { limit = l }
+
+  -- the state with other data of the caller
+  abbrev pub with_data : Shown U → U → Shown U
+  with_data s u = record s { aux = u }
+
+  -- the state with other gathered operations
+  abbrev pub with_gathered : Shown U → List (Ptr Operation) → Shown U
+  with_gathered s xs = record s { gathered = xs }
+
+  -- the name of the reference in an indentation's guard
+  abbrev pub guard_name : IndentGuard U → GName
+  guard_name g = g.state.ghost_name
+
+  -- the state behind an indentation's guard
+  abbrev pub guard_state : IndentGuard U → Shown U
+  guard_state g = g.state.now
+
+  -- the indentation that comes back
+  abbrev pub guard_saved : IndentGuard U → ℕ
+  guard_saved g = g.saved
+
+  -- the guard over another state
+  abbrev pub with_guard_state : IndentGuard U → Shown U → IndentGuard U
+  with_guard_state g s = record g { state = record g.state { now = s } }
+
+  -- the name of the reference in a region's guard
+  abbrev pub depth_name : RegionDepthGuard U → GName
+  depth_name g = g.state.ghost_name
+
+  -- the state behind it
+  abbrev pub depth_state : RegionDepthGuard U → Shown U
+  depth_state g = g.state.now
+
+  -- the limit that comes back
+  abbrev pub depth_saved : RegionDepthGuard U → RegionPrintDepthLimit
+  depth_saved g = g.saved
+
+  -- the guard over another state
+  abbrev pub with_depth_state : RegionDepthGuard U → Shown U → RegionDepthGuard U
+  with_depth_state g s = record g { state = record g.state { now = s } }

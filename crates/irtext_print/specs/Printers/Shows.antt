@@ -1,0 +1,10 @@
+-- What a `Displayable` shows.
+use Rattle.std.specs.Prelude.{ℕ, List, Option}
+use Rattle.irtext_print.specs.Printers.Shown.{Shown}
+use Rattle.irtext_print.specs.Printers.Appended.{fresh, text_of}
+use Rattle.irtext_base.specs.declared.base.context.Context.{Context}
+use Rattle.irtext_print.specs.declared.printable.displayable.Displayable.{Displayable}
+
+-- the text that a `Displayable` makes at each formatting, where one is claimed
+abbrev pub shown_by : {X T A : Type 0} {g a b c d e f : _} → (X → Context T A → Shown (Unit {0}) → Option (List ℕ × Shown (Unit {0}))) → Displayable X T A g a b c d e f → Option (List ℕ)
+shown_by gives d = text_of (gives d.value.now d.ctx.now (fresh d.indent_width d.current_indent d.limit))

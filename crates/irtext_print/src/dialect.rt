@@ -1,0 +1,19 @@
+//! A dialect is printed by its name.
+ghost use Rattle.std.specs.Prelude.{◌≡◌, Some};
+
+use crate::printable::Printable;
+use crate::printable::state::State;
+use irtext_base::base::Context;
+use irtext_base::dialect::Dialect;
+use irtext_base::text::{AttrText, IrText};
+use std::convert::AsStr;
+use std::fmt;
+
+impl<T: IrText<A>, A: AttrText, U> Printable<U, T, A> for Dialect {
+    ghost gives = { λ dialect _ s. Some (dialect.name, s) };
+
+    fn fmt(&self, _ctx: &Context<T, A>, _state: &mut State<U>, f: &mut String) -> fmt::Result {
+        f.push_str(self.name().as_str())?;
+        Ok(())
+    }
+}

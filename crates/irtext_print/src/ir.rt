@@ -1,0 +1,4 @@
+//! Operations and regions as text.
+
+pub mod print;
+pub mod verify;

@@ -1,0 +1,147 @@
+//! Printing of roots.
+ghost use Rattle.std.specs.Prelude.{◌≡◌, ◌++◌, [], Some, OnOk, IfErr, IsSome, IsTrue, codes, decimal, string_bytes, length};
+ghost use Rattle.std.specs.Str.{encode_utf8_all};
+ghost use Rattle.irtext_base.specs.Context.{OperationView, operation};
+ghost use Rattle.irtext_base.specs.Own.{texts_of, unplaced};
+ghost use Rattle.irtext_print.specs.Printers.ConcreteText as concrete;
+ghost use Rattle.irtext_grammar.specs.Contexts.Formats.{format_of};
+ghost use Rattle.irtext_grammar.specs.Spelling.Locations.{known_text};
+ghost use Rattle.irtext_print.specs.Printers.PrintedOperation as printed;
+ghost use Rattle.irtext_print.specs.Printers.Printing.{gathered_of, with_gathered};
+ghost use Rattle.irtext_print.specs.declared.printable.refusal.Refusal.TheVariants as refusal;
+
+use crate::ir::print::concrete::fmt_concrete;
+use crate::location::print::fmt_known;
+use crate::printable::state::State;
+use crate::printable::{Printable, Refusal};
+use irtext_base::base::{Context, Operation, Ptr};
+use irtext_base::location::Location;
+use irtext_base::text::{AttrText, IrText};
+use std::fmt;
+
+pub mod concrete;
+pub mod debug;
+mod directives;
+mod fits;
+pub(crate) mod pieces;
+pub(crate) mod regions;
+
+/// Appends a mark with this index.
+fn fmt_index(index: usize, f: &mut String) -> Result<(), Refusal>
+    ensures text { OnOk result (string_bytes f.new ≡ string_bytes f.old ++ encode_utf8_all (codes " !" ++ decimal index)) }
+    ensures refused { IfErr result (λ e. e ≡ refusal.Memory) }
+{
+    write!(f, " !{index}")?;
+    Ok(())
+}
+
+/// Appends the mark of an operation whose location is known, and gathers the operation.
+fn fmt_mark<A, U>(
+    location: &Location<A>,
+    op: Ptr<Operation>,
+    state: &mut State<U>,
+    f: &mut String,
+) -> Result<(), Refusal>
+    ensures text { OnOk result (string_bytes f.new ≡ string_bytes f.old ++ encode_utf8_all (printed.mark_text location.now (length (gathered_of state.old)))) }
+    ensures state { OnOk result (state.new ≡ with_gathered state.old (gathered_of state.old ++ printed.gathered_at location.now op)) }
+    ensures refused { IfErr result (λ e. e ≡ refusal.Memory) }
+{
+    if let Location::Unknown = location {
+        return Ok(());
+    }
+    let index = state.gather(op)?;
+    fmt_index(index, f)
+}
+
+/// Appends the entry of a marked operation. It fails only where memory is refused.
+fn fmt_entry<T: IrText<A>, A: AttrText>(
+    ctx: &Context<T, A>,
+    index: usize,
+    location: &Location<A>,
+    f: &mut String,
+) -> fmt::Result
+    ensures { OnOk result (string_bytes f.new ≡ string_bytes f.old ++ encode_utf8_all (printed.entry_text index (known_text A.written ctx.now.paths location.now))) }
+{
+    write!(f, "!{index} = ")?;
+    fmt_known(location, "@[", "], ", ctx, f)?;
+    f.push_str("[]\n")?;
+    Ok(())
+}
+
+/// Appends the entry of a gathered operation; one that was erased since has none.
+fn fmt_gathered<T: IrText<A>, A: AttrText>(
+    ctx: &Context<T, A>,
+    index: usize,
+    op: Ptr<Operation>,
+    f: &mut String,
+) -> fmt::Result
+    ensures { OnOk result (string_bytes f.new ≡ string_bytes f.old ++ encode_utf8_all (printed.entry_at A.written ctx.now index op)) }
+{
+    if !ctx.contains_operation(op) {
+        return Ok(());
+    }
+    fmt_entry(ctx, index, op.loc(ctx), f)
+}
+
+/// Appends the entries of gathered operations.
+fn fmt_entries<T: IrText<A>, A: AttrText>(
+    ctx: &Context<T, A>,
+    gathered: &[Ptr<Operation>],
+    f: &mut String,
+) -> fmt::Result
+    ensures { OnOk result (string_bytes f.new ≡ string_bytes f.old ++ encode_utf8_all (printed.entries_from A.written ctx.now 0 gathered.now)) }
+{
+    for (index, op) in gathered.iter().enumerate() {
+        fmt_gathered(ctx, index, *op, f)?;
+    }
+    Ok(())
+}
+
+/// Appends the section of the operations that were gathered, and takes them out. It fails only where memory is refused.
+fn fmt_section<T: IrText<A>, A: AttrText, U>(
+    ctx: &Context<T, A>,
+    state: &mut State<U>,
+    f: &mut String,
+) -> fmt::Result
+    ensures text { OnOk result (string_bytes f.new ≡ string_bytes f.old ++ encode_utf8_all (printed.section_text A.written ctx.now (gathered_of state.old))) }
+    ensures state { state.new ≡ with_gathered state.old [] }
+{
+    let gathered = state.take_gathered(ctx.allocator());
+    if gathered.is_empty() {
+        return Ok(());
+    }
+    f.push_str("\n\noutlined_attributes:\n")?;
+    fmt_entries(ctx, &gathered, f)
+}
+
+/// Appends the text of a root, with the section of all that was gathered.
+fn fmt_root<T: IrText<A>, A: AttrText, U>(
+    ctx: &Context<T, A>,
+    op: Ptr<Operation>,
+    state: &mut State<U>,
+    f: &mut String,
+) -> Result<(), Refusal>
+    requires live { IsSome (operation ctx.now op) }
+    ensures text { (view : OperationView T A) → operation ctx.now op ≡ Some view → OnOk result (string_bytes f.new ≡ string_bytes f.old ++ encode_utf8_all (printed.root_text A.written ctx.now op view state.old (concrete.concrete_text (unplaced (texts_of T.reading T.written) (texts_of A.reading A.written) (format_of ctx.now.dialects)) (printed.printing ctx.now.dialects A.outlined A.print_once A.eq) view state.old))) }
+    ensures fits { OnOk result (IsTrue (printed.is_printed_in (printed.printing ctx.now.dialects A.outlined A.print_once A.eq) (operation ctx.now op))) }
+    ensures state { OnOk result (state.new ≡ with_gathered state.old []) }
+    ensures refused { (view : OperationView T A) → operation ctx.now op ≡ Some view → IfErr result (printed.RefusesConcrete (printed.printing ctx.now.dialects A.outlined A.print_once A.eq) view state.old) }
+{
+    fmt_concrete(ctx, op, state, f)?;
+    fmt_mark(op.loc(ctx), op, state, f)?;
+    match fmt_section(ctx, state, f) {
+        Ok(()) => Ok(()),
+        Err(_) => Err(Refusal::Memory),
+    }
+}
+
+impl<T: IrText<A>, A: AttrText, U> Printable<U, T, A> for Ptr<Operation> {
+    ghost can_print = { λ op ctx. IsSome (operation ctx op) };
+
+    ghost gives = { λ op ctx s. printed.printed (unplaced (texts_of T.reading T.written) (texts_of A.reading A.written) (format_of ctx.dialects)) (printed.printing ctx.dialects A.outlined A.print_once A.eq) ctx op s };
+
+    fn fmt(&self, ctx: &Context<T, A>, state: &mut State<U>, f: &mut String) -> fmt::Result {
+        fmt_root(ctx, *self, state, f)?;
+        Ok(())
+    }
+}

@@ -1,0 +1,90 @@
+//! The concrete text of operations: their id and their pieces, without mark and section.
+ghost use Rattle.std.specs.Prelude.{◌≡◌, ◌++◌, Some, OnOk, IfErr, IsSome, IsTrue, option_map, string_bytes};
+ghost use Rattle.std.specs.Str.{encode_utf8_all};
+ghost use Rattle.irtext_base.specs.Causes.{id_text};
+ghost use Rattle.irtext_base.specs.Context.{OperationView, operation};
+ghost use Rattle.irtext_base.specs.Directives.{directives_of};
+ghost use Rattle.irtext_base.specs.Faults.{id_of};
+ghost use Rattle.irtext_base.specs.Own.{texts_of, unplaced};
+ghost use Rattle.irtext_print.specs.Printers.ConcreteText as concrete;
+ghost use Rattle.irtext_grammar.specs.Contexts.Formats.{format_of};
+ghost use Rattle.irtext_print.specs.Printers.PrintedOperation as printed;
+ghost use Rattle.irtext_print.specs.declared.printable.refusal.Refusal.TheVariants as refusal;
+
+use crate::ir::print::directives::fmt_directives;
+use crate::ir::print::fits::fits;
+use crate::printable::state::State;
+use crate::printable::{Printable, Refusal};
+use irtext_base::base::{Context, OpId, Operation, Ptr};
+use irtext_base::format::{Directive, OpFormat};
+use irtext_base::text::{AttrText, IrText};
+use std::fmt;
+
+/// The directives of an operation's format, where it is registered and its format has directives.
+fn directives_in<'c, T: IrText<A>, A: AttrText>(
+    ctx: &'c Context<T, A>,
+    id: &OpId,
+) -> Option<&'c [Directive]>
+    ensures { option_map (λ ds. directives_of ds.now) result ≡ concrete.directives_in (format_of ctx.now.dialects (id_of id.now)) }
+{
+    let info = ctx.op_info(id)?;
+    match &info.format {
+        OpFormat::Canonical => None,
+        OpFormat::Custom(directives) => Some(directives),
+    }
+}
+
+/// Appends an id.
+pub(crate) fn fmt_id(id: &OpId, f: &mut String) -> Result<(), Refusal>
+    ensures text { OnOk result (string_bytes f.new ≡ string_bytes f.old ++ encode_utf8_all (id_text id.now)) }
+    ensures refused { IfErr result (λ e. e ≡ refusal.Memory) }
+{
+    f.push_str(id.dialect.as_str())?;
+    f.push_str(".")?;
+    f.push_str(id.name.as_str())?;
+    Ok(())
+}
+
+/// Appends the concrete text of an operation. Nothing is gathered.
+pub(crate) fn fmt_concrete<T: IrText<A>, A: AttrText, U>(
+    ctx: &Context<T, A>,
+    op: Ptr<Operation>,
+    state: &mut State<U>,
+    f: &mut String,
+) -> Result<(), Refusal>
+    requires live { IsSome (operation ctx.now op) }
+    ensures text { (view : OperationView T A) → operation ctx.now op ≡ Some view → OnOk result (string_bytes f.new ≡ string_bytes f.old ++ encode_utf8_all (concrete.concrete_text (unplaced (texts_of T.reading T.written) (texts_of A.reading A.written) (format_of ctx.now.dialects)) (printed.printing ctx.now.dialects A.outlined A.print_once A.eq) view state.old)) }
+    ensures fits { OnOk result (IsTrue (printed.is_printed_in (printed.printing ctx.now.dialects A.outlined A.print_once A.eq) (operation ctx.now op))) }
+    ensures state { state.new ≡ state.old }
+    ensures refused { (view : OperationView T A) → operation ctx.now op ≡ Some view → IfErr result (printed.RefusesConcrete (printed.printing ctx.now.dialects A.outlined A.print_once A.eq) view state.old) }
+{
+    let id = op.get_opid(ctx);
+    let attributes = op.attributes(ctx);
+    let regions = op.num_regions(ctx);
+    let Some(directives) = directives_in(ctx, id) else {
+        return Err(Refusal::Misfit);
+    };
+    if !fits(directives, attributes, regions) {
+        return Err(Refusal::Misfit);
+    }
+    fmt_id(id, f)?;
+    fmt_directives(attributes, directives, regions, state, f)
+}
+
+/// An operation as a plain value, whose text is its concrete text: without its mark, and without a section. It prints
+/// where the operation is live.
+#[derive(Clone, Copy, Debug, PartialEq, Eq)]
+pub struct OpObj {
+    pub op: Ptr<Operation>,
+}
+
+impl<T: IrText<A>, A: AttrText, U> Printable<U, T, A> for OpObj {
+    ghost can_print = { λ obj ctx. IsSome (operation ctx obj.op) };
+
+    ghost gives = { λ obj ctx s. concrete.printed_concrete (unplaced (texts_of T.reading T.written) (texts_of A.reading A.written) (format_of ctx.dialects)) (printed.printing ctx.dialects A.outlined A.print_once A.eq) ctx obj.op s };
+
+    fn fmt(&self, ctx: &Context<T, A>, state: &mut State<U>, f: &mut String) -> fmt::Result {
+        fmt_concrete(ctx, self.op, state, f)?;
+        Ok(())
+    }
+}

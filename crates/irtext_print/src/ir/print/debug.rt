@@ -1,0 +1,79 @@
+//! An operation's text for those who debug: regions are elided, and nothing is told of marks.
+ghost use Rattle.std.specs.Prelude.{◌≡◌, ◌≢◌, ◌++◌, Some, OnOk, IfErr, IsSome, IfSome, IsTrue, false, string_bytes};
+ghost use Rattle.std.specs.Str.{encode_utf8_all};
+ghost use Rattle.irtext_base.specs.Context.{OperationView, operation};
+ghost use Rattle.irtext_base.specs.Own.{texts_of, unplaced};
+ghost use Rattle.irtext_print.specs.Printers.ConcreteText as concrete;
+ghost use Rattle.irtext_grammar.specs.Contexts.Formats.{format_of};
+ghost use Rattle.irtext_print.specs.Printers.PrintedOperation as printed;
+ghost use Rattle.irtext_print.specs.declared.printable.refusal.Refusal.TheVariants as refusal;
+
+use crate::ir::print::concrete::fmt_concrete;
+use crate::printable::Refusal;
+use crate::printable::state::{RegionPrintDepthLimit, State};
+use irtext_base::base::{Context, Operation, Ptr};
+use irtext_base::text::{AttrText, IrText};
+use std::fmt;
+
+/// Appends the concrete text of an operation, its regions elided.
+fn fmt_dbg<T: IrText<A>, A: AttrText>(
+    ctx: &Context<T, A>,
+    op: Ptr<Operation>,
+    f: &mut String,
+) -> Result<(), Refusal>
+    requires live { IsSome (operation ctx.now op) }
+    ensures text { (view : OperationView T A) → operation ctx.now op ≡ Some view → OnOk result (string_bytes f.new ≡ string_bytes f.old ++ encode_utf8_all (concrete.concrete_text (unplaced (texts_of T.reading T.written) (texts_of A.reading A.written) (format_of ctx.now.dialects)) (printed.printing ctx.now.dialects A.outlined A.print_once A.eq) view concrete.debugging)) }
+    ensures fits { OnOk result (IsTrue (printed.is_printed_in (printed.printing ctx.now.dialects A.outlined A.print_once A.eq) (operation ctx.now op))) }
+    ensures refused { (view : OperationView T A) → operation ctx.now op ≡ Some view → IfErr result (λ e. e ≢ refusal.Memory → (e ≡ refusal.Misfit) × (printed.is_printed (printed.printing ctx.now.dialects A.outlined A.print_once A.eq) view ≡ false)) }
+{
+    let mut state = State::new(ctx.allocator(), ());
+    state.set_region_print_depth_limit(RegionPrintDepthLimit::Max(0));
+    fmt_concrete(ctx, op, &mut state, f)
+}
+
+/// Appends the concrete text of an operation, without its mark and without a section, with `{..}` for each of its regions.
+/// It fails where memory is refused or the operation doesn't fit its format; what was written until then stays.
+pub fn print_dbg<T: IrText<A>, A: AttrText>(
+    ctx: &Context<T, A>,
+    op: Ptr<Operation>,
+    f: &mut String,
+) -> fmt::Result
+    requires live { IsSome (operation ctx.now op) }
+    ensures text { (view : OperationView T A) → operation ctx.now op ≡ Some view → OnOk result (string_bytes f.new ≡ string_bytes f.old ++ encode_utf8_all (concrete.concrete_text (unplaced (texts_of T.reading T.written) (texts_of A.reading A.written) (format_of ctx.now.dialects)) (printed.printing ctx.now.dialects A.outlined A.print_once A.eq) view concrete.debugging)) }
+    ensures fits { OnOk result (IsTrue (printed.is_printed_in (printed.printing ctx.now.dialects A.outlined A.print_once A.eq) (operation ctx.now op))) }
+    ensures defined { OnOk result (IfSome (concrete.debug_text (unplaced (texts_of T.reading T.written) (texts_of A.reading A.written) (format_of ctx.now.dialects)) (printed.printing ctx.now.dialects A.outlined A.print_once A.eq) ctx.now op) (λ text. string_bytes f.new ≡ string_bytes f.old ++ text)) }
+{
+    fmt_dbg(ctx, op, f)?;
+    Ok(())
+}
+
+/// An operation with its context, as a `Display` and a `Debug` of what `print_dbg` appends. Where the operation is not live,
+/// formatting fails.
+#[derive(Drop)]
+pub struct OpDbg<'a, T: IrText<A>, A: AttrText> {
+    /// The operation.
+    pub op: Ptr<Operation>,
+    /// The context that holds it.
+    pub ctx: &'a Context<T, A>,
+}
+
+impl<T: IrText<A>, A: AttrText> fmt::Display for OpDbg<'_, T, A> {
+    ghost output = { λ d. concrete.debug_text (unplaced (texts_of T.reading T.written) (texts_of A.reading A.written) (format_of d.ctx.now.dialects)) (printed.printing d.ctx.now.dialects A.outlined A.print_once A.eq) d.ctx.now d.op };
+
+    fn fmt<W: fmt::Write>(&self, f: &mut fmt::Formatter<W>) -> fmt::Result {
+        if !self.ctx.contains_operation(self.op) {
+            return Err(fmt::Error);
+        }
+        let mut text = String::new(self.ctx.allocator());
+        print_dbg(self.ctx, self.op, &mut text)?;
+        f.write_str(text.as_str())
+    }
+}
+
+impl<T: IrText<A>, A: AttrText> fmt::Debug for OpDbg<'_, T, A> {
+    ghost debug_output = { λ d. concrete.debug_text (unplaced (texts_of T.reading T.written) (texts_of A.reading A.written) (format_of d.ctx.now.dialects)) (printed.printing d.ctx.now.dialects A.outlined A.print_once A.eq) d.ctx.now d.op };
+
+    fn fmt<W: fmt::Write>(&self, f: &mut fmt::Formatter<W>) -> fmt::Result {
+        fmt::Display::fmt(self, f)
+    }
+}

@@ -1,0 +1,139 @@
+//! Whether an operation fits its format, where that names no value, block or type.
+ghost use Rattle.std.specs.Prelude.{◌≡◌, ◌==◌, not, length, is_some, Some, None};
+ghost use Rattle.std.specs.List.{list_all};
+ghost use Rattle.irtext_base.specs.Directives.{directive_of, directives_of};
+ghost use Rattle.irtext_base.specs.Format as format;
+ghost use Rattle.irtext_base.specs.Format.{count, region_places};
+ghost use Rattle.irtext_print.specs.Printers.PieceText.{outlining};
+ghost use Rattle.irtext_print.specs.Printers.PrintedOperation as printed;
+ghost use Rattle.irtext_print.specs.Printers.Soles as soles;
+ghost use Rattle.irtext_grammar.specs.Contexts.Held.{entries_of};
+
+use crate::ir::print::pieces::{is_outlined, symbol_of, write_key};
+use irtext_base::base::AttributeDict;
+use irtext_base::format::Directive;
+use irtext_base::text::AttrText;
+
+/// Whether a directive names no value, no block and no type.
+fn is_written(directive: &Directive) -> bool
+    ensures { result ≡ printed.is_written (directive_of directive.now) }
+{
+    match directive {
+        Directive::Operand(_) | Directive::Operands => false,
+        Directive::Successor(_) | Directive::Successors => false,
+        Directive::ResultType(_) => false,
+        _ => true,
+    }
+}
+
+fn all_are_written(directives: &[Directive]) -> bool
+    ensures { result ≡ list_all printed.is_written (directives_of directives.now) }
+{
+    directives.iter().all(|d| is_written(d))
+}
+
+fn writes_region(directive: &Directive) -> bool
+    ensures { result ≡ is_some (elim (directive_of directive.now) [ format.region i ↦ Some i | _ ↦ None ]) }
+{
+    matches!(directive, Directive::Region(_))
+}
+
+/// How many directives write one region each.
+fn count_regions(directives: &[Directive]) -> usize
+    ensures { result ≡ length (region_places (directives_of directives.now)) }
+{
+    directives.iter().filter(|d| writes_region(*d)).count()
+}
+
+/// The directives of which one can stand.
+#[derive(Clone, Copy)]
+enum Sole {
+    Regions,
+    Dictionary,
+    Header,
+}
+
+fn is_sole(sole: Sole, directive: &Directive) -> bool
+    ensures { result ≡ soles.is_sole sole (directive_of directive.now) }
+{
+    match sole {
+        Sole::Regions => matches!(directive, Directive::Regions),
+        Sole::Dictionary => matches!(directive, Directive::AttrDict),
+        Sole::Header => matches!(directive, Directive::SymbolHeader),
+    }
+}
+
+/// Whether a directive stands among others.
+fn stands(sole: Sole, directives: &[Directive]) -> bool
+    ensures { result ≡ not (count (soles.is_sole sole) (directives_of directives.now) == 0) }
+{
+    directives.iter().any(|d| is_sole(sole, d))
+}
+
+/// Whether directives write so many regions.
+fn regions_fit(directives: &[Directive], regions: usize) -> bool
+    ensures { result ≡ printed.regions_fit (directives_of directives.now) regions }
+{
+    let places = count_regions(directives);
+    if stands(Sole::Regions, directives) {
+        regions >= places
+    } else {
+        regions == places
+    }
+}
+
+/// Whether the key that a directive names, if it names one, is there.
+fn key_is_there<A: AttrText>(attributes: &AttributeDict<A>, directive: &Directive) -> bool
+    ensures { result ≡ soles.key_there (entries_of attributes.now) (directive_of directive.now) }
+{
+    match directive {
+        Directive::Attr(key) => attributes.get(key).is_some(),
+        _ => true,
+    }
+}
+
+fn keys_there<A: AttrText>(attributes: &AttributeDict<A>, directives: &[Directive]) -> bool
+    ensures { result ≡ printed.keys_there (entries_of attributes.now) (directives_of directives.now) }
+{
+    directives.iter().all(|d| key_is_there(attributes, d))
+}
+
+/// Whether the symbol's name is there, where a directive writes it.
+fn symbol_fits<A: AttrText>(attributes: &AttributeDict<A>, directives: &[Directive]) -> bool
+    ensures { result ≡ printed.symbol_fits (entries_of attributes.now) (directives_of directives.now) }
+{
+    !stands(Sole::Header, directives) || symbol_of(attributes).is_some()
+}
+
+/// Whether each attribute is written.
+fn all_written<A: AttrText>(attributes: &AttributeDict<A>, directives: &[Directive]) -> bool
+    ensures { result ≡ printed.all_written (outlining A.outlined) (directives_of directives.now) (entries_of attributes.now) }
+{
+    stands(Sole::Dictionary, directives)
+        || attributes
+            .iter()
+            .all(|(key, _)| write_key(directives, key.as_str()))
+}
+
+fn none_outlined<A: AttrText>(attributes: &AttributeDict<A>) -> bool
+    ensures { result ≡ printed.none_outlined (outlining A.outlined) (entries_of attributes.now) }
+{
+    attributes.iter().all(|(_, attr)| !is_outlined(attr))
+}
+
+/// Whether directives write all of these attributes and so many regions, and nothing that is not there, and no attribute is
+/// outlined.
+pub(crate) fn fits<A: AttrText>(
+    directives: &[Directive],
+    attributes: &AttributeDict<A>,
+    regions: usize,
+) -> bool
+    ensures { result ≡ printed.fits_directives (outlining A.outlined) (directives_of directives.now) (entries_of attributes.now) regions }
+{
+    all_are_written(directives)
+        && regions_fit(directives, regions)
+        && keys_there(attributes, directives)
+        && symbol_fits(attributes, directives)
+        && all_written(attributes, directives)
+        && none_outlined(attributes)
+}

@@ -1,0 +1,187 @@
+//! What a format's directives write of an operation's attributes. Each of these calls fails only where memory is refused.
+ghost use Rattle.std.specs.Prelude.{◌≡◌, ◌++◌, ◌&&◌, [], Some, OnOk, codes, cond, not, option_copied, string_bytes};
+ghost use Rattle.std.specs.Str.{chars, encode_utf8_all};
+ghost use Rattle.irtext_base.specs.Directives.{directive_of, directives_of};
+ghost use Rattle.irtext_base.specs.Format.{sym_name_key};
+ghost use Rattle.irtext_base.specs.Text.{begins};
+ghost use Rattle.irtext_grammar.specs.Graphs.Graph as graph;
+ghost use Rattle.irtext_print.specs.Printers.PieceText as pieces;
+ghost use Rattle.irtext_grammar.specs.Spelling.Spell as spell;
+ghost use Rattle.irtext_grammar.specs.Contexts.Held.{attribute_of, entries_of};
+
+use crate::printable::attributes::fmt_attr;
+use irtext_base::base::{AttrObj, AttributeDict, Identifier};
+use irtext_base::format::Directive;
+use irtext_base::text::AttrText;
+use std::fmt;
+
+/// Whether no space stands before a word that begins with this character.
+fn hugs(c: char) -> bool
+    ensures { result ≡ spell.hugs c }
+{
+    matches!(c, ',' | ':' | ';' | ')' | ']' | '>')
+}
+
+/// Whether no space stands before a word.
+fn begins_hugging(word: &str) -> bool
+    ensures { result ≡ begins spell.hugs (chars word.now) }
+{
+    match word.chars().next() {
+        Some(c) => hugs(c),
+        None => false,
+    }
+}
+
+/// Appends a fixed word, behind a space unless it hugs what stands before it.
+pub(crate) fn fmt_word(word: &str, f: &mut String) -> fmt::Result
+    ensures { OnOk result (string_bytes f.new ≡ string_bytes f.old ++ encode_utf8_all (pieces.word_text (chars word.now))) }
+{
+    if !begins_hugging(word) {
+        f.push_str(" ")?;
+    }
+    f.push_str(word)?;
+    Ok(())
+}
+
+/// Whether an attribute is written in the section, and not where it stands.
+pub(crate) fn is_outlined<A: AttrText>(attr: &AttrObj<A>) -> bool
+    ensures { result ≡ graph.outlined (pieces.outlining A.outlined) (attribute_of attr.now) }
+{
+    match attr {
+        AttrObj::GivenNames(_) => true,
+        AttrObj::Ident(_) => false,
+        AttrObj::Own(own) => own.is_outlined(),
+    }
+}
+
+/// Appends the text of an attribute, or in its place that it is outlined.
+fn fmt_inline<A: AttrText>(attr: &AttrObj<A>, f: &mut String) -> fmt::Result
+    ensures { OnOk result (string_bytes f.new ≡ string_bytes f.old ++ encode_utf8_all (pieces.inline_text A.IrText.written A.outlined (attribute_of attr.now))) }
+{
+    if is_outlined(attr) {
+        f.push_str("!outlined")?;
+        return Ok(());
+    }
+    fmt_attr(attr, f)
+}
+
+/// Appends the attribute under a key, behind a space, where it is there.
+pub(crate) fn fmt_keyed<A: AttrText>(
+    attributes: &AttributeDict<A>,
+    key: &Identifier,
+    f: &mut String,
+) -> fmt::Result
+    ensures { OnOk result (string_bytes f.new ≡ string_bytes f.old ++ encode_utf8_all (pieces.spaced_if (pieces.inline_text_in A.IrText.written A.outlined (graph.lookup key.now (entries_of attributes.now))))) }
+{
+    let Some(attr) = attributes.get(key) else {
+        return Ok(());
+    };
+    f.push_str(" ")?;
+    fmt_inline(attr, f)
+}
+
+/// The identifier that an attribute is, if it is one.
+fn ident_of<A: AttrText>(attr: &AttrObj<A>) -> Option<&Identifier>
+    ensures { option_copied result ≡ pieces.symbol_in (Some (attribute_of attr.now)) }
+{
+    match attr {
+        AttrObj::Ident(name) => Some(name),
+        _ => None,
+    }
+}
+
+/// The symbol's name, where the attribute under its key is an identifier.
+pub(crate) fn symbol_of<A: AttrText>(attributes: &AttributeDict<A>) -> Option<&Identifier>
+    ensures { option_copied result ≡ pieces.symbol_in (graph.lookup sym_name_key (entries_of attributes.now)) }
+{
+    match attributes.get_str("builtin_sym_name") {
+        Some(attr) => ident_of(attr),
+        None => None,
+    }
+}
+
+/// Appends the symbol's name behind a space and `@`, where it is there.
+pub(crate) fn fmt_symbol<A: AttrText>(attributes: &AttributeDict<A>, f: &mut String) -> fmt::Result
+    ensures { OnOk result (string_bytes f.new ≡ string_bytes f.old ++ encode_utf8_all (pieces.symbol_text (pieces.symbol_in (graph.lookup sym_name_key (entries_of attributes.now))))) }
+{
+    let Some(symbol) = symbol_of(attributes) else {
+        return Ok(());
+    };
+    f.push_str(" @")?;
+    f.push_str(symbol.as_str())?;
+    Ok(())
+}
+
+/// Whether a directive writes the attribute under a key.
+fn writes_key(directive: &Directive, key: &str) -> bool
+    ensures { result ≡ pieces.writes_key key.now (directive_of directive.now) }
+{
+    match directive {
+        Directive::Attr(named) => key == named.as_str(),
+        Directive::SymbolHeader => key == "builtin_sym_name",
+        _ => false,
+    }
+}
+
+/// Whether one of the directives writes the attribute under a key.
+pub(crate) fn write_key(directives: &[Directive], key: &str) -> bool
+    ensures { result ≡ pieces.write_key key.now (directives_of directives.now) }
+{
+    directives.iter().any(|d| writes_key(d, key))
+}
+
+/// Whether the dictionary writes an entry: no other directive does, and it is not outlined.
+fn is_listed<A: AttrText>(directives: &[Directive], key: &Identifier, attr: &AttrObj<A>) -> bool
+    ensures { result ≡ (not (graph.outlined (pieces.outlining A.outlined) (attribute_of attr.now)) && not (pieces.write_key key.now (directives_of directives.now))) }
+{
+    !is_outlined(attr) && !write_key(directives, key.as_str())
+}
+
+/// Appends an entry, behind `, ` where it is not the first.
+fn fmt_entry<A: AttrText>(
+    first: bool,
+    key: &Identifier,
+    attr: &AttrObj<A>,
+    f: &mut String,
+) -> fmt::Result
+    ensures { OnOk result (string_bytes f.new ≡ string_bytes f.old ++ encode_utf8_all (cond first [] spell.comma ++ pieces.entry_text A.IrText.written (key.now, attribute_of attr.now))) }
+{
+    if !first {
+        f.push_str(", ")?;
+    }
+    f.push_str(key.as_str())?;
+    f.push_str(": ")?;
+    fmt_attr(attr, f)
+}
+
+/// Appends the entries that the dictionary writes, with `, ` between them.
+fn fmt_entries<A: AttrText>(
+    attributes: &AttributeDict<A>,
+    directives: &[Directive],
+    f: &mut String,
+) -> fmt::Result
+    ensures { OnOk result (string_bytes f.new ≡ string_bytes f.old ++ encode_utf8_all (pieces.rows_text A.IrText.written (pieces.listed A.outlined (directives_of directives.now) (entries_of attributes.now)))) }
+{
+    let mut first = true;
+    for (key, attr) in attributes.iter() {
+        if is_listed(directives, key, attr) {
+            fmt_entry(first, key, attr, f)?;
+            first = false;
+        }
+    }
+    Ok(())
+}
+
+/// Appends the dictionary of the attributes that no other directive writes, behind a space.
+pub(crate) fn fmt_dictionary<A: AttrText>(
+    attributes: &AttributeDict<A>,
+    directives: &[Directive],
+    f: &mut String,
+) -> fmt::Result
+    ensures { OnOk result (string_bytes f.new ≡ string_bytes f.old ++ encode_utf8_all (codes " [" ++ (pieces.rows_text A.IrText.written (pieces.listed A.outlined (directives_of directives.now) (entries_of attributes.now)) ++ codes "]"))) }
+{
+    f.push_str(" [")?;
+    fmt_entries(attributes, directives, f)?;
+    f.push_str("]")?;
+    Ok(())
+}

@@ -1,0 +1,3 @@
+//! Stored printers.
+
+pub mod printers;

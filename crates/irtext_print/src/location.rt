@@ -1,0 +1,3 @@
+//! The texts of locations.
+
+pub mod print;

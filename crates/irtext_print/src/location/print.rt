@@ -1,0 +1,210 @@
+//! Printing of locations: files by the paths that a context keeps for them.
+ghost use Rattle.std.specs.Prelude.{◌≡◌, ◌<◌, ◌^◌, ◌++◌, Some, OnOk, cond, [], codes, map, option_copied, string_bytes};
+ghost use Rattle.std.specs.Int.Signed.{mag};
+ghost use Rattle.std.specs.Str.{encode_utf8_all};
+ghost use Rattle.irtext_base.specs.Causes.{position_text};
+ghost use Rattle.irtext_base.specs.Locations.{attr_view_in, location_view, in_row, row_sourced};
+ghost use Rattle.irtext_base.specs.Paths.{path_of};
+ghost use Rattle.irtext_grammar.specs.Spelling.Locations.{source_text, metadata_text, location_text, known_text, row_texts};
+ghost use Rattle.irtext_print.specs.Errors.Located.{framed};
+ghost use Rattle.irtext_grammar.specs.Spelling.Spell.{joined, comma};
+
+use crate::printable::Printable;
+use crate::printable::attributes::fmt_attr;
+use irtext_read::printable::fmt_quoted;
+use crate::printable::state::State;
+use irtext_base::base::{AttrObj, Context};
+use irtext_base::location::{Location, Source};
+use irtext_base::parsable::SourcePosition;
+use irtext_base::text::{AttrText, IrText};
+use std::fmt;
+
+/// The path of a file that the context keeps.
+fn path_of<'c, T: IrText<A>, A: AttrText>(src: Source, ctx: &'c Context<T, A>) -> Option<&'c str>
+    ensures { option_copied result ≡ path_of ctx.now.paths src }
+{
+    if !src.is_of(ctx) {
+        return None;
+    }
+    match src {
+        Source::File(key) => Some(ctx.path(key)),
+        Source::InMemory => None,
+    }
+}
+
+/// Appends the path of a file between quotation marks, or `<in-memory>`.
+fn fmt_source<T: IrText<A>, A: AttrText>(
+    src: Source,
+    ctx: &Context<T, A>,
+    f: &mut String,
+) -> fmt::Result
+    ensures { OnOk result (string_bytes f.new ≡ string_bytes f.old ++ encode_utf8_all (source_text (path_of ctx.now.paths src))) }
+{
+    match path_of(src, ctx) {
+        Some(path) => fmt_quoted(path, f),
+        None => {
+            f.push_str("<in-memory>")?;
+            Ok(())
+        }
+    }
+}
+
+/// A number fits its type.
+fn number_fits(number: &i32)
+    ensures { mag number.now < 2 ^ 63 }
+{
+    let _number = *number;
+}
+
+/// Appends the line and the column.
+fn fmt_position(pos: &SourcePosition, f: &mut String) -> fmt::Result
+    ensures { OnOk result (string_bytes f.new ≡ string_bytes f.old ++ encode_utf8_all (position_text pos.now)) }
+{
+    number_fits(&pos.line);
+    number_fits(&pos.column);
+    write!(f, "{pos}")?;
+    Ok(())
+}
+
+/// Appends `, `, but not in front of the first item.
+fn fmt_comma(first: bool, f: &mut String) -> fmt::Result
+    ensures { OnOk result (string_bytes f.new ≡ string_bytes f.old ++ cond first [] comma) }
+{
+    if !first {
+        f.push_str(", ")?;
+    }
+    Ok(())
+}
+
+/// Appends an attribute between `<` and `>`, if there is one.
+fn fmt_metadata<A: AttrText>(metadata: &Option<AttrObj<A>>, f: &mut String) -> fmt::Result
+    ensures { OnOk result (string_bytes f.new ≡ string_bytes f.old ++ encode_utf8_all (metadata_text A.written (attr_view_in metadata.now))) }
+{
+    if let Some(attr) = metadata {
+        f.push_str("<")?;
+        fmt_attr(attr, f)?;
+        f.push_str(">")?;
+    }
+    Ok(())
+}
+
+/// Appends a source, a line and a column.
+fn fmt_place<T: IrText<A>, A: AttrText>(
+    src: Source,
+    pos: &SourcePosition,
+    ctx: &Context<T, A>,
+    f: &mut String,
+) -> fmt::Result
+    ensures { OnOk result (string_bytes f.new ≡ string_bytes f.old ++ encode_utf8_all (source_text (path_of ctx.now.paths src) ++ (codes ": " ++ position_text pos.now))) }
+{
+    fmt_source(src, ctx, f)?;
+    f.push_str(": ")?;
+    fmt_position(pos, f)
+}
+
+/// Appends the text of a location. It fails only where memory is refused; what was written until then stays.
+#[cycle(printed)]
+pub(crate) fn fmt_location<T: IrText<A>, A: AttrText>(
+    location: &Location<A>,
+    ctx: &Context<T, A>,
+    f: &mut String,
+) -> fmt::Result
+    ensures { OnOk result (string_bytes f.new ≡ string_bytes f.old ++ encode_utf8_all (location_text A.written ctx.now.paths location.now)) }
+{
+    match location {
+        Location::SrcPos { src, pos } => fmt_place(*src, pos, ctx, f),
+        Location::Fused {
+            metadata,
+            locations,
+        } => {
+            f.push_str("fused")?;
+            fmt_metadata(metadata, f)?;
+            f.push_str("[")?;
+            fmt_locations(locations, ctx, f)?;
+            f.push_str("]")?;
+            Ok(())
+        }
+        Location::Named { name, child_loc } => {
+            f.push_str("name: ")?;
+            fmt_quoted(name.as_str(), f)?;
+            f.push_str(", loc: (")?;
+            fmt_location(child_loc, ctx, f)?;
+            f.push_str(")")?;
+            Ok(())
+        }
+        Location::CallSite { callee, caller } => {
+            f.push_str("callsite(")?;
+            fmt_location(callee, ctx, f)?;
+            f.push_str(" at ")?;
+            fmt_location(caller, ctx, f)?;
+            f.push_str(")")?;
+            Ok(())
+        }
+        Location::Unknown => {
+            f.push_str("?")?;
+            Ok(())
+        }
+    }
+}
+
+/// Appends the text of a location between these two, where the location is known. It fails only where memory is refused.
+pub(crate) fn fmt_known<T: IrText<A>, A: AttrText>(
+    location: &Location<A>,
+    before: &str,
+    after: &str,
+    ctx: &Context<T, A>,
+    f: &mut String,
+) -> fmt::Result
+    ensures { OnOk result (string_bytes f.new ≡ string_bytes f.old ++ framed before.now after.now (known_text A.written ctx.now.paths location.now)) }
+{
+    if let Location::Unknown = location {
+        return Ok(());
+    }
+    f.push_str(before)?;
+    fmt_location(location, ctx, f)?;
+    f.push_str(after)?;
+    Ok(())
+}
+
+/// Appends the texts of locations with `, ` between.
+#[cycle(printed)]
+fn fmt_locations<T: IrText<A>, A: AttrText>(
+    locations: &Vec<Location<A>>,
+    ctx: &Context<T, A>,
+    f: &mut String,
+) -> fmt::Result
+    ensures { OnOk result (string_bytes f.new ≡ string_bytes f.old ++ encode_utf8_all (joined comma (row_texts A.written (row_sourced (path_of ctx.now.paths) (in_row (map location_view locations.now.items)))))) }
+{
+    let mut first = true;
+    for location in locations {
+        fmt_comma(first, f)?;
+        fmt_location(location, ctx, f)?;
+        first = false;
+    }
+    Ok(())
+}
+
+impl<T: IrText<A>, A: AttrText, U> Printable<U, T, A> for Source {
+    ghost gives = { λ src ctx s. Some (encode_utf8_all (source_text (path_of ctx.paths src)), s) };
+
+    fn fmt(&self, ctx: &Context<T, A>, _state: &mut State<U>, f: &mut String) -> fmt::Result {
+        fmt_source(*self, ctx, f)
+    }
+}
+
+impl<T: IrText<A>, A: AttrText, U> Printable<U, T, A> for SourcePosition {
+    ghost gives = { λ pos _ s. Some (position_text pos, s) };
+
+    fn fmt(&self, _ctx: &Context<T, A>, _state: &mut State<U>, f: &mut String) -> fmt::Result {
+        write!(f, "{self}")?;
+        Ok(())
+    }
+}
+
+impl<T: IrText<A>, A: AttrText, U> Printable<U, T, A> for Location<A> {
+    ghost gives = { λ location ctx s. Some (encode_utf8_all (location_text A.written ctx.paths location), s) };
+
+    fn fmt(&self, ctx: &Context<T, A>, _state: &mut State<U>, f: &mut String) -> fmt::Result {
+        fmt_location(self, ctx, f)
+    }
+}

@@ -1,0 +1,66 @@
+//! Attributes print themselves.
+ghost use Rattle.std.specs.Prelude.{◌≡◌, ◌++◌, OnOk, Some, map, string_bytes};
+ghost use Rattle.std.specs.Str.{encode_utf8_all};
+ghost use Rattle.irtext_base.specs.Locations.{attr_view};
+ghost use Rattle.irtext_grammar.specs.Spelling.AttrText.{attr_text};
+ghost use Rattle.irtext_grammar.specs.Spelling.Spell.{joined, comma, or_question};
+
+use crate::printable::Printable;
+use crate::printable::state::State;
+use irtext_base::base::{AttrObj, Context, Identifier};
+use irtext_base::text::{AttrText, IrText};
+use std::fmt;
+
+/// Appends a given name, or `?` where there is none.
+fn fmt_name(name: &Option<Identifier>, f: &mut String) -> fmt::Result
+    ensures { OnOk result (string_bytes f.new ≡ string_bytes f.old ++ encode_utf8_all (or_question name.now)) }
+{
+    match name {
+        Some(name) => f.push_str(name.as_str())?,
+        None => f.push_str("?")?,
+    }
+    Ok(())
+}
+
+/// Appends given names with `, ` between them.
+fn fmt_names(names: &[Option<Identifier>], f: &mut String) -> fmt::Result
+    ensures { OnOk result (string_bytes f.new ≡ string_bytes f.old ++ encode_utf8_all (joined comma (map or_question names.now))) }
+{
+    let Some((first, rest)) = names.split_first() else {
+        return Ok(());
+    };
+    fmt_name(first, f)?;
+    for name in rest {
+        f.push_str(", ")?;
+        fmt_name(name, f)?;
+    }
+    Ok(())
+}
+
+/// Appends the text of an attribute. It fails only where memory is refused; what was written until then stays.
+pub(crate) fn fmt_attr<A: AttrText>(attr: &AttrObj<A>, f: &mut String) -> fmt::Result
+    ensures { OnOk result (string_bytes f.new ≡ string_bytes f.old ++ encode_utf8_all (attr_text A.IrText.written (attr_view attr.now))) }
+{
+    match attr {
+        AttrObj::GivenNames(names) => {
+            f.push_str("builtin.given_names [")?;
+            fmt_names(names, f)?;
+            f.push_str("]")?;
+            Ok(())
+        }
+        AttrObj::Ident(name) => {
+            f.push_str("builtin.identifier ")?;
+            f.push_str(name.as_str())?;
+            Ok(())
+        }
+        AttrObj::Own(own) => own.write_text(f),
+    }
+}
+
+impl<T: IrText<A>, A: AttrText, U> Printable<U, T, A> for AttrObj<A> {
+    ghost gives = { λ x _ s. Some (encode_utf8_all (attr_text A.IrText.written (attr_view x)), s) };
+
+    fn fmt(&self, _ctx: &Context<T, A>, _state: &mut State<U>, f: &mut String) -> fmt::Result {
+        fmt_attr(self, f)
+    }
+}

@@ -1,0 +1,89 @@
+//! Guards: what lends a printing state for writing, and gives back what it had as they are dropped.
+ghost use Rattle.std.specs.Prelude.{◌≡◌, []};
+ghost use Rattle.std.specs.Borrow.{sem, follows};
+ghost use mir.Syntax.{named};
+ghost use Rattle.irtext_print.specs.contracts.printable.state.State.{the_row};
+ghost use Rattle.irtext_print.specs.contracts.printable.guards.IndentGuard as indent_guard;
+ghost use Rattle.irtext_print.specs.contracts.printable.guards.RegionDepthGuard as depth_guard;
+ghost use Rattle.irtext_print.specs.Printers.Printing.{with_indent, with_limit, guard_state, guard_saved, with_guard_state, depth_state, depth_saved, with_depth_state};
+
+use crate::printable::state::{RegionPrintDepthLimit, State};
+use std::ops::{Deref, DerefMut};
+
+/// The indentation of its making comes back as it is dropped.
+pub struct IndentGuard<'a, U> {
+    /// The state, at its deeper indentation.
+    pub state: &'a mut State<U>,
+    pub(crate) saved: u16,
+}
+
+/// The limit of its making comes back as it is dropped.
+pub struct RegionDepthGuard<'a, U> {
+    /// The state, under its lower limit.
+    pub state: &'a mut State<U>,
+    pub(crate) saved: RegionPrintDepthLimit,
+}
+
+impl<U> Drop for IndentGuard<'_, U> {
+    fn drop(self)
+        ensures { self.exit.0.now ≡ with_indent (guard_state self.entry) (guard_saved self.entry) }
+    {
+        let IndentGuard { state, saved } = self;
+        state.current_indent = saved;
+    }
+}
+
+impl<U> Deref for IndentGuard<'_, U> {
+    type Target = State<U>;
+
+    ghost deref_gives = { λ p x. x ≡ guard_state p };
+
+    fn deref(&self) -> &State<U>
+        ensures { result.now ≡ guard_state self.now }
+    {
+        self.state
+    }
+}
+
+impl<U> DerefMut for IndentGuard<'_, U> {
+    ghost deref_mut_gives = { λ p x. x ≡ guard_state p };
+
+    fn deref_mut(&mut self) -> &mut State<U>
+        ensures* writes_back { sem 𝓛 (follows (indent_guard.the_row (record { mir = named 1; lft = [] }) U.row) (the_row U.row) self.entry.ghost_name result.ghost_name (with_guard_state self.old)) }
+        ensures value { result.now ≡ guard_state self.old }
+    {
+        self.state
+    }
+}
+
+impl<U> Drop for RegionDepthGuard<'_, U> {
+    fn drop(self)
+        ensures { self.exit.0.now ≡ with_limit (depth_state self.entry) (depth_saved self.entry) }
+    {
+        let RegionDepthGuard { state, saved } = self;
+        state.limit = saved;
+    }
+}
+
+impl<U> Deref for RegionDepthGuard<'_, U> {
+    type Target = State<U>;
+
+    ghost deref_gives = { λ p x. x ≡ depth_state p };
+
+    fn deref(&self) -> &State<U>
+        ensures { result.now ≡ depth_state self.now }
+    {
+        self.state
+    }
+}
+
+impl<U> DerefMut for RegionDepthGuard<'_, U> {
+    ghost deref_mut_gives = { λ p x. x ≡ depth_state p };
+
+    fn deref_mut(&mut self) -> &mut State<U>
+        ensures* writes_back { sem 𝓛 (follows (depth_guard.the_row (record { mir = named 1; lft = [] }) U.row) (the_row U.row) self.entry.ghost_name result.ghost_name (with_depth_state self.old)) }
+        ensures value { result.now ≡ depth_state self.old }
+    {
+        self.state
+    }
+}

@@ -1,0 +1,38 @@
+//! The items of an iterator, with separators between.
+ghost use Rattle.std.specs.Prelude.{◌≡◌, List, OnOk};
+ghost use Rattle.std.specs.Iterator.{Drains, HoldsAlong, IsFinite};
+ghost use Rattle.std.specs.List.{All};
+ghost use Rattle.irtext_print.specs.Printers.Items.{WritesItems, PrintsItem};
+
+use crate::printable::state::State;
+use crate::printable::{ListSeparator, Printable};
+use irtext_base::base::Context;
+use irtext_base::text::{AttrText, IrText};
+use std::fmt;
+
+/// Appends the texts of the items that an iterator gives, with a separator between each two. It fails where a separator or an
+/// item does; what was written until then stays.
+pub fn fmt_iter<T: IrText<A>, A: AttrText, U, I: Iterator + Drop>(
+    iter: I,
+    ctx: &Context<T, A>,
+    state: &mut State<U>,
+    sep: ListSeparator,
+    f: &mut String,
+) -> fmt::Result
+where
+    I::Item: Printable<U, T, A> + Drop,
+    requires runs { I.can_next iter × IsFinite (I.remaining iter) }
+    requires printable { HoldsAlong I.next_gives iter (All (λ x. I.Item.can_print x ctx.now)) }
+    ensures { OnOk result ((xs : List I.Item) × Drains I.next_gives iter xs × WritesItems (PrintsItem I.Item.prints I.Item.gives ctx.now) sep xs state.old f.old state.new f.new) }
+{
+    let mut first = true;
+    for item in iter {
+        if first {
+            first = false;
+        } else {
+            sep.fmt(ctx, state, f)?;
+        }
+        item.fmt(ctx, state, f)?;
+    }
+    Ok(())
+}

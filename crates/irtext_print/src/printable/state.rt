@@ -1,0 +1,182 @@
+//! The printing state and its guards.
+ghost use Rattle.std.specs.Prelude.{◌≡◌, ◌+◌, ◌-◌, ◌<◌, ◌≤◌, ◌^◌, [], OnOk, OnErr, IfOk, IfSome, OnSome, IfNone, Some, None, ◌∷◌, ◌++◌, IsOk, IsSome, length, ◌↔◌, ◌≢◌};
+ghost use Rattle.std.specs.Borrow.{sem, Lends, RestsIfErr, RestsIfNone};
+ghost use Rattle.irtext_print.specs.contracts.printable.state.State.{the_row};
+ghost use Rattle.irtext_print.specs.Printers.Printing.{width_of, indent_of, limit_of, gathered_of, data_of, with_indent, with_limit, with_data, with_gathered, lowered, guard_name, guard_state, guard_saved, depth_name, depth_state, depth_saved};
+
+use crate::printable::guards::{IndentGuard, RegionDepthGuard};
+use irtext_base::base::{Operation, Ptr};
+use std::alloc::{AllocError, Global};
+use std::fmt;
+use std::marker::Model;
+
+/// How many levels of regions are printed.
+#[derive(Clone, Copy, Debug, Default, PartialEq, Eq)]
+pub enum RegionPrintDepthLimit {
+    /// All levels.
+    #[default]
+    Unlimited,
+    /// At most so many levels; deeper regions are elided.
+    Max(u32),
+}
+
+/// What printers share while they print.
+#[derive(Drop)]
+pub struct State<U> {
+    pub(crate) indent_width: u16,
+    pub(crate) current_indent: u16,
+    pub(crate) limit: RegionPrintDepthLimit,
+    pub(crate) gathered: Vec<Ptr<Operation>>,
+    pub(crate) aux_data: U,
+}
+
+impl<U> Model for State<U> {
+    ghost use Rattle.irtext_print.specs.Printers.Shown.{Shown};
+
+    ghost Value = { Shown U };
+
+    ghost view = { λ s. record { width = s.indent_width; indent = s.current_indent; limit = s.limit; gathered = s.gathered.items; aux = s.aux_data } };
+}
+
+impl<U> State<U> {
+    /// Two spaces an indentation, no indentation, all levels of regions, and nothing gathered. It takes no memory yet.
+    pub fn new(alloc: Global, aux_data: U) -> State<U>
+        ensures { result ≡ record { width = 2; indent = 0; limit = RegionPrintDepthLimit.Unlimited; gathered = []; aux = aux_data } }
+    {
+        State {
+            indent_width: 2,
+            current_indent: 0,
+            limit: RegionPrintDepthLimit::Unlimited,
+            gathered: Vec::new(alloc),
+            aux_data,
+        }
+    }
+
+    /// With a layout and nothing gathered.
+    pub fn with_layout(
+        alloc: Global,
+        indent_width: u16,
+        current_indent: u16,
+        limit: RegionPrintDepthLimit,
+        aux_data: U,
+    ) -> State<U>
+        ensures { result ≡ record { width = indent_width; indent = current_indent; limit = limit; gathered = []; aux = aux_data } }
+    {
+        State {
+            indent_width,
+            current_indent,
+            limit,
+            gathered: Vec::new(alloc),
+            aux_data,
+        }
+    }
+
+    /// From now on at most so many levels of regions are printed.
+    pub fn set_region_print_depth_limit(&mut self, limit: RegionPrintDepthLimit)
+        ensures { self.new ≡ with_limit self.old limit }
+    {
+        self.limit = limit;
+    }
+
+    /// How many levels of regions are printed from here on.
+    pub fn current_region_print_depth_limit(&self) -> RegionPrintDepthLimit
+        ensures { result ≡ limit_of self.now }
+    {
+        self.limit
+    }
+
+    /// The caller's data.
+    pub fn aux_data_ref(&self) -> &U
+        ensures { result.now ≡ data_of self.now }
+    {
+        &self.aux_data
+    }
+
+    /// The caller's data, to be written.
+    pub fn aux_data_mut(&mut self) -> &mut U
+        ensures* writes_back { sem 𝓛 (Lends (the_row U.row) U.row self.entry result (with_data self.old)) }
+        ensures value { result.now ≡ data_of self.old }
+    {
+        &mut self.aux_data
+    }
+
+    /// Notes an operation, and answers its index, from 0. Refused memory changes nothing.
+    pub fn gather(&mut self, item: Ptr<Operation>) -> Result<usize, AllocError>
+        ensures ok { OnOk result (self.new ≡ with_gathered (self.old) (gathered_of self.old ++ item ∷ [])) }
+        ensures err { OnErr result (self.new ≡ self.old) }
+        ensures place { IfOk result (λ n. n ≡ length (gathered_of self.old)) }
+    {
+        let place = self.gathered.len();
+        self.gathered.push(item)?;
+        Ok(place)
+    }
+
+    /// Takes out what was gathered.
+    pub(crate) fn take_gathered(&mut self, alloc: Global) -> Vec<Ptr<Operation>>
+        ensures taken { result.items ≡ gathered_of self.old }
+        ensures left { self.new ≡ with_gathered self.old [] }
+    {
+        std::mem::replace(&mut self.gathered, Vec::new(alloc))
+    }
+
+    /// One level of regions deeper, until the guard is dropped. `None` where the region must be elided; then nothing changes.
+    pub fn enter_region(&mut self) -> Option<RegionDepthGuard<'_, U>>
+        ensures* unchanged_at_none { sem 𝓛 (RestsIfNone (the_row U.row) self.entry depth_name result (λ n. n ≡ self.old)) }
+        ensures same_reference { IfSome result (λ g. depth_name g ≡ self.entry.ghost_name) }
+        ensures saved { IfSome result (λ g. depth_saved g ≡ limit_of self.old) }
+        ensures state { IfSome result (λ g. depth_state g ≡ with_limit self.old (limit_of (depth_state g))) }
+        ensures limit { IfSome result (λ g. lowered (limit_of self.old) ≡ Some (limit_of (depth_state g))) }
+        ensures none { IfNone result (lowered (limit_of self.old) ≡ None) }
+    {
+        let saved = self.limit;
+        match saved {
+            RegionPrintDepthLimit::Unlimited => {}
+            RegionPrintDepthLimit::Max(n) => {
+                if n == 0 {
+                    return None;
+                }
+                self.limit = RegionPrintDepthLimit::Max(n - 1);
+            }
+        }
+        Some(RegionDepthGuard { state: self, saved })
+    }
+
+    /// How many spaces one indentation is wide.
+    pub fn indent_width(&self) -> u16
+        ensures { result ≡ width_of self.now }
+    {
+        self.indent_width
+    }
+
+    /// From now on one indentation is so many spaces wide. Indentations that were begun stay as they are.
+    pub fn set_indent_width(&mut self, width: u16)
+        ensures { self.new ≡ record self.old { width = width } }
+    {
+        self.indent_width = width;
+    }
+
+    /// How many spaces stand at the beginning of a line.
+    pub fn current_indent(&self) -> u16
+        ensures { result ≡ indent_of self.now }
+    {
+        self.current_indent
+    }
+
+    /// One indentation more, until the guard is dropped. It fails where the spaces don't fit 16 bits, and then changes nothing.
+    pub fn indent(&mut self) -> Result<IndentGuard<'_, U>, fmt::Error>
+        ensures* unchanged_at_err { sem 𝓛 (RestsIfErr (the_row U.row) self.entry guard_name result (λ n. n ≡ self.old)) }
+        ensures same_reference { IfOk result (λ g. guard_name g ≡ self.entry.ghost_name) }
+        ensures saved { IfOk result (λ g. guard_saved g ≡ indent_of self.old) }
+        ensures state { IfOk result (λ g. guard_state g ≡ with_indent self.old (indent_of self.old + width_of self.old)) }
+        ensures succeeds { IsOk result ↔ (indent_of self.old + width_of self.old < 2 ^ 16) }
+    {
+        let saved = self.current_indent;
+        match saved.checked_add(self.indent_width) {
+            Some(indent) => {
+                self.current_indent = indent;
+                Ok(IndentGuard { state: self, saved })
+            }
+            None => Err(fmt::Error),
+        }
+    }
+}

@@ -1,9 +1,0 @@
--- A stream alone.
-use Rattle.std.proofs.Common.{refl}
-use Rattle.irtext_base.specs.Stream.{StreamView}
-use Rattle.pliron_text.specs.Roots.{itself, replaced}
-use Rattle.pliron_text.proofs.Steps.{Lens, lens}
-
--- a stream alone, as a lens
-abbrev pub alone : Lens StreamView
-alone = lens itself replaced (λ s v. refl) (λ s. refl) (λ s v w. refl)

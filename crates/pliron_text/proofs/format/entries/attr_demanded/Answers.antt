@@ -1,7 +1,0 @@
-use Rattle.irtext_read.proofs.Steps.{insisted}
-use Rattle.pliron_text.proofs.PieceSteps.{as_tree}
-use Rattle.pliron_text.proofs.Rooted.{alone}
-use Rattle.pliron_text.proofs.format.entries.attr_demanded.Goals as goal
-
-pub returns : goal.returns
-returns g c = as_tree c.demand.result (insisted alone c.attr_from-answer.ensures c.demand.ensures)

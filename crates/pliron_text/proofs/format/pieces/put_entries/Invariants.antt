@@ -1,8 +1,0 @@
-use Rattle.std.proofs.Common.{◌≡◌}
-use Rattle.pliron_text.specs.Build.{put_all}
-use Rattle.pliron_text.specs.Stands.{entries_of}
-use Rattle.pliron_text.proofs.format.pieces.put_entries.Given as goal
-
-abbrev pub invariant-loop-key : goal.invariant-loop-key
-invariant-loop-key g l =
-    put_all (entries_of l.attributes) (entries_of l.key-iterator.rest.items) ≡ put_all (entries_of l.fn.attributes) (entries_of l.fn.entries.items)

@@ -1,6 +1,0 @@
-use Rattle.std.proofs.Common.{refl, ap}
-use Rattle.pliron_text.proofs.PieceSteps.{with_attributes}
-use Rattle.pliron_text.proofs.format.pieces.store_entries.Goals as goal
-
-pub returns-in-Ok : goal.returns-in-Ok
-returns-in-Ok g c = (ap (with_attributes c.args.found.now.regions) c.in-Ok.ensures, refl)

@@ -1,8 +1,0 @@
-use Rattle.std.proofs.Common.{refl, ap, ◌∙◌}
-use Rattle.pliron_text.specs.Stands.{entries_of}
-use Rattle.pliron_text.proofs.PieceSteps.{put_insert, with_attributes}
-use Rattle.pliron_text.proofs.format.pieces.store_entry.Goals as goal
-
-pub returns-in-Ok : goal.returns-in-Ok
-returns-in-Ok g c =
-    (ap (with_attributes c.args.found.now.regions) (ap entries_of c.in-Ok.ensures.entries ∙ put_insert c.args.found.now.attributes c.args.entry.0 c.args.entry.1), refl)

@@ -1,0 +1,59 @@
+//! The calls of operations that are about their text.
+ghost use Rattle.std.specs.Prelude.{◌≡◌, ◌⊎◌, IfOk, IfErr, OnErr};
+ghost use Rattle.irtext_base.specs.Faults.{Memory, fault_of};
+ghost use Rattle.irtext_base.specs.Made.{SameObjects};
+ghost use Rattle.irtext_base.specs.Own.{texts_of};
+ghost use Rattle.irtext_read.specs.AttrTexts.{attr_at};
+ghost use Rattle.irtext_read.specs.States.{marks_of};
+ghost use Rattle.irtext_outcomes.specs.Readers.Roots.{KeepsRest, Refusal};
+ghost use Rattle.irtext_outcomes.specs.Promises.Root.{IsFresh, BuildsRoot, RefusesRoot};
+
+use irtext_base::base::{Context, Operation, Ptr};
+use irtext_base::parsable::ParseResult;
+use irtext_base::text::{AttrText, IrText};
+use irtext_parse::ir::read::{OperationParserConfig, outermost_parse};
+use irtext_print::ir::print::concrete::OpObj;
+use irtext_read::parsable::StateStream;
+
+/// Calls of operations that are about their text.
+pub trait OperationText {
+    /// Reads a root where the stream stands and, where it has a mark, the section behind it. What follows is not looked at, so
+    /// roots can stand one behind the other on one stream.
+    ///
+    /// The root's location is the place where it begins, unless its entry in the section gives another. A fault says why the text
+    /// is refused, and where: at which line and column, both counted from 1, in characters. It is uncommitted where nothing was
+    /// read; else the stream has failed, and each later reader on it answers that. Whatever the fault, want of memory too, the
+    /// context's objects, the marks, the source and the caller's data are as they were; the context may keep more paths.
+    fn top_level_parse<T: IrText<A>, A: AttrText, U>(
+        stream: &mut StateStream<'_, T, A, U>,
+    ) -> ParseResult<Ptr<Operation>, A>
+        ensures lent { stream.new.state.ctx.ghost_name ≡ stream.old.state.ctx.ghost_name }
+        ensures rest { KeepsRest stream.old.state stream.new.state }
+        ensures refused { IfErr result (λ fault. Refusal stream.old.stream fault stream.new.stream) }
+        ensures builds { IsFresh stream.old → IfOk result (λ op. BuildsRoot (texts_of T.reading T.written) (texts_of A.reading A.written) (attr_at A.reading) op stream.old stream.new) }
+        ensures unresolved { IsFresh stream.old → IfErr result (λ fault. (fault_of fault.cause ≡ Memory) ⊎ RefusesRoot (texts_of T.reading T.written) (texts_of A.reading A.written) (attr_at A.reading) stream.old.state.ctx.now.dialects stream.old.stream fault) }
+        ensures objects { OnErr result (SameObjects stream.old.state.ctx.now stream.new.state.ctx.now) }
+        ensures marks { OnErr result (marks_of stream.new.state ≡ marks_of stream.old.state) };
+
+    /// The operation as a plain value that prints its concrete text: its id and its pieces, without its mark and without a
+    /// section.
+    fn get_op_dyn<T: IrText<A>, A: AttrText>(op: Ptr<Operation>, ctx: &Context<T, A>) -> OpObj
+        ensures { result ≡ record { op = op } };
+}
+
+impl OperationText for Operation {
+    fn top_level_parse<T: IrText<A>, A: AttrText, U>(
+        stream: &mut StateStream<'_, T, A, U>,
+    ) -> ParseResult<Ptr<Operation>, A> {
+        outermost_parse(
+            stream,
+            OperationParserConfig {
+                look_for_outlined_attrs: true,
+            },
+        )
+    }
+
+    fn get_op_dyn<T: IrText<A>, A: AttrText>(op: Ptr<Operation>, _ctx: &Context<T, A>) -> OpObj {
+        OpObj { op }
+    }
+}
