@@ -55,7 +55,7 @@ pub fn dotted_parse<W: DottedWord, A>(
 }
 
 /// Reads a fixed text behind white space, where it must stand.
-pub fn text_behind<A>(stream: &mut TextStream, text: &'static str) -> ParseResult<(), A>
+pub fn text_behind<A>(stream: &mut TextStream, text: &str) -> ParseResult<(), A>
     ensures { Answers (λ s. s) (λ s v. v) (λ u. u) (unless_failed stream.old.failed (behind_space (text_at (characters text.now)) stream.old.rest)) stream.old result stream.new }
 {
     if stream.has_failed() {

@@ -2,6 +2,7 @@
 use crate::errors::at;
 use crate::helpers::named;
 use irtext_base::format::FormatFault;
+use irtext_read::irfmt::parsers::held;
 use irtext_types::DemoAttr;
 use pliron_text::base::{Identifier, OpId};
 use pliron_text::ir::{BasicBlockVerifyErr, DefUseVerifyErr};
@@ -56,10 +57,6 @@ fn plain(number: usize) -> Cause<DemoAttr> {
         0 => Cause::Memory,
         1 => Cause::StreamFailed,
         2 => Cause::Fmt,
-        3 => Cause::Unexpected {
-            found: Some('x'),
-            expected: Expected::Text("->"),
-        },
         4 => Cause::BadEscape('q'),
         5 => Cause::EmptyItem,
         6 => Cause::BadSeparator,
@@ -146,9 +143,18 @@ fn nested(alloc: Global) -> Result<Cause<DemoAttr>, Fail> {
     })
 }
 
+/// A cause that expects a fixed text.
+fn fixed_text(alloc: Global) -> Result<Cause<DemoAttr>, Fail> {
+    Ok(Cause::Unexpected {
+        found: Some('x'),
+        expected: held(alloc, "->")?,
+    })
+}
+
 /// The cause of a line.
 fn cause(alloc: Global, number: usize) -> Result<Cause<DemoAttr>, Fail> {
     match number {
+        3 => fixed_text(alloc),
         0..=22 => Ok(plain(number)),
         23..=27 => Ok(with_name(number, named(alloc, "x")?)),
         28..=32 => Ok(with_text(number, String::from_str(alloc, "110000")?)),

@@ -8,7 +8,7 @@ use irtext_read::irfmt::faults::{
     begins, demand, demanded, next_is, pass, refuse, refuse_at, unexpected,
 };
 use irtext_read::irfmt::parsers::{
-    Class, i32_parse, id_parse, identifier_parse, literal_parse, skip_class, skip_white_space,
+    Class, i32_parse, id_parse, identifier_parse, skip_class, skip_white_space,
     text_parse, usize_parse,
 };
 use irtext_types::DemoAttr;
@@ -49,7 +49,7 @@ const WORDS: &[&str] = &[
     "_a1",
     "builtin.module",
     "read",
-    "line: 1, column: 24: Unexpected `x`, expected `y`",
+    "line: 1, column: 24: Unexpected `x`, expected `a text of more than 24 bytes`",
     "line: 1, column: 25: Unexpected end of input, expected `xy`!",
     "line: 1, column: 25: The stream has failed!",
 ];
@@ -90,22 +90,10 @@ fn a_stream_counts_lines_and_characters(rt: HostRuntime) -> Result<(), Fail> {
 }
 
 /// What is said of a fixed text.
-fn fixed(alloc: Global, stream: &mut TextStream, text: &'static str) -> Result<String, Fail> {
-    let answer = text_parse::<TextStream, DemoAttr>(stream, text);
-    whether_read(alloc, &answer)
-}
-
-/// What is said of a format's literal.
-fn literal(alloc: Global, stream: &mut TextStream, text: &str) -> Result<String, Fail> {
-    let answer = literal_parse::<TextStream, DemoAttr>(stream, text);
-    whether_read(alloc, &answer)
-}
-
-/// What is said of a text that is read or not.
-fn whether_read(alloc: Global, answer: &ParseResult<(), DemoAttr>) -> Result<String, Fail> {
-    match answer {
+fn fixed(alloc: Global, stream: &mut TextStream, text: &str) -> Result<String, Fail> {
+    match text_parse::<TextStream, DemoAttr>(stream, text) {
         Ok(()) => Ok(String::from_str(alloc, "read")?),
-        Err(fault) => told(alloc, fault),
+        Err(fault) => told(alloc, &fault),
     }
 }
 
@@ -132,7 +120,7 @@ fn word(alloc: Global, number: usize, stream: &mut TextStream) -> Result<String,
             skip_white_space(stream);
             fixed(alloc, stream, "->")
         }
-        3 => literal(alloc, stream, "y"),
+        3 => fixed(alloc, stream, "a text of more than 24 bytes"),
         4 => fixed(alloc, stream, "xy"),
         _ => identifier(alloc, stream),
     }

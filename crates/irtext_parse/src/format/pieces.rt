@@ -23,7 +23,7 @@ use irtext_base::format::{Directive, OpFormat};
 use irtext_base::parsable::{CharStream, ParseFault, ParseResult, TextStream};
 use irtext_base::result::{Cause, Expected};
 use irtext_base::text::AttrText;
-use irtext_read::irfmt::demanded::literal_demanded;
+use irtext_read::irfmt::demanded::text_demanded;
 use irtext_read::irfmt::faults::{demanded, refuse, unexpected};
 use irtext_read::irfmt::parsers::skip_white_space;
 
@@ -177,7 +177,7 @@ fn piece_parse<A: AttrText>(
         return Err(refuse(stream, Cause::StreamFailed));
     }
     match directive {
-        Directive::Literal(text) => literal_demanded(stream, text.as_str()),
+        Directive::Literal(text) => text_demanded(stream, text.as_str()),
         Directive::Attr(key) => attr_piece(stream, key, found),
         Directive::AttrDict => dictionary_piece(stream, found),
         Directive::SymbolHeader => header_piece(stream, found),

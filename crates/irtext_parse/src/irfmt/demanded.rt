@@ -15,7 +15,7 @@ use irtext_read::irfmt::parsers::{i32_parse, skip_white_space, usize_parse};
 /// A fixed text with white space round it.
 pub(crate) fn spaced_text<S: CharStream, A>(
     stream: &mut S,
-    text: &'static str,
+    text: &str,
 ) -> ParseResult<(), A>
     ensures { MustRead S.view S.at (λ u. u) (spaced_at (characters text.now)) stream.old result stream.new }
 {

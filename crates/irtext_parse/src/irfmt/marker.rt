@@ -6,13 +6,13 @@ ghost use Rattle.irtext_outcomes.specs.Readers.Marker.{MarkerOr, TakesWord};
 use irtext_base::parsable::{CharStream, ParseResult};
 use irtext_base::result::Cause;
 use irtext_read::irfmt::faults::{next_is, refuse};
-use irtext_read::irfmt::parsers::{ItemAnswer, skip_white_space};
+use irtext_read::irfmt::parsers::skip_white_space;
 
 /// What stands in the place of an attribute that is written in the section.
 pub const OUTLINED_ATTR_MARKER: &'static str = "!outlined";
 
 /// Passes a fixed text as far as it stands there, and answers whether it stands whole.
-fn take_text<S: CharStream>(stream: &mut S, text: &'static str) -> bool
+fn take_text<S: CharStream>(stream: &mut S, text: &str) -> bool
     ensures { TakesWord S.view S.at (characters text.now) stream.old result stream.new }
 {
     for c in text.chars() {
@@ -26,16 +26,14 @@ fn take_text<S: CharStream>(stream: &mut S, text: &'static str) -> bool
 
 /// Reads optional white space and the marker, and answers `None`. Where the marker doesn't stand whole, it reads the item where the
 /// call began, and answers `Some` of its value or its fault.
-pub fn outlined_marker_or<S: CharStream, R: ItemAnswer, F: FnMut(&mut S) -> R + Drop>(
+pub fn outlined_marker_or<S: CharStream, X: Drop, A: Drop, F: FnMut(&mut S) -> ParseResult<X, A> + Drop>(
     stream: &mut S,
     mut item: F,
-) -> ParseResult<Option<R::Value>, R::Own>
+) -> ParseResult<Option<X>, A>
 where
-    R::Value: Drop,
-    R::Own: Drop,
     requires callable { F.IsAlwaysCallable item }
-    requires rules { AlwaysKeepsRules S.view S.at R.seen F.FnMut }
-    ensures answers { UnlessFailed S.view S.at (MarkerOr S.view S.at (Calls R.seen F.FnMut) item) (S.view stream.old).failed stream.old result stream.new }
+    requires rules { AlwaysKeepsRules S.view S.at (λ r. r) F.FnMut }
+    ensures answers { UnlessFailed S.view S.at (MarkerOr S.view S.at (Calls (λ r. r) F.FnMut) item) (S.view stream.old).failed stream.old result stream.new }
     ensures kept { KeepsRules S.view S.at stream.old result stream.new }
 {
     if stream.has_failed() {
@@ -47,7 +45,7 @@ where
         return Ok(None);
     }
     stream.reset(start);
-    match item(stream).into_answer() {
+    match item(stream) {
         Ok(x) => Ok(Some(x)),
         Err(fault) => Err(fault),
     }

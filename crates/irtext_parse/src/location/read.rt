@@ -7,7 +7,7 @@ use crate::irfmt::demanded::{i32_demanded, spaced_text, text_demanded};
 use irtext_base::parsable::{CharStream, ParseResult, SourcePosition};
 
 /// A word, `:` and a number.
-fn labelled_number<S: CharStream, A>(stream: &mut S, word: &'static str) -> ParseResult<i32, A>
+fn labelled_number<S: CharStream, A>(stream: &mut S, word: &str) -> ParseResult<i32, A>
     ensures { MustRead S.view S.at (λ z. z) (labelled_at (characters word.now)) stream.old result stream.new }
 {
     text_demanded(stream, word)?;

@@ -18,7 +18,7 @@ use irtext_base::parsable::{CharStream, ParseResult, SourcePosition, TextStream}
 use irtext_base::result::{Cause, Expected};
 use irtext_base::text::{AttrText, IrText};
 use irtext_read::irfmt::faults::{demand, demanded, next_is, refuse, unexpected};
-use irtext_read::irfmt::parsers::quoted_string_parse;
+use irtext_read::irfmt::parsers::{held, quoted_string_parse};
 
 /// A text between quotation marks.
 pub(crate) fn quoted_demanded<A>(stream: &mut TextStream) -> ParseResult<String, A>
@@ -108,7 +108,10 @@ pub(crate) fn position_may<A>(stream: &mut TextStream) -> ParseResult<SourcePosi
         return Err(refuse(stream, Cause::StreamFailed));
     }
     if !next_is(stream, 'l') {
-        return Err(unexpected(stream, Expected::Text("line")));
+        return Err(match held(stream.allocator(), "line") {
+            Ok(expected) => unexpected(stream, expected),
+            Err(_) => refuse(stream, Cause::Memory),
+        });
     }
     position_parse(stream)
 }

@@ -16,7 +16,7 @@ pub mod truth;
 
 pub use attributes::{attr_from, attr_parse, type_parse};
 pub use class::{Class, skip_class, skip_white_space};
-pub use fixed_text::text_parse;
+pub use fixed_text::{held, text_parse};
 pub use from_str_radix::FromStrRadix;
 pub use hexadecimal::hex_int_parse;
 pub use identifier::identifier_parse;

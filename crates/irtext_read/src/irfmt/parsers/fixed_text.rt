@@ -37,8 +37,9 @@ fn missing<S: CharStream, A>(stream: &mut S, begun: bool, expected: Expected) ->
     fault
 }
 
-/// A fixed text as what is expected: inside the fault where it is short, and else as a copy.
-fn held(alloc: Global, text: &str) -> Result<Expected, AllocError>
+/// A fixed text as what is expected: a text of at most 24 bytes is held inside, and a longer one is copied. The error means that there
+/// was no memory for the copy.
+pub fn held(alloc: Global, text: &str) -> Result<Expected, AllocError>
     ensures { IfOk result (λ e. demand_of e ≡ Word (characters text.now)) }
 {
     match Token::from(text) {
