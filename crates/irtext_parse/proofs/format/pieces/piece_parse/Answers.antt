@@ -4,11 +4,11 @@ use Rattle.std.specs.Str.{chars}
 use Rattle.irtext_base.specs.Faults.{characters}
 use Rattle.irtext_read.specs.Tokens.{text_at}
 use Rattle.irtext_read.proofs.Characters.{encodes-characters}
-use Rattle.pliron_text.specs.MustRead.{MustRead}
-use Rattle.pliron_text.specs.PiecesOf.{pieces_of}
-use Rattle.pliron_text.specs.Roots.{itself, replaced}
-use Rattle.pliron_text.proofs.PieceSteps.{nothing_added}
-use Rattle.pliron_text.proofs.format.pieces.piece_parse.Goals as goal
+use Rattle.irtext_outcomes.specs.Readers.MustRead.{MustRead}
+use Rattle.irtext_parse.specs.Readers.PiecesOf.{pieces_of}
+use Rattle.irtext_outcomes.specs.Readers.Roots.{itself, replaced}
+use Rattle.irtext_parse.proofs.Readers.PieceSteps.{nothing_added}
+use Rattle.irtext_parse.proofs.format.pieces.piece_parse.Goals as goal
 
 pub returns-in-Literal : goal.returns-in-Literal
 returns-in-Literal g c =
