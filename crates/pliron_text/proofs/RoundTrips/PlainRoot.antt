@@ -31,9 +31,9 @@ use Rattle.irtext_grammar.proofs.Graphs.Fillings.{fillings}
 use Rattle.irtext_grammar.proofs.Names.Followed.{failures_follow}
 use Rattle.irtext_grammar.proofs.Names.Following.{operation_follow, regions_follow}
 use Rattle.irtext_grammar.proofs.Grammar.Formed.{formed_read}
-use Rattle.irtext_parse.proofs.RoundTrips.PlainClosed.{plain_closed}
-use Rattle.irtext_parse.proofs.RoundTrips.PlainRead.{tree_so_far}
-use Rattle.irtext_parse.proofs.RoundTrips.PlainSection.{plain_entries, plain_section, no_marks, one_mark, content_written, entries_are, section_is, plain_small, are_so_far}
+use Rattle.pliron_text.proofs.RoundTrips.PlainClosed.{plain_closed}
+use Rattle.pliron_text.proofs.RoundTrips.PlainRead.{tree_so_far}
+use Rattle.pliron_text.proofs.RoundTrips.PlainSection.{plain_entries, plain_section, no_marks, one_mark, content_written, entries_are, section_is, plain_small, are_so_far}
 use Rattle.irtext_grammar.proofs.Names.Resolved.{tree_resolves}
 use Rattle.irtext_grammar.proofs.RoundTrips.RootBack.{FineItems, RootRead, root_back}
 use Rattle.irtext_grammar.proofs.RoundTrips.RootResolves.{marks_written, marks_in_order}

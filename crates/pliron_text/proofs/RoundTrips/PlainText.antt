@@ -27,7 +27,7 @@ use Rattle.irtext_grammar.specs.Graphs.Wordy.{WordyEntry}
 use Rattle.irtext_grammar.proofs.Lists.Ascii.{ascii-from}
 use Rattle.irtext_grammar.proofs.Graphs.FitsFormat.{meets, and_left, and_right}
 use Rattle.irtext_outcomes.proofs.RoundTrips.KeptText.{scalars_joined, scalars_word, all_given}
-use Rattle.irtext_parse.proofs.RoundTrips.PlainSection.{plain_entries, no_marks, entries_are}
+use Rattle.pliron_text.proofs.RoundTrips.PlainSection.{plain_entries, no_marks, entries_are}
 use Rattle.irtext_grammar.proofs.Graphs.WrittenFine.{each_filter}
 
 -- ---- words, spaces and lists

@@ -29,8 +29,8 @@ use Rattle.irtext_outcomes.specs.Promises.Supported.{so_far, location_standing}
 use Rattle.irtext_grammar.specs.Contexts.Held.{graph_at, graph_of, whole}
 use Rattle.irtext_outcomes.specs.Promises.Root.{location_of, IsFirst, BuildsRoot, RefusesRoot}
 use Rattle.irtext_outcomes.proofs.RoundTrips.KeptBack.{location_reads}
-use Rattle.irtext_parse.proofs.RoundTrips.PlainPrinted.{gives_words, plain_printed}
-use Rattle.irtext_parse.proofs.RoundTrips.PlainRoot.{ComesBackAs, comes_back_as}
+use Rattle.pliron_text.proofs.RoundTrips.PlainPrinted.{gives_words, plain_printed}
+use Rattle.pliron_text.proofs.RoundTrips.PlainRoot.{ComesBackAs, comes_back_as}
 use Rattle.irtext_grammar.proofs.Grammar.UniqueRoot.{one_root}
 
 -- a value that is there only where a list is empty

@@ -20,9 +20,9 @@ use Rattle.irtext_print.specs.Printers.Shown.{Shown}
 use Rattle.irtext_grammar.specs.Contexts.Held.{graph_at, graph_of}
 use Rattle.irtext_outcomes.proofs.RoundTrips.KeptText.{scalars_known}
 use Rattle.irtext_print.proofs.Printers.RootParts.{cond-some}
-use Rattle.irtext_parse.proofs.RoundTrips.PlainPrinted.{plain_printed}
-use Rattle.irtext_parse.proofs.RoundTrips.PlainText.{text_scalars}
-use Rattle.irtext_parse.proofs.RoundTrips.PrintedBack.{graph_stands}
+use Rattle.pliron_text.proofs.RoundTrips.PlainPrinted.{plain_printed}
+use Rattle.pliron_text.proofs.RoundTrips.PlainText.{text_scalars}
+use Rattle.pliron_text.proofs.RoundTrips.PrintedBack.{graph_stands}
 
 module _ {T A V : Type 0} (L : Language ⊤ T A) (outlined once : A → Bool) (same : A → A → Bool) (ctx : ContextView T A) (p : Ptr Operation) (op : OperationView T A) (s : Shown V) (g : Graph T A)
     (owns_law : Lawful A L.owns) (stands_there : operation ctx p ≡ Some op) (kept : IsKept ctx op) (alone : StandsAlone ctx.dialects op) (sees : graph_of L.owns.written ctx p ≡ Some g) where

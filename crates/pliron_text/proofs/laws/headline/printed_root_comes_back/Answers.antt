@@ -1,8 +1,8 @@
 use Rattle.std.proofs.Common.{◌∙◌}
 use Rattle.irtext_base.specs.Own.{texts_of, unplaced}
 use Rattle.irtext_grammar.specs.Contexts.Formats.{format_of}
-use Rattle.irtext_parse.proofs.RoundTrips.PrintedBack.{builds_back, never_refused}
-use Rattle.irtext_parse.proofs.RoundTrips.PrintedText.{printed_text}
+use Rattle.pliron_text.proofs.RoundTrips.PrintedBack.{builds_back, never_refused}
+use Rattle.pliron_text.proofs.RoundTrips.PrintedText.{printed_text}
 use Rattle.pliron_text.proofs.laws.headline.printed_root_comes_back.Goals as goal
 
 pub returns-clause-builds : goal.returns-clause-builds

@@ -1,5 +1,5 @@
 use Rattle.irtext_base.specs.Own.{texts_of}
-use Rattle.irtext_parse.proofs.RoundTrips.PlainRoot.{comes_back}
+use Rattle.pliron_text.proofs.RoundTrips.PlainRoot.{comes_back}
 use Rattle.pliron_text.proofs.laws.section.plain_root_comes_back.Goals as goal
 
 pub returns : goal.returns
