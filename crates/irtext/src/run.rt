@@ -8,7 +8,7 @@ use pliron_text::base::{Context, Operation, Ptr};
 use pliron_text::ir::{OperationText, print_dbg};
 use pliron_text::parsable::parse_from_str;
 use pliron_text::printable::Disp;
-use pliron_text::result::Error;
+use pliron_text::result::{Cause, Error, ErrorKind};
 use std::alloc::{AllocError, Global};
 use std::fmt;
 use std::io::{Read, Write};
@@ -77,8 +77,11 @@ fn read_text(alloc: Global, input: &mut impl Read) -> Result<String, Fault> {
     String::from_utf8(bytes).map_err(|_| Fault::NotUtf8)
 }
 
-/// The text of an error, or that memory was refused.
+/// The text of an error, or that memory was refused: for the text itself, or before anything was read.
 fn refusal(alloc: Global, ctx: &Context<DemoType, DemoAttr>, error: &Error<DemoAttr>) -> Fault {
+    if let (Cause::Memory, ErrorKind::InvalidArgument) = (&error.err, error.kind) {
+        return Fault::Memory(AllocError);
+    }
     match format!(in alloc; "{}", error.disp(ctx)) {
         Ok(text) => Fault::Refused(text),
         Err(AllocError) => Fault::Memory(AllocError),
