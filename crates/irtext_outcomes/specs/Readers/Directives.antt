@@ -6,8 +6,9 @@ use Rattle.irtext_base.specs.Reading.{the}
 use Rattle.irtext_base.specs.Format as format
 use Rattle.irtext_base.specs.Format.{Format, Directive, sym_name_key}
 use Rattle.irtext_base.specs.Faults.{Unexpected, AnOperation, NotIsolated, ReservedKey}
-use Rattle.irtext_base.specs.Answers.{Outcome, Read, Missing, Bad, mapped, followed}
+use Rattle.irtext_base.specs.Answers.{Outcome, Read, Missing, Bad, mapped}
 use Rattle.irtext_base.specs.Locations.{AttrView}
+use Rattle.irtext_read.specs.Infix.{word, nothing, either, ◌▷◌, ◌◁◌, ◌▶◌, ◌⇒◌}
 use Rattle.irtext_read.specs.ListOutcomes.{separated_at}
 use Rattle.irtext_base.specs.Stream.{first_of}
 use Rattle.irtext_read.specs.Tokens.{text_at, identifier_at}
@@ -50,9 +51,7 @@ region_at false text = Bad NotIsolated []
 -- the regions found and those behind them, as long as `{` follows, with white space after each, and n of them at most
 abbrev pub regions_after : Bool → ℕ → ℕ → Text → Outcome ℕ
 regions_after iso zero found text = Read found [] text
-regions_after iso (suc n) found text = cond (begins (the 123) text)
-    (followed (region_at iso text) (λ _ t. followed (space_at t) (λ _ u. regions_after iso n (suc found) u)))
-    (Read found [] text)
+regions_after iso (suc n) found text = either (begins (the 123)) (region_at iso ▷ space_at ▷ regions_after iso n (suc found)) (nothing found) text
 
 -- regions, as long as `{` follows
 abbrev pub regions_at : Bool → Text → Outcome ℕ
@@ -61,15 +60,15 @@ regions_at iso text = regions_after iso (length text) 0 text
 module _ {A : Type 0} (attr : Text → Outcome (AttrView A)) where
   -- an attribute
   abbrev pub attribute_at : Text → Outcome (Attribute A)
-  attribute_at text = mapped attr_tree (attr text)
+  attribute_at = attr ⇒ attr_tree
 
   -- a key, `:`, and an attribute
   abbrev pub entry_at : Text → Outcome (Text × Attribute A)
-  entry_at text = allowed_entry (followed (identifier_at text) (λ key t. followed (spaced_at (codes ":") t) (λ _ u. mapped (λ a. (key, a)) (attribute_at u))))
+  entry_at text = allowed_entry ((identifier_at ▶ λ key. spaced_at (codes ":") ▷ attribute_at ⇒ λ a. (key, a)) text)
 
   -- entries between brackets, with `,` between them
   unfoldable pub dictionary_at : Text → Outcome (List (Text × Attribute A))
-  dictionary_at text = followed (text_at (codes "[") text) (λ _ t. followed (space_at t) (λ _ u. followed (separated_at 44 entry_at u) (λ es v. mapped (λ _. es) (text_at (codes "]") v))))
+  dictionary_at text = (word (codes "[") ▷ space_at ▷ separated_at 44 entry_at ◁ word (codes "]")) text
 
   -- an attribute, under the key that its directive names
   abbrev pub keyed_at : Text → Text → Outcome (Text × Attribute A)
@@ -88,7 +87,7 @@ module _ {A : Type 0} (attr : Text → Outcome (AttrView A)) where
   -- the pieces found, and what the directives read, with white space before each
   abbrev pub pieces_after : Bool → List Directive → Pieces A → Text → Outcome (Pieces A)
   pieces_after iso [] found text = Read found [] text
-  pieces_after iso (d ∷ ds) found text = followed (space_at text) (λ _ t. followed (piece_after iso d found t) (λ p u. pieces_after iso ds p u))
+  pieces_after iso (d ∷ ds) found text = (space_at ▷ piece_after iso d found ▶ λ p. pieces_after iso ds p) text
 
   -- what a format's directives read, where its operation is isolated or not; the canonical format is not read so far
   abbrev pub body_at : Bool → Format → Text → Outcome (Pieces A)

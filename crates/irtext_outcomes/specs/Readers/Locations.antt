@@ -1,20 +1,20 @@
 -- What a text reads as, where a location stands, with each fault's cause and place.
-use Rattle.std.specs.Prelude.{ℕ, zero, suc, Bool, cond, ◌||◌, Option, Some, None, List, [], codes, length}
+use Rattle.std.specs.Prelude.{ℕ, zero, suc, Bool, ◌||◌, Option, Some, None, List, [], codes, length}
 use Rattle.std.specs.Str.{encode_utf8_all}
 use Rattle.irtext_base.specs.Text.{Text, begins}
 use Rattle.irtext_base.specs.Reading.{the}
 use Rattle.irtext_base.specs.Stream.{first_of}
 use Rattle.irtext_base.specs.Faults.{Unexpected, ASource, ALocation}
-use Rattle.irtext_base.specs.Answers.{Outcome, Read, Missing, Bad, prefixed, mapped, followed}
+use Rattle.irtext_base.specs.Answers.{Outcome, Read, Missing, Bad, prefixed}
 use Rattle.irtext_base.specs.Locations.{AttrView, src_pos, fused, named, call_site, unknown, LocationsOf, no_location, location}
 use Rattle.irtext_base.specs.Paths.{Written}
-use Rattle.irtext_read.specs.Tokens.{text_at}
+use Rattle.irtext_read.specs.Infix.{word, nothing, either, ◌▷◌, ◌▶◌, ◌⇒◌}
 use Rattle.irtext_read.specs.QuotedTexts.{quoted_at}
 use Rattle.irtext_outcomes.specs.Readers.Positions.{space_at, spaced_at, position_at}
 
 -- the bytes of what stands between quotation marks
 abbrev pub bytes_at : Text → Outcome (List ℕ)
-bytes_at text = mapped encode_utf8_all (quoted_at text)
+bytes_at = quoted_at ⇒ encode_utf8_all
 
 -- a quotation mark or `<`
 abbrev pub begins_source : ℕ → Bool
@@ -22,11 +22,11 @@ begins_source c = the 34 c || the 60 c
 
 -- a path between quotation marks
 abbrev pub path_at : Text → Outcome (Option (List ℕ))
-path_at text = mapped Some (bytes_at text)
+path_at = bytes_at ⇒ Some
 
 -- a path between quotation marks, or memory
 abbrev pub source_at : Text → Outcome (Option (List ℕ))
-source_at text = cond (begins (the 34) text) (path_at text) (cond (begins (the 60) text) (mapped (λ _. None) (text_at (codes "<in-memory>") text)) (Missing (Unexpected (first_of text) ASource)))
+source_at = either (begins (the 34)) path_at (either (begins (the 60)) (word (codes "<in-memory>") ⇒ λ _. None) (λ text. Missing (Unexpected (first_of text) ASource)))
 
 -- locations in a row, whose files are named by the bytes of their paths
 abbrev pub WrittenRow : Type 0 → Type 0
@@ -34,8 +34,8 @@ WrittenRow A = LocationsOf (Option (List ℕ)) A
 
 -- `name`, a name between quotation marks, and what stands in front of the location that it names
 abbrev pub name_at : Text → Outcome (List ℕ)
-name_at text = followed (text_at (codes "name") text) (λ _ t. followed (spaced_at (codes ":") t) (λ _ u. followed (bytes_at u) (λ name v. followed (spaced_at (codes ",") v) (λ _ w.
-    followed (text_at (codes "loc") w) (λ _ x. followed (spaced_at (codes ":") x) (λ _ y. mapped (λ _. name) (text_at (codes "(") y)))))))
+name_at = word (codes "name") ▷ spaced_at (codes ":") ▷ bytes_at ▶ λ name.
+    spaced_at (codes ",") ▷ word (codes "loc") ▷ spaced_at (codes ":") ▷ word (codes "(") ⇒ λ _. name
 
 -- a character with which a location begins
 abbrev pub begins_location : ℕ → Bool
@@ -44,17 +44,16 @@ begins_location c = begins_source c || (the 102 c || (the 110 c || (the 99 c || 
 module _ {A : Type 0} where
   -- a source, a line and a column
   abbrev pub place_at : Text → Outcome (Written A)
-  place_at text = followed (source_at text) (λ s t. followed (spaced_at (codes ":") t) (λ _ u. mapped (src_pos s) (position_at u)))
+  place_at = source_at ▶ λ s. spaced_at (codes ":") ▷ position_at ⇒ src_pos s
 
   -- where `<` stands, an attribute between `<` and `>`; else none
   abbrev pub metadata_at : (Text → Outcome (AttrView A)) → Text → Outcome (Option (AttrView A))
-  metadata_at attr text = cond (begins (the 60) text) (followed (text_at (codes "<") text) (λ _ t. followed (space_at t) (λ _ u. followed (attr u) (λ a v.
-      followed (space_at v) (λ _ w. mapped (λ _. Some a) (text_at (codes ">") w)))))) (Read None [] text)
+  metadata_at attr = either (begins (the 60)) (word (codes "<") ▷ space_at ▷ attr ▶ λ a. space_at ▷ word (codes ">") ⇒ λ _. Some a) (nothing None)
 
   module _ (inner : Text → Outcome (Written A)) (more : Text → Outcome (WrittenRow A)) where
     -- white space behind a location, and those that follow it
     abbrev pub behind_location : Written A → Text → Outcome (WrittenRow A)
-    behind_location l text = followed (space_at text) (λ _ t. mapped (location l) (more t))
+    behind_location l = space_at ▷ more ⇒ location l
 
     -- where this is what a text is to its first location: none, or that one and those that follow it
     abbrev pub row_of : Outcome (Written A) → Text → Outcome (WrittenRow A)
@@ -68,26 +67,30 @@ module _ {A : Type 0} where
 
     -- `,` and one location more, as long as `,` stands
     abbrev pub more_at : Text → Outcome (WrittenRow A)
-    more_at text = cond (begins (the 44) text) (followed (text_at (codes ",") text) (λ _ t. followed (space_at t) (λ _ u. followed (inner u) behind_location))) (Read no_location [] text)
+    more_at = either (begins (the 44)) (word (codes ",") ▷ space_at ▷ inner ▶ behind_location) (nothing no_location)
 
     -- several locations as one
     abbrev pub fused_at : (Text → Outcome (AttrView A)) → Text → Outcome (Written A)
-    fused_at attr text = followed (text_at (codes "fused") text) (λ _ t. followed (space_at t) (λ _ u. followed (metadata_at attr u) (λ m v.
-        followed (text_at (codes "[") v) (λ _ w. followed (space_at w) (λ _ x. followed (row_at x) (λ ls y. mapped (λ _. fused m ls) (text_at (codes "]") y)))))))
+    fused_at attr = word (codes "fused") ▷ space_at ▷ metadata_at attr ▶ λ m. word (codes "[") ▷ space_at ▷ row_at ▶ λ ls. word (codes "]") ⇒ λ _. fused m ls
 
     -- a name for a location
     abbrev pub named_at : Text → Outcome (Written A)
-    named_at text = followed (name_at text) (λ name t. followed (inner t) (λ l u. mapped (λ _. named name l) (text_at (codes ")") u)))
+    named_at = name_at ▶ λ name. inner ▶ λ l. word (codes ")") ⇒ λ _. named name l
 
     -- a callee's location and its caller's
     abbrev pub call_site_at : Text → Outcome (Written A)
-    call_site_at text = followed (text_at (codes "callsite") text) (λ _ t. followed (spaced_at (codes "(") t) (λ _ u. followed (inner u) (λ callee v.
-        followed (spaced_at (codes "at") v) (λ _ w. followed (inner w) (λ caller x. mapped (λ _. call_site callee caller) (spaced_at (codes ")") x))))))
+    call_site_at = word (codes "callsite") ▷ spaced_at (codes "(") ▷ inner ▶ λ callee.
+        spaced_at (codes "at") ▷ inner ▶ λ caller. spaced_at (codes ")") ⇒ λ _. call_site callee caller
 
     -- a location of the kind that its first character names
     abbrev pub kind_at : (Text → Outcome (AttrView A)) → Text → Outcome (Written A)
-    kind_at attr text = cond (begins begins_source text) (place_at text) (cond (begins (the 102) text) (fused_at attr text) (cond (begins (the 110) text) (named_at text)
-        (cond (begins (the 99) text) (call_site_at text) (cond (begins (the 63) text) (mapped (λ _. unknown) (text_at (codes "?") text)) (Missing (Unexpected (first_of text) ALocation))))))
+    kind_at attr =
+        either (begins begins_source) place_at
+        (either (begins (the 102)) (fused_at attr)
+        (either (begins (the 110)) named_at
+        (either (begins (the 99)) call_site_at
+        (either (begins (the 63)) (word (codes "?") ⇒ λ _. unknown)
+        (λ text. Missing (Unexpected (first_of text) ALocation))))))
 
   module _ (attr : Text → Outcome (AttrView A)) where
     abbrev mutual

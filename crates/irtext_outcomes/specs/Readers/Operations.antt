@@ -3,11 +3,12 @@ use Rattle.std.specs.Prelude.{ℕ, cond, is_some, List, Option, Some, None, []}
 use Rattle.irtext_base.specs.Text.{Text}
 use Rattle.irtext_base.specs.Format.{Id}
 use Rattle.irtext_base.specs.Faults.{UnregisteredDialect, UnregisteredOp}
-use Rattle.irtext_base.specs.Answers.{Outcome, Read, Missing, Bad, followed, mapped}
+use Rattle.irtext_base.specs.Answers.{Outcome, Read, Missing, Bad}
 use Rattle.irtext_base.specs.Dialects.{Table}
 use Rattle.irtext_base.specs.DialectTable as table
 use Rattle.irtext_base.specs.DialectTable.{dialect_of}
 use Rattle.irtext_base.specs.Locations.{AttrView}
+use Rattle.irtext_read.specs.Infix.{◌▷◌, ◌▶◌, ◌⇒◌}
 use Rattle.irtext_read.specs.Tokens.{id_at}
 use Rattle.irtext_grammar.specs.Contexts.Formats.{op_id, format_of, isolated}
 use Rattle.irtext_outcomes.specs.Readers.Positions.{space_at}
@@ -42,8 +43,8 @@ module _ {A : Type 0} (dialects : List (Text × Table)) (attr : Text → Outcome
 
   -- an operation, its mark by this reader
   abbrev pub operation_by : (Text → Outcome (Option ℕ)) → Text → Outcome (ReadOp A)
-  operation_by mark text = followed (led_id_at dialects text) (λ id t. followed (body_of id t) (λ pieces u. followed (space_at u) (λ _ v. mapped (operation_with id pieces) (mark v))))
+  operation_by mark = led_id_at dialects ▶ λ id. body_of id ▶ λ pieces. space_at ▷ mark ⇒ operation_with id pieces
 
   -- an operation with its mark
   abbrev pub root_at : Text → Outcome (ReadOp A)
-  root_at text = operation_by mark_at text
+  root_at = operation_by mark_at

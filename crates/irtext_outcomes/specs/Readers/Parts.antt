@@ -3,8 +3,9 @@ use Rattle.std.specs.Prelude.{ℕ, Bool, true, false, cond, Option, Some, None, 
 use Rattle.std.specs.Char.{is_whitespace}
 use Rattle.irtext_base.specs.Text.{Text, begins, front, after_space}
 use Rattle.irtext_base.specs.Reading.{the}
-use Rattle.irtext_base.specs.Answers.{Outcome, Read, prefixed, followed, mapped}
-use Rattle.irtext_read.specs.Tokens.{text_at, identifier_at, number_at}
+use Rattle.irtext_base.specs.Answers.{Outcome, prefixed}
+use Rattle.irtext_read.specs.Infix.{word, nothing, either, ◌▷◌, ◌⇒◌}
+use Rattle.irtext_read.specs.Tokens.{identifier_at, number_at}
 use Rattle.irtext_outcomes.specs.Readers.Positions.{space_at}
 
 -- a text without its first character
@@ -14,19 +15,19 @@ without_first (c ∷ text) = text
 
 -- `@` and a name
 abbrev pub symbol_at : Text → Outcome Text
-symbol_at text = followed (text_at (codes "@") text) (λ _ t. identifier_at t)
+symbol_at = word (codes "@") ▷ identifier_at
 
 -- a region without blocks
 abbrev pub braces_at : Text → Outcome ⊤
-braces_at text = followed (text_at (codes "{") text) (λ _ t. followed (space_at t) (λ _ u. text_at (codes "}") u))
+braces_at = word (codes "{") ▷ space_at ▷ word (codes "}")
 
 -- `!` and an index
 abbrev pub index_at : Text → Outcome ℕ
-index_at text = followed (text_at (codes "!") text) (λ _ t. number_at t)
+index_at = word (codes "!") ▷ number_at
 
 -- a mark, where one stands
 abbrev pub mark_at : Text → Outcome (Option ℕ)
-mark_at text = cond (begins (the 33) text) (mapped Some (index_at text)) (Read None [] text)
+mark_at = either (begins (the 33)) (index_at ⇒ Some) (nothing None)
 
 -- the characters in front of an operation's id: white space, and `=` with white space where it stands, since there are no result names
 abbrev pub lead_of : Text → Text

@@ -1,20 +1,20 @@
 -- What a text reads as, where a line and a column stand, with each fault's cause and place.
 use Rattle.std.specs.Prelude.{ℤ, codes, ⊤}
 use Rattle.irtext_base.specs.Text.{Text}
-use Rattle.irtext_base.specs.Answers.{Outcome, followed, mapped}
+use Rattle.irtext_base.specs.Answers.{Outcome}
+use Rattle.irtext_read.specs.Infix.{word, ◌▷◌, ◌▶◌, ◌⇒◌}
 pub use Rattle.irtext_read.specs.Tokens.{space_at}
-use Rattle.irtext_read.specs.Tokens.{text_at, integer_at}
+use Rattle.irtext_read.specs.Tokens.{integer_at}
 use Rattle.irtext_base.specs.declared.parsable.position.SourcePosition.{SourcePosition}
 
 -- a fixed text with white space round it
 abbrev pub spaced_at : Text → Text → Outcome ⊤
-spaced_at word text = followed (space_at text) (λ _ t. followed (text_at word t) (λ _ u. space_at u))
+spaced_at w = space_at ▷ word w ▷ space_at
 
 -- a word, `:` and a number
 abbrev pub labelled_at : Text → Text → Outcome ℤ
-labelled_at word text = followed (text_at word text) (λ _ t. followed (spaced_at (codes ":") t) (λ _ u. integer_at u))
+labelled_at w = word w ▷ spaced_at (codes ":") ▷ integer_at
 
 -- a line and a column
 abbrev pub position_at : Text → Outcome SourcePosition
-position_at text = followed (labelled_at (codes "line") text) (λ line t. followed (spaced_at (codes ",") t) (λ _ u.
-    mapped (λ column. record { line = line; column = column }) (labelled_at (codes "column") u)))
+position_at = labelled_at (codes "line") ▶ λ line. spaced_at (codes ",") ▷ labelled_at (codes "column") ⇒ λ column. record { line = line; column = column }

@@ -4,24 +4,24 @@ use Rattle.irtext_base.specs.Text.{Text, begins, after_space}
 use Rattle.irtext_base.specs.Reading.{the}
 use Rattle.irtext_base.specs.Format.{has}
 use Rattle.irtext_base.specs.Faults.{UnknownIndex}
-use Rattle.irtext_base.specs.Answers.{Outcome, Read, Missing, Bad, followed, mapped}
-use Rattle.irtext_read.specs.Tokens.{text_at}
+use Rattle.irtext_base.specs.Answers.{Outcome, Read, Missing, Bad}
 use Rattle.irtext_base.specs.Locations.{AttrView}
 use Rattle.irtext_base.specs.Paths.{Written}
 use Rattle.irtext_outcomes.specs.Readers.Locations.{location_at}
 use Rattle.irtext_outcomes.specs.Readers.Positions.{space_at, spaced_at}
 use Rattle.irtext_outcomes.specs.Readers.Parts.{index_at}
+use Rattle.irtext_read.specs.Infix.{word, nothing, either, ◌▷◌, ◌▶◌, ◌⇒◌}
 
 module _ {A : Type 0} (attr : Text → Outcome (AttrView A)) where
   -- an entry's location, where one stands
   abbrev pub entry_location_at : Text → Outcome (Option (Written A))
-  entry_location_at text = cond (begins (the 64) text) (followed (text_at (codes "@[") text) (λ _ t. followed (space_at t) (λ _ u. followed (location_at attr u) (λ l v.
-      followed (spaced_at (codes "]") v) (λ _ w. followed (text_at (codes ",") w) (λ _ x. mapped (λ _. Some l) (space_at x))))))) (Read None [] text)
+  entry_location_at = either (begins (the 64))
+      (word (codes "@[") ▷ space_at ▷ location_at attr ▶ λ l. spaced_at (codes "]") ▷ word (codes ",") ▷ space_at ⇒ λ _. Some l)
+      (nothing None)
 
   -- what an entry says behind its index: a location or none, and no attribute
   abbrev pub content_at : Text → Outcome (Option (Written A))
-  content_at text = followed (spaced_at (codes "=") text) (λ _ t. followed (entry_location_at t) (λ l u. followed (text_at (codes "[") u) (λ _ v.
-      followed (space_at v) (λ _ w. mapped (λ _. l) (text_at (codes "]") w)))))
+  content_at = spaced_at (codes "=") ▷ entry_location_at ▶ λ l. word (codes "[") ▷ space_at ▷ word (codes "]") ⇒ λ _. l
 
 -- an index that passes the test; another has no operation
 abbrev pub known_index : (ℕ → Bool) → Outcome ℕ → Outcome ℕ
@@ -31,7 +31,7 @@ known_index test (Bad cause upto) = Bad cause upto
 
 -- an entry: its index, which passes the test, and what it says
 abbrev pub entry_at : {A : Type 0} → (Text → Outcome (AttrView A)) → (ℕ → Bool) → Text → Outcome (ℕ × Option (Written A))
-entry_at attr test text = followed (known_index test (index_at text)) (λ i t. mapped (λ l. (i, l)) (content_at attr t))
+entry_at attr test = (λ text. known_index test (index_at text)) ▶ λ i. content_at attr ⇒ λ l. (i, l)
 
 -- the indices that the next entry may have: those of marks, but not those of earlier entries
 abbrev pub may_have : {X : Type 0} → List ℕ → List (ℕ × X) → ℕ → Bool
@@ -50,4 +50,4 @@ module _ {A : Type 0} (attr : Text → Outcome (AttrView A)) (marks : List ℕ) 
 
 -- the section's first word, with white space round it
 abbrev pub heading_at : Text → Outcome ⊤
-heading_at text = spaced_at (codes "outlined_attributes:") text
+heading_at = spaced_at (codes "outlined_attributes:")

@@ -10,7 +10,7 @@ use Rattle.irtext_outcomes.specs.Readers.Roots.{noted}
 use Rattle.irtext_outcomes.proofs.Readers.OperationSteps.{mark_next, space_next, body_next, operation_missed, id_missed, read_accepts}
 use Rattle.irtext_outcomes.proofs.Readers.Rooted.{alone}
 use Rattle.irtext_outcomes.proofs.Readers.Steps.{Passed, begins_with, begins_refused, begun_by, spaced, more, refuses, refuses_seen, last_seen, starved}
-use Rattle.irtext_parse.proofs.ir.read.operation_parse.Goals as goal
+use Rattle.irtext_parse.proofs.ir.read.operation.operation_parse.Goals as goal
 
 pub returns-in_err-id-clause-refused : goal.returns-in_err-id-clause-refused
 returns-in_err-id-clause-refused g c =

@@ -1,7 +1,7 @@
 use Rattle.std.proofs.Common.{sym, ◌∙◌}
 use Rattle.irtext_outcomes.proofs.Readers.Steps.{lens}
 use Rattle.irtext_outcomes.proofs.Readers.Led.{lead_alone, lead_more}
-use Rattle.irtext_parse.proofs.ir.read.skip_lead.Goals as goal
+use Rattle.irtext_parse.proofs.ir.read.head.skip_lead.Goals as goal
 
 pub returns-then-not-next_is : goal.returns-then-not-next_is
 returns-then-not-next_is g c =

@@ -3,7 +3,7 @@ use Rattle.std.proofs.lemmas.Result.{err_from_is_err_and}
 use Rattle.irtext_outcomes.specs.Readers.Parts.{index_at, mark_at}
 use Rattle.irtext_base.specs.Answers.{mapped}
 use Rattle.irtext_outcomes.proofs.Readers.Steps.{lens, starts, last_seen, refuses_seen}
-use Rattle.irtext_parse.proofs.ir.read.mark_parse.Goals as goal
+use Rattle.irtext_parse.proofs.ir.read.mark.mark_parse.Goals as goal
 
 pub returns-in_err-index : goal.returns-in_err-index
 returns-in_err-index g c =

@@ -10,8 +10,8 @@ use Rattle.irtext_outcomes.proofs.Readers.SectionSteps.{noted_there, both_hold, 
 use Rattle.irtext_outcomes.proofs.Readers.NewPaths.{adds_kept}
 use Rattle.irtext_outcomes.proofs.Readers.Known.{refusal, demanded_refusal, reported_refusal, read_fine}
 use Rattle.irtext_outcomes.proofs.Readers.OperationSpares.{operation_spares}
-use Rattle.irtext_parse.proofs.ir.read.root_parse.Goals as goal
-use Rattle.irtext_parse.proofs.ir.read.root_parse.Goals.{then-not-config-via-then-not-config, then-not-config-via-else-not-config+then-not-has_marks}
+use Rattle.irtext_parse.proofs.ir.read.root.root_parse.Goals as goal
+use Rattle.irtext_parse.proofs.ir.read.root.root_parse.Goals.{then-not-config-via-then-not-config, then-not-config-via-else-not-config+then-not-has_marks}
 
 pub returns-in-Err-clause-refused : goal.returns-in-Err-clause-refused
 returns-in-Err-clause-refused g c =

@@ -1,0 +1,91 @@
+//! What stands in front of an operation, and its id.
+ghost use Rattle.std.specs.Prelude.{◌≡◌, cond, IsSome, IfOk};
+ghost use Rattle.irtext_base.specs.Answers.{Takes, DemandsOf};
+ghost use Rattle.irtext_base.specs.DialectTable.{registered};
+ghost use Rattle.irtext_base.specs.Faults.{id_of};
+ghost use Rattle.irtext_outcomes.specs.Readers.Parts.{lead_of, behind_lead, is_led};
+ghost use Rattle.irtext_outcomes.specs.Readers.MustRead.{MayRead};
+ghost use Rattle.irtext_outcomes.specs.Readers.Operations.{led_id_at};
+ghost use Rattle.irtext_outcomes.specs.Readers.Registered.{Registers};
+
+use irtext_base::base::{Context, OpId};
+use irtext_base::parsable::{CharStream, ParseResult, Place};
+use irtext_base::result::Cause;
+use irtext_base::text::{AttrText, IrText};
+use irtext_read::irfmt::faults::{demand, next_is, refuse, refuse_at};
+use irtext_read::irfmt::parsers::{id_parse, skip_white_space};
+
+/// Passes white space, and `=` with white space where it stands: an operation without results may begin so.
+fn skip_lead<S: CharStream>(stream: &mut S)
+    ensures { Takes S.view S.at (lead_of (S.view stream.old).rest) (behind_lead (S.view stream.old).rest) stream.old stream.new }
+{
+    skip_white_space(stream);
+    if !next_is(stream, '=') {
+        return;
+    }
+    let _ = stream.take();
+    skip_white_space(stream);
+}
+
+/// The same, and whether anything was passed.
+fn lead_parse<S: CharStream>(stream: &mut S) -> bool
+    ensures led { result ≡ is_led (lead_of (S.view stream.old).rest) }
+    ensures takes { Takes S.view S.at (lead_of (S.view stream.old).rest) (behind_lead (S.view stream.old).rest) stream.old stream.new }
+{
+    let place = stream.position();
+    skip_lead(stream);
+    !stream.text_since(place).is_empty()
+}
+
+/// The same answer, its fault committed where this is wanted.
+fn demand_if<S: CharStream, X, A>(
+    stream: &mut S,
+    wanted: bool,
+    answer: ParseResult<X, A>,
+) -> ParseResult<X, A>
+    ensures { cond wanted (DemandsOf S.view S.at answer stream.old result stream.new) ((result ≡ answer) × (stream.new ≡ stream.old)) }
+{
+    if wanted {
+        demand(stream, answer)
+    } else {
+        answer
+    }
+}
+
+/// The id, where its operation is registered. `start` is where the operation begins, `at` where its id does.
+fn registered<S: CharStream, T: IrText<A>, A: AttrText>(
+    stream: &mut S,
+    ctx: &Context<T, A>,
+    start: Place,
+    at: Place,
+    id: OpId,
+) -> ParseResult<OpId, A>
+    ensures { Registers S.view S.at ctx.now.dialects start at id stream.old result stream.new }
+{
+    if !ctx.has_dialect(&id.dialect) {
+        return Err(refuse_at(stream, at, Cause::UnregisteredDialect(id.dialect)));
+    }
+    if ctx.op_info(&id).is_none() {
+        return Err(refuse_at(stream, start, Cause::UnregisteredOp(id)));
+    }
+    Ok(id)
+}
+
+/// The id of a registered operation, behind what may stand in front of it.
+pub(crate) fn led_id_parse<S: CharStream, T: IrText<A>, A: AttrText>(
+    stream: &mut S,
+    ctx: &Context<T, A>,
+) -> ParseResult<OpId, A>
+    ensures read { MayRead S.view S.at id_of (led_id_at ctx.now.dialects) stream.old result stream.new }
+    ensures known { IfOk result (λ id. IsSome (registered ctx.now.dialects id)) }
+{
+    if stream.has_failed() {
+        return Err(refuse(stream, Cause::StreamFailed));
+    }
+    let start = stream.position();
+    let led = lead_parse(stream);
+    let at = stream.position();
+    let answer = id_parse(stream);
+    let id = demand_if(stream, led, answer)?;
+    registered(stream, ctx, start, at, id)
+}
