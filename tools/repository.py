@@ -99,7 +99,7 @@ class Function:
 
 
 HEAD = re.compile(r"^(\s*)(pub(?:\([^)]*\))? )?(?:(?:const|async|unsafe) )*fn (\w+)")
-GHOST = re.compile(r"^(\s+)ghost (\w+): \{")
+GHOST = re.compile(r"^\s+ghost (\w+)(:| =) \{")
 HOLDER = re.compile(r"^(\s*)(?:pub(?:\([^)]*\))? )?(impl\b|trait\b|macro_rules!)")
 CLAUSE = re.compile(r"(requires|ensures|decreases)\*?(?:\s+(\w+))?\s*\{")
 
@@ -161,7 +161,8 @@ def module_of(crate, path):
 
 
 def functions(crate, path):
-    """Returns the functions of a file, and the laws of its traits, in their order. Those in a macro are left out."""
+    """Returns the functions of a file in their order. A trait's or an impl's ghost members are one more, without a name, whose
+    clauses they are. What stands in a macro is left out."""
     text = text_of(path)
     lines = text.split("\n")
     found, doc, holders, start = [], [], [], 0
@@ -172,7 +173,7 @@ def functions(crate, path):
         holder = HOLDER.match(line)
         if holder:
             head = text[start : text.find("{", start)].strip()
-            holders.append((indent, re.sub(r"\s+", " ", head)))
+            holders.append((indent, re.sub(r"\s+", " ", head), number, " ".join(doc)))
         in_macro = any(it[1].startswith("macro_rules!") for it in holders)
         head, ghost = HEAD.match(line), GHOST.match(line)
         if head and not in_macro:
@@ -180,10 +181,14 @@ def functions(crate, path):
             found.append(
                 Function(head[3], path, number, module_of(crate, path), holders[-1][1] if holders else "", head[2] == "pub ", " ".join(doc), clauses_behind(text, at))
             )
-        elif ghost and holders and not in_macro and " trait " in f" {holders[-1][1]}":
+        elif ghost and holders and not in_macro:
             at = start + ghost.end() - 1
-            law = Clause("law", ghost[2], text[at + 1 : past_braces(text, at) - 1].strip())
-            found.append(Function(ghost[2], path, number, module_of(crate, path), holders[-1][1], False, "", [law]))
+            _, head, above, said = holders[-1]
+            same = [it for it in found if not it.name and it.line == above]
+            if not same:
+                same = [Function("", path, above, module_of(crate, path), head, False, said)]
+                found += same
+            same[0].clauses.append(Clause("ghost", ghost[1], text[at + 1 : past_braces(text, at) - 1].strip()))
         stripped = line.strip()
         if stripped.startswith("///"):
             doc.append(stripped[3:].strip())
