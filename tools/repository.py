@@ -2,6 +2,7 @@
 
 Everything is read from crates.txt and from the files as they stand, so a crate, a file or a folder that moves needs no change here.
 """
+import functools
 import os
 import re
 import sys
@@ -230,6 +231,22 @@ IMPORT = re.compile(r"(pub )?(?:ghost )?use\s+(Rattle\.[\w.'-]+?)(?:\.\{([^}]*)\
 START = re.compile(r"^(?:(?:abbrev|unfoldable|opaque|abstract) +)*(?:pub +)?(?:(data|record|codata) +)?([^\s:(){}]+)(?=\s|:|$)")
 BLOCKS = re.compile(r"^(?:(?:abbrev|unfoldable|opaque) +)*(?:mutual|module\b)")
 SKIPPED = re.compile(r"^(?:pub )?(?:use|mod)\b|^infix|^--")
+
+
+@functools.lru_cache(None)
+def named_in(path):
+    """Returns the modules that a file declares, in its order."""
+    return re.findall(r"^(?:pub )?mod ([\w'-]+)", text_of(path), re.M) if os.path.isfile(path) else []
+
+
+def place_of(name):
+    """Returns where a module stands in the order of specs/Lib.antt, and in those of the folders that it is in."""
+    _, crate, _, *parts = name.split(".")
+    folder, places = os.path.join(TOP, "crates", crate, "specs"), []
+    for at, part in enumerate(parts):
+        names = named_in(os.path.join(folder, *parts[:at]) + ".antt" if at else os.path.join(folder, "Lib.antt"))
+        places.append(names.index(part) if part in names else len(names))
+    return places, name
 
 
 def imports_of(text):
