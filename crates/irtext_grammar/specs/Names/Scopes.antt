@@ -116,6 +116,7 @@ module _ {N : Type 0} (eq : N → N → Bool) where
   facts (does a k) = fact_of a ⊕ facts k
   facts (within iso p body k) = outward iso (facts body) ⊕ facts k
 
+  -- a definition fails outside of every scope, and where its name is defined already
   abbrev pub defined_before : {P : Type 0} → Option (List (Fact N)) → Word N P → List (Failure N P)
   defined_before None w = fail (NoActiveScope w.name) w.at
   defined_before (Some fs) w = cond (is_some (lookup w.name fs)) (fail (MultipleDefinitions w.name) w.at) []

@@ -57,10 +57,11 @@ module _ {A : Type 0} where
   Makes view old (Ok l) new = (location_view l ≡ view) × (new ≡ old)
   Makes view old (Err fault) new = Starves itself replaced old fault new
 
-  -- locations in a row: whether their paths are among so many, and what their texts say
+  -- whether the paths of locations in a row are among so many
   abbrev pub known_row : ℕ → Vec (Location A) Global → Bool
   known_row count ls = row_known count (in_row (map location_view ls.items))
 
+  -- locations in a row as their texts say them over these paths
   abbrev pub row_over : List (List ℕ) → Vec (Location A) Global → LocationsOf (Option (List ℕ)) A
   row_over paths ls = row_sourced (path_of paths) (in_row (map location_view ls.items))
 

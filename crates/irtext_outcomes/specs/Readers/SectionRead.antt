@@ -60,11 +60,12 @@ abbrev pub Faults : {A : Type 0} → (Fault → Text → Type 0) → StreamView 
 Faults Allowed old fault = (fault_of fault.cause ≡ Memory) ⊎ ((cause : Fault) × (upto : Text) × Allowed cause upto × FaultAt cause upto old fault)
 
 module _ {A : Type 0} where
-  -- what an entry gives: whether its files' paths are among so many, and what its text says over these paths
+  -- whether the paths of the files of what an entry gives are among so many
   abbrev pub known_given : ℕ → Option (Location A) → Bool
   known_given count None = true
   known_given count (Some l) = known_location count l
 
+  -- what an entry gives, as its text says it over these paths
   abbrev pub given_over : List (List ℕ) → Option (Location A) → Option (Written A)
   given_over paths l = option_map (location_over paths) l
 
@@ -78,10 +79,11 @@ module _ {A : Type 0} where
   entries_kept paths [] = paths
   entries_kept paths (e ∷ es) = entries_kept (given_kept paths e.1) es
 
-  -- the files' paths of an entry are among so many, and what its text says
+  -- whether the paths of the files of an entry are among so many
   abbrev pub known_entry : ℕ → ℕ × Option (Location A) → Bool
   known_entry count e = known_given count e.1
 
+  -- an entry as its text says it over these paths
   abbrev pub entry_over : List (List ℕ) → ℕ × Option (Location A) → ℕ × Option (Written A)
   entry_over paths e = (e.0, given_over paths e.1)
 
