@@ -16,7 +16,8 @@ use irtext_base::result::Cause;
 use irtext_base::text::{AttrText, IrText};
 use irtext_read::irfmt::faults::refuse;
 pub use irtext_read::parsable::{
-    IntoParseResult, State, StateStream, StreamLocation, parse_from_str, state_stream_from_iterator,
+    IntoParseResult, OwnStream, State, StateStream, StreamLocation, parse_from_str,
+    state_stream_from_iterator,
 };
 
 /// What is read from a stream with a context.

@@ -1,20 +1,27 @@
 -- Readers of attributes.
-use Rattle.std.proofs.Common.{◌≡◌, ℕ, ◌<◌, Bool, true, false, cond, Option, Some, None, Ok, Err, [], ◌∷◌, ◌++◌, codes, refl, sym, ◌∙◌, arith}
+use Rattle.std.proofs.Common.{◌≡◌, ℕ, ◌<◌, Bool, true, false, cond, Option, Some, None, Result, Ok, Err, [], ◌∷◌, ◌++◌, codes, List, refl, sym, ◌∙◌, ap, subst, arith}
 use Rattle.std.proofs.lemmas.Bool.Decides.{nat_tests}
+use Rattle.std.proofs.lemmas.Slice.Eq.{bytes_eq-Decides}
+use Rattle.std.specs.Str.{encode_utf8_all}
 use Rattle.irtext_base.specs.Text.{Text, begins, front, after, begins_word, in_word, in_dotted}
 use Rattle.irtext_base.specs.Reading.{the}
 use Rattle.irtext_base.specs.Stream.{first_of}
 use Rattle.irtext_base.specs.Faults.{AnIdentifier, Unexpected}
-use Rattle.irtext_base.specs.Answers.{Outcome, Read, Missing, Bad, mapped}
+use Rattle.irtext_base.specs.Answers.{Outcome, Read, Missing, Bad, Takes, Gives, mapped}
+use Rattle.irtext_base.specs.Places.{StandsBehind, IsPlaceOf}
 use Rattle.irtext_base.specs.declared.parsable.fault.ParseFault.{ParseFault}
+use Rattle.irtext_base.specs.declared.parsable.position.Place.{Place}
 use Rattle.irtext_base.proofs.Along.{front_after}
-use Rattle.irtext_base.proofs.Compose.{gives_mapped, refuses_mapped}
+use Rattle.irtext_base.proofs.Compose.{gives_mapped, refuses_mapped, seen_after, takes_stands}
 use Rattle.irtext_read.specs.Tokens.{word_at, text_at, identifier_at}
-use Rattle.irtext_read.specs.MustRead.{MayRead}
+use Rattle.irtext_read.specs.Infix.{◌▷◌, word as fixed}
+use Rattle.irtext_read.specs.MustRead.{MayRead, MustRead}
 use Rattle.irtext_base.specs.Locations.{given_names, ident, own}
 use Rattle.irtext_read.specs.AttrTexts.{leads, given_name_at, given_names_at, ident_at, attr_at}
 use Rattle.irtext_read.proofs.Grammar.{literal_from_at, text_at-literal}
-use Rattle.irtext_read.proofs.Steps.{Lens}
+use Rattle.irtext_read.proofs.SetBack.{set_within}
+use Rattle.irtext_read.proofs.Steps.{Lens, begins_with, begun_by, last}
+use Rattle.irtext_read.proofs.Words.{encodes-front, taken_since}
 
 pub in_dotted_ascii : (c : ℕ) → in_dotted c ≡ true → c < 128
 in_dotted_ascii c e = grind (arith, nat_tests)
@@ -68,16 +75,51 @@ module _ {S X Y V W A : Type 0} (l : Lens S) (g : X → V) (see : Y → X) (sees
 
 module _ {A : Type 0} (reading : Text → Outcome A) (text : Text) where
   -- where the word of given names leads, they are read
-  pub names_lead : true ≡ leads (codes "builtin.given_names") text → attr_at reading text ≡ mapped given_names (given_names_at text)
+  pub names_lead : leads (codes "builtin.given_names") text ≡ true → attr_at reading text ≡ mapped given_names (given_names_at text)
   unfolding attr_at
-  names_lead e = rw (← e) refl
+  names_lead e = rw e refl
 
   -- where the word of an identifier leads, that is read
-  pub ident_leads : false ≡ leads (codes "builtin.given_names") text → true ≡ leads (codes "builtin.identifier") text → attr_at reading text ≡ mapped ident (ident_at text)
+  pub ident_leads : leads (codes "builtin.given_names") text ≡ false → leads (codes "builtin.identifier") text ≡ true → attr_at reading text ≡ mapped ident (ident_at text)
   unfolding attr_at
-  ident_leads e d = rw (← e, ← d) refl
+  ident_leads e d = rw (e, d) refl
 
   -- and else the caller's own
-  pub own_leads : false ≡ leads (codes "builtin.given_names") text → false ≡ leads (codes "builtin.identifier") text → attr_at reading text ≡ mapped own (reading text)
+  pub own_leads : leads (codes "builtin.given_names") text ≡ false → leads (codes "builtin.identifier") text ≡ false → attr_at reading text ≡ mapped own (reading text)
   unfolding attr_at
-  own_leads e d = rw (← e, ← d) refl
+  own_leads e d = rw (e, d) refl
+
+module _ {S : Type 0} (l : Lens S) where
+  -- the dotted word was passed
+  abbrev pub Dotted : S → S → Type 0
+  Dotted old mid = Takes l.view l.at (front in_dotted (l.view old).rest) (after in_dotted (l.view old).rest) old mid
+
+  -- the text since then is that word
+  pub dotted_word : (old mid : S) (place : Place) (bytes : List ℕ) → Dotted old mid → StandsBehind place (l.view old).passed → ((passed taken : Text) → passed ++ taken ≡ (l.view mid).passed → StandsBehind place passed → bytes ≡ encode_utf8_all taken) → bytes ≡ front in_dotted (l.view old).rest
+  dotted_word old mid place bytes k p h = taken_since l.view l.at l.view_at l.at_at old mid place bytes _ _ k p h ∙ encodes-front in_dotted in_dotted_ascii (l.view old).rest
+
+  -- a word that leads is the one that was passed
+  pub led_by : (word : Text) (old mid : S) → leads word (l.view old).rest ≡ true → Dotted old mid → Takes l.view l.at word (after in_dotted (l.view old).rest) old mid
+  led_by word old mid e k = subst (λ z. Takes l.view l.at z (after in_dotted (l.view old).rest) old mid) ((bytes_eq-Decides (front in_dotted (l.view old).rest) word).0 e) k
+
+  -- the place in front of what was passed is one of the stream's
+  pub place_before : (old mid : S) (place : Place) → Dotted old mid → StandsBehind place (l.view old).passed → IsPlaceOf place (l.view mid)
+  place_before old mid place k p = record {
+    passed = (l.view old).passed;
+    rest = (l.view old).rest;
+    same = set_within l old mid (takes_stands l.view l.at l.view_at l.at_at old mid _ _ k);
+    stands = p;
+  }
+
+  -- a fixed text that was passed was read
+  pub word_read : {A : Type 0} (word rest : Text) (old mid : S) → (l.view old).failed ≡ false → Takes l.view l.at word rest old mid → MayRead {A = A} l.view l.at (λ u. u) (text_at word) old (Ok tt) mid
+  word_read word rest old mid f k =
+      let g : Gives l.view l.at (text_at word (l.view old).rest) old tt mid = rw (text_at-literal word (l.view old).rest rest (sym k.same)) (refl, k) in
+      record { answers = rw f g }
+
+  -- what must stand behind a fixed text that was passed is read, and the whole with it
+  pub behind_word : {V W A : Type 0} {sees : W → V} {next : Text → Outcome V} {word rest : Text} {old mid new : S} {r : Result W (ParseFault A)} → (l.view old).failed ≡ false → Takes l.view l.at word rest old mid → ((l.view mid).failed ≡ false → MustRead l.view l.at sees next mid r new) → MayRead l.view l.at sees (fixed word ▷ next) old r new
+  behind_word {A = A} {next = next} {word = word} {rest = rest} {old = old} {mid = mid} f k h =
+      let fine : (l.view mid).failed ≡ false = ap (λ v. v.failed) (seen_after l.view l.at l.view_at l.at_at old mid word rest k) ∙ f in
+      let b = word_read {A = A} word rest old mid f k in
+      begun_by l (λ _ t. next t) b (last l (begins_with l (λ _ t. next t) b) (h fine))

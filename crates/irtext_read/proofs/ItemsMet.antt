@@ -1,17 +1,15 @@
 -- Where each call of an item answers what a relation says of a text, so does the list of items.
-use Rattle.std.proofs.Common.{◌≡◌, ℕ, ◌+◌, ◌<◌, Bool, true, false, Result, Ok, Err, List, [], ◌∷◌, ◌++◌, map, length, refl, sym, ◌∙◌, ap, append_assoc, append-nil, ◌⊎◌, inl, inr, subst, arith, length-append}
+use Rattle.std.proofs.Common.{◌≡◌, ◌<◌, true, false, Result, Ok, Err, List, [], ◌∷◌, ◌++◌, map, length, refl, sym, ◌∙◌, ap, append-nil, ◌⊎◌, inl, inr, subst, arith, length-append}
 use Rattle.std.specs.Char.{is_whitespace}
-use Rattle.irtext_base.specs.Text.{Text, begins, front, after_space}
-use Rattle.irtext_base.specs.Reading.{the}
-use Rattle.irtext_base.specs.Stream.{StreamView, IsAt, advanced, behind}
+use Rattle.irtext_base.specs.Text.{Text, after_space}
+use Rattle.irtext_base.specs.Stream.{StreamView}
 use Rattle.irtext_base.specs.Faults.{Fault, EmptyItem}
-use Rattle.irtext_base.specs.Answers.{Outcome, Read, Missing, Bad, Takes, Starves, Commits, Passes, Outcomes, Refused, Meets}
-use Rattle.irtext_base.specs.Answers.{starved as no_memory, missing as not_there, bad as not_good}
+use Rattle.irtext_base.specs.Answers.{Outcome, Read, Missing, Bad, Takes, Starves, Commits, Passes}
 use Rattle.irtext_base.specs.declared.parsable.fault.ParseFault.{ParseFault}
 use Rattle.irtext_base.proofs.Along.{front_after}
-use Rattle.irtext_base.proofs.Compose.{seen_after, stands_after, takes_more, starves_after, commits_after}
-use Rattle.irtext_read.specs.Lists.{Items, missing, bad, empty, no_room, more, prepended, skipped, spaces, Skips}
-use Rattle.irtext_read.specs.ListTexts.{item_before, ItemsAt, none_more, one_bad, one_empty, one_more}
+use Rattle.irtext_base.proofs.Compose.{seen_after, takes_more, starves_after, commits_after}
+use Rattle.irtext_read.specs.Lists.{Items, missing, bad, empty, no_room, more, prepended, skipped, spaces}
+use Rattle.irtext_read.specs.ListTexts.{ItemsAt, none_more, one_bad, one_empty, one_more}
 
 module _ {S X Y A : Type 0} (view : S → StreamView) (at : S → StreamView → S) (see : X → Y) (R : Text → Outcome Y → Type 0) where
   -- what a call on a stream that has not failed answers

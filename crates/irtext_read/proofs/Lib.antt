@@ -4,6 +4,7 @@ pub mod Numbers
 pub mod Words
 pub mod Spelling
 pub mod Steps
+pub mod SetBack
 pub mod Numerals
 pub mod QuotedNumbers
 pub mod QuotedUnits

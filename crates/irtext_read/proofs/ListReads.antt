@@ -1,11 +1,9 @@
 -- Where each call of an item reads what a function says, a list with a separator reads what another says of it.
-use Rattle.std.proofs.Common.{◌≡◌, ℕ, Bool, true, false, Result, Ok, Err, List, [], ◌++◌, map, refl, sym, subst, ◌⊎◌, inl, inr, Vec}
+use Rattle.std.proofs.Common.{◌≡◌, ℕ, Bool, true, false, Result, Ok, Err, List, map, refl, sym, subst, inl, inr, Vec}
 use Rattle.std.specs.Fn.{CalledAtMut, Mut}
 use Rattle.std.specs.Borrow.{MutBor}
 use Rattle.irtext_base.specs.Text.{Text}
-use Rattle.irtext_base.specs.Stream.{StreamView}
-use Rattle.irtext_base.specs.Faults.{Fault, Failed}
-use Rattle.irtext_base.specs.Answers.{Outcome, Read, Missing, Bad, Takes, Gives, Starves, Refuses, Commits, Answers, unless_failed}
+use Rattle.irtext_base.specs.Answers.{Outcome, Read, Missing, Bad, Gives, Refuses, Answers, unless_failed}
 use Rattle.irtext_base.specs.declared.parsable.fault.ParseFault.{ParseFault}
 use Rattle.irtext_read.specs.Lists.{Calls, Separated, UnlessFailed, listed}
 use Rattle.irtext_read.specs.ListOutcomes.{separated_at}

@@ -1,15 +1,15 @@
 -- Lists keep the rules that their items keep.
-use Rattle.std.proofs.Common.{◌≡◌, ℕ, Bool, true, false, Option, Some, None, Result, Ok, Err, List, [], ◌∷◌, ◌++◌, Vec, refl, sym, ◌∙◌, ap, subst, append_assoc, append-nil}
+use Rattle.std.proofs.Common.{◌≡◌, ℕ, Bool, true, false, Result, Ok, Err, List, [], ◌∷◌, ◌++◌, Vec, refl, sym, ◌∙◌, ap, subst, append_assoc, append-nil}
 use Rattle.std.specs.Fn.{Mut}
 use Rattle.std.specs.Borrow.{MutBor}
 use Rattle.std.specs.Char.{is_whitespace}
-use Rattle.irtext_base.specs.Text.{Text, begins, after_space}
+use Rattle.irtext_base.specs.Text.{Text, begins}
 use Rattle.irtext_base.specs.Stream.{StreamView, advanced, advanced_by, after_failure}
 use Rattle.irtext_base.specs.Faults.{Fault}
 use Rattle.irtext_base.specs.Answers.{Stands, Starves, Commits, Passes}
 use Rattle.irtext_base.specs.declared.parsable.fault.ParseFault.{ParseFault}
 use Rattle.irtext_base.proofs.Along.{front_after}
-use Rattle.irtext_read.specs.Lists.{Calls, AlwaysKeepsRules, KeepsRules, HandsOn, Insisted, Skips, Opens, Items, missing, bad, empty, no_room, more, SpacedItems, Tail, none, insisted, no_more_room, next, TailAfter, Separated, no_item, bad_item, no_first_room, an_item, Delimited, no_left, bad_inside, no_right, closed, Spaced, read, refused, refused_behind, listed, prepended, skipped, spaces}
+use Rattle.irtext_read.specs.Lists.{Calls, AlwaysKeepsRules, KeepsRules, HandsOn, Insisted, Skips, Opens, Items, missing, bad, empty, no_room, more, SpacedItems, Tail, none, insisted, no_more_room, next, Separated, no_item, bad_item, no_first_room, an_item, Delimited, no_left, bad_inside, no_right, closed, Spaced, read, refused, refused_behind, listed, prepended, skipped, spaces}
 use Rattle.irtext_read.proofs.ListSteps.{rules_at}
 
 -- what one step does to the parts of a stream

@@ -1,5 +1,5 @@
 -- One more item of a list.
-use Rattle.std.proofs.Common.{◌≡◌, ℕ, ◌+◌, ◌<◌, ◌≤◌, Bool, true, false, Some, Result, Ok, Err, List, [], ◌∷◌, ◌++◌, length, refl, sym, ◌∙◌, ap, subst, append_assoc, append-nil, length-append, arith}
+use Rattle.std.proofs.Common.{◌≡◌, ℕ, ◌<◌, ◌≤◌, Bool, true, false, Some, Result, Ok, Err, List, [], ◌∷◌, ◌++◌, length, refl, sym, ◌∙◌, ap, subst, append_assoc, append-nil, length-append, arith}
 use Rattle.std.specs.Fn.{Mut, Called}
 use Rattle.std.specs.Borrow.{MutBor}
 use Rattle.std.specs.Bool.{MatchBool, ◌==◌}
@@ -9,12 +9,11 @@ use Rattle.std.proofs.lemmas.Bool.Decides.{nat_tests}
 use Rattle.std.proofs.lemmas.Str.{length-le-encodes}
 use Rattle.irtext_base.specs.Text.{Text, begins, front, after, after_space}
 use Rattle.irtext_base.specs.Reading.{the}
-use Rattle.irtext_base.specs.Stream.{StreamView, first_of, advanced, after_failure}
+use Rattle.irtext_base.specs.Stream.{StreamView, first_of, after_failure}
 use Rattle.irtext_base.specs.Faults.{Fault, fault_of}
 use Rattle.irtext_base.specs.Answers.{Takes, Passes, Commits, Demands}
 use Rattle.irtext_base.specs.declared.parsable.fault.ParseFault.{ParseFault}
 use Rattle.irtext_base.proofs.Along.{front_after, falls}
-use Rattle.irtext_base.proofs.Bytes.{first_some}
 use Rattle.irtext_read.proofs.Spelling.{takes_none_is}
 use Rattle.irtext_read.specs.Lists.{Calls, AlwaysKeepsRules, KeepsRules, UnlessFailed, prepended, skipped, HandsOn, Skips, Opens}
 

@@ -1,11 +1,11 @@
 -- How far a reader of a quoted text has come.
-use Rattle.std.proofs.Common.{◌≡◌, ℕ, ◌+◌, ◌<◌, Bool, true, false, Some, None, Result, Ok, length, List, [], ◌∷◌, ◌++◌, codes, refl, sym, ◌∙◌, ap, subst, append-nil, length-append, arith, ◌⊎◌, inl, inr}
+use Rattle.std.proofs.Common.{◌≡◌, ℕ, ◌<◌, Bool, true, false, Some, None, Result, Ok, length, List, [], ◌∷◌, ◌++◌, codes, refl, sym, ◌∙◌, ap, subst, append-nil, length-append, arith, ◌⊎◌, inl, inr}
 use Rattle.std.proofs.lemmas.Str.{encodes-append}
 use Rattle.std.specs.Char.{is_ascii_hexdigit, encode_utf8}
 use Rattle.std.specs.Str.{encode_utf8_all}
 use Rattle.irtext_base.specs.Text.{Text, begins, front, after}
 use Rattle.irtext_base.specs.Reading.{the}
-use Rattle.irtext_base.specs.Stream.{StreamView, IsAt, first_of, advanced, advanced_by, behind, after_failure}
+use Rattle.irtext_base.specs.Stream.{StreamView, IsAt, first_of, advanced, advanced_by, after_failure}
 use Rattle.irtext_base.specs.Faults.{Fault, Memory, Word, Unexpected, AHexadecimalDigit, AnEscapedCharacter, BadEscape, BadUnicodeEscape, fault_of}
 use Rattle.irtext_base.specs.Answers.{Outcome, Read, Missing, Bad, Takes, Starves, Commits, Answers, Gives, Refuses, demanded, prefixed, mapped, followed, unless_failed}
 use Rattle.irtext_base.specs.declared.parsable.fault.ParseFault.{ParseFault}

@@ -1,15 +1,14 @@
 -- Where each call of an item answers what a relation says of a text, so does the list of items with a separator.
-use Rattle.std.proofs.Common.{◌≡◌, ℕ, Bool, true, false, Result, Ok, Err, List, [], ◌∷◌, ◌++◌, map, refl, sym, ◌∙◌, ap, append-nil, ◌⊎◌, inl, inr, subst}
+use Rattle.std.proofs.Common.{◌≡◌, ℕ, true, false, Result, Ok, Err, List, [], ◌∷◌, ◌++◌, map, refl, sym, ◌∙◌, ap, append-nil, ◌⊎◌, inl, inr, subst}
 use Rattle.std.specs.Char.{is_whitespace}
-use Rattle.irtext_base.specs.Text.{Text, begins, front, after_space}
-use Rattle.irtext_base.specs.Reading.{the}
-use Rattle.irtext_base.specs.Stream.{StreamView, IsAt, behind, after_failure}
+use Rattle.irtext_base.specs.Text.{Text, after_space}
+use Rattle.irtext_base.specs.Stream.{StreamView, behind, after_failure}
 use Rattle.irtext_base.specs.Faults.{Fault, fault_of}
 use Rattle.irtext_base.specs.Answers.{Outcome, Read, Missing, Bad, Takes, Stands, Starves, Commits, Passes}
 use Rattle.irtext_base.specs.declared.parsable.fault.ParseFault.{ParseFault}
 use Rattle.irtext_base.proofs.Along.{front_after}
 use Rattle.irtext_base.proofs.Compose.{seen_after, takes_more, starves_after, commits_after}
-use Rattle.irtext_read.specs.Lists.{Tail, none, insisted, no_more_room, next, Separated, no_item, bad_item, no_first_room, an_item, Insisted, Opens, prepended, skipped, spaces, Skips}
+use Rattle.irtext_read.specs.Lists.{Tail, none, insisted, no_more_room, next, Separated, no_item, bad_item, no_first_room, an_item, Insisted, Opens, prepended, spaces, Skips}
 use Rattle.irtext_read.specs.ListTexts.{item_before, TailAt, ended, none_behind, bad_behind, one_behind, SeparatedAt, none_first, bad_first, one_first}
 use Rattle.irtext_read.proofs.ItemsMet.{Each, unread, settled}
 use Rattle.irtext_read.proofs.Spelling.{begins_the, takes_next}

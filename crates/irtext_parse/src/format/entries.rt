@@ -16,7 +16,7 @@ use irtext_base::parsable::{CharStream, ParseResult, Place, TextStream};
 use irtext_base::result::Cause;
 use irtext_base::text::AttrText;
 use irtext_read::irfmt::faults::{demand, next_is, refuse, refuse_at};
-use irtext_read::irfmt::parsers::{attr_from, identifier_parse, skip_white_space};
+use irtext_read::irfmt::parsers::{attr_parse, identifier_parse, skip_white_space};
 
 /// A key and its attribute.
 pub(crate) type Entry<A> = (Identifier, AttrObj<A>);
@@ -25,7 +25,7 @@ pub(crate) type Entry<A> = (Identifier, AttrObj<A>);
 fn attr_demanded<A: AttrText>(stream: &mut TextStream) -> ParseResult<AttrObj<A>, A>
     ensures { MustRead itself replaced attribute_of (attribute_at (attr_at A.IrText.reading)) stream.old result stream.new }
 {
-    let answer = attr_from(stream);
+    let answer = attr_parse(stream);
     demand(stream, answer)
 }
 

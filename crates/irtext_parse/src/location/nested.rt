@@ -20,7 +20,7 @@ use irtext_base::parsable::{CharStream, ParseResult, TextStream};
 use irtext_base::result::{Cause, Expected};
 use irtext_base::text::{AttrText, IrText};
 use irtext_read::irfmt::faults::{demand, demanded, next_is, refuse, unexpected};
-use irtext_read::irfmt::parsers::{attr_from, skip_white_space};
+use irtext_read::irfmt::parsers::{attr_parse, skip_white_space};
 
 /// Whether a source begins here.
 pub(crate) fn begins_source(stream: &TextStream) -> bool
@@ -46,7 +46,7 @@ pub(crate) fn begins_location(stream: &TextStream) -> bool
 fn attr_demanded<A: AttrText>(stream: &mut TextStream) -> ParseResult<AttrObj<A>, A>
     ensures { MustRead itself replaced attr_view (attr_at A.IrText.reading) stream.old result stream.new }
 {
-    let answer = attr_from(stream);
+    let answer = attr_parse(stream);
     demand(stream, answer)
 }
 

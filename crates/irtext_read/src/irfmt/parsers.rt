@@ -14,7 +14,7 @@ pub mod quoted;
 pub mod standing;
 pub mod truth;
 
-pub use attributes::{attr_from, attr_parse, type_parse};
+pub use attributes::{attr_parse, type_parse};
 pub use class::{Class, skip_class, skip_white_space};
 pub use fixed_text::{held, text_parse};
 pub use from_str_radix::FromStrRadix;

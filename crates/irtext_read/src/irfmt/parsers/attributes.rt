@@ -1,35 +1,52 @@
 //! The readers of types and of attributes: each is the caller's own reader, but that two words lead to given names and to an identifier.
-ghost use Rattle.std.specs.Prelude.{◌≡◌};
+ghost use Rattle.std.specs.Prelude.{◌≡◌, false};
 ghost use Rattle.irtext_base.specs.Locations.{attr_view};
-ghost use Rattle.irtext_read.specs.AttrTexts.{leads, given_name_at, names_at, given_names_at, ident_at, attr_at};
-ghost use Rattle.irtext_read.specs.MustRead.{MayRead};
+ghost use Rattle.irtext_read.specs.AttrTexts.{Led, given_name_at, names_at, bracketed_names_at, spaced_identifier_at, attr_at};
+ghost use Rattle.irtext_read.specs.MustRead.{MayRead, MustRead};
 
 use crate::irfmt::demanded::{identifier_demanded, text_demanded};
-use crate::irfmt::faults::next_is;
+use crate::irfmt::faults::{next_is, refuse};
 use crate::irfmt::parsers::class::{Class, skip_class, skip_white_space};
 use crate::irfmt::parsers::fixed_text::text_parse;
 use crate::irfmt::parsers::identifier::identifier_parse;
 use crate::irfmt::parsers::lists::list_parser;
-use crate::parsable::StateStream;
+use crate::parsable::{OwnStream, StateStream};
 use irtext_base::base::{AttrObj, Identifier};
-use irtext_base::parsable::{CharStream, ParseResult, TextStream};
+use irtext_base::parsable::{CharStream, ParseResult};
+use irtext_base::result::Cause;
 use irtext_base::text::{AttrText, IrText};
 
-/// Whether the dotted word that stands here is this one. The stream stays.
-fn leads(stream: &mut TextStream, word: &str) -> bool
-    ensures value { result ≡ leads word.now stream.old.rest }
-    ensures stays { stream.new ≡ stream.old }
+/// What the dotted word at the beginning of an attribute leads to.
+#[derive(Clone, Copy)]
+pub(crate) enum Lead {
+    /// Given names.
+    GivenNames,
+    /// An identifier.
+    Ident,
+    /// An attribute of the caller, to which the word belongs.
+    Own,
+}
+
+/// Passes the dotted word that stands here, where it leads to given names or to an identifier. The stream stays at another word.
+fn take_lead<S: CharStream>(stream: &mut S) -> Lead
+    ensures { Led S.view S.at stream.old result stream.new }
 {
     let place = stream.position();
     skip_class(stream, Class::Dotted);
-    let leads = stream.text_since(place) == word;
+    let word = stream.text_since(place);
+    if word == "builtin.given_names" {
+        return Lead::GivenNames;
+    }
+    if word == "builtin.identifier" {
+        return Lead::Ident;
+    }
     stream.reset(place);
-    leads
+    Lead::Own
 }
 
 /// A given name, or `?` where there is none.
-fn given_name<A>(stream: &mut TextStream) -> ParseResult<Option<Identifier>, A>
-    ensures { MayRead (λ s. s) (λ s v. v) (λ name. name) given_name_at stream.old result stream.new }
+fn given_name<S: CharStream, A>(stream: &mut S) -> ParseResult<Option<Identifier>, A>
+    ensures { MayRead S.view S.at (λ name. name) given_name_at stream.old result stream.new }
 {
     if next_is(stream, '?') {
         text_parse(stream, "?")?;
@@ -39,24 +56,16 @@ fn given_name<A>(stream: &mut TextStream) -> ParseResult<Option<Identifier>, A>
 }
 
 /// Given names with `,` between them.
-fn names<A: Drop>(stream: &mut TextStream) -> ParseResult<Vec<Option<Identifier>>, A>
-    ensures { MayRead (λ s. s) (λ s v. v) (λ names. names.items) names_at stream.old result stream.new }
+fn names<S: CharStream, A: Drop>(stream: &mut S) -> ParseResult<Vec<Option<Identifier>>, A>
+    ensures { MayRead S.view S.at (λ names. names.items) names_at stream.old result stream.new }
 {
-    list_parser(stream, ',', |s: &mut TextStream| given_name(s))
+    list_parser(stream, ',', |s: &mut S| given_name(s))
 }
 
-/// Attributes with `,` between them, on a stream with its state.
-pub fn attrs_parse<T: IrText<A>, A: AttrText, U: Drop>(
-    stream: &mut StateStream<'_, T, A, U>,
-) -> ParseResult<Vec<AttrObj<A>>, A> {
-    list_parser(stream, ',', |s: &mut StateStream<'_, T, A, U>| attr_parse(s))
-}
-
-/// Given names behind their word, between brackets.
-fn given_names<A: Drop>(stream: &mut TextStream) -> ParseResult<Vec<Option<Identifier>>, A>
-    ensures { MayRead (λ s. s) (λ s v. v) (λ names. names.items) given_names_at stream.old result stream.new }
+/// Given names between brackets, behind their word.
+fn given_names<S: CharStream, A: Drop>(stream: &mut S) -> ParseResult<Vec<Option<Identifier>>, A>
+    ensures { (S.view stream.old).failed ≡ false → MustRead S.view S.at (λ names. names.items) bracketed_names_at stream.old result stream.new }
 {
-    text_parse(stream, "builtin.given_names")?;
     skip_white_space(stream);
     text_demanded(stream, "[")?;
     skip_white_space(stream);
@@ -65,39 +74,29 @@ fn given_names<A: Drop>(stream: &mut TextStream) -> ParseResult<Vec<Option<Ident
     Ok(names)
 }
 
-/// An identifier behind its word.
-fn ident<A>(stream: &mut TextStream) -> ParseResult<Identifier, A>
-    ensures { MayRead (λ s. s) (λ s v. v) (λ name. name) ident_at stream.old result stream.new }
+/// An identifier, behind its word.
+fn ident<S: CharStream, A>(stream: &mut S) -> ParseResult<Identifier, A>
+    ensures { (S.view stream.old).failed ≡ false → MustRead S.view S.at (λ name. name) spaced_identifier_at stream.old result stream.new }
 {
-    text_parse(stream, "builtin.identifier")?;
     skip_white_space(stream);
     identifier_demanded(stream)
 }
 
-/// Reads an attribute from a text alone, as `attr_parse` does.
-pub fn attr_from<A: AttrText>(stream: &mut TextStream) -> ParseResult<AttrObj<A>, A>
-    ensures { MayRead (λ s. s) (λ s v. v) attr_view (attr_at A.IrText.reading) stream.old result stream.new }
-{
-    if leads(stream, "builtin.given_names") {
-        return Ok(AttrObj::GivenNames(given_names(stream)?));
-    }
-    if leads(stream, "builtin.identifier") {
-        return Ok(AttrObj::Ident(ident(stream)?));
-    }
-    Ok(AttrObj::Own(A::read(stream)?))
-}
-
 /// Reads an attribute: behind the word `builtin.given_names` names or `?` with `,` between them in brackets, behind the word
 /// `builtin.identifier` an identifier, with white space between all tokens; and else an attribute of the caller by its own reader, whose
-/// faults are the answer. Behind one of the two words each fault is committed, and leaves the stream failed. Nothing but the stream
-/// changes.
-pub fn attr_parse<T: IrText<A>, A: AttrText, U>(
-    stream: &mut StateStream<'_, T, A, U>,
-) -> ParseResult<AttrObj<A>, A>
-    ensures read { MayRead (λ s. s) (λ s v. v) attr_view (attr_at A.IrText.reading) stream.old.stream result stream.new.stream }
-    ensures state { stream.new.state ≡ stream.old.state }
+/// faults are the answer. Behind one of the two words each fault is committed, and leaves the stream failed. Nothing but the text is
+/// read, and nothing beside it changes.
+pub fn attr_parse<S: OwnStream, A: AttrText>(stream: &mut S) -> ParseResult<AttrObj<A>, A>
+    ensures { MayRead S.CharStream.view S.CharStream.at attr_view (attr_at A.IrText.reading) stream.old result stream.new }
 {
-    attr_from(&mut stream.stream)
+    if stream.has_failed() {
+        return Err(refuse(stream, Cause::StreamFailed));
+    }
+    match take_lead(stream) {
+        Lead::GivenNames => Ok(AttrObj::GivenNames(given_names(stream)?)),
+        Lead::Ident => Ok(AttrObj::Ident(ident(stream)?)),
+        Lead::Own => Ok(AttrObj::Own(stream.read_own()?)),
+    }
 }
 
 /// Reads a type by its own reader, whose faults are the answer. Nothing but the stream changes.

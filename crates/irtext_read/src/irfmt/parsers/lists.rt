@@ -154,13 +154,12 @@ where
 
 /// Reads a character, white space, a list with a separator, and a character. Where the first character is missing the fault is
 /// uncommitted and the stream stays; each other fault is committed, also that of the last character.
-pub fn delimited_list_parser<S: CharStream, X: Drop, A: Drop, F: FnMut(&mut S) -> ParseResult<X, A> + Drop>(
-    stream: &mut S,
-    left: char,
-    right: char,
-    sep: char,
-    item: F,
-) -> ParseResult<Vec<X>, A>
+pub fn delimited_list_parser<
+    S: CharStream,
+    X: Drop,
+    A: Drop,
+    F: FnMut(&mut S) -> ParseResult<X, A> + Drop,
+>(stream: &mut S, left: char, right: char, sep: char, item: F) -> ParseResult<Vec<X>, A>
 where
     requires callable { F.IsAlwaysCallable item }
     requires rules { AlwaysKeepsRules S.view S.at (λ r. r) F.FnMut }
@@ -187,11 +186,12 @@ where
 /// Reads items with a separator between them as `list_parser` does, or, where the separator has no character, items with white space
 /// after each until one is missing. A separator of white space is an uncommitted fault, whatever the text. An item that takes no
 /// character is a committed fault where no separator stands between them.
-pub fn list_with_sep_parser<S: CharStream, X: Drop, A: Drop, F: FnMut(&mut S) -> ParseResult<X, A> + Drop>(
-    stream: &mut S,
-    sep: ListSeparator,
-    item: F,
-) -> ParseResult<Vec<X>, A>
+pub fn list_with_sep_parser<
+    S: CharStream,
+    X: Drop,
+    A: Drop,
+    F: FnMut(&mut S) -> ParseResult<X, A> + Drop,
+>(stream: &mut S, sep: ListSeparator, item: F) -> ParseResult<Vec<X>, A>
 where
     requires callable { F.IsAlwaysCallable item }
     requires rules { AlwaysKeepsRules S.view S.at (λ r. r) F.FnMut }
@@ -212,10 +212,12 @@ where
 
 /// Reads white space, and items with white space after each, until one is missing. Each fault is committed: that of an item, of
 /// an item that takes no character, of memory and of a failed stream.
-pub fn zero_or_more_parser<S: CharStream, X: Drop, A: Drop, F: FnMut(&mut S) -> ParseResult<X, A> + Drop>(
-    stream: &mut S,
-    item: F,
-) -> ParseResult<Vec<X>, A>
+pub fn zero_or_more_parser<
+    S: CharStream,
+    X: Drop,
+    A: Drop,
+    F: FnMut(&mut S) -> ParseResult<X, A> + Drop,
+>(stream: &mut S, item: F) -> ParseResult<Vec<X>, A>
 where
     requires callable { F.IsAlwaysCallable item }
     requires rules { AlwaysKeepsRules S.view S.at (λ r. r) F.FnMut }

@@ -1,4 +1,4 @@
-use Rattle.std.proofs.Common.{rules, of_calls, refl, ◌≡◌, ◌<◌, Ok, Err, List, ◌++◌, ◌∷◌, [], append-nil, length, sym}
+use Rattle.std.proofs.Common.{rules, of_calls, refl, ◌≡◌, ◌<◌, Ok, Err, ◌++◌, ◌∷◌, [], append-nil, length, sym}
 use Rattle.irtext_read.specs.Lists.{Calls, empty, no_room, missing, bad, more, HandsOn}
 use Rattle.irtext_read.proofs.ListSteps.{called_at, rules_at, passed_says, failed_says, none_taken, some_taken, skipped_lt, prepended-more}
 use Rattle.irtext_read.proofs.irfmt.parsers.lists.items.Goals as goal

@@ -1,6 +1,6 @@
-use Rattle.std.proofs.Common.{rules, of_calls, refl, ◌≡◌, Ok, Err, List, ◌++◌, ◌∷◌, [], ◌∙◌, ap, sym}
-use Rattle.irtext_read.specs.Lists.{Calls, TailAfter, no_item, bad_item, no_first_room, an_item}
-use Rattle.irtext_read.proofs.ListSteps.{called_at, rules_at}
+use Rattle.std.proofs.Common.{rules, refl, ◌≡◌, Ok, Err, ◌∷◌, []}
+use Rattle.irtext_read.specs.Lists.{Calls, no_item, bad_item, no_first_room, an_item}
+use Rattle.irtext_read.proofs.ListSteps.{called_at}
 use Rattle.irtext_read.proofs.irfmt.parsers.lists.separated.Goals as goal
 
 pub returns-then-is_err : goal.returns-then-is_err

@@ -1,4 +1,4 @@
-use Rattle.std.proofs.Common.{refl, ◌≡◌, Ok, Err, sym, ◌∙◌, subst}
+use Rattle.std.proofs.Common.{refl, Ok, Err, sym, ◌∙◌, subst}
 use Rattle.irtext_read.specs.Lists.{Calls, Spaced, read, refused, refused_behind}
 use Rattle.irtext_read.proofs.ListSteps.{called_at, unless_met, no_space}
 use Rattle.irtext_read.proofs.ListRules.{spaced_item_keeps}

@@ -1,4 +1,4 @@
-use Rattle.std.proofs.Common.{rules, of_calls, refl, ◌≡◌, ◌<◌, Ok, Err, List, ◌++◌, ◌∷◌, [], ◌∙◌, ap, sym, append-nil, length}
+use Rattle.std.proofs.Common.{rules, of_calls, refl, ◌≡◌, Ok, Err, ◌++◌, ◌∷◌, [], ◌∙◌, ap, sym, append-nil}
 use Rattle.irtext_read.specs.Lists.{Calls, none, insisted, no_more_room, next, prepended, HandsOn, Opens}
 use Rattle.irtext_read.proofs.ListSteps.{called_at, rules_at, tail_lt, prepended-more}
 use Rattle.irtext_read.proofs.irfmt.parsers.lists.tail.Goals as goal
