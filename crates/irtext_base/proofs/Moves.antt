@@ -3,10 +3,9 @@ use Rattle.std.proofs.Common.{◌≡◌, ◌∙◌, ap, ap₂, refl, sym, ℕ, �
 use Rattle.std.proofs.Math.Seq.{drop-cons, take-append_seam}
 use Rattle.std.specs.Prelude.{slice_get}
 use Rattle.std.specs.Str.{bytes_eq}
-use Rattle.irtext_base.specs.Context.{ContextView, KeepsPaths}
 use Rattle.irtext_base.specs.Locations.{LocationOf, LocationsOf, LocationView, LocationViews, src_pos, fused, named, call_site, unknown, location, no_location, location_view, attr_view_in, in_row, row_sourced}
-use Rattle.irtext_base.specs.Paths.{Written, path_of, path_index, with_path, found_or_last, is_known, are_known, row_known, written_with}
-use Rattle.irtext_base.specs.Moves.{path_kept, all_kept, row_kept, all_under, row_under, is_free, with_paths, KeepsMore}
+use Rattle.irtext_base.specs.Paths.{KeepsPaths, Written, path_of, path_index, with_path, found_or_last, is_known, are_known, row_known, written_with}
+use Rattle.irtext_base.specs.Moves.{path_kept, all_kept, row_kept, all_under, row_under, is_free, KeepsMore}
 use Rattle.irtext_base.specs.declared.base.attributes.AttrObj.{AttrObj}
 use Rattle.irtext_base.specs.declared.location.Location.{Location}
 use Rattle.irtext_base.specs.declared.location.Location.TheVariants.{Fused, CallSite, SrcPos}
@@ -84,33 +83,32 @@ append-none : (xs : List (List ℕ)) → xs ++ [] ≡ xs
 append-none [] = refl
 append-none (x ∷ xs) = ap (λ ys. x ∷ ys) (append-none xs)
 
-module _ {T A : Type 0} where
-  -- no path came
-  pub keeps_none : (c : ContextView T A) → KeepsMore c c
-  keeps_none c = record { more = []; with_more = ap (with_paths c) (sym (append-none c.paths)) }
+-- no path came
+pub keeps_none : (paths : List (List ℕ)) → KeepsMore paths paths
+keeps_none paths = record { more = []; with_more = sym (append-none paths) }
 
-  pub keeps_same : {old new : ContextView T A} → new ≡ old → KeepsMore old new
-  keeps_same {old} e = rw e (keeps_none old)
+pub keeps_same : {old new : List (List ℕ)} → new ≡ old → KeepsMore old new
+keeps_same {old} e = rw e (keeps_none old)
 
-  -- the path of one source came, if it has one that is new
-  pub keeps_path : {old new : ContextView T A} (o : Option (List ℕ)) → new ≡ with_paths old (path_kept old.paths o) → KeepsMore old new
-  keeps_path {old} None e = rw e (keeps_none old)
-  keeps_path {old} (Some path) e = rw e (by (position (bytes_eq path) old.paths))
-    where
-      by : (found : Option ℕ) → KeepsMore old (with_paths old (found_or_last found old.paths path))
-      by (Some i) = keeps_none old
-      by None = record { more = path ∷ []; with_more = refl }
+-- the path of one source came, if it has one that is new
+pub keeps_path : {old new : List (List ℕ)} (o : Option (List ℕ)) → new ≡ path_kept old o → KeepsMore old new
+keeps_path {old} None e = rw e (keeps_none old)
+keeps_path {old} (Some path) e = rw e (by (position (bytes_eq path) old))
+  where
+    by : (found : Option ℕ) → KeepsMore old (found_or_last found old path)
+    by (Some i) = keeps_none old
+    by None = record { more = path ∷ []; with_more = refl }
 
-  -- paths came, and then more
-  pub keeps_again : {a b c : ContextView T A} → KeepsMore a b → KeepsMore b c → KeepsMore a c
-  keeps_again {a} {b} {c} h k = record {
-    more = h.more ++ k.more;
-    with_more = k.with_more ∙ (ap (λ (x : ContextView T A). with_paths x (x.paths ++ k.more)) h.with_more ∙ ap (with_paths a) (append_assoc a.paths h.more k.more));
-  }
+-- paths came, and then more
+pub keeps_again : {a b c : List (List ℕ)} → KeepsMore a b → KeepsMore b c → KeepsMore a c
+keeps_again {a} {b} {c} h k = record {
+  more = h.more ++ k.more;
+  with_more = k.with_more ∙ (ap (λ paths. paths ++ k.more) h.with_more ∙ append_assoc a h.more k.more);
+}
 
-  -- the first of the paths are those that were kept before
-  pub taken_back : {old new : ContextView T A} → KeepsMore old new → with_paths new (take (length old.paths) new.paths) ≡ old
-  taken_back {old} h = rw h.with_more (ap (with_paths old) (take-append_seam old.paths h.more))
+-- the first of the paths are those that were kept before
+pub taken_back : {old new : List (List ℕ)} → KeepsMore old new → take (length old) new ≡ old
+taken_back {old} h = rw h.with_more (take-append_seam old h.more)
 
 -- these locations stand in front of a row
 abbrev pub in_front : {S A : Type 0} → List (LocationOf S A) → LocationsOf S A → LocationsOf S A

@@ -6,9 +6,8 @@ use Rattle.std.proofs.lemmas.Slice.Eq.{bytes_eq-Decides}
 use Rattle.std.specs.Prelude.{slice_get, ◌&&◌}
 use Rattle.std.specs.List.{position_or_len}
 use Rattle.std.specs.Str.{bytes_eq}
-use Rattle.irtext_base.specs.Context.{KeepsPaths}
 use Rattle.irtext_base.specs.Locations.{LocationView, LocationViews, src_pos, fused, named, call_site, unknown, no_location, location, row_sourced}
-use Rattle.irtext_base.specs.Paths.{path_index, with_path, index_or_next, found_or_last, path_of, is_known, are_known, row_known, written_with}
+use Rattle.irtext_base.specs.Paths.{KeepsPaths, path_index, with_path, index_or_next, found_or_last, path_of, is_known, are_known, row_known, written_with}
 use Rattle.irtext_base.specs.declared.location.PathKey.{PathKey}
 use Rattle.irtext_base.specs.declared.location.Source.{Source}
 use Rattle.irtext_base.specs.declared.location.Source.TheVariants.{File, InMemory}

@@ -1,8 +1,7 @@
 -- A location's one source, from how many were seen of it so far.
-use Rattle.std.proofs.Common.{◌≡◌, ◌≤◌, ◌∙◌, ap, arith, refl, sym, ℕ, Bool, true, false, cond, Option, Some, None, List, [], ◌∷◌, ◌++◌, length, length-append}
+use Rattle.std.proofs.Common.{◌≡◌, ◌≤◌, ◌∙◌, ap, arith, refl, Bool, true, false, cond, List, [], ◌∷◌, ◌++◌, length, length-append}
 use Rattle.std.specs.List.{list_any}
 use Rattle.irtext_base.specs.declared.location.Source.{Source}
-use Rattle.irtext_base.specs.declared.location.sources.Seen.{Seen}
 use Rattle.irtext_base.specs.declared.location.sources.Seen.TheVariants.{Nothing, One, Several}
 use Rattle.irtext_base.specs.Locations.{LocationView, src_pos, fused, named, call_site, unknown, LocationViews, no_location, location, same_source, noted, all_noted, row_noted, only}
 use Rattle.irtext_base.specs.Seen.{seen_of, more_seen, all_seen, row_seen, one_seen}

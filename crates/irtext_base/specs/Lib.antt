@@ -2,9 +2,6 @@ pub mod Text
 pub mod Reading
 pub mod Format
 pub mod Causes
-pub mod Conditions
-pub mod Directives
-pub mod Dialects
 pub mod Faults
 pub mod Stream
 pub mod Places
@@ -13,15 +10,9 @@ pub mod Answers
 pub mod Own
 pub mod Dictionary
 pub mod Entries
-pub mod Arena
-pub mod Lending
-pub mod Context
-pub mod DialectTable
-pub mod DialectLends
-pub mod Made
-pub mod Room
 pub mod Locations
 pub mod Seen
 pub mod Paths
+pub mod PathLends
 pub mod StableHash
 pub mod Moves

@@ -2,7 +2,6 @@
 use Rattle.std.specs.Prelude.{◌≡◌, ℕ, Bool, true, false, Option, Some, None, List, ◌++◌}
 use Rattle.irtext_base.specs.declared.location.Source.{Source}
 use Rattle.irtext_base.specs.declared.location.Source.TheVariants.{File, InMemory}
-use Rattle.irtext_base.specs.Context.{ContextView}
 use Rattle.irtext_base.specs.Locations.{LocationView, LocationViews, LocationsOf, src_pos, fused, named, call_site, unknown, no_location, location}
 use Rattle.irtext_base.specs.Paths.{Written, path_index, with_path}
 
@@ -53,11 +52,7 @@ is_free (named name child) = false
 is_free (call_site callee caller) = false
 is_free unknown = true
 
--- a context with other paths, and all else as it was
-abbrev pub with_paths : {T A : Type 0} → ContextView T A → List (List ℕ) → ContextView T A
-with_paths c paths = record c { paths = paths }
-
--- a context came to keep more paths behind those that it kept, or none, and all else is as it was
-pub record KeepsMore {T A : Type 0} (old new : ContextView T A) : Type 0 where
+-- paths came behind those that were kept, or none
+pub record KeepsMore (old new : List (List ℕ)) : Type 0 where
   pub more : List (List ℕ)
-  pub with_more : new ≡ with_paths old (old.paths ++ more)
+  pub with_more : new ≡ old ++ more

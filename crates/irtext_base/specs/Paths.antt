@@ -1,10 +1,20 @@
 -- The paths of files that a context keeps, each in bytes, and the locations whose sources are among them.
-use Rattle.std.specs.Prelude.{◌≡◌, ◌≤◌, ◌^◌, ◌⊎◌, ℕ, Bool, true, false, ◌&&◌, nat_lt, Option, Some, None, List, [], ◌∷◌, ◌++◌, length, position, slice_get}
+use Rattle.std.specs.Prelude.{◌≡◌, ◌≤◌, ◌^◌, ◌⊎◌, ℕ, Bool, true, false, ◌&&◌, nat_lt, Option, Some, None, List, [], ◌∷◌, ◌++◌, length, position, slice_get, map, string_bytes, String}
+use Rattle.std.specs.HashSet.{HashSet}
+use Rattle.std.specs.declared.alloc.Global.{Global}
 use Rattle.std.specs.List.{list_any}
 use Rattle.std.specs.Str.{bytes_eq}
 use Rattle.irtext_base.specs.declared.location.Source.{Source}
 use Rattle.irtext_base.specs.declared.location.Source.TheVariants.{File, InMemory}
 use Rattle.irtext_base.specs.Locations.{LocationOf, LocationView, sourced, src_pos, fused, named, call_site, unknown, LocationViews, no_location, location}
+
+-- the texts of paths
+abbrev pub path_texts : {S : Type 0} → HashSet (String Global) S → List (List ℕ)
+path_texts paths = map string_bytes paths.keys
+
+-- each path stays under its key
+abbrev pub KeepsPaths : List (List ℕ) → List (List ℕ) → Type 0
+KeepsPaths old new = (i : ℕ) (path : List ℕ) → slice_get old i ≡ Some path → slice_get new i ≡ Some path
 
 -- the index of a path that was found, or else the next one
 abbrev pub index_or_next : Option ℕ → List (List ℕ) → ℕ

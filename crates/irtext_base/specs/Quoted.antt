@@ -1,5 +1,5 @@
 -- The text of characters between quotation marks.
-use Rattle.std.specs.Prelude.{ℕ, false, cond, ◌==◌, List, [], ◌∷◌, ◌++◌, codes}
+use Rattle.std.specs.Prelude.{ℕ, false, cond, ◌==◌, [], ◌∷◌, ◌++◌, codes}
 use Rattle.std.specs.Char.{is_ascii_control}
 use Rattle.std.specs.Fmt.{digits}
 use Rattle.irtext_base.specs.Text.{Text}

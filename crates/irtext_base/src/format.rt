@@ -1,13 +1,6 @@
-//! The formats of operations, and which of them read uniquely.
-ghost use Rattle.std.specs.Prelude.{◌≡◌, Some, MatchResult};
+//! The formats of operations, and the conditions that one may fail.
+ghost use Rattle.std.specs.Prelude.{Some};
 ghost use Rattle.irtext_base.specs.Causes.{format_fault_text};
-ghost use Rattle.irtext_base.specs.Directives.{format_of, condition_number};
-ghost use Rattle.irtext_base.specs.Format.{first_fault};
-
-mod conditions;
-mod followers;
-mod parts;
-mod rules;
 
 use crate::base::Identifier;
 use std::fmt;
@@ -85,16 +78,5 @@ impl Display for FormatFault {
             FormatFault::C8 => "C8",
         };
         write!(f, "Format refused by condition {condition}")
-    }
-}
-
-/// Whether a format reads uniquely. `Canonical` does. Of directives it answers the first of the conditions `C1` to `C8` that they
-/// fail. It takes no memory.
-pub fn check_format(format: &OpFormat) -> Result<(), FormatFault>
-    ensures { MatchResult result (λ _. first_fault (format_of format.now) ≡ 0) (λ fault. first_fault (format_of format.now) ≡ condition_number fault) }
-{
-    match format {
-        OpFormat::Canonical => Ok(()),
-        OpFormat::Custom(directives) => conditions::check(directives),
     }
 }

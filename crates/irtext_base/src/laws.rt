@@ -1,7 +1,5 @@
 //! What the definitions say, in other words. Each function does nothing: its contract is the statement.
 ghost use Rattle.std.specs.Prelude.{◌≡◌, ◌↔◌, ℕ, true, List, IsTrue, length};
-ghost use Rattle.irtext_base.specs.Conditions.{C1, C2, C3, C4, C5, C6, C7, C8};
-ghost use Rattle.irtext_base.specs.Format.{Directive, c1, c2, c3, c4, c5, c6, c7, c8};
 ghost use Rattle.irtext_base.specs.Locations.{LocationView, attr_view, location_view};
 ghost use Rattle.irtext_base.specs.Paths.{path_of, is_known, are_known, written_with};
 ghost use Rattle.irtext_base.specs.StableHash.{source_writes, location_writes};
@@ -13,18 +11,6 @@ use crate::base::AttrObj;
 use crate::location::{Location, Source};
 use crate::text::AttrText;
 use std::hash::Hash;
-
-/// Each condition on formats is met exactly where what it says of places, keys and characters holds.
-pub fn conditions_on_formats()
-    ensures literals { (ds : List Directive) → (c1 ds ≡ true) ↔ C1 ds }
-    ensures operands { (ds : List Directive) → (c2 ds ≡ true) ↔ C2 ds }
-    ensures successors { (ds : List Directive) → (c3 ds ≡ true) ↔ C3 ds }
-    ensures result_types { (ds : List Directive) → (c4 ds ≡ true) ↔ C4 ds }
-    ensures regions { (ds : List Directive) → (c5 ds ≡ true) ↔ C5 ds }
-    ensures attributes { (ds : List Directive) → (c6 ds ≡ true) ↔ C6 ds }
-    ensures order { (ds : List Directive) → (c7 ds ≡ true) ↔ C7 ds }
-    ensures lists { (ds : List Directive) → (c8 ds ≡ true) ↔ C8 ds }
-{}
 
 /// Attributes and locations are equal exactly where definitions see the same of them.
 pub fn equal_where_alike<A: AttrText>()

@@ -1,8 +1,7 @@
-//! The lowest crate of the text layer: causes of refusals, locations, the stream of a text, and the objects of a context.
+//! The lowest crate of the text layer: causes of refusals, locations, the stream of a text, identifiers, attributes, and formats.
 #![tactic(auto)]
 
 pub mod base;
-pub mod dialect;
 pub mod format;
 pub mod laws;
 pub mod location;

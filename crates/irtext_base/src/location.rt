@@ -4,17 +4,16 @@ ghost use Rattle.irtext_base.specs.declared.location.Location.{Unknown};
 ghost use Rattle.irtext_base.specs.Locations.{out_of_memory};
 
 mod copy;
-mod erase;
+mod files;
 mod hash;
 mod into_context;
 mod made;
-mod paths;
+pub mod paths;
 pub mod sources;
 
 use crate::base::AttrObj;
 use crate::parsable::SourcePosition;
 use crate::result::{Cause, Error, ErrorKind};
-pub use erase::erase_locations;
 
 /// The key of a path that a context keeps.
 #[derive(Clone, Copy, PartialEq, Eq, Hash, Debug)]

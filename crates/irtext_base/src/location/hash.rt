@@ -5,44 +5,31 @@ ghost use Rattle.irtext_base.specs.Paths.{is_known, are_known, row_known};
 ghost use Rattle.irtext_base.specs.StableHash.{source_writes, position_writes, attr_writes, metadata_writes, location_writes, row_writes, row_len};
 ghost use Rattle.std.specs.Hash as fed;
 
-use crate::base::{AttrObj, Context};
+use crate::base::AttrObj;
+use crate::location::paths::{HasPaths, Paths};
 use crate::location::{Location, Source};
 use crate::parsable::SourcePosition;
-use crate::text::{AttrText, IrText};
+use crate::text::AttrText;
 use std::hash::{Hash, Hasher};
 
-impl Source {
-    /// Feeds a hasher the source: 0 and the text of the path of a file, or 1 for memory.
-    pub fn stable_hash<T: IrText<A>, A: AttrText, H: Hasher>(
-        &self,
-        ctx: &Context<T, A>,
-        state: &mut H,
-    )
-        requires { IsTrue (is_known (length ctx.now.paths) self.now) }
-        ensures { state.new ≡ fold H.write state.old (source_writes ctx.now.paths self.now) }
-    {
-        match self {
-            Source::File(key) => {
-                state.write_u8(0);
-                ctx.path(*key).hash(state);
-            }
-            Source::InMemory => state.write_u8(1),
+fn hash_source<H: Hasher>(source: Source, paths: &Paths, state: &mut H)
+    requires { IsTrue (is_known (length paths.now) source) }
+    ensures { state.new ≡ fold H.write state.old (source_writes paths.now source) }
+{
+    match source {
+        Source::File(key) => {
+            state.write_u8(0);
+            paths.path(key).hash(state);
         }
+        Source::InMemory => state.write_u8(1),
     }
 }
 
-impl SourcePosition {
-    /// Feeds a hasher the line, and then the column.
-    pub fn stable_hash<T: IrText<A>, A: AttrText, H: Hasher>(
-        &self,
-        _ctx: &Context<T, A>,
-        state: &mut H,
-    )
-        ensures { state.new ≡ fold H.write state.old (position_writes self.now) }
-    {
-        state.write_i32(self.line);
-        state.write_i32(self.column);
-    }
+fn hash_position<H: Hasher>(pos: SourcePosition, state: &mut H)
+    ensures { state.new ≡ fold H.write state.old (position_writes pos) }
+{
+    state.write_i32(pos.line);
+    state.write_i32(pos.column);
 }
 
 fn hash_attr<A: AttrText, H: Hasher>(attr: &AttrObj<A>, state: &mut H)
@@ -71,19 +58,15 @@ fn hash_count<A, H: Hasher>(locations: &Vec<Location<A>>, state: &mut H)
 }
 
 #[cycle(stable)]
-fn hash_location<T: IrText<A>, A: AttrText, H: Hasher>(
-    location: &Location<A>,
-    ctx: &Context<T, A>,
-    state: &mut H,
-)
-    requires { IsTrue (are_known (length ctx.now.paths) (location_view location.now)) }
-    ensures { state.new ≡ fold H.write state.old (location_writes A.hash_input ctx.now.paths (location_view location.now)) }
+fn hash_location<A: AttrText, H: Hasher>(location: &Location<A>, paths: &Paths, state: &mut H)
+    requires { IsTrue (are_known (length paths.now) (location_view location.now)) }
+    ensures { state.new ≡ fold H.write state.old (location_writes A.hash_input paths.now (location_view location.now)) }
 {
     match location {
         Location::SrcPos { src, pos } => {
             state.write_u8(0);
-            src.stable_hash(ctx, state);
-            pos.stable_hash(ctx, state);
+            hash_source(*src, paths, state);
+            hash_position(*pos, state);
         }
         Location::Fused {
             metadata,
@@ -92,43 +75,62 @@ fn hash_location<T: IrText<A>, A: AttrText, H: Hasher>(
             state.write_u8(1);
             hash_metadata(metadata, state);
             hash_count(locations, state);
-            hash_locations(locations, ctx, state);
+            hash_locations(locations, paths, state);
         }
         Location::Named { name, child_loc } => {
             state.write_u8(2);
             name.as_str().hash(state);
-            hash_location(child_loc, ctx, state);
+            hash_location(child_loc, paths, state);
         }
         Location::CallSite { callee, caller } => {
             state.write_u8(3);
-            hash_location(callee, ctx, state);
-            hash_location(caller, ctx, state);
+            hash_location(callee, paths, state);
+            hash_location(caller, paths, state);
         }
         Location::Unknown => state.write_u8(4),
     }
 }
 
 #[cycle(stable)]
-fn hash_locations<T: IrText<A>, A: AttrText, H: Hasher>(
+fn hash_locations<A: AttrText, H: Hasher>(
     locations: &Vec<Location<A>>,
-    ctx: &Context<T, A>,
+    paths: &Paths,
     state: &mut H,
 )
-    requires { IsTrue (row_known (length ctx.now.paths) (in_row (map location_view locations.now.items))) }
-    ensures { state.new ≡ fold H.write state.old (row_writes A.hash_input ctx.now.paths (in_row (map location_view locations.now.items))) }
+    requires { IsTrue (row_known (length paths.now) (in_row (map location_view locations.now.items))) }
+    ensures { state.new ≡ fold H.write state.old (row_writes A.hash_input paths.now (in_row (map location_view locations.now.items))) }
 {
     for location in locations {
-        hash_location(location, ctx, state);
+        hash_location(location, paths, state);
+    }
+}
+
+impl Source {
+    /// Feeds a hasher the source: 0 and the text of the path of a file, or 1 for memory.
+    pub fn stable_hash<C: HasPaths<A>, A, H: Hasher>(&self, ctx: &C, state: &mut H)
+        requires { IsTrue (is_known (length (C.paths ctx.now)) self.now) }
+        ensures { state.new ≡ fold H.write state.old (source_writes (C.paths ctx.now) self.now) }
+    {
+        hash_source(*self, ctx.paths(), state);
+    }
+}
+
+impl SourcePosition {
+    /// Feeds a hasher the line, and then the column.
+    pub fn stable_hash<C: HasPaths<A>, A, H: Hasher>(&self, _ctx: &C, state: &mut H)
+        ensures { state.new ≡ fold H.write state.old (position_writes self.now) }
+    {
+        hash_position(*self, state);
     }
 }
 
 impl<A: AttrText> Location<A> {
     /// Feeds a hasher the number of the location's case, and then its parts in order: locations that are equal up to the
     /// contexts that keep their paths are fed alike.
-    pub fn stable_hash<T: IrText<A>, H: Hasher>(&self, ctx: &Context<T, A>, state: &mut H)
-        requires { IsTrue (are_known (length ctx.now.paths) (location_view self.now)) }
-        ensures { state.new ≡ fold H.write state.old (location_writes A.hash_input ctx.now.paths (location_view self.now)) }
+    pub fn stable_hash<C: HasPaths<A>, H: Hasher>(&self, ctx: &C, state: &mut H)
+        requires { IsTrue (are_known (length (C.paths ctx.now)) (location_view self.now)) }
+        ensures { state.new ≡ fold H.write state.old (location_writes A.hash_input (C.paths ctx.now) (location_view self.now)) }
     {
-        hash_location(self, ctx, state);
+        hash_location(self, ctx.paths(), state);
     }
 }

@@ -2,44 +2,40 @@
 ghost use Rattle.std.specs.Prelude.{◌≡◌, ◌≢◌, false, map, length, Ok, IfOk, IfErr, OnOk, OnErr, IsTrue};
 ghost use Rattle.irtext_base.specs.Locations.{location_view, in_row, row_sourced, out_of_memory};
 ghost use Rattle.irtext_base.specs.Paths.{path_of, is_known, are_known, row_known, written_with};
-ghost use Rattle.irtext_base.specs.Moves.{source_under, path_kept, all_under, all_kept, row_under, row_kept, is_free, with_paths, KeepsMore};
+ghost use Rattle.irtext_base.specs.Moves.{source_under, path_kept, all_under, all_kept, row_under, row_kept, is_free, KeepsMore};
 
-use crate::base::Context;
 use crate::location::made::{call_site, fused, named};
+use crate::location::paths::{HasPaths, Paths};
 use crate::location::{Location, Source, out_of_memory};
 use crate::parsable::SourcePosition;
-use crate::text::{AttrText, IrText};
+use crate::text::AttrText;
 use std::alloc::AllocError;
 
-fn move_source<T: IrText<A>, A: AttrText>(
-    source: Source,
-    from: &Context<T, A>,
-    to: &mut Context<T, A>,
-) -> Result<Source, AllocError>
-    requires { IsTrue (is_known (length from.now.paths) source) }
-    ensures ok { IfOk result (λ s. s ≡ source_under to.old.paths (path_of from.now.paths source)) }
-    ensures kept { OnOk result (to.new ≡ with_paths to.old (path_kept to.old.paths (path_of from.now.paths source))) }
+fn move_source(source: Source, from: &Paths, to: &mut Paths) -> Result<Source, AllocError>
+    requires { IsTrue (is_known (length from.now) source) }
+    ensures ok { IfOk result (λ s. s ≡ source_under to.old (path_of from.now source)) }
+    ensures kept { OnOk result (to.new ≡ path_kept to.old (path_of from.now source)) }
     ensures err { OnErr result (to.new ≡ to.old) }
     ensures file { OnErr result (source ≢ Source.InMemory) }
 {
     match source {
-        Source::File(key) => Ok(Source::File(to.keep_path(from.path(key))?)),
+        Source::File(key) => Ok(Source::File(to.keep(from.path(key))?)),
         Source::InMemory => Ok(Source::InMemory),
     }
 }
 
-/// The location for the other context, which may keep more paths also where memory is refused.
+/// The location over the other paths, of which there may be more also where memory is refused.
 #[cycle(moved)]
-fn move_location<T: IrText<A>, A: AttrText>(
+fn move_location<A: AttrText>(
     location: &Location<A>,
-    from: &Context<T, A>,
-    to: &mut Context<T, A>,
+    from: &Paths,
+    to: &mut Paths,
 ) -> Result<Location<A>, AllocError>
-    requires { IsTrue (are_known (length from.now.paths) (location_view location.now)) }
-    ensures ok { IfOk result (λ l. location_view l ≡ all_under to.old.paths (written_with from.now.paths (location_view location.now))) }
-    ensures kept { OnOk result (to.new.paths ≡ all_kept to.old.paths (written_with from.now.paths (location_view location.now))) }
+    requires { IsTrue (are_known (length from.now) (location_view location.now)) }
+    ensures ok { IfOk result (λ l. location_view l ≡ all_under to.old (written_with from.now (location_view location.now))) }
+    ensures kept { OnOk result (to.new ≡ all_kept to.old (written_with from.now (location_view location.now))) }
     ensures more { KeepsMore to.old to.new }
-    ensures free { OnErr result (is_free (written_with from.now.paths (location_view location.now)) ≡ false) }
+    ensures free { OnErr result (is_free (written_with from.now (location_view location.now)) ≡ false) }
 {
     let alloc = to.allocator();
     match location {
@@ -68,14 +64,14 @@ fn move_location<T: IrText<A>, A: AttrText>(
 }
 
 #[cycle(moved)]
-fn move_locations<T: IrText<A>, A: AttrText>(
+fn move_locations<A: AttrText>(
     locations: &Vec<Location<A>>,
-    from: &Context<T, A>,
-    to: &mut Context<T, A>,
+    from: &Paths,
+    to: &mut Paths,
 ) -> Result<Vec<Location<A>>, AllocError>
-    requires { IsTrue (row_known (length from.now.paths) (in_row (map location_view locations.now.items))) }
-    ensures ok { IfOk result (λ moved. in_row (map location_view moved.items) ≡ row_under to.old.paths (row_sourced (path_of from.now.paths) (in_row (map location_view locations.now.items)))) }
-    ensures kept { OnOk result (to.new.paths ≡ row_kept to.old.paths (row_sourced (path_of from.now.paths) (in_row (map location_view locations.now.items)))) }
+    requires { IsTrue (row_known (length from.now) (in_row (map location_view locations.now.items))) }
+    ensures ok { IfOk result (λ moved. in_row (map location_view moved.items) ≡ row_under to.old (row_sourced (path_of from.now) (in_row (map location_view locations.now.items)))) }
+    ensures kept { OnOk result (to.new ≡ row_kept to.old (row_sourced (path_of from.now) (in_row (map location_view locations.now.items)))) }
     ensures more { KeepsMore to.old to.new }
 {
     let mut moved = Vec::with_capacity(to.allocator(), locations.len())?;
@@ -85,23 +81,47 @@ fn move_locations<T: IrText<A>, A: AttrText>(
     Ok(moved)
 }
 
+/// The location over the other paths. Where memory is refused, these are as they were.
+fn moved<A: AttrText>(
+    location: &Location<A>,
+    from: &Paths,
+    to: &mut Paths,
+) -> Result<Location<A>, AllocError>
+    requires { IsTrue (are_known (length from.now) (location_view location.now)) }
+    ensures ok { IfOk result (λ l. location_view l ≡ all_under to.old (written_with from.now (location_view location.now))) }
+    ensures kept { OnOk result (to.new ≡ all_kept to.old (written_with from.now (location_view location.now))) }
+    ensures known { IfOk result (λ l. IsTrue (are_known (length to.new) (location_view l))) }
+    ensures text { IfOk result (λ l. written_with to.new (location_view l) ≡ written_with from.now (location_view location.now)) }
+    ensures err { OnErr result (to.new ≡ to.old) }
+    ensures free { OnErr result (is_free (written_with from.now (location_view location.now)) ≡ false) }
+{
+    let count = to.len();
+    match move_location(location, from, to) {
+        Ok(location) => Ok(location),
+        Err(refused) => {
+            to.truncate(count);
+            Err(refused)
+        }
+    }
+}
+
 impl Source {
     /// The same source for another context: for a file, under the key that the other context has for its path or gives it.
     /// It is refused only for want of memory, by `Memory`, an error of kind invalid argument, and then changes nothing. A text in
     /// memory is never refused.
-    pub fn clone_into_context<T: IrText<A>, A: AttrText>(
+    pub fn clone_into_context<C: HasPaths<A>, A>(
         &self,
-        src_ctx: &Context<T, A>,
-        dst_ctx: &mut Context<T, A>,
+        src_ctx: &C,
+        dst_ctx: &mut C,
     ) -> crate::result::Result<Source, A>
-        requires { IsTrue (is_known (length src_ctx.now.paths) self.now) }
-        ensures ok { IfOk result (λ s. s ≡ source_under dst_ctx.old.paths (path_of src_ctx.now.paths self.now)) }
-        ensures kept { OnOk result (dst_ctx.new ≡ with_paths dst_ctx.old (path_kept dst_ctx.old.paths (path_of src_ctx.now.paths self.now))) }
+        requires { IsTrue (is_known (length (C.paths src_ctx.now)) self.now) }
+        ensures ok { IfOk result (λ s. s ≡ source_under (C.paths dst_ctx.old) (path_of (C.paths src_ctx.now) self.now)) }
+        ensures kept { OnOk result (dst_ctx.new ≡ C.with_paths dst_ctx.old (path_kept (C.paths dst_ctx.old) (path_of (C.paths src_ctx.now) self.now))) }
         ensures err { OnErr result (dst_ctx.new ≡ dst_ctx.old) }
         ensures memory { IfErr result (λ e. e ≡ out_of_memory) }
         ensures file { OnErr result (self.now ≢ Source.InMemory) }
     {
-        match move_source(*self, src_ctx, dst_ctx) {
+        match move_source(*self, src_ctx.paths(), dst_ctx.paths_mut()) {
             Ok(source) => Ok(source),
             Err(_) => Err(out_of_memory()),
         }
@@ -110,10 +130,10 @@ impl Source {
 
 impl SourcePosition {
     /// The same position, which is so in any context. It is never refused.
-    pub fn clone_into_context<T: IrText<A>, A: AttrText>(
+    pub fn clone_into_context<C: HasPaths<A>, A>(
         &self,
-        _src_ctx: &Context<T, A>,
-        dst_ctx: &mut Context<T, A>,
+        _src_ctx: &C,
+        dst_ctx: &mut C,
     ) -> crate::result::Result<SourcePosition, A>
         ensures ok { result ≡ Ok self.now }
         ensures same { dst_ctx.new ≡ dst_ctx.old }
@@ -127,27 +147,23 @@ impl<A: AttrText> Location<A> {
     /// it, in the order in which the location mentions them. It is refused only for want of memory, by `Memory`, an error of
     /// kind invalid argument, and then the other context keeps what paths it kept. `Unknown`, and a place of a text in memory,
     /// are never refused.
-    pub fn clone_into_context<T: IrText<A>>(
+    pub fn clone_into_context<C: HasPaths<A>>(
         &self,
-        src_ctx: &Context<T, A>,
-        dst_ctx: &mut Context<T, A>,
+        src_ctx: &C,
+        dst_ctx: &mut C,
     ) -> crate::result::Result<Location<A>, A>
-        requires { IsTrue (are_known (length src_ctx.now.paths) (location_view self.now)) }
-        ensures ok { IfOk result (λ l. location_view l ≡ all_under dst_ctx.old.paths (written_with src_ctx.now.paths (location_view self.now))) }
-        ensures kept { OnOk result (dst_ctx.new ≡ with_paths dst_ctx.old (all_kept dst_ctx.old.paths (written_with src_ctx.now.paths (location_view self.now)))) }
-        ensures known { IfOk result (λ l. IsTrue (are_known (length dst_ctx.new.paths) (location_view l))) }
-        ensures text { IfOk result (λ l. written_with dst_ctx.new.paths (location_view l) ≡ written_with src_ctx.now.paths (location_view self.now)) }
+        requires { IsTrue (are_known (length (C.paths src_ctx.now)) (location_view self.now)) }
+        ensures ok { IfOk result (λ l. location_view l ≡ all_under (C.paths dst_ctx.old) (written_with (C.paths src_ctx.now) (location_view self.now))) }
+        ensures kept { OnOk result (dst_ctx.new ≡ C.with_paths dst_ctx.old (all_kept (C.paths dst_ctx.old) (written_with (C.paths src_ctx.now) (location_view self.now)))) }
+        ensures known { IfOk result (λ l. IsTrue (are_known (length (C.paths dst_ctx.new)) (location_view l))) }
+        ensures text { IfOk result (λ l. written_with (C.paths dst_ctx.new) (location_view l) ≡ written_with (C.paths src_ctx.now) (location_view self.now)) }
         ensures err { OnErr result (dst_ctx.new ≡ dst_ctx.old) }
         ensures memory { IfErr result (λ e. e ≡ out_of_memory) }
-        ensures free { OnErr result (is_free (written_with src_ctx.now.paths (location_view self.now)) ≡ false) }
+        ensures free { OnErr result (is_free (written_with (C.paths src_ctx.now) (location_view self.now)) ≡ false) }
     {
-        let count = dst_ctx.num_paths();
-        match move_location(self, src_ctx, dst_ctx) {
+        match moved(self, src_ctx.paths(), dst_ctx.paths_mut()) {
             Ok(location) => Ok(location),
-            Err(_) => {
-                dst_ctx.truncate_paths(count);
-                Err(out_of_memory())
-            }
+            Err(_) => Err(out_of_memory()),
         }
     }
 }

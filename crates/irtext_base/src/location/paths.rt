@@ -1,81 +1,163 @@
-//! Files as sources, and whether the files of a location are those of a context.
-ghost use Rattle.std.specs.Prelude.{◌≡◌, map, length, nat_lt, Some, IfOk, IfErr, OnOk, OnErr};
-ghost use Rattle.irtext_base.specs.Locations.{location_view, in_row, out_of_memory};
-ghost use Rattle.irtext_base.specs.Paths.{path_index, with_path, MayBeRefused, path_of, is_known, are_known, row_known};
+//! The paths of files, each kept once under a key, and what has such paths.
+ghost use Rattle.std.specs.Prelude.{◌≡◌, ◌≤◌, ◌<◌, ◌^◌, ◌++◌, ◌∷◌, ℕ, List, [], Some, false, is_some, IfOk, OnOk, OnErr, length, position, slice_get, take};
+ghost use Rattle.std.specs.Borrow.{sem};
+ghost use Rattle.std.specs.List.{list_any};
+ghost use Rattle.std.specs.Str.{bytes_eq};
+ghost use Rattle.irtext_base.specs.Paths.{path_texts, path_index, with_path, MayBeRefused};
 
-use crate::base::Context;
-use crate::location::{Location, Source, out_of_memory};
-use crate::text::{AttrText, IrText};
+use crate::location::PathKey;
+use indexmap::IndexSet;
+use std::alloc::{AllocError, Global};
+use std::marker::Model;
 
-impl Source {
-    /// The source of a file with this path, under the key that the context has for it or gives it. It is refused only for want
-    /// of memory, by `Memory`, an error of kind invalid argument, and then changes nothing. A path that the context keeps already
-    /// takes none; so it is refused only where its index takes more than 32 bits.
-    pub fn new_from_file<T: IrText<A>, A: AttrText>(
-        ctx: &mut Context<T, A>,
-        path: &str,
-    ) -> crate::result::Result<Source, A>
-        ensures source { IfOk result (λ source. source ≡ Source.File (record { index = path_index ctx.old.paths path.now })) }
-        ensures kept { OnOk result (ctx.new ≡ record ctx.old { paths = with_path ctx.old.paths path.now }) }
-        ensures err { OnErr result (ctx.new ≡ ctx.old) }
-        ensures memory { IfErr result (λ e. e ≡ out_of_memory) }
-        ensures known { OnErr result (MayBeRefused ctx.old.paths path.now) }
-    {
-        match ctx.keep_path(path) {
-            Ok(key) => Ok(Source::File(key)),
-            Err(_) => Err(out_of_memory()),
-        }
-    }
-
-    fn is_among(self, count: usize) -> bool
-        ensures { result ≡ is_known count self }
-    {
-        match self {
-            Source::File(key) => (key.index as usize) < count,
-            Source::InMemory => true,
-        }
-    }
-
-    /// Whether the source is in memory, or a file whose path the context keeps.
-    pub fn is_of<T: IrText<A>, A: AttrText>(self, ctx: &Context<T, A>) -> bool
-        ensures { result ≡ is_known (length ctx.now.paths) self }
-    {
-        self.is_among(ctx.num_paths())
-    }
+/// Paths of files. Each is kept once, under its index.
+#[derive(Drop)]
+pub struct Paths {
+    texts: IndexSet<String>,
+    alloc: Global,
 }
 
-#[cycle(known)]
-fn are_among<A>(location: &Location<A>, count: usize) -> bool
-    ensures { result ≡ are_known count (location_view location.now) }
+impl Model for Paths {
+    ghost use Rattle.std.specs.Prelude.{ℕ, List};
+    ghost use Rattle.std.specs.Coded.{coded_list, coded_ℕ};
+    ghost use Rattle.irtext_base.specs.Paths.{path_texts};
+
+    ghost Value = { List (List ℕ) };
+
+    ghost coded = { coded_list (coded_list coded_ℕ) };
+
+    ghost view = { λ p. path_texts p.texts };
+}
+
+/// What has paths of files, over attributes A, as a context has.
+pub trait HasPaths<A> {
+    ghost use Rattle.irtext_base.specs.PathLends.{LendsPaths};
+
+    // the paths, each in bytes
+    ghost paths: { Self → List (List ℕ) };
+    // the same with other paths in their place
+    ghost with_paths: { Self → List (List ℕ) → Self };
+
+    /// The paths.
+    fn paths(&self) -> &Paths
+        ensures { result.now ≡ paths self.now };
+
+    /// The paths, for writing.
+    fn paths_mut(&mut self) -> &mut Paths
+        ensures* lends { sem 𝓛 (LendsPaths Self.row with_paths self.entry result) }
+        ensures value { result.now ≡ paths self.old };
+
+    ghost paths_with: { (c : Self) (all : List (List ℕ)) → paths (with_paths c all) ≡ all };
+
+    ghost with_own: { (c : Self) → with_paths c (paths c) ≡ c };
+}
+
+/// An index as one of 32 bits, where it is one.
+fn as_index(index: usize) -> Result<u32, AllocError>
+    ensures ok { IfOk result (λ i. i ≡ index) }
+    ensures err { OnErr result (2 ^ 32 ≤ index) }
 {
-    match location {
-        Location::SrcPos { src, .. } => src.is_among(count),
-        Location::Fused { locations, .. } => all_among(locations, count),
-        Location::Named { child_loc, .. } => are_among(child_loc, count),
-        Location::CallSite { callee, caller } => {
-            are_among(callee, count) && are_among(caller, count)
-        }
-        Location::Unknown => true,
+    if index > u32::MAX as usize {
+        return Err(AllocError);
     }
+    Ok(index as u32)
 }
 
-#[cycle(known)]
-fn all_among<A>(locations: &Vec<Location<A>>, count: usize) -> bool
-    ensures { result ≡ row_known count (in_row (map location_view locations.now.items)) }
+fn find(paths: &IndexSet<String>, path: &str) -> Option<usize>
+    ensures index { result ≡ position (bytes_eq path.now) (path_texts paths.now) }
+    ensures found { is_some result ≡ list_any (bytes_eq path.now) (path_texts paths.now) }
 {
-    for location in locations {
-        if !are_among(location, count) {
-            return false;
-        }
-    }
-    true
+    paths.get_index_of(path)
 }
 
-impl<T: IrText<A>, A: AttrText> Context<T, A> {
-    /// Whether the context keeps the paths of all files that a location mentions.
-    pub fn contains_paths(&self, location: &Location<A>) -> bool
-        ensures { result ≡ are_known (length self.now.paths) (location_view location.now) }
+fn put_last(paths: &mut IndexSet<String>, alloc: Global, path: &str) -> Result<(), AllocError>
+    requires { list_any (bytes_eq path.now) (path_texts paths.old) ≡ false }
+    ensures ok { OnOk result (path_texts paths.new ≡ path_texts paths.old ++ path.now ∷ []) }
+    ensures err { OnErr result (path_texts paths.new ≡ path_texts paths.old) }
+{
+    let text = String::from_str(alloc, path)?;
+    paths.insert(text)?;
+    Ok(())
+}
+
+fn keep(paths: &mut IndexSet<String>, alloc: Global, path: &str) -> Result<u32, AllocError>
+    ensures index { IfOk result (λ i. i ≡ path_index (path_texts paths.old) path.now) }
+    ensures kept { OnOk result (path_texts paths.new ≡ with_path (path_texts paths.old) path.now) }
+    ensures err { OnErr result (path_texts paths.new ≡ path_texts paths.old) }
+    ensures known { OnErr result (MayBeRefused (path_texts paths.old) path.now) }
+{
+    if let Some(index) = find(paths, path) {
+        return as_index(index);
+    }
+    let index = as_index(paths.len())?;
+    put_last(paths, alloc, path)?;
+    Ok(index)
+}
+
+fn truncate(paths: &mut IndexSet<String>, count: usize)
+    ensures { path_texts paths.new ≡ take count (path_texts paths.old) }
+{
+    paths.truncate(count);
+}
+
+fn path_at(paths: &IndexSet<String>, index: usize) -> &str
+    requires { index < length (path_texts paths.now) }
+    ensures { slice_get (path_texts paths.now) index ≡ Some result.now }
+{
+    match paths.get_index(index) {
+        Some(path) => path.as_str(),
+        None => unreachable!(),
+    }
+}
+
+impl Paths {
+    /// No paths. It takes no memory yet.
+    pub fn new(alloc: Global) -> Paths
+        ensures { result ≡ [] }
     {
-        are_among(location, self.num_paths())
+        Paths {
+            texts: IndexSet::new(alloc),
+            alloc,
+        }
+    }
+
+    /// Where the paths are allocated.
+    pub fn allocator(&self) -> Global {
+        self.alloc
+    }
+
+    /// The key of a path, which is kept from then on: a path that is kept already has the key that it had, and takes no memory.
+    /// Where memory is refused, or the path's index takes more than 32 bits, nothing changes.
+    pub fn keep(&mut self, path: &str) -> Result<PathKey, AllocError>
+        ensures key { IfOk result (λ key. key.index ≡ path_index self.old path.now) }
+        ensures kept { OnOk result (self.new ≡ with_path self.old path.now) }
+        ensures err { OnErr result (self.new ≡ self.old) }
+        ensures known { OnErr result (MayBeRefused self.old path.now) }
+    {
+        let alloc = self.alloc;
+        let index = keep(&mut self.texts, alloc, path)?;
+        Ok(PathKey { index })
+    }
+
+    /// How many paths are kept.
+    pub fn len(&self) -> usize
+        ensures { result ≡ length self.now }
+    {
+        self.texts.len()
+    }
+
+    /// Takes all paths out but the first so many.
+    pub(crate) fn truncate(&mut self, count: usize)
+        ensures { self.new ≡ take count self.old }
+    {
+        truncate(&mut self.texts, count);
+    }
+
+    /// The path under a key of these paths.
+    pub fn path(&self, key: PathKey) -> &str
+        requires { key.index < length self.now }
+        ensures { slice_get self.now key.index ≡ Some result.now }
+    {
+        path_at(&self.texts, key.index as usize)
     }
 }

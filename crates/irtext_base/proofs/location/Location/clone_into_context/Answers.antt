@@ -1,15 +1,9 @@
-use Rattle.std.proofs.Common.{◌∙◌, ap₂, length}
+use Rattle.std.proofs.Common.{◌∙◌, ap}
 use Rattle.irtext_base.specs.Locations.{location_view}
-use Rattle.irtext_base.specs.Paths.{are_known, written_with}
-use Rattle.irtext_base.proofs.Moves.{under_known, under_written}
+use Rattle.irtext_base.specs.Paths.{written_with}
 use Rattle.irtext_base.proofs.location.Location.clone_into_context.Goals as goal
-
-pub returns-in-Ok-clause-known : goal.returns-in-Ok-clause-known
-returns-in-Ok-clause-known g c =
-    let e = c.in-Ok.ensures in
-    ap₂ (λ paths l. are_known (length paths) l) e.kept e.ok ∙ under_known c.args.dst_ctx.now.paths (written_with c.args.src_ctx.now.paths (location_view c.args.self.now))
 
 pub returns-in-Ok-clause-text : goal.returns-in-Ok-clause-text
 returns-in-Ok-clause-text g c =
-    let e = c.in-Ok.ensures in
-    ap₂ written_with e.kept e.ok ∙ under_written c.args.dst_ctx.now.paths (written_with c.args.src_ctx.now.paths (location_view c.args.self.now))
+    ap (λ paths. written_with paths (location_view c.in-Ok.location)) (g.met.C.HasPaths.paths_with c.args.dst_ctx.now c.moved.new.to)
+    ∙ (c.in-Ok.ensures.text ∙ ap (λ paths. written_with paths (location_view c.args.self.now)) c.paths.ensures)

@@ -8,10 +8,10 @@ use Rattle.irtext_base.proofs.location.into_context.+moved.Given as goal
 -- what was moved so far, and then what is left, is all, and so with the paths that are kept
 abbrev pub invariant-move_locations-loop-location : goal.invariant-move_locations-loop-location
 invariant-move_locations-loop-location g l = record {
-  known : IsTrue (row_known (length l.from.paths) (in_row (map location_view (drop l.location-index l.location-items))));
-  moved : in_front (map location_view l.moved.items) (row_under l.to.paths (row_sourced (path_of l.from.paths) (in_row (map location_view (drop l.location-index l.location-items)))))
-      ≡ row_under l.initial.to.paths (row_sourced (path_of l.from.paths) (in_row (map location_view l.location-items)));
-  kept : row_kept l.to.paths (row_sourced (path_of l.from.paths) (in_row (map location_view (drop l.location-index l.location-items))))
-      ≡ row_kept l.initial.to.paths (row_sourced (path_of l.from.paths) (in_row (map location_view l.location-items)));
+  known : IsTrue (row_known (length l.from) (in_row (map location_view (drop l.location-index l.location-items))));
+  moved : in_front (map location_view l.moved.items) (row_under l.to (row_sourced (path_of l.from) (in_row (map location_view (drop l.location-index l.location-items)))))
+      ≡ row_under l.initial.to (row_sourced (path_of l.from) (in_row (map location_view l.location-items)));
+  kept : row_kept l.to (row_sourced (path_of l.from) (in_row (map location_view (drop l.location-index l.location-items))))
+      ≡ row_kept l.initial.to (row_sourced (path_of l.from) (in_row (map location_view l.location-items)));
   more : KeepsMore l.initial.to l.to;
 }

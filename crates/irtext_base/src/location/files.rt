@@ -1,0 +1,80 @@
+//! Files as sources, and whether the files of a location are among those whose paths are kept.
+ghost use Rattle.std.specs.Prelude.{◌≡◌, map, length, nat_lt, Some, IfOk, IfErr, OnOk, OnErr};
+ghost use Rattle.irtext_base.specs.Locations.{location_view, in_row, out_of_memory};
+ghost use Rattle.irtext_base.specs.Paths.{path_index, with_path, MayBeRefused, path_of, is_known, are_known, row_known};
+
+use crate::location::paths::{HasPaths, Paths};
+use crate::location::{Location, Source, out_of_memory};
+
+impl Source {
+    /// The source of a file with this path, under the key that the context has for it or gives it. It is refused only for want
+    /// of memory, by `Memory`, an error of kind invalid argument, and then changes nothing. A path that the context keeps already
+    /// takes none; so it is refused only where its index takes more than 32 bits.
+    pub fn new_from_file<C: HasPaths<A>, A>(
+        ctx: &mut C,
+        path: &str,
+    ) -> crate::result::Result<Source, A>
+        ensures source { IfOk result (λ source. source ≡ Source.File (record { index = path_index (C.paths ctx.old) path.now })) }
+        ensures kept { OnOk result (ctx.new ≡ C.with_paths ctx.old (with_path (C.paths ctx.old) path.now)) }
+        ensures err { OnErr result (ctx.new ≡ ctx.old) }
+        ensures memory { IfErr result (λ e. e ≡ out_of_memory) }
+        ensures known { OnErr result (MayBeRefused (C.paths ctx.old) path.now) }
+    {
+        match ctx.paths_mut().keep(path) {
+            Ok(key) => Ok(Source::File(key)),
+            Err(_) => Err(out_of_memory()),
+        }
+    }
+
+    fn is_among(self, count: usize) -> bool
+        ensures { result ≡ is_known count self }
+    {
+        match self {
+            Source::File(key) => (key.index as usize) < count,
+            Source::InMemory => true,
+        }
+    }
+
+    /// Whether the source is in memory, or a file whose path the context keeps.
+    pub fn is_of<C: HasPaths<A>, A>(self, ctx: &C) -> bool
+        ensures { result ≡ is_known (length (C.paths ctx.now)) self }
+    {
+        self.is_among(ctx.paths().len())
+    }
+}
+
+#[cycle(known)]
+fn are_among<A>(location: &Location<A>, count: usize) -> bool
+    ensures { result ≡ are_known count (location_view location.now) }
+{
+    match location {
+        Location::SrcPos { src, .. } => src.is_among(count),
+        Location::Fused { locations, .. } => all_among(locations, count),
+        Location::Named { child_loc, .. } => are_among(child_loc, count),
+        Location::CallSite { callee, caller } => {
+            are_among(callee, count) && are_among(caller, count)
+        }
+        Location::Unknown => true,
+    }
+}
+
+#[cycle(known)]
+fn all_among<A>(locations: &Vec<Location<A>>, count: usize) -> bool
+    ensures { result ≡ row_known count (in_row (map location_view locations.now.items)) }
+{
+    for location in locations {
+        if !are_among(location, count) {
+            return false;
+        }
+    }
+    true
+}
+
+impl Paths {
+    /// Whether the paths of all files that a location mentions are kept.
+    pub fn contain<A>(&self, location: &Location<A>) -> bool
+        ensures { result ≡ are_known (length self.now) (location_view location.now) }
+    {
+        are_among(location, self.len())
+    }
+}

@@ -1,0 +1,16 @@
+use Rattle.std.proofs.Common.{◌≡◌, arith, rules}
+use Rattle.std.proofs.lemmas.Grind.{common_steps}
+use Rattle.irtext_context.specs.Directives.{format_of}
+use Rattle.irtext_base.specs.Format.{Accepted}
+use Rattle.irtext_context.proofs.Dialects.{accepted_put}
+use Rattle.irtext_context.proofs.dialect.Dialect.add_op.Goals as goal
+
+pub returns-then-not-is_of-clause-refused : goal.returns-then-not-is_of-clause-refused
+returns-then-not-is_of-clause-refused g c = rw (c.invalid.ensures, ← c.self.view_is) (c.wrong_dialect.ensures c.args.format)
+
+pub invariant_of-self : goal.invariant_of-self
+invariant_of-self g c =
+    let i = c.self.inside in
+    let d : c.args.id.dialect ≡ i.name = first_of (search rules, grind (arith, common_steps)) in
+    let f : Accepted (format_of c.args.format) = first_of (search rules, grind (arith, common_steps)) in
+    accepted_put c.put.result i.name i.ops.entries c.put.new.ops.entries c.args.id (record { format = c.args.format; isolated = c.args.isolated }) c.put.ensures.ok c.put.ensures.err c.self.invariant d f

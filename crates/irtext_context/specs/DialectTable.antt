@@ -1,0 +1,36 @@
+-- The dialects that a context has registered, and the operations that are registered with them.
+use Rattle.std.specs.Prelude.{◌≡◌, ◌<◌, ℕ, List, [], length, slice_get, Option, Some, option_and_then, unwrap_or}
+use Rattle.std.specs.Map.{lookup, values_of}
+use Rattle.std.specs.Str.{bytes_eq}
+use Rattle.indexmap.specs.IndexMap.{insert_entry}
+use Rattle.indexmap.specs.Layout.{set_value_at}
+use Rattle.irtext_base.specs.Text.{Text}
+use Rattle.irtext_context.specs.Dialects.{Table, same_id}
+use Rattle.irtext_base.specs.declared.base.identifier.OpId.{OpId}
+use Rattle.irtext_context.specs.declared.dialect.OpInfo.{OpInfo}
+
+-- the dialect of a name, if it is registered
+abbrev pub dialect_of : List (Text × Table) → Text → Option Table
+dialect_of dialects name = lookup (bytes_eq name) dialects
+
+-- a dialect without operations
+abbrev pub no_operations : Text → Table
+no_operations name = record { name = name; entries = [] }
+
+-- the dialect of a name once it is registered: the one that is there, else one without operations
+abbrev pub dialect_or_new : List (Text × Table) → Text → Table
+dialect_or_new dialects name = unwrap_or (dialect_of dialects name) (no_operations name)
+
+-- the dialects with this one under a name: in the place of the one that is there, else last
+abbrev pub with_dialect : List (Text × Table) → Text → Table → List (Text × Table)
+with_dialect dialects name table = insert_entry bytes_eq dialects name table
+
+-- the dialect of a name stands at an index of a table that has it, and another one there is the table with that one under the name
+pub record IsKeptAt (old : List (Text × Table)) (name : Text) (i : ℕ) (new : List (Text × Table)) : Type 0 where
+  pub within : i < length new
+  pub here : slice_get (values_of new) i ≡ Some (dialect_or_new old name)
+  pub replaced : (table : Table) → set_value_at new i table ≡ with_dialect old name table
+
+-- what is known of an operation, if its dialect is registered and it is registered with that
+abbrev pub registered : List (Text × Table) → OpId → Option OpInfo
+registered dialects id = option_and_then (λ table. lookup (same_id id) table.entries) (dialect_of dialects id.dialect)

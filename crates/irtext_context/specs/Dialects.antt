@@ -1,0 +1,36 @@
+-- What a contract sees of a dialect: its name, and its operations with their formats.
+use Rattle.std.specs.Prelude.{◌≡◌, Bool, false, ◌&&◌, List, [], ◌∷◌}
+use Rattle.std.specs.Str.{bytes_eq}
+use Rattle.indexmap.specs.IndexMap.{insert_entry}
+use Rattle.irtext_base.specs.Text.{Text}
+use Rattle.irtext_base.specs.Format.{Accepted, first_fault}
+use Rattle.irtext_context.specs.Directives.{format_of, condition_number}
+use Rattle.irtext_base.specs.declared.base.identifier.OpId.{OpId}
+use Rattle.irtext_context.specs.declared.dialect.OpInfo.{OpInfo}
+use Rattle.irtext_base.specs.declared.format.OpFormat.{OpFormat}
+use Rattle.irtext_base.specs.declared.result.Cause.{Cause, Memory, FormatFault, WrongDialect}
+
+-- a dialect: its name, and its operations in the order in which they came
+pub record Table : Type 0 where
+  pub name : Text
+  pub entries : List (OpId × OpInfo)
+
+-- both ids have the same dialect and the same name
+abbrev pub same_id : OpId → OpId → Bool
+same_id x y = bytes_eq x.dialect y.dialect && bytes_eq x.name y.name
+
+-- each operation is one of the dialect, and its format reads uniquely
+abbrev pub AreAccepted : Text → List (OpId × OpInfo) → Type 0
+AreAccepted name [] = Unit {0}
+AreAccepted name (e ∷ es) = (e.0.dialect ≡ name) × Accepted (format_of e.1.format) × AreAccepted name es
+
+-- the dialect with one more operation, or with another format and isolation of one that it has
+abbrev pub with_op : Table → OpId → OpFormat → Bool → Table
+with_op table id format isolated = record { name = table.name; entries = insert_entry same_id table.entries id (record { format = format; isolated = isolated }) }
+
+-- why an operation is refused: it is of another dialect, or else its format may not read uniquely, or else memory was refused
+abbrev pub IsRefusedBy : {A : Type 0} → Text → OpId → OpFormat → Cause A → Type 0
+IsRefusedBy name id format (WrongDialect i d) = (bytes_eq id.dialect name ≡ false) × (i ≡ id) × (d ≡ name)
+IsRefusedBy name id format (FormatFault fault) = (id.dialect ≡ name) × (first_fault (format_of format) ≡ condition_number fault)
+IsRefusedBy name id format Memory = id.dialect ≡ name → Accepted (format_of format)
+IsRefusedBy name id format _ = ⊥

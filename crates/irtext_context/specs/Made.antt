@@ -1,0 +1,42 @@
+-- An operation that is made with its regions: whether it is registered, what comes to the context, and what a refusal leaves.
+use Rattle.std.specs.Prelude.{◌≡◌, ℕ, zero, suc, List, [], None, IsSome}
+use Rattle.irtext_base.specs.Text.{Text}
+use Rattle.irtext_context.specs.Dialects.{Table}
+use Rattle.irtext_context.specs.DialectTable.{dialect_of, registered}
+use Rattle.irtext_context.specs.Context.{ContextView, OperationView, MakesOperation, AddsRegion, get}
+use Rattle.irtext_base.specs.Paths.{KeepsPaths}
+use Rattle.irtext_context.specs.declared.base.arena.Ptr.{Ptr}
+use Rattle.irtext_base.specs.declared.base.identifier.OpId.{OpId}
+use Rattle.irtext_context.specs.declared.base.operation.Operation.{Operation}
+use Rattle.irtext_context.specs.declared.base.region.Region.{Region}
+use Rattle.irtext_base.specs.declared.location.Location.{Unknown}
+use Rattle.irtext_base.specs.declared.result.Cause.{Cause, UnregisteredDialect, UnregisteredOp}
+
+-- why an operation is unknown: its dialect isn't registered, or it isn't registered with its dialect
+abbrev pub IsUnregistered : {A : Type 0} → List (Text × Table) → OpId → Cause A → Type 0
+IsUnregistered dialects id (UnregisteredDialect name) = (name ≡ id.dialect) × (dialect_of dialects id.dialect ≡ None)
+IsUnregistered dialects id (UnregisteredOp i) = (i ≡ id) × IsSome (dialect_of dialects id.dialect) × (registered dialects id ≡ None)
+IsUnregistered dialects id _ = ⊥
+
+module _ {T A : Type 0} where
+  -- an operation without results, attributes and regions, whose location is unknown
+  abbrev pub bare_view : OpId → OperationView T A
+  bare_view id = record { id = id; result_types = []; attributes = []; loc = Unknown; regions = [] }
+
+  -- as many regions came to stand in an operation, one after the other
+  abbrev pub AddsRegions : ℕ → ContextView T A → ContextView T A → Ptr Operation → Type 0
+  AddsRegions zero old new op = new ≡ old
+  AddsRegions (suc n) old new op = (mid : ContextView T A) × (r : Ptr Region) × AddsRegions n old mid op × AddsRegion mid new op r
+
+  -- such an operation came to stand under a new pointer, and then as many regions in it
+  pub record MakesWithRegions (n : ℕ) (old new : ContextView T A) (op : Ptr Operation) (id : OpId) : Type 0 where
+    pub middle : ContextView T A
+    pub makes : MakesOperation old middle op (bare_view id)
+    pub adds : AddsRegions n middle new op
+
+  -- every object that stood stands as it did, none else does, each path stays under its key, and the dialects are the same
+  pub record SameObjects (old new : ContextView T A) : Type 0 where
+    pub operations : (p : Ptr Operation) → get new.operations p ≡ get old.operations p
+    pub regions : (p : Ptr Region) → get new.regions p ≡ get old.regions p
+    pub paths : KeepsPaths old.paths new.paths
+    pub dialects : new.dialects ≡ old.dialects

@@ -1,0 +1,77 @@
+//! The making of operations that are registered.
+ghost use Rattle.std.specs.Prelude.{◌≡◌, ◌≤◌, ◌⊎◌, ℕ, None, IsSome, IfOk, IfErr, OnOk, OnErr};
+ghost use Rattle.irtext_context.specs.Context.{operation, before, KeepsOlder};
+ghost use Rattle.irtext_context.specs.DialectTable.{registered};
+ghost use Rattle.irtext_context.specs.Made.{IsUnregistered, AddsRegions, MakesWithRegions, SameObjects};
+ghost use Rattle.irtext_base.specs.declared.location.Location.{Unknown};
+
+use crate::base::{Context, Operation, Ptr};
+use crate::dialect::invalid;
+use irtext_base::base::{AttributeDict, OpId};
+use irtext_base::location::Location;
+use irtext_base::result;
+use irtext_base::result::{Cause, ErrorKind};
+use irtext_base::text::{AttrText, IrText};
+use std::alloc::AllocError;
+
+/// Adds as many empty regions to an operation. Those that were added stay where memory is refused or a counter is full.
+pub fn add_regions<T: IrText<A>, A: AttrText>(
+    ctx: &mut Context<T, A>,
+    op: Ptr<Operation>,
+    count: usize,
+) -> Result<(), AllocError>
+    requires { IsSome (operation ctx.old op) }
+    ensures adds { OnOk result (AddsRegions count ctx.old ctx.new op) }
+    ensures kept { (mark : ℕ) → mark ≤ ctx.old.made → before mark ctx.old.operations op ≡ None → KeepsOlder mark ctx.old ctx.new }
+{
+    for _region in 0..count {
+        ctx.add_region(op)?;
+    }
+    Ok(())
+}
+
+/// An operation with as many regions. What was made stays where memory is refused.
+fn make<T: IrText<A>, A: AttrText>(
+    ctx: &mut Context<T, A>,
+    id: OpId,
+    num_regions: usize,
+) -> Result<Ptr<Operation>, AllocError>
+    ensures made { IfOk result (λ op. MakesWithRegions num_regions ctx.old ctx.new op id) }
+    ensures kept { (mark : ℕ) → mark ≤ ctx.old.made → KeepsOlder mark ctx.old ctx.new }
+{
+    let attributes = AttributeDict::new(ctx.allocator());
+    let op = ctx.make_operation(id, attributes, Location::Unknown)?;
+    add_regions(ctx, op, num_regions)?;
+    Ok(op)
+}
+
+impl Operation {
+    /// Makes an operation with as many regions, without results, attributes and a location. Where it isn't registered it answers
+    /// `UnregisteredDialect` or `UnregisteredOp`, else where memory is refused or a counter is full `Memory`. The error is of kind
+    /// invalid argument without a location, and all objects are as they were.
+    pub fn new<T: IrText<A>, A: AttrText>(
+        ctx: &mut Context<T, A>,
+        id: OpId,
+        num_regions: usize,
+    ) -> result::Result<Ptr<Operation>, A>
+        ensures made { IfOk result (λ op. MakesWithRegions num_regions ctx.old ctx.new op id) }
+        ensures registered { OnOk result (IsSome (registered ctx.old.dialects id)) }
+        ensures kept { (mark : ℕ) → mark ≤ ctx.old.made → KeepsOlder mark ctx.old ctx.new }
+        ensures objects { OnErr result (SameObjects ctx.old ctx.new) }
+        ensures refused { IfErr result (λ e. (IsSome (registered ctx.old.dialects id) × (e.err ≡ Cause.Memory)) ⊎ IsUnregistered ctx.old.dialects id e.err) }
+        ensures kind { IfErr result (λ e. (e.kind ≡ ErrorKind.InvalidArgument) × (e.loc ≡ Unknown)) }
+    {
+        let id = match ctx.known_id(id) {
+            Ok(id) => id,
+            Err(cause) => return Err(invalid(cause)),
+        };
+        let made = ctx.made();
+        match make(ctx, id, num_regions) {
+            Ok(op) => Ok(op),
+            Err(AllocError) => {
+                ctx.roll_back(made);
+                Err(invalid(Cause::Memory))
+            }
+        }
+    }
+}

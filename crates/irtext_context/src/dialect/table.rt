@@ -1,0 +1,145 @@
+//! The dialects of a context: how one is registered, and what is known of an operation.
+ghost use Rattle.std.specs.Prelude.{◌≡◌, ◌<◌, ◌∷◌, ◌++◌, [], Some, None, IsSome, IfOk, IfErr, IfSome, OnOk, OnErr, length, slice_get, is_some, option_copied};
+ghost use Rattle.std.specs.Borrow.{sem};
+ghost use Rattle.std.specs.Map.{lookup, values_of};
+ghost use Rattle.std.specs.Str.{bytes_eq};
+ghost use Rattle.irtext_context.specs.DialectTable.{IsKeptAt, no_operations, dialect_of, dialect_or_new, registered};
+ghost use Rattle.irtext_context.specs.Directives.{format_of};
+ghost use Rattle.irtext_base.specs.Format.{Accepted};
+ghost use Rattle.irtext_context.specs.Made.{IsUnregistered};
+ghost use Rattle.irtext_base.specs.declared.location.Location.{Unknown};
+
+use crate::base::Context;
+use crate::dialect::{Dialect, DialectName, OpInfo, invalid};
+use indexmap::IndexMap;
+use irtext_base::base::{Identifier, OpId};
+use irtext_base::result;
+use irtext_base::result::{Cause, ErrorKind};
+use irtext_base::text::{AttrText, IrText};
+use std::alloc::{AllocError, Global};
+
+/// A dialect without operations, under its name.
+fn empty(alloc: Global, name: &DialectName) -> Result<(DialectName, Dialect), AllocError>
+    ensures { IfOk result (λ e. e ≡ (name.now, no_operations name.now)) }
+{
+    let key = name.name.clone()?;
+    let name = name.name.clone()?;
+    let dialect = Dialect::new(alloc, DialectName { name });
+    Ok((DialectName { name: key }, dialect))
+}
+
+/// Puts a dialect last. Where memory is refused, nothing changes.
+fn put_last(
+    dialects: &mut IndexMap<DialectName, Dialect>,
+    key: DialectName,
+    dialect: Dialect,
+) -> Result<(), AllocError>
+    requires { lookup (bytes_eq key) dialects.old.entries ≡ None }
+    ensures ok { OnOk result (dialects.new.entries ≡ dialects.old.entries ++ (key, dialect) ∷ []) }
+    ensures err { OnErr result (dialects.new.entries ≡ dialects.old.entries) }
+{
+    dialects.insert(key, dialect)?;
+    Ok(())
+}
+
+/// The index of the dialect of a name, which is put last where it isn't there. Where memory is refused, nothing changes.
+fn keep(
+    dialects: &mut IndexMap<DialectName, Dialect>,
+    alloc: Global,
+    name: &DialectName,
+) -> Result<usize, AllocError>
+    ensures index { IfOk result (λ i. IsKeptAt dialects.old.entries name.now i dialects.new.entries) }
+    ensures err { OnErr result (dialects.new.entries ≡ dialects.old.entries) }
+{
+    if let Some(index) = dialects.get_index_of(name) {
+        return Ok(index);
+    }
+    let index = dialects.len();
+    let (key, dialect) = empty(alloc, name)?;
+    put_last(dialects, key, dialect)?;
+    Ok(index)
+}
+
+impl<T: IrText<A>, A: AttrText> Context<T, A> {
+    ghost use Rattle.irtext_context.specs.DialectLends.{LendsDialectAt};
+
+    /// The dialect at an index, for writing.
+    fn dialect_at(&mut self, index: usize) -> &mut Dialect
+        requires { index < length self.old.dialects }
+        ensures* lends { sem 𝓛 (LendsDialectAt T.row A.row self.entry index result) }
+        ensures value { slice_get (values_of self.old.dialects) index ≡ Some result.now }
+    {
+        &mut self.dialects[index]
+    }
+
+    /// The index of the dialect of a name, which is registered without operations where it isn't there. Where memory is refused,
+    /// nothing changes.
+    fn keep_dialect(&mut self, name: &DialectName) -> Result<usize, AllocError>
+        ensures index { IfOk result (λ i. IsKeptAt self.old.dialects name.now i self.new.dialects) }
+        ensures rest { OnOk result (self.new ≡ record self.old { dialects = self.new.dialects }) }
+        ensures err { OnErr result (self.new ≡ self.old) }
+    {
+        let alloc = self.allocator();
+        keep(&mut self.dialects, alloc, name)
+    }
+
+    /// The dialect of a name, if it is registered. It takes no memory.
+    pub fn dialect(&self, name: &DialectName) -> Option<&Dialect>
+        ensures { option_copied result ≡ dialect_of self.now.dialects name.now }
+    {
+        self.dialects.get(name)
+    }
+
+    /// Whether a dialect of this name is registered. It takes no memory.
+    pub fn has_dialect(&self, name: &Identifier) -> bool
+        ensures { result ≡ is_some (dialect_of self.now.dialects name.now) }
+    {
+        self.dialects.contains_key(name)
+    }
+
+    /// What is known of an operation, if it is registered with a dialect of the context. It takes no memory.
+    pub fn op_info(&self, id: &OpId) -> Option<&OpInfo>
+        ensures found { option_copied result ≡ registered self.now.dialects id.now }
+        ensures accepted { IfSome result (λ info. Accepted (format_of info.now.format)) }
+    {
+        let dialect = self.dialects.get(&id.dialect)?;
+        dialect.op(id)
+    }
+
+    /// The same id, where its operation is registered with a dialect of the context. Else it answers `UnregisteredDialect` where
+    /// the dialect isn't registered, and `UnregisteredOp` where it is. It takes no memory.
+    pub fn known_id(&self, id: OpId) -> Result<OpId, Cause<A>>
+        ensures ok { IfOk result (λ i. (i ≡ id) × IsSome (registered self.now.dialects id)) }
+        ensures refused { IfErr result (λ cause. IsUnregistered self.now.dialects id cause) }
+    {
+        if !self.has_dialect(&id.dialect) {
+            return Err(Cause::UnregisteredDialect(id.dialect));
+        }
+        if self.op_info(&id).is_none() {
+            return Err(Cause::UnregisteredOp(id));
+        }
+        Ok(id)
+    }
+}
+
+impl Dialect {
+    ghost use Rattle.irtext_context.specs.DialectLends.{LendsDialect};
+
+    /// The context's dialect of a name, for writing. Where the context has none it is registered first, without operations; a
+    /// dialect that is there stays as it is. Only memory can be refused, with kind invalid argument and no location, and then
+    /// nothing changes.
+    pub fn register<'c, T: IrText<A>, A: AttrText>(
+        ctx: &'c mut Context<T, A>,
+        name: &DialectName,
+    ) -> result::Result<&'c mut Dialect, A>
+        ensures* lends { sem 𝓛 (LendsDialect T.row A.row ctx.entry name.now result) }
+        ensures value { IfOk result (λ dialect. dialect.now ≡ dialect_or_new ctx.old.dialects name.now) }
+        ensures refused { IfErr result (λ e. e.err ≡ Cause.Memory) }
+        ensures kind { IfErr result (λ e. (e.kind ≡ ErrorKind.InvalidArgument) × (e.loc ≡ Unknown)) }
+    {
+        match ctx.keep_dialect(name) {
+            Ok(index) => Ok(ctx.dialect_at(index)),
+            Err(AllocError) => Err(invalid(Cause::Memory)),
+        }
+    }
+}

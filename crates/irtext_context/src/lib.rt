@@ -1,0 +1,8 @@
+//! The context: operations and regions in arenas, dialects with the formats of their operations, and the check of formats.
+#![tactic(auto)]
+
+pub mod base;
+pub mod dialect;
+pub mod format;
+pub mod laws;
+pub mod location;
