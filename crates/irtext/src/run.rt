@@ -1,6 +1,6 @@
 //! What the program does with its words, its input and its outputs.
 ghost use Rattle.std.specs.Prelude.{◌≤◌, ◌≡◌, IsSome};
-ghost use Rattle.irtext_base.specs.Context.{operation};
+ghost use Rattle.irtext_context.specs.Context.{operation};
 
 use irtext_types::dialects::register_demo;
 use irtext_types::{DemoAttr, DemoType};

@@ -6,7 +6,7 @@ ghost use Rattle.irtext_outcomes.specs.Readers.Roots.{itself, replaced};
 
 use crate::parsable::{Parsable, ParseResult, StateStream};
 use irtext_base::base::Identifier;
-use irtext_base::dialect::DialectName;
+use irtext_context::dialect::DialectName;
 use irtext_base::parsable::CharStream;
 use irtext_base::result::Cause;
 use irtext_base::text::{AttrText, IrText};

@@ -3,8 +3,8 @@ ghost use Rattle.std.specs.Prelude.{◌≡◌, Some};
 
 use crate::printable::Printable;
 use crate::printable::state::State;
-use irtext_base::base::Context;
-use irtext_base::dialect::Dialect;
+use irtext_context::base::Context;
+use irtext_context::dialect::Dialect;
 use irtext_base::text::{AttrText, IrText};
 use std::convert::AsStr;
 use std::fmt;

@@ -6,9 +6,9 @@ ghost use Rattle.irtext_print.specs.Printers.Shown.{Shown};
 ghost use Rattle.irtext_print.specs.Printers.Appended.{Writes};
 ghost use Rattle.std.specs.declared.string.String.{String};
 ghost use Rattle.std.specs.declared.alloc.Global.{Global};
-ghost use Rattle.irtext_base.specs.declared.base.context.Context.{Context};
+ghost use Rattle.irtext_context.specs.declared.base.context.Context.{Context};
 
-use irtext_base::base::Context;
+use irtext_context::base::Context;
 pub use irtext_base::printable::ListSeparator;
 use irtext_base::text::{AttrText, IrText};
 use std::fmt;

@@ -2,7 +2,7 @@
 use Rattle.std.specs.Prelude.{◌≡◌, ℕ, false, List, [], Result, Ok, Err, ⊤}
 use Rattle.std.specs.Str.{chars}
 use Rattle.std.specs.Borrow.{MutBor}
-use Rattle.irtext_base.specs.Context.{ContextView}
+use Rattle.irtext_context.specs.Context.{ContextView}
 use Rattle.irtext_base.specs.Stream.{StreamView}
 use Rattle.irtext_base.specs.declared.location.Location.{SrcPos, Unknown}
 use Rattle.irtext_base.specs.declared.location.Source.TheVariants.{InMemory}

@@ -2,9 +2,9 @@
 use Rattle.std.specs.Prelude.{◌≡◌, Bool, true, false, List, [], ◌∷◌, codes}
 use Rattle.irtext_base.specs.Text.{Text}
 use Rattle.irtext_base.specs.Format.{Directive, custom, word, attribute, header, region}
-use Rattle.irtext_base.specs.Dialects.{Table, with_op}
-use Rattle.irtext_base.specs.DialectTable.{dialect_or_new, with_dialect}
-use Rattle.irtext_base.specs.Directives.{format_of}
+use Rattle.irtext_context.specs.Dialects.{Table, with_op}
+use Rattle.irtext_context.specs.DialectTable.{dialect_or_new, with_dialect}
+use Rattle.irtext_context.specs.Directives.{format_of}
 use Rattle.irtext_base.specs.declared.base.identifier.OpId.{OpId}
 use Rattle.irtext_base.specs.declared.format.OpFormat.{OpFormat}
 

@@ -1,13 +1,14 @@
 //! The demo dialects `builtin` and `test`, with those of their operations that are read and printed so far.
 ghost use Rattle.std.specs.Prelude.{◌≡◌, IfOk, IfErr, IsTrue, OnOk, codes};
-ghost use Rattle.irtext_base.specs.Directives.{directive_of, format_of};
+ghost use Rattle.irtext_context.specs.Directives.{directive_of, format_of};
 ghost use Rattle.irtext_base.specs.Format.{custom, word};
 ghost use Rattle.irtext_base.specs.Text.{is_identifier};
 ghost use Rattle.irtext_base.specs.declared.location.Location.{Unknown};
 ghost use Rattle.irtext_types.specs.DemoDialects.{demo_operations, id_with, module_directives, function_directives, scope_directives, module_op, function_op, scope_op, nop_op, with_operation, Registers, RegistersAll};
 
-use irtext_base::base::{Context, Identifier, OpId};
-use irtext_base::dialect::{Dialect, DialectName};
+use irtext_context::base::Context;
+use irtext_base::base::{Identifier, OpId};
+use irtext_context::dialect::{Dialect, DialectName};
 use irtext_base::format::{Directive, OpFormat};
 use irtext_base::location::Location;
 use irtext_base::result::{Cause, Error, ErrorKind, Result as Answer};

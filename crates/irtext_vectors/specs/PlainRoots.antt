@@ -4,12 +4,12 @@ use Rattle.irtext_base.specs.Format as format
 use Rattle.irtext_base.specs.Format.{Id, Format, same_text}
 use Rattle.irtext_base.specs.Own.{Language, unplaced}
 use Rattle.irtext_base.specs.Text.{Text}
-use Rattle.irtext_base.specs.Context.{ContextView, OperationView}
-use Rattle.irtext_base.specs.Dialects.{Table}
-use Rattle.irtext_base.specs.declared.base.arena.Ptr.{Ptr}
+use Rattle.irtext_context.specs.Context.{ContextView, OperationView}
+use Rattle.irtext_context.specs.Dialects.{Table}
+use Rattle.irtext_context.specs.declared.base.arena.Ptr.{Ptr}
 use Rattle.irtext_base.specs.declared.base.attributes.AttrObj.TheVariants.{Ident}
 use Rattle.irtext_base.specs.declared.base.identifier.OpId.{OpId}
-use Rattle.irtext_base.specs.declared.base.region.Region.{Region}
+use Rattle.irtext_context.specs.declared.base.region.Region.{Region}
 use Rattle.irtext_base.specs.declared.format.Directive.{Directive}
 use Rattle.irtext_base.specs.declared.format.OpFormat.TheVariants.{Custom}
 use Rattle.irtext_base.specs.declared.location.Location.{Unknown}

@@ -2,12 +2,12 @@
 ghost use Rattle.std.specs.Prelude.{◌≡◌, [], ◌∷◌, codes, None, Some, Vec};
 ghost use Rattle.std.specs.declared.alloc.Global.{Global};
 ghost use Rattle.std.specs.declared.marker.PhantomData.{PhantomData};
-ghost use Rattle.irtext_base.specs.Context.{operation};
+ghost use Rattle.irtext_context.specs.Context.{operation};
 ghost use Rattle.irtext_base.specs.Format.{same_text};
 ghost use Rattle.irtext_base.specs.Own.{unplaced};
-ghost use Rattle.irtext_base.specs.declared.base.arena.Ptr.{Ptr};
-ghost use Rattle.irtext_base.specs.declared.base.operation.Operation.{Operation};
-ghost use Rattle.irtext_base.specs.declared.base.region.Region as declared;
+ghost use Rattle.irtext_context.specs.declared.base.arena.Ptr.{Ptr};
+ghost use Rattle.irtext_context.specs.declared.base.operation.Operation.{Operation};
+ghost use Rattle.irtext_context.specs.declared.base.region.Region as declared;
 ghost use Rattle.irtext_base.specs.declared.format.Directive.{Directive};
 ghost use Rattle.irtext_base.specs.declared.format.Directive.TheVariants.{Region, SymbolHeader};
 ghost use Rattle.irtext_vectors.specs.Demo.{texts};

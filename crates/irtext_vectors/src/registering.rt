@@ -1,10 +1,11 @@
 //! What a caller knows of a context once the reference to its dialect is given up.
 ghost use Rattle.std.specs.Prelude.{◌≡◌, ◌⊎◌, OnOk, OnErr};
-ghost use Rattle.irtext_base.specs.Dialects.{with_op};
-ghost use Rattle.irtext_base.specs.DialectTable.{dialect_or_new, with_dialect};
+ghost use Rattle.irtext_context.specs.Dialects.{with_op};
+ghost use Rattle.irtext_context.specs.DialectTable.{dialect_or_new, with_dialect};
 
-use irtext_base::base::{Context, OpId};
-use irtext_base::dialect::{Dialect, DialectName};
+use irtext_context::base::Context;
+use irtext_base::base::OpId;
+use irtext_context::dialect::{Dialect, DialectName};
 use irtext_base::format::OpFormat;
 use irtext_base::result::Result;
 use irtext_base::text::{AttrText, IrText};

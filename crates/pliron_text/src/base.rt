@@ -1,5 +1,4 @@
 //! The objects of a context.
 
-pub use irtext_base::base::{
-    AttrObj, AttributeDict, Context, Identifier, OpId, Operation, Ptr, Region,
-};
+pub use irtext_base::base::{AttrObj, AttributeDict, Identifier, OpId};
+pub use irtext_context::base::{Context, Operation, Ptr, Region};

@@ -3,9 +3,9 @@ use Rattle.std.specs.Prelude.{Bool, false, List, Option, Some, None, IfSome}
 use Rattle.std.specs.Option.{option_map}
 use Rattle.irtext_base.specs.Text.{Text}
 use Rattle.irtext_base.specs.Format.{Id, Format, Accepted}
-use Rattle.irtext_base.specs.Dialects.{Table}
-use Rattle.irtext_base.specs.DialectTable.{registered}
-use Rattle.irtext_base.specs.Directives as directives
+use Rattle.irtext_context.specs.Dialects.{Table}
+use Rattle.irtext_context.specs.DialectTable.{registered}
+use Rattle.irtext_context.specs.Directives as directives
 use Rattle.irtext_base.specs.declared.base.identifier.OpId.{OpId}
 
 -- the id, as the code has it

@@ -4,12 +4,12 @@ use Rattle.std.specs.Option.{option_map, option_and_then}
 use Rattle.irtext_base.specs.Text.{Text}
 use Rattle.irtext_base.specs.Stream.{StreamView, IsAt}
 use Rattle.irtext_base.specs.Faults.{id_of}
-use Rattle.irtext_base.specs.Context.{ContextView, OperationView, operation}
-use Rattle.irtext_base.specs.declared.base.arena.Ptr.{Ptr}
+use Rattle.irtext_context.specs.Context.{ContextView, OperationView, operation}
+use Rattle.irtext_context.specs.declared.base.arena.Ptr.{Ptr}
 use Rattle.irtext_base.specs.declared.base.attributes.AttrObj.{AttrObj}
 use Rattle.irtext_base.specs.declared.base.attributes.AttrObj.TheVariants.{GivenNames, Ident, Own}
-use Rattle.irtext_base.specs.declared.base.operation.Operation.{Operation}
-use Rattle.irtext_base.specs.declared.base.region.Region.{Region}
+use Rattle.irtext_context.specs.declared.base.operation.Operation.{Operation}
+use Rattle.irtext_context.specs.declared.base.region.Region.{Region}
 use Rattle.irtext_base.specs.Locations.{location_view}
 use Rattle.irtext_base.specs.Paths.{Written, written_with}
 use Rattle.irtext_base.specs.declared.location.Location.{Location}

@@ -8,15 +8,15 @@ use Rattle.std.specs.Option.{option_map}
 use Rattle.irtext_base.specs.Text.{Text, begins, front, after_space, begins_word}
 use Rattle.irtext_base.specs.Reading as reading
 use Rattle.irtext_base.specs.Reading.{the}
-use Rattle.irtext_base.specs.Directives as directives
+use Rattle.irtext_context.specs.Directives as directives
 use Rattle.irtext_base.specs.Faults.{UnregisteredDialect, UnregisteredOp}
 use Rattle.irtext_base.specs.Format.{Id, Format}
 use Rattle.irtext_base.specs.Answers.{Outcome, Read, Missing, Bad, prefixed}
-use Rattle.irtext_base.specs.Dialects.{Table, same_id}
-use Rattle.irtext_base.specs.DialectTable as table
-use Rattle.irtext_base.specs.DialectTable.{dialect_of}
+use Rattle.irtext_context.specs.Dialects.{Table, same_id}
+use Rattle.irtext_context.specs.DialectTable as table
+use Rattle.irtext_context.specs.DialectTable.{dialect_of}
 use Rattle.irtext_base.specs.Own.{Texts, Language, language}
-use Rattle.irtext_base.specs.declared.dialect.OpInfo.{OpInfo}
+use Rattle.irtext_context.specs.declared.dialect.OpInfo.{OpInfo}
 use Rattle.irtext_base.proofs.Characters.{after_twice}
 use Rattle.irtext_read.specs.Tokens.{id_at}
 use Rattle.irtext_grammar.specs.Contexts.Formats.{op_id, format_of}

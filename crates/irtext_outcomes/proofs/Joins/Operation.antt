@@ -6,7 +6,7 @@ use Rattle.irtext_base.specs.Text.{Text, front, after_space}
 use Rattle.irtext_base.specs.Faults.{Fault, UnregisteredOp}
 use Rattle.irtext_base.specs.Format.{Id, Format, Accepted}
 use Rattle.irtext_base.specs.Answers.{Outcome, Read, Bad, followed, mapped, prefixed}
-use Rattle.irtext_base.specs.Dialects.{Table}
+use Rattle.irtext_context.specs.Dialects.{Table}
 use Rattle.irtext_base.specs.Locations.{AttrView}
 use Rattle.irtext_base.specs.Own.{Texts, Language, texts_of}
 use Rattle.irtext_read.specs.AttrTexts.{attr_at}

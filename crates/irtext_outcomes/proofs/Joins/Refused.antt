@@ -5,7 +5,7 @@ use Rattle.irtext_base.specs.Text.{Text, begins, after_space}
 use Rattle.irtext_base.specs.Reading.{the}
 use Rattle.irtext_base.specs.Faults.{Fault, UnknownIndex}
 use Rattle.irtext_base.specs.Answers.{Outcome, Read, Bad, followed}
-use Rattle.irtext_base.specs.Dialects.{Table}
+use Rattle.irtext_context.specs.Dialects.{Table}
 use Rattle.irtext_base.specs.Own.{Texts}
 use Rattle.irtext_base.specs.Locations.{AttrView}
 use Rattle.irtext_base.specs.Paths.{Written}

@@ -5,7 +5,7 @@ use Rattle.std.specs.Prelude.{codes, is_some}
 use Rattle.irtext_base.specs.Text.{Text, after_space}
 use Rattle.irtext_base.specs.Reading.{the, repeated}
 use Rattle.irtext_base.specs.Answers.{Outcome, Read, Bad}
-use Rattle.irtext_base.specs.Dialects.{Table}
+use Rattle.irtext_context.specs.Dialects.{Table}
 use Rattle.irtext_base.specs.Faults.{Fault}
 use Rattle.irtext_base.specs.Own.{Texts, texts_of}
 use Rattle.irtext_base.specs.Locations.{AttrView}

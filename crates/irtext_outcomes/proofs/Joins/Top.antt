@@ -3,13 +3,13 @@ use Rattle.std.proofs.Common.{◌≡◌, ℕ, ◌-◌, List, Some, ◌++◌, len
 use Rattle.std.proofs.Math.Seq.{take-append_seam}
 use Rattle.irtext_base.specs.Text.{Text}
 use Rattle.irtext_base.specs.Answers.{Outcome, Read}
-use Rattle.irtext_base.specs.Dialects.{Table}
+use Rattle.irtext_context.specs.Dialects.{Table}
 use Rattle.irtext_base.specs.Own.{Texts, texts_of}
 use Rattle.irtext_base.specs.Stream.{StreamView, IsAt}
 use Rattle.irtext_base.specs.Faults.{Fault, fault_of}
 use Rattle.irtext_base.specs.Faults as cause_of
-use Rattle.irtext_base.specs.declared.base.arena.Ptr.{Ptr}
-use Rattle.irtext_base.specs.declared.base.operation.Operation.{Operation}
+use Rattle.irtext_context.specs.declared.base.arena.Ptr.{Ptr}
+use Rattle.irtext_context.specs.declared.base.operation.Operation.{Operation}
 use Rattle.irtext_base.specs.Paths.{Written}
 use Rattle.irtext_base.specs.declared.parsable.fault.ParseFault.{ParseFault}
 use Rattle.irtext_read.specs.AttrTexts.{attr_at}

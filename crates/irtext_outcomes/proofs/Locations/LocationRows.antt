@@ -6,7 +6,7 @@ use Rattle.irtext_base.specs.Stream.{StreamView}
 use Rattle.irtext_base.specs.Answers.{Outcome, Read, Missing, Bad, Takes, Passes, Demands, Answers, demanded, unless_failed, mapped, followed}
 use Rattle.irtext_base.specs.Locations.{LocationView, LocationsOf, AttrView, location_view, in_row, no_location, location, row_sourced}
 use Rattle.irtext_base.specs.Moves.{all_kept, row_kept}
-use Rattle.irtext_base.specs.Paths.{Written, path_of, are_known, row_known, written_with}
+use Rattle.irtext_base.specs.Paths.{Written, path_of, are_known, row_known, written_with, KeepsPaths}
 use Rattle.irtext_base.specs.declared.location.Location.{Location}
 use Rattle.irtext_base.specs.declared.parsable.fault.ParseFault.{ParseFault}
 use Rattle.irtext_read.specs.Tokens.{text_at}
@@ -16,7 +16,6 @@ use Rattle.irtext_grammar.specs.Contexts.Held.{location_over}
 use Rattle.irtext_outcomes.specs.Readers.NewPaths.{MustReadOver, MustReadWithin, MustReadInside, Makes, known_location, known_row, row_over, joined_rows}
 use Rattle.irtext_outcomes.specs.Readers.Roots.{itself, replaced}
 use Rattle.std.specs.Global.{Global}
-use Rattle.irtext_base.specs.Context.{KeepsPaths}
 use Rattle.irtext_base.specs.Reading.{the}
 use Rattle.irtext_outcomes.specs.Readers.Positions.{space_at}
 use Rattle.irtext_base.specs.Faults.{Fault}

@@ -8,9 +8,9 @@ use Rattle.irtext_base.specs.Text.{Text, begins, front, after_space}
 use Rattle.irtext_base.specs.Reading.{the}
 use Rattle.irtext_base.specs.Stream.{advanced}
 use Rattle.irtext_base.specs.Format.{Id}
-use Rattle.irtext_base.specs.Dialects.{Table}
-use Rattle.irtext_base.specs.DialectTable as table
-use Rattle.irtext_base.specs.DialectTable.{dialect_of}
+use Rattle.irtext_context.specs.Dialects.{Table}
+use Rattle.irtext_context.specs.DialectTable as table
+use Rattle.irtext_context.specs.DialectTable.{dialect_of}
 use Rattle.irtext_base.specs.Faults.{Fault, UnregisteredOp, UnregisteredDialect, id_of}
 use Rattle.irtext_base.specs.Answers.{Outcome, Read, Missing, Bad, Takes, Starves, Refuses, Commits, Answers, Gives, DemandsOf, demanded, unless_failed}
 use Rattle.irtext_base.specs.Places.{StandsBehind}

@@ -1,7 +1,6 @@
 -- What reading a location does to a context, one reading behind another: it may keep more paths.
 use Rattle.std.proofs.Common.{◌≡◌, ◌∙◌, ap, refl, ℕ, List, arith}
-use Rattle.irtext_base.specs.Context.{ContextView, KeepsOlder, before}
-use Rattle.irtext_base.specs.Moves.{with_paths}
+use Rattle.irtext_context.specs.Context.{ContextView, KeepsOlder, before, with_paths}
 use Rattle.irtext_base.specs.Paths.{with_path}
 use Rattle.irtext_base.proofs.PathKeys.{paths_stay}
 use Rattle.irtext_outcomes.specs.Readers.NewPaths.{AddsPaths}

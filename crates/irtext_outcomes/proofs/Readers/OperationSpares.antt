@@ -8,9 +8,9 @@ use Rattle.irtext_base.specs.Faults.{UnregisteredDialect, UnregisteredOp, Duplic
 use Rattle.irtext_base.specs.Format as format
 use Rattle.irtext_base.specs.Format.{Id, Format, Directive}
 use Rattle.irtext_base.specs.Answers.{Outcome, Read, Missing, Bad}
-use Rattle.irtext_base.specs.Dialects.{Table}
-use Rattle.irtext_base.specs.DialectTable as table
-use Rattle.irtext_base.specs.DialectTable.{dialect_of}
+use Rattle.irtext_context.specs.Dialects.{Table}
+use Rattle.irtext_context.specs.DialectTable as table
+use Rattle.irtext_context.specs.DialectTable.{dialect_of}
 use Rattle.irtext_base.specs.Own.{Sincere}
 use Rattle.irtext_read.specs.AttrTexts.{attr_at}
 use Rattle.irtext_read.specs.States.{same_index}

@@ -2,7 +2,7 @@
 use Rattle.std.proofs.Common.{◌≡◌, ℕ, false, Ok, Err, List, sym, ◌∙◌, subst, ◌⊎◌, inl, inr}
 use Rattle.irtext_base.specs.Text.{Text}
 use Rattle.irtext_base.specs.Answers.{Outcome, Read, Missing, Bad, Starves, Refuses, unless_failed, followed, mapped}
-use Rattle.irtext_base.specs.Dialects.{Table}
+use Rattle.irtext_context.specs.Dialects.{Table}
 use Rattle.irtext_base.specs.Faults.{Memory, fault_of, id_of}
 use Rattle.irtext_base.specs.Format.{Id}
 use Rattle.irtext_base.specs.Locations.{AttrView}

@@ -7,20 +7,20 @@ use Rattle.irtext_base.specs.Text.{Text, after_space}
 use Rattle.irtext_base.specs.Faults.{id_of}
 use Rattle.irtext_base.specs.Stream.{StreamView}
 use Rattle.irtext_base.specs.Answers.{Outcome, Read, Missing, Bad}
-use Rattle.irtext_base.specs.Context.{ContextView, OperationView, Cell, Store, Inserts, MakesOperation, AddsRegion, EditsOperation, get, object_in, object_of, drawn, operation, region, regions_in, with_region, KeepsPaths}
-use Rattle.irtext_base.specs.declared.base.arena.Object.{Object}
-use Rattle.irtext_base.specs.Made.{AddsRegions}
-use Rattle.irtext_base.specs.declared.base.arena.Ptr.{Ptr}
+use Rattle.irtext_context.specs.Context.{ContextView, OperationView, Cell, Store, Inserts, MakesOperation, AddsRegion, EditsOperation, get, object_in, object_of, drawn, operation, region, regions_in, with_region}
+use Rattle.irtext_base.specs.Paths.{KeepsPaths, Written, written_with}
+use Rattle.irtext_context.specs.declared.base.arena.Object.{Object}
+use Rattle.irtext_context.specs.Made.{AddsRegions}
+use Rattle.irtext_context.specs.declared.base.arena.Ptr.{Ptr}
 use Rattle.irtext_base.specs.declared.base.attributes.AttrObj.{AttrObj}
 use Rattle.irtext_base.specs.declared.base.identifier.OpId.{OpId}
-use Rattle.irtext_base.specs.declared.base.operation.Operation.{Operation}
-use Rattle.irtext_base.specs.declared.base.region.Region.{Region}
-use Rattle.irtext_base.specs.declared.base.region.RegionData.{RegionData}
+use Rattle.irtext_context.specs.declared.base.operation.Operation.{Operation}
+use Rattle.irtext_context.specs.declared.base.region.Region.{Region}
+use Rattle.irtext_context.specs.declared.base.region.RegionData.{RegionData}
 use Rattle.irtext_base.specs.Locations.{AttrView}
-use Rattle.irtext_base.specs.Paths.{Written, written_with}
 use Rattle.irtext_base.specs.declared.location.Location.{Location, SrcPos}
 use Rattle.irtext_base.specs.declared.parsable.fault.ParseFault.{ParseFault}
-use Rattle.irtext_base.proofs.Contexts.{same-paths}
+use Rattle.irtext_context.proofs.Contexts.{same-paths}
 use Rattle.irtext_base.proofs.Numbers.{same_character}
 use Rattle.irtext_read.specs.States.{marks_of, same_index, LocatesAt}
 use Rattle.irtext_read.specs.declared.parsable.state.StateStream.{StateStream}

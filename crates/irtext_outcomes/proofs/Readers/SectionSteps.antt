@@ -7,12 +7,12 @@ use Rattle.irtext_base.specs.Text.{Text, begins, after_space}
 use Rattle.irtext_base.specs.Reading.{the}
 use Rattle.irtext_base.specs.Format.{has}
 use Rattle.irtext_base.specs.Answers.{Outcome, Read}
-use Rattle.irtext_base.specs.Context.{ContextView, KeepsPaths}
+use Rattle.irtext_context.specs.Context.{ContextView}
+use Rattle.irtext_base.specs.Paths.{KeepsPaths, Written}
 use Rattle.irtext_base.specs.Stream.{StreamView}
-use Rattle.irtext_base.specs.declared.base.arena.Ptr.{Ptr}
-use Rattle.irtext_base.specs.declared.base.operation.Operation.{Operation}
+use Rattle.irtext_context.specs.declared.base.arena.Ptr.{Ptr}
+use Rattle.irtext_context.specs.declared.base.operation.Operation.{Operation}
 use Rattle.irtext_base.specs.Locations.{AttrView, location_view}
-use Rattle.irtext_base.specs.Paths.{Written}
 use Rattle.irtext_base.specs.declared.location.Location.{Location}
 use Rattle.irtext_base.specs.declared.parsable.fault.ParseFault.{ParseFault}
 use Rattle.irtext_read.specs.States.{same_index}

@@ -1,7 +1,7 @@
 -- What a root holds so that its text is read back.
 use Rattle.std.specs.Prelude.{◌≡◌, ◌⊎◌, true, IfSome, List, [], ℕ, Option, ⊤}
-use Rattle.irtext_base.specs.Context.{ContextView, OperationView}
-use Rattle.irtext_base.specs.Dialects.{Table}
+use Rattle.irtext_context.specs.Context.{ContextView, OperationView}
+use Rattle.irtext_context.specs.Dialects.{Table}
 use Rattle.irtext_base.specs.Faults.{id_of}
 use Rattle.irtext_base.specs.Locations.{AttrView, src_pos, fused, named, call_site, unknown, LocationsOf, no_location, location}
 use Rattle.irtext_base.specs.Paths.{Written}

@@ -2,11 +2,11 @@
 use Rattle.std.specs.Prelude.{◌≡◌, true, false, List, [], Some, FitsSigned}
 use Rattle.std.specs.Int.{w32}
 use Rattle.irtext_base.specs.Text.{Text, after_space}
-use Rattle.irtext_base.specs.Dialects.{Table}
+use Rattle.irtext_context.specs.Dialects.{Table}
 use Rattle.irtext_base.specs.Locations.{src_pos}
 use Rattle.irtext_base.specs.Paths.{Written}
-use Rattle.irtext_base.specs.declared.base.arena.Ptr.{Ptr}
-use Rattle.irtext_base.specs.declared.base.operation.Operation.{Operation}
+use Rattle.irtext_context.specs.declared.base.arena.Ptr.{Ptr}
+use Rattle.irtext_context.specs.declared.base.operation.Operation.{Operation}
 use Rattle.irtext_base.specs.declared.parsable.position.SourcePosition.{SourcePosition}
 use Rattle.irtext_read.specs.declared.parsable.state.StateStream.{StateStream}
 use Rattle.irtext_grammar.specs.Graphs.Build.{Built}

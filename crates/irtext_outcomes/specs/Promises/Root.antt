@@ -6,13 +6,13 @@ use Rattle.irtext_base.specs.Stream.{StreamView, cut, IsAt}
 use Rattle.irtext_base.specs.Faults.{Fault, fault_of}
 use Rattle.irtext_base.specs.Faults as fault
 use Rattle.irtext_base.specs.Answers.{Outcome, Read}
-use Rattle.irtext_base.specs.Dialects.{Table}
-use Rattle.irtext_base.specs.Context.{ContextView, get, operation, region, regions_in, KeepsPaths}
-use Rattle.irtext_base.specs.declared.base.arena.Ptr.{Ptr}
-use Rattle.irtext_base.specs.declared.base.operation.Operation.{Operation}
-use Rattle.irtext_base.specs.declared.base.region.Region.{Region}
+use Rattle.irtext_context.specs.Dialects.{Table}
+use Rattle.irtext_context.specs.Context.{ContextView, get, operation, region, regions_in}
+use Rattle.irtext_base.specs.Paths.{KeepsPaths, Written, path_of}
+use Rattle.irtext_context.specs.declared.base.arena.Ptr.{Ptr}
+use Rattle.irtext_context.specs.declared.base.operation.Operation.{Operation}
+use Rattle.irtext_context.specs.declared.base.region.Region.{Region}
 use Rattle.irtext_base.specs.Locations.{AttrView, src_pos}
-use Rattle.irtext_base.specs.Paths.{Written, path_of}
 use Rattle.irtext_base.specs.declared.location.Source.{Source}
 use Rattle.irtext_base.specs.declared.parsable.fault.ParseFault.{ParseFault}
 use Rattle.irtext_base.specs.declared.parsable.position.SourcePosition.{SourcePosition}

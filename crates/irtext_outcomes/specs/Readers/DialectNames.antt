@@ -3,8 +3,8 @@ use Rattle.std.specs.Prelude.{cond, is_some, List, []}
 use Rattle.irtext_base.specs.Text.{Text}
 use Rattle.irtext_base.specs.Faults.{UnregisteredDialect}
 use Rattle.irtext_base.specs.Answers.{Outcome, Read, Missing, Bad}
-use Rattle.irtext_base.specs.Dialects.{Table}
-use Rattle.irtext_base.specs.DialectTable.{dialect_of}
+use Rattle.irtext_context.specs.Dialects.{Table}
+use Rattle.irtext_context.specs.DialectTable.{dialect_of}
 use Rattle.irtext_read.specs.Tokens.{identifier_at}
 
 -- a name that is read where a dialect of that name is registered; else it is bad where it begins

@@ -4,9 +4,9 @@ use Rattle.irtext_base.specs.Text.{Text}
 use Rattle.irtext_base.specs.Format.{Id}
 use Rattle.irtext_base.specs.Faults.{UnregisteredDialect, UnregisteredOp}
 use Rattle.irtext_base.specs.Answers.{Outcome, Read, Missing, Bad}
-use Rattle.irtext_base.specs.Dialects.{Table}
-use Rattle.irtext_base.specs.DialectTable as table
-use Rattle.irtext_base.specs.DialectTable.{dialect_of}
+use Rattle.irtext_context.specs.Dialects.{Table}
+use Rattle.irtext_context.specs.DialectTable as table
+use Rattle.irtext_context.specs.DialectTable.{dialect_of}
 use Rattle.irtext_base.specs.Locations.{AttrView}
 use Rattle.irtext_read.specs.Infix.{◌▷◌, ◌▶◌, ◌⇒◌}
 use Rattle.irtext_read.specs.Tokens.{id_at}

@@ -6,9 +6,9 @@ use Rattle.irtext_base.specs.Text.{Text, after_space}
 use Rattle.irtext_base.specs.Stream.{StreamView, IsAt}
 use Rattle.irtext_base.specs.Faults.{Fault, Memory, NotIsolated, fault_of}
 use Rattle.irtext_base.specs.Answers.{Outcome, Read, Takes}
-use Rattle.irtext_base.specs.Context.{ContextView, EditsOperation, operation}
-use Rattle.irtext_base.specs.declared.base.arena.Ptr.{Ptr}
-use Rattle.irtext_base.specs.declared.base.operation.Operation.{Operation}
+use Rattle.irtext_context.specs.Context.{ContextView, EditsOperation, operation}
+use Rattle.irtext_context.specs.declared.base.arena.Ptr.{Ptr}
+use Rattle.irtext_context.specs.declared.base.operation.Operation.{Operation}
 use Rattle.irtext_base.specs.declared.location.Location.{Location}
 use Rattle.irtext_base.specs.declared.parsable.fault.ParseFault.{ParseFault}
 use Rattle.irtext_base.specs.declared.parsable.position.SourcePosition.{SourcePosition}

@@ -1,7 +1,7 @@
 //! Reading of what a format's directives read, behind an operation's id.
 ghost use Rattle.std.specs.Prelude.{◌≡◌, false, OnOk, [], ◌∷◌};
 ghost use Rattle.irtext_base.specs.Answers.{Starves, Commits, mapped};
-ghost use Rattle.irtext_base.specs.Directives.{directive_of, directives_of, format_of};
+ghost use Rattle.irtext_context.specs.Directives.{directive_of, directives_of, format_of};
 ghost use Rattle.irtext_base.specs.Faults.{Unexpected, AnOperation};
 ghost use Rattle.irtext_base.specs.Format.{sym_name_key};
 ghost use Rattle.irtext_base.specs.Stream.{first_of};

@@ -1,6 +1,6 @@
 //! Operations read from text.
 ghost use Rattle.std.specs.Prelude.{◌≡◌, false, IfOk, IfErr, OnErr};
-ghost use Rattle.irtext_base.specs.Made.{SameObjects};
+ghost use Rattle.irtext_context.specs.Made.{SameObjects};
 ghost use Rattle.irtext_read.specs.AttrTexts.{attr_at};
 ghost use Rattle.irtext_read.specs.States.{marks_of};
 ghost use Rattle.irtext_outcomes.specs.Readers.Roots.{KeepsRest, Refusal};
@@ -13,7 +13,7 @@ mod operation;
 mod root;
 
 use crate::parsable::Parsable;
-use irtext_base::base::{Operation, Ptr};
+use irtext_context::base::{Operation, Ptr};
 use irtext_base::parsable::{CharStream, ParseResult};
 use irtext_base::text::{AttrText, IrText};
 use irtext_read::parsable::StateStream;

@@ -16,7 +16,7 @@ pub use crate::irfmt::marker::{OUTLINED_ATTR_MARKER, outlined_marker_or};
 use crate::location::nested::location_read;
 use crate::parsable::out_of_memory;
 use indexmap::IndexMap;
-use irtext_base::base::{Context, Operation, Ptr};
+use irtext_context::base::{Context, Operation, Ptr};
 use irtext_base::location::Location;
 use irtext_base::parsable::{CharStream, ParseResult, TextStream};
 use irtext_base::result::Cause;

@@ -12,7 +12,7 @@ ghost use Rattle.irtext_outcomes.specs.Readers.Roots.{itself, replaced};
 use crate::irfmt::demanded::{spaced_text, text_demanded};
 use crate::location::nested::begins_source;
 use crate::location::read::position_parse;
-use irtext_base::base::Context;
+use irtext_context::base::Context;
 use irtext_base::location::{Location, Source};
 use irtext_base::parsable::{CharStream, ParseResult, SourcePosition, TextStream};
 use irtext_base::result::{Cause, Expected};

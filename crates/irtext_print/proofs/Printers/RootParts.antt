@@ -2,8 +2,8 @@
 use Rattle.std.proofs.Common.{arith, ◌≡◌, ◌++◌, ◌==◌, cond, ℕ, List, [], ◌∷◌, Bool, true, false, true≢false, refl, sym, Option, Some, None, length, is_some, codes, decimal}
 use Rattle.std.proofs.lemmas.Option.{none-some}
 use Rattle.irtext_base.specs.Text.{Text}
-use Rattle.irtext_base.specs.declared.base.arena.Ptr.{Ptr}
-use Rattle.irtext_base.specs.declared.base.operation.Operation.{Operation}
+use Rattle.irtext_context.specs.declared.base.arena.Ptr.{Ptr}
+use Rattle.irtext_context.specs.declared.base.operation.Operation.{Operation}
 use Rattle.irtext_base.specs.declared.location.Location.{Location, Unknown}
 use Rattle.irtext_base.proofs.Numbers.{same_character}
 use Rattle.irtext_grammar.specs.Spelling.Locations.{known_text}

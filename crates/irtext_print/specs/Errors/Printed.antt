@@ -1,7 +1,7 @@
 -- What errors and answers print as.
 use Rattle.std.specs.Prelude.{List, ℕ, Option, Some, Result, Ok, Err, ⊤}
 use Rattle.irtext_base.specs.Text.{Text}
-use Rattle.irtext_base.specs.declared.base.context.Context.{Context}
+use Rattle.irtext_context.specs.declared.base.context.Context.{Context}
 use Rattle.irtext_base.specs.declared.result.Error.{Error}
 use Rattle.irtext_print.specs.Errors.Located.{located_error}
 use Rattle.irtext_print.specs.Printers.Shown.{Shown}

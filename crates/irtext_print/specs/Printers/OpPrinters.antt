@@ -3,11 +3,11 @@ use Rattle.std.specs.Prelude.{ℕ, cond, ◌==◌, List, ◌++◌, length, Optio
 use Rattle.std.specs.Option.{option_map, option_and_then}
 use Rattle.std.specs.Str.{encode_utf8_all}
 use Rattle.irtext_base.specs.Causes.{id_text}
-use Rattle.irtext_base.specs.Context.{ContextView, OperationView, operation}
+use Rattle.irtext_context.specs.Context.{ContextView, OperationView, operation}
 use Rattle.irtext_base.specs.Format.{sym_name_key}
 use Rattle.irtext_base.specs.Text.{Text}
-use Rattle.irtext_base.specs.declared.base.arena.Ptr.{Ptr}
-use Rattle.irtext_base.specs.declared.base.operation.Operation.{Operation}
+use Rattle.irtext_context.specs.declared.base.arena.Ptr.{Ptr}
+use Rattle.irtext_context.specs.declared.base.operation.Operation.{Operation}
 use Rattle.irtext_grammar.specs.Graphs.Graph.{lookup}
 use Rattle.irtext_print.specs.Printers.PieceText.{symbol_in, region_text}
 use Rattle.irtext_print.specs.Printers.Shown.{Shown}

@@ -5,14 +5,14 @@ use Rattle.std.specs.List.{list_all}
 use Rattle.std.specs.Option.{option_map}
 use Rattle.std.specs.Str.{encode_utf8_all}
 use Rattle.irtext_base.specs.Text.{Text}
-use Rattle.irtext_base.specs.Dialects.{Table}
+use Rattle.irtext_context.specs.Dialects.{Table}
 use Rattle.irtext_base.specs.Faults.{id_of}
 use Rattle.irtext_base.specs.Format as format
 use Rattle.irtext_base.specs.Format.{Format, Directive, same_text, has, count, keys, region_places, is_regions, is_dictionary, is_header, sym_name_key}
 use Rattle.irtext_base.specs.Own.{Language}
-use Rattle.irtext_base.specs.Context.{ContextView, OperationView, operation}
-use Rattle.irtext_base.specs.declared.base.arena.Ptr.{Ptr}
-use Rattle.irtext_base.specs.declared.base.operation.Operation.{Operation}
+use Rattle.irtext_context.specs.Context.{ContextView, OperationView, operation}
+use Rattle.irtext_context.specs.declared.base.arena.Ptr.{Ptr}
+use Rattle.irtext_context.specs.declared.base.operation.Operation.{Operation}
 use Rattle.irtext_base.specs.declared.location.Location.{Location, Unknown}
 use Rattle.irtext_grammar.specs.Contexts.Formats.{format_of}
 use Rattle.irtext_grammar.specs.Graphs.Graph.{Printing, Limit, lookup, outlined, written_keys}

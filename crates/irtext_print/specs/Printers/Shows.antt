@@ -2,7 +2,7 @@
 use Rattle.std.specs.Prelude.{ℕ, List, Option}
 use Rattle.irtext_print.specs.Printers.Shown.{Shown}
 use Rattle.irtext_print.specs.Printers.Appended.{fresh, text_of}
-use Rattle.irtext_base.specs.declared.base.context.Context.{Context}
+use Rattle.irtext_context.specs.declared.base.context.Context.{Context}
 use Rattle.irtext_print.specs.declared.printable.displayable.Displayable.{Displayable}
 
 -- the text that a `Displayable` makes at each formatting, where one is claimed

@@ -1,7 +1,7 @@
 //! Printing of roots.
 ghost use Rattle.std.specs.Prelude.{◌≡◌, ◌++◌, [], Some, OnOk, IfErr, IsSome, IsTrue, codes, decimal, string_bytes, length};
 ghost use Rattle.std.specs.Str.{encode_utf8_all};
-ghost use Rattle.irtext_base.specs.Context.{OperationView, operation};
+ghost use Rattle.irtext_context.specs.Context.{OperationView, operation};
 ghost use Rattle.irtext_base.specs.Own.{texts_of, unplaced};
 ghost use Rattle.irtext_print.specs.Printers.ConcreteText as concrete;
 ghost use Rattle.irtext_grammar.specs.Contexts.Formats.{format_of};
@@ -14,7 +14,7 @@ use crate::ir::print::concrete::fmt_concrete;
 use crate::location::print::fmt_known;
 use crate::printable::state::State;
 use crate::printable::{Printable, Refusal};
-use irtext_base::base::{Context, Operation, Ptr};
+use irtext_context::base::{Context, Operation, Ptr};
 use irtext_base::location::Location;
 use irtext_base::text::{AttrText, IrText};
 use std::fmt;

@@ -5,7 +5,7 @@ ghost use Rattle.std.specs.Slice.Iter.{iter_rest};
 
 use crate::printable::ListSeparator;
 use crate::printable::state::State;
-use irtext_base::base::Context;
+use irtext_context::base::Context;
 use irtext_base::text::{AttrText, IrText};
 use std::fmt;
 

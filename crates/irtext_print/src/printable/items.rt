@@ -6,7 +6,7 @@ ghost use Rattle.irtext_print.specs.Printers.Items.{WritesItems, PrintsItem};
 
 use crate::printable::state::State;
 use crate::printable::{ListSeparator, Printable};
-use irtext_base::base::Context;
+use irtext_context::base::Context;
 use irtext_base::text::{AttrText, IrText};
 use std::fmt;
 

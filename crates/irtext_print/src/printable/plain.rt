@@ -8,7 +8,7 @@ ghost use Rattle.irtext_print.specs.Printers.Separator.{bool_text};
 use irtext_read::printable::fmt_quoted;
 use crate::printable::state::State;
 use crate::printable::{ListSeparator, Printable, fmt_indented_newline};
-use irtext_base::base::Context;
+use irtext_context::base::Context;
 use irtext_base::text::{AttrText, IrText};
 use std::fmt;
 

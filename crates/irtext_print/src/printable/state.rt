@@ -5,7 +5,7 @@ ghost use Rattle.irtext_print.specs.contracts.printable.state.State.{the_row};
 ghost use Rattle.irtext_print.specs.Printers.Printing.{width_of, indent_of, limit_of, gathered_of, data_of, with_indent, with_limit, with_data, with_gathered, lowered, guard_name, guard_state, guard_saved, depth_name, depth_state, depth_saved};
 
 use crate::printable::guards::{IndentGuard, RegionDepthGuard};
-use irtext_base::base::{Operation, Ptr};
+use irtext_context::base::{Operation, Ptr};
 use std::alloc::{AllocError, Global};
 use std::fmt;
 use std::marker::Model;

@@ -1,14 +1,14 @@
 //! The calls of operations that are about their text.
 ghost use Rattle.std.specs.Prelude.{◌≡◌, ◌⊎◌, IfOk, IfErr, OnErr};
 ghost use Rattle.irtext_base.specs.Faults.{Memory, fault_of};
-ghost use Rattle.irtext_base.specs.Made.{SameObjects};
+ghost use Rattle.irtext_context.specs.Made.{SameObjects};
 ghost use Rattle.irtext_base.specs.Own.{texts_of};
 ghost use Rattle.irtext_read.specs.AttrTexts.{attr_at};
 ghost use Rattle.irtext_read.specs.States.{marks_of};
 ghost use Rattle.irtext_outcomes.specs.Readers.Roots.{KeepsRest, Refusal};
 ghost use Rattle.irtext_outcomes.specs.Promises.Root.{IsFresh, BuildsRoot, RefusesRoot};
 
-use irtext_base::base::{Context, Operation, Ptr};
+use irtext_context::base::{Context, Operation, Ptr};
 use irtext_base::parsable::ParseResult;
 use irtext_base::text::{AttrText, IrText};
 use irtext_parse::ir::read::{OperationParserConfig, outermost_parse};

@@ -1,10 +1,10 @@
 //! The law that ties printing to reading: what is written of a root is read back.
 ghost use Rattle.std.specs.Prelude.{◌≡◌, ℕ, List, Some, None};
 ghost use Rattle.std.specs.Str.{chars};
-ghost use Rattle.irtext_base.specs.Context.{ContextView, OperationView, operation};
+ghost use Rattle.irtext_context.specs.Context.{ContextView, OperationView, operation};
 ghost use Rattle.irtext_base.specs.Own.{texts_of, unplaced};
-ghost use Rattle.irtext_base.specs.declared.base.arena.Ptr.{Ptr};
-ghost use Rattle.irtext_base.specs.declared.base.operation.Operation.{Operation};
+ghost use Rattle.irtext_context.specs.declared.base.arena.Ptr.{Ptr};
+ghost use Rattle.irtext_context.specs.declared.base.operation.Operation.{Operation};
 ghost use Rattle.irtext_base.specs.declared.parsable.fault.ParseFault.{ParseFault};
 ghost use Rattle.irtext_read.specs.AttrTexts.{attr_at};
 ghost use Rattle.irtext_read.specs.declared.parsable.state.StateStream.{StateStream};

@@ -1,10 +1,10 @@
 //! What stands behind the id of an operation, by its format, and the operation that is made of it.
 ghost use Rattle.std.specs.Prelude.{◌≡◌, ◌≤◌, ℕ, None, IsSome, IfOk, IfErr, OnOk};
 ghost use Rattle.irtext_base.specs.Answers.{Starves};
-ghost use Rattle.irtext_base.specs.Context.{operation, before, KeepsOlder};
-ghost use Rattle.irtext_base.specs.DialectTable.{registered};
+ghost use Rattle.irtext_context.specs.Context.{operation, before, KeepsOlder};
+ghost use Rattle.irtext_context.specs.DialectTable.{registered};
 ghost use Rattle.irtext_base.specs.Faults.{id_of};
-ghost use Rattle.irtext_base.specs.Made.{AddsRegions};
+ghost use Rattle.irtext_context.specs.Made.{AddsRegions};
 ghost use Rattle.irtext_read.specs.AttrTexts.{attr_at};
 ghost use Rattle.irtext_read.specs.States.{marks_of};
 ghost use Rattle.irtext_grammar.specs.Contexts.Formats.{IsAccepted};
@@ -16,8 +16,9 @@ ghost use Rattle.irtext_outcomes.specs.Readers.Roots.{itself, replaced, KeepsRes
 
 use crate::format::pieces::{Pieces, body_parse};
 use crate::parsable::out_of_memory;
-use irtext_base::base::operation::add_regions;
-use irtext_base::base::{Context, OpId, Operation, Ptr};
+use irtext_context::base::operation::add_regions;
+use irtext_context::base::{Context, Operation, Ptr};
+use irtext_base::base::OpId;
 use irtext_base::location::Location;
 use irtext_base::parsable::{CharStream, ParseResult, TextStream};
 use irtext_base::text::{AttrText, IrText};

@@ -1,14 +1,15 @@
 //! What stands in front of an operation, and its id.
 ghost use Rattle.std.specs.Prelude.{◌≡◌, cond, IsSome, IfOk};
 ghost use Rattle.irtext_base.specs.Answers.{Takes, DemandsOf};
-ghost use Rattle.irtext_base.specs.DialectTable.{registered};
+ghost use Rattle.irtext_context.specs.DialectTable.{registered};
 ghost use Rattle.irtext_base.specs.Faults.{id_of};
 ghost use Rattle.irtext_outcomes.specs.Readers.Parts.{lead_of, behind_lead, is_led};
 ghost use Rattle.irtext_outcomes.specs.Readers.MustRead.{MayRead};
 ghost use Rattle.irtext_outcomes.specs.Readers.Operations.{led_id_at};
 ghost use Rattle.irtext_outcomes.specs.Readers.Registered.{Registers};
 
-use irtext_base::base::{Context, OpId};
+use irtext_context::base::Context;
+use irtext_base::base::OpId;
 use irtext_base::parsable::{CharStream, ParseResult, Place};
 use irtext_base::result::Cause;
 use irtext_base::text::{AttrText, IrText};

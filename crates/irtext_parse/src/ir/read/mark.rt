@@ -7,7 +7,7 @@ ghost use Rattle.irtext_outcomes.specs.Readers.Roots.{itself, replaced, fresh_ma
 
 use crate::irfmt::demanded::index_demanded;
 use crate::parsable::out_of_memory;
-use irtext_base::base::{Operation, Ptr};
+use irtext_context::base::{Operation, Ptr};
 use irtext_base::parsable::{CharStream, ParseResult};
 use irtext_base::result::Cause;
 use irtext_base::text::{AttrText, IrText};

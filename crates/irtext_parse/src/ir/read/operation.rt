@@ -1,6 +1,6 @@
 //! An operation with its mark.
 ghost use Rattle.std.specs.Prelude.{◌≡◌, ◌≤◌, ℕ, false, IfOk, IfErr, OnErr};
-ghost use Rattle.irtext_base.specs.Context.{KeepsOlder};
+ghost use Rattle.irtext_context.specs.Context.{KeepsOlder};
 ghost use Rattle.irtext_read.specs.AttrTexts.{attr_at};
 ghost use Rattle.irtext_read.specs.States.{marks_of};
 ghost use Rattle.irtext_outcomes.specs.Readers.OperationRead.{ReadsOperation, MissesOperation};
@@ -11,7 +11,7 @@ ghost use Rattle.irtext_outcomes.specs.Promises.Supported.{OperationRefused};
 use crate::ir::read::body::{known_body_parse, make_read};
 use crate::ir::read::head::led_id_parse;
 use crate::ir::read::mark::operation_mark_parse;
-use irtext_base::base::{Operation, Ptr};
+use irtext_context::base::{Operation, Ptr};
 use irtext_base::parsable::{CharStream, ParseResult};
 use irtext_base::text::{AttrText, IrText};
 use irtext_read::irfmt::parsers::skip_white_space;

@@ -1,8 +1,8 @@
 //! A root: an operation with its section, reported as one that nothing stands round, and given back where it is refused.
 ghost use Rattle.std.specs.Prelude.{◌≡◌, ◌≤◌, ℕ, false, List, ◌++◌, IfOk, IfErr, OnErr};
-ghost use Rattle.irtext_base.specs.Context.{KeepsOlder};
+ghost use Rattle.irtext_context.specs.Context.{KeepsOlder};
 ghost use Rattle.irtext_base.specs.Faults.{fault_of};
-ghost use Rattle.irtext_base.specs.Made.{SameObjects};
+ghost use Rattle.irtext_context.specs.Made.{SameObjects};
 ghost use Rattle.irtext_base.specs.Stream.{IsAt};
 ghost use Rattle.irtext_read.specs.AttrTexts.{attr_at};
 ghost use Rattle.irtext_read.specs.States.{marks_of};
@@ -12,7 +12,7 @@ ghost use Rattle.irtext_outcomes.specs.Readers.SectionRead.{ReadsWith, MissesWit
 use crate::ir::read::OperationParserConfig;
 use crate::ir::read::operation::operation_parse;
 use crate::irfmt::outlined::section_parse;
-use irtext_base::base::{Operation, Ptr};
+use irtext_context::base::{Operation, Ptr};
 use irtext_base::parsable::{ParseFault, ParseResult, ParserNameTrackerError, SourcePosition};
 use irtext_base::result::Cause;
 use irtext_base::text::{AttrText, IrText};

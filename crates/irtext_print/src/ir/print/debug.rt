@@ -1,7 +1,7 @@
 //! An operation's text for those who debug: regions are elided, and nothing is told of marks.
 ghost use Rattle.std.specs.Prelude.{◌≡◌, ◌≢◌, ◌++◌, Some, OnOk, IfErr, IsSome, IfSome, IsTrue, false, string_bytes};
 ghost use Rattle.std.specs.Str.{encode_utf8_all};
-ghost use Rattle.irtext_base.specs.Context.{OperationView, operation};
+ghost use Rattle.irtext_context.specs.Context.{OperationView, operation};
 ghost use Rattle.irtext_base.specs.Own.{texts_of, unplaced};
 ghost use Rattle.irtext_print.specs.Printers.ConcreteText as concrete;
 ghost use Rattle.irtext_grammar.specs.Contexts.Formats.{format_of};
@@ -11,7 +11,7 @@ ghost use Rattle.irtext_print.specs.declared.printable.refusal.Refusal.TheVarian
 use crate::ir::print::concrete::fmt_concrete;
 use crate::printable::Refusal;
 use crate::printable::state::{RegionPrintDepthLimit, State};
-use irtext_base::base::{Context, Operation, Ptr};
+use irtext_context::base::{Context, Operation, Ptr};
 use irtext_base::text::{AttrText, IrText};
 use std::fmt;
 

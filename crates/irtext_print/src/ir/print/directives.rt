@@ -1,7 +1,7 @@
 //! What the directives of a format write.
 ghost use Rattle.std.specs.Prelude.{◌≡◌, ◌≢◌, ◌+◌, ◌≤◌, ◌^◌, ◌++◌, OnOk, IfOk, IfErr, IsOk, length, string_bytes};
 ghost use Rattle.std.specs.Str.{encode_utf8_all};
-ghost use Rattle.irtext_base.specs.Directives.{directive_of, directives_of};
+ghost use Rattle.irtext_context.specs.Directives.{directive_of, directives_of};
 ghost use Rattle.irtext_print.specs.Printers.PieceText as pieces;
 ghost use Rattle.irtext_print.specs.Printers.Printing.{width_of, indent_of};
 ghost use Rattle.irtext_grammar.specs.Contexts.Held.{entries_of};

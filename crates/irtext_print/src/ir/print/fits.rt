@@ -1,7 +1,7 @@
 //! Whether an operation fits its format, where that names no value, block or type.
 ghost use Rattle.std.specs.Prelude.{◌≡◌, ◌==◌, not, length, is_some, Some, None};
 ghost use Rattle.std.specs.List.{list_all};
-ghost use Rattle.irtext_base.specs.Directives.{directive_of, directives_of};
+ghost use Rattle.irtext_context.specs.Directives.{directive_of, directives_of};
 ghost use Rattle.irtext_base.specs.Format as format;
 ghost use Rattle.irtext_base.specs.Format.{count, region_places};
 ghost use Rattle.irtext_print.specs.Printers.PieceText.{outlining};

@@ -1,7 +1,7 @@
 //! What a format's directives write of an operation's attributes. Each of these calls fails only where memory is refused.
 ghost use Rattle.std.specs.Prelude.{◌≡◌, ◌++◌, ◌&&◌, [], Some, OnOk, codes, cond, not, option_copied, string_bytes};
 ghost use Rattle.std.specs.Str.{chars, encode_utf8_all};
-ghost use Rattle.irtext_base.specs.Directives.{directive_of, directives_of};
+ghost use Rattle.irtext_context.specs.Directives.{directive_of, directives_of};
 ghost use Rattle.irtext_base.specs.Format.{sym_name_key};
 ghost use Rattle.irtext_base.specs.Text.{begins};
 ghost use Rattle.irtext_grammar.specs.Graphs.Graph as graph;

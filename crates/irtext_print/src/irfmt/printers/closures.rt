@@ -4,7 +4,7 @@ ghost use Rattle.irtext_print.specs.Printers.Calls.{FnWrites};
 
 use crate::printable::Printable;
 use crate::printable::state::State;
-use irtext_base::base::Context;
+use irtext_context::base::Context;
 use irtext_base::text::{AttrText, IrText};
 use std::fmt;
 

@@ -1,7 +1,7 @@
 //! Printers of an operation's parts: its header, with a type too, and its one region.
 ghost use Rattle.std.specs.Prelude.{◌≡◌, ◌++◌, Some, OnOk, IsSome, IsSomeAnd, string_bytes};
 ghost use Rattle.std.specs.Str.{encode_utf8_all};
-ghost use Rattle.irtext_base.specs.Context.{OperationView, operation};
+ghost use Rattle.irtext_context.specs.Context.{OperationView, operation};
 ghost use Rattle.irtext_print.specs.Printers.OpPrinters as parts;
 
 use crate::ir::print::concrete::fmt_id;
@@ -9,7 +9,7 @@ use crate::ir::print::pieces::symbol_of;
 use crate::ir::print::regions::fmt_region;
 use crate::printable::state::State;
 use crate::printable::{Printable, Refusal};
-use irtext_base::base::{Context, Operation, Ptr};
+use irtext_context::base::{Context, Operation, Ptr};
 use irtext_base::text::{AttrText, IrText};
 use std::fmt;
 

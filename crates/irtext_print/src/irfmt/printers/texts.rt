@@ -5,7 +5,7 @@ ghost use Rattle.irtext_read.specs.QuotedBytes.{quoted_bytes};
 
 use crate::printable::state::State;
 use crate::printable::{Printable, fmt_quoted};
-use irtext_base::base::Context;
+use irtext_context::base::Context;
 use irtext_base::text::{AttrText, IrText};
 use std::fmt;
 

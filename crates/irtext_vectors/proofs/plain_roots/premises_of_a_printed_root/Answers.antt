@@ -2,13 +2,13 @@ use Rattle.std.specs.Prelude.{◌≡◌, true, cond, ◌&&◌, List, [], ◌∷�
 use Rattle.std.specs.Str.{encode_utf8_all}
 use Rattle.std.proofs.Common.{ap, inr, sym, subst}
 use Rattle.std.specs.declared.alloc.Global.{Global}
-use Rattle.irtext_base.specs.Directives.{directives_of}
+use Rattle.irtext_context.specs.Directives.{directives_of}
 use Rattle.irtext_base.specs.Format as format
 use Rattle.irtext_base.specs.Format.{first_fault, same_text}
 use Rattle.irtext_base.specs.Own.{Language, unplaced}
 use Rattle.irtext_base.specs.Text.{Text}
-use Rattle.irtext_base.specs.declared.base.arena.Ptr.{Ptr}
-use Rattle.irtext_base.specs.declared.base.region.Region.{Region}
+use Rattle.irtext_context.specs.declared.base.arena.Ptr.{Ptr}
+use Rattle.irtext_context.specs.declared.base.region.Region.{Region}
 use Rattle.irtext_base.specs.declared.format.Directive as code
 use Rattle.irtext_base.specs.declared.format.Directive.TheVariants as step
 use Rattle.irtext_base.specs.Paths.{written_with}

@@ -1,7 +1,7 @@
 use Rattle.std.proofs.Common.{◌≡◌, ◌∷◌, sym, ap}
 use Rattle.std.proofs.lemmas.Result.{err_from_is_err_and}
 use Rattle.irtext_base.specs.Answers.{followed}
-use Rattle.irtext_base.specs.Directives.{directive_of, directives_of}
+use Rattle.irtext_context.specs.Directives.{directive_of, directives_of}
 use Rattle.irtext_read.specs.AttrTexts.{attr_at}
 use Rattle.irtext_read.proofs.Steps.{onward}
 use Rattle.irtext_outcomes.specs.Readers.Directives.{piece_after, pieces_after, no_pieces}

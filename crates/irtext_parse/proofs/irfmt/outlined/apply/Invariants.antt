@@ -1,5 +1,5 @@
 use Rattle.std.proofs.Common.{◌≡◌, length}
-use Rattle.irtext_base.specs.Context.{ContextView}
+use Rattle.irtext_context.specs.Context.{ContextView}
 use Rattle.irtext_read.specs.States.{marks_of}
 use Rattle.irtext_outcomes.specs.Readers.Roots.{KeepsRest}
 use Rattle.irtext_outcomes.specs.Readers.SectionRead.{AppliesAll}

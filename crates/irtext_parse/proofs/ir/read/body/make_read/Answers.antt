@@ -1,5 +1,5 @@
 use Rattle.std.proofs.Common.{arith}
-use Rattle.irtext_base.proofs.Kept.{kept_trans, before_made}
+use Rattle.irtext_context.proofs.Kept.{kept_trans, before_made}
 use Rattle.irtext_parse.proofs.ir.read.body.make_read.Goals as goal
 
 pub returns-in-Ok-clause-kept : goal.returns-in-Ok-clause-kept

@@ -1,7 +1,7 @@
 use Rattle.std.proofs.Common.{◌≡◌, false, ◌&&◌, refl, sym, ◌∙◌}
 use Rattle.irtext_read.specs.AttrTexts.{attr_at}
 use Rattle.irtext_read.specs.States.{marks_of}
-use Rattle.irtext_base.proofs.Kept.{kept_trans}
+use Rattle.irtext_context.proofs.Kept.{kept_trans}
 use Rattle.irtext_outcomes.specs.Readers.Roots.{fresh_mark_at}
 use Rattle.irtext_outcomes.specs.Readers.SectionRead.{indices_of, is_noted, no_operation, no_section}
 use Rattle.irtext_outcomes.specs.Promises.Supported.{OperationRefused, SectionRefused}

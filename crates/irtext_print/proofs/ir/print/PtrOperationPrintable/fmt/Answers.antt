@@ -1,5 +1,5 @@
 use Rattle.std.proofs.Common.{string_bytes}
-use Rattle.irtext_base.specs.Context.{operation}
+use Rattle.irtext_context.specs.Context.{operation}
 use Rattle.irtext_base.specs.Own.{texts_of, unplaced}
 use Rattle.irtext_grammar.specs.Contexts.Formats.{format_of}
 use Rattle.irtext_print.specs.Printers.PrintedOperation.{printing}

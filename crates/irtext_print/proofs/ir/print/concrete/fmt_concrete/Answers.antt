@@ -1,6 +1,6 @@
 use Rattle.std.proofs.Common.{◌∙◌, sym, ap, string_bytes, option_map, length}
-use Rattle.irtext_base.specs.Context.{operation, regions_in}
-use Rattle.irtext_base.specs.Directives.{directives_of}
+use Rattle.irtext_context.specs.Context.{operation, regions_in}
+use Rattle.irtext_context.specs.Directives.{directives_of}
 use Rattle.irtext_base.specs.Own.{texts_of, unplaced}
 use Rattle.irtext_grammar.specs.Contexts.Formats.{format_of}
 use Rattle.irtext_print.specs.Printers.PrintedOperation.{printing}

@@ -4,7 +4,7 @@ use Rattle.std.proofs.lemmas.Iterator.Search.{all_from_yields_List}
 use Rattle.std.specs.List.{list_all}
 use Rattle.std.specs.Map.Iter.{deref_pair}
 use borrow.Author.Tests.{tests}
-use Rattle.irtext_base.specs.Directives.{directives_of}
+use Rattle.irtext_context.specs.Directives.{directives_of}
 use Rattle.irtext_base.specs.Entries.{entries_left}
 use Rattle.irtext_base.specs.Format.{has, same_text}
 use Rattle.irtext_grammar.specs.Graphs.Graph.{written_keys}

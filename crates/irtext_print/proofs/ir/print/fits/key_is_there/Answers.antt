@@ -1,5 +1,5 @@
 use Rattle.std.proofs.Common.{◌∙◌, refl, sym, ap, is_some, option_copied}
-use Rattle.irtext_base.specs.Directives.{directive_of}
+use Rattle.irtext_context.specs.Directives.{directive_of}
 use Rattle.irtext_print.specs.Printers.Soles.{key_there}
 use Rattle.irtext_grammar.specs.Contexts.Held.{attribute_of, entries_of}
 use Rattle.irtext_print.proofs.Printers.FitsTests.{is_there}

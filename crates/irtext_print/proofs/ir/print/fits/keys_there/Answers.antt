@@ -3,7 +3,7 @@ use Rattle.std.proofs.lemmas.Iterator.{YieldsList-from_slice}
 use Rattle.std.proofs.lemmas.Iterator.Search.{all_from_yields_List}
 use Rattle.std.specs.List.{list_all}
 use borrow.Author.Tests.{tests}
-use Rattle.irtext_base.specs.Directives.{directive_of, directives_of}
+use Rattle.irtext_context.specs.Directives.{directive_of, directives_of}
 use Rattle.irtext_print.specs.Printers.Soles.{key_there}
 use Rattle.irtext_grammar.specs.Contexts.Held.{entries_of}
 use Rattle.irtext_print.proofs.Printers.FitsTests.{all_mapped, all_keys}

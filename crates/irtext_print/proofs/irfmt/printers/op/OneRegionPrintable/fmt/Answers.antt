@@ -1,5 +1,5 @@
 use Rattle.std.proofs.Common.{◌≡◌, ◌==◌, ◌∙◌, true, length, sym, ap, string_bytes}
-use Rattle.irtext_base.specs.Context.{operation, regions_in}
+use Rattle.irtext_context.specs.Context.{operation, regions_in}
 use Rattle.irtext_print.proofs.Printers.RootParts.{there}
 use Rattle.irtext_print.proofs.Printers.OpPrinters.{region_written}
 use Rattle.irtext_print.proofs.irfmt.printers.op.OneRegionPrintable.fmt.Goals as goal

@@ -1,5 +1,5 @@
 use Rattle.std.proofs.Common.{refl, string_bytes}
-use Rattle.irtext_base.specs.Context.{operation}
+use Rattle.irtext_context.specs.Context.{operation}
 use Rattle.irtext_print.specs.Printers.OpPrinters.{typed_header_of}
 use Rattle.irtext_print.proofs.Printers.Appended.{then}
 use Rattle.irtext_print.proofs.Printers.RootParts.{there}
