@@ -1,6 +1,6 @@
 -- A text has one tree, and what is spelled is read back.
 pub mod Unique
-pub mod Through
+pub mod Sequences
 pub mod Follows
 pub mod Apart
 pub mod Back
@@ -9,6 +9,6 @@ pub mod Canonical
 pub mod BackTree
 pub mod Lenient
 pub mod WholeTree
-pub mod Formed
+pub mod PartsOfFormats
 pub mod UniqueRoot
-pub mod Used
+pub mod ListReadings

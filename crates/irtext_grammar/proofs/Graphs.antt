@@ -7,12 +7,12 @@ pub mod Match
 pub mod KeptWritten
 pub mod BareScript
 pub mod BareBuild
-pub mod WrittenFine
-pub mod Chosen
+pub mod WrittenSpellable
+pub mod PartKinds
 pub mod Slots
-pub mod Bound
-pub mod Holding
-pub mod Together
+pub mod Bindings
+pub mod Links
+pub mod DictionaryHalves
 pub mod InlineEntries
 pub mod WrittenAs
 pub mod Fillings

@@ -1,5 +1,5 @@
 -- Scopes and names: one pass with placeholders is two passes, and what resolves.
-pub mod Names
+pub mod PlaceholderMap
 pub mod OnePass
 pub mod Building
 pub mod Reading
@@ -17,7 +17,7 @@ pub mod TreeUses
 pub mod TreeScopes
 pub mod TreeClaims
 pub mod ResolvedRoot
-pub mod Meant
+pub mod UsesMean
 pub mod Followed
 pub mod Definite
 pub mod LabelPlaces

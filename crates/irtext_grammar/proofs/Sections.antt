@@ -1,12 +1,12 @@
 -- The section behind a root: its indices, its entries, what comes back of them.
-pub mod BehindSection
-pub mod SectionBack
-pub mod SectionMarked
-pub mod SectionBare
+pub mod BehindRoot
+pub mod Back
+pub mod Marked
+pub mod Bare
 pub mod MarksWritten
-pub mod SectionOnce
-pub mod SectionContent
-pub mod SectionKept
+pub mod Once
+pub mod Content
+pub mod Kept
 pub mod EntryRules
-pub mod SectionIndices
+pub mod Indices
 pub mod SharedOnce

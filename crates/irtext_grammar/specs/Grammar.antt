@@ -5,4 +5,3 @@ pub mod Reads
 pub mod Section
 pub mod Marked
 pub mod Bare
-pub mod LeftOut

@@ -2,11 +2,9 @@
 pub mod Graph
 pub mod Build
 pub mod Closed
-pub mod Counters
 pub mod Same
-pub mod Fillable
-pub mod Wordy
-pub mod KeysDiffer
+pub mod ReservedKeys
+pub mod Identifiers
 pub mod Links
 pub mod Contents
 pub mod Regained

@@ -1,3 +1,4 @@
+-- What the headline rests on, in reading order
 pub use Rattle.irtext_base.specs.Text
 pub use Rattle.irtext_base.specs.Reading
 pub use Rattle.irtext_base.specs.Format

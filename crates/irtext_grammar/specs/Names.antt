@@ -6,6 +6,5 @@ pub mod History
 pub mod Placeholders
 pub mod Acts
 pub mod Plain
-pub mod Follow
 pub mod Resolves
 pub mod LabelPlaces

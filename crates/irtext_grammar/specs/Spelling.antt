@@ -1,6 +1,6 @@
 -- The text that is written of a tree, a graph, a section, a location.
 pub mod Spell
-pub mod Fine
+pub mod Spellable
 pub mod AttrText
 pub mod Writable
 pub mod PrintedNames

@@ -1,12 +1,12 @@
 -- Locations are read back.
-pub mod LocationBegins
-pub mod LocationRows
-pub mod LocationSpares
-pub mod LocationBack
+pub mod Begins
+pub mod Rows
+pub mod NeverFailed
+pub mod Integers
 pub mod GivesBack
-pub mod Leaves
-pub mod LocationLeaves
-pub mod LocationBound
-pub mod LocationParts
-pub mod LocationKinds
-pub mod LocationComesBack
+pub mod RestLengths
+pub mod LocationRests
+pub mod Bounds
+pub mod Parts
+pub mod Kinds
+pub mod ComesBack

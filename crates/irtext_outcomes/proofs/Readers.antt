@@ -1,11 +1,11 @@
 -- Steps of readers.
 pub mod NewPaths
 pub mod Steps
-pub mod Spares
-pub mod Led
-pub mod Rooted
-pub mod OperationSpares
-pub mod Known
+pub mod NeverFailed
+pub mod Leads
+pub mod PlainStream
+pub mod OperationNeverFailed
+pub mod EntryIndices
 pub mod OperationSteps
 pub mod Answered
 pub mod SectionSteps

@@ -1,11 +1,14 @@
+-- What the headline rests on, in reading order
 pub use Rattle.irtext_base.specs.Text
 pub use Rattle.irtext_base.specs.Reading
 pub use Rattle.irtext_base.specs.Format
+pub use Rattle.irtext_base.specs.Own
+pub mod Promises
+
+-- What functions promise one another
 pub use Rattle.irtext_base.specs.Causes
 pub use Rattle.irtext_base.specs.Faults
 pub use Rattle.irtext_base.specs.Stream
 pub use Rattle.irtext_base.specs.Places
 pub use Rattle.irtext_base.specs.Answers
-pub use Rattle.irtext_base.specs.Own
 pub mod Readers
-pub mod Promises

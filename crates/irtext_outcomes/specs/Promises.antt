@@ -3,4 +3,6 @@ pub mod Supported
 pub mod Root
 pub mod PrintedBack
 pub mod KeptRoot
-pub mod WrittenBack
+pub mod LocationsBack
+pub mod Section
+pub mod Operation

@@ -1,8 +1,8 @@
 //! The name of a dialect is read.
 ghost use Rattle.std.specs.Prelude.{◌≡◌};
 ghost use Rattle.irtext_outcomes.specs.Readers.DialectNames.{dialect_name_at};
-ghost use Rattle.irtext_outcomes.specs.Readers.MustRead.{MayRead};
-ghost use Rattle.irtext_outcomes.specs.Readers.Roots.{itself, replaced};
+ghost use Rattle.irtext_read.specs.MustRead.{MayRead};
+ghost use Rattle.irtext_outcomes.specs.Readers.Streams.{itself, replaced};
 
 use crate::parsable::{Parsable, ParseResult, StateStream};
 use irtext_base::base::Identifier;

@@ -2,7 +2,7 @@
 
 ghost use Rattle.std.specs.Prelude.{◌≡◌};
 ghost use Rattle.irtext_base.specs.Answers.{Starves};
-ghost use Rattle.irtext_outcomes.specs.Readers.Roots.{itself, replaced};
+ghost use Rattle.irtext_outcomes.specs.Readers.Streams.{itself, replaced};
 
 mod locations;
 mod texts;

@@ -3,8 +3,8 @@ pub mod Requirements
 pub mod Appended
 pub mod Calls
 pub mod Items
-pub mod PrintedModules
-pub mod LocationTexts
+pub mod PrintedSections
+pub mod Locations
 pub mod PieceTexts
 pub mod OpPrinters
 pub mod PrintedOperations

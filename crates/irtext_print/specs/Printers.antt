@@ -10,5 +10,4 @@ pub mod Enclosed
 pub mod PrintedOperation
 pub mod PieceText
 pub mod OpPrinters
-pub mod Soles
 pub mod ConcreteText

@@ -1,4 +1,4 @@
--- The texts of the demo attributes keep the law of texts.
+-- For callers: the texts of the demo attributes keep the law of texts.
 use Rattle.std.proofs.Common.{◌≡◌, true, false, ◌∷◌, [], ◌++◌, ◌==◌, drop, refl, sym, ◌∙◌, ap, codes, true≢false}
 use Rattle.irtext_base.specs.Text.{Text, begins, after_space, begins_word}
 use Rattle.irtext_base.specs.Reading.{keyword}

@@ -1,4 +1,4 @@
--- The texts of the demo attributes.
+-- For callers: the texts of the demo attributes.
 use Rattle.std.specs.Prelude.{Bool, true, false, cond, Option, Some, None, ◌++◌, codes}
 use Rattle.std.specs.Str.{bytes_eq}
 use Rattle.irtext_base.specs.Text.{Text}

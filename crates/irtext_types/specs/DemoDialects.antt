@@ -1,4 +1,4 @@
--- The operations of the demo dialects `builtin` and `test`, and what registering them does to a context's dialects.
+-- For callers: the operations of the demo dialects `builtin` and `test`, and what registering them does to a context's dialects.
 use Rattle.std.specs.Prelude.{◌≡◌, Bool, true, false, List, [], ◌∷◌, codes}
 use Rattle.irtext_base.specs.Text.{Text}
 use Rattle.irtext_base.specs.Format.{Directive, custom, word, attribute, header, region}

@@ -1,4 +1,4 @@
--- The texts of the types of functions.
+-- For callers: the texts of the types of functions.
 use Rattle.std.specs.Prelude.{List, ◌++◌, codes}
 use Rattle.irtext_base.specs.Text.{Text}
 use Rattle.irtext_base.specs.Answers.{Outcome, mapped, followed}

@@ -1,4 +1,4 @@
--- What is written of a function's type is read again.
+-- For theorems: what is written of a function's type is read again.
 use Rattle.std.proofs.Common.{◌≡◌, List, [], ◌∷◌, ◌++◌, refl, ◌∙◌, ap, append_assoc, codes}
 use Rattle.irtext_base.specs.Text.{Text}
 use Rattle.irtext_read.specs.Tokens.{text_at}

@@ -1,4 +1,4 @@
--- The texts of integers with their type.
+-- For callers: the texts of integers with their type.
 use Rattle.std.specs.Prelude.{◌≡◌, ℤ, pos, Bool, true, false, ◌++◌, codes, refl}
 use Rattle.std.specs.Fmt.{signed_decimal}
 use Rattle.irtext_base.specs.Text.{Text}

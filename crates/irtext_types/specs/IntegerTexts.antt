@@ -1,4 +1,4 @@
--- The texts of integers with their type are ASCII.
+-- For theorems: the texts of integers with their type are ASCII.
 use Rattle.std.proofs.Common.{◌≡◌, ◌<◌, ◌^◌, ◌++◌, ℕ, ℤ, pos, negsuc, suc, ◌∷◌, [], true, refl, codes, decimal, nat_lt, arith}
 use Rattle.std.proofs.lemmas.Bool.Decides.{nat_tests}
 use Rattle.std.proofs.lemmas.Fmt.{IsAscii-decimal}

@@ -1,4 +1,4 @@
--- The texts of integer types.
+-- For callers: the texts of integer types.
 use Rattle.std.specs.Prelude.{ℕ, cond, Option, Some, None, ◌++◌, codes, decimal}
 use Rattle.std.specs.Char.{is_ascii_digit}
 use Rattle.irtext_base.specs.Text.{Text, begins, front, after}

@@ -1,4 +1,4 @@
--- Which integers fit 64 bits with a sign.
+-- For callers: which integers fit 64 bits with a sign.
 use Rattle.std.specs.Prelude.{◌^◌, ℤ, pos, negsuc, Bool, nat_lt}
 
 -- from -(2 ^ 63) to 2 ^ 63 - 1

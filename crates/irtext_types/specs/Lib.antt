@@ -1,3 +1,4 @@
+-- What the headline rests on, in reading order
 pub mod Widths
 pub mod WidthOf
 pub mod WidthLaws
@@ -10,17 +11,19 @@ pub mod TypeLaws
 pub mod TypeLists
 pub mod Integers64
 pub mod IntegerAttributes
-pub mod IntegersBack
-pub mod TypeListsBack
 pub mod FunctionAttributes
-pub mod FunctionsBack
 pub mod Attributes
 pub mod AttributeLaws
-pub mod TypeTexts
-pub mod IntegerTexts
-pub mod FunctionTexts
 pub mod SincereTypes
 pub mod SincereAttributes
 pub mod EqualTypes
 pub mod EqualAttributes
 pub mod DemoDialects
+
+-- What functions promise one another
+pub mod IntegersBack
+pub mod TypeListsBack
+pub mod FunctionsBack
+pub mod TypeTexts
+pub mod IntegerTexts
+pub mod FunctionTexts

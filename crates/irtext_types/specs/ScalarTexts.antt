@@ -1,4 +1,4 @@
--- Texts of Unicode scalar values, which text attributes hold.
+-- For callers: texts of Unicode scalar values, which text attributes hold.
 use Rattle.std.proofs.Common.{◌≡◌, Bool, true, false, [], refl, sym, ◌∙◌, ap, true≢false}
 use Rattle.std.proofs.Math.Bool.{Bool-set}
 use Rattle.std.specs.Coded.{Coded, code_by, coded_list, coded_ℕ}

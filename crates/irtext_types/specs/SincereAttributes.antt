@@ -1,4 +1,4 @@
--- What the readers of the demo attributes say of a text is of that text.
+-- For callers: what the readers of the demo attributes say of a text is of that text.
 use Rattle.std.proofs.Common.{codes}
 use Rattle.irtext_base.specs.Text.{Text}
 use Rattle.irtext_base.specs.Own.{Sincere}

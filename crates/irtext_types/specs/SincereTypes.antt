@@ -1,4 +1,4 @@
--- What the readers of the demo types say of a text is of that text.
+-- For callers: what the readers of the demo types say of a text is of that text.
 use Rattle.std.proofs.Common.{◌≡◌, ℕ, zero, suc, Option, Some, None, List, [], ◌++◌, codes, length, refl}
 use Rattle.std.specs.Char.{is_ascii_digit, is_whitespace}
 use Rattle.irtext_base.specs.Text.{Text, begins, begins_word, front, after, after_space}

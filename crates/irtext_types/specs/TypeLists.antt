@@ -1,4 +1,4 @@
--- The texts of lists of types between parentheses.
+-- For callers: the texts of lists of types between parentheses.
 use Rattle.std.specs.Prelude.{ℕ, zero, suc, cond, List, [], ◌∷◌, ◌++◌, codes, length}
 use Rattle.std.specs.Char.{is_whitespace}
 use Rattle.irtext_base.specs.Text.{Text, begins, front, after_space, begins_word}

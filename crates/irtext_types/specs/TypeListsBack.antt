@@ -1,4 +1,4 @@
--- What is written of a list of types is read again.
+-- For theorems: what is written of a list of types is read again.
 use Rattle.std.proofs.Common.{◌≡◌, ℕ, zero, suc, ◌≤◌, ◌+◌, false, cond, List, [], ◌∷◌, ◌++◌, length, length-append, append-nil, refl, sym, ◌∙◌, ap, append_assoc, arith, inr, codes}
 use Rattle.std.specs.Char.{is_whitespace}
 use Rattle.irtext_base.specs.Text.{Text, begins, front, after_space}

@@ -1,4 +1,4 @@
--- The texts of the demo types are ASCII.
+-- For theorems: the texts of the demo types are ASCII.
 use Rattle.std.proofs.Common.{◌≡◌, ◌<◌, ℕ, [], ◌∷◌, true, refl, zero, suc, codes, decimal, arith}
 use Rattle.std.proofs.lemmas.Bool.Decides.{nat_tests}
 use Rattle.std.proofs.lemmas.Fmt.{IsAscii-decimal}

@@ -1,4 +1,4 @@
--- The texts of the demo types.
+-- For callers: the texts of the demo types.
 use Rattle.std.specs.Prelude.{cond, Option, Some, None, [], ◌++◌, codes}
 use Rattle.std.specs.Str.{bytes_eq}
 use Rattle.irtext_base.specs.Text.{Text}

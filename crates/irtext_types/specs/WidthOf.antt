@@ -1,4 +1,4 @@
--- The width of a number.
+-- For callers: the width of a number.
 use Rattle.std.specs.Prelude.{◌≡◌, ℕ, Bool, true, false, Option, Some, None, refl}
 use Rattle.irtext_types.specs.Widths.{is_width}
 use Rattle.irtext_types.specs.declared.width.Width.{Width}

@@ -1,4 +1,4 @@
--- Which numbers are the widths of integer types.
+-- For callers: which numbers are the widths of integer types.
 use Rattle.std.specs.Prelude.{ℕ, Bool, ◌&&◌, nat_lt}
 
 -- from 1 to 65,535

@@ -1,4 +1,4 @@
--- Dotted words, which types and attributes begin with.
+-- For callers: dotted words, which types and attributes begin with.
 use Rattle.std.specs.Prelude.{ℕ, Bool, cond, Option, Some, None, [], ◌++◌}
 use Rattle.std.specs.Char.{is_whitespace}
 use Rattle.irtext_base.specs.Text.{Text, begins, front, after, after_space, begins_word}

@@ -20,7 +20,7 @@ ghost use Rattle.irtext_vectors.specs.Trees.{empty_block, failure, marked, only_
 ghost use Rattle.irtext_grammar.specs.Names.Acts.{failures_of};
 ghost use Rattle.irtext_grammar.specs.Graphs.Build.{build, put_all};
 ghost use Rattle.irtext_grammar.specs.Graphs.Closed.{Closed, Fit};
-ghost use Rattle.irtext_grammar.specs.Graphs.Fillable.{GraphKeepsKeys};
+ghost use Rattle.irtext_grammar.specs.Graphs.ReservedKeys.{GraphKeepsKeys};
 ghost use Rattle.irtext_grammar.specs.Graphs.Graph.{written};
 ghost use Rattle.irtext_grammar.specs.Graphs.Links.{Linked, links};
 ghost use Rattle.irtext_outcomes.specs.Readers.Operations.{led_id_at};
@@ -36,7 +36,7 @@ ghost use Rattle.irtext_outcomes.specs.Readers.Section.{entry_at};
 ghost use Rattle.irtext_grammar.specs.Spelling.Spell.{spelled};
 ghost use Rattle.irtext_outcomes.specs.Promises.Root.{location_of};
 ghost use Rattle.irtext_grammar.specs.Grammar.Tree.{Tree, ident, own};
-ghost use Rattle.irtext_grammar.specs.Graphs.Wordy.{Wordy};
+ghost use Rattle.irtext_grammar.specs.Graphs.Identifiers.{HasIdentifiers};
 ghost use Rattle.irtext_grammar.specs.Spelling.SectionEntries.{SmallSection};
 
 /// A module with an empty block: how it is written, and that it reads so.
@@ -174,7 +174,7 @@ pub fn a_key_twice()
 
 /// A root that meets every premise of the round trip.
 pub fn premises_of_the_round_trip()
-    ensures { Wordy plain_printing use_before_definition × Fit plain_printing isolated use_before_definition × SmallGraph plain_printing isolated use_before_definition
+    ensures { HasIdentifiers plain_printing use_before_definition × Fit plain_printing isolated use_before_definition × SmallGraph plain_printing isolated use_before_definition
         × GraphKeepsKeys use_before_definition × Closed plain_printing isolated use_before_definition }
 {}
 
@@ -183,7 +183,7 @@ pub fn premises_of_the_round_trip()
 pub fn premises_of_a_section()
     ensures is_written { text demo plain_printing note_on_line_one 0 2 None
         ≡ codes "builtin.module @m \n{\n  ^block1v1():\n    test.nop !0;\n    test.nop !1\n}\n\noutlined_attributes:\n!0 = @[<in-memory>: line: 1, column: 27], [dbg = !2]\n!1 = [dbg = !2]\n!2 = test.dbg \"s\"\n" }
-    ensures premises { Wordy plain_printing note_on_line_one × Fit plain_printing isolated note_on_line_one × SmallGraph plain_printing isolated note_on_line_one × GraphKeepsKeys note_on_line_one
+    ensures premises { HasIdentifiers plain_printing note_on_line_one × Fit plain_printing isolated note_on_line_one × SmallGraph plain_printing isolated note_on_line_one × GraphKeepsKeys note_on_line_one
         × GraphHeld up_to_bracket text_locations note_on_line_one × Closed plain_printing isolated note_on_line_one × SmallSection plain_printing note_on_line_one }
     ensures equality { ((a b : List ℕ) → plain_printing.same_own a b ≡ true → a ≡ b) × ((a : List ℕ) → plain_printing.same_own a a ≡ true) }
 {}

@@ -7,7 +7,7 @@ ghost use Rattle.irtext_base.specs.Moves.{all_kept, all_under};
 ghost use Rattle.irtext_base.specs.declared.location.Source.TheVariants.{File};
 ghost use Rattle.irtext_vectors.specs.LocationRows.{name_alone, nested, note_at, note_text, place, Says, two_as_one};
 ghost use Rattle.irtext_outcomes.specs.Readers.Locations.{location_at};
-ghost use Rattle.irtext_outcomes.specs.Promises.WrittenBack.{AllFit, AllRead};
+ghost use Rattle.irtext_outcomes.specs.Promises.LocationsBack.{AllFit, AllRead};
 
 /// Locations of each kind: how each is written, and that the text reads as it, whole.
 pub fn texts_of_locations()

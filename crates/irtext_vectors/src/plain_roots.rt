@@ -14,7 +14,7 @@ ghost use Rattle.irtext_vectors.specs.Demo.{texts};
 ghost use Rattle.irtext_vectors.specs.PlainRoots.{all_isolated, by_plain_formats, func_context, func_graph, func_with, never, plain_demo, two_regions};
 ghost use Rattle.irtext_grammar.specs.Contexts.Formats.{format_of};
 ghost use Rattle.irtext_outcomes.specs.Promises.KeptRoot.{IsKept, StandsAlone};
-ghost use Rattle.pliron_text.specs.Promises.PlainRoot.{GivesWords, PlainRoot};
+ghost use Rattle.pliron_text.specs.Promises.PlainRoot.{GivesIdentifiers, PlainRoot};
 ghost use Rattle.irtext_print.specs.Printers.PrintedOperation.{levels, printed, printing};
 ghost use Rattle.irtext_grammar.specs.Contexts.Held.{graph_of};
 ghost use Rattle.irtext_print.specs.Printers.Appended.{fresh};
@@ -25,7 +25,7 @@ ghost use Rattle.irtext_grammar.specs.Spelling.Section.{text};
 /// of the round trip of such roots.
 pub fn premises_of_a_plain_root()
     ensures is_written { text plain_demo by_plain_formats two_regions 0 2 None ≡ codes "test.plain @f -> builtin.identifier fast [note: test.s] \n{\n  \n} \n{\n  \n}" }
-    ensures premises { GivesWords by_plain_formats × PlainRoot by_plain_formats all_isolated two_regions }
+    ensures premises { GivesIdentifiers by_plain_formats × PlainRoot by_plain_formats all_isolated two_regions }
 {}
 
 /// A context with one dialect and one operation, which has a symbol's name and a region: how it is printed, and that it meets every

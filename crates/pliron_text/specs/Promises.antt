@@ -1,7 +1,9 @@
 -- What a caller is told of a root.
 pub use Rattle.irtext_outcomes.specs.Promises.Supported
+pub use Rattle.irtext_outcomes.specs.Promises.Operation
+pub use Rattle.irtext_outcomes.specs.Promises.Section
 pub use Rattle.irtext_outcomes.specs.Promises.Root
 pub use Rattle.irtext_outcomes.specs.Promises.KeptRoot
 pub use Rattle.irtext_outcomes.specs.Promises.PrintedBack
-pub use Rattle.irtext_outcomes.specs.Promises.WrittenBack
+pub use Rattle.irtext_outcomes.specs.Promises.LocationsBack
 pub mod PlainRoot

@@ -8,13 +8,13 @@ ghost use Rattle.irtext_grammar.specs.Names.Acts.{failures_of, root_script, tree
 ghost use Rattle.irtext_grammar.specs.Grammar.Bare.{bare};
 ghost use Rattle.irtext_grammar.specs.Graphs.Build.{build};
 ghost use Rattle.irtext_grammar.specs.Graphs.Closed.{Closed, Fit};
-ghost use Rattle.irtext_grammar.specs.Graphs.Fillable.{GraphKeepsKeys};
+ghost use Rattle.irtext_grammar.specs.Graphs.ReservedKeys.{GraphKeepsKeys};
 ghost use Rattle.irtext_grammar.specs.Graphs.Graph.{Graph, Printing, entries_of, written};
 ghost use Rattle.irtext_grammar.specs.Names.History.{events};
-ghost use Rattle.irtext_grammar.specs.Grammar.LeftOut.{AllShown};
+ghost use Rattle.irtext_grammar.specs.Grammar.Marked.{AllShown};
 ghost use Rattle.irtext_grammar.specs.Graphs.Links.{Linked, links};
 ghost use Rattle.irtext_grammar.specs.Spelling.PrintedNames.{block_name, value_name};
-ghost use Rattle.irtext_grammar.specs.Names.Placeholders.{Answers, In, fresh_tracker, read};
+ghost use Rattle.irtext_grammar.specs.Names.Placeholders.{AgreesWith, In, fresh_tracker, read};
 ghost use Rattle.irtext_grammar.specs.Grammar.Section.{Entry};
 ghost use Rattle.irtext_grammar.specs.Grammar.Reads.{reads};
 ghost use Rattle.irtext_grammar.specs.Names.Resolves.{Resolves};
@@ -25,7 +25,7 @@ ghost use Rattle.irtext_grammar.specs.Spelling.Section.{section, text};
 ghost use Rattle.irtext_grammar.specs.Spelling.Spell.{spelled};
 ghost use Rattle.irtext_grammar.specs.Names.TextScopes.{Script};
 ghost use Rattle.irtext_grammar.specs.Grammar.Tree.{Tree};
-ghost use Rattle.irtext_grammar.specs.Graphs.Wordy.{Wordy};
+ghost use Rattle.irtext_grammar.specs.Graphs.Identifiers.{HasIdentifiers};
 ghost use Rattle.irtext_grammar.specs.Spelling.Writable.{Behind, BehindRoot, Writable};
 
 pub mod attributes;
@@ -58,12 +58,12 @@ pub fn reads_back<T: IrText<A>, A: AttrText>()
 /// and else each operand and successor holds the definition that the two passes look up.
 pub fn placeholders_are_two_passes<T, A, X>()
     ensures { (isolated : Id → Bool) (t : Tree ℕ T A) (es : List (Entry ℕ A X)) →
-        Answers (failures_of isolated t es) (bound same_text [] [] (root_script isolated t es)) (read (Ok fresh_tracker) (events (root_script isolated t es))) }
+        AgreesWith (failures_of isolated t es) (bound same_text [] [] (root_script isolated t es)) (read (Ok fresh_tracker) (events (root_script isolated t es))) }
 {}
 
 /// The same of any part that is read by itself, as of regions under a parent.
 pub fn parts_alone()
-    ensures { (x : Script) → Answers (failures same_text no_scope x) (bound same_text [] [] x) (read (Ok fresh_tracker) (events x)) }
+    ensures { (x : Script) → AgreesWith (failures same_text no_scope x) (bound same_text [] [] x) (read (Ok fresh_tracker) (events x)) }
 {}
 
 /// A use means a definition, in a tree that a text reads as and its section, exactly where the operation that is built there has
@@ -108,7 +108,7 @@ pub fn round_trip<T: IrText<A>, A: AttrText, X>()
     ensures { (C : Printing T A) (isolated : Id → Bool) (first : ℕ → X) (es : List (Entry ℕ A X)) (g : Graph T A) (width n : ℕ) (f : List ℕ) →
         let types = texts_of T.reading T.written in
         let owns = texts_of A.reading A.written in
-        Wordy C g → Fit C isolated g → SmallGraph C isolated g → GraphKeepsKeys g → Closed C isolated g → Behind (written C None g).own.mark f →
+        HasIdentifiers C g → Fit C isolated g → SmallGraph C isolated g → GraphKeepsKeys g → Closed C isolated g → Behind (written C None g).own.mark f →
         (t : Tree ℕ T A) × (u : List ℕ) × reads (language types owns C.format_of) t (spelled (unplaced types owns C.format_of) width n (written C None g) ++ f) u
         × (after_space u ≡ after_space f) × (bare t ≡ written C None g)
         × (failures same_text no_scope (tree_script isolated t done) ≡ []) × SameShapes (stood C isolated g) (build isolated first es t) }
@@ -130,7 +130,7 @@ pub fn root_before_section<T: IrText<A>, A: AttrText>()
         let types = texts_of T.reading T.written in
         let owns = texts_of A.reading A.written in
         let l = unplaced types owns C.format_of in
-        Wordy C g → Fit C isolated g → SmallGraph C isolated g → Behind (written C None g).own.mark f →
+        HasIdentifiers C g → Fit C isolated g → SmallGraph C isolated g → Behind (written C None g).own.mark f →
         (t : Tree ℕ T A) × (u : List ℕ) × reads (language types owns C.format_of) t (text l C g n width None ++ f) u
         × (bare t ≡ written C None g) × (after_space u ≡ after_space (section l C (entries_of C None g) ++ f)) }
 {}
@@ -140,7 +140,7 @@ pub fn left_out_is_refused<T: IrText<A>, A: AttrText>()
     ensures { (C : Printing T A) (isolated : Id → Bool) (g : Graph T A) (limit : Option ℕ) (width n : ℕ) (f : List ℕ) (t : Tree ℕ T A) (u : List ℕ) →
         let types = texts_of T.reading T.written in
         let owns = texts_of A.reading A.written in
-        Wordy C g → Fit C isolated g → SmallGraph C isolated g → Behind (written C limit g).own.mark f → (AllShown (written C limit g) → ⊥) →
+        HasIdentifiers C g → Fit C isolated g → SmallGraph C isolated g → Behind (written C limit g).own.mark f → (AllShown (written C limit g) → ⊥) →
         reads (language types owns C.format_of) t (text (unplaced types owns C.format_of) C g n width limit ++ f) u → ⊥ }
 {}
 

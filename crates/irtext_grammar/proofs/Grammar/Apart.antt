@@ -7,7 +7,7 @@ use Rattle.irtext_base.specs.Format.{Directive, has, kind, continuings, beginnin
 use Rattle.irtext_grammar.specs.Grammar.Forest.{Regions, no_regions, region, Blocks}
 use Rattle.irtext_grammar.specs.Grammar.Tree as tree
 use Rattle.irtext_grammar.specs.Grammar.Tree.{Piece, Part, directive, directive_of_piece}
-use Rattle.irtext_grammar.specs.Spelling.Fine.{Enough}
+use Rattle.irtext_grammar.specs.Spelling.Spellable.{Enough}
 use Rattle.irtext_grammar.proofs.Grammar.Follows.{Disjoint, disjoint_law, has_left, has_right, has_either}
 use Rattle.irtext_base.proofs.Characters.{and_left, and_right}
 

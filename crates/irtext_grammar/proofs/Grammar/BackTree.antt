@@ -1,29 +1,27 @@
 -- What is written of a whole tree reads as that tree, before whatever printed IR has behind it.
-use Rattle.std.specs.Prelude.{◌≡◌, ℕ, List, [], ◌∷◌, ◌++◌, Option, Some, None}
-use Rattle.irtext_base.specs.Text.{Text}
+use Rattle.std.specs.Prelude.{◌≡◌, ℕ, List, [], ◌∷◌, ◌++◌, Option, Some, None, ◌+◌, ◌<◌, ◌^◌, Bool, true, false, ◌||◌, ◌==◌, ◌⊎◌, map, codes, refl, ⊤, decimal}
+use Rattle.irtext_base.specs.Text.{Text, begins, after_space, begins_word, in_word}
 use Rattle.irtext_grammar.proofs.Grammar.Back as back
 use Rattle.irtext_grammar.specs.Grammar.Tree as tree
 use Rattle.irtext_base.specs.Format as format
 use Rattle.irtext_grammar.specs.Grammar.Reads as reads
 use Rattle.irtext_grammar.specs.Spelling.Spell as spell
 use Rattle.irtext_base.proofs.Numbers.{number_here}
-use Rattle.irtext_grammar.proofs.Grammar.Through.{Thru, thru_from, thru_then, thru_literal, thru_ends, thru_white, identifier_stops, identifier_here, back_list}
+use Rattle.irtext_grammar.proofs.Grammar.Sequences.{Reaches, reaches_from, reaches_then, reaches_literal, reaches_ends, reaches_white, identifier_stops, identifier_here, back_list}
 use Rattle.irtext_grammar.proofs.Grammar.Follows.{none_the, none_word, NoneOf, Disjoint, disjoint_law, disjoint_none, apart_none}
 use Rattle.irtext_grammar.proofs.Grammar.Back.{regroup, newline_white, here, back_name, back_type, back_dictionary, unwhite, oneof_right, ends_parts, back_parts}
 use Rattle.irtext_grammar.proofs.Grammar.Apart.{Apart, apart_inside, apart_outside}
 use Rattle.irtext_grammar.proofs.Grammar.Canonical.{back_canonical}
-use Rattle.irtext_grammar.specs.Spelling.Writable.{OneOf, Behind, BehindRoot, Deep, has_region, FineBody, FineOp, FineHead, FineArgument, FineEntries, IsRead, WritableRegions, WritableBlocks, WritableOperations, Writable}
-use Rattle.irtext_grammar.specs.Spelling.Fine.{Each, IsWord, IsName, FineMark}
+use Rattle.irtext_grammar.specs.Spelling.Writable.{OneOf, Behind, BehindRoot, Deep, has_region, IsSpellableBody, IsSpellableOp, IsSpellableHead, IsSpellableArgument, AreSpellableEntries, IsRead, WritableRegions, WritableBlocks, WritableOperations, Writable}
+use Rattle.irtext_grammar.specs.Spelling.Spellable.{Each, IsIdentifier, IsName, IsSpellableMark}
 use Rattle.irtext_grammar.specs.Grammar.Tree.{Name, Mark, Attribute, Body, Op, Head, Brace, shown, elided, Tree, IsOf, parts_of}
 use Rattle.irtext_grammar.specs.Spelling.Spell.{joined, joined_from, comma, newline}
 use Rattle.irtext_base.specs.Format.{Format, followers, c7, Id}
 use Rattle.irtext_base.specs.Own.{Language, Lawful, Unreserved, Ends}
 use Rattle.irtext_base.specs.Reading.{Reading, ◌▹◌, ◌▸◌, the, literal, separated, more, repeated}
-use Rattle.irtext_base.specs.Text.{begins, after_space, begins_word, in_word}
 use Rattle.irtext_grammar.specs.Grammar.Forest.{Regions, no_regions, region, Blocks, no_blocks, block, Operations, no_operations, operation}
 use Rattle.irtext_base.proofs.Characters.{after_twice, after_all, identifier_every, identifier_begins, word_tight}
 use Rattle.std.proofs.Common.{inl, inr, sym, ◌∙◌, ap, subst, true≢false, append_assoc}
-use Rattle.std.specs.Prelude.{◌+◌, ◌<◌, ◌^◌, Bool, true, false, ◌||◌, ◌==◌, ◌⊎◌, map, codes, refl, ⊤, decimal}
 use Rattle.std.specs.Char.{is_whitespace}
 
 module _ {P T A : Type 0} (L : Language P T A) (types : Lawful T L.types) (owns : Lawful A L.owns) (unreserved : Unreserved A L.owns) (anywhere : (p : P) (t : Text) → L.at p t) (width : ℕ) where
@@ -33,36 +31,36 @@ module _ {P T A : Type 0} (L : Language P T A) (types : Lawful T L.types) (owns 
   abbrev BackRegions : ℕ → Inner → Type 0
   BackRegions n rs = back.BackRegions L types owns unreserved anywhere width n rs
 
-  back_mark : (m : Mark P) (f : Text) → m.index < 2 ^ 64 → Ends f → Thru (reads.mark L m) (32 ∷ 33 ∷ (decimal m.index ++ f)) f
+  back_mark : (m : Mark P) (f : Text) → m.index < 2 ^ 64 → Ends f → Reaches (reads.mark L m) (32 ∷ 33 ∷ (decimal m.index ++ f)) f
   back_mark m f e h = (here L types owns unreserved anywhere) m.place (record { left = f; reading = (decimal m.index ++ f, refl, number_here m.index f e h); same = refl })
 
-  back_mark_if : (m : Option (Mark P)) (f : Text) → FineMark m → Ends f → (m ≡ None → begins (the 33) (after_space f) ≡ false) → Thru (reads.mark_if L m) (spell.mark_if L m ++ f) f
-  back_mark_if None f e h o = thru_ends (the 33) f (o refl)
+  back_mark_if : (m : Option (Mark P)) (f : Text) → IsSpellableMark m → Ends f → (m ≡ None → begins (the 33) (after_space f) ≡ false) → Reaches (reads.mark_if L m) (spell.mark_if L m ++ f) f
+  back_mark_if None f e h o = reaches_ends (the 33) f (o refl)
   back_mark_if (Some m) f e h o = back_mark m f e h
 
   -- no list of names and `=` stands where an id stands
-  no_results : (d x : Text) → IsWord d → (ns : List (Name P)) (left : Text) → reads.results L ns (d ++ (46 ∷ x)) left → ⊥
+  no_results : (d x : Text) → IsIdentifier d → (ns : List (Name P)) (left : Text) → reads.results L ns (d ++ (46 ∷ x)) left → ⊥
   no_results d x w [] left (m, a, b) = true≢false (sym (identifier_begins d (46 ∷ x) w) ∙ a.0)
   no_results d x w (n ∷ []) left (m, (m', a, b), c) = true≢false (ap (begins (the 46))
       (sym (ap after_space (b.1 ∙ ap after_space (a.1.2 ∙ after_all in_word d (46 ∷ x) (identifier_every d w) refl))) ∙ c))
   no_results d x w (n ∷ k ∷ ns) left (m, (m', a, (m'', b, b')), c) = true≢false (ap (begins (the 46))
       (sym (ap after_space (a.1.2 ∙ after_all in_word d (46 ∷ x) (identifier_every d w) refl)) ∙ b))
 
-  back_results : (ns : List (Name P)) (d x : Text) → Each IsName ns → IsWord d → Thru (reads.results_if L ns) (spell.results L ns ++ (d ++ (46 ∷ x))) (d ++ (46 ∷ x))
+  back_results : (ns : List (Name P)) (d x : Text) → Each IsName ns → IsIdentifier d → Reaches (reads.results_if L ns) (spell.results L ns ++ (d ++ (46 ∷ x))) (d ++ (46 ∷ x))
   back_results [] d x e w = let tight = word_tight (d ++ (46 ∷ x)) (identifier_begins d (46 ∷ x) w) in
       record { left = d ++ (46 ∷ x); reading = subst (λ t. reads.results_if L [] t (d ++ (46 ∷ x))) (sym tight) (inr (refl, refl, no_results d x w)); same = refl }
   back_results (n ∷ ns) d x e w = let f = d ++ (46 ∷ x) in let j = joined comma (map (λ m. m.text) (n ∷ ns)) in
-      results_some (n ∷ ns) (thru_then (thru_from (ap after_space (append_assoc j (codes " = ") f))
+      results_some (n ∷ ns) (reaches_then (reaches_from (ap after_space (append_assoc j (codes " = ") f))
       (back_list (reads.name L) (λ m. m.text) IsName (back_name L types owns unreserved anywhere) reads.no_word (n ∷ ns) (32 ∷ 61 ∷ 32 ∷ f) e (inr refl) refl refl))
-      (thru_to refl (thru_from refl (thru_literal 61 [] (32 ∷ f) refl))))
+      (reaches_to refl (reaches_from refl (reaches_literal 61 [] (32 ∷ f) refl))))
     where
-      thru_to : {R : Reading} {t f g : Text} → after_space f ≡ after_space g → Thru R t f → Thru R t g
-      thru_to e r = record { left = r.left; reading = r.reading; same = r.same ∙ e }
+      reaches_to : {R : Reading} {t f g : Text} → after_space f ≡ after_space g → Reaches R t f → Reaches R t g
+      reaches_to e r = record { left = r.left; reading = r.reading; same = r.same ∙ e }
 
-      results_some : (ns : List (Name P)) {t f : Text} → Thru (reads.results L ns) t f → Thru (reads.results_if L ns) t f
+      results_some : (ns : List (Name P)) {t f : Text} → Reaches (reads.results L ns) t f → Reaches (reads.results_if L ns) t f
       results_some ns r = record { left = r.left; reading = inl r.reading; same = r.same }
 
-  id_stops : (i : Id) (f : Text) → IsWord i.dialect → IsWord i.name → Ends f → reads.id i (i.dialect ++ (46 ∷ (i.name ++ f))) f
+  id_stops : (i : Id) (f : Text) → IsIdentifier i.dialect → IsIdentifier i.name → Ends f → reads.id i (i.dialect ++ (46 ∷ (i.name ++ f))) f
   id_stops i f d n h = (46 ∷ (i.name ++ f), identifier_stops i.dialect (46 ∷ (i.name ++ f)) d refl, (i.name ++ f, refl, identifier_here i.name f n h))
 
   no_bang : (f : Text) → OneOf (codes ";}^") f → begins (the 33) f ≡ false
@@ -81,8 +79,8 @@ module _ {P T A : Type 0} (L : Language P T A) (types : Lawful T L.types) (owns 
   Closes last (tree.custom ps) rs = Apart last ps rs
   Closes last (tree.canonical names labels entries operand_types result_types) rs = Disjoint (codes "{") last
 
-  back_body : (last : List ℕ) (n : ℕ) (f : Format) (body : Body P T A) (rs : Inner) (m : Text) → FineBody L f body rs → Closes last body rs → BackRegions n rs → Ends m → OneOf last (after_space m)
-      → Thru (reads.parts L (parts_of body) (reads.region_readings L rs)) (spell.body L body (spell.region_texts L width n rs) ++ m) m
+  back_body : (last : List ℕ) (n : ℕ) (f : Format) (body : Body P T A) (rs : Inner) (m : Text) → IsSpellableBody L f body rs → Closes last body rs → BackRegions n rs → Ends m → OneOf last (after_space m)
+      → Reaches (reads.parts L (parts_of body) (reads.region_readings L rs)) (spell.body L body (spell.region_texts L width n rs) ++ m) m
   back_body last n (format.custom ds) (tree.custom ps) rs m fine c b h o = ((back_parts L types owns unreserved anywhere width) last n ps rs m c fine.2 fine.3 b h o).thru
   back_body last n format.canonical (tree.canonical ns ls es xs ys) rs m fine c b h o =
       back_canonical L types owns unreserved anywhere width n ns ls es xs ys rs m fine.0 fine.1 fine.2 b (none_the (codes "{") 123 (after_space m) refl (apart_none (codes "{") last (after_space m) c o))
@@ -93,7 +91,7 @@ module _ {P T A : Type 0} (L : Language P T A) (types : Lawful T L.types) (owns 
   body_ends (tree.custom ps) ss m h = (ends_parts L types owns unreserved anywhere) ps ss m h
   body_ends (tree.canonical ns ls es xs ys) ss m h = inr refl
 
-  is_of : (f : Format) (body : Body P T A) (rs : Inner) → FineBody L f body rs → IsOf f body
+  is_of : (f : Format) (body : Body P T A) (rs : Inner) → IsSpellableBody L f body rs → IsOf f body
   is_of (format.custom ds) (tree.custom ps) rs fine = fine.1
   is_of format.canonical (tree.canonical ns ls es xs ys) rs fine = tt
   is_of (format.custom ds) (tree.canonical ns ls es xs ys) rs fine = absurd fine
@@ -105,8 +103,8 @@ module _ {P T A : Type 0} (L : Language P T A) (types : Lawful T L.types) (owns 
     one : OneOf last (after_space (spell.mark_if L mark ++ f))
     unmarked : mark ≡ None → begins (the 33) (after_space f) ≡ false
 
-  back_operation : (last : List ℕ) (n : ℕ) (op : Op P T A) (rs : Inner) (f : Text) → FineOp L op rs → Closes last op.body rs → BackRegions n rs → After last op.mark f
-      → Thru (reads.operation_read L op (reads.region_readings L rs)) (spell.operation_text L op (spell.region_texts L width n rs) ++ f) f
+  back_operation : (last : List ℕ) (n : ℕ) (op : Op P T A) (rs : Inner) (f : Text) → IsSpellableOp L op rs → Closes last op.body rs → BackRegions n rs → After last op.mark f
+      → Reaches (reads.operation_read L op (reads.region_readings L rs)) (spell.operation_text L op (spell.region_texts L width n rs) ++ f) f
   back_operation last n op rs f fine c b h =
       let ss = spell.region_texts L width n rs in
       let body = spell.body L op.body ss in
@@ -118,7 +116,7 @@ module _ {P T A : Type 0} (L : Language P T A) (types : Lawful T L.types) (owns 
       let id = op.id in
       let x = id.name ++ (body ++ m) in
       let tight = word_tight (id.dialect ++ (46 ∷ x)) (identifier_begins id.dialect (46 ∷ x) fine.dialect) in
-      let rest : Thru (reads.id id ▸ reads.parts L (parts_of op.body) (reads.region_readings L rs) ▹ reads.mark_if L op.mark) (id.dialect ++ (46 ∷ x)) f =
+      let rest : Reaches (reads.id id ▸ reads.parts L (parts_of op.body) (reads.region_readings L rs) ▹ reads.mark_if L op.mark) (id.dialect ++ (46 ∷ x)) f =
       record {
         left = k.left;
         reading = (
@@ -128,23 +126,23 @@ module _ {P T A : Type 0} (L : Language P T A) (types : Lawful T L.types) (owns 
         );
         same = k.same;
       } in
-      let all = thru_white (thru_then (back_results op.names id.dialect x fine.names fine.dialect) rest) in
-      thru_from {t' = spell.results L op.names ++ (id.dialect ++ (46 ∷ x))} (ap after_space (regroup (spell.results L op.names) id.dialect id.name body (spell.mark_if L op.mark) f))
+      let all = reaches_white (reaches_then (back_results op.names id.dialect x fine.names fine.dialect) rest) in
+      reaches_from {t' = spell.results L op.names ++ (id.dialect ++ (46 ∷ x))} (ap after_space (regroup (spell.results L op.names) id.dialect id.name body (spell.mark_if L op.mark) f))
       (record { left = all.left; reading = (anywhere op.place _, ((fine.its_format, fine.is_format, is_of fine.its_format op.body rs fine.body), all.reading)); same = all.same })
 
-  closes_inside : (f : Format) (body : Body P T A) (rs : Inner) → FineBody L f body rs → Closes (followers []) body rs
+  closes_inside : (f : Format) (body : Body P T A) (rs : Inner) → IsSpellableBody L f body rs → Closes (followers []) body rs
   closes_inside (format.custom ds) (tree.custom ps) rs fine = apart_inside ps ds rs fine.1 fine.0
   closes_inside format.canonical (tree.canonical ns ls es xs ys) rs fine = disjoint_law (codes "{") (followers []) refl
   closes_inside (format.custom ds) (tree.canonical ns ls es xs ys) rs fine = absurd fine
   closes_inside format.canonical (tree.custom ps) rs fine = absurd fine
 
   -- before what stands behind any operation
-  back_inside : (n : ℕ) (op : Op P T A) (rs : Inner) (f : Text) → FineOp L op rs → BackRegions n rs → Behind op.mark f
-      → Thru (reads.operation_read L op (reads.region_readings L rs)) (spell.operation_text L op (spell.region_texts L width n rs) ++ f) f
+  back_inside : (n : ℕ) (op : Op P T A) (rs : Inner) (f : Text) → IsSpellableOp L op rs → BackRegions n rs → Behind op.mark f
+      → Reaches (reads.operation_read L op (reads.region_readings L rs)) (spell.operation_text L op (spell.region_texts L width n rs) ++ f) f
   back_inside n op rs f fine b h = back_operation (followers []) n op rs f fine (closes_inside fine.its_format op.body rs fine.body) b
       (record { ends = h.ends; one = mark_one op.mark f h; unmarked = λ e. no_bang (after_space f) (h.one e) })
 
-  closes_outside : (f : Format) (body : Body P T A) (brace : Brace P) (bs : Blocks (Op P T A) (Head P T A) (Brace P)) (rs : Inner) → FineBody L f body (region brace bs rs)
+  closes_outside : (f : Format) (body : Body P T A) (brace : Brace P) (bs : Blocks (Op P T A) (Head P T A) (Brace P)) (rs : Inner) → IsSpellableBody L f body (region brace bs rs)
       → ((ds : List format.Directive) → f ≡ format.custom ds → c7 ds ≡ true) → Closes (codes "_") body (region brace bs rs)
   closes_outside (format.custom ds) (tree.custom ps) brace bs rs fine s = apart_outside ps ds brace bs rs fine.1 (s ds refl) fine.0 fine.3
   closes_outside format.canonical (tree.canonical ns ls es xs ys) brace bs rs fine s = disjoint_law (codes "{") (codes "_") refl
@@ -152,9 +150,9 @@ module _ {P T A : Type 0} (L : Language P T A) (types : Lawful T L.types) (owns 
   closes_outside format.canonical (tree.custom ps) brace bs rs fine s = absurd fine
 
   -- an operation without a mark, before a section
-  back_outside : (n : ℕ) (op : Op P T A) (rs : Inner) (f : Text) → FineOp L op rs → has_region rs ≡ true → ((ds : List format.Directive) → L.format_of op.id ≡ Some (format.custom ds) → c7 ds ≡ true)
+  back_outside : (n : ℕ) (op : Op P T A) (rs : Inner) (f : Text) → IsSpellableOp L op rs → has_region rs ≡ true → ((ds : List format.Directive) → L.format_of op.id ≡ Some (format.custom ds) → c7 ds ≡ true)
       → BackRegions n rs → op.mark ≡ None → Ends f → OneOf (codes "_") (after_space f)
-      → Thru (reads.operation_read L op (reads.region_readings L rs)) (spell.operation_text L op (spell.region_texts L width n rs) ++ f) f
+      → Reaches (reads.operation_read L op (reads.region_readings L rs)) (spell.operation_text L op (spell.region_texts L width n rs) ++ f) f
   back_outside n op no_regions f fine one s b unmarked h o = absurd (true≢false (sym one))
   back_outside n op (region brace bs rs) f fine one s b unmarked h o =
       back_operation (codes "_") n op (region brace bs rs) f fine (closes_outside fine.its_format op.body brace bs rs fine.body (λ ds e. s ds (fine.is_format ∙ ap Some e))) b (record {
@@ -172,7 +170,7 @@ module _ {P T A : Type 0} (L : Language P T A) (types : Lawful T L.types) (owns 
 
   abbrev pub BackOperations : ℕ → Steps → Type 0
   BackOperations n no_operations = ⊤
-  BackOperations n (operation o rs os) = ((f : Text) → Behind o.mark f → Thru (reads.operation_read L o (reads.region_readings L rs)) (spell.operation_text L o (spell.region_texts L width n rs) ++ f) f) × BackOperations n os
+  BackOperations n (operation o rs os) = ((f : Text) → Behind o.mark f → Reaches (reads.operation_read L o (reads.region_readings L rs)) (spell.operation_text L o (spell.region_texts L width n rs) ++ f) f) × BackOperations n os
 
   -- what may follow a block
   pub record BehindBlock (f : Text) : Type 0 where
@@ -193,14 +191,14 @@ module _ {P T A : Type 0} (L : Language P T A) (types : Lawful T L.types) (owns 
   behind_more n k m (operation o rs os) f h = behind_semicolon m k (spell.operation_text L o (spell.region_texts L width n rs) ++ joined_from (apart k) (spell.operation_texts L width n os)) f
 
   back_steps_more : (n k : ℕ) (os : Steps) (f : Text) → BackOperations n os → BehindBlock f
-      → Thru (more 59 (reads.operation_readings L os)) (joined_from (apart k) (spell.operation_texts L width n os) ++ f) f
-  back_steps_more n k no_operations f b h = thru_ends (the 59) f (none_the (codes ";") 59 (after_space f) refl (disjoint_none (codes ";") (codes "}^") (after_space f) refl h.one))
+      → Reaches (more 59 (reads.operation_readings L os)) (joined_from (apart k) (spell.operation_texts L width n os) ++ f) f
+  back_steps_more n k no_operations f b h = reaches_ends (the 59) f (none_the (codes ";") 59 (after_space f) refl (disjoint_none (codes ";") (codes "}^") (after_space f) refl h.one))
   back_steps_more n k (operation o rs os) f b h =
       let x = spell.operation_text L o (spell.region_texts L width n rs) in
       let j = joined_from (apart k) (spell.operation_texts L width n os) in
-      let r = thru_then (b.0 (j ++ f) (behind_more n k o.mark os f h)) (back_steps_more n k os f b.1 h) in
-      thru_then (thru_literal 59 [] ((newline k ++ (x ++ j)) ++ f) refl)
-      (thru_from (ap after_space (append_assoc (newline k) (x ++ j) f) ∙ newline_white k ((x ++ j) ++ f) ∙ ap after_space (append_assoc x j f)) r)
+      let r = reaches_then (b.0 (j ++ f) (behind_more n k o.mark os f h)) (back_steps_more n k os f b.1 h) in
+      reaches_then (reaches_literal 59 [] ((newline k ++ (x ++ j)) ++ f) refl)
+      (reaches_from (ap after_space (append_assoc (newline k) (x ++ j) f) ∙ newline_white k ((x ++ j) ++ f) ∙ ap after_space (append_assoc x j f)) r)
 
   none_operation : (t : Text) → NoneOf (codes "_=") t → begins (λ c. begins_word c || c == 61) t ≡ false
   none_operation [] e = refl
@@ -211,7 +209,7 @@ module _ {P T A : Type 0} (L : Language P T A) (types : Lawful T L.types) (owns 
       both_false false b e f = f
 
   back_steps : (n k : ℕ) (os : Steps) (f : Text) → BackOperations n os → BehindBlock f
-      → Thru (separated 59 reads.no_operation (reads.operation_readings L os)) (joined (apart k) (spell.operation_texts L width n os) ++ f) f
+      → Reaches (separated 59 reads.no_operation (reads.operation_readings L os)) (joined (apart k) (spell.operation_texts L width n os) ++ f) f
   back_steps n k no_operations f b h = record {
     left = after_space f;
     reading = (
@@ -224,28 +222,28 @@ module _ {P T A : Type 0} (L : Language P T A) (types : Lawful T L.types) (owns 
   back_steps n k (operation o rs os) f b h =
       let x = spell.operation_text L o (spell.region_texts L width n rs) in
       let j = joined_from (apart k) (spell.operation_texts L width n os) in
-      let r : Thru (reads.operation_read L o (reads.region_readings L rs) ▹ more 59 (reads.operation_readings L os)) ((x ++ j) ++ f) f =
-      thru_then (thru_from (ap after_space (append_assoc x j f)) (b.0 (j ++ f) (behind_more n k o.mark os f h))) (back_steps_more n k os f b.1 h) in
+      let r : Reaches (reads.operation_read L o (reads.region_readings L rs) ▹ more 59 (reads.operation_readings L os)) ((x ++ j) ++ f) f =
+      reaches_then (reaches_from (ap after_space (append_assoc x j f)) (b.0 (j ++ f) (behind_more n k o.mark os f h))) (back_steps_more n k os f b.1 h) in
       record { left = r.left; reading = r.reading; same = r.same }
 
-  back_argument : (a : Name P × T) (f : Text) → FineArgument L a → Ends f → Thru (reads.argument L a) (spell.argument L a ++ f) f
-  back_argument a f g h = thru_then (thru_from (ap after_space (append_assoc a.0.text (58 ∷ 32 ∷ L.types.written a.1) f)) ((back_name L types owns unreserved anywhere) a.0 (58 ∷ 32 ∷ (L.types.written a.1 ++ f)) g (inr refl)))
-      (thru_then (thru_literal 58 [] (32 ∷ (L.types.written a.1 ++ f)) refl) (thru_from refl ((back_type L types owns unreserved anywhere) a.1 f h)))
+  back_argument : (a : Name P × T) (f : Text) → IsSpellableArgument L a → Ends f → Reaches (reads.argument L a) (spell.argument L a ++ f) f
+  back_argument a f g h = reaches_then (reaches_from (ap after_space (append_assoc a.0.text (58 ∷ 32 ∷ L.types.written a.1) f)) ((back_name L types owns unreserved anywhere) a.0 (58 ∷ 32 ∷ (L.types.written a.1 ++ f)) g (inr refl)))
+      (reaches_then (reaches_literal 58 [] (32 ∷ (L.types.written a.1 ++ f)) refl) (reaches_from refl ((back_type L types owns unreserved anywhere) a.1 f h)))
 
   no_bracket : (m : Option (Mark P)) (x f : Text) → begins (the 91) (after_space (spell.mark_if L m ++ (58 ∷ x))) ≡ false
   no_bracket None x f = refl
   no_bracket (Some m) x f = refl
 
-  back_dictionary_if : (es : Option (List (Name P × Attribute A))) (f : Text) → FineEntries L es → begins (the 91) (after_space f) ≡ false → Thru (reads.dictionary_if L es) (spell.dictionary_if L es ++ f) f
-  back_dictionary_if None f g h = thru_ends (the 91) f h
-  back_dictionary_if (Some es) f g h = thru_from refl ((back_dictionary L types owns unreserved anywhere) es f g)
+  back_dictionary_if : (es : Option (List (Name P × Attribute A))) (f : Text) → AreSpellableEntries L es → begins (the 91) (after_space f) ≡ false → Reaches (reads.dictionary_if L es) (spell.dictionary_if L es ++ f) f
+  back_dictionary_if None f g h = reaches_ends (the 91) f h
+  back_dictionary_if (Some es) f g h = reaches_from refl ((back_dictionary L types owns unreserved anywhere) es f g)
 
   regroup_block : (l a d m k o f : Text) → ((94 ∷ l) ++ (codes "(" ++ (a ++ (codes ")" ++ (d ++ (m ++ (codes ":" ++ (k ++ o)))))))) ++ f
       ≡ 94 ∷ (l ++ (40 ∷ (a ++ (41 ∷ (d ++ (m ++ (58 ∷ (k ++ (o ++ f)))))))))
   regroup_block l a d m k o f = simp append_assoc
 
-  back_block : (n : ℕ) (h : Head P T A) (os : Steps) (f : Text) → FineHead L h → BackOperations (n + width) os → BehindBlock f
-      → Thru (reads.block_read L h (reads.operation_readings L os)) (spell.block_text L width n h (spell.operation_texts L width (n + width) os) ++ f) f
+  back_block : (n : ℕ) (h : Head P T A) (os : Steps) (f : Text) → IsSpellableHead L h → BackOperations (n + width) os → BehindBlock f
+      → Reaches (reads.block_read L h (reads.operation_readings L os)) (spell.block_text L width n h (spell.operation_texts L width (n + width) os) ++ f) f
   back_block n h os f fine b e =
       let k = n + width in
       let o = joined (apart k) (spell.operation_texts L width k os) in
@@ -253,21 +251,21 @@ module _ {P T A : Type 0} (L : Language P T A) (types : Lawful T L.types) (owns 
       let d = spell.dictionary_if L h.attributes in
       let a = joined comma (map (spell.argument L) h.arguments) in
       let t6 = 58 ∷ (newline k ++ (o ++ f)) in
-      let r6 : Thru (literal (codes ":") ▹ separated 59 reads.no_operation (reads.operation_readings L os)) t6 f =
-      thru_then (thru_literal 58 [] (newline k ++ (o ++ f)) refl) (thru_from (newline_white k (o ++ f)) (back_steps k k os f b e)) in
-      let r5 = thru_then (back_mark_if h.mark t6 fine.mark (inr refl) (λ e. refl)) r6 in
-      let r4 = thru_then (back_dictionary_if h.attributes (s ++ t6) fine.attributes (no_bracket h.mark (newline k ++ (o ++ f)) f)) r5 in
-      let r3 = thru_then (thru_literal 41 [] (d ++ (s ++ t6)) refl) r4 in
-      let r2 = thru_then (back_list (reads.argument L) (spell.argument L) (FineArgument L) back_argument reads.no_word h.arguments (41 ∷ (d ++ (s ++ t6))) fine.arguments (inr refl) refl refl) r3 in
-      let r1 = thru_then (thru_literal 40 [] (a ++ (41 ∷ (d ++ (s ++ t6)))) refl) r2 in
+      let r6 : Reaches (literal (codes ":") ▹ separated 59 reads.no_operation (reads.operation_readings L os)) t6 f =
+      reaches_then (reaches_literal 58 [] (newline k ++ (o ++ f)) refl) (reaches_from (newline_white k (o ++ f)) (back_steps k k os f b e)) in
+      let r5 = reaches_then (back_mark_if h.mark t6 fine.mark (inr refl) (λ e. refl)) r6 in
+      let r4 = reaches_then (back_dictionary_if h.attributes (s ++ t6) fine.attributes (no_bracket h.mark (newline k ++ (o ++ f)) f)) r5 in
+      let r3 = reaches_then (reaches_literal 41 [] (d ++ (s ++ t6)) refl) r4 in
+      let r2 = reaches_then (back_list (reads.argument L) (spell.argument L) (IsSpellableArgument L) back_argument reads.no_word h.arguments (41 ∷ (d ++ (s ++ t6))) fine.arguments (inr refl) refl refl) r3 in
+      let r1 = reaches_then (reaches_literal 40 [] (a ++ (41 ∷ (d ++ (s ++ t6)))) refl) r2 in
       let g = 40 ∷ (a ++ (41 ∷ (d ++ (s ++ t6)))) in
-      let l : Thru (reads.label L h.label) (94 ∷ (h.label.text ++ g)) g = (here L types owns unreserved anywhere) h.label.place (record { left = g; reading = (h.label.text ++ g, refl, identifier_stops h.label.text g fine.label refl); same = refl }) in
-      thru_from (ap after_space (regroup_block h.label.text a d s (newline k) o f)) (thru_then l r1)
+      let l : Reaches (reads.label L h.label) (94 ∷ (h.label.text ++ g)) g = (here L types owns unreserved anywhere) h.label.place (record { left = g; reading = (h.label.text ++ g, refl, identifier_stops h.label.text g fine.label refl); same = refl }) in
+      reaches_from (ap after_space (regroup_block h.label.text a d s (newline k) o f)) (reaches_then l r1)
 
   -- regions
   abbrev pub BackBlocks : ℕ → Leaves → Type 0
   BackBlocks n no_blocks = ⊤
-  BackBlocks n (block h os bs) = ((f : Text) → BehindBlock f → Thru (reads.block_read L h (reads.operation_readings L os)) (spell.block_text L width n h (spell.operation_texts L width (n + width) os) ++ f) f) × BackBlocks n bs
+  BackBlocks n (block h os bs) = ((f : Text) → BehindBlock f → Reaches (reads.block_read L h (reads.operation_readings L os)) (spell.block_text L width n h (spell.operation_texts L width (n + width) os) ++ f) f) × BackBlocks n bs
 
   abbrev gap : ℕ → Text
   gap k = 10 ∷ newline k
@@ -283,38 +281,38 @@ module _ {P T A : Type 0} (L : Language P T A) (types : Lawful T L.types) (owns 
       record { ends = inr refl; one = subst (λ t. OneOf (codes "}^") t) (sym (ap after_space (append_assoc (newline k) (x ++ j) (shut n f)) ∙ newline_white k ((x ++ j) ++ shut n f))) (inr refl) }
 
   back_leaves_more : (n k m : ℕ) (bs : Leaves) (f : Text) → BackBlocks m bs
-      → Thru (repeated (the 94) (reads.block_readings L bs)) (joined_from (gap k) (spell.block_texts L width m bs) ++ shut n f) (shut n f)
-  back_leaves_more n k m no_blocks f b = thru_ends (the 94) (shut n f) (ap (begins (the 94)) (newline_white n (125 ∷ f)))
+      → Reaches (repeated (the 94) (reads.block_readings L bs)) (joined_from (gap k) (spell.block_texts L width m bs) ++ shut n f) (shut n f)
+  back_leaves_more n k m no_blocks f b = reaches_ends (the 94) (shut n f) (ap (begins (the 94)) (newline_white n (125 ∷ f)))
   back_leaves_more n k m (block h os bs) f b =
       let x = spell.block_text L width m h (spell.operation_texts L width (m + width) os) in
       let j = joined_from (gap k) (spell.block_texts L width m bs) in
-      let r : Thru (repeated (the 94) (reads.block_readings L (block h os bs))) (x ++ (j ++ shut n f)) (shut n f) = thru_then (b.0 (j ++ shut n f) (behind_blocks n k m bs f)) (back_leaves_more n k m bs f b.1) in
-      thru_from (ap after_space (append_assoc (newline k) (x ++ j) (shut n f)) ∙ newline_white k ((x ++ j) ++ shut n f) ∙ ap after_space (append_assoc x j (shut n f))) r
+      let r : Reaches (repeated (the 94) (reads.block_readings L (block h os bs))) (x ++ (j ++ shut n f)) (shut n f) = reaches_then (b.0 (j ++ shut n f) (behind_blocks n k m bs f)) (back_leaves_more n k m bs f b.1) in
+      reaches_from (ap after_space (append_assoc (newline k) (x ++ j) (shut n f)) ∙ newline_white k ((x ++ j) ++ shut n f) ∙ ap after_space (append_assoc x j (shut n f))) r
 
   back_leaves : (n k m : ℕ) (bs : Leaves) (f : Text) → BackBlocks m bs
-      → Thru (repeated (the 94) (reads.block_readings L bs)) (joined (gap k) (spell.block_texts L width m bs) ++ shut n f) (shut n f)
-  back_leaves n k m no_blocks f b = thru_ends (the 94) (shut n f) (ap (begins (the 94)) (newline_white n (125 ∷ f)))
+      → Reaches (repeated (the 94) (reads.block_readings L bs)) (joined (gap k) (spell.block_texts L width m bs) ++ shut n f) (shut n f)
+  back_leaves n k m no_blocks f b = reaches_ends (the 94) (shut n f) (ap (begins (the 94)) (newline_white n (125 ∷ f)))
   back_leaves n k m (block h os bs) f b =
       let x = spell.block_text L width m h (spell.operation_texts L width (m + width) os) in
       let j = joined_from (gap k) (spell.block_texts L width m bs) in
-      let r : Thru (repeated (the 94) (reads.block_readings L (block h os bs))) (x ++ (j ++ shut n f)) (shut n f) = thru_then (b.0 (j ++ shut n f) (behind_blocks n k m bs f)) (back_leaves_more n k m bs f b.1) in
-      thru_from (ap after_space (append_assoc x j (shut n f))) r
+      let r : Reaches (repeated (the 94) (reads.block_readings L (block h os bs))) (x ++ (j ++ shut n f)) (shut n f) = reaches_then (b.0 (j ++ shut n f) (behind_blocks n k m bs f)) (back_leaves_more n k m bs f b.1) in
+      reaches_from (ap after_space (append_assoc x j (shut n f))) r
 
   regroup_region : (i k j n f : Text) → (i ++ (codes "{" ++ (k ++ (j ++ (n ++ codes "}"))))) ++ f ≡ i ++ (123 ∷ (k ++ (j ++ (n ++ (125 ∷ f)))))
   regroup_region i k j n f = simp append_assoc
 
   back_region : (n : ℕ) (brace : Brace P) (bs : Leaves) (f : Text) → IsRead L brace bs → BackBlocks (n + width) bs
-      → Thru (reads.region_read L brace (reads.block_readings L bs)) (spell.region_text L width n brace (spell.block_texts L width (n + width) bs) ++ f) f
+      → Reaches (reads.region_read L brace (reads.block_readings L bs)) (spell.region_text L width n brace (spell.block_texts L width (n + width) bs) ++ f) f
   back_region n elided no_blocks f s b = record { left = f; reading = s f; same = refl }
   back_region n elided (block h os bs) f s b = absurd s
   back_region n (shown p) bs f s b =
       let k = n + width in
       let j = joined (gap k) (spell.block_texts L width k bs) in
-      let r2 : Thru (literal (codes "}")) (shut n f) f = thru_from (newline_white n (125 ∷ f)) (thru_literal 125 [] f refl) in
-      let r1 : Thru (repeated (the 94) (reads.block_readings L bs) ▹ literal (codes "}")) (j ++ shut n f) f = thru_then (back_leaves n k k bs f b) r2 in
-      let r0 : Thru (reads.region_read L (shown p) (reads.block_readings L bs)) (123 ∷ (newline k ++ (j ++ shut n f))) f =
-      (here L types owns unreserved anywhere) p (thru_then (thru_literal 123 [] (newline k ++ (j ++ shut n f)) refl) (thru_from (newline_white k (j ++ shut n f)) r1)) in
-      thru_from (ap after_space (regroup_region (newline n) (newline k) j (newline n) f) ∙ newline_white n (123 ∷ (newline k ++ (j ++ shut n f)))) r0
+      let r2 : Reaches (literal (codes "}")) (shut n f) f = reaches_from (newline_white n (125 ∷ f)) (reaches_literal 125 [] f refl) in
+      let r1 : Reaches (repeated (the 94) (reads.block_readings L bs) ▹ literal (codes "}")) (j ++ shut n f) f = reaches_then (back_leaves n k k bs f b) r2 in
+      let r0 : Reaches (reads.region_read L (shown p) (reads.block_readings L bs)) (123 ∷ (newline k ++ (j ++ shut n f))) f =
+      (here L types owns unreserved anywhere) p (reaches_then (reaches_literal 123 [] (newline k ++ (j ++ shut n f)) refl) (reaches_from (newline_white k (j ++ shut n f)) r1)) in
+      reaches_from (ap after_space (regroup_region (newline n) (newline k) j (newline n) f) ∙ newline_white n (123 ∷ (newline k ++ (j ++ shut n f)))) r0
 
   mutual
     regions_back : (n : ℕ) (rs : Inner) → WritableRegions L rs → BackRegions n rs
@@ -329,7 +327,7 @@ module _ {P T A : Type 0} (L : Language P T A) (types : Lawful T L.types) (owns 
     operations_back n no_operations w = tt
     operations_back n (operation o rs os) w = (λ f e. back_inside n o rs f w.0 (regions_back n rs w.1) e, operations_back n os w.2)
 
-  reading_of : (n : ℕ) (t : Tree P T A) (f : Text) → Thru (reads.operation_read L t.own (reads.region_readings L t.regions)) (spell.spelled L width n t ++ f) f
+  reading_of : (n : ℕ) (t : Tree P T A) (f : Text) → Reaches (reads.operation_read L t.own (reads.region_readings L t.regions)) (spell.spelled L width n t ++ f) f
       → (u : Text) × reads.reads L t (spell.spelled L width n t ++ f) u × (after_space u ≡ after_space f)
   reading_of n t f r =
       let text = spell.spelled L width n t ++ f in

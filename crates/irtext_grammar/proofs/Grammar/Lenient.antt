@@ -7,7 +7,7 @@ use Rattle.irtext_grammar.specs.Grammar.Forest.{Regions, no_regions, region, Blo
 use Rattle.irtext_grammar.specs.Grammar.Tree as tree
 use Rattle.irtext_grammar.specs.Grammar.Tree.{Part, Op, Head, Brace, shown, elided, Tree, parts_of}
 use Rattle.irtext_grammar.specs.Grammar.Bare.{bare_brace, bare_regions, bare_blocks, bare_operations, bare}
-use Rattle.irtext_grammar.specs.Grammar.LeftOut.{IsShown, AllShown}
+use Rattle.irtext_grammar.specs.Grammar.Marked.{IsShown, AllShown}
 use Rattle.irtext_grammar.specs.Grammar.Reads as reads
 
 abbrev ShownRegions : {P T A : Type 0} → Regions (Op P T A) (Head P T A) (Brace P) → Type 0

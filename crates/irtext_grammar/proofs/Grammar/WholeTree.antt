@@ -3,10 +3,10 @@ use Rattle.irtext_base.specs.Text.{Text, after_space}
 use Rattle.irtext_base.specs.Reading.{the}
 use Rattle.irtext_base.specs.Own.{Language}
 use Rattle.irtext_grammar.specs.Grammar.Forest.{Regions, no_regions, region, Blocks, no_blocks, block, Operations, no_operations, operation}
-use Rattle.irtext_grammar.specs.Spelling.Fine.{Enough}
+use Rattle.irtext_grammar.specs.Spelling.Spellable.{Enough}
 use Rattle.irtext_grammar.specs.Grammar.Tree.{Op, Head, Brace, shown, elided, Tree, parts_of}
 use Rattle.irtext_grammar.specs.Grammar.Reads as reads
-use Rattle.irtext_grammar.proofs.Grammar.Used.{AllUsed, repeated_used, parts_used, block_used}
+use Rattle.irtext_grammar.proofs.Grammar.ListReadings.{AllUsed, repeated_used, parts_used, block_used}
 use Rattle.irtext_grammar.proofs.Names.InScripts.{WholeRegions, WholeBlocks, WholeOperations}
 
 module _ {P T A : Type 0} (L : Language P T A) (never_out : (t u : Text) → L.left_out t u → ⊥) where

@@ -10,7 +10,7 @@ use Rattle.irtext_grammar.specs.Grammar.Bare.{bare_name, bare_mark_if, bare_entr
 use Rattle.irtext_grammar.specs.Names.Script.{Path, Failure, Act, Script, done, does, within, does_all, act_as, script_as, failure_as}
 use Rattle.irtext_grammar.specs.Names.Script as script
 use Rattle.irtext_grammar.specs.Names.Scopes.{Fact, uses, defines, no_scope, failures}
-use Rattle.irtext_grammar.specs.Names.Acts.{value_uses, label_uses, result_definitions, argument_definitions, mark_acts, key_act, entries_if, result_types, singles, single_labels, piece_acts, all_of, parts_script, closing_acts, header_acts, operation_script, region_script, region_scripts, blocks_script, operations_script, tree_script, Rule, keeps_key, keeps_block_key}
+use Rattle.irtext_grammar.specs.Names.Acts.{value_uses, label_uses, result_definitions, argument_definitions, mark_acts, key_act, entries_if, result_types, singles, single_labels, piece_acts, all_of, parts_script, closing_acts, header_acts, operation_script, region_script, region_scripts, blocks_script, operations_script, tree_script, Rule, may_hold, block_may_hold}
 use Rattle.irtext_grammar.proofs.Names.Natural.{map_both, AllScript, AllAct, fact_as, failures_natural}
 
 mapped_both : {A B : Type 0} (F : A → B) (xs ys : List A) → map F xs ++ map F ys ≡ map F (xs ++ ys)
@@ -264,7 +264,7 @@ module _ {P T A : Type 0} where
   bare_piece_acts p k l (tree.successor i n) = refl
   bare_piece_acts p k l (tree.successors ns) = bare_label_uses p l ns
   bare_piece_acts p k l (tree.attribute key a) = refl
-  bare_piece_acts p k l (tree.dictionary es) = bare_keys keeps_key es
+  bare_piece_acts p k l (tree.dictionary es) = bare_keys may_hold es
   bare_piece_acts p k l (tree.result_type i x) = refl
   bare_piece_acts p k l (tree.header n) = refl
   bare_piece_acts p k l (tree.types ts) = refl
@@ -291,8 +291,8 @@ module _ {P T A : Type 0} where
       let last = script.define_label (record { name = h.label.text; at = h.label.place }) (script.block_at p) ∷ [] in
       let mark = mark_acts h.mark in
       let arguments = argument_definitions p 0 h.arguments in
-      let keys = map (key_act keeps_block_key) (entries_if h.attributes) in
-      ap₂ ◌++◌ (ap (map (key_act keeps_block_key)) (bare_entries_if h.attributes) ∙ bare_keys keeps_block_key (entries_if h.attributes))
+      let keys = map (key_act block_may_hold) (entries_if h.attributes) in
+      ap₂ ◌++◌ (ap (map (key_act block_may_hold)) (bare_entries_if h.attributes) ∙ bare_keys block_may_hold (entries_if h.attributes))
       (ap₂ ◌++◌ (bare_arguments p 0 h.arguments) (ap (λ z. z ++ map B last) (bare_marks h.mark) ∙ mapped_both B mark last) ∙ mapped_both B arguments (mark ++ last))
       ∙ mapped_both B keys (arguments ++ (mark ++ last))
 

@@ -11,12 +11,12 @@ use Rattle.irtext_grammar.specs.Names.Script.{done, does_all}
 use Rattle.irtext_grammar.specs.Names.Acts.{failures_of, section_acts, rule_of}
 use Rattle.irtext_grammar.specs.Graphs.Build.{build}
 use Rattle.irtext_grammar.specs.Graphs.Closed.{Closed}
-use Rattle.irtext_grammar.specs.Graphs.Fillable.{GraphKeepsKeys}
+use Rattle.irtext_grammar.specs.Graphs.ReservedKeys.{GraphKeepsKeys}
 use Rattle.irtext_grammar.specs.Graphs.Regained.{Named}
 use Rattle.irtext_grammar.specs.Graphs.Same.{stood}
 use Rattle.irtext_grammar.specs.Graphs.StandsFor.{Distinct, StandsFor}
-use Rattle.irtext_grammar.proofs.Grammar.Formed.{NoneLeftOut, each_accepted, formed_read}
-use Rattle.irtext_grammar.proofs.Graphs.Holding.{all_there}
+use Rattle.irtext_grammar.proofs.Grammar.PartsOfFormats.{NoneLeftOut, each_accepted, formed_read}
+use Rattle.irtext_grammar.proofs.Graphs.Links.{all_there}
 use Rattle.irtext_grammar.proofs.Grammar.WholeTree.{whole}
 use Rattle.irtext_grammar.proofs.Names.ResolvedRoot.{resolves}
 use Rattle.irtext_grammar.proofs.Graphs.StandsClosed.{stands_closed}

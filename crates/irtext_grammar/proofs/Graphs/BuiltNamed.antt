@@ -5,18 +5,17 @@ use Rattle.std.proofs.lemmas.Bool.Decides.{nat_tests}
 use Rattle.irtext_base.specs.Text.{Text}
 use Rattle.irtext_base.specs.Format as format
 use Rattle.irtext_base.specs.Format.{Format, Directive, Accepted, same_text, has, keys, given_names_key, Id}
-use Rattle.irtext_grammar.specs.Grammar.Tree.{block_label_key}
-use Rattle.irtext_grammar.specs.Spelling.Fine.{Each}
+use Rattle.irtext_grammar.specs.Grammar.Tree.{block_label_key, Name, Attribute, ident, given_names, own, Piece, Part, Body, Op, Head, Brace, shown, elided, Tree, IsOf, directive, parts_of, views, in_order, operand_names, successor_labels}
+use Rattle.irtext_grammar.specs.Spelling.Spellable.{Each}
 use Rattle.irtext_grammar.specs.Grammar.Forest.{Regions, no_regions, region, Blocks, no_blocks, block, Operations, no_operations, operation, MatchRegions, MatchBlocks, MatchOperations, AllRegions, AllBlocks, AllOperations}
 use Rattle.irtext_grammar.specs.Grammar.Tree as tree
-use Rattle.irtext_grammar.specs.Grammar.Tree.{Name, Attribute, ident, given_names, own, Piece, Part, Body, Op, Head, Brace, shown, elided, Tree, IsOf, directive, parts_of, views, in_order, operand_names, successor_labels}
 use Rattle.irtext_grammar.specs.Grammar.Section.{Item, direct, reference, Entry, of_item, of_once}
 use Rattle.irtext_grammar.specs.Graphs.Graph.{Graph, GraphOp, GraphBlock, Printing, lookup}
 use Rattle.irtext_grammar.specs.Names.Script.{Path}
 use Rattle.irtext_grammar.specs.Names.Scopes.{Fact, is_among}
-use Rattle.irtext_grammar.specs.Names.Acts.{Rule, keeps_key, keeps_block_key, keeps_label_key, is_given, keeps_if, once_at, result_types, entries_if, marked_as, block_marks_in_regions, block_marks_in_blocks, block_marks_in_operations}
+use Rattle.irtext_grammar.specs.Names.Acts.{Rule, may_hold, block_may_hold, keeps_label_key, is_given, keeps_if, shared_attribute, result_types, entries_if, marked_as, block_marks_in_regions, block_marks_in_blocks, block_marks_in_operations}
 use Rattle.irtext_grammar.specs.Graphs.Build.{put, put_all, read_names, plain_entry, stored, inline_entries, resolved, content_in, content, with_content, but_label, built_op, built_head, built_regions, built_blocks, built_operations, build}
-use Rattle.irtext_grammar.specs.Graphs.Fillable.{KeepsRule, KeepsKeys, OpKeepsKeys, BlockKeepsKeys, GraphKeepsKeys}
+use Rattle.irtext_grammar.specs.Graphs.ReservedKeys.{KeepsRule, KeepsKeys, OpKeepsKeys, BlockKeepsKeys, GraphKeepsKeys}
 use Rattle.irtext_grammar.specs.Names.Resolves.{KeysKept, is_kept, EntryKept, CountsAgree, OpKeysKept, HeadKeysKept, texts, Resolves}
 use Rattle.irtext_grammar.specs.Graphs.Closed.{Thing}
 use Rattle.irtext_grammar.specs.Graphs.Same.{stood_op, stood_block, stood_regions, stood_blocks, stood_operations, stood}
@@ -24,7 +23,7 @@ use Rattle.irtext_grammar.specs.Graphs.Regained.{HoldsNames, OpNamed, BlockNamed
 use Rattle.irtext_grammar.specs.Graphs.StandsFor.{StandsForOp, StandsForBlock, StandsFor}
 use Rattle.irtext_grammar.specs.Spelling.Writable.{has_region}
 use Rattle.irtext_grammar.proofs.Graphs.FitsFormat.{meets, and_left, and_right}
-use Rattle.irtext_grammar.proofs.Grammar.Formed.{FormedOp, FormedRegions, FormedBlocks, FormedOperations, Formed}
+use Rattle.irtext_grammar.proofs.Grammar.PartsOfFormats.{FormedOp, FormedRegions, FormedBlocks, FormedOperations, Formed}
 use Rattle.irtext_grammar.proofs.Lists.Lists.{or_else}
 use Rattle.irtext_grammar.proofs.Lists.Dictionaries.{last_of, last_both, lookup_put_all}
 use Rattle.irtext_grammar.proofs.Lists.Numbering.{some_inside}
@@ -96,25 +95,25 @@ keeps_put_all : {A : Type 0} (rule : Rule A) (es ds : List (Text × Attribute A)
 keeps_put_all rule es [] h k = h
 keeps_put_all rule es (d ∷ ds) h k = keeps_put_all rule (put d es) ds (keeps_put rule d es (and_left (rule d.0 d.1) _ k) h) (and_right (rule d.0 d.1) _ k)
 
-keeps_names : (A : Type 0) (ns : List Text) → KeepsRule {A = A} keeps_block_key (read_names ns)
+keeps_names : (A : Type 0) (ns : List Text) → KeepsRule {A = A} block_may_hold (read_names ns)
 keeps_names A [] = refl
 keeps_names A (n ∷ ns) = refl
 
-block_to_key : {A : Type 0} (es : List (Text × Attribute A)) → KeepsRule keeps_block_key es → KeepsKeys es
+block_to_key : {A : Type 0} (es : List (Text × Attribute A)) → KeepsRule block_may_hold es → KeepsKeys es
 block_to_key [] h = refl
-block_to_key (e ∷ es) h = both_true (keeps_key e.0 e.1) _ (and_left (keeps_key e.0 e.1) _ (and_left (keeps_block_key e.0 e.1) _ h)) (block_to_key es (and_right (keeps_block_key e.0 e.1) _ h))
+block_to_key (e ∷ es) h = both_true (may_hold e.0 e.1) _ (and_left (may_hold e.0 e.1) _ (and_left (block_may_hold e.0 e.1) _ h)) (block_to_key es (and_right (block_may_hold e.0 e.1) _ h))
 
 label_to_key : {A : Type 0} (es : List (Text × Attribute A)) → KeepsRule keeps_label_key es → KeepsKeys es
 label_to_key [] h = refl
-label_to_key (e ∷ es) h = both_true (keeps_key e.0 e.1) _ (and_left (keeps_key e.0 e.1) _ (and_left (keeps_label_key e.0 e.1) _ h)) (label_to_key es (and_right (keeps_label_key e.0 e.1) _ h))
+label_to_key (e ∷ es) h = both_true (may_hold e.0 e.1) _ (and_left (may_hold e.0 e.1) _ (and_left (keeps_label_key e.0 e.1) _ h)) (label_to_key es (and_right (keeps_label_key e.0 e.1) _ h))
 
-without_label : {A : Type 0} (es : List (Text × Attribute A)) → KeepsRule keeps_label_key es → KeepsRule keeps_block_key (filter (λ e. not (same_text e.0 block_label_key)) es)
+without_label : {A : Type 0} (es : List (Text × Attribute A)) → KeepsRule keeps_label_key es → KeepsRule block_may_hold (filter (λ e. not (same_text e.0 block_label_key)) es)
 without_label [] h = refl
 without_label {A} (e ∷ es) h = go (not (same_text e.0 block_label_key)) refl (without_label es (and_right (keeps_label_key e.0 e.1) _ h))
   where
-    go : (b : Bool) → not (same_text e.0 block_label_key) ≡ b → KeepsRule {A = A} keeps_block_key (filter (λ e. not (same_text e.0 block_label_key)) es)
-        → KeepsRule {A = A} keeps_block_key (cond b (e ∷ filter (λ e. not (same_text e.0 block_label_key)) es) (filter (λ e. not (same_text e.0 block_label_key)) es))
-    go true q r = both_true (keeps_block_key e.0 e.1) _ (both_true (keeps_key e.0 e.1) _ (and_left (keeps_key e.0 e.1) _ (and_left (keeps_label_key e.0 e.1) _ h)) q) r
+    go : (b : Bool) → not (same_text e.0 block_label_key) ≡ b → KeepsRule {A = A} block_may_hold (filter (λ e. not (same_text e.0 block_label_key)) es)
+        → KeepsRule {A = A} block_may_hold (cond b (e ∷ filter (λ e. not (same_text e.0 block_label_key)) es) (filter (λ e. not (same_text e.0 block_label_key)) es))
+    go true q r = both_true (block_may_hold e.0 e.1) _ (both_true (may_hold e.0 e.1) _ (and_left (may_hold e.0 e.1) _ (and_left (keeps_label_key e.0 e.1) _ h)) q) r
     go false q r = r
 
 plain_keeps : {P A : Type 0} (rule : Rule A) (es : List (Name P × Attribute A)) → KeysKept rule es → KeepsRule rule (map plain_entry es)
@@ -125,7 +124,7 @@ plain_keeps rule (e ∷ es) h = both_true (rule e.0.text e.1) _ h.0 (plain_keeps
 module _ {P A X : Type 0} (rules : ℕ → Rule A) (all : List (Entry P A X)) where
   item_keeps : (rule : Rule A) (e : Name P × Item P A) → is_kept rule all e ≡ true → KeepsRule rule (resolved all e)
   item_keeps rule (n, direct a) h = both_true (rule n.text a) true h refl
-  item_keeps rule (n, reference m) h = go (once_at m.index all) h
+  item_keeps rule (n, reference m) h = go (shared_attribute m.index all) h
     where
       go : (o : Option (Attribute A)) → keeps_if rule n.text o ≡ true → KeepsRule rule (elim o [ Some a ↦ (n.text, a) ∷ [] | None ↦ [] ])
       go None h = refl
@@ -195,7 +194,7 @@ kept_front rule [] ys h = (tt, h)
 kept_front rule (x ∷ xs) ys h = let r = kept_front rule xs ys h.1 in ((h.0, r.0), r.1)
 
 module _ {P T A : Type 0} where
-  parts_inline : (ps : List (Part P T A)) → has same_text given_names_key (flat_map key_of_part ps) ≡ false → KeysKept keeps_key (views entries_in ps) → KeepsKeys (views stored ps)
+  parts_inline : (ps : List (Part P T A)) → has same_text given_names_key (flat_map key_of_part ps) ≡ false → KeysKept may_hold (views entries_in ps) → KeepsKeys (views stored ps)
   parts_inline [] h k = refl
   parts_inline (tree.piece (tree.word s) ∷ ps) h k = parts_inline ps h k
   parts_inline (tree.piece (tree.operand i n) ∷ ps) h k = parts_inline ps h k
@@ -205,10 +204,10 @@ module _ {P T A : Type 0} where
   parts_inline (tree.piece (tree.attribute key None) ∷ ps) h k = parts_inline ps (neither (same_text given_names_key key) _ h).1 k
   parts_inline (tree.piece (tree.attribute key (Some a)) ∷ ps) h k =
       let q = neither (same_text given_names_key key) _ h in
-      both_true (keeps_key key a) _ (ap (λ b. not b || is_given a) (same_text_symmetric key given_names_key ∙ q.0)) (parts_inline ps q.1 k)
+      both_true (may_hold key a) _ (ap (λ b. not b || is_given a) (same_text_symmetric key given_names_key ∙ q.0)) (parts_inline ps q.1 k)
   parts_inline (tree.piece (tree.dictionary es) ∷ ps) h k =
-      let r = kept_front keeps_key es (views entries_in ps) k in
-      keeps_both keeps_key (map plain_entry es) (views stored ps) (plain_keeps keeps_key es r.0) (parts_inline ps h r.1)
+      let r = kept_front may_hold es (views entries_in ps) k in
+      keeps_both may_hold (map plain_entry es) (views stored ps) (plain_keeps may_hold es r.0) (parts_inline ps h r.1)
   parts_inline (tree.piece (tree.result_type i t) ∷ ps) h k = parts_inline ps h k
   parts_inline (tree.piece (tree.header n) ∷ ps) h k = parts_inline ps h k
   parts_inline (tree.piece (tree.types ts) ∷ ps) h k = parts_inline ps h k
@@ -298,47 +297,47 @@ module _ {P T A X : Type 0} (C : Printing T A) (isolated : Id → Bool) (first :
     holds_names b.arguments (map (λ a. a.0.text) h.arguments) b.attributes (map plain_entry (entries_if h.attributes)) (but_label (content es h.mark)) (λ e. none_typed b.arguments h.arguments s.shape.argument_types e) s.attributes,
   )
 
-  module _ (kept : Each (EntryKept (λ i. cond (is_among i B) keeps_label_key keeps_key) es) es) where
+  module _ (kept : Each (EntryKept (λ i. cond (is_among i B) keeps_label_key may_hold) es) es) where
     abbrev rules : ℕ → Rule A
-    rules i = cond (is_among i B) keeps_label_key keeps_key
+    rules i = cond (is_among i B) keeps_label_key may_hold
 
     op_kept : (o : GraphOp T A) (x : Op P T A) (rs : Regions (Op P T A) (Head P T A) (Brace P)) (v l : List (Fact Thing)) (w m : List (Fact Text)) → StandsForOp (stood_op C isolated v l o) (built_op isolated first es w m x)
         → CountsAgree x → OpKeysKept x → FormedOp x rs → OpKeepsKeys o
     op_kept o x rs v l w m s c k f =
         subst KeepsKeys (sym s.attributes)
-        (with_kept rules es keeps_key _ (content es x.mark)
-        (keeps_put_all keeps_key [] (inline_entries x ++ read_names (map (λ n. n.text) x.names)) refl
-        (keeps_both keeps_key (inline_entries x) _ (parts_inline (parts_of x.body) (no_names_key f.format x.body f.accepted f.is_of) k) (block_to_key (read_names (map (λ n. n.text) x.names)) (keeps_names A (map (λ n. n.text) x.names)))))
+        (with_kept rules es may_hold _ (content es x.mark)
+        (keeps_put_all may_hold [] (inline_entries x ++ read_names (map (λ n. n.text) x.names)) refl
+        (keeps_both may_hold (inline_entries x) _ (parts_inline (parts_of x.body) (no_names_key f.format x.body f.accepted f.is_of) k) (block_to_key (read_names (map (λ n. n.text) x.names)) (keeps_names A (map (λ n. n.text) x.names)))))
         (of_mark x.mark))
       where
-        either : (b : Bool) (ds : List (Text × Attribute A)) → KeepsRule (cond b keeps_label_key keeps_key) ds → KeepsKeys ds
+        either : (b : Bool) (ds : List (Text × Attribute A)) → KeepsRule (cond b keeps_label_key may_hold) ds → KeepsKeys ds
         either true ds h = label_to_key ds h
         either false ds h = h
 
-        each : (i : ℕ) (c : Option (Option X × List (Text × Attribute A))) → Kept rules es (rules i) c → Kept rules es keeps_key c
+        each : (i : ℕ) (c : Option (Option X × List (Text × Attribute A))) → Kept rules es (rules i) c → Kept rules es may_hold c
         each i None h = tt
         each i (Some c) h = either (is_among i B) c.1 h
 
-        of_mark : (m : Option (tree.Mark P)) → Kept rules es keeps_key (content es m)
+        of_mark : (m : Option (tree.Mark P)) → Kept rules es may_hold (content es m)
         of_mark None = tt
         of_mark (Some m) = each m.index (content_in es es m.index) (content_in_keeps rules es es m.index kept)
 
     block_kept : (b : GraphBlock T A) (h : Head P T A) → StandsForBlock (stood_block C isolated b) (built_head isolated first es h) → HeadKeysKept h → Marked (marked_as h.mark) → BlockKeepsKeys b
     block_kept b h s k m =
-        subst (KeepsRule keeps_block_key) (sym s.attributes)
-        (with_kept rules es keeps_block_key _ (but_label (content es h.mark))
-        (keeps_put_all keeps_block_key [] (map plain_entry (entries_if h.attributes) ++ read_names (map (λ a. a.0.text) h.arguments)) refl
-        (keeps_both keeps_block_key (map plain_entry (entries_if h.attributes)) _ (plain_keeps keeps_block_key (entries_if h.attributes) k) (keeps_names A (map (λ a. a.0.text) h.arguments))))
+        subst (KeepsRule block_may_hold) (sym s.attributes)
+        (with_kept rules es block_may_hold _ (but_label (content es h.mark))
+        (keeps_put_all block_may_hold [] (map plain_entry (entries_if h.attributes) ++ read_names (map (λ a. a.0.text) h.arguments)) refl
+        (keeps_both block_may_hold (map plain_entry (entries_if h.attributes)) _ (plain_keeps block_may_hold (entries_if h.attributes) k) (keeps_names A (map (λ a. a.0.text) h.arguments))))
         (of_mark h.mark m))
       where
-        each : (i : ℕ) (c : Option (Option X × List (Text × Attribute A))) → is_among i B ≡ true → Kept rules es (rules i) c → Kept rules es keeps_block_key (but_label c)
+        each : (i : ℕ) (c : Option (Option X × List (Text × Attribute A))) → is_among i B ≡ true → Kept rules es (rules i) c → Kept rules es block_may_hold (but_label c)
         each i None e h = tt
-        each i (Some c) e h = without_label c.1 (subst (λ b. KeepsRule (cond b keeps_label_key keeps_key) c.1) e h)
+        each i (Some c) e h = without_label c.1 (subst (λ b. KeepsRule (cond b keeps_label_key may_hold) c.1) e h)
 
         alike : (n : ℕ) → nat_eq n n ≡ true
         alike n = grind (arith, nat_tests)
 
-        of_mark : (m : Option (tree.Mark P)) → Marked (marked_as m) → Kept rules es keeps_block_key (but_label (content es m))
+        of_mark : (m : Option (tree.Mark P)) → Marked (marked_as m) → Kept rules es block_may_hold (but_label (content es m))
         of_mark None r = tt
         of_mark (Some m) r = each m.index (content_in es es m.index) (r m.index (ap (λ b. cond b true false) (alike m.index))) (content_in_keeps rules es es m.index kept)
 

@@ -12,27 +12,26 @@ use Rattle.irtext_grammar.specs.Graphs.Graph.{Graph, GraphOp, GraphBlock, Printi
 use Rattle.irtext_grammar.specs.Grammar.Section.{Entry}
 use Rattle.irtext_grammar.specs.Names.Script.{Path, Script}
 use Rattle.irtext_grammar.specs.Names.Scopes.{Fact, no_scope, failures}
-use Rattle.irtext_grammar.specs.Names.Acts.{keeps_block_key, entries_if, tree_script}
+use Rattle.irtext_grammar.specs.Names.Acts.{block_may_hold, entries_if, tree_script}
 use Rattle.irtext_grammar.specs.Graphs.Build.{stored, plain_entry, inline_entries, put_all, read_names, content, located, with_content, labelled, but_label, built_op, built_head, built_regions, built_blocks, built_operations, build}
 use Rattle.irtext_grammar.specs.Graphs.Closed.{Thing, a_block, printed, FitsFormat, FitRegions, FitBlocks, FitOperations, Fit}
-use Rattle.irtext_grammar.specs.Graphs.Fillable.{KeepsRule, KeepsKeys, OpKeepsKeys, BlockKeepsKeys, GraphKeepsKeys}
-use Rattle.irtext_grammar.specs.Graphs.RoundTrip.{KeysDiffer}
+use Rattle.irtext_grammar.specs.Graphs.ReservedKeys.{KeepsRule, KeepsKeys, OpKeepsKeys, BlockKeepsKeys, GraphKeepsKeys}
+use Rattle.irtext_grammar.specs.Graphs.RoundTrip.{KeysDiffer, GraphKeysDiffer}
 use Rattle.irtext_grammar.specs.Graphs.Same.{SmallGraph, stood_op, stood_block, stood_regions, stood_blocks, stood_operations, stood, Locations, SameShape, SameBlockShape, SameDictionary, SameLocation, SameLabel, SameOp, SameBlock, SameShapes, UpToFillings}
-use Rattle.irtext_grammar.specs.Graphs.KeysDiffer.{GraphKeysDiffer}
 use Rattle.irtext_grammar.specs.Spelling.SectionEntries.{own_content}
 use Rattle.irtext_grammar.specs.Graphs.Contents.{as_text, OpContent, BlockContent, Contents}
 use Rattle.irtext_grammar.specs.Graphs.Links.{OpLinked}
-use Rattle.irtext_grammar.proofs.Grammar.Formed.{Formed}
+use Rattle.irtext_grammar.proofs.Grammar.PartsOfFormats.{Formed}
 use Rattle.irtext_grammar.proofs.Graphs.BareScript.{mapped_twice}
 use Rattle.irtext_grammar.proofs.Graphs.BareBuild.{shapes_bare}
 use Rattle.irtext_grammar.proofs.Graphs.Match.{same_shapes}
 use Rattle.irtext_grammar.proofs.Lists.Dictionaries.{Picks, picks_filter}
-use Rattle.irtext_grammar.proofs.Graphs.Together.{inlined, content_added, content_but_label, content_label, block_keeps, same_dictionary}
+use Rattle.irtext_grammar.proofs.Graphs.DictionaryHalves.{inlined, content_added, content_but_label, content_label, block_keeps, same_dictionary}
 use Rattle.irtext_grammar.proofs.Graphs.KeptWritten.{keeps_filter}
 use Rattle.irtext_grammar.proofs.Graphs.InlineEntries.{plainly, written_picks}
 use Rattle.irtext_grammar.proofs.Lists.Numbering.{some_inside}
 use Rattle.irtext_grammar.proofs.Graphs.WrittenAs.{WrittenOp, WrittenBlock, written_as}
-use Rattle.irtext_grammar.proofs.Graphs.Holding.{all_there}
+use Rattle.irtext_grammar.proofs.Graphs.Links.{all_there}
 
 -- ---- what is stored, places aside
 module _ {P T A : Type 0} where
@@ -128,7 +127,7 @@ module _ {P T A X : Type 0} (C : Printing T A) (isolated : Id → Bool) (K : Loc
   op_adds : (l : Option Text) (ds : List (Text × Attribute A)) (m : Option (tree.Mark P)) → SaysOf C K es l ds m → (base : List (Text × Attribute A)) → with_content base (content es m) ≡ put_all base ds
   op_adds l ds m s base = ap (with_content base) s.1 ∙ content_added C l ds base s.0
 
-  block_adds : (l o : Option Text) (ds : List (Text × Attribute A)) (m : Option (tree.Mark P)) → KeepsRule keeps_block_key ds → SaysOf C K es l (label_entry o ++ ds) m
+  block_adds : (l o : Option Text) (ds : List (Text × Attribute A)) (m : Option (tree.Mark P)) → KeepsRule block_may_hold ds → SaysOf C K es l (label_entry o ++ ds) m
       → (base : List (Text × Attribute A)) → with_content base (but_label (content es m)) ≡ put_all base ds
   block_adds l o ds m k s base = ap (λ c. with_content base (but_label c)) s.1 ∙ content_but_label C l o ds base s.0 k
 
@@ -136,7 +135,7 @@ module _ {P T A X : Type 0} (C : Printing T A) (isolated : Id → Bool) (K : Loc
   same_label None name t x e h = h ∙ e
   same_label (Some n) name t x e h = h
 
-  label_same : (l o : Option Text) (ds : List (Text × Attribute A)) (m : Option (tree.Mark P)) (name t : Text) → t ≡ name → KeepsRule keeps_block_key ds → SaysOf C K es l (label_entry o ++ ds) m
+  label_same : (l o : Option Text) (ds : List (Text × Attribute A)) (m : Option (tree.Mark P)) (name t : Text) → t ≡ name → KeepsRule block_may_hold ds → SaysOf C K es l (label_entry o ++ ds) m
       → SameLabel name o (labelled t (content es m))
   label_same l o ds m name t e k s = same_label o name t _ e (ap (labelled t) s.1 ∙ content_label C l o ds t s.0 k)
 
@@ -157,8 +156,8 @@ module _ {P T A X : Type 0} (C : Printing T A) (isolated : Id → Bool) (K : Loc
   head_entries [] = refl
   head_entries (e ∷ ds) = refl
 
-  kept : (b : GraphBlock T A) → BlockKeepsKeys b → KeepsRule keeps_block_key (outlined_entries C b.attributes)
-  kept b k = keeps_filter keeps_block_key (λ e. outlined C e.1) b.attributes k
+  kept : (b : GraphBlock T A) → BlockKeepsKeys b → KeepsRule block_may_hold (outlined_entries C b.attributes)
+  kept b k = keeps_filter block_may_hold (λ e. outlined C e.1) b.attributes k
 
   block_same : (b : GraphBlock T A) (h : Head P T A) → BlockKeepsKeys b → KeysDiffer b.attributes → WrittenBlock C b h → SaysOf C K es b.location (block_outlined C b) h.mark → SameBlockShape (stood_block C isolated b) (built_head isolated first es h)
       → SameBlock K (stood_block C isolated b) (built_head isolated first es h)

@@ -5,7 +5,7 @@ use Rattle.std.specs.List.{cons_option, list_all}
 use Rattle.irtext_base.specs.Text.{Text}
 use Rattle.irtext_base.specs.Format as format
 use Rattle.irtext_base.specs.Format.{Format, Directive, same_text, has, count, keys, is_header, is_dictionary, sym_name_key, Id}
-use Rattle.irtext_grammar.specs.Spelling.Fine.{Each}
+use Rattle.irtext_grammar.specs.Spelling.Spellable.{Each}
 use Rattle.irtext_grammar.specs.Grammar.Tree as tree
 use Rattle.irtext_grammar.specs.Grammar.Tree.{Name, Attribute, given_names, ident, own, Piece, Part, views, parts_of}
 use Rattle.irtext_grammar.specs.Graphs.Graph.{Printing, GraphOp, value, target, inline, entries, written_keys, part_of, body_of, outlined, lookup}
@@ -14,10 +14,10 @@ use Rattle.irtext_grammar.specs.Graphs.Closed.{FitsCustom, FitsFormat}
 use Rattle.irtext_grammar.specs.Names.Placeholders.{In}
 use Rattle.irtext_grammar.specs.Graphs.RoundTrip.{KeysDiffer}
 use Rattle.irtext_grammar.proofs.Lists.Lists.{or_else}
-use Rattle.irtext_grammar.proofs.Names.Meant.{each_both}
+use Rattle.irtext_grammar.proofs.Names.UsesMean.{each_both}
 use Rattle.irtext_grammar.proofs.Lists.SameText.{same_text_refl, same_text_true}
 use Rattle.irtext_grammar.proofs.Lists.Dictionaries.{last_of, last_both, some_else, some_first, Picks, picks_filter}
-use Rattle.irtext_grammar.proofs.Graphs.Together.{inlined}
+use Rattle.irtext_grammar.proofs.Graphs.DictionaryHalves.{inlined}
 use Rattle.irtext_grammar.proofs.Lists.Numbering.{some_inside}
 
 -- ---- where something is in a list

@@ -12,10 +12,10 @@ use Rattle.irtext_grammar.specs.Grammar.Tree.{Name, Mark, Attribute, given_names
 use Rattle.irtext_grammar.specs.Graphs.Graph.{Graph, GraphOp, GraphBlock, Printing, value, inline, entries, is_marked, mark_at, own_marks, part_of, body_of, tree_op, tree_head, tree_regions, tree_blocks, tree_operations, marks_in_regions, marks_in_blocks, marks_in_operations, written, lookup, op_outlined, block_outlined}
 use Rattle.irtext_grammar.specs.Names.Script.{Path, Failure, Act, mark, claim, Script, done, does, within, does_all, DuplicateIndex}
 use Rattle.irtext_grammar.specs.Names.Scopes.{Scopes, ◌⊳◌, fact_of, inside, is_among, facts, outward, act_failures}
-use Rattle.irtext_grammar.specs.Names.Acts.{value_uses, label_uses, result_definitions, argument_definitions, mark_acts, key_act, keeps_key, entries_if, result_types, piece_acts, all_of, parts_script, closing_acts, header_acts, region_scripts, blocks_script, operations_script, tree_script, Rule, keeps_block_key}
+use Rattle.irtext_grammar.specs.Names.Acts.{value_uses, label_uses, result_definitions, argument_definitions, mark_acts, key_act, may_hold, entries_if, result_types, piece_acts, all_of, parts_script, closing_acts, header_acts, region_scripts, blocks_script, operations_script, tree_script, Rule, block_may_hold}
 use Rattle.irtext_grammar.specs.Graphs.Closed.{FitsFormat, FitRegions, FitBlocks, FitOperations, Fit}
 use Rattle.irtext_grammar.specs.Names.Plain.{names_one, Kept}
-use Rattle.irtext_grammar.specs.Graphs.Fillable.{OpKeepsKeys, BlockKeepsKeys, GraphKeepsKeys, KeepsRule}
+use Rattle.irtext_grammar.specs.Graphs.ReservedKeys.{OpKeepsKeys, BlockKeepsKeys, GraphKeepsKeys, KeepsRule}
 use Rattle.irtext_grammar.proofs.Graphs.WrittenScript.{does_both}
 use Rattle.irtext_grammar.proofs.Graphs.FitsFormat.{and_left, and_right}
 use Rattle.irtext_grammar.proofs.Lists.SameText.{same_itself}
@@ -135,7 +135,7 @@ module _ {T A : Type 0} (C : Printing T A) where
   entries_if_keep rule (e ∷ es) h = h
 
   abbrev PartKeeps : Part ⊤ T A → Type 0
-  PartKeeps (tree.piece (tree.dictionary es)) = EntriesKeep keeps_key es
+  PartKeeps (tree.piece (tree.dictionary es)) = EntriesKeep may_hold es
   PartKeeps _ = ⊤
 
   abbrev OptionKeeps : Option (Part ⊤ T A) → Type 0
@@ -157,7 +157,7 @@ module _ {T A : Type 0} (C : Printing T A) where
   part_keeps ds o h (format.successor i) = mapped_keeps _ (λ y. tt) (slice_get o.successors i)
   part_keeps ds o h format.successors = tt
   part_keeps ds o h (format.attribute k) = mapped_keeps _ (λ y. tt) (lookup k o.attributes)
-  part_keeps ds o h format.dictionary = entries_keep keeps_key _ (keeps_filter keeps_key _ (inline C o.attributes) (keeps_filter keeps_key _ o.attributes h))
+  part_keeps ds o h format.dictionary = entries_keep may_hold _ (keeps_filter may_hold _ (inline C o.attributes) (keeps_filter may_hold _ o.attributes h))
   part_keeps ds o h (format.result_type i) = mapped_keeps _ (λ y. tt) (slice_get o.results i)
   part_keeps ds o h (format.region i) = tt
   part_keeps ds o h format.regions = tt
@@ -179,7 +179,7 @@ module _ {T A : Type 0} (C : Printing T A) where
 
   body_keeps : (o : GraphOp T A) → OpKeepsKeys o → (f : Option Format) → PartsKeep (parts_of (body_of C o f))
   body_keeps o h None = tt
-  body_keeps o h (Some format.canonical) = (tt, (tt, (tt, (tt, (tt, (tt, (entries_keep keeps_key _ (keeps_filter keeps_key _ o.attributes h), (tt, (tt, (tt, (tt, (tt, (tt, (tt, (tt, (tt, (tt, (tt, tt))))))))))))))))))
+  body_keeps o h (Some format.canonical) = (tt, (tt, (tt, (tt, (tt, (tt, (entries_keep may_hold _ (keeps_filter may_hold _ o.attributes h), (tt, (tt, (tt, (tt, (tt, (tt, (tt, (tt, (tt, (tt, (tt, tt))))))))))))))))))
   body_keeps o h (Some (format.custom ds)) = parts_keep ds o h ds
 
   piece_good : (p : Path) (k l : ℕ) (x : Piece ⊤ T A) → PartKeeps (tree.piece x) → GoodActs (piece_acts p k l x)
@@ -189,7 +189,7 @@ module _ {T A : Type 0} (C : Printing T A) where
   piece_good p k l (tree.successor i n) h = (named_act _ refl refl, tt)
   piece_good p k l (tree.successors ns) h = labels_good p l ns
   piece_good p k l (tree.attribute key a) h = tt
-  piece_good p k l (tree.dictionary es) h = keys_good keeps_key es h
+  piece_good p k l (tree.dictionary es) h = keys_good may_hold es h
   piece_good p k l (tree.result_type i x) h = tt
   piece_good p k l (tree.header n) h = tt
   piece_good p k l (tree.types ts) h = tt
@@ -251,8 +251,8 @@ module _ {T A : Type 0} (C : Printing T A) where
         let k = mark_at C n b.location (block_outlined C b) in
         let pairs = map (λ (a : ℕ × T). (value C a.0, a.1)) b.arguments in
         let es = entries_if (tree_head C n b).attributes in
-        subst (Good m n) (sym (does_both C (map (key_act keeps_block_key) es) _ x))
-        (good_acts _ (keys_good keeps_block_key es (entries_if_keep keeps_block_key (entries C (inline C b.attributes)) (entries_keep keeps_block_key _ (keeps_filter keeps_block_key _ b.attributes e))))
+        subst (Good m n) (sym (does_both C (map (key_act block_may_hold) es) _ x))
+        (good_acts _ (keys_good block_may_hold es (entries_if_keep block_may_hold (entries C (inline C b.attributes)) (entries_keep block_may_hold _ (keeps_filter block_may_hold _ b.attributes e))))
         (subst (Good m n) (sym (does_both C (argument_definitions p 0 pairs) _ x))
         (good_acts _ (arguments_good p 0 pairs)
         (subst (Good m n) (sym (does_both C (mark_acts k) _ x))

@@ -4,7 +4,7 @@ use Rattle.std.specs.Prelude.{⊤}
 use Rattle.irtext_base.specs.Text.{Text}
 use Rattle.irtext_base.specs.Format as format
 use Rattle.irtext_base.specs.Format.{Format, Directive, same_text, operand_places, successor_places, Id}
-use Rattle.irtext_grammar.specs.Spelling.Fine.{Each}
+use Rattle.irtext_grammar.specs.Spelling.Spellable.{Each}
 use Rattle.irtext_grammar.specs.Grammar.Forest.{Regions, no_regions, region, Blocks, no_blocks, block, Operations, no_operations, operation, regions_list, MatchRegions, MatchBlocks, MatchOperations, AllRegions, AllBlocks, AllOperations}
 use Rattle.irtext_grammar.specs.Grammar.Tree.{Name}
 use Rattle.irtext_grammar.specs.Graphs.Graph.{Graph, GraphOp, GraphBlock, Printing, value, target, tree_op, own_marks, tree_regions, tree_blocks, tree_operations, marks_in_regions, marks_in_blocks, marks_in_operations, written, op_outlined, block_outlined}
@@ -14,8 +14,7 @@ use Rattle.irtext_grammar.specs.Names.Scopes.{Fact, facts}
 use Rattle.irtext_grammar.specs.Grammar.Section.{Entry}
 use Rattle.irtext_grammar.specs.Names.Acts.{all_of, blocks_script}
 use Rattle.irtext_grammar.specs.Graphs.Build.{built_op, built_regions, built_blocks, built_operations, build}
-use Rattle.irtext_grammar.specs.Graphs.Closed.{Thing, a_value, a_block, same_thing, printed, uses_of_values, uses_of_blocks, defined_results, defined_arguments, use_if, use_block_if, directives_script, body_script, graph_regions, graph_blocks, graph_operations, graph_script, FitRegions, FitBlocks, FitOperations, Fit}
-use Rattle.irtext_grammar.specs.Graphs.Counters.{Small}
+use Rattle.irtext_grammar.specs.Graphs.Closed.{Thing, a_value, a_block, same_thing, printed, uses_of_values, uses_of_blocks, defined_results, defined_arguments, use_if, use_block_if, directives_script, body_script, graph_regions, graph_blocks, graph_operations, graph_script, FitRegions, FitBlocks, FitOperations, Fit, Small}
 use Rattle.irtext_grammar.specs.Graphs.Same.{SmallOp, SmallBlock, SmallGraph, stood_op, stood_regions, stood_blocks, stood_operations, stood, SameShape, SameBlockShape, SameShapes}
 use Rattle.irtext_grammar.proofs.Names.Natural.{AllFacts, AllScript, fact_as, facts_as, facts_natural, of_script, lookup_as}
 use Rattle.irtext_grammar.proofs.Names.Plainly.{unmarked, facts_plain}

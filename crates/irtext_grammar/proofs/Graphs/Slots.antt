@@ -10,11 +10,11 @@ use Rattle.irtext_grammar.specs.Grammar.Tree.{Name, Mark, Attribute, Piece, Part
 use Rattle.irtext_grammar.specs.Names.Script.{Path, Place, User, operand, successor, Act, Script, does_all}
 use Rattle.irtext_grammar.specs.Names.Script as script
 use Rattle.irtext_grammar.specs.Names.Scopes.{Fact, lookup}
-use Rattle.irtext_grammar.specs.Names.Acts.{value_uses, label_uses, result_definitions, argument_definitions, mark_acts, key_act, entries_if, singles, single_labels, piece_acts, closing_acts, header_acts, Rule, keeps_key, keeps_block_key}
+use Rattle.irtext_grammar.specs.Names.Acts.{value_uses, label_uses, result_definitions, argument_definitions, mark_acts, key_act, entries_if, singles, single_labels, piece_acts, closing_acts, header_acts, Rule, may_hold, block_may_hold}
 use Rattle.irtext_grammar.specs.Graphs.Build.{BuiltOp, BuiltBlock, Built}
 use Rattle.irtext_grammar.proofs.Lists.Sets.{Same, same_refl, same_path, same_then, same_both, same_swap}
-use Rattle.irtext_grammar.proofs.Names.Meant.{acts_meant, meant}
-use Rattle.irtext_grammar.proofs.Graphs.Chosen.{spread_if, chosen, views_chosen, single_operand, operand_list, single_successor, successor_list, Numbered}
+use Rattle.irtext_grammar.proofs.Names.UsesMean.{acts_meant, meant}
+use Rattle.irtext_grammar.proofs.Graphs.PartKinds.{spread_if, chosen, views_chosen, single_operand, operand_list, single_successor, successor_list, Numbered}
 use Rattle.irtext_grammar.proofs.Lists.Numbering.{numbered, own, listed, all_numbered}
 
 -- ---- lists with the same members
@@ -114,7 +114,7 @@ module _ (v l : List (Fact Text)) where
     pub header_means_nothing : (p : Path) (h : Head P T A) → M_acts (header_acts p h) ≡ []
     header_means_nothing p h =
         let last = script.define_label (record { name = h.label.text; at = h.label.place }) (script.block_at p) ∷ [] in
-        nothing_both (map (key_act keeps_block_key) (entries_if h.attributes)) (argument_definitions p 0 h.arguments ++ (mark_acts h.mark ++ last)) (keys_mean_nothing keeps_block_key (entries_if h.attributes))
+        nothing_both (map (key_act block_may_hold) (entries_if h.attributes)) (argument_definitions p 0 h.arguments ++ (mark_acts h.mark ++ last)) (keys_mean_nothing block_may_hold (entries_if h.attributes))
         (nothing_both (argument_definitions p 0 h.arguments) (mark_acts h.mark ++ last) (arguments_mean_nothing p 0 h.arguments) (nothing_both (mark_acts h.mark) last (mark_means_nothing h.mark) refl))
 
     -- ---- the parts of a body
@@ -139,7 +139,7 @@ module _ (v l : List (Fact Text)) where
       piece_meant (tree.operands ns) = values_meant p k ns ∙ sym (append-nil (numbered (operand p) k (map look ns)))
       piece_meant (tree.successor i n) = refl
       piece_meant (tree.successors ns) = labels_meant p m ns
-      piece_meant (tree.dictionary es) = keys_mean_nothing keeps_key es
+      piece_meant (tree.dictionary es) = keys_mean_nothing may_hold es
       piece_meant (tree.word s) = refl
       piece_meant (tree.attribute key a) = refl
       piece_meant (tree.result_type i x) = refl

@@ -5,7 +5,7 @@ use Rattle.std.specs.List.{list_all}
 use Rattle.std.proofs.lemmas.Bool.Decides.{nat_tests}
 use Rattle.irtext_base.specs.Format as format
 use Rattle.irtext_base.specs.Format.{Format, Directive, operand_places, successor_places, Id}
-use Rattle.irtext_grammar.specs.Spelling.Fine.{Each}
+use Rattle.irtext_grammar.specs.Spelling.Spellable.{Each}
 use Rattle.irtext_grammar.specs.Grammar.Forest.{Regions, no_regions, region, Blocks, no_blocks, block, Operations, no_operations, operation, MatchRegions, MatchBlocks, MatchOperations, AllRegions, AllBlocks, AllOperations}
 use Rattle.irtext_grammar.specs.Graphs.Graph.{Graph, GraphOp, GraphBlock, Printing}
 use Rattle.irtext_grammar.specs.Names.Script.{Path, Script, done, does_all}
@@ -19,7 +19,7 @@ use Rattle.irtext_grammar.specs.Graphs.Same.{stood_op, stood_regions, stood_bloc
 use Rattle.irtext_grammar.specs.Graphs.StandsFor.{made, Distinct, StandsForOp, StandsForBlock, StandsFor}
 use Rattle.irtext_grammar.specs.Spelling.Writable.{has_region}
 use Rattle.irtext_grammar.proofs.Lists.Fresh.{distinct_fresh}
-use Rattle.irtext_grammar.proofs.Names.Meant.{meant, Means, each_both}
+use Rattle.irtext_grammar.proofs.Names.UsesMean.{meant, Means, each_both}
 use Rattle.irtext_grammar.proofs.Names.Definite.{Names, OnlyRegions, outer_clean}
 use Rattle.irtext_grammar.proofs.Graphs.FitsFormat.{and_left, and_right}
 use Rattle.irtext_grammar.proofs.Graphs.Match.{OfOption, each_at, each_drop}

@@ -9,7 +9,7 @@ use Rattle.irtext_grammar.specs.Grammar.Tree.{Op, Head, Brace, Tree}
 use Rattle.irtext_grammar.specs.Grammar.Bare.{bare_op, bare_head, bare_regions, bare_blocks, bare_operations, bare}
 use Rattle.irtext_grammar.specs.Graphs.Graph.{Graph, GraphOp, GraphBlock, Printing, tree_op, tree_head, own_marks, tree_regions, tree_blocks, tree_operations, marks_in_regions, marks_in_blocks, marks_in_operations, written, op_outlined, block_outlined}
 use Rattle.irtext_grammar.specs.Graphs.Closed.{FitsFormat, FitRegions, FitBlocks, FitOperations, Fit}
-use Rattle.irtext_grammar.proofs.Grammar.Formed.{KnownAccepted, AllAccepted}
+use Rattle.irtext_grammar.proofs.Grammar.PartsOfFormats.{KnownAccepted, AllAccepted}
 use Rattle.irtext_grammar.proofs.Lists.Numbering.{some_inside}
 
 region_parts : {O B R : Type 0} (r s : R) (bs cs : Blocks O B R) (rs ss : Regions O B R) → region r bs rs ≡ region s cs ss → (bs ≡ cs) × (rs ≡ ss)

@@ -10,7 +10,7 @@ use Rattle.irtext_grammar.specs.Grammar.Tree as tree
 use Rattle.irtext_grammar.specs.Grammar.Tree.{Name, Mark, Attribute, given_names, ident, own, Piece, Part, Op, Head, Brace, shown, parts_of}
 use Rattle.irtext_grammar.specs.Graphs.Graph.{Graph, GraphOp, GraphBlock, Printing, value, target, part_of, body_of, tree_op, tree_head, mark_at, own_marks, tree_regions, tree_blocks, tree_operations, marks_in_regions, marks_in_blocks, marks_in_operations, written, outlined, lookup, op_outlined, block_outlined}
 use Rattle.irtext_grammar.specs.Names.Script.{Path, result, argument, block_at, operand, successor, Act, use_value, use_label, define_value, define_label, Script, done, does, within, does_all, script_as}
-use Rattle.irtext_grammar.specs.Names.Acts.{value_uses, label_uses, result_definitions, argument_definitions, mark_acts, key_act, entries_if, singles, single_labels, all_of, parts_script, closing_acts, header_acts, region_scripts, blocks_script, operations_script, tree_script, Rule, keeps_key, keeps_block_key}
+use Rattle.irtext_grammar.specs.Names.Acts.{value_uses, label_uses, result_definitions, argument_definitions, mark_acts, key_act, entries_if, singles, single_labels, all_of, parts_script, closing_acts, header_acts, region_scripts, blocks_script, operations_script, tree_script, Rule, may_hold, block_may_hold}
 use Rattle.irtext_grammar.specs.Graphs.Closed.{Thing, a_value, a_block, printed, spot, uses_of_values, uses_of_blocks, defined_results, defined_arguments, use_if, use_block_if, directives_script, body_script, graph_regions, graph_blocks, graph_operations, graph_script, FitsFormat, FitRegions, FitBlocks, FitOperations, Fit}
 use Rattle.irtext_grammar.proofs.Graphs.FitsFormat.{meets, singles_are, labels_are}
 use Rattle.irtext_grammar.specs.Names.Plain.{plain}
@@ -100,7 +100,7 @@ module _ {T A : Type 0} (C : Printing T A) where
             → Like (Left (cons_option (option_map (λ a. tree.piece (tree.attribute key (cond (outlined C a) None (Some a)))) x) (filter_map (part_of C ds o) rest)) rs) (directives_script ds p o rest ss g)
         go None k = k
         go (Some x) k = k
-    parts_like (format.dictionary ∷ rest) rs ss a = keys_like keeps_key _ (parts_like rest rs ss a)
+    parts_like (format.dictionary ∷ rest) rs ss a = keys_like may_hold _ (parts_like rest rs ss a)
     parts_like (format.result_type i ∷ rest) rs ss a = go (slice_get o.results i) (parts_like rest rs ss a)
       where
         go : (x : Option (ℕ × T)) → Like (Left (filter_map (part_of C ds o) rest) rs) (directives_script ds p o rest ss g)
@@ -134,14 +134,14 @@ module _ {T A : Type 0} (C : Printing T A) where
       let pairs = map (λ (a : ℕ × T). (value C a.0, a.1)) b.arguments in
       let es = entries_if (tree_head C n b).attributes in
       let last : Like (does (define_label (record { name = printed C (a_block b.place); at = tt }) (block_at p)) t) (does (define_label (spot (a_block b.place)) (block_at p)) g) = record { so = ap (λ z. does (define_label (record { name = printed C (a_block b.place); at = tt }) (block_at p)) z) h.so } in
-      like_from (does_both (map (key_act keeps_block_key) es) _ t) (keys_like keeps_block_key es (like_from (does_both (argument_definitions p 0 pairs) _ t) (arguments_like p 0 b.arguments (like_from (does_both (mark_acts m) _ t) (mark_like m last)))))
+      like_from (does_both (map (key_act block_may_hold) es) _ t) (keys_like block_may_hold es (like_from (does_both (argument_definitions p 0 pairs) _ t) (arguments_like p 0 b.arguments (like_from (does_both (mark_acts m) _ t) (mark_like m last)))))
 
   module _ (isolated : Id → Bool) where
     body_like : (p : Path) (o : GraphOp T A) (n : ℕ) (f : Option Format) → FitsFormat C isolated f o n → (rs : List (Script Text ⊤ → Script Text ⊤)) (ss : List (Script Thing ⊤ → Script Thing ⊤)) → LikeAll rs ss
         → {t : Script Text ⊤} {g : Script Thing ⊤} → Like t g
         → Like (parts_script p (singles (parts_of (body_of C o f))) (single_labels (parts_of (body_of C o f))) (parts_of (body_of C o f)) rs t) (body_script f p o ss g)
     body_like p o n None x rs ss a h = absurd x
-    body_like p o n (Some format.canonical) x rs ss a h = values_like p 0 o.operands (labels_like p 0 o.successors (keys_like keeps_key _ (all_like rs ss a h)))
+    body_like p o n (Some format.canonical) x rs ss a h = values_like p 0 o.operands (labels_like p 0 o.successors (keys_like may_hold _ (all_like rs ss a h)))
     body_like p o n (Some (format.custom ds)) x rs ss a {t = t} h =
         let m = meets ds x.0 in
         like_from (ap₂ (λ i j. parts_script p i j (filter_map (part_of C ds o) ds) rs t) (singles_are C isolated ds o n m x.1) (labels_are C isolated ds o n m x.1))

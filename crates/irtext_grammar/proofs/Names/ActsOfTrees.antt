@@ -2,11 +2,11 @@
 use Rattle.std.proofs.Common.{◌≡◌, ℕ, suc, true, List, [], ◌∷◌, ◌++◌, map, Option, Some, None, refl, sym, ap, ap₂, ◌∙◌, append-nil}
 use Rattle.std.specs.Prelude.{⊤, flat_map}
 use Rattle.irtext_base.specs.Text.{Text}
-use Rattle.irtext_grammar.specs.Spelling.Fine.{Each}
+use Rattle.irtext_grammar.specs.Spelling.Spellable.{Each}
 use Rattle.irtext_grammar.specs.Grammar.Tree as tree
 use Rattle.irtext_grammar.specs.Grammar.Tree.{Name, Mark, Attribute, Piece, Op, Head}
 use Rattle.irtext_grammar.specs.Names.Script.{Path, block_at, Act, use_value, use_label, define_value, define_label, mark, entry, claim}
-use Rattle.irtext_grammar.specs.Names.Acts.{value_uses, label_uses, result_definitions, argument_definitions, mark_acts, key_act, piece_acts, closing_acts, header_acts, entries_if, Rule, keeps_key, keeps_block_key, marked_as}
+use Rattle.irtext_grammar.specs.Names.Acts.{value_uses, label_uses, result_definitions, argument_definitions, mark_acts, key_act, piece_acts, closing_acts, header_acts, entries_if, Rule, may_hold, block_may_hold, marked_as}
 use Rattle.irtext_grammar.specs.Names.Resolves.{texts, KeysKept, CountsAgree, HeadKeysKept}
 use Rattle.irtext_grammar.proofs.Names.ResolvedSection.{flat_both}
 use Rattle.irtext_grammar.proofs.Names.ResolvedScript.{each_both, each_left}
@@ -63,7 +63,7 @@ module _ {X : Type 0} (uv ul dv dl : Text → List X) (mk : ℕ → List X) wher
     piece_gives p k l (tree.operands ns) = flat_values p k ns ∙ sym (append-nil (flat_map uv (texts ns)))
     piece_gives p k l (tree.successor i n) = refl
     piece_gives p k l (tree.successors ns) = flat_labels p l ns
-    piece_gives p k l (tree.dictionary es) = flat_keys keeps_key es
+    piece_gives p k l (tree.dictionary es) = flat_keys may_hold es
     piece_gives p k l (tree.word s) = refl
     piece_gives p k l (tree.attribute key a) = refl
     piece_gives p k l (tree.result_type i t) = refl
@@ -75,8 +75,8 @@ module _ {X : Type 0} (uv ul dv dl : Text → List X) (mk : ℕ → List X) wher
 
     pub header_gives : (p : Path) (h : Head P T A) → flat_map act_of (header_acts p h) ≡ flat_map dv (texts (map (λ a. a.0) h.arguments)) ++ (flat_map mk (marked_as h.mark) ++ (dl h.label.text ++ []))
     header_gives p h =
-        flat_both act_of (map (key_act keeps_block_key) (entries_if h.attributes)) _
-        ∙ (ap₂ ◌++◌ (flat_keys keeps_block_key (entries_if h.attributes)) (flat_both act_of (argument_definitions p 0 h.arguments) _)
+        flat_both act_of (map (key_act block_may_hold) (entries_if h.attributes)) _
+        ∙ (ap₂ ◌++◌ (flat_keys block_may_hold (entries_if h.attributes)) (flat_both act_of (argument_definitions p 0 h.arguments) _)
         ∙ ap₂ ◌++◌ (flat_arguments p 0 h.arguments) (flat_both act_of (mark_acts h.mark) _ ∙ ap (λ z. z ++ (dl h.label.text ++ [])) (flat_mark h.mark)))
 
 -- ---- what acts ask
@@ -134,20 +134,20 @@ module _ {P : Type 0} where
   keys_no_entry rule (e ∷ es) = (tt, keys_no_entry rule es)
 
 module _ {P T A : Type 0} where
-  pub piece_holds : (p : Path) (k l : ℕ) (x : Piece P T A) → KeysKept keeps_key (entries_in x) → Each Holds (piece_acts p k l x)
+  pub piece_holds : (p : Path) (k l : ℕ) (x : Piece P T A) → KeysKept may_hold (entries_in x) → Each Holds (piece_acts p k l x)
   piece_holds p k l (tree.operand i n) h = (tt, tt)
   piece_holds p k l (tree.operands ns) h = easy_holds (value_uses p k ns) (easy_values p k ns)
   piece_holds p k l (tree.successor i n) h = (tt, tt)
   piece_holds p k l (tree.successors ns) h = easy_holds (label_uses p l ns) (easy_labels p l ns)
-  piece_holds p k l (tree.dictionary es) h = keys_hold keeps_key es h
+  piece_holds p k l (tree.dictionary es) h = keys_hold may_hold es h
   piece_holds p k l (tree.word s) h = tt
   piece_holds p k l (tree.attribute key a) h = tt
   piece_holds p k l (tree.result_type i t) h = tt
   piece_holds p k l (tree.header n) h = tt
   piece_holds p k l (tree.types ts) h = tt
 
-  pub holds_piece : (p : Path) (k l : ℕ) (x : Piece P T A) → Each Holds (piece_acts p k l x) → KeysKept keeps_key (entries_in x)
-  holds_piece p k l (tree.dictionary es) h = hold_keys keeps_key es h
+  pub holds_piece : (p : Path) (k l : ℕ) (x : Piece P T A) → Each Holds (piece_acts p k l x) → KeysKept may_hold (entries_in x)
+  holds_piece p k l (tree.dictionary es) h = hold_keys may_hold es h
   holds_piece p k l (tree.operand i n) h = tt
   holds_piece p k l (tree.operands ns) h = tt
   holds_piece p k l (tree.successor i n) h = tt
@@ -163,7 +163,7 @@ module _ {P T A : Type 0} where
   piece_no_entry p k l (tree.operands ns) = easy_no_entry (value_uses p k ns) (easy_values p k ns)
   piece_no_entry p k l (tree.successor i n) = (tt, tt)
   piece_no_entry p k l (tree.successors ns) = easy_no_entry (label_uses p l ns) (easy_labels p l ns)
-  piece_no_entry p k l (tree.dictionary es) = keys_no_entry keeps_key es
+  piece_no_entry p k l (tree.dictionary es) = keys_no_entry may_hold es
   piece_no_entry p k l (tree.word s) = tt
   piece_no_entry p k l (tree.attribute key a) = tt
   piece_no_entry p k l (tree.result_type i t) = tt
@@ -186,10 +186,10 @@ module _ {P T A : Type 0} where
   header_rest p h = each_both Easy (argument_definitions p 0 h.arguments) _ (easy_arguments p 0 h.arguments) (each_both Easy (mark_acts h.mark) _ (easy_mark h.mark) ((tt, tt), tt))
 
   pub header_holds : (p : Path) (h : Head P T A) → HeadKeysKept h → Each Holds (header_acts p h)
-  header_holds p h k = each_both Holds (map (key_act keeps_block_key) (entries_if h.attributes)) (rest_of p h) (keys_hold keeps_block_key (entries_if h.attributes) k) (easy_holds (rest_of p h) (header_rest p h))
+  header_holds p h k = each_both Holds (map (key_act block_may_hold) (entries_if h.attributes)) (rest_of p h) (keys_hold block_may_hold (entries_if h.attributes) k) (easy_holds (rest_of p h) (header_rest p h))
 
   pub holds_header : (p : Path) (h : Head P T A) → Each Holds (header_acts p h) → HeadKeysKept h
-  holds_header p h k = hold_keys keeps_block_key (entries_if h.attributes) (each_left Holds (map (key_act keeps_block_key) (entries_if h.attributes)) (rest_of p h) k)
+  holds_header p h k = hold_keys block_may_hold (entries_if h.attributes) (each_left Holds (map (key_act block_may_hold) (entries_if h.attributes)) (rest_of p h) k)
 
   pub header_no_entry : (p : Path) (h : Head P T A) → Each NoEntry (header_acts p h)
-  header_no_entry p h = each_both NoEntry (map (key_act keeps_block_key) (entries_if h.attributes)) (rest_of p h) (keys_no_entry keeps_block_key (entries_if h.attributes)) (easy_no_entry (rest_of p h) (header_rest p h))
+  header_no_entry p h = each_both NoEntry (map (key_act block_may_hold) (entries_if h.attributes)) (rest_of p h) (keys_no_entry block_may_hold (entries_if h.attributes)) (easy_no_entry (rest_of p h) (header_rest p h))

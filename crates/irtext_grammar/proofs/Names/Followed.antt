@@ -1,8 +1,7 @@
 -- What is wrong in one script and then another: what is wrong in the first, and in the second behind the facts of the first.
 use Rattle.std.proofs.Common.{◌≡◌, Bool, List, [], ◌++◌, Option, Some, None, refl, sym, ap, ◌∙◌, append_assoc, append-nil}
-use Rattle.irtext_grammar.specs.Names.Script.{Script, done, does, within}
+use Rattle.irtext_grammar.specs.Names.Script.{Script, done, does, within, follow}
 use Rattle.irtext_grammar.specs.Names.Scopes.{Fact, Facts, ◌⊕◌, Scopes, and_then, ◌⊳◌, fact_of, not_isolated, inside, left_open, outward, facts, act_failures, failures}
-use Rattle.irtext_grammar.specs.Names.Follow.{follow}
 
 module _ {N : Type 0} where
   and_twice : (o : Option (List (Fact N))) (fs gs : List (Fact N)) → and_then (and_then o fs) gs ≡ and_then o (fs ++ gs)

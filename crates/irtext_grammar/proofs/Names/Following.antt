@@ -6,11 +6,10 @@ use Rattle.irtext_grammar.specs.Grammar.Forest.{Regions, no_regions, region, Ope
 use Rattle.irtext_grammar.specs.Grammar.Tree as tree
 use Rattle.irtext_base.specs.Format.{Id}
 use Rattle.irtext_grammar.specs.Grammar.Tree.{Part, Op, Head, Brace, shown, elided, parts_of}
-use Rattle.irtext_grammar.specs.Names.Script.{Path, Act, Script, done, does, within, does_all}
+use Rattle.irtext_grammar.specs.Names.Script.{Path, Act, Script, done, does, within, does_all, follow}
 use Rattle.irtext_grammar.specs.Names.TextScopes as text
 use Rattle.irtext_grammar.specs.Names.History.{act, enter, leave, events}
 use Rattle.irtext_grammar.specs.Names.Acts.{piece_acts, all_of, parts_script, closing_acts, operation_script, region_script, region_scripts, blocks_script, operations_script, singles, single_labels}
-use Rattle.irtext_grammar.specs.Names.Follow.{follow}
 
 pub events_follow : (x y : text.Script) → events (follow x y) ≡ events x ++ events y
 events_follow done y = refl

@@ -4,7 +4,7 @@ use Rattle.std.specs.Prelude.{⊤}
 use Rattle.irtext_base.specs.Text.{Text}
 use Rattle.irtext_base.specs.Format.{Id}
 use Rattle.irtext_grammar.specs.Grammar.Forest.{Regions, no_regions, region, Blocks, no_blocks, block, Operations, no_operations, operation}
-use Rattle.irtext_grammar.specs.Spelling.Fine.{Enough}
+use Rattle.irtext_grammar.specs.Spelling.Spellable.{Enough}
 use Rattle.irtext_grammar.specs.Grammar.Tree as tree
 use Rattle.irtext_grammar.specs.Grammar.Tree.{Piece, Part, Op, Head, Brace, shown, elided, parts_of}
 use Rattle.irtext_grammar.specs.Names.Script.{Path, Script, done, within, does_all}

@@ -6,8 +6,7 @@ use Rattle.irtext_base.proofs.Numbers.{digits_every}
 use Rattle.irtext_grammar.proofs.Lists.SameText.{same_character, same_itself, same_text_eq, other_text}
 use Rattle.irtext_base.specs.Format.{same_text}
 use Rattle.irtext_grammar.specs.Graphs.Graph.{Printing}
-use Rattle.irtext_grammar.specs.Graphs.Closed.{Thing, a_value, a_block, same_thing, printed}
-use Rattle.irtext_grammar.specs.Graphs.Counters.{Small}
+use Rattle.irtext_grammar.specs.Graphs.Closed.{Thing, a_value, a_block, same_thing, printed, Small}
 use Rattle.std.specs.Char.{is_ascii_digit}
 use Rattle.std.specs.List.{list_all}
 use Rattle.irtext_base.specs.Text.{Text}

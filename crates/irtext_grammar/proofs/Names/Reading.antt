@@ -6,12 +6,12 @@ use Rattle.irtext_grammar.specs.Names.Scopes as scopes
 use Rattle.irtext_grammar.specs.Names.Scopes.{no_scope, uses, defines, nothing, fact_of, is_among, outside, not_isolated}
 use Rattle.irtext_base.specs.Format.{same_text}
 use Rattle.irtext_grammar.specs.Names.TextScopes.{Fact, Facts, Act, Failure, Script, bound_in, unresolved, defined_before, failures, facts}
-use Rattle.irtext_grammar.specs.Names.History.{Event, act, enter, leave, events, State, top, under, top_facts, onto, after, entered, left, Outcome, going, failed, outcome, step, next, run, start, ended}
-use Rattle.irtext_grammar.specs.Names.Placeholders.{Held, bound, Names, Tracker, use_name, define_name, enter_scope, leave_scope, refused, with_values, with_labels, then_labels, has_scope, do_act, do_event, do_next, read, no_names, fresh_tracker, In, Resolved, Answers}
+use Rattle.irtext_grammar.specs.Names.History.{Event, act, enter, leave, events, State, top, outer_scopes, top_facts, onto, after, entered, left, Outcome, going, failed, outcome, step, next, run, start, ended}
+use Rattle.irtext_grammar.specs.Names.Placeholders.{Held, bound, Names, Tracker, use_name, define_name, enter_scope, leave_scope, refused, with_values, with_labels, then_labels, has_scope, do_act, do_event, do_next, read, no_names, fresh_tracker, In, Resolved, AgreesWith}
 use Rattle.irtext_grammar.proofs.Names.Building.{bound_same}
 use Rattle.irtext_grammar.proofs.Names.OnePass.{one_pass}
 use Rattle.irtext_grammar.proofs.Lists.Sets.{Same, same_refl, same_path, same_then, same_flip, same_both, same_swap}
-use Rattle.irtext_grammar.proofs.Names.Names.{Scope, Linked, Follows, Agrees, facts_in, maps_of, final, under_scopes, empty_scope, empty-facts, use_follows, define_follows, enter_follows, leave_follows}
+use Rattle.irtext_grammar.proofs.Names.PlaceholderMap.{Scope, Linked, Follows, Agrees, facts_in, maps_of, final, under_scopes, empty_scope, empty-facts, use_follows, define_follows, enter_follows, leave_follows}
 
 abbrev pub bound_all : Script → List (User × Place)
 bound_all x = scopes.bound same_text [] [] x
@@ -196,7 +196,7 @@ enter_event st t false d = go d.values d.values_are d.values_linked.scopes_are
     go (g ∷ gs) e k = subst (λ z. Follow (outcome (not_isolated false (top z)) (entered false st)) (cond (has_scope t.values.scopes) (Ok (record t { labels = enter_scope t.labels })) (refused NotIsolated None))) e
         (subst (λ z. Follow (going (entered false st)) (cond (has_scope z) (Ok (record t { labels = enter_scope t.labels })) (refused NotIsolated None))) (sym k) (entered_shared st t d))
 
-under-facts : (gs : List Scope) → facts_in (under_scopes gs) ≡ under (facts_in gs)
+under-facts : (gs : List Scope) → facts_in (under_scopes gs) ≡ outer_scopes (facts_in gs)
 under-facts [] = refl
 under-facts (g ∷ gs) = refl
 
@@ -230,8 +230,8 @@ leave_event st t true a d =
           labels = under_scopes d.labels;
           of_values = d.of_values ++ bound_in V V;
           of_labels = d.of_labels ++ bound_in L L;
-          values_are = under-facts d.values ∙ ap under d.values_are;
-          labels_are = under-facts d.labels ∙ ap under d.labels_are;
+          values_are = under-facts d.values ∙ ap outer_scopes d.values_are;
+          labels_are = under-facts d.labels ∙ ap outer_scopes d.labels_are;
           marks_are = d.marks_are;
           entries_are = d.entries_are;
           bound_are = mixed st.bound d.of_values d.of_labels (bound_in V V) (bound_in L L) d.bound_are;
@@ -257,7 +257,7 @@ leave_event st t false a d =
       of_values = d.of_values;
       of_labels = d.of_labels ++ bound_in L L;
       values_are = d.values_are;
-      labels_are = under-facts d.labels ∙ ap under d.labels_are;
+      labels_are = under-facts d.labels ∙ ap outer_scopes d.labels_are;
       marks_are = d.marks_are;
       entries_are = d.entries_are;
       bound_are = mixed_right st.bound d.of_values d.of_labels (bound_in L L) d.bound_are;
@@ -321,16 +321,16 @@ tied_end f t d =
       );
     }
 
-ends : (F : List Failure) (f : Facts) (r : Result Tracker Failure) → Follow (outcome F (ended f)) r → Answers F f.bound r
+ends : (F : List Failure) (f : Facts) (r : Result Tracker Failure) → Follow (outcome F (ended f)) r → AgreesWith F f.bound r
 ends [] f (Ok t) d = tied_end f t d
 ends [] f (Err x) d = d
 ends (x ∷ F) f (Ok t) d = d
 ends (x ∷ F) f (Err y) d = d
 
-pub reads : (x : Script) → Answers (failures no_scope x) (facts x).bound (read (Ok fresh_tracker) (events x))
+pub reads : (x : Script) → AgreesWith (failures no_scope x) (facts x).bound (read (Ok fresh_tracker) (events x))
 reads x = ends (failures no_scope x) (facts x) (read (Ok fresh_tracker) (events x)) (subst (λ o. Follow o (read (Ok fresh_tracker) (events x))) (one_pass x) (run_follows (events x) (going start) (Ok fresh_tracker) begun))
 
-rebound : (F : List Failure) (b c : List (User × Place)) (r : Result Tracker Failure) → Same b c → Answers F b r → Answers F c r
+rebound : (F : List Failure) (b c : List (User × Place)) (r : Result Tracker Failure) → Same b c → AgreesWith F b r → AgreesWith F c r
 rebound [] b c (Ok t) s d = record {
   no_scope_open = d.no_scope_open;
   each = λ u h. ((λ k. let i = (d.each u h).0 k in (i.0, i.1, s.into (u, i.0) i.2)), (λ k. (d.each u h).1 (k.0, k.1, s.back (u, k.0) k.2)));
@@ -339,7 +339,7 @@ rebound [] b c (Err x) s d = d
 rebound (x ∷ F) b c (Ok t) s d = d
 rebound (x ∷ F) b c (Err y) s d = d
 
-pub reads_bound : (x : Script) → Answers (failures no_scope x) (bound_all x) (read (Ok fresh_tracker) (events x))
+pub reads_bound : (x : Script) → AgreesWith (failures no_scope x) (bound_all x) (read (Ok fresh_tracker) (events x))
 reads_bound x = rebound (failures no_scope x) (facts x).bound (bound_all x) (read (Ok fresh_tracker) (events x)) (same_flip (bound_same x)) (reads x)
 
 -- once a front of the events fails, whatever follows fails alike

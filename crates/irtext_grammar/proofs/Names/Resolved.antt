@@ -6,8 +6,7 @@ use Rattle.irtext_grammar.specs.Graphs.Graph.{Graph, Printing, written, marks_in
 use Rattle.irtext_grammar.specs.Names.Script.{done, failure_as}
 use Rattle.irtext_grammar.specs.Names.Scopes.{no_scope, failures}
 use Rattle.irtext_grammar.specs.Names.Acts.{tree_script}
-use Rattle.irtext_grammar.specs.Graphs.Closed.{same_thing, printed, graph_script, Closed, Fit}
-use Rattle.irtext_grammar.specs.Graphs.Counters.{Small}
+use Rattle.irtext_grammar.specs.Graphs.Closed.{same_thing, printed, graph_script, Closed, Fit, Small}
 use Rattle.irtext_grammar.specs.Names.Plain.{plain, Kept}
 use Rattle.irtext_grammar.specs.Graphs.Same.{SmallGraph}
 use Rattle.irtext_grammar.proofs.Names.Natural.{failures_natural}
@@ -15,7 +14,7 @@ use Rattle.irtext_grammar.proofs.Names.Plainly.{no_failure}
 use Rattle.irtext_grammar.proofs.Names.Injective.{names_agree}
 use Rattle.irtext_grammar.proofs.Graphs.WrittenScript.{written_like}
 use Rattle.irtext_grammar.proofs.Graphs.Match.{small_script}
-use Rattle.irtext_grammar.specs.Graphs.Fillable.{GraphKeepsKeys}
+use Rattle.irtext_grammar.specs.Graphs.ReservedKeys.{GraphKeepsKeys}
 use Rattle.irtext_grammar.proofs.Graphs.KeptWritten.{Good, root_good}
 
 module _ {T A : Type 0} (C : Printing T A) (isolated : Id → Bool) (g : Graph T A) (fit : Fit C isolated g) (small : SmallGraph C isolated g) (closed : Closed C isolated g) where

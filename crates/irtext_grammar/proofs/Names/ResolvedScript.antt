@@ -4,7 +4,7 @@ use Rattle.std.specs.Prelude.{⊤, is_some, nat_eq}
 use Rattle.std.proofs.lemmas.Bool.Decides.{nat_tests}
 use Rattle.irtext_base.specs.Text.{Text}
 use Rattle.irtext_base.specs.Format.{same_text, has, distinct}
-use Rattle.irtext_grammar.specs.Spelling.Fine.{Each}
+use Rattle.irtext_grammar.specs.Spelling.Spellable.{Each}
 use Rattle.irtext_grammar.specs.Names.Script.{UnresolvedReference, Place, User, Word, Act, use_value, use_label, define_value, define_label, mark, entry, claim, Script, done, does, within}
 use Rattle.irtext_grammar.specs.Names.Scopes.{fail, Fact, uses, defines, Facts, Scopes, and_then, ◌⊳◌, fact_of, is_among, outside, not_isolated, inside, lookup, unresolved, outward, facts, defined_before, act_failures, left_open, failures}
 use Rattle.irtext_grammar.proofs.Lists.SameText.{same_text_true, same_text_eq, other_text}

@@ -3,12 +3,12 @@ use Rattle.std.proofs.Common.{◌≡◌, ℕ, Bool, true, List, [], ◌∷◌, �
 use Rattle.std.specs.Prelude.{⊤}
 use Rattle.irtext_base.specs.Text.{Text}
 use Rattle.irtext_base.specs.Format.{Id}
-use Rattle.irtext_grammar.specs.Spelling.Fine.{Each}
+use Rattle.irtext_grammar.specs.Spelling.Spellable.{Each}
 use Rattle.irtext_grammar.specs.Grammar.Forest.{Regions, no_regions, region, Blocks, no_blocks, block, Operations, no_operations, operation, AllRegions, AllBlocks, AllOperations}
 use Rattle.irtext_grammar.specs.Grammar.Tree as tree
 use Rattle.irtext_grammar.specs.Grammar.Tree.{Name, Attribute, Piece, Part, Op, Head, Brace, Tree, parts_of, views}
 use Rattle.irtext_grammar.specs.Names.Script.{Path, Act, use_value, use_label, define_value, define_label, mark, entry, claim, Script, done, within, does_all}
-use Rattle.irtext_grammar.specs.Names.Acts.{piece_acts, closing_acts, header_acts, blocks_script, tree_script, keeps_key}
+use Rattle.irtext_grammar.specs.Names.Acts.{piece_acts, closing_acts, header_acts, blocks_script, tree_script, may_hold}
 use Rattle.irtext_grammar.specs.Names.Resolves.{KeysKept, CountsAgree, OpKeysKept, HeadKeysKept}
 use Rattle.irtext_grammar.specs.Spelling.Writable.{has_region}
 use Rattle.irtext_grammar.proofs.Names.ResolvedScript.{Claims, Entryless, OuterIsolated, each_both, each_left, each_right}
@@ -46,7 +46,7 @@ each_two Q xs ys c e = record { to = λ d. each_both Q xs ys (c.to d.0) (e.to d.
 
 -- ---- counts and keys
 module _ {P T A : Type 0} where
-  pieces_claim : (p : Path) (k l : ℕ) (x : Piece P T A) (then : Script Text P) → Both (Claims (does_all (piece_acts p k l x) then)) (KeysKept keeps_key (entries_in x) × Claims then)
+  pieces_claim : (p : Path) (k l : ℕ) (x : Piece P T A) (then : Script Text P) → Both (Claims (does_all (piece_acts p k l x) then)) (KeysKept may_hold (entries_in x) × Claims then)
   pieces_claim p k l x then = let r = claims_acts (piece_acts p k l x) then in record { to = λ d. let u = r.to d in (holds_piece p k l x u.0, u.1); from = λ d. r.from (piece_holds p k l x d.0, d.1) }
 
   closes_claim : (p : Path) (o : Op P T A) (then : Script Text P) → Both (Claims (does_all (closing_acts p o) then)) (CountsAgree o × Claims then)
@@ -74,18 +74,18 @@ module _ {P T A : Type 0} (isolated : Id → Bool) where
   within_none p iso place bs then D w b = record { to = λ d. (b.to d.0, d.1); from = λ d. (b.from d.0, d.1) }
 
   abbrev OfParts : List (Part P T A) → Type 0
-  OfParts ps = scripts.OfParts isolated (λ x. KeysKept keeps_key (entries_in x)) CountsAgree HeadKeysKept (λ iso bs D. D) Claims tt pieces_claim closes_claim heads_claim within_claims ps
+  OfParts ps = scripts.OfParts isolated (λ x. KeysKept may_hold (entries_in x)) CountsAgree HeadKeysKept (λ iso bs D. D) Claims tt pieces_claim closes_claim heads_claim within_claims ps
 
   abbrev OfRegions : Bool → Regions (Op P T A) (Head P T A) (Brace P) → Type 0
-  OfRegions iso rs = scripts.OfRegions isolated (λ x. KeysKept keeps_key (entries_in x)) CountsAgree HeadKeysKept (λ iso bs D. D) Claims tt pieces_claim closes_claim heads_claim within_claims iso rs
+  OfRegions iso rs = scripts.OfRegions isolated (λ x. KeysKept may_hold (entries_in x)) CountsAgree HeadKeysKept (λ iso bs D. D) Claims tt pieces_claim closes_claim heads_claim within_claims iso rs
 
   abbrev OfBlocks : Blocks (Op P T A) (Head P T A) (Brace P) → Type 0
-  OfBlocks bs = scripts.OfBlocks isolated (λ x. KeysKept keeps_key (entries_in x)) CountsAgree HeadKeysKept (λ iso bs D. D) Claims tt pieces_claim closes_claim heads_claim within_claims bs
+  OfBlocks bs = scripts.OfBlocks isolated (λ x. KeysKept may_hold (entries_in x)) CountsAgree HeadKeysKept (λ iso bs D. D) Claims tt pieces_claim closes_claim heads_claim within_claims bs
 
   abbrev OfOperations : Operations (Op P T A) (Head P T A) (Brace P) → Type 0
-  OfOperations os = scripts.OfOperations isolated (λ x. KeysKept keeps_key (entries_in x)) CountsAgree HeadKeysKept (λ iso bs D. D) Claims tt pieces_claim closes_claim heads_claim within_claims os
+  OfOperations os = scripts.OfOperations isolated (λ x. KeysKept may_hold (entries_in x)) CountsAgree HeadKeysKept (λ iso bs D. D) Claims tt pieces_claim closes_claim heads_claim within_claims os
 
-  parts_keys : (ps : List (Part P T A)) → Both (OfParts ps) (KeysKept keeps_key (views entries_in ps))
+  parts_keys : (ps : List (Part P T A)) → Both (OfParts ps) (KeysKept may_hold (views entries_in ps))
   parts_keys [] = record { to = λ d. tt; from = λ d. tt }
   parts_keys (tree.piece x ∷ ps) = each_two _ (entries_in x) (views entries_in ps) (record { to = λ d. d; from = λ d. d }) (parts_keys ps)
   parts_keys (tree.region i ∷ ps) = parts_keys ps
@@ -136,7 +136,7 @@ module _ {P T A : Type 0} (isolated : Id → Bool) where
 
   pub root_claims : (t : Tree P T A) → WholeOperations (operation t.own t.regions no_operations) → Both (Claims (tree_script isolated t done)) ((CountsAgree t.own × CountRegions t.regions) × (OpKeysKept t.own × KeyRegions t.regions))
   root_claims t w =
-      let h = scripts.operation_holds isolated (λ x. KeysKept keeps_key (entries_in x)) CountsAgree HeadKeysKept (λ iso bs D. D) Claims tt pieces_claim closes_claim heads_claim within_claims [] t.own t.regions done w.0.0 (scripts.regions_hold isolated (λ x. KeysKept keeps_key (entries_in x)) CountsAgree HeadKeysKept (λ iso bs D. D) Claims tt pieces_claim closes_claim heads_claim within_claims [] 0 (isolated t.own.id) t.regions w.0.1) in
+      let h = scripts.operation_holds isolated (λ x. KeysKept may_hold (entries_in x)) CountsAgree HeadKeysKept (λ iso bs D. D) Claims tt pieces_claim closes_claim heads_claim within_claims [] t.own t.regions done w.0.0 (scripts.regions_hold isolated (λ x. KeysKept may_hold (entries_in x)) CountsAgree HeadKeysKept (λ iso bs D. D) Claims tt pieces_claim closes_claim heads_claim within_claims [] 0 (isolated t.own.id) t.regions w.0.1) in
       let k = parts_keys (parts_of t.own.body) in
       let r = regions_claim (isolated t.own.id) t.regions in record {
         to = λ d. let u = h.to d in let v = r.to u.0.1.0 in ((u.0.1.1, v.0), (k.to u.0.0, v.1));

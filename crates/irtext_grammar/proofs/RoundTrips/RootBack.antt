@@ -7,7 +7,7 @@ use Rattle.irtext_base.specs.Reading.{◌▹◌, the, literal, repeated}
 use Rattle.irtext_base.specs.Own.{Texts, Language, language, unplaced, Lawful, Unreserved, Standing}
 use Rattle.irtext_grammar.specs.Grammar.Tree.{Tree}
 use Rattle.irtext_grammar.specs.Grammar.Bare.{bare}
-use Rattle.irtext_grammar.specs.Spelling.Fine.{Each}
+use Rattle.irtext_grammar.specs.Spelling.Spellable.{Each}
 use Rattle.irtext_grammar.specs.Spelling.Writable.{Writable, Behind}
 use Rattle.irtext_grammar.specs.Spelling.Spell.{spelled}
 use Rattle.irtext_grammar.specs.Graphs.Graph as graph
@@ -22,8 +22,8 @@ use Rattle.irtext_grammar.specs.Spelling.SectionEntries.{bare_section, written_s
 use Rattle.irtext_base.proofs.Characters.{after_twice}
 use Rattle.irtext_grammar.proofs.Grammar.BackTree as back
 use Rattle.irtext_grammar.proofs.Grammar.Placed as placed
-use Rattle.irtext_grammar.proofs.Sections.SectionBack.{FineEntryOf, found_section}
-use Rattle.irtext_grammar.proofs.Sections.SectionMarked.{is_some_list, marked_bare, marked_written}
+use Rattle.irtext_grammar.proofs.Sections.Back.{FineEntryOf, found_section}
+use Rattle.irtext_grammar.proofs.Sections.Marked.{is_some_list, marked_bare, marked_written}
 
 module _ {T A X : Type 0} (types : Texts T) (owns : Texts A) (types_law : Lawful T types) (owns_law : Lawful A owns) (unreserved : Unreserved A owns) (location_at : Text → Standing X) (K : Locations X) (C : Printing T A) where
   abbrev L : Language ℕ T A

@@ -7,36 +7,35 @@ use Rattle.irtext_base.specs.Own.{Texts, Language, language, unplaced, Lawful, U
 use Rattle.irtext_grammar.specs.Grammar.Forest.{Regions, no_regions, region, Blocks, no_blocks, block, Operations, no_operations, operation, AllRegions, AllBlocks, AllOperations}
 use Rattle.irtext_grammar.specs.Grammar.Tree.{Attribute, given_names, ident, own, Tree}
 use Rattle.irtext_grammar.specs.Grammar.Bare.{bare}
-use Rattle.irtext_grammar.specs.Spelling.Fine.{Each, IsWord}
+use Rattle.irtext_grammar.specs.Spelling.Spellable.{Each, IsIdentifier}
 use Rattle.irtext_grammar.specs.Spelling.Writable.{BehindRoot}
 use Rattle.irtext_grammar.specs.Spelling.Spell.{spelled}
-use Rattle.irtext_grammar.specs.Graphs.Wordy.{WordyEntry, WordyOp, WordyBlock, Wordy}
-use Rattle.irtext_grammar.specs.Graphs.Fillable.{GraphKeepsKeys}
+use Rattle.irtext_grammar.specs.Graphs.Identifiers.{EntryHasIdentifiers, OpHasIdentifiers, BlockHasIdentifiers, HasIdentifiers}
+use Rattle.irtext_grammar.specs.Graphs.ReservedKeys.{GraphKeepsKeys}
 use Rattle.irtext_grammar.specs.Graphs.Graph as graph
 use Rattle.irtext_grammar.specs.Graphs.Graph.{Graph, Limit, GraphOp, GraphBlock, Printing, outlined, shared, place_in, is_marked, own_marks, marks_in_regions, written, own_entry, entries_of_regions, entries_of_blocks, entries_of_operations, entries_of, op_outlined, block_outlined, outlined_entries, label_entry}
 use Rattle.irtext_grammar.specs.Spelling.Section as section
 use Rattle.irtext_grammar.specs.Grammar.Section.{Entry}
-use Rattle.irtext_grammar.specs.Names.Script.{Script, done, does_all}
+use Rattle.irtext_grammar.specs.Names.Script.{Script, done, does_all, follow}
 use Rattle.irtext_grammar.specs.Names.Scopes.{no_scope, facts, failures}
 use Rattle.irtext_grammar.specs.Names.Acts.{section_acts, rule_of, region_scripts, tree_script, failures_of}
 use Rattle.irtext_grammar.specs.Graphs.Closed.{Closed, Fit}
 use Rattle.irtext_grammar.specs.Graphs.Same.{Locations, SmallGraph}
 use Rattle.irtext_grammar.specs.Graphs.RoundTrip.{LocationReads, Held, GraphHeld}
-use Rattle.irtext_grammar.specs.Names.Follow.{follow}
 use Rattle.irtext_grammar.specs.Spelling.SectionEntries.{bare_section, written_section, SmallSection, numbers}
 use Rattle.irtext_grammar.proofs.Names.Following.{regions_follow, operation_follow}
 use Rattle.irtext_grammar.proofs.Names.Followed.{failures_follow}
 use Rattle.irtext_grammar.proofs.Sections.MarksWritten.{Numbered, root_numbered}
 use Rattle.irtext_grammar.proofs.Names.Resolved.{tree_resolves}
-use Rattle.irtext_grammar.proofs.Sections.SectionBack.{SmallItem, FinePair, FineEntryOf}
-use Rattle.irtext_grammar.proofs.Sections.SectionBare.{root_resolves_bare}
-use Rattle.irtext_grammar.proofs.Sections.SectionContent.{length_entries}
-use Rattle.irtext_grammar.proofs.Sections.SectionKept.{section_clean}
+use Rattle.irtext_grammar.proofs.Sections.Back.{SmallItem, FinePair, FineEntryOf}
+use Rattle.irtext_grammar.proofs.Sections.Bare.{root_resolves_bare}
+use Rattle.irtext_grammar.proofs.Sections.Content.{length_entries}
+use Rattle.irtext_grammar.proofs.Sections.Kept.{section_clean}
 use Rattle.irtext_grammar.proofs.Sections.EntryRules.{entries_ruled}
-use Rattle.irtext_grammar.proofs.Sections.SectionOnce.{Mention, Mentions, place_below, each_shared}
-use Rattle.irtext_grammar.proofs.Graphs.WrittenFine.{each_filter, written_fine}
+use Rattle.irtext_grammar.proofs.Sections.Once.{Mention, Mentions, place_below, each_shared}
+use Rattle.irtext_grammar.proofs.Graphs.WrittenSpellable.{each_filter, written_fine}
 use Rattle.irtext_grammar.proofs.Grammar.BackTree as back
-use Rattle.irtext_grammar.proofs.Sections.BehindSection.{section_behind}
+use Rattle.irtext_grammar.proofs.Sections.BehindRoot.{section_behind}
 use Rattle.irtext_grammar.proofs.Grammar.Placed as placed
 use Rattle.irtext_grammar.proofs.RoundTrips.RootBack.{FineItems, RootRead, TreeRead, root_behind}
 
@@ -80,18 +79,18 @@ module _ {T A : Type 0} (C : Printing T A) where
       go false = tt
 
   abbrev EntryWordy : graph.Entry C → Type 0
-  EntryWordy e = Each WordyEntry e.attributes
+  EntryWordy e = Each EntryHasIdentifiers e.attributes
 
-  outlined_wordy : (es : List (Text × Attribute A)) → Each WordyEntry es → Each WordyEntry (outlined_entries C es)
-  outlined_wordy es h = each_filter WordyEntry (λ e. outlined C e.1) es h
+  outlined_wordy : (es : List (Text × Attribute A)) → Each EntryHasIdentifiers es → Each EntryHasIdentifiers (outlined_entries C es)
+  outlined_wordy es h = each_filter EntryHasIdentifiers (λ e. outlined C e.1) es h
 
-  label_wordy : (l : Option Text) (es : List (Text × Attribute A)) → ((n : Text) → l ≡ Some n → IsWord n) → Each WordyEntry es → Each WordyEntry (label_entry l ++ es)
+  label_wordy : (l : Option Text) (es : List (Text × Attribute A)) → ((n : Text) → l ≡ Some n → IsIdentifier n) → Each EntryHasIdentifiers es → Each EntryHasIdentifiers (label_entry l ++ es)
   label_wordy None es h k = k
   label_wordy (Some n) es h k = ((refl, h n refl), k)
 
-  entries_wordy : (g : Graph T A) → Wordy C g → Each EntryWordy (entries_of C None g)
+  entries_wordy : (g : Graph T A) → HasIdentifiers C g → Each EntryWordy (entries_of C None g)
   entries_wordy g w =
-      graph_each C EntryWordy (WordyOp C) (WordyBlock C) (λ o k. own_each EntryWordy o.location (op_outlined C o) (outlined_wordy o.attributes k.attributes))
+      graph_each C EntryWordy (OpHasIdentifiers C) (BlockHasIdentifiers C) (λ o k. own_each EntryWordy o.location (op_outlined C o) (outlined_wordy o.attributes k.attributes))
       (λ b k. own_each EntryWordy b.location (block_outlined C b) (label_wordy (C.label b.place) (outlined_entries C b.attributes) (w.label b.place) (outlined_wordy b.attributes k.attributes))) g w.own w.regions
 
   module _ {X : Type 0} (location_at : Text → Standing X) (K : Locations X) where
@@ -106,17 +105,17 @@ module _ {T A : Type 0} (C : Printing T A) where
   tree_follow isolated t x y = operation_follow [] t.own (region_scripts isolated [] 0 (isolated t.own.id) t.regions) x y (regions_follow isolated [] 0 (isolated t.own.id) t.regions)
 
   -- the marks that are written, as many as there are entries
-  pub marks_written : (isolated : Id → Bool) (l : Limit) (g : Graph T A) → Wordy C g → Fit C isolated g → Numbered (length (entries_of C l g)) 0 (tree_script isolated (written C l g) done)
+  pub marks_written : (isolated : Id → Bool) (l : Limit) (g : Graph T A) → HasIdentifiers C g → Fit C isolated g → Numbered (length (entries_of C l g)) 0 (tree_script isolated (written C l g) done)
   marks_written isolated l g wordy fit =
       let n = marks_in_regions C l g.regions + own_marks C g.own.location (op_outlined C g.own) in
       let e : n ≡ length (entries_of C l g) = sym (length_entries C l g) in
       let e' : n + 0 ≡ n = omega arith in
       subst (λ m. Numbered m 0 (tree_script isolated (written C l g) done)) e (root_numbered C isolated wordy.given wordy.label l g n done fit (record { count = 0; sum = e'; marks = refl; entries = refl }))
 
-  pub marks_in_order : (isolated : Id → Bool) (l : Limit) (g : Graph T A) → Wordy C g → Fit C isolated g → (facts same_text (tree_script isolated (written C l g) done)).marks ≡ numbers 0 (length (entries_of C l g))
+  pub marks_in_order : (isolated : Id → Bool) (l : Limit) (g : Graph T A) → HasIdentifiers C g → Fit C isolated g → (facts same_text (tree_script isolated (written C l g) done)).marks ≡ numbers 0 (length (entries_of C l g))
   marks_in_order isolated l g wordy fit = let m = marks_written isolated l g wordy fit in m.marks ∙ ap (numbers 0) (from_zero m.count (length (entries_of C l g)) m.sum)
 
-  module _ (sound : (a b : A) → C.same_own a b ≡ true → a ≡ b) (reflexive : (a : A) → C.same_own a a ≡ true) (isolated : Id → Bool) (g : Graph T A) (wordy : Wordy C g) (fit : Fit C isolated g) (small : SmallGraph C isolated g) (keys : GraphKeepsKeys g) (closed : Closed C isolated g) where
+  module _ (sound : (a b : A) → C.same_own a b ≡ true → a ≡ b) (reflexive : (a : A) → C.same_own a a ≡ true) (isolated : Id → Bool) (g : Graph T A) (wordy : HasIdentifiers C g) (fit : Fit C isolated g) (small : SmallGraph C isolated g) (keys : GraphKeepsKeys g) (closed : Closed C isolated g) where
     abbrev all : List (graph.Entry C)
     all = entries_of C None g
 
@@ -156,13 +155,13 @@ module _ {T A X : Type 0} (types : Texts T) (owns : Texts A) (types_law : Lawful
   small_item items once h (ident n) m = tt
   small_item items once h (own a) m = λ e. let p = place_below C sound a once (m e) in omega arith
 
-  fine_items : (g : Graph T A) → Wordy C g → GraphHeld location_at K g → SmallSection C g → FineItems types owns types_law owns_law unreserved location_at K C (entries_of C None g)
+  fine_items : (g : Graph T A) → HasIdentifiers C g → GraphHeld location_at K g → SmallSection C g → FineItems types owns types_law owns_law unreserved location_at K C (entries_of C None g)
   fine_items g w held small =
       let all = entries_of C None g in
       let items = length all in
       let once = shared C all in
-      let pairs : (es : List (Text × Attribute A)) → Each WordyEntry es → Each (λ x. Mention C sound once x.1) es → Each (PairFine items once) es =
-      each_two WordyEntry (λ x. Mention C sound once x.1) (PairFine items once) (λ x h m. (h, small_item items once small x.1 m)) in
+      let pairs : (es : List (Text × Attribute A)) → Each EntryHasIdentifiers es → Each (λ x. Mention C sound once x.1) es → Each (PairFine items once) es =
+      each_two EntryHasIdentifiers (λ x. Mention C sound once x.1) (PairFine items once) (λ x h m. (h, small_item items once small x.1 m)) in
       each_two (EntryLocated C location_at K) (λ e. EntryWordy C e × Mentions C sound once e) (ItemFine items once) (λ e h k. (h, pairs e.attributes k.0 k.1)) all (entries_located C location_at K g held)
       (each_two (EntryWordy C) (Mentions C sound once) (λ e. EntryWordy C e × Mentions C sound once e) (λ e h k. (h, k)) all (entries_wordy C g w) (each_shared C sound reflexive all))
 
@@ -173,7 +172,7 @@ module _ {T A X : Type 0} (types : Texts T) (owns : Texts A) (types_law : Lawful
       let f = section.section B C (entries_of C None g) in
       subst (BehindRoot B t) (append-nil f) (section_behind C isolated B (λ i. refl) None g [] fit (record { ends = inl refl; one = λ e. inl refl }))
 
-  tree_read : (isolated : Id → Bool) (g : Graph T A) (width n : ℕ) → Wordy C g → Fit C isolated g → SmallGraph C isolated g
+  tree_read : (isolated : Id → Bool) (g : Graph T A) (width n : ℕ) → HasIdentifiers C g → Fit C isolated g → SmallGraph C isolated g
       → let f = section.section B C (entries_of C None g) in TreeRead types owns types_law owns_law unreserved location_at K C (written C None g) (spelled B width n (written C None g) ++ f) f
   tree_read isolated g width n wordy fit small =
       let t = written C None g in
@@ -183,7 +182,7 @@ module _ {T A X : Type 0} (types : Texts T) (owns : Texts A) (types_law : Lawful
       (q.0, r.0, q.1, q.2, r.2)
 
   -- the text of a root and its section
-  pub text_back : (isolated : Id → Bool) (g : Graph T A) (width n : ℕ) → Wordy C g → Fit C isolated g → SmallGraph C isolated g → GraphHeld location_at K g → SmallSection C g
+  pub text_back : (isolated : Id → Bool) (g : Graph T A) (width n : ℕ) → HasIdentifiers C g → Fit C isolated g → SmallGraph C isolated g → GraphHeld location_at K g → SmallSection C g
       → RootRead types owns types_law owns_law unreserved location_at K C (written C None g) (written_section C (entries_of C None g)) (section.text B C g n width None)
   text_back isolated g width n wordy fit small held numbers =
       root_behind types owns types_law owns_law unreserved location_at K C g width n (tree_read isolated g width n wordy fit small) numbers (fine_items g wordy held numbers)

@@ -9,11 +9,10 @@ use Rattle.irtext_grammar.specs.Graphs.Graph.{Graph, GraphOp, GraphBlock, Printi
 use Rattle.irtext_grammar.specs.Names.Script.{done, does_all}
 use Rattle.irtext_grammar.specs.Names.Acts.{section_acts, failures_of, rule_of}
 use Rattle.irtext_grammar.specs.Graphs.Closed.{Fit, Closed}
-use Rattle.irtext_grammar.specs.Graphs.Fillable.{GraphKeepsKeys}
-use Rattle.irtext_grammar.specs.Graphs.KeysDiffer.{GraphKeysDiffer}
-use Rattle.irtext_grammar.specs.Graphs.RoundTrip.{KeysDiffer, Held, GraphHeld, ComesBack}
+use Rattle.irtext_grammar.specs.Graphs.ReservedKeys.{GraphKeepsKeys}
+use Rattle.irtext_grammar.specs.Graphs.RoundTrip.{GraphKeysDiffer, KeysDiffer, Held, GraphHeld, ComesBack}
 use Rattle.irtext_grammar.specs.Graphs.Same.{Locations, SmallGraph, stood, UpToFillings}
-use Rattle.irtext_grammar.specs.Graphs.Wordy.{Wordy}
+use Rattle.irtext_grammar.specs.Graphs.Identifiers.{HasIdentifiers}
 use Rattle.irtext_grammar.specs.Spelling.SectionEntries.{SmallSection}
 use Rattle.irtext_grammar.specs.Grammar.Tree.{Tree}
 use Rattle.irtext_grammar.specs.Grammar.Section.{Entry}
@@ -22,9 +21,9 @@ use Rattle.irtext_grammar.specs.Spelling.Section.{text}
 use Rattle.irtext_grammar.specs.Graphs.Build.{build}
 use Rattle.irtext_grammar.proofs.Grammar.UniqueRoot.{one_root}
 use Rattle.irtext_grammar.proofs.Graphs.Fillings.{fillings}
-use Rattle.irtext_grammar.proofs.Grammar.Formed.{formed_read}
+use Rattle.irtext_grammar.proofs.Grammar.PartsOfFormats.{formed_read}
 use Rattle.irtext_grammar.proofs.RoundTrips.RootResolves.{root_resolves, text_back}
-use Rattle.irtext_grammar.proofs.Sections.SectionContent.{contents_back}
+use Rattle.irtext_grammar.proofs.Sections.Content.{contents_back}
 use Rattle.irtext_grammar.proofs.Graphs.WrittenAs.{accepted_written}
 
 -- what the arenas keep of dictionaries is a part of what they keep
@@ -62,7 +61,7 @@ module _ {T A X : Type 0} (types : Texts T) (owns : Texts A) (types_law : Lawful
   abbrev L : Language ℕ T A
   L = language types owns C.format_of
 
-  pub comes_back : (g : Graph T A) (width n : ℕ) → Wordy C g → Fit C isolated g → SmallGraph C isolated g → GraphKeepsKeys g → GraphHeld location_at K g → Closed C isolated g → SmallSection C g
+  pub comes_back : (g : Graph T A) (width n : ℕ) → HasIdentifiers C g → Fit C isolated g → SmallGraph C isolated g → GraphKeepsKeys g → GraphHeld location_at K g → Closed C isolated g → SmallSection C g
       → ComesBack types owns location_at K first C isolated g width n
   comes_back g width n wordy fit small keys held closed numbers =
       let r = text_back types owns types_law owns_law unreserved location_at K C sound reflexive isolated g width n wordy fit small held numbers in

@@ -6,17 +6,17 @@ use Rattle.std.proofs.lemmas.Bool.Decides.{nat_tests}
 use Rattle.irtext_base.specs.Text.{Text}
 use Rattle.irtext_grammar.specs.Grammar.Forest.{Regions, no_regions, region, Blocks, no_blocks, block, Operations, no_operations, operation, AllRegions, AllBlocks, AllOperations}
 use Rattle.irtext_grammar.specs.Grammar.Tree.{Attribute}
-use Rattle.irtext_grammar.specs.Spelling.Fine.{Each}
+use Rattle.irtext_grammar.specs.Spelling.Spellable.{Each}
 use Rattle.irtext_grammar.specs.Graphs.Graph as graph
 use Rattle.irtext_grammar.specs.Graphs.Graph.{Graph, GraphOp, GraphBlock, Printing, label_entry, outlined, outlined_entries, op_outlined, block_outlined, is_marked, own_marks, mark_at, own_entry, marks_in_regions, marks_in_blocks, marks_in_operations, tree_regions, tree_blocks, tree_operations, entries_of_regions, entries_of_blocks, entries_of_operations, entries_of, written}
 use Rattle.irtext_grammar.specs.Names.Scopes.{is_among}
 use Rattle.irtext_grammar.specs.Spelling.SectionEntries.{mark_of}
-use Rattle.irtext_grammar.specs.Names.Acts.{Rule, keeps_key, keeps_block_key, keeps_label_key, is_label, marked_as, block_marks_in_regions, block_marks_in_blocks, block_marks_in_operations, rule_of}
-use Rattle.irtext_grammar.specs.Graphs.Fillable.{KeepsRule, OpKeepsKeys, BlockKeepsKeys, GraphKeepsKeys}
+use Rattle.irtext_grammar.specs.Names.Acts.{Rule, may_hold, block_may_hold, keeps_label_key, is_label, marked_as, block_marks_in_regions, block_marks_in_blocks, block_marks_in_operations, rule_of}
+use Rattle.irtext_grammar.specs.Graphs.ReservedKeys.{KeepsRule, OpKeepsKeys, BlockKeepsKeys, GraphKeepsKeys}
 use Rattle.irtext_grammar.proofs.Graphs.FitsFormat.{and_left, and_right}
 use Rattle.irtext_grammar.proofs.Graphs.KeptWritten.{keeps_filter}
-use Rattle.irtext_grammar.proofs.Sections.SectionContent.{own_length, regions_length, blocks_length, operations_length}
-use Rattle.irtext_grammar.proofs.Sections.SectionKept.{Keeps, Ruled}
+use Rattle.irtext_grammar.proofs.Sections.Content.{own_length, regions_length, blocks_length, operations_length}
+use Rattle.irtext_grammar.proofs.Sections.Kept.{Keeps, Ruled}
 
 -- ---- which numbers are among lists
 among_both : (i : ℕ) (xs ys : List ℕ) → is_among i xs ≡ false → is_among i ys ≡ false → is_among i (xs ++ ys) ≡ false
@@ -85,26 +85,26 @@ module _ {T A : Type 0} (C : Printing T A) where
         (operations_out (n + marks_in_regions C None rs + own_marks C x.location (op_outlined C x)) os i (λ h l. o (omega arith) (omega arith)))
 
 -- ---- what may stand in entries
-label_keeps : {A : Type 0} (k : Text) (a : Attribute A) → keeps_block_key k a ≡ true → keeps_label_key k a ≡ true
-label_keeps k a h = ap₂ ◌&&◌ (and_left (keeps_key k a) _ h) (ap (λ b. b || is_label a) (and_right (keeps_key k a) _ h))
+label_keeps : {A : Type 0} (k : Text) (a : Attribute A) → block_may_hold k a ≡ true → keeps_label_key k a ≡ true
+label_keeps k a h = ap₂ ◌&&◌ (and_left (may_hold k a) _ h) (ap (λ b. b || is_label a) (and_right (may_hold k a) _ h))
 
 each_rule : {A : Type 0} (rule : Rule A) (es : List (Text × Attribute A)) → KeepsRule rule es → Each (Keeps rule) es
 each_rule rule [] h = tt
 each_rule rule (e ∷ es) h = (and_left (rule e.0 e.1) _ h, each_rule rule es (and_right (rule e.0 e.1) _ h))
 
-each_label : {A : Type 0} (es : List (Text × Attribute A)) → KeepsRule keeps_block_key es → Each (Keeps keeps_label_key) es
+each_label : {A : Type 0} (es : List (Text × Attribute A)) → KeepsRule block_may_hold es → Each (Keeps keeps_label_key) es
 each_label [] h = tt
-each_label (e ∷ es) h = (label_keeps e.0 e.1 (and_left (keeps_block_key e.0 e.1) _ h), each_label es (and_right (keeps_block_key e.0 e.1) _ h))
+each_label (e ∷ es) h = (label_keeps e.0 e.1 (and_left (block_may_hold e.0 e.1) _ h), each_label es (and_right (block_may_hold e.0 e.1) _ h))
 
 module _ {T A : Type 0} (C : Printing T A) where
-  op_may : (o : GraphOp T A) → OpKeepsKeys o → Each (Keeps keeps_key) (op_outlined C o)
-  op_may o k = each_rule keeps_key (op_outlined C o) (keeps_filter keeps_key (λ e. outlined C e.1) o.attributes k)
+  op_may : (o : GraphOp T A) → OpKeepsKeys o → Each (Keeps may_hold) (op_outlined C o)
+  op_may o k = each_rule may_hold (op_outlined C o) (keeps_filter may_hold (λ e. outlined C e.1) o.attributes k)
 
   block_may : (h : GraphBlock T A) → BlockKeepsKeys h → Each (Keeps keeps_label_key) (block_outlined C h)
   block_may h k = go (C.label h.place)
     where
       others : Each (Keeps keeps_label_key) (outlined_entries C h.attributes)
-      others = each_label (outlined_entries C h.attributes) (keeps_filter keeps_block_key (λ e. outlined C e.1) h.attributes k)
+      others = each_label (outlined_entries C h.attributes) (keeps_filter block_may_hold (λ e. outlined C e.1) h.attributes k)
 
       go : (l : Option Text) → Each (Keeps keeps_label_key) (label_entry l ++ outlined_entries C h.attributes)
       go None = others
@@ -112,7 +112,7 @@ module _ {T A : Type 0} (C : Printing T A) where
 
   module _ (B : List ℕ) where
     abbrev rules : ℕ → Rule A
-    rules i = cond (is_among i B) keeps_label_key keeps_key
+    rules i = cond (is_among i B) keeps_label_key may_hold
 
     -- from n to below m, what is among all is among these
     abbrev Local : ℕ → ℕ → List ℕ → Type 0
@@ -130,14 +130,14 @@ module _ {T A : Type 0} (C : Printing T A) where
     block_ruled n l es h = go (is_marked C l es)
       where
         go : (b : Bool) → Local n (n + cond b 1 0) (marked_as (cond b (Some (mark_of n)) None)) → Ruled C rules n (cond b (record { location = l; attributes = es } ∷ []) [])
-        go true k = (subst (λ b. Each (Keeps (cond b keeps_label_key keeps_key)) es) (sym (k n (omega arith) (omega arith) ∙ ap (λ b. cond b true false) (alike n))) h, tt)
+        go true k = (subst (λ b. Each (Keeps (cond b keeps_label_key may_hold)) es) (sym (k n (omega arith) (omega arith) ∙ ap (λ b. cond b true false) (alike n))) h, tt)
         go false k = tt
 
-    op_ruled : (n : ℕ) (l : Option Text) (es : List (Text × Attribute A)) → Each (Keeps keeps_key) es → Local n (n + own_marks C l es) [] → Ruled C rules n (own_entry C l es)
+    op_ruled : (n : ℕ) (l : Option Text) (es : List (Text × Attribute A)) → Each (Keeps may_hold) es → Local n (n + own_marks C l es) [] → Ruled C rules n (own_entry C l es)
     op_ruled n l es h = go (is_marked C l es)
       where
         go : (b : Bool) → Local n (n + cond b 1 0) [] → Ruled C rules n (cond b (record { location = l; attributes = es } ∷ []) [])
-        go true k = (subst (λ b. Each (Keeps (cond b keeps_label_key keeps_key)) es) (sym (k n (omega arith) (omega arith))) h, tt)
+        go true k = (subst (λ b. Each (Keeps (cond b keeps_label_key may_hold)) es) (sym (k n (omega arith) (omega arith))) h, tt)
         go false k = tt
 
     mutual

@@ -7,16 +7,16 @@ use Rattle.irtext_base.specs.Format.{Format, Directive, same_text, ascend, count
 use Rattle.irtext_grammar.specs.Grammar.Forest.{Regions, no_regions, region, Blocks, no_blocks, block, Operations, no_operations, operation, regions_list}
 use Rattle.irtext_grammar.specs.Grammar.Tree as tree
 use Rattle.irtext_grammar.specs.Grammar.Tree.{Name, Attribute, Piece, Part, Op, Head, Brace, parts_of}
-use Rattle.irtext_grammar.specs.Spelling.Fine.{IsWord, Enough}
+use Rattle.irtext_grammar.specs.Spelling.Spellable.{IsIdentifier, Enough}
 use Rattle.irtext_grammar.specs.Graphs.Graph.{Graph, Limit, GraphOp, GraphBlock, Printing, value, is_marked, mark_at, own_marks, body_of, tree_op, tree_head, tree_regions, tree_blocks, tree_operations, marks_in_regions, marks_in_blocks, marks_in_operations, written, op_outlined, block_outlined}
 use Rattle.irtext_grammar.specs.Names.Script.{Path, Act, Script, does, within, does_all}
 use Rattle.irtext_grammar.specs.Names.Scopes.{fact_of, facts, outward}
-use Rattle.irtext_grammar.specs.Names.Acts.{value_uses, label_uses, result_definitions, argument_definitions, mark_acts, key_act, entries_if, piece_acts, all_of, parts_script, closing_acts, header_acts, region_scripts, blocks_script, operations_script, tree_script, Rule, keeps_key, keeps_block_key}
+use Rattle.irtext_grammar.specs.Names.Acts.{value_uses, label_uses, result_definitions, argument_definitions, mark_acts, key_act, entries_if, piece_acts, all_of, parts_script, closing_acts, header_acts, region_scripts, blocks_script, operations_script, tree_script, Rule, may_hold, block_may_hold}
 use Rattle.irtext_grammar.specs.Graphs.Closed.{FitsFormat, FitRegions, FitBlocks, FitOperations, Fit}
 use Rattle.irtext_grammar.specs.Spelling.SectionEntries.{numbers}
 use Rattle.irtext_grammar.proofs.Graphs.FitsFormat.{meets, and_left, and_right}
 use Rattle.irtext_grammar.proofs.Lists.Numbers.{numbers_both}
-use Rattle.irtext_grammar.proofs.Graphs.WrittenFine.{Room, room, enough}
+use Rattle.irtext_grammar.proofs.Graphs.WrittenSpellable.{Room, room, enough}
 use Rattle.irtext_grammar.proofs.Graphs.WrittenScript.{does_both}
 
 -- its marks are the numbers from n to below m, and it has no entries
@@ -115,7 +115,7 @@ module _ {T A : Type 0} where
   piece_silent p k l (tree.successor i n) = (record { marks = refl; entries = refl }, tt)
   piece_silent p k l (tree.successors ns) = labels_silent p l ns
   piece_silent p k l (tree.attribute key a) = tt
-  piece_silent p k l (tree.dictionary es) = keys_silent keeps_key es
+  piece_silent p k l (tree.dictionary es) = keys_silent may_hold es
   piece_silent p k l (tree.result_type i x) = tt
   piece_silent p k l (tree.header n) = tt
   piece_silent p k l (tree.types ts) = tt
@@ -140,7 +140,7 @@ module _ {T A : Type 0} (C : Printing T A) where
       go true f = let i = f.sum in let e : n + 1 ≡ suc n = omega arith in
           record { count = suc f.count; sum = omega arith; marks = ap (λ z. n ∷ z) (f.marks ∙ ap (λ z. numbers z f.count) e); entries = f.entries }
 
-  module _ (isolated : Id → Bool) (given : (v : ℕ) (n : Text) → C.given v ≡ Some n → IsWord n) (label : (b : ℕ × ℕ) (n : Text) → C.label b ≡ Some n → IsWord n) where
+  module _ (isolated : Id → Bool) (given : (v : ℕ) (n : Text) → C.given v ≡ Some n → IsIdentifier n) (label : (b : ℕ × ℕ) (n : Text) → C.label b ≡ Some n → IsIdentifier n) where
     closing_numbered : (m k : ℕ) (p : Path) (o : GraphOp T A) (x : Script Text ⊤) → Numbered m (k + own_marks C o.location (op_outlined C o)) x → Numbered m k (does_all (closing_acts p (tree_op C k o)) x)
     closing_numbered m k p o x f =
         let ns = map (λ (r : ℕ × T). value C r.0) o.results in
@@ -153,8 +153,8 @@ module _ {T A : Type 0} (C : Printing T A) where
         let k = mark_at C n b.location (block_outlined C b) in
         let pairs = map (λ (a : ℕ × T). (value C a.0, a.1)) b.arguments in
         let es = entries_if (tree_head C n b).attributes in
-        subst (Numbered m n) (sym (does_both C (map (key_act keeps_block_key) es) _ x))
-        (numbered_acts _ (keys_silent keeps_block_key es)
+        subst (Numbered m n) (sym (does_both C (map (key_act block_may_hold) es) _ x))
+        (numbered_acts _ (keys_silent block_may_hold es)
         (subst (Numbered m n) (sym (does_both C (argument_definitions p 0 pairs) _ x))
         (numbered_acts _ (arguments_silent p 0 pairs)
         (subst (Numbered m n) (sym (does_both C (mark_acts k) _ x))

@@ -3,7 +3,7 @@ use Rattle.std.proofs.Common.{◌≡◌, Bool, true, false, cond, not, ◌&&◌,
 use Rattle.irtext_base.specs.Format.{has, distinct}
 use Rattle.irtext_grammar.specs.Graphs.Graph as graph
 use Rattle.irtext_grammar.specs.Graphs.Graph.{Printing, firsts, shared}
-use Rattle.irtext_grammar.proofs.Sections.SectionOnce.{mentions}
+use Rattle.irtext_grammar.proofs.Sections.Once.{mentions}
 
 module _ {T A : Type 0} (C : Printing T A) (sound : (a b : A) → C.same_own a b ≡ true → a ≡ b) where
   -- what is known is not among the first mentions

@@ -1,4 +1,4 @@
--- What a context's dialects say of operations, as the grammar and printing ask it.
+-- For callers: what a context's dialects say of operations, as the grammar and printing ask it.
 use Rattle.std.specs.Prelude.{Bool, false, List, Option, Some, None, IfSome}
 use Rattle.std.specs.Option.{option_map}
 use Rattle.irtext_base.specs.Text.{Text}

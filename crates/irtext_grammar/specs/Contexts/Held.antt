@@ -1,4 +1,4 @@
--- What a context holds under an operation, as the tree of a text builds it and as printing sees it.
+-- For callers: what a context holds under an operation, as the tree of a text builds it and as printing sees it.
 use Rattle.std.specs.Prelude.{ℕ, ◌-◌, List, [], ◌∷◌, ◌++◌, length, take, map, Option, Some, None, ⊤}
 use Rattle.std.specs.Option.{option_map, option_and_then}
 use Rattle.irtext_base.specs.Text.{Text}
@@ -49,8 +49,8 @@ module _ {T A : Type 0} where
   built_of paths op = record { own = stood_operation paths op; regions = empty_regions op.regions }
 
   -- what stands under a pointer
-  abbrev pub stands : ContextView T A → Ptr Operation → Option (Built T A (Written A))
-  stands ctx p = option_map (built_of ctx.paths) (operation ctx p)
+  abbrev pub held_root : ContextView T A → Ptr Operation → Option (Built T A (Written A))
+  held_root ctx p = option_map (built_of ctx.paths) (operation ctx p)
 
   -- an operation and all inside as printing sees it, with this text of its location; results have no names so far
   abbrev pub graph_at : OperationView T A → Option Text → Graph T A

@@ -1,4 +1,4 @@
--- A tree without its places.
+-- For callers: a tree without its places.
 use Rattle.std.specs.Prelude.{map, Option, ⊤, option_map}
 use Rattle.irtext_grammar.specs.Grammar.Forest.{Regions, no_regions, region, Blocks, no_blocks, block, Operations, no_operations, operation}
 use Rattle.irtext_grammar.specs.Grammar.Tree as tree

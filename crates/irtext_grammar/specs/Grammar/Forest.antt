@@ -1,4 +1,4 @@
--- What nests: regions hold blocks, blocks hold operations, operations hold regions. A forest is a list of one of the three,
+-- For callers: what nests: regions hold blocks, blocks hold operations, operations hold regions. A forest is a list of one of the three,
 -- with the item's own data at each, whatever they are: O of an operation, B of a block, R of a region.
 use Rattle.std.specs.Prelude.{List, [], ◌∷◌, ⊤}
 

@@ -1,9 +1,9 @@
--- Whether a tree has a mark; and the reading of a root, which includes the section exactly there.
-use Rattle.std.specs.Prelude.{Bool, true, false, ◌||◌, List, [], ◌∷◌, is_some}
-use Rattle.irtext_grammar.specs.Grammar.Forest.{Regions, no_regions, region, Blocks, no_blocks, block, Operations, no_operations, operation}
+-- For callers: whether a tree has a mark; and the reading of a root, which includes the section exactly there.
+use Rattle.std.specs.Prelude.{Bool, true, false, ◌||◌, List, [], ◌∷◌, is_some, ⊤}
+use Rattle.irtext_grammar.specs.Grammar.Forest.{Regions, no_regions, region, Blocks, no_blocks, block, Operations, no_operations, operation, AllRegions}
 use Rattle.irtext_base.specs.Text.{Text}
 use Rattle.irtext_base.specs.Reading.{Reading, ◌▸◌, nothing}
-use Rattle.irtext_grammar.specs.Grammar.Tree.{Op, Head, Brace, Tree}
+use Rattle.irtext_grammar.specs.Grammar.Tree.{Op, Head, Brace, Tree, shown, elided}
 use Rattle.irtext_base.specs.Own.{Language, Standing}
 use Rattle.irtext_grammar.specs.Grammar.Reads.{reads}
 use Rattle.irtext_grammar.specs.Grammar.Section.{Entry, section}
@@ -38,3 +38,12 @@ section_if L location_at false (e ∷ es) = λ text rest. ⊥
 -- a root reads as its tree, and then as its section exactly where the tree has a mark
 abbrev pub reads_root : {P T A X : Type 0} → Language P T A → (Text → Standing X) → Tree P T A → List (Entry P A X) → Reading
 reads_root L location_at t es = reads L t ▸ section_if L location_at (marked t) es
+
+-- the region is shown
+abbrev pub IsShown : {P : Type 0} → Brace P → Type 0
+IsShown (shown p) = ⊤
+IsShown elided = ⊥
+
+-- every region of the tree is shown
+abbrev pub AllShown : {P T A : Type 0} → Tree P T A → Type 0
+AllShown t = AllRegions (λ o. ⊤) (λ h. ⊤) IsShown t.regions

@@ -1,4 +1,4 @@
--- What a text reads as: of each thing a reading, given what its parts read as. The choice is always the next character's.
+-- For callers: what a text reads as: of each thing a reading, given what its parts read as. The choice is always the next character's.
 use Rattle.std.specs.Prelude.{◌≡◌, false, ◌==◌, ◌||◌, ◌⊎◌, List, [], ◌∷◌, map, Option, Some, None, codes}
 use Rattle.irtext_base.specs.Text.{Text, begins, after_space, begins_word}
 use Rattle.irtext_base.specs.Reading.{Reading, ◌▹◌, ◌▸◌, nothing, never, white, ends, the, literal, keyword, identifier, number, separated, repeated}

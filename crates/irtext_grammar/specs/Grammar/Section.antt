@@ -1,4 +1,4 @@
--- What a section reads as: entries of marks, and attributes that are written once.
+-- For callers: what a section reads as: entries of marks, and attributes that are written once.
 use Rattle.std.specs.Prelude.{◌≡◌, List, map, Option, Some, None, codes}
 use Rattle.irtext_base.specs.Text.{Text}
 use Rattle.irtext_base.specs.Reading.{Reading, ◌▹◌, ends, white, the, literal, separated, repeated}

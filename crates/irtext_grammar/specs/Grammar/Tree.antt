@@ -1,4 +1,4 @@
--- What a text is read as. P is what a node keeps of its place, T the types and A the attributes of the caller.
+-- For callers: what a text is read as. P is what a node keeps of its place, T the types and A the attributes of the caller.
 use Rattle.std.specs.Prelude.{codes, ◌≡◌, ℕ, zero, suc, cond, ◌==◌, List, [], ◌∷◌, ◌++◌, length, map, Option, Some, None, option_to_list, ⊤}
 use Rattle.irtext_base.specs.Text.{Text}
 use Rattle.irtext_base.specs.Format as format

@@ -1,4 +1,4 @@
--- The graph that a tree and its section build: the same forest, in which operands and successors are places in the tree.
+-- For callers: the graph that a tree and its section build: the same forest, in which operands and successors are places in the tree.
 use Rattle.std.specs.Prelude.{ℕ, suc, Bool, cond, ◌==◌, List, [], ◌∷◌, ◌++◌, map, flat_map, Option, Some, None, option_and_then, option_map, filter, not, ⊤}
 use Rattle.irtext_base.specs.Text.{Text}
 use Rattle.irtext_base.specs.Format.{same_text, given_names_key, sym_name_key, Id}
@@ -9,7 +9,7 @@ use Rattle.irtext_grammar.specs.Grammar.Tree.{Name, Mark, Attribute, given_names
 use Rattle.irtext_grammar.specs.Grammar.Section.{Item, direct, reference, Entry, of_item, of_once}
 use Rattle.irtext_grammar.specs.Names.Script.{Path, Place}
 use Rattle.irtext_grammar.specs.Names.Scopes.{Fact, lookup, facts}
-use Rattle.irtext_grammar.specs.Names.Acts.{result_types, entries_if, once_at, blocks_script}
+use Rattle.irtext_grammar.specs.Names.Acts.{result_types, entries_if, shared_attribute, blocks_script}
 
 -- an operation that was built: operands and successors are places of definitions, if they have one
 pub record BuiltOp (T A X : Type 0) : Type 0 where
@@ -65,7 +65,7 @@ module _ {P A X : Type 0} (all : List (Entry P A X)) where
   -- what an entry's pair stores: the attribute, or the one that its reference names
   abbrev pub resolved : Name P × Item P A → List (Text × Attribute A)
   resolved (n, direct a) = (n.text, a) ∷ []
-  resolved (n, reference m) = elim (once_at m.index all) [ Some a ↦ (n.text, a) ∷ [] | None ↦ [] ]
+  resolved (n, reference m) = elim (shared_attribute m.index all) [ Some a ↦ (n.text, a) ∷ [] | None ↦ [] ]
 
   -- an entry's content by its index: a location, and attributes
   abbrev pub content_in : List (Entry P A X) → ℕ → Option (Option X × List (Text × Attribute A))

@@ -1,5 +1,5 @@
--- A graph's own script, with numbers for names; closed roots; and when an operation fits its format.
-use Rattle.std.specs.Prelude.{◌≡◌, ℕ, suc, Bool, true, false, cond, not, ◌&&◌, ◌||◌, ◌==◌, nat_lt, List, [], ◌∷◌, length, drop, slice_get, Option, Some, None, is_some, ⊤}
+-- For callers: a graph's own script, with numbers for names; closed roots; and when an operation fits its format.
+use Rattle.std.specs.Prelude.{◌≡◌, ℕ, suc, Bool, true, false, cond, not, ◌&&◌, ◌||◌, ◌==◌, nat_lt, List, [], ◌∷◌, length, drop, slice_get, Option, Some, None, is_some, ⊤, ◌<◌, ◌^◌}
 use Rattle.std.specs.List.{list_all}
 use Rattle.irtext_base.specs.Text.{Text}
 use Rattle.irtext_base.specs.Format as format
@@ -162,3 +162,8 @@ module _ {T A : Type 0} where
     -- the root fits its format, and so does each operation inside
     abbrev pub Fit : Graph T A → Type 0
     Fit g = FitsOp g.own g.regions × FitRegions g.regions
+
+-- a number or a place that a 64 bit counter can give
+abbrev pub Small : Thing → Type 0
+Small (a_value v) = v < 2 ^ 64
+Small (a_block b) = (b.0 < 2 ^ 64) × (b.1 < 2 ^ 64)

@@ -1,4 +1,4 @@
--- Each item of a graph finds its own entry in the section behind a tree.
+-- For callers: each item of a graph finds its own entry in the section behind a tree.
 use Rattle.std.specs.Prelude.{◌≡◌, List, Option, option_map, ⊤}
 use Rattle.irtext_base.specs.Text.{Text}
 use Rattle.irtext_grammar.specs.Grammar.Forest.{MatchRoots}

@@ -1,4 +1,4 @@
--- An operation as the arenas hold it, and the tree that is written of it: names and marks are filled in, and elided regions are
+-- For callers: an operation as the arenas hold it, and the tree that is written of it: names and marks are filled in, and elided regions are
 -- left out.
 use Rattle.std.specs.Prelude.{ℕ, zero, suc, ◌+◌, Bool, true, false, cond, not, ◌==◌, List, [], ◌∷◌, ◌++◌, map, drop, length, filter, filter_map, flat_map, slice_get, Option, Some, None, option_map, option_and_then, ⊤}
 use Rattle.irtext_base.specs.Text.{Text}

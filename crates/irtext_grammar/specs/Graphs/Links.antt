@@ -1,4 +1,4 @@
--- The links of a built root: the definition that each operand and each successor holds.
+-- For callers: the links of a built root: the definition that each operand and each successor holds.
 use Rattle.std.specs.Prelude.{◌≡◌, ℕ, suc, true, List, [], ◌∷◌, ◌++◌, Option, is_some, ⊤}
 use Rattle.std.specs.List.{list_all}
 use Rattle.irtext_grammar.specs.Grammar.Forest.{Regions, no_regions, region, Blocks, no_blocks, block, Operations, no_operations, operation, AllRegions}

@@ -1,4 +1,4 @@
--- Roots in which all that can have a name has one, and roots that come back with nothing filled in but positions.
+-- For callers: roots in which all that can have a name has one, and roots that come back with nothing filled in but positions.
 use Rattle.std.specs.Prelude.{◌≡◌, ℕ, Bool, true, ◌⊎◌, List, [], Some, None, is_some, ⊤}
 use Rattle.std.specs.List.{list_all}
 use Rattle.irtext_base.specs.Text.{Text, after_space}

@@ -1,4 +1,4 @@
--- What the whole round trip is: the printed text of a root, its section too, reads as a tree and entries that resolve, and what they
+-- For callers: what the whole round trip is: the printed text of a root, its section too, reads as a tree and entries that resolve, and what they
 -- build is equal to the root up to fillings; and what the arenas keep of locations and dictionaries for that.
 use Rattle.std.specs.Prelude.{◌≡◌, ℕ, Bool, true, false, List, [], ◌++◌, map, Option, Some, None, ⊤}
 use Rattle.std.specs.Char.{is_whitespace}
@@ -40,3 +40,7 @@ module _ {T A X : Type 0} (types : Texts T) (owns : Texts A) (location_at : Text
   ComesBack g width n = (t : Tree ℕ T A) × (es : List (Entry ℕ A X)) × (u : Text)
       × reads_root (language types owns C.format_of) location_at t es (text (unplaced types owns C.format_of) C g n width None) u × (after_space u ≡ [])
       × (failures_of isolated t es ≡ []) × UpToFillings K (stood C isolated g) (build isolated first es t)
+
+-- no dictionary of the graph has a key twice
+abbrev pub GraphKeysDiffer : {T A : Type 0} → Graph T A → Type 0
+GraphKeysDiffer g = KeysDiffer g.own.attributes × AllRegions (λ o. KeysDiffer o.attributes) (λ h. KeysDiffer h.attributes) (λ r. ⊤) g.regions

@@ -1,9 +1,9 @@
--- A graph with places for its numbers, and when two are equal up to fillings.
+-- For callers: a graph with places for its numbers, and when two are equal up to fillings.
 use Rattle.std.specs.Prelude.{◌≡◌, ℕ, suc, ◌<◌, ◌^◌, Bool, true, cond, ◌⊎◌, List, [], ◌∷◌, map, Option, Some, None, is_some, ⊤}
 use Rattle.std.specs.List.{list_all}
 use Rattle.irtext_base.specs.Text.{Text}
 use Rattle.irtext_base.specs.Format.{given_names_key, Id}
-use Rattle.irtext_grammar.specs.Spelling.Fine.{Each}
+use Rattle.irtext_grammar.specs.Spelling.Spellable.{Each}
 use Rattle.irtext_grammar.specs.Grammar.Forest.{Regions, no_regions, region, Blocks, no_blocks, block, Operations, no_operations, operation, Root, MatchRoots, AllRegions}
 use Rattle.irtext_grammar.specs.Grammar.Tree.{Attribute, given_names}
 use Rattle.irtext_grammar.specs.Graphs.Graph.{Graph, GraphOp, GraphBlock, Printing, lookup}

@@ -1,4 +1,4 @@
--- Roots of the arenas that stand for what a tree builds: numbers and places are any, each for one thing.
+-- For callers: roots of the arenas that stand for what a tree builds: numbers and places are any, each for one thing.
 use Rattle.std.specs.Prelude.{◌≡◌, Bool, true, List, [], ◌∷◌, ◌++◌, Some, ⊤}
 use Rattle.irtext_base.specs.Format.{distinct, Id}
 use Rattle.irtext_grammar.specs.Grammar.Forest.{Root, MatchRoots}

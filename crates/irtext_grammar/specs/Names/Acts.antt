@@ -1,4 +1,4 @@
--- What the reading of a tree and of its section does with names: an act for each, in reading order.
+-- For callers: what the reading of a tree and of its section does with names: an act for each, in reading order.
 use Rattle.std.specs.Prelude.{ℕ, suc, Bool, true, false, cond, not, ◌&&◌, ◌||◌, ◌==◌, List, [], ◌∷◌, ◌++◌, length, map, flat_map, Option, Some, None, is_some, option_map, option_to_list}
 use Rattle.irtext_base.specs.Text.{Text}
 use Rattle.irtext_base.specs.Format.{same_text, given_names_key, Id}
@@ -45,8 +45,8 @@ abbrev pub is_given : {A : Type 0} → Attribute A → Bool
 is_given a = elim a [ given_names ns ↦ true | _ ↦ false ]
 
 -- an entry under the reserved key has given names
-abbrev pub keeps_key : {A : Type 0} → Text → Attribute A → Bool
-keeps_key k a = not (same_text k given_names_key) || is_given a
+abbrev pub may_hold : {A : Type 0} → Text → Attribute A → Bool
+may_hold k a = not (same_text k given_names_key) || is_given a
 
 -- the attribute is an identifier
 abbrev pub is_label : {A : Type 0} → Attribute A → Bool
@@ -57,12 +57,12 @@ abbrev pub Rule : Type 0 → Type 0
 Rule A = Text → Attribute A → Bool
 
 -- what may stand in a block's dictionary: no label
-abbrev pub keeps_block_key : {A : Type 0} → Rule A
-keeps_block_key k a = keeps_key k a && not (same_text k block_label_key)
+abbrev pub block_may_hold : {A : Type 0} → Rule A
+block_may_hold k a = may_hold k a && not (same_text k block_label_key)
 
 -- what may stand in a block's entry of a section: as label an identifier
 abbrev pub keeps_label_key : {A : Type 0} → Rule A
-keeps_label_key k a = keeps_key k a && (not (same_text k block_label_key) || is_label a)
+keeps_label_key k a = may_hold k a && (not (same_text k block_label_key) || is_label a)
 
 -- an entry of a dictionary: its attribute may stand under its key
 abbrev pub key_act : {P A : Type 0} → Rule A → Name P × Attribute A → Act Text P
@@ -103,7 +103,7 @@ module _ {P T A : Type 0} where
   piece_acts p k l (tree.operands ns) = value_uses p k ns
   piece_acts p k l (tree.successor i n) = use_label (word_of n) (successor p i) ∷ []
   piece_acts p k l (tree.successors ns) = label_uses p l ns
-  piece_acts p k l (tree.dictionary es) = map (key_act keeps_key) es
+  piece_acts p k l (tree.dictionary es) = map (key_act may_hold) es
   piece_acts p k l _ = []
 
   -- the parts, with what their regions do, in their order
@@ -121,7 +121,7 @@ module _ {P T A : Type 0} where
 
   -- the header is read whole before its names count
   abbrev pub header_acts : Path → Head P T A → List (Act Text P)
-  header_acts p h = map (key_act keeps_block_key) (entries_if h.attributes) ++ (argument_definitions p 0 h.arguments ++ (mark_acts h.mark ++ define_label (word_of h.label) (block_at p) ∷ []))
+  header_acts p h = map (key_act block_may_hold) (entries_if h.attributes) ++ (argument_definitions p 0 h.arguments ++ (mark_acts h.mark ++ define_label (word_of h.label) (block_at p) ∷ []))
 
   -- an operation: its parts in the order of the text, then its end
   abbrev pub operation_script : Path → Op P T A → List (Script Text P → Script Text P) → Script Text P → Script Text P
@@ -160,10 +160,10 @@ keeps_if rule k (Some a) = rule k a
 
 module _ {P A X : Type 0} where
   -- the later of two entries of one index
-  abbrev pub once_at : ℕ → List (Entry P A X) → Option (Attribute A)
-  once_at i [] = None
-  once_at i (of_item m x items ∷ es) = once_at i es
-  once_at i (of_once m a ∷ es) = elim (once_at i es) [ Some b ↦ Some b | None ↦ cond (m.index == i) (Some a) None ]
+  abbrev pub shared_attribute : ℕ → List (Entry P A X) → Option (Attribute A)
+  shared_attribute i [] = None
+  shared_attribute i (of_item m x items ∷ es) = shared_attribute i es
+  shared_attribute i (of_once m a ∷ es) = elim (shared_attribute i es) [ Some b ↦ Some b | None ↦ cond (m.index == i) (Some a) None ]
 
   -- an entry as it stands: its index, and the keys that it writes out, by the rule of the item with that mark
   abbrev pub entry_acts : (ℕ → Rule A) → Entry P A X → List (Act Text P)
@@ -173,8 +173,8 @@ module _ {P A X : Type 0} where
   -- a reference of an entry: its index is one of those written once, and its key may have that attribute
   abbrev pub reference_acts : Rule A → List (Entry P A X) → Name P × Item P A → List (Act Text P)
   reference_acts rule all (n, direct a) = []
-  reference_acts rule all (n, reference m) = claim (is_some (once_at m.index all)) (record { cause = UnknownPrintOnce m.index; at = Some m.place })
-      ∷ claim (keeps_if rule n.text (once_at m.index all)) (record { cause = ReservedKey n.text; at = Some n.place }) ∷ []
+  reference_acts rule all (n, reference m) = claim (is_some (shared_attribute m.index all)) (record { cause = UnknownPrintOnce m.index; at = Some m.place })
+      ∷ claim (keeps_if rule n.text (shared_attribute m.index all)) (record { cause = ReservedKey n.text; at = Some n.place }) ∷ []
 
   -- what an entry does behind the last one: its references
   abbrev pub late_acts : (ℕ → Rule A) → List (Entry P A X) → Entry P A X → List (Act Text P)
@@ -208,7 +208,7 @@ module _ {P T A : Type 0} where
 
   -- what may stand in the entry of a mark: of a block's, or of an operation's
   abbrev pub rule_of : Tree P T A → ℕ → Rule A
-  rule_of t i = cond (is_among i (block_marks_in_regions t.regions)) keeps_label_key keeps_key
+  rule_of t i = cond (is_among i (block_marks_in_regions t.regions)) keeps_label_key may_hold
 
 -- what reading a root with its section does, and what is wrong there: a root resolves where that is nothing
 abbrev pub root_script : {P T A X : Type 0} → (Id → Bool) → Tree P T A → List (Entry P A X) → Script Text P

@@ -1,4 +1,4 @@
--- A machine that reads a script's events one by one. Each open scope is the list of its facts so far.
+-- For callers: a machine that reads a script's events one by one. Each open scope is the list of its facts so far.
 use Rattle.std.specs.Prelude.{ℕ, Bool, true, false, List, [], ◌∷◌, ◌++◌, Option, Some, None}
 use Rattle.irtext_grammar.specs.Names.Script.{Place, User, done, does, within}
 use Rattle.irtext_grammar.specs.Names.Scopes.{not_isolated, fact_of}
@@ -30,9 +30,9 @@ top [] = None
 top (f ∷ fs) = Some f
 
 -- the scopes round the innermost one
-abbrev pub under : List (List Fact) → List (List Fact)
-under [] = []
-under (f ∷ fs) = fs
+abbrev pub outer_scopes : List (List Fact) → List (List Fact)
+outer_scopes [] = []
+outer_scopes (f ∷ fs) = fs
 
 -- the facts of the innermost scope
 abbrev pub top_facts : List (List Fact) → List Fact
@@ -63,8 +63,8 @@ ending st = record { values = top_facts st.values; labels = top_facts st.labels;
 
 -- the state behind a region: what its scopes bind is fixed
 abbrev pub left : Bool → State → State
-left true st = record st { values = under st.values; labels = under st.labels; bound = st.bound ++ (bound_in (top_facts st.values) (top_facts st.values) ++ bound_in (top_facts st.labels) (top_facts st.labels)) }
-left false st = record st { labels = under st.labels; bound = st.bound ++ bound_in (top_facts st.labels) (top_facts st.labels) }
+left true st = record st { values = outer_scopes st.values; labels = outer_scopes st.labels; bound = st.bound ++ (bound_in (top_facts st.values) (top_facts st.values) ++ bound_in (top_facts st.labels) (top_facts st.labels)) }
+left false st = record st { labels = outer_scopes st.labels; bound = st.bound ++ bound_in (top_facts st.labels) (top_facts st.labels) }
 
 -- the machine goes on, or has failed
 pub data Outcome : Type 0 where

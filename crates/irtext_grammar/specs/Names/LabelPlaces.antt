@@ -1,4 +1,4 @@
--- What a failure of a label is said of: what a scope knows of the label, and that one act is what fails.
+-- For callers: what a failure of a label is said of: what a scope knows of the label, and that one act is what fails.
 use Rattle.std.specs.Prelude.{◌≡◌, List, ◌∷◌}
 use Rattle.irtext_base.specs.Text.{Text}
 use Rattle.irtext_grammar.specs.Names.Script.{Place, does}

@@ -1,4 +1,4 @@
--- One pass over the events. A scope maps names to what they stand for: a use of a name that has no definition yet takes a
+-- For callers: one pass over the events. A scope maps names to what they stand for: a use of a name that has no definition yet takes a
 -- placeholder, and a definition takes the placeholder's place wherever it stands.
 use Rattle.std.specs.Prelude.{ℕ, suc, Bool, true, false, cond, List, [], ◌∷◌, ◌++◌, map, Option, Some, None, not, ◌&&◌, nat_eq, Result, Ok, Err, ◌≡◌, ◌⊎◌, ◌↔◌}
 use Rattle.irtext_base.specs.Text.{Text}
@@ -177,8 +177,8 @@ pub record Resolved (bindings : List (User × Place)) (t : Tracker) : Type 0 whe
   pub each : (u : User) (h : Held) → In (u, h) (t.values.slots ++ t.labels.slots) ↔ ((p : Place) × (h ≡ bound p) × In (u, p) bindings)
 
 -- the first failure, or all resolved
-abbrev pub Answers : List Failure → List (User × Place) → Result Tracker Failure → Type 0
-Answers [] b (Ok t) = Resolved b t
-Answers [] b (Err f) = ⊥
-Answers (g ∷ gs) b (Ok t) = ⊥
-Answers (g ∷ gs) b (Err f) = f ≡ g
+abbrev pub AgreesWith : List Failure → List (User × Place) → Result Tracker Failure → Type 0
+AgreesWith [] b (Ok t) = Resolved b t
+AgreesWith [] b (Err f) = ⊥
+AgreesWith (g ∷ gs) b (Ok t) = ⊥
+AgreesWith (g ∷ gs) b (Err f) = f ≡ g

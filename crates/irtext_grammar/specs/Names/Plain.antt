@@ -1,4 +1,4 @@
--- A script without its marks, entries and claims; and where those hold.
+-- For theorems: a script without its marks, entries and claims; and where those hold.
 use Rattle.std.specs.Prelude.{◌≡◌, Bool, true, false, cond, [], ⊤}
 use Rattle.irtext_grammar.specs.Names.Script.{Act, use_value, use_label, define_value, define_label, Script, done, does, within}
 use Rattle.irtext_grammar.specs.Names.Scopes.{Scopes, fact_of, ◌⊳◌, inside, outward, facts, act_failures}

@@ -1,4 +1,4 @@
--- Which roots resolve with their sections, property by property.
+-- For callers: which roots resolve with their sections, property by property.
 use Rattle.std.specs.Prelude.{◌≡◌, ℕ, Bool, true, cond, ◌==◌, List, [], ◌∷◌, ◌++◌, map, flat_map, length, is_some, ⊤}
 use Rattle.irtext_base.specs.Text.{Text}
 use Rattle.irtext_base.specs.Format.{Id, same_text, has, distinct}
@@ -6,8 +6,8 @@ use Rattle.irtext_grammar.specs.Grammar.Forest.{Regions, no_regions, region, Blo
 use Rattle.irtext_grammar.specs.Grammar.Tree as tree
 use Rattle.irtext_grammar.specs.Grammar.Tree.{Name, Mark, Attribute, Op, Head, Brace, Tree, parts_of, views}
 use Rattle.irtext_grammar.specs.Grammar.Section.{Item, direct, reference, Entry, of_item, of_once}
-use Rattle.irtext_grammar.specs.Names.Acts.{Rule, once_at, keeps_key, keeps_block_key, keeps_if, result_types, entries_if, marked_as, rule_of}
-use Rattle.irtext_grammar.specs.Spelling.Fine.{Each}
+use Rattle.irtext_grammar.specs.Names.Acts.{Rule, shared_attribute, may_hold, block_may_hold, keeps_if, result_types, entries_if, marked_as, rule_of}
+use Rattle.irtext_grammar.specs.Spelling.Spellable.{Each}
 use Rattle.irtext_grammar.specs.Spelling.Writable.{has_region}
 
 -- the names without their places
@@ -44,12 +44,12 @@ module _ {P A X : Type 0} where
   -- a reference names an attribute that is written once
   abbrev pub is_known : List (Entry P A X) → Name P × Item P A → Bool
   is_known es (n, direct a) = true
-  is_known es (n, reference m) = is_some (once_at m.index es)
+  is_known es (n, reference m) = is_some (shared_attribute m.index es)
 
   -- the attribute may stand under its key, itself or by its reference
   abbrev pub is_kept : Rule A → List (Entry P A X) → Name P × Item P A → Bool
   is_kept rule es (n, direct a) = rule n.text a
-  is_kept rule es (n, reference m) = keeps_if rule n.text (once_at m.index es)
+  is_kept rule es (n, reference m) = keeps_if rule n.text (shared_attribute m.index es)
 
   -- what the entry of an item gives may stand there
   abbrev pub EntryKept : (ℕ → Rule A) → List (Entry P A X) → Entry P A X → Type 0
@@ -91,11 +91,11 @@ module _ {P T A : Type 0} where
 
   -- the reserved keys of an operation's dictionary have given names
   abbrev pub OpKeysKept : Op P T A → Type 0
-  OpKeysKept o = KeysKept keeps_key (views (λ p. elim p [ tree.dictionary es ↦ es | _ ↦ [] ]) (parts_of o.body))
+  OpKeysKept o = KeysKept may_hold (views (λ p. elim p [ tree.dictionary es ↦ es | _ ↦ [] ]) (parts_of o.body))
 
   -- a block's dictionary has no label, and its reserved keys have given names
   abbrev pub HeadKeysKept : Head P T A → Type 0
-  HeadKeysKept h = KeysKept keeps_block_key (entries_if h.attributes)
+  HeadKeysKept h = KeysKept block_may_hold (entries_if h.attributes)
 
   module _ (isolated : Id → Bool) where
     -- What the operations and the blocks of a forest have, the inner before the outer; `outward` is what a region says of

@@ -1,4 +1,4 @@
--- Which definition each name of a script means, and which names are wrong, in two passes: the first collects what each scope
+-- For callers: which definition each name of a script means, and which names are wrong, in two passes: the first collects what each scope
 -- uses and defines, the second looks names up in whole scopes. `eq` tests whether two names are one.
 use Rattle.std.specs.Prelude.{ℕ, Bool, true, false, cond, not, ◌&&◌, List, [], ◌∷◌, ◌++◌, Option, Some, None, is_some, nat_eq}
 use Rattle.irtext_grammar.specs.Names.Script.{Place, User, Word, Failure, Act, use_value, use_label, define_value, define_label, mark, entry, claim, Script, done, does, within, NoActiveScope, UnresolvedReference, MultipleDefinitions, DuplicateIndex, UnknownIndex, NotIsolated, Cause}

@@ -1,4 +1,4 @@
--- What the reading of a text does with names, one act after another, with regions inside one another. N is what a name is, and
+-- For callers: what the reading of a text does with names, one act after another, with regions inside one another. N is what a name is, and
 -- P where it stands.
 use Rattle.std.specs.Prelude.{ℕ, Bool, List, [], ◌∷◌, Option, option_map}
 use Rattle.irtext_base.specs.Text.{Text}
@@ -110,3 +110,9 @@ module _ {N P M Q : Type 0} (f : N → M) (h : P → Q) where
   script_as done = done
   script_as (does a k) = does (act_as a) (script_as k)
   script_as (within iso p body k) = within iso (h p) (script_as body) (script_as k)
+
+-- the acts of one script, and behind them those of the other
+abbrev pub follow : {N P : Type 0} → Script N P → Script N P → Script N P
+follow done y = y
+follow (does a k) y = does a (follow k y)
+follow (within iso p body k) y = within iso p body (follow k y)

@@ -1,4 +1,4 @@
--- The two passes where names are texts.
+-- For callers: the two passes where names are texts.
 use Rattle.std.specs.Prelude.{ℕ, Bool, List, Option}
 use Rattle.irtext_base.specs.Text.{Text}
 use Rattle.irtext_base.specs.Format.{same_text}

@@ -1,9 +1,9 @@
--- The text of an attribute.
+-- For callers: the text of an attribute.
 use Rattle.std.specs.Prelude.{◌++◌, map, codes, ⊤}
 use Rattle.irtext_base.specs.Text.{Text}
 use Rattle.irtext_base.specs.Locations.{AttrView, given_names, ident, own}
 use Rattle.irtext_grammar.specs.Spelling.Spell.{joined, comma, or_question}
-use Rattle.irtext_grammar.specs.Spelling.Fine.{Each, IsWord, IsGiven}
+use Rattle.irtext_grammar.specs.Spelling.Spellable.{Each, IsIdentifier, IsGiven}
 use Rattle.irtext_grammar.specs.Grammar.Tree as tree
 
 -- given names between brackets or an identifier, each behind its word, or the text of the caller's own
@@ -15,7 +15,7 @@ attr_text written (own a) = written a
 -- the names in an attribute are identifiers
 abbrev pub FineAttr : {A : Type 0} → AttrView A → Type 0
 FineAttr (given_names ns) = Each IsGiven ns
-FineAttr (ident n) = IsWord n
+FineAttr (ident n) = IsIdentifier n
 FineAttr (own a) = ⊤
 
 -- the attribute, as trees hold it

@@ -1,4 +1,4 @@
--- The text of a location of any kind, in characters.
+-- For callers: the text of a location of any kind, in characters.
 use Rattle.std.specs.Prelude.{ℕ, Option, Some, None, List, [], ◌∷◌, ◌++◌, chars, codes}
 use Rattle.irtext_base.specs.Text.{Text}
 use Rattle.irtext_base.specs.Causes.{position_text}

@@ -1,4 +1,4 @@
--- The printed names: with the number or the place at their end, so that distinct things have distinct names.
+-- For callers: the printed names: with the number or the place at their end, so that distinct things have distinct names.
 use Rattle.std.specs.Prelude.{ℕ, ◌++◌, Option, Some, None, codes, decimal}
 use Rattle.irtext_base.specs.Text.{Text}
 

@@ -1,4 +1,4 @@
--- The section behind a root: an entry for each mark, then each attribute that is written once.
+-- For callers: the section behind a root: an entry for each mark, then each attribute that is written once.
 use Rattle.std.specs.Prelude.{ℕ, suc, ◌+◌, cond, List, [], ◌∷◌, ◌++◌, map, length, Option, Some, None, codes, decimal, ⊤}
 use Rattle.irtext_base.specs.Text.{Text}
 use Rattle.irtext_grammar.specs.Grammar.Tree.{Attribute, own}

@@ -1,4 +1,4 @@
--- The section that is written of a graph, as entries without places and with the texts of locations.
+-- For callers: the section that is written of a graph, as entries without places and with the texts of locations.
 use Rattle.std.specs.Prelude.{ℕ, zero, suc, ◌+◌, ◌<◌, ◌^◌, cond, List, [], ◌∷◌, ◌++◌, map, length, Option, Some, None, option_map, ⊤}
 use Rattle.irtext_base.specs.Text.{Text}
 use Rattle.irtext_grammar.specs.Grammar.Tree.{Name, Mark, Attribute, own}

@@ -1,4 +1,4 @@
--- The text of a tree, at an indentation, with the width of one more.
+-- For callers: the text of a tree, at an indentation, with the width of one more.
 use Rattle.std.specs.Prelude.{ℕ, ◌+◌, Bool, cond, ◌==◌, List, [], ◌∷◌, ◌++◌, map, replicate, Option, Some, None, codes, decimal}
 use Rattle.irtext_base.specs.Text.{Text, begins}
 use Rattle.irtext_base.specs.Format.{has, Id}
@@ -31,8 +31,8 @@ or_question None = codes "?"
 or_question (Some n) = n
 
 -- no space stands before a word that begins with one of these
-abbrev pub hugs : ℕ → Bool
-hugs c = has ◌==◌ c (codes ",:;)]>")
+abbrev pub joins_left : ℕ → Bool
+joins_left c = has ◌==◌ c (codes ",:;)]>")
 
 module _ {P T A : Type 0} (L : Language P T A) where
   -- `^` and the name
@@ -83,7 +83,7 @@ module _ {P T A : Type 0} (L : Language P T A) where
 
   -- a space, but not before a word that hugs what stands before it
   abbrev pub space : Piece P T A → Text
-  space (tree.word s) = cond (begins hugs s) [] (codes " ")
+  space (tree.word s) = cond (begins joins_left s) [] (codes " ")
   space _ = codes " "
 
   -- the parts, with the texts of the regions, in their order

@@ -1,4 +1,4 @@
--- Trees whose text is read back: names are identifiers, each operation has its format's body, and no region is left out where that is not read.
+-- For callers: trees whose text is read back: names are identifiers, each operation has its format's body, and no region is left out where that is not read.
 use Rattle.std.specs.Prelude.{◌≡◌, ℕ, Bool, true, false, List, [], map, Option, Some, None, ◌++◌, ⊤, codes, ◌==◌, ◌⊎◌}
 use Rattle.irtext_grammar.specs.Grammar.Forest.{Regions, no_regions, region, Blocks, no_blocks, block, Operations, no_operations, operation}
 use Rattle.irtext_base.specs.Format as format
@@ -7,7 +7,7 @@ use Rattle.irtext_grammar.specs.Grammar.Tree.{Name, Mark, Body, Op, Head, Brace,
 use Rattle.irtext_base.specs.Own.{Language, Ends}
 use Rattle.irtext_base.specs.Text.{Text, begins, after_space}
 use Rattle.irtext_base.specs.Format.{Format, has, kind, c7, c8}
-use Rattle.irtext_grammar.specs.Spelling.Fine.{Each, IsWord, IsName, FineEntry, FineParts, FineMark, Enough}
+use Rattle.irtext_grammar.specs.Spelling.Spellable.{Each, IsIdentifier, IsName, IsSpellableEntry, AreSpellable, IsSpellableMark, Enough}
 
 -- the text is at its end, or its first character is of one of these kinds
 abbrev pub OneOf : List ℕ → Text → Type 0
@@ -25,36 +25,36 @@ has_region (region brace bs rs) = true
 
 module _ {P T A : Type 0} (L : Language P T A) where
   -- the body of an operation of this format, which reads uniquely
-  abbrev pub FineBody : Format → Body P T A → Regions (Op P T A) (Head P T A) (Brace P) → Type 0
-  FineBody (format.custom directives) (tree.custom parts) rs = (c8 directives ≡ true) × (map directive parts ≡ map Some directives) × FineParts parts × Enough parts rs
-  FineBody format.canonical (tree.canonical names labels entries operand_types result_types) rs = Each IsName names × Each IsName labels × Each FineEntry entries
-  FineBody _ _ rs = ⊥
+  abbrev pub IsSpellableBody : Format → Body P T A → Regions (Op P T A) (Head P T A) (Brace P) → Type 0
+  IsSpellableBody (format.custom directives) (tree.custom parts) rs = (c8 directives ≡ true) × (map directive parts ≡ map Some directives) × AreSpellable parts × Enough parts rs
+  IsSpellableBody format.canonical (tree.canonical names labels entries operand_types result_types) rs = Each IsName names × Each IsName labels × Each IsSpellableEntry entries
+  IsSpellableBody _ _ rs = ⊥
 
   -- the operation's names are identifiers, and its body is its format's
-  pub record FineOp (op : Op P T A) (regions : Regions (Op P T A) (Head P T A) (Brace P)) : Type 0 where
+  pub record IsSpellableOp (op : Op P T A) (regions : Regions (Op P T A) (Head P T A) (Brace P)) : Type 0 where
     pub names : Each IsName op.names
-    pub dialect : IsWord op.id.dialect
-    pub name : IsWord op.id.name
-    pub mark : FineMark op.mark
+    pub dialect : IsIdentifier op.id.dialect
+    pub name : IsIdentifier op.id.name
+    pub mark : IsSpellableMark op.mark
     pub its_format : Format
     pub is_format : L.format_of op.id ≡ Some its_format
-    pub body : FineBody its_format op.body regions
+    pub body : IsSpellableBody its_format op.body regions
 
   -- an argument's name is an identifier
-  abbrev pub FineArgument : Name P × T → Type 0
-  FineArgument a = IsName a.0
+  abbrev pub IsSpellableArgument : Name P × T → Type 0
+  IsSpellableArgument a = IsName a.0
 
   -- the names in a dictionary are identifiers, if there is one
-  abbrev pub FineEntries : Option (List (Name P × tree.Attribute A)) → Type 0
-  FineEntries None = ⊤
-  FineEntries (Some es) = Each FineEntry es
+  abbrev pub AreSpellableEntries : Option (List (Name P × tree.Attribute A)) → Type 0
+  AreSpellableEntries None = ⊤
+  AreSpellableEntries (Some es) = Each IsSpellableEntry es
 
   -- the names in a block's own are identifiers
-  pub record FineHead (h : Head P T A) : Type 0 where
+  pub record IsSpellableHead (h : Head P T A) : Type 0 where
     pub label : IsName h.label
-    pub arguments : Each FineArgument h.arguments
-    pub attributes : FineEntries h.attributes
-    pub mark : FineMark h.mark
+    pub arguments : Each IsSpellableArgument h.arguments
+    pub attributes : AreSpellableEntries h.attributes
+    pub mark : IsSpellableMark h.mark
 
   -- a region that is shown; or one that is left out, where that is read
   abbrev pub IsRead : Brace P → Blocks (Op P T A) (Head P T A) (Brace P) → Type 0
@@ -71,16 +71,16 @@ module _ {P T A : Type 0} (L : Language P T A) where
     -- all in the blocks can be written and read back
     pub WritableBlocks : Blocks (Op P T A) (Head P T A) (Brace P) → Type 0
     WritableBlocks no_blocks = ⊤
-    WritableBlocks (block h os bs) = FineHead h × WritableOperations os × WritableBlocks bs
+    WritableBlocks (block h os bs) = IsSpellableHead h × WritableOperations os × WritableBlocks bs
 
     -- all operations can be written and read back
     pub WritableOperations : Operations (Op P T A) (Head P T A) (Brace P) → Type 0
     WritableOperations no_operations = ⊤
-    WritableOperations (operation o rs os) = FineOp o rs × WritableRegions rs × WritableOperations os
+    WritableOperations (operation o rs os) = IsSpellableOp o rs × WritableRegions rs × WritableOperations os
 
   -- the tree can be written and read back
   abbrev pub Writable : Tree P T A → Type 0
-  Writable t = FineOp t.own t.regions × WritableRegions t.regions
+  Writable t = IsSpellableOp t.own t.regions × WritableRegions t.regions
 
   -- the root has a region, and behind a region its format has no operand, successor or result type
   pub record Deep (t : Tree P T A) : Type 0 where

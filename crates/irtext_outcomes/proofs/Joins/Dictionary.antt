@@ -17,7 +17,7 @@ use Rattle.irtext_base.proofs.Characters.{is_false}
 use Rattle.irtext_read.specs.AttrTexts.{attr_at}
 use Rattle.irtext_read.specs.ListOutcomes.{separated_at}
 use Rattle.irtext_read.specs.Tokens.{text_at, identifier_at, word_at}
-use Rattle.irtext_grammar.specs.Names.Acts.{keeps_key, key_act}
+use Rattle.irtext_grammar.specs.Names.Acts.{may_hold, key_act}
 use Rattle.irtext_grammar.specs.Spelling.AttrText.{attr_tree}
 use Rattle.irtext_grammar.specs.Graphs.Build.{plain_entry}
 use Rattle.irtext_outcomes.specs.Readers.Positions.{space_at, spaced_at}
@@ -36,17 +36,17 @@ use Rattle.irtext_outcomes.proofs.Joins.Pieces.{space_read}
 use Rattle.irtext_outcomes.proofs.Joins.Tokens.{text_read, text-literal, splits_text, splits_space, word_read, word-identifier, splits_word}
 
 -- ---- what is put in
-allowed_read : {A : Type 0} (o : Outcome (Text × Attribute A)) (e : Text × Attribute A) (taken rest : Text) → allowed_entry o ≡ Read e taken rest → (o ≡ Read e taken rest) × (keeps_key e.0 e.1 ≡ true)
-allowed_read (Read d a r) e taken rest h = go (keeps_key d.0 d.1) refl h
+allowed_read : {A : Type 0} (o : Outcome (Text × Attribute A)) (e : Text × Attribute A) (taken rest : Text) → allowed_entry o ≡ Read e taken rest → (o ≡ Read e taken rest) × (may_hold e.0 e.1 ≡ true)
+allowed_read (Read d a r) e taken rest h = go (may_hold d.0 d.1) refl h
   where
-    go : (b : Bool) → keeps_key d.0 d.1 ≡ b → cond b (Read d a r) (Bad (fault.ReservedKey d.0) []) ≡ Read e taken rest → (Read d a r ≡ Read e taken rest) × (keeps_key e.0 e.1 ≡ true)
-    go true f h = (h, let g : d ≡ e = cc h in subst (λ e. keeps_key e.0 e.1 ≡ true) g f)
+    go : (b : Bool) → may_hold d.0 d.1 ≡ b → cond b (Read d a r) (Bad (fault.ReservedKey d.0) []) ≡ Read e taken rest → (Read d a r ≡ Read e taken rest) × (may_hold e.0 e.1 ≡ true)
+    go true f h = (h, let g : d ≡ e = cc h in subst (λ e. may_hold e.0 e.1 ≡ true) g f)
     go false f h = absurd (cc h)
 allowed_read (Missing cause) e taken rest h = absurd (cc h)
 allowed_read (Bad cause upto) e taken rest h = absurd (cc h)
 
 pub allowed_missing : {A : Type 0} (o : Outcome (Text × Attribute A)) (cause : Fault) → allowed_entry o ≡ Missing cause → o ≡ Missing cause
-allowed_missing (Read d a r) cause h = go (keeps_key d.0 d.1) h
+allowed_missing (Read d a r) cause h = go (may_hold d.0 d.1) h
   where
     go : (b : Bool) → cond b (Read d a r) (Bad (fault.ReservedKey d.0) []) ≡ Missing cause → Read d a r ≡ Missing cause
     go true h = h
@@ -106,7 +106,7 @@ module _ {T A : Type 0} (reading : Text → Outcome A) (types : Texts T) (owns :
       let m = mapped_read (λ a. (key, a)) (attribute_at (attr_at reading) text) e taken rest k.0 in
       (m.0, tree_read m.0 text taken rest m.1, m.2)
 
-  pub keyed_found : (key : Text) (a : Attribute A) (text rest : Text) → keeps_key key a ≡ true → reads.attribute l a text rest
+  pub keyed_found : (key : Text) (a : Attribute A) (text rest : Text) → may_hold key a ≡ true → reads.attribute l a text rest
       → (taken : Text) × (allowed_entry (mapped (λ a. (key, a)) (attribute_at (attr_at reading) text)) ≡ Read (key, a) taken rest)
   keyed_found key a text rest f r =
       let k = tree_found a text rest r in
@@ -120,7 +120,7 @@ module _ {T A : Type 0} (reading : Text → Outcome A) (types : Texts T) (owns :
   key_next key text = followed (spaced_at (codes ":") text) (value_next key)
 
   abbrev pub allowed : Name ℕ × Attribute A → Bool
-  allowed e = keeps_key e.0.text e.1
+  allowed e = may_hold e.0.text e.1
 
   pub splits_entry : Splits reading → Splits (entry_at (attr_at reading))
   splits_entry h = splits_allowed (λ text. followed (identifier_at text) key_next) (splits_followed identifier_at key_next (splits_word _)
@@ -141,7 +141,7 @@ module _ {T A : Type 0} (reading : Text → Outcome A) (types : Texts T) (owns :
           (colon.0, colon.1, subst (λ t. reads.attribute l m.0 t rest) colon.2 (tree_read m.0 g.middle g.more rest m.1)),
         );
         sees = m.2;
-        fine = subst (λ e. keeps_key e.0 e.1 ≡ true) (sym m.2) k.1;
+        fine = subst (λ e. may_hold e.0 e.1 ≡ true) (sym m.2) k.1;
       }
 
   entry_begun : (x : Name ℕ × Attribute A) (text rest : Text) → reads.entry l x text rest → (taken : Text) × (followed (identifier_at text) key_next ≡ Read (plain_entry x) taken rest)
@@ -230,22 +230,22 @@ module _ {T A : Type 0} (reading : Text → Outcome A) (types : Texts T) (owns :
 -- ---- what its entries do
 module _ {A : Type 0} where
   -- keys that are kept do nothing
-  pub keys_quiet : (es : List (Name ℕ × Attribute A)) (then : Script Text ℕ) → list_all (λ e. keeps_key e.0.text e.1) es ≡ true
-      → failures same_text no_scope (does_all (map (key_act keeps_key) es) then) ≡ failures same_text no_scope then
+  pub keys_quiet : (es : List (Name ℕ × Attribute A)) (then : Script Text ℕ) → list_all (λ e. may_hold e.0.text e.1) es ≡ true
+      → failures same_text no_scope (does_all (map (key_act may_hold) es) then) ≡ failures same_text no_scope then
   keys_quiet [] then f = refl
   keys_quiet (e ∷ es) then f =
-      let kept = and_left (keeps_key e.0.text e.1) (list_all (λ e. keeps_key e.0.text e.1) es) f in
-      let others = and_right (keeps_key e.0.text e.1) (list_all (λ e. keeps_key e.0.text e.1) es) f in
-      ap (λ b. cond b [] (record { cause = script.ReservedKey e.0.text; at = Some e.0.place } ∷ []) ++ failures same_text no_scope (does_all (map (key_act keeps_key) es) then)) kept ∙ keys_quiet es then others
+      let kept = and_left (may_hold e.0.text e.1) (list_all (λ e. may_hold e.0.text e.1) es) f in
+      let others = and_right (may_hold e.0.text e.1) (list_all (λ e. may_hold e.0.text e.1) es) f in
+      ap (λ b. cond b [] (record { cause = script.ReservedKey e.0.text; at = Some e.0.place } ∷ []) ++ failures same_text no_scope (does_all (map (key_act may_hold) es) then)) kept ∙ keys_quiet es then others
 
   -- the first key that is not kept fails first
-  pub keys_fail : (before : List (Name ℕ × Attribute A)) (e : Name ℕ × Attribute A) (behind : List (Name ℕ × Attribute A)) (then : Script Text ℕ) → list_all (λ e. keeps_key e.0.text e.1) before ≡ true → keeps_key e.0.text e.1 ≡ false
-      → (fs : List (Failure Text ℕ)) × (failures same_text no_scope (does_all (map (key_act keeps_key) (before ++ (e ∷ behind))) then) ≡ record { cause = script.ReservedKey e.0.text; at = Some e.0.place } ∷ fs)
-  keys_fail [] e behind then f b = (_, ap (λ b. cond b [] (record { cause = script.ReservedKey e.0.text; at = Some e.0.place } ∷ []) ++ failures same_text no_scope (does_all (map (key_act keeps_key) behind) then)) b)
+  pub keys_fail : (before : List (Name ℕ × Attribute A)) (e : Name ℕ × Attribute A) (behind : List (Name ℕ × Attribute A)) (then : Script Text ℕ) → list_all (λ e. may_hold e.0.text e.1) before ≡ true → may_hold e.0.text e.1 ≡ false
+      → (fs : List (Failure Text ℕ)) × (failures same_text no_scope (does_all (map (key_act may_hold) (before ++ (e ∷ behind))) then) ≡ record { cause = script.ReservedKey e.0.text; at = Some e.0.place } ∷ fs)
+  keys_fail [] e behind then f b = (_, ap (λ b. cond b [] (record { cause = script.ReservedKey e.0.text; at = Some e.0.place } ∷ []) ++ failures same_text no_scope (does_all (map (key_act may_hold) behind) then)) b)
   keys_fail (d ∷ before) e behind then f b =
-      let kept = and_left (keeps_key d.0.text d.1) (list_all (λ e. keeps_key e.0.text e.1) before) f in
-      let others = and_right (keeps_key d.0.text d.1) (list_all (λ e. keeps_key e.0.text e.1) before) f in
+      let kept = and_left (may_hold d.0.text d.1) (list_all (λ e. may_hold e.0.text e.1) before) f in
+      let others = and_right (may_hold d.0.text d.1) (list_all (λ e. may_hold e.0.text e.1) before) f in
       let k = keys_fail before e behind then others b in (
         k.0,
-        ap (λ b. cond b [] (record { cause = script.ReservedKey d.0.text; at = Some d.0.place } ∷ []) ++ failures same_text no_scope (does_all (map (key_act keeps_key) (before ++ (e ∷ behind))) then)) kept ∙ k.1,
+        ap (λ b. cond b [] (record { cause = script.ReservedKey d.0.text; at = Some d.0.place } ∷ []) ++ failures same_text no_scope (does_all (map (key_act may_hold) (before ++ (e ∷ behind))) then)) kept ∙ k.1,
       )

@@ -16,10 +16,10 @@ use Rattle.irtext_grammar.specs.Grammar.Tree.{Mark}
 use Rattle.irtext_grammar.specs.Grammar.Section.{Entry, of_item, of_once, entry}
 use Rattle.irtext_grammar.specs.Names.Script.{Failure, does_all, done, UnknownIndex}
 use Rattle.irtext_grammar.specs.Names.Scopes.{Scopes, is_among, failures}
-use Rattle.irtext_grammar.specs.Names.Acts.{entry_acts, keeps_key}
+use Rattle.irtext_grammar.specs.Names.Acts.{entry_acts, may_hold}
 use Rattle.irtext_outcomes.specs.Readers.Parts.{index_at}
 use Rattle.irtext_outcomes.specs.Readers.Section.{content_at, known_index, entry_at, may_have, Entries}
-use Rattle.irtext_outcomes.specs.Promises.Supported.{so_far, location_standing, AreSoFar, DescribeEntries}
+use Rattle.irtext_outcomes.specs.Promises.Supported.{supported, location_standing, AllSupported, DescribeEntries}
 use Rattle.irtext_outcomes.proofs.Joins.Answers.{followed_read, followed-read, mapped_read}
 use Rattle.irtext_outcomes.proofs.Joins.Marks.{index_read, index_found}
 use Rattle.irtext_outcomes.proofs.Joins.Section.{Content, content_read, content_found}
@@ -46,7 +46,7 @@ module _ {T A : Type 0} (dialects : List (Text × Table)) (types : Texts T) (own
   item m x = of_item m x []
 
   abbrev Entry_ : Entry ℕ A (Written A) → Reading
-  Entry_ e = entry (so_far dialects types owns) (location_standing attr) e
+  Entry_ e = entry (supported dialects types owns) (location_standing attr) e
 
   pub entry_reads : (test : ℕ → Bool) (text : Text) (e : ℕ × Option (Written A)) (taken rest : Text) → entry_at attr test text ≡ Read e taken rest
       → Entry_ (item (record { place = length text; index = e.0 }) e.1) text rest × (test e.0 ≡ true)
@@ -110,7 +110,7 @@ behind_entries i indices = record { values = None; labels = None; marks = i ∷ 
 
 -- what is refused of entries there
 abbrev pub refused : {A X : Type 0} → ℕ → List ℕ → List (Entry ℕ A X) → List (Failure Text ℕ)
-refused i indices es = failures same_text (behind_entries i indices) (does_all (flat_map (entry_acts (λ i. keeps_key)) es) done)
+refused i indices es = failures same_text (behind_entries i indices) (does_all (flat_map (entry_acts (λ i. may_hold)) es) done)
 
 -- an index that no mark has, or an entry before
 abbrev pub unknown_at : ℕ → Text → Failure Text ℕ
@@ -135,13 +135,13 @@ module _ {T A : Type 0} (dialects : List (Text × Table)) (types : Texts T) (own
   Said = List (ℕ × Option (Written A))
 
   abbrev pub readings : List (Entry ℕ A (Written A)) → List Reading
-  readings es = map (entry (so_far dialects types owns) (location_standing attr)) es
+  readings es = map (entry (supported dialects types owns) (location_standing attr)) es
 
   -- the entries that stand there, as the grammar has them, of which nothing is refused
   pub record EntriesRead (indices : List ℕ) (es : Said) (text rest : Text) : Type 0 where
     pub entries : List (Entry ℕ A (Written A))
     pub reads : repeated (the 33) (readings entries) text rest
-    pub so_far : AreSoFar entries
+    pub so_far : AllSupported entries
     pub describe : DescribeEntries entries es
     pub allowed : refused i indices entries ≡ []
 
@@ -181,7 +181,7 @@ module _ {T A : Type 0} (dialects : List (Text × Table)) (types : Texts T) (own
     pub failures : List (Failure Text ℕ)
     pub refused_first : refused i indices entries ≡ unknown_at index mid ∷ failures
 
-  pub entries_found : (earlier : Said) (indices : List ℕ) (entries : List (Entry ℕ A (Written A))) (text rest : Text) → Allow (Option (Written A)) i earlier indices → AreSoFar entries → repeated (the 33) (readings entries) text rest
+  pub entries_found : (earlier : Said) (indices : List ℕ) (entries : List (Entry ℕ A (Written A))) (text rest : Text) → Allow (Option (Written A)) i earlier indices → AllSupported entries → repeated (the 33) (readings entries) text rest
       → Accepted earlier indices entries text rest ⊎ Stopped earlier indices entries text
   entries_found earlier indices [] text rest h form (none, e) = inl (record { es = []; stand = e; all = ap (begins (the 33)) e ∙ none; describe = tt; allowed = refl })
   entries_found earlier indices (of_item m x [] ∷ es) text rest h form (mid, r, more) = go (may_have (i ∷ []) earlier m.index) refl (entries_found ((m.index, x) ∷ earlier) (indices ++ (m.index ∷ [])) es (after_space mid) rest (allow_more (Option (Written A)) i earlier indices (m.index, x) h) form more)

@@ -17,7 +17,7 @@ use Rattle.irtext_outcomes.specs.Readers.Operations.{ReadOp, operation_with, led
 use Rattle.irtext_outcomes.specs.Readers.Directives.{Pieces, body_at}
 use Rattle.irtext_grammar.specs.Grammar.Reads as reads
 use Rattle.irtext_grammar.specs.Names.Script.{Failure}
-use Rattle.irtext_outcomes.specs.Promises.Supported.{so_far, IsSoFar, index_of}
+use Rattle.irtext_outcomes.specs.Promises.Supported.{supported, IsSupported, index_of}
 use Rattle.irtext_grammar.specs.Grammar.Tree.{Tree, parts_of}
 use Rattle.irtext_outcomes.proofs.Joins.Answers.{followed_read, followed-read, mapped_read, Splits}
 use Rattle.irtext_outcomes.proofs.Joins.Body.{StopsFor, reserved, not_isolated, Fails, Makes, BodyFound, body_reads, body_stops, body_read, body_found}
@@ -32,7 +32,7 @@ stops_behind taken mid text f cause upto e (not_isolated front) = not_isolated (
 
 module _ {T A : Type 0} (types : Texts T) (reading : Text → Outcome A) (written : A → Text) (dialects : List (Text × Table)) (fronts : Splits reading) where
   abbrev l : Language ℕ T A
-  l = so_far dialects types (texts_of reading written)
+  l = supported dialects types (texts_of reading written)
 
   abbrev attr : Text → Outcome (AttrView A)
   attr = attr_at reading
@@ -68,7 +68,7 @@ module _ {T A : Type 0} (types : Texts T) (reading : Text → Outcome A) (writte
 
   -- What an operation's reader answers, the grammar reads as a tree.
   pub operation_read : (text : Text) (m : ReadOp A) (taken rest : Text) → IsAccepted dialects m.id → root_at dialects attr text ≡ Read m taken rest
-      → (t : Tree ℕ T A) × reads.reads l t text rest × IsSoFar t × Describes t m × (t.own.place ≡ length text) × (taken ++ rest ≡ text)
+      → (t : Tree ℕ T A) × reads.reads l t text rest × IsSupported t × Describes t m × (t.own.place ≡ length text) × (taken ++ rest ≡ text)
   operation_read text m taken rest accepted e =
       let a = followed_read (led_id_at dialects text) body_next m taken rest e in
       let b = followed_read (body_of dialects attr a.value a.middle) (space_next a.value) m a.more rest a.second in
@@ -130,7 +130,7 @@ module _ {T A : Type 0} (types : Texts T) (reading : Text → Outcome A) (writte
   Accepts text = (id : Id) (taken rest : Text) → led_id_at dialects text ≡ Read id taken rest → IsAccepted dialects id
 
   -- What the grammar reads as a tree of this form, an operation's reader answers, up to the first thing that fails.
-  pub operation_found : (t : Tree ℕ T A) (text rest : Text) → Accepts text → reads.reads l t text rest → IsSoFar t → OperationFound t text rest
+  pub operation_found : (t : Tree ℕ T A) (text rest : Text) → Accepts text → reads.reads l t text rest → IsSupported t → OperationFound t text rest
   operation_found t text rest accepts (at, ((f, known, is), (s, lead, (p, id, (q, parts, mark))))) form =
       let behind = lead_found types (texts_of reading written) (format_of dialects) text s (subst (λ ns. reads.results_if l ns (after_space text) s) form.names lead) id.1.0 in
       let i = led_found dialects text t.own.id p f (subst (λ s. reads.id t.own.id s p) (sym behind) id) known in

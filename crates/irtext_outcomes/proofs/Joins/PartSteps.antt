@@ -7,7 +7,7 @@ use Rattle.irtext_base.specs.Format as format
 use Rattle.irtext_base.specs.Format.{Id, Directive, same_text, given_names_key, is_any_region}
 use Rattle.irtext_base.specs.Faults.{Fault}
 use Rattle.irtext_base.specs.Faults as fault
-use Rattle.irtext_grammar.specs.Names.Acts.{keeps_key, parts_script, region_scripts}
+use Rattle.irtext_grammar.specs.Names.Acts.{may_hold, parts_script, region_scripts}
 use Rattle.irtext_grammar.specs.Graphs.Build.{put, put_all, stored, plain_entry}
 use Rattle.irtext_grammar.specs.Grammar.Forest.{Regions, no_regions, region, no_blocks, regions_list}
 use Rattle.irtext_outcomes.specs.Readers.Directives.{Pieces, with_entries, with_regions}
@@ -37,7 +37,7 @@ put_both es [] fs = refl
 put_both es (d ∷ ds) fs = put_both (put d es) ds fs
 
 -- a key that is not reserved is kept
-pub kept : {A : Type 0} (k : Text) (a : Attribute A) → same_text k given_names_key ≡ false → keeps_key k a ≡ true
+pub kept : {A : Type 0} (k : Text) (a : Attribute A) → same_text k given_names_key ≡ false → may_hold k a ≡ true
 kept k a e = rw e refl
 
 -- why the reader stops at a failure: an entry's key is kept for given names, or the operation of a region is not isolated
@@ -92,7 +92,7 @@ module _ {T A : Type 0} (isolated : Id → Bool) where
   pub step_header : (iso : Bool) (found : Pieces A) (n : Name ℕ) (rs : TreeRegions T A) → Step iso found (with_entries found ((format.sym_name_key, tree.ident n.text) ∷ [])) (tree.piece (tree.header n)) rs rs
   step_header iso found n rs = record { attributes = λ ps. refl; count = refl; passes = λ ps. record { passes = λ path j k m then. (j, refl) } }
 
-  pub step_dictionary : (iso : Bool) (found : Pieces A) (es : List (Name ℕ × Attribute A)) (rs : TreeRegions T A) → list_all (λ e. keeps_key e.0.text e.1) es ≡ true
+  pub step_dictionary : (iso : Bool) (found : Pieces A) (es : List (Name ℕ × Attribute A)) (rs : TreeRegions T A) → list_all (λ e. may_hold e.0.text e.1) es ≡ true
       → Step iso found (with_entries found (map plain_entry es)) (tree.piece (tree.dictionary es)) rs rs
   step_dictionary iso found es rs f = record {
     attributes = λ ps. sym (put_both found.attributes (map plain_entry es) (views stored ps));

@@ -13,7 +13,7 @@ use Rattle.irtext_base.specs.Own.{Texts, Language, language, standing}
 use Rattle.irtext_base.proofs.Along.{front_after}
 use Rattle.irtext_read.specs.AttrTexts.{attr_at}
 use Rattle.irtext_read.specs.Tokens.{text_at}
-use Rattle.irtext_grammar.specs.Names.Acts.{parts_script, region_scripts, key_act, keeps_key}
+use Rattle.irtext_grammar.specs.Names.Acts.{parts_script, region_scripts, key_act, may_hold}
 use Rattle.irtext_grammar.specs.Graphs.Build.{put_all, stored, plain_entry}
 use Rattle.irtext_grammar.specs.Grammar.Forest.{no_regions, region, no_blocks, block, regions_list}
 use Rattle.irtext_outcomes.specs.Readers.Positions.{space_at}
@@ -83,7 +83,7 @@ module _ {T A : Type 0} (reading : Text → Outcome A) (types : Texts T) (owns :
         fails = λ path j c d then.
             let then' = parts_script path c d ps (region_scripts isolated path j iso rs) then in
             let fails = keys_fail k.before k.first k.behind then' k.fine k.refused in
-            (fails.0, ap (λ es. failures same_text no_scope (does_all (map (key_act keeps_key) es) then')) k.whole ∙ (fails.1 ∙ ap (λ n. record { cause = script.ReservedKey k.first.0.text; at = Some n } ∷ fails.0) k.read.1.0));
+            (fails.0, ap (λ es. failures same_text no_scope (does_all (map (key_act may_hold) es) then')) k.whole ∙ (fails.1 ∙ ap (λ n. record { cause = script.ReservedKey k.first.0.text; at = Some n } ∷ fails.0) k.read.1.0));
       })
 
   regions_piece : (iso : Bool) (found : Pieces A) (ps : List (Part ℕ T A)) (rs : TreeRegions T A) (text mid rest : Text) → HaveNoBlocks rs → repeated (the 123) (reads.region_readings l rs) (after_space text) mid

@@ -4,7 +4,7 @@ use Rattle.std.specs.Prelude.{flat_map, ⊤}
 use Rattle.std.specs.List.{list_all}
 use Rattle.irtext_base.specs.Text.{Text}
 use Rattle.irtext_base.specs.Format.{Id, same_text}
-use Rattle.irtext_grammar.specs.Names.Acts.{result_types, closing_acts, result_definitions, mark_acts, entry_acts, late_acts, section_acts, region_scripts, operation_script, failures_of, keeps_key, block_marks_in_regions, rule_of, keeps_label_key, tree_script}
+use Rattle.irtext_grammar.specs.Names.Acts.{result_types, closing_acts, result_definitions, mark_acts, entry_acts, late_acts, section_acts, region_scripts, operation_script, failures_of, may_hold, block_marks_in_regions, rule_of, keeps_label_key, tree_script}
 use Rattle.irtext_grammar.specs.Graphs.Build.{Built, BuiltOp, BuiltBlock, build, built_regions, put_all, read_names, inline_entries, with_content, content, located}
 use Rattle.irtext_grammar.specs.Grammar.Forest.{Regions, no_regions, region, no_blocks, block, regions_list}
 use Rattle.irtext_grammar.specs.Grammar.Marked.{regions_marked, marked}
@@ -12,7 +12,7 @@ use Rattle.irtext_outcomes.specs.Readers.Directives.{is_read, IsRead}
 use Rattle.irtext_grammar.specs.Grammar.Section.{Entry, of_item, of_once}
 use Rattle.irtext_grammar.specs.Names.Scopes.{Fact, failures, no_scope, lookup, is_among}
 use Rattle.irtext_grammar.specs.Names.Script.{Path, Script, Act, claim, ResultCount, does_all, done}
-use Rattle.irtext_outcomes.specs.Promises.Supported.{HaveNoBlocks, IsSoFar, AreSoFar, index_of, bare_regions}
+use Rattle.irtext_outcomes.specs.Promises.Supported.{HaveNoBlocks, IsSupported, AllSupported, index_of, bare_regions}
 use Rattle.irtext_grammar.specs.Grammar.Tree as tree
 use Rattle.irtext_grammar.specs.Grammar.Tree.{Mark, Attribute, Name, Piece, Part, Body, Op, Head, Brace, Tree, parts_of, views, in_order, operand_names, successor_labels}
 use Rattle.irtext_outcomes.proofs.Joins.Entries.{behind_entries, refused}
@@ -84,7 +84,7 @@ module _ {T A : Type 0} where
   none_marked (region r (block b os bs) rs) h = absurd h
 
   -- such a tree has a mark where its root has one
-  pub marked_is : (t : Tree ℕ T A) → IsSoFar t → marked t ≡ is_some (index_of t.own.mark)
+  pub marked_is : (t : Tree ℕ T A) → IsSupported t → marked t ≡ is_some (index_of t.own.mark)
   marked_is t form = marked_or (is_some t.own.mark) (regions_marked t.regions) (none_marked t.regions form.blocks) ∙ mark_there t.own.mark
 
 -- ---- what fails behind the pieces
@@ -95,19 +95,19 @@ module _ {T A : Type 0} where
   no_block_marks (region r no_blocks rs) h = no_block_marks rs h
   no_block_marks (region r (block b os bs) rs) h = absurd h
 
-  rule_so_far : (t : Tree ℕ T A) → IsSoFar t → rule_of t ≡ (λ i. keeps_key)
-  rule_so_far t form = ap (λ ms i. cond (is_among i ms) keeps_label_key keeps_key) (no_block_marks t.regions form.blocks)
+  rule_so_far : (t : Tree ℕ T A) → IsSupported t → rule_of t ≡ (λ i. may_hold)
+  rule_so_far t form = ap (λ ms i. cond (is_among i ms) keeps_label_key may_hold) (no_block_marks t.regions form.blocks)
 
-no_late : {A X : Type 0} (all es : List (Entry ℕ A X)) → AreSoFar es → flat_map (late_acts (λ i. keeps_key) all) es ≡ []
+no_late : {A X : Type 0} (all es : List (Entry ℕ A X)) → AllSupported es → flat_map (late_acts (λ i. may_hold) all) es ≡ []
 no_late all [] form = refl
 no_late all (of_item m x [] ∷ es) form = no_late all es form
 no_late all (of_item m x (k ∷ ks) ∷ es) form = absurd form
 no_late all (of_once m a ∷ es) form = absurd form
 
-section_acts-so_far : {A X : Type 0} (es : List (Entry ℕ A X)) → AreSoFar es → section_acts (λ i. keeps_key) es ≡ flat_map (entry_acts (λ i. keeps_key)) es
-section_acts-so_far es form = ap (λ xs. flat_map (entry_acts (λ i. keeps_key)) es ++ xs) (no_late es es form) ∙ append-nil (flat_map (entry_acts (λ i. keeps_key)) es)
+section_acts-so_far : {A X : Type 0} (es : List (Entry ℕ A X)) → AllSupported es → section_acts (λ i. may_hold) es ≡ flat_map (entry_acts (λ i. may_hold)) es
+section_acts-so_far es form = ap (λ xs. flat_map (entry_acts (λ i. may_hold)) es ++ xs) (no_late es es form) ∙ append-nil (flat_map (entry_acts (λ i. may_hold)) es)
 
-module _ {T A : Type 0} (isolated : Id → Bool) (t : Tree ℕ T A) (form : IsSoFar t) where
+module _ {T A : Type 0} (isolated : Id → Bool) (t : Tree ℕ T A) (form : IsSupported t) where
   -- the claim that an operation without result types has no names
   abbrev no_results : Act Text ℕ
   no_results = claim true (record { cause = ResultCount 0 0; at = Some t.own.place })
@@ -120,12 +120,12 @@ module _ {T A : Type 0} (isolated : Id → Bool) (t : Tree ℕ T A) (form : IsSo
   pub record PiecesPass : Type 0 where
     pub passes : (then : Script Text ℕ) → failures same_text no_scope (operation_script [] t.own (region_scripts isolated [] 0 (isolated t.own.id) t.regions) then) ≡ failures same_text no_scope (does_all (closing_acts [] t.own) then)
 
-  pub failures_marked : {X : Type 0} (k : Mark ℕ) (es : List (Entry ℕ A X)) → PiecesPass → t.own.mark ≡ Some k → AreSoFar es → failures_of isolated t es ≡ refused k.index [] es
+  pub failures_marked : {X : Type 0} (k : Mark ℕ) (es : List (Entry ℕ A X)) → PiecesPass → t.own.mark ≡ Some k → AllSupported es → failures_of isolated t es ≡ refused k.index [] es
   failures_marked k es p e so_far =
       ap (λ rules. failures same_text no_scope (tree_script isolated t (does_all (section_acts rules es) done))) (rule_so_far t form)
-      ∙ (p.passes (does_all (section_acts (λ i. keeps_key) es) done)
-      ∙ (ap (λ acts. failures same_text no_scope (does_all acts (does_all (section_acts (λ i. keeps_key) es) done))) closing_is
-      ∙ (ap (λ m. failures same_text no_scope (does_all (no_results ∷ mark_acts m) (does_all (section_acts (λ i. keeps_key) es) done))) e
+      ∙ (p.passes (does_all (section_acts (λ i. may_hold) es) done)
+      ∙ (ap (λ acts. failures same_text no_scope (does_all acts (does_all (section_acts (λ i. may_hold) es) done))) closing_is
+      ∙ (ap (λ m. failures same_text no_scope (does_all (no_results ∷ mark_acts m) (does_all (section_acts (λ i. may_hold) es) done))) e
       ∙ ap (λ xs. failures same_text (behind_entries k.index []) (does_all xs done)) (section_acts-so_far es so_far))))
 
   pub failures_unmarked : (X : Type 0) → PiecesPass → t.own.mark ≡ None → failures_of {A = A} {X = X} isolated t [] ≡ []
@@ -155,7 +155,7 @@ module _ {T A X : Type 0} (isolated : Id → Bool) (first : ℕ → X) (all : Li
   named : (o : Op ℕ T A) → o.names ≡ [] → (inline_entries o ++ read_names (map (λ n. n.text) o.names)) ≡ inline_entries o
   named o e = ap (λ ns. inline_entries o ++ read_names (map (λ n. n.text) ns)) e ∙ append-nil (inline_entries o)
 
-  pub build_plain : (t : Tree ℕ T A) → IsSoFar t → build isolated first all t ≡ plain_built t
+  pub build_plain : (t : Tree ℕ T A) → IsSupported t → build isolated first all t ≡ plain_built t
   build_plain t form = λ i. record {
     own = record {
       id = t.own.id;

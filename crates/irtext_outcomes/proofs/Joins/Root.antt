@@ -18,12 +18,12 @@ use Rattle.irtext_grammar.specs.Grammar.Section as reading
 use Rattle.irtext_grammar.specs.Grammar.Section.{Entry, of_item, of_once, section}
 use Rattle.irtext_grammar.specs.Grammar.Marked.{section_if, reads_root}
 use Rattle.irtext_grammar.specs.Names.Script.{Failure, does_all, done}
-use Rattle.irtext_grammar.specs.Names.Acts.{singles, single_labels, closing_acts, section_acts, failures_of, keeps_key, rule_of}
+use Rattle.irtext_grammar.specs.Names.Acts.{singles, single_labels, closing_acts, section_acts, failures_of, may_hold, rule_of}
 use Rattle.irtext_grammar.specs.Graphs.Build.{build, with_content, content, located}
 use Rattle.irtext_grammar.specs.Contexts.Formats.{isolated, IsAccepted}
 use Rattle.irtext_outcomes.specs.Readers.Operations.{ReadOp, root_at}
 use Rattle.irtext_outcomes.specs.Readers.Section.{may_have, Entries, AllEntries, heading_at}
-use Rattle.irtext_outcomes.specs.Promises.Supported.{so_far, location_standing, IsSoFar, AreSoFar, index_of, DescribeEntries, StopsAt, SectionStands, location_given, operation_built, bare_regions}
+use Rattle.irtext_outcomes.specs.Promises.Supported.{supported, location_standing, IsSupported, AllSupported, index_of, DescribeEntries, StopsAt, SectionStands, location_given, operation_built, bare_regions}
 use Rattle.irtext_outcomes.proofs.Joins.Answers.{Splits}
 use Rattle.irtext_outcomes.proofs.Joins.Body.{StopsFor}
 use Rattle.irtext_outcomes.proofs.Joins.Operation.{Describes, OperationFound, operation_reads, operation_stops, Accepts, operation_read, operation_found}
@@ -50,11 +50,11 @@ module _ {T A : Type 0} (dialects : List (Text × Table)) (types : Texts T) (own
   -- ---- a section
   -- What a section's readers answer, the grammar reads as entries, of which nothing is refused.
   pub section_read : (i : ℕ) (es : List (ℕ × Option (Written A))) (text taken behind rest : Text) → heading_at text ≡ Read tt taken behind → AllEntries attr (i ∷ []) es behind rest
-      → (entries : List (Entry ℕ A (Written A))) × section (so_far dialects types owns) (location_standing attr) entries text rest × AreSoFar entries × DescribeEntries entries es × (refused i [] entries ≡ [])
+      → (entries : List (Entry ℕ A (Written A))) × section (supported dialects types owns) (location_standing attr) entries text rest × AllSupported entries × DescribeEntries entries es × (refused i [] entries ≡ [])
   section_read i es text taken behind rest e all =
       let h = spaced_read (codes "outlined_attributes:") text taken behind e in
       let k = entries_read dialects types owns attr i [] [] es behind rest (allow_first (Option (Written A)) i) all.0 all.1 in
-      (k.entries, (h.0, h.1, subst (λ s. repeated (the 33) (map (reading.entry (so_far dialects types owns) (location_standing attr)) k.entries) s rest) (sym h.2) k.reads), k.so_far, k.describe, k.allowed)
+      (k.entries, (h.0, h.1, subst (λ s. repeated (the 33) (map (reading.entry (supported dialects types owns) (location_standing attr)) k.entries) s rest) (sym h.2) k.reads), k.so_far, k.describe, k.allowed)
 
   -- the reader stops at one of the entries, which is the first that is refused
   pub record Stops (i : ℕ) (entries : List (Entry ℕ A (Written A))) (text : Text) : Type 0 where
@@ -72,7 +72,7 @@ module _ {T A : Type 0} (dialects : List (Text × Table)) (types : Texts T) (own
     pub allowed : refused i [] entries ≡ []
 
   -- What the grammar reads as a section of this form, its readers answer, up to the first entry that is refused.
-  pub section_found : (i : ℕ) (entries : List (Entry ℕ A (Written A))) (text rest : Text) → section (so_far dialects types owns) (location_standing attr) entries text rest → AreSoFar entries
+  pub section_found : (i : ℕ) (entries : List (Entry ℕ A (Written A))) (text rest : Text) → section (supported dialects types owns) (location_standing attr) entries text rest → AllSupported entries
       → (taken behind : Text) × (heading_at text ≡ Read tt taken behind) × (Stand i entries behind rest ⊎ Stops i entries behind)
   section_found i entries text rest (m, e, r) form =
       let h = spaced_found (codes "outlined_attributes:") text m e in
@@ -104,11 +104,11 @@ module _ {T A : Type 0} (types : Texts T) (reading : Text → Outcome A) (writte
 
   -- ---- a root
   -- nothing of the pieces fails where the reader read them
-  pieces_pass : (t : Tree ℕ T A) (m : ReadOp A) (form : IsSoFar t) → Describes types reading written dialects fronts t m → PiecesPass (isolated dialects) t form
+  pieces_pass : (t : Tree ℕ T A) (m : ReadOp A) (form : IsSupported t) → Describes types reading written dialects fronts t m → PiecesPass (isolated dialects) t form
   pieces_pass t m form d = record { passes = λ then. d.makes.passes.passes (singles (parts_of t.own.body)) (single_labels (parts_of t.own.body)) (does_all (closing_acts [] t.own) then) }
 
   -- what is refused of an operation with a mark is what is refused of its entries
-  failures_of-marked : (t : Tree ℕ T A) (m : ReadOp A) (i : ℕ) (entries : List (Entry ℕ A (Written A))) → IsSoFar t → Describes types reading written dialects fronts t m → m.mark ≡ Some i → AreSoFar entries
+  failures_of-marked : (t : Tree ℕ T A) (m : ReadOp A) (i : ℕ) (entries : List (Entry ℕ A (Written A))) → IsSupported t → Describes types reading written dialects fronts t m → m.mark ≡ Some i → AllSupported entries
       → failures_of (isolated dialects) t entries ≡ refused i [] entries
   failures_of-marked t m i entries form d is_marked entries_form = go t.own.mark refl (d.mark ∙ is_marked)
     where
@@ -117,7 +117,7 @@ module _ {T A : Type 0} (types : Texts T) (reading : Text → Outcome A) (writte
       go (Some k) f e = let g : k.index ≡ i = cc e in failures_marked (isolated dialects) t form k entries (pieces_pass t m form d) f entries_form ∙ ap (λ i. refused i [] entries) g
 
   -- nothing is refused of an operation without a mark
-  failures_of-unmarked : (t : Tree ℕ T A) (m : ReadOp A) → IsSoFar t → Describes types reading written dialects fronts t m → m.mark ≡ None → failures_of {X = Written A} (isolated dialects) t [] ≡ []
+  failures_of-unmarked : (t : Tree ℕ T A) (m : ReadOp A) → IsSupported t → Describes types reading written dialects fronts t m → m.mark ≡ None → failures_of {X = Written A} (isolated dialects) t [] ≡ []
   failures_of-unmarked t m form d is_unmarked = go t.own.mark refl (d.mark ∙ is_unmarked)
     where
       go : (k : Option (Mark ℕ)) → t.own.mark ≡ k → index_of k ≡ None → failures_of {X = Written A} (isolated dialects) t [] ≡ []
@@ -148,7 +148,7 @@ module _ {T A : Type 0} (types : Texts T) (reading : Text → Outcome A) (writte
   sets (Some k) (e ∷ es) (of_once m a ∷ entries) text rest s d = absurd d
 
   -- the graph of an operation: its location is its entry's, else the one of its place
-  build-so_far : (t : Tree ℕ T A) (m : ReadOp A) (es : List (ℕ × Option (Written A))) (entries : List (Entry ℕ A (Written A))) (first : ℕ → Written A) (text mid rest : Text) → IsSoFar t → Describes types reading written dialects fronts t m → t.own.place ≡ length text
+  build-so_far : (t : Tree ℕ T A) (m : ReadOp A) (es : List (ℕ × Option (Written A))) (entries : List (Entry ℕ A (Written A))) (first : ℕ → Written A) (text mid rest : Text) → IsSupported t → Describes types reading written dialects fronts t m → t.own.place ≡ length text
       → SectionStands attr m.mark es mid rest → DescribeEntries entries es → build (isolated dialects) first entries t ≡ operation_built m.id m.pieces (location_given (first (length text)) es)
   build-so_far t m es entries first text mid rest form d place s says =
       let k = sets t.own.mark es entries mid rest (subst (λ k. SectionStands attr k es mid rest) (sym d.mark) s) says in
@@ -170,9 +170,9 @@ module _ {T A : Type 0} (types : Texts T) (reading : Text → Outcome A) (writte
   pub record RootRead (m : ReadOp A) (es : List (ℕ × Option (Written A))) (text rest : Text) : Type 0 where
     pub t : Tree ℕ T A
     pub entries : List (Entry ℕ A (Written A))
-    pub reads : reads_root (so_far dialects types owns) (location_standing attr) t entries text rest
-    pub form : IsSoFar t
-    pub entries_form : AreSoFar entries
+    pub reads : reads_root (supported dialects types owns) (location_standing attr) t entries text rest
+    pub form : IsSupported t
+    pub entries_form : AllSupported entries
     pub whole : Resolves t entries m es text
 
   -- What the readers of an operation and of its section answer, the grammar reads as a root that resolves, and this is built of it.
@@ -182,12 +182,12 @@ module _ {T A : Type 0} (types : Texts T) (reading : Text → Outcome A) (writte
       let t = r.0 in
       go t r.1 r.2 r.3 r.4 m.mark refl es s
     where
-      go : (t : Tree ℕ T A) → reads.reads (so_far dialects types owns) t text mid → IsSoFar t → Describes types reading written dialects fronts t m → t.own.place ≡ length text → (k : Option ℕ) → m.mark ≡ k → (es : List (ℕ × Option (Written A))) → SectionStands attr k es mid rest
+      go : (t : Tree ℕ T A) → reads.reads (supported dialects types owns) t text mid → IsSupported t → Describes types reading written dialects fronts t m → t.own.place ≡ length text → (k : Option ℕ) → m.mark ≡ k → (es : List (ℕ × Option (Written A))) → SectionStands attr k es mid rest
           → RootRead m es text rest
       go t r form d place None e [] s = record {
         t = t;
         entries = [];
-        reads = (mid, r, subst (λ b. section_if (so_far dialects types owns) (location_standing attr) b [] mid rest) (sym (marked_is t form ∙ ap is_some (d.mark ∙ e))) s);
+        reads = (mid, r, subst (λ b. section_if (supported dialects types owns) (location_standing attr) b [] mid rest) (sym (marked_is t form ∙ ap is_some (d.mark ∙ e))) s);
         form = form;
         entries_form = tt;
         whole = record {
@@ -202,7 +202,7 @@ module _ {T A : Type 0} (types : Texts T) (reading : Text → Outcome A) (writte
           record {
             t = t;
             entries = k.0;
-            reads = (mid, r, subst (λ b. section_if (so_far dialects types owns) (location_standing attr) b k.0 mid rest) (sym (marked_is t form ∙ ap is_some (d.mark ∙ e))) k.1);
+            reads = (mid, r, subst (λ b. section_if (supported dialects types owns) (location_standing attr) b k.0 mid rest) (sym (marked_is t form ∙ ap is_some (d.mark ∙ e))) k.1);
             form = form;
             entries_form = k.2;
             whole = record {
@@ -245,18 +245,18 @@ module _ {T A : Type 0} (types : Texts T) (reading : Text → Outcome A) (writte
     root_stops : RootStops t entries text → RootFound t entries text rest
 
   -- What the grammar reads as a root of this form, the readers answer, up to the first thing that is refused.
-  pub root_found : (t : Tree ℕ T A) (entries : List (Entry ℕ A (Written A))) (text rest : Text) → Accepts types reading written dialects fronts text → reads_root (so_far dialects types owns) (location_standing attr) t entries text rest → IsSoFar t → AreSoFar entries
+  pub root_found : (t : Tree ℕ T A) (entries : List (Entry ℕ A (Written A))) (text rest : Text) → Accepts types reading written dialects fronts text → reads_root (supported dialects types owns) (location_standing attr) t entries text rest → IsSupported t → AllSupported entries
       → RootFound t entries text rest
   root_found t entries text rest accepts (mid, r, s) form entries_form = found (operation_found types reading written dialects fronts t text mid accepts r form)
     where
-      go : (m : ReadOp A) → Describes types reading written dialects fronts t m → (k : Option ℕ) → m.mark ≡ k → (entries : List (Entry ℕ A (Written A))) → AreSoFar entries → section_if (so_far dialects types owns) (location_standing attr) (is_some m.mark) entries mid rest
+      go : (m : ReadOp A) → Describes types reading written dialects fronts t m → (k : Option ℕ) → m.mark ≡ k → (entries : List (Entry ℕ A (Written A))) → AllSupported entries → section_if (supported dialects types owns) (location_standing attr) (is_some m.mark) entries mid rest
           → Behind t entries m text mid rest
       go m d None e [] es_form s =
-          let s' : SectionStands attr m.mark [] mid rest = subst (λ k. SectionStands attr k [] mid rest) (sym e) (subst (λ b. section_if (so_far dialects types owns) (location_standing attr) b [] mid rest) (ap is_some e) s) in
+          let s' : SectionStands attr m.mark [] mid rest = subst (λ k. SectionStands attr k [] mid rest) (sym e) (subst (λ b. section_if (supported dialects types owns) (location_standing attr) b [] mid rest) (ap is_some e) s) in
           inl ([], s', record { says = tt; resolves = failures_of-unmarked t m form d e; builds = λ first. build-so_far t m [] [] first text mid rest form d r.0 s' tt })
-      go m d None e (f ∷ es) es_form s = absurd (subst (λ b. section_if (so_far dialects types owns) (location_standing attr) b (f ∷ es) mid rest) (ap is_some e) s)
+      go m d None e (f ∷ es) es_form s = absurd (subst (λ b. section_if (supported dialects types owns) (location_standing attr) b (f ∷ es) mid rest) (ap is_some e) s)
       go m d (Some i) e entries es_form s =
-          let k = section_found dialects types owns attr i entries mid rest (subst (λ b. section_if (so_far dialects types owns) (location_standing attr) b entries mid rest) (ap is_some e) s) es_form in
+          let k = section_found dialects types owns attr i entries mid rest (subst (λ b. section_if (supported dialects types owns) (location_standing attr) b entries mid rest) (ap is_some e) s) es_form in
           last k.0 k.1 k.2 k.3
         where
           refused_is : failures_of (isolated dialects) t entries ≡ refused i [] entries
@@ -281,7 +281,7 @@ module _ {T A : Type 0} (types : Texts T) (reading : Text → Outcome A) (writte
 
       found : OperationFound types reading written dialects fronts t text mid → RootFound t entries text rest
       found (operation_reads m taken e d) =
-          root_reads m taken mid e (go m d m.mark refl entries entries_form (subst (λ b. section_if (so_far dialects types owns) (location_standing attr) b entries mid rest) (marked_is t form ∙ ap is_some d.mark) s))
+          root_reads m taken mid e (go m d m.mark refl entries entries_form (subst (λ b. section_if (supported dialects types owns) (location_standing attr) b entries mid rest) (marked_is t form ∙ ap is_some d.mark) s))
       found (operation_stops k) =
           let f = k.fails.fails (singles (parts_of t.own.body)) (single_labels (parts_of t.own.body)) (does_all (closing_acts [] t.own) (does_all (section_acts (rule_of t) entries) done)) in
           root_stops (record { cause = k.cause; upto = k.upto; failure = k.failure; is_bad = k.is_bad; failures = f.0; refused_first = f.1; stops = k.stops })

@@ -16,7 +16,7 @@ use Rattle.irtext_grammar.specs.Grammar.Section.{located}
 use Rattle.irtext_outcomes.specs.Readers.Locations.{location_at}
 use Rattle.irtext_outcomes.specs.Readers.Positions.{space_at, spaced_at}
 use Rattle.irtext_outcomes.specs.Readers.Section.{entry_location_at, content_at}
-use Rattle.irtext_outcomes.specs.Promises.Supported.{so_far, location_standing}
+use Rattle.irtext_outcomes.specs.Promises.Supported.{supported, location_standing}
 use Rattle.irtext_outcomes.proofs.Joins.Answers.{followed_read, followed-read, mapped_read}
 use Rattle.irtext_outcomes.proofs.Joins.Tokens.{text_read, text-literal}
 
@@ -81,7 +81,7 @@ module _ {A : Type 0} (attr : Text → Outcome (AttrView A)) where
 module _ {T A : Type 0} (dialects : List (Text × Table)) (types : Texts T) (owns : Texts A) (attr : Text → Outcome (AttrView A)) where
   -- a location between its brackets, as the grammar has it
   abbrev Located : Option (Written A) → Reading
-  Located = located (so_far dialects types owns) (location_standing attr)
+  Located = located (supported dialects types owns) (location_standing attr)
 
   -- the location's text, where no white space stands in front
   entry_location_read : (text : Text) (x : Option (Written A)) (taken rest : Text) → after_space text ≡ text → entry_location_at attr text ≡ Read x taken rest

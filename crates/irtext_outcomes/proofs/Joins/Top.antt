@@ -20,8 +20,8 @@ use Rattle.irtext_grammar.specs.Contexts.Formats.{isolated}
 use Rattle.irtext_outcomes.specs.Readers.Operations.{ReadOp, root_at}
 use Rattle.irtext_grammar.specs.Names.Script.{Failure}
 use Rattle.irtext_grammar.specs.Grammar.Section.{Entry}
-use Rattle.irtext_outcomes.specs.Readers.SectionRead.{IsReported, ReportedAt}
-use Rattle.irtext_outcomes.specs.Promises.Supported.{so_far, location_standing, IsSoFar, AreSoFar, RootRefused}
+use Rattle.irtext_outcomes.specs.Promises.Section.{IsReported, ReportedAt}
+use Rattle.irtext_outcomes.specs.Promises.Supported.{supported, location_standing, IsSupported, AllSupported, RootRefused}
 use Rattle.irtext_grammar.specs.Contexts.Held.{whole, StandsAt}
 use Rattle.irtext_outcomes.specs.Promises.Root.{location_of, ReadsRoot, BuildsRoot, IsCause, IsPlace, IsFirst, RefusesRoot}
 use Rattle.irtext_grammar.specs.Grammar.Tree.{Tree}
@@ -74,7 +74,7 @@ module _ {T A : Type 0} (types : Texts T) (reading : Text → Outcome A) (writte
           (at.because ∙ sym e, place stop h (ap (λ u. u ++ stop) (sym g) ∙ whole))
       stopped c u f (not_isolated front) e g = (at.because ∙ sym e, subst (λ c. IsReported c (old.passed ++ upto) fault.pos) (sym e) at.place)
 
-      first : (tree : Tree ℕ T A) (entries : List (Entry ℕ A (Written A))) (rest : Text) → reads_root (so_far dialects types (texts_of reading written)) (location_standing (attr_at reading)) tree entries old.rest rest → IsSoFar tree → AreSoFar entries
+      first : (tree : Tree ℕ T A) (entries : List (Entry ℕ A (Written A))) (rest : Text) → reads_root (supported dialects types (texts_of reading written)) (location_standing (attr_at reading)) tree entries old.rest rest → IsSupported tree → AllSupported entries
           → IsFirst (whole old) (failures_of (isolated dialects) tree entries) fault
       first tree entries rest reads form entries_form = go (root_found types reading written dialects fronts tree entries old.rest rest (refused_accepts types reading written dialects fronts old.rest cause upto refused) reads form entries_form)
         where

@@ -6,7 +6,7 @@ use Rattle.irtext_base.specs.Answers.{Outcome, Read, followed, mapped}
 use Rattle.irtext_base.proofs.Characters.{after_stops}
 use Rattle.irtext_read.specs.Tokens.{text_at}
 use Rattle.irtext_outcomes.specs.Readers.Positions.{space_at, spaced_at}
-use Rattle.irtext_outcomes.specs.Promises.WrittenBack.{GivesBack}
+use Rattle.irtext_outcomes.specs.Promises.LocationsBack.{GivesBack}
 use Rattle.irtext_outcomes.proofs.Joins.Answers.{followed-read}
 use Rattle.irtext_outcomes.proofs.Joins.Tokens.{front-after, text-literal}
 

@@ -6,11 +6,11 @@ use Rattle.irtext_base.specs.Faults.{Fault, fault_of}
 use Rattle.irtext_base.specs.Answers.{Outcome, Read, Missing, Bad, Takes, Starves, Refuses, Gives, demanded, unless_failed}
 use Rattle.irtext_base.specs.declared.parsable.fault.ParseFault.{ParseFault}
 use Rattle.irtext_base.proofs.Compose.{takes_more}
-use Rattle.irtext_outcomes.specs.Readers.MustRead.{MustRead, MayRead}
-use Rattle.irtext_outcomes.specs.Readers.Roots.{itself, replaced}
-use Rattle.irtext_outcomes.specs.Readers.SectionRead.{Moves, FaultAt, Faults, IsReported, ReportedAt, Reports}
+use Rattle.irtext_read.specs.MustRead.{MustRead, MayRead}
+use Rattle.irtext_outcomes.specs.Readers.Streams.{itself, replaced}
+use Rattle.irtext_outcomes.specs.Promises.Section.{Moves, FaultAt, Faults, IsReported, ReportedAt, Reports}
 use Rattle.irtext_outcomes.specs.Promises.Supported.{RefusedAs}
-use Rattle.irtext_outcomes.proofs.Readers.Rooted.{alone}
+use Rattle.irtext_outcomes.proofs.Readers.PlainStream.{alone}
 
 -- a value was read of the stream's text
 pub record Answered {X : Type 0} (o : Outcome X) (old : StreamView) (x : X) (new : StreamView) : Type 0 where

@@ -11,12 +11,13 @@ use Rattle.irtext_base.specs.declared.base.identifier.OpId.{OpId}
 use Rattle.irtext_base.specs.declared.parsable.fault.ParseFault.{ParseFault}
 use Rattle.irtext_grammar.specs.Contexts.Formats.{IsAccepted}
 use Rattle.irtext_outcomes.specs.Readers.Positions.{space_at}
-use Rattle.irtext_outcomes.specs.Readers.MustRead.{MayRead}
-use Rattle.irtext_outcomes.specs.Readers.OperationRead.{operation_at}
+use Rattle.irtext_read.specs.MustRead.{MayRead}
+use Rattle.irtext_outcomes.specs.Promises.Operation.{operation_at}
 use Rattle.irtext_outcomes.specs.Readers.Operations.{ReadOp, operation_with, led_id_at, body_of}
 use Rattle.irtext_outcomes.specs.Readers.Directives.{Pieces}
-use Rattle.irtext_outcomes.specs.Readers.Roots.{itself, replaced, fresh_mark_at}
-use Rattle.irtext_outcomes.specs.Readers.SectionRead.{Faults}
+use Rattle.irtext_outcomes.specs.Readers.Marks.{fresh_mark_at}
+use Rattle.irtext_outcomes.specs.Readers.Streams.{itself, replaced}
+use Rattle.irtext_outcomes.specs.Promises.Section.{Faults}
 use Rattle.irtext_outcomes.specs.Promises.Supported.{RefusedAs, OperationRefused}
 use Rattle.irtext_outcomes.proofs.Readers.Answered.{may_not_answered, may_answered, faults_as}
 

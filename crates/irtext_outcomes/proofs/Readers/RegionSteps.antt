@@ -12,10 +12,10 @@ use Rattle.irtext_read.proofs.Spelling.{begins_the}
 use Rattle.irtext_read.proofs.Steps.{onward}
 use Rattle.irtext_outcomes.specs.Readers.Positions.{space_at}
 use Rattle.irtext_outcomes.specs.Readers.Parts.{braces_at}
-use Rattle.irtext_outcomes.specs.Readers.MustRead.{MustRead}
+use Rattle.irtext_read.specs.MustRead.{MustRead}
 use Rattle.irtext_outcomes.specs.Readers.Directives.{region_at, regions_after, regions_at}
-use Rattle.irtext_outcomes.specs.Readers.Roots.{itself, replaced}
-use Rattle.irtext_outcomes.proofs.Readers.Rooted.{alone}
+use Rattle.irtext_outcomes.specs.Readers.Streams.{itself, replaced}
+use Rattle.irtext_outcomes.proofs.Readers.PlainStream.{alone}
 use Rattle.irtext_outcomes.proofs.Readers.Steps.{Passed, starts, ends, more, spaced}
 
 -- what is left behind characters that were taken

@@ -27,16 +27,17 @@ use Rattle.irtext_read.specs.declared.parsable.state.StateStream.{StateStream}
 use Rattle.irtext_grammar.specs.Grammar.Forest.{no_blocks}
 use Rattle.irtext_grammar.specs.Grammar.Forest as forest
 use Rattle.irtext_outcomes.specs.Readers.Parts.{mark_at}
-use Rattle.irtext_outcomes.specs.Readers.OperationRead.{operation_at, ReadsOperation}
+use Rattle.irtext_outcomes.specs.Promises.Operation.{operation_at, ReadsOperation}
 use Rattle.irtext_outcomes.specs.Readers.Operations.{operation_by, root_at}
 use Rattle.irtext_outcomes.specs.Readers.NewPaths.{AddsPaths}
 use Rattle.irtext_grammar.specs.Names.Placeholders.{In}
-use Rattle.irtext_outcomes.specs.Readers.Roots.{unnoted, fresh_mark_at, noted, made_view}
-use Rattle.irtext_outcomes.specs.Readers.SectionRead.{indices_of, given_over, entry_over, entries_over, is_noted, Moves, Reports, Locates, Applies, AppliesAll, ReadsSection, ReadsWith, MissesWith, no_operation, no_section}
+use Rattle.irtext_outcomes.specs.Readers.Marks.{unnoted, fresh_mark_at, noted}
+use Rattle.irtext_outcomes.specs.Readers.Streams.{made_view}
+use Rattle.irtext_outcomes.specs.Promises.Section.{indices_of, given_over, entry_over, entries_over, is_noted, Moves, Reports, Locates, Applies, AppliesAll, ReadsSection, ReadsWith, MissesWith, no_operation, no_section}
 use Rattle.irtext_outcomes.specs.Readers.Section.{may_have, Entries, AllEntries}
 use Rattle.irtext_outcomes.specs.Promises.Supported as so_far
 use Rattle.irtext_outcomes.specs.Promises.Supported.{OperationRefused, SectionRefused, RootRefused, SectionStands, location_given, bare_regions, operation_built}
-use Rattle.irtext_grammar.specs.Contexts.Held.{entries_of, empty_regions, stood_operation, built_of, stands, whole, location_over}
+use Rattle.irtext_grammar.specs.Contexts.Held.{entries_of, empty_regions, stood_operation, built_of, held_root, whole, location_over}
 use Rattle.irtext_outcomes.specs.Promises.Root.{position_behind, location_of, OnlyNew, IsFresh, ReadsRoot}
 use Rattle.irtext_outcomes.proofs.Readers.Answered.{may_answered, moves_none, moves_more, moves_taken, reports_as, reports_behind}
 use Rattle.irtext_base.proofs.LocationViews.{seen-src_pos}
@@ -281,7 +282,7 @@ module _ {T A : Type 0} (attr : Text → Outcome (AttrView A)) where
 
   -- what stands behind an operation is what is built of it
   built_stands : {old new : ContextView T A} {op : Ptr Operation} (n : ℕ) (id : OpId) (attributes : List (Text × AttrObj A)) (rs : List (Ptr Region)) (loc : Location A) → length rs ≡ n → Stood old new op (record (made_view id attributes loc) { regions = rs })
-      → stands new op ≡ Some (operation_built (id_of id) (record { attributes = entries_of attributes; regions = n }) (location_over new.paths loc))
+      → held_root new op ≡ Some (operation_built (id_of id) (record { attributes = entries_of attributes; regions = n }) (location_over new.paths loc))
   built_stands {new = new} n id attributes rs loc count s =
       let count_is = bare_count rs ∙ ap bare_regions count in
       ap (λ o. option_map (built_of new.paths) (option_map (λ (x : Object (OperationView T A)). x.content) o)) s.here

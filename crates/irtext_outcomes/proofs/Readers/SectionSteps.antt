@@ -17,9 +17,9 @@ use Rattle.irtext_base.specs.declared.location.Location.{Location}
 use Rattle.irtext_base.specs.declared.parsable.fault.ParseFault.{ParseFault}
 use Rattle.irtext_read.specs.States.{same_index}
 use Rattle.irtext_outcomes.specs.Readers.Parts.{index_at}
-use Rattle.irtext_outcomes.specs.Readers.Roots.{may_follow}
+use Rattle.irtext_outcomes.specs.Readers.Marks.{may_follow}
 use Rattle.irtext_outcomes.specs.Readers.Section.{content_at, known_index, entry_at, may_have, Entries}
-use Rattle.irtext_outcomes.specs.Readers.SectionRead.{indices_of, known_given, given_over, known_entry, entry_over, entries_over, is_noted, Moves, Faults, Applies, AppliesAll, ReadsEntry, given_kept, entries_kept}
+use Rattle.irtext_outcomes.specs.Promises.Section.{indices_of, known_given, given_over, known_entry, entry_over, entries_over, is_noted, Moves, Faults, Applies, AppliesAll, ReadsEntry, given_kept, entries_kept}
 use Rattle.irtext_outcomes.specs.Promises.Supported.{RefusedAs, EntriesRefused}
 use Rattle.irtext_outcomes.proofs.Readers.Answered.{faults_behind}
 use Rattle.irtext_outcomes.proofs.Joins.Answers.{followed_read, mapped_read}

@@ -17,7 +17,7 @@ use Rattle.irtext_read.specs.AttrTexts.{leads, given_name_at, names_at, given_na
 use Rattle.irtext_read.proofs.Attributes.{names_lead, ident_leads, own_leads}
 use Rattle.irtext_read.proofs.Grammar.{identifier_at-identifier}
 use Rattle.irtext_grammar.specs.Spelling.AttrText.{attr_text, FineAttr}
-use Rattle.irtext_grammar.specs.Spelling.Fine.{Each, IsWord, IsGiven}
+use Rattle.irtext_grammar.specs.Spelling.Spellable.{Each, IsIdentifier, IsGiven}
 use Rattle.irtext_grammar.specs.Spelling.Spell.{joined, joined_from, comma, or_question}
 
 -- what is behind a front does not begin so
@@ -30,7 +30,7 @@ pub leads_keyword : (word text : Text) → leads word text ≡ true → keyword 
 leads_keyword word text e = (sym (front_after in_dotted text) ∙ ap (λ z. z ++ after in_dotted text) ((bytes_decides (front in_dotted text) word).0 e), after_begins in_dotted text)
 
 -- an identifier before what does not go on with it
-word_back : (n f : Text) → IsWord n → begins in_word f ≡ false → identifier_at (n ++ f) ≡ Read n n f
+word_back : (n f : Text) → IsIdentifier n → begins in_word f ≡ false → identifier_at (n ++ f) ≡ Read n n f
 word_back n f w e = identifier_at-identifier n (n ++ f) f (identifier_begins n f w, sym (front_all in_word n f (identifier_every n w) e), sym (after_all in_word n f (identifier_every n w) e))
 
 word_no_question : (c : ℕ) → begins_word c ≡ true → the 63 c ≡ false
@@ -113,7 +113,7 @@ module _ (rest : Text) where
         ap (λ z. prefixed (codes "builtin.given_names") (prefixed (32 ∷ []) (prefixed (91 ∷ []) (prefixed spaces (followed z (λ names x. mapped (λ _. names) (text_at (codes "]") x))))))) (ap names_at (inside_tight ns h) ∙ n.1),
       )
 
-  ident_back : (n : Text) → IsWord n → begins in_word rest ≡ false → (taken : Text) × (ident_at (codes "builtin.identifier " ++ (n ++ rest)) ≡ Read n taken rest)
+  ident_back : (n : Text) → IsIdentifier n → begins in_word rest ≡ false → (taken : Text) × (ident_at (codes "builtin.identifier " ++ (n ++ rest)) ≡ Read n taken rest)
   unfolding ident_at
   ident_back n h e =
       let spaces = 32 ∷ front is_whitespace (n ++ rest) in (

@@ -20,10 +20,10 @@ use Rattle.irtext_grammar.specs.Contexts.Held.{location_over}
 use Rattle.irtext_outcomes.specs.Promises.PrintedBack.{locations}
 use Rattle.irtext_grammar.specs.Graphs.RoundTrip.{LocationReads}
 use Rattle.irtext_outcomes.specs.Promises.Supported.{location_standing}
-use Rattle.irtext_outcomes.specs.Promises.WrittenBack.{AttrReads, AllRead, RowRead, AllFit, left_behind}
+use Rattle.irtext_outcomes.specs.Promises.LocationsBack.{AttrReads, AllRead, RowRead, AllFit, left_behind}
 use Rattle.irtext_outcomes.proofs.RoundTrips.AttrBack.{attr_back}
 use Rattle.irtext_outcomes.proofs.Joins.Attributes.{splits_attr}
-use Rattle.irtext_outcomes.proofs.Locations.LocationComesBack.{left_space, location_back}
+use Rattle.irtext_outcomes.proofs.Locations.ComesBack.{left_space, location_back}
 
 -- no digit is `]`
 stops : (rest : Text) → begins (the 93) rest ≡ true → begins is_ascii_digit rest ≡ false

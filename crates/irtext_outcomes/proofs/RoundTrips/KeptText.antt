@@ -15,14 +15,14 @@ use Rattle.irtext_base.specs.declared.parsable.position.SourcePosition.{SourcePo
 use Rattle.irtext_base.specs.declared.location.Location.{Location, Unknown}
 use Rattle.irtext_base.proofs.Scalars.{AreScalars, scalars_more, scalars_ascii, scalars_quoted}
 use Rattle.irtext_grammar.specs.Spelling.AttrText.{FineAttr, attr_text}
-use Rattle.irtext_grammar.specs.Spelling.Fine.{Each, IsWord, IsGiven}
+use Rattle.irtext_grammar.specs.Spelling.Spellable.{Each, IsIdentifier, IsGiven}
 use Rattle.irtext_outcomes.specs.Promises.KeptRoot.{AllHold, RowHold}
 use Rattle.irtext_outcomes.specs.Readers.Locations.{WrittenRow}
 use Rattle.irtext_grammar.specs.Spelling.Locations.{source_text, metadata_text, written_text, row_texts, known_text}
 use Rattle.irtext_grammar.specs.Contexts.Held.{location_over}
 use Rattle.irtext_outcomes.specs.Promises.PrintedBack.{Fits32}
 use Rattle.irtext_grammar.specs.Spelling.Spell.{joined, joined_from, comma, or_question}
-use Rattle.irtext_outcomes.specs.Promises.WrittenBack.{AllFit, RowFit}
+use Rattle.irtext_outcomes.specs.Promises.LocationsBack.{AllFit, RowFit}
 use Rattle.irtext_grammar.proofs.Lists.Ascii.{ascii-identifier, ascii-position}
 
 -- ---- texts in a row
@@ -35,7 +35,7 @@ scalars_joined [] h = refl
 scalars_joined (t ∷ ts) h = scalars_more t (joined_from comma ts) h.0 (scalars_from ts h.1)
 
 -- ---- attributes
-pub scalars_word : (n : Text) → IsWord n → AreScalars n
+pub scalars_word : (n : Text) → IsIdentifier n → AreScalars n
 scalars_word n h = scalars_ascii n (ascii-identifier n h)
 
 given : (n : Option Text) → IsGiven n → AreScalars (or_question n)

@@ -1,4 +1,4 @@
--- What a root holds so that its text is read back.
+-- For callers: what a root holds so that its text is read back.
 use Rattle.std.specs.Prelude.{◌≡◌, ◌⊎◌, true, IfSome, List, [], ℕ, Option, ⊤}
 use Rattle.irtext_context.specs.Context.{ContextView, OperationView}
 use Rattle.irtext_context.specs.Dialects.{Table}
@@ -7,13 +7,13 @@ use Rattle.irtext_base.specs.Locations.{AttrView, src_pos, fused, named, call_si
 use Rattle.irtext_base.specs.Paths.{Written}
 use Rattle.irtext_base.specs.Text.{Text}
 use Rattle.irtext_grammar.specs.Spelling.AttrText.{FineAttr}
-use Rattle.irtext_grammar.specs.Graphs.Fillable.{KeepsKeys}
-use Rattle.irtext_grammar.specs.Spelling.Fine.{Each, IsWord}
+use Rattle.irtext_grammar.specs.Graphs.ReservedKeys.{KeepsKeys}
+use Rattle.irtext_grammar.specs.Spelling.Spellable.{Each, IsIdentifier}
 use Rattle.irtext_grammar.specs.Contexts.Formats.{isolated, IsAccepted}
 use Rattle.irtext_grammar.specs.Graphs.RoundTrip.{KeysDiffer}
 use Rattle.irtext_grammar.specs.Contexts.Held.{entries_of, location_over}
-use Rattle.irtext_grammar.specs.Graphs.Wordy.{WordyEntry}
-use Rattle.irtext_outcomes.specs.Promises.WrittenBack.{AllFit}
+use Rattle.irtext_grammar.specs.Graphs.Identifiers.{EntryHasIdentifiers}
+use Rattle.irtext_outcomes.specs.Promises.LocationsBack.{AllFit}
 
 module _ {A : Type 0} where
   abbrev mutual
@@ -34,9 +34,9 @@ module _ {A : Type 0} where
 -- differ, and the reserved one has given names; the paths and names in its location are UTF-8, the lines and columns there fit, and
 -- the names in the attributes there are identifiers; and its format, if it has one, reads uniquely.
 pub record IsKept {T A : Type 0} (ctx : ContextView T A) (op : OperationView T A) : Type 0 where
-  pub dialect : IsWord op.id.dialect
-  pub name : IsWord op.id.name
-  pub attributes : Each WordyEntry (entries_of op.attributes)
+  pub dialect : IsIdentifier op.id.dialect
+  pub name : IsIdentifier op.id.name
+  pub attributes : Each EntryHasIdentifiers (entries_of op.attributes)
   pub keys : KeepsKeys (entries_of op.attributes)
   pub differ : KeysDiffer (entries_of op.attributes)
   pub fits : AllFit (location_over ctx.paths op.loc)

@@ -1,4 +1,4 @@
--- What is promised of the text of a root that is read back.
+-- For callers: what is promised of the text of a root that is read back.
 use Rattle.std.specs.Prelude.{◌≡◌, true, false, List, [], Some, FitsSigned}
 use Rattle.std.specs.Int.{w32}
 use Rattle.irtext_base.specs.Text.{Text, after_space}
@@ -14,7 +14,7 @@ use Rattle.irtext_grammar.specs.Graphs.Graph.{Graph, Printing}
 use Rattle.irtext_grammar.specs.Spelling.Locations.{written_text}
 use Rattle.irtext_grammar.specs.Contexts.Formats.{isolated}
 use Rattle.irtext_grammar.specs.Graphs.Same.{Locations, UpToFillings, stood}
-use Rattle.irtext_grammar.specs.Contexts.Held.{stands}
+use Rattle.irtext_grammar.specs.Contexts.Held.{held_root}
 
 -- a location's text, and whether it is a place of a source
 abbrev pub locations : {A : Type 0} → (A → Text) → Locations (Written A)
@@ -29,4 +29,4 @@ pub record Fits32 (at : SourcePosition) : Type 0 where
 -- left of the text
 abbrev pub StandsBack : {T A U : Type 0} → (A → Text) → List (Text × Table) → Printing T A → Graph T A → Ptr Operation → StateStream T A U → Type 0
 StandsBack {T} {A} written dialects C g q new =
-    (b : Built T A (Written A)) × (stands new.state.ctx.now q ≡ Some b) × UpToFillings (locations written) (stood C (isolated dialects) g) b × (after_space new.stream.rest ≡ [])
+    (b : Built T A (Written A)) × (held_root new.state.ctx.now q ≡ Some b) × UpToFillings (locations written) (stood C (isolated dialects) g) b × (after_space new.stream.rest ≡ [])

@@ -1,4 +1,4 @@
--- What reading a root promises: a tree of the form that is read so far, which resolves, and what it builds; or else why not.
+-- For callers: what reading a root promises: a tree of the form that is read so far, which resolves, and what it builds; or else why not.
 use Rattle.std.specs.Prelude.{◌≡◌, ◌≢◌, ℕ, ◌-◌, false, Option, Some, None, List, [], ◌∷◌, length, take}
 use Rattle.irtext_base.specs.Text.{Text, line_behind, column_behind}
 use Rattle.irtext_base.specs.Own.{Texts}
@@ -27,9 +27,9 @@ use Rattle.irtext_grammar.specs.Names.Placeholders.{In}
 use Rattle.irtext_grammar.specs.Grammar.Section.{Entry}
 use Rattle.irtext_grammar.specs.Names.Script.{Cause, Failure}
 use Rattle.irtext_grammar.specs.Names.Script as script
-use Rattle.irtext_outcomes.specs.Readers.SectionRead.{Moves, ReportedAt}
-use Rattle.irtext_outcomes.specs.Promises.Supported.{so_far, location_standing, IsSoFar, AreSoFar, SectionStands, RootRefused, location_given, operation_built}
-use Rattle.irtext_grammar.specs.Contexts.Held.{stands, whole, StandsAt}
+use Rattle.irtext_outcomes.specs.Promises.Section.{Moves, ReportedAt}
+use Rattle.irtext_outcomes.specs.Promises.Supported.{supported, location_standing, IsSupported, AllSupported, SectionStands, RootRefused, location_given, operation_built}
+use Rattle.irtext_grammar.specs.Contexts.Held.{held_root, whole, StandsAt}
 use Rattle.irtext_grammar.specs.Grammar.Tree.{Tree}
 
 -- the position behind a text
@@ -65,7 +65,7 @@ module _ {T A U : Type 0} where
     pub entries : List (ℕ × Option (Written A))
     pub section : SectionStands attr m.mark entries mid new.stream.rest
     pub moves : Moves old.stream new.stream
-    pub builds : stands new.state.ctx.now op ≡ Some (operation_built m.id m.pieces (location_given (location_of new.state.ctx.now.paths old.state.src (whole old.stream) (length old.stream.rest)) entries))
+    pub builds : held_root new.state.ctx.now op ≡ Some (operation_built m.id m.pieces (location_given (location_of new.state.ctx.now.paths old.state.src (whole old.stream) (length old.stream.rest)) entries))
     pub fresh : marks_of new.state ≡ []
     pub only : OnlyNew op old.state.ctx.now new.state.ctx.now
 
@@ -92,7 +92,7 @@ module _ {T A : Type 0} (types : Texts T) (owns : Texts A) (attr : Text → Outc
   -- fault of the readers of the operation and its section, where nothing reads too.
   pub record RefusesRoot (old : StreamView) (fault : ParseFault A) : Type 0 where
     pub first : (tree : Tree ℕ T A) (entries : List (Entry ℕ A (Written A))) (rest : Text)
-        → reads_root (so_far dialects types owns) (location_standing attr) tree entries old.rest rest → IsSoFar tree → AreSoFar entries
+        → reads_root (supported dialects types owns) (location_standing attr) tree entries old.rest rest → IsSupported tree → AllSupported entries
         → IsFirst (whole old) (failures_of (isolated dialects) tree entries) fault
     pub cause : Fault
     pub upto : Text
@@ -106,11 +106,11 @@ module _ {T A U : Type 0} (types : Texts T) (owns : Texts A) (attr : Text → Ou
   pub record BuildsRoot (op : Ptr Operation) (old new : StateStream T A U) : Type 0 where
     pub tree : Tree ℕ T A
     pub entries : List (Entry ℕ A (Written A))
-    pub reads : reads_root (so_far old.state.ctx.now.dialects types owns) (location_standing attr) tree entries old.stream.rest new.stream.rest
-    pub tree_form : IsSoFar tree
-    pub entries_form : AreSoFar entries
+    pub reads : reads_root (supported old.state.ctx.now.dialects types owns) (location_standing attr) tree entries old.stream.rest new.stream.rest
+    pub tree_form : IsSupported tree
+    pub entries_form : AllSupported entries
     pub resolves : failures_of (isolated old.state.ctx.now.dialects) tree entries ≡ []
     pub moves : Moves old.stream new.stream
-    pub builds : stands new.state.ctx.now op ≡ Some (build (isolated old.state.ctx.now.dialects) (location_of new.state.ctx.now.paths old.state.src (whole old.stream)) entries tree)
+    pub builds : held_root new.state.ctx.now op ≡ Some (build (isolated old.state.ctx.now.dialects) (location_of new.state.ctx.now.paths old.state.src (whole old.stream)) entries tree)
     pub fresh : marks_of new.state ≡ []
     pub only : OnlyNew op old.state.ctx.now new.state.ctx.now

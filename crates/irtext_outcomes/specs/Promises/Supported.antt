@@ -1,4 +1,4 @@
--- The form of text that is read so far: which trees and entries have it, and what a reader's answer says of them.
+-- For callers: the form of text that is read so far: which trees and entries have it, and what a reader's answer says of them.
 use Rattle.std.specs.Prelude.{◌≡◌, ℕ, zero, suc, true, Option, Some, None, List, [], ◌∷◌, ◌++◌, ⊤}
 use Rattle.std.specs.Option.{option_map}
 use Rattle.irtext_base.specs.Text.{Text, begins}
@@ -22,8 +22,8 @@ use Rattle.irtext_outcomes.specs.Readers.Directives.{Pieces, IsRead}
 use Rattle.irtext_outcomes.specs.Readers.Section.{may_have, entry_at, Entries, AllEntries, heading_at}
 
 -- the language of the texts that are read by these dialects
-abbrev pub so_far : {T A : Type 0} → List (Text × Table) → Texts T → Texts A → Language ℕ T A
-so_far dialects types owns = language types owns (format_of dialects)
+abbrev pub supported : {T A : Type 0} → List (Text × Table) → Texts T → Texts A → Language ℕ T A
+supported dialects types owns = language types owns (format_of dialects)
 
 -- what the grammar looks at of a location's reading
 abbrev pub location_standing : {A : Type 0} → (Text → Outcome (AttrView A)) → Text → Standing (Written A)
@@ -36,17 +36,17 @@ HaveNoBlocks (region r no_blocks rs) = HaveNoBlocks rs
 HaveNoBlocks (region r (block b os bs) rs) = ⊥
 
 -- the trees of the form that is read so far: no result has a name, no region has a block, and the parts are of the kinds that are read
-pub record IsSoFar {T A : Type 0} (t : Tree ℕ T A) : Type 0 where
+pub record IsSupported {T A : Type 0} (t : Tree ℕ T A) : Type 0 where
   pub names : t.own.names ≡ []
   pub blocks : HaveNoBlocks t.regions
   pub body : IsRead t.own.body
 
 -- the entries of the form that is read so far: each gives an item a location or none, and no attribute
-abbrev pub AreSoFar : {A X : Type 0} → List (Entry ℕ A X) → Type 0
-AreSoFar [] = ⊤
-AreSoFar (of_item m x [] ∷ es) = AreSoFar es
-AreSoFar (of_item m x (i ∷ is) ∷ es) = ⊥
-AreSoFar (of_once m a ∷ es) = ⊥
+abbrev pub AllSupported : {A X : Type 0} → List (Entry ℕ A X) → Type 0
+AllSupported [] = ⊤
+AllSupported (of_item m x [] ∷ es) = AllSupported es
+AllSupported (of_item m x (i ∷ is) ∷ es) = ⊥
+AllSupported (of_once m a ∷ es) = ⊥
 
 -- the index of a mark, where there is one
 abbrev pub index_of : {P : Type 0} → Option (Mark P) → Option ℕ

@@ -1,4 +1,4 @@
--- What a text is to the reader of a dialect's name.
+-- For callers: what a text is to the reader of a dialect's name.
 use Rattle.std.specs.Prelude.{cond, is_some, List, []}
 use Rattle.irtext_base.specs.Text.{Text}
 use Rattle.irtext_base.specs.Faults.{UnregisteredDialect}

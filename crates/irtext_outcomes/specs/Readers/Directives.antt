@@ -1,4 +1,4 @@
--- What a text is to the reader of a format's directives, so far where none of them names a value, a block or a type.
+-- Between functions: what a text is to the reader of a format's directives, so far where none of them names a value, a block or a type.
 use Rattle.std.specs.Prelude.{◌≡◌, ℕ, zero, suc, ◌+◌, Bool, true, false, cond, List, [], ◌∷◌, Some, length, codes, ⊤}
 use Rattle.std.specs.List.{list_all}
 use Rattle.irtext_base.specs.Text.{Text, begins}
@@ -12,7 +12,7 @@ use Rattle.irtext_read.specs.Infix.{word, nothing, either, ◌▷◌, ◌◁◌,
 use Rattle.irtext_read.specs.ListOutcomes.{separated_at}
 use Rattle.irtext_base.specs.Stream.{first_of}
 use Rattle.irtext_read.specs.Tokens.{text_at, identifier_at}
-use Rattle.irtext_grammar.specs.Names.Acts.{keeps_key}
+use Rattle.irtext_grammar.specs.Names.Acts.{may_hold}
 use Rattle.irtext_grammar.specs.Spelling.AttrText.{attr_tree}
 use Rattle.irtext_grammar.specs.Graphs.Build.{put_all}
 use Rattle.irtext_outcomes.specs.Readers.Positions.{space_at, spaced_at}
@@ -39,7 +39,7 @@ with_regions p n = record { attributes = p.attributes; regions = p.regions + n }
 
 -- an entry that a dictionary may take; else it is bad where it begins
 abbrev pub allowed_entry : {A : Type 0} → Outcome (Text × Attribute A) → Outcome (Text × Attribute A)
-allowed_entry (Read e taken rest) = cond (keeps_key e.0 e.1) (Read e taken rest) (Bad (ReservedKey e.0) [])
+allowed_entry (Read e taken rest) = cond (may_hold e.0 e.1) (Read e taken rest) (Bad (ReservedKey e.0) [])
 allowed_entry (Missing cause) = Missing cause
 allowed_entry (Bad cause upto) = Bad cause upto
 

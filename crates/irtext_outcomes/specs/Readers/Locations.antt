@@ -1,4 +1,4 @@
--- What a text reads as, where a location stands, with each fault's cause and place.
+-- For callers: what a text reads as, where a location stands, with each fault's cause and place.
 use Rattle.std.specs.Prelude.{ℕ, zero, suc, Bool, ◌||◌, Option, Some, None, List, [], codes, length}
 use Rattle.std.specs.Str.{encode_utf8_all}
 use Rattle.irtext_base.specs.Text.{Text, begins}

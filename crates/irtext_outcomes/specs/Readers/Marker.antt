@@ -1,4 +1,4 @@
--- What stands in the place of an attribute that is written in the section.
+-- For callers: what stands in the place of an attribute that is written in the section.
 use Rattle.std.specs.Prelude.{◌≡◌, Bool, true, false, cond, Option, Some, None, Result, Ok, Err, [], ◌∷◌, codes}
 use Rattle.irtext_base.specs.Text.{Text, after_space}
 use Rattle.irtext_base.specs.Reading.{the}

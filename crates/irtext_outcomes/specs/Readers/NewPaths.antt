@@ -1,4 +1,4 @@
--- What reading a location does to the context: it may keep more paths.
+-- For callers: what reading a location does to the context: it may keep more paths.
 use Rattle.std.specs.Prelude.{◌≡◌, ℕ, suc, ◌≤◌, Bool, Option, Result, Ok, Err, List, IfOk, IsTrue, length, map, Vec, [], ◌∷◌, ◌++◌}
 use Rattle.std.specs.Global.{Global}
 use Rattle.std.specs.declared.alloc.AllocError.{AllocError}
@@ -11,8 +11,8 @@ use Rattle.irtext_base.specs.Paths.{KeepsPaths, Written, path_of, are_known, row
 use Rattle.irtext_base.specs.Locations.{LocationView, LocationsOf, no_location, location, location_view, in_row, row_sourced}
 use Rattle.irtext_base.specs.declared.location.Location.{Location}
 use Rattle.irtext_base.specs.declared.parsable.fault.ParseFault.{ParseFault}
-use Rattle.irtext_outcomes.specs.Readers.MustRead.{MustRead, MayRead}
-use Rattle.irtext_outcomes.specs.Readers.Roots.{itself, replaced}
+use Rattle.irtext_read.specs.MustRead.{MustRead, MayRead}
+use Rattle.irtext_outcomes.specs.Readers.Streams.{itself, replaced}
 
 -- each path stays under its key, and all else stays
 pub record AddsPaths {T A : Type 0} (old new : ContextView T A) : Type 0 where

@@ -1,12 +1,12 @@
--- What a text reads as, where a root of the form that is read so far stands, by a context's dialects, with each fault's cause and place.
-use Rattle.std.specs.Prelude.{ℕ, cond, is_some, List, Option, Some, None, []}
+-- Between functions: what a text reads as, where a root of the form that is read so far stands, by a context's dialects, with each fault's cause and place.
+use Rattle.std.specs.Prelude.{ℕ, cond, is_some, List, Option, Some, None, [], ◌≡◌, true, false, Result, Ok, Err}
 use Rattle.irtext_base.specs.Text.{Text}
 use Rattle.irtext_base.specs.Format.{Id}
-use Rattle.irtext_base.specs.Faults.{UnregisteredDialect, UnregisteredOp}
+use Rattle.irtext_base.specs.Faults.{UnregisteredDialect, UnregisteredOp, Fault, fault_of, id_of}
 use Rattle.irtext_base.specs.Answers.{Outcome, Read, Missing, Bad}
 use Rattle.irtext_context.specs.Dialects.{Table}
 use Rattle.irtext_context.specs.DialectTable as table
-use Rattle.irtext_context.specs.DialectTable.{dialect_of}
+use Rattle.irtext_context.specs.DialectTable.{dialect_of, registered}
 use Rattle.irtext_base.specs.Locations.{AttrView}
 use Rattle.irtext_read.specs.Infix.{◌▷◌, ◌▶◌, ◌⇒◌}
 use Rattle.irtext_read.specs.Tokens.{id_at}
@@ -14,6 +14,11 @@ use Rattle.irtext_grammar.specs.Contexts.Formats.{op_id, format_of, isolated}
 use Rattle.irtext_outcomes.specs.Readers.Positions.{space_at}
 use Rattle.irtext_outcomes.specs.Readers.Parts.{lead_of, behind_lead, behind, mark_at}
 use Rattle.irtext_outcomes.specs.Readers.Directives.{Pieces, body_at}
+use Rattle.irtext_base.specs.Stream.{StreamView, IsAt, after_failure}
+use Rattle.irtext_base.specs.Places.{StandsBehind}
+use Rattle.irtext_base.specs.declared.base.identifier.OpId.{OpId}
+use Rattle.irtext_base.specs.declared.parsable.fault.ParseFault.{ParseFault}
+use Rattle.irtext_base.specs.declared.parsable.position.Place.{Place}
 
 -- an id that stands behind a lead, where its operation is registered: a fault of the dialect stands at the id, one of the name at the lead
 abbrev pub registered_behind : List (Text × Table) → Text → Outcome Id → Outcome Id
@@ -48,3 +53,17 @@ module _ {A : Type 0} (dialects : List (Text × Table)) (attr : Text → Outcome
   -- an operation with its mark
   abbrev pub root_at : Text → Outcome (ReadOp A)
   root_at = operation_by mark_at
+
+module _ {S A : Type 0} (view : S → StreamView) (at : S → StreamView → S) where
+  -- a committed fault of this cause at an earlier place of the text, and the stream has failed
+  pub record RefusesAt (cause : Fault) (place : Place) (old : S) (fault : ParseFault A) (new : S) : Type 0 where
+    pub because : fault_of fault.cause ≡ cause
+    pub committed : fault.committed ≡ true
+    pub position : (passed : Text) → StandsBehind place passed → IsAt fault.pos.line fault.pos.column passed
+    pub left : new ≡ at old (after_failure (view old))
+
+  -- The id is answered where its operation is registered: else its dialect is unknown at one place, or its name at another.
+  abbrev pub Registers : List (Text × Table) → Place → Place → OpId → S → Result OpId (ParseFault A) → S → Type 0
+  Registers dialects start place id old (Ok i) new = (is_some (dialect_of dialects id.dialect) ≡ true) × (is_some (registered dialects id) ≡ true) × (i ≡ id) × (new ≡ old)
+  Registers dialects start place id old (Err fault) new =
+      cond (is_some (dialect_of dialects id.dialect)) ((is_some (registered dialects id) ≡ false) × RefusesAt (UnregisteredOp (id_of id)) start old fault new) (RefusesAt (UnregisteredDialect id.dialect) place old fault new)

@@ -1,4 +1,4 @@
--- What a text reads as, where the parts stand that operations have in common, with each fault's cause and place.
+-- For callers: what a text reads as, where the parts stand that operations have in common, with each fault's cause and place.
 use Rattle.std.specs.Prelude.{ℕ, Bool, true, false, cond, Option, Some, None, [], ◌∷◌, ◌++◌, codes, ⊤}
 use Rattle.std.specs.Char.{is_whitespace}
 use Rattle.irtext_base.specs.Text.{Text, begins, front, after_space}

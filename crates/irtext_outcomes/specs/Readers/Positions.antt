@@ -1,4 +1,4 @@
--- What a text reads as, where a line and a column stand, with each fault's cause and place.
+-- For callers: what a text reads as, where a line and a column stand, with each fault's cause and place.
 use Rattle.std.specs.Prelude.{ℤ, codes, ⊤}
 use Rattle.irtext_base.specs.Text.{Text}
 use Rattle.irtext_base.specs.Answers.{Outcome}

@@ -1,4 +1,4 @@
--- What a text reads as, where a section of the form that is read so far stands, with each fault's cause and place.
+-- For callers: what a text reads as, where a section of the form that is read so far stands, with each fault's cause and place.
 use Rattle.std.specs.Prelude.{◌≡◌, ℕ, Bool, true, false, cond, not, ◌&&◌, ◌==◌, Option, Some, None, List, [], ◌∷◌, codes, ⊤}
 use Rattle.irtext_base.specs.Text.{Text, begins, after_space}
 use Rattle.irtext_base.specs.Reading.{the}

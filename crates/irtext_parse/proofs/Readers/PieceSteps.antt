@@ -15,19 +15,18 @@ use Rattle.irtext_base.specs.declared.base.attributes.AttrObj.TheVariants.{Given
 use Rattle.irtext_base.specs.declared.parsable.fault.ParseFault.{ParseFault}
 use Rattle.irtext_base.specs.declared.parsable.position.Place.{Place}
 use Rattle.irtext_base.proofs.Compose.{takes_stands, stands_failed, refuses_first_demanded, refuses_mapped_demanded}
-use Rattle.irtext_grammar.specs.Names.Acts.{keeps_key}
+use Rattle.irtext_grammar.specs.Names.Acts.{may_hold}
 use Rattle.irtext_grammar.specs.Spelling.AttrText.{attr_tree}
 use Rattle.irtext_grammar.specs.Graphs.Build.{put}
-use Rattle.irtext_outcomes.specs.Readers.MustRead.{MustRead, MayRead}
+use Rattle.irtext_read.specs.MustRead.{MustRead, MayRead}
 use Rattle.irtext_outcomes.specs.Readers.Directives.{Pieces, allowed_entry}
 use Rattle.irtext_parse.specs.Readers.PiecesOf.{entry_of, Allows, Adds}
-use Rattle.irtext_outcomes.specs.Readers.Registered.{RefusesAt}
-use Rattle.irtext_outcomes.specs.Readers.Roots.{itself, replaced}
+use Rattle.irtext_outcomes.specs.Readers.Operations.{RefusesAt}
+use Rattle.irtext_outcomes.specs.Readers.Streams.{itself, replaced}
 use Rattle.irtext_grammar.specs.Contexts.Held.{attribute_of, entries_of}
 use Rattle.irtext_grammar.specs.Grammar.Tree.{Attribute}
-use Rattle.irtext_grammar.proofs.Lists.SameText.{same_text-bytes_eq}
-use Rattle.irtext_outcomes.proofs.Readers.Rooted.{alone}
-use Rattle.irtext_grammar.proofs.Lists.SameText.{same_text_true}
+use Rattle.irtext_grammar.proofs.Lists.SameText.{same_text-bytes_eq, same_text_true}
+use Rattle.irtext_outcomes.proofs.Readers.PlainStream.{alone}
 use Rattle.irtext_outcomes.proofs.Readers.Steps.{first, starts, more_seen, seen_alone, starved}
 
 -- an attribute that was read, as trees hold it
@@ -72,7 +71,7 @@ module _ {A : Type 0} where
 
   allows : (o : Outcome (Text × Attribute A)) (place : Place) (e : Text × AttrObj A) (old mid new : StreamView) (r : Result (Text × AttrObj A) (ParseFault A)) → StandsBehind place old.passed → Gives itself replaced o old (entry_of e) mid → Allows place e mid r new → Answers itself replaced entry_of (allowed_entry o) old r new
   allows (Read x t q) place e old mid new (Ok d) p h k =
-      let b : keeps_key x.0 x.1 ≡ true = subst (λ y. keeps_key y.0 y.1 ≡ true) h.0 k.0 in
+      let b : may_hold x.0 x.1 ≡ true = subst (λ y. may_hold y.0 y.1 ≡ true) h.0 k.0 in
       rw b (rw k.1 h.0, rw k.2 h.1)
   allows (Read x t q) place e old mid new (Err fault) p h k =
       subst (λ y. Starves itself replaced old fault new ⊎ Refuses itself replaced (allowed_entry (Read y t q)) old fault new) h.0 (rw k.0 (inr (refused_at (ReservedKey e.0) place old mid new fault t q h.1 p k.1)))
@@ -95,7 +94,7 @@ module _ {A : Type 0} where
 
   allowed_demanded : (b : Bool) (o : Outcome (Text × Attribute A)) → allowed_entry (demanded (unless_failed b o)) ≡ demanded (unless_failed b (allowed_entry o))
   allowed_demanded true o = refl
-  allowed_demanded false (Read e t r) = by_test (keeps_key e.0 e.1) e t r
+  allowed_demanded false (Read e t r) = by_test (may_hold e.0 e.1) e t r
   allowed_demanded false (Missing cause) = refl
   allowed_demanded false (Bad cause upto) = refl
 

@@ -1,4 +1,4 @@
--- What was read of an operation behind its id, as the code holds it.
+-- Between functions: what was read of an operation behind its id, as the code holds it.
 use Rattle.std.specs.Prelude.{◌≡◌, true, false, Result, Ok, Err, codes, ⊤}
 use Rattle.irtext_base.specs.Text.{Text}
 use Rattle.irtext_base.specs.Stream.{StreamView}
@@ -9,11 +9,11 @@ use Rattle.irtext_base.specs.declared.base.attributes.AttrObj.{AttrObj}
 use Rattle.irtext_base.specs.declared.parsable.fault.ParseFault.{ParseFault}
 use Rattle.irtext_base.specs.declared.parsable.position.Place.{Place}
 use Rattle.irtext_read.specs.Tokens.{identifier_at}
-use Rattle.irtext_grammar.specs.Names.Acts.{keeps_key}
+use Rattle.irtext_grammar.specs.Names.Acts.{may_hold}
 use Rattle.irtext_outcomes.specs.Readers.Positions.{spaced_at}
 use Rattle.irtext_outcomes.specs.Readers.Directives.{Pieces, attribute_at}
-use Rattle.irtext_outcomes.specs.Readers.Registered.{RefusesAt}
-use Rattle.irtext_outcomes.specs.Readers.Roots.{itself, replaced}
+use Rattle.irtext_outcomes.specs.Readers.Operations.{RefusesAt}
+use Rattle.irtext_outcomes.specs.Readers.Streams.{itself, replaced}
 use Rattle.irtext_grammar.specs.Contexts.Held.{attribute_of, entries_of}
 use Rattle.irtext_grammar.specs.Grammar.Tree.{Attribute}
 use Rattle.irtext_parse.specs.declared.format.pieces.Pieces as code
@@ -32,8 +32,8 @@ pair_at attr text = followed (identifier_at text) (λ key t. followed (spaced_at
 
 -- The entry is answered where a dictionary may take it: else its key is reserved, and the fault stands at the place.
 abbrev pub Allows : {A : Type 0} → Place → Text × AttrObj A → StreamView → Result (Text × AttrObj A) (ParseFault A) → StreamView → Type 0
-Allows place e old (Ok d) new = (keeps_key e.0 (attribute_of e.1) ≡ true) × (d ≡ e) × (new ≡ old)
-Allows place e old (Err fault) new = (keeps_key e.0 (attribute_of e.1) ≡ false) × RefusesAt itself replaced (ReservedKey e.0) place old fault new
+Allows place e old (Ok d) new = (may_hold e.0 (attribute_of e.1) ≡ true) × (d ≡ e) × (new ≡ old)
+Allows place e old (Err fault) new = (may_hold e.0 (attribute_of e.1) ≡ false) × RefusesAt itself replaced (ReservedKey e.0) place old fault new
 
 -- The pieces are these, and the stream is as it was, unless memory was refused.
 abbrev pub Adds : {A : Type 0} → Pieces A → Pieces A → StreamView → Result ⊤ (ParseFault A) → StreamView → Type 0

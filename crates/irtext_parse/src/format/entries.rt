@@ -3,11 +3,11 @@ ghost use Rattle.std.specs.Prelude.{◌≡◌, OnErr, false, length};
 ghost use Rattle.irtext_base.specs.Answers.{mapped};
 ghost use Rattle.irtext_read.specs.AttrTexts.{attr_at};
 ghost use Rattle.irtext_read.specs.ListOutcomes.{item_after, items_after, separated_at};
-ghost use Rattle.irtext_grammar.specs.Names.Acts.{keeps_key};
-ghost use Rattle.irtext_outcomes.specs.Readers.MustRead.{MustRead, MayRead};
+ghost use Rattle.irtext_grammar.specs.Names.Acts.{may_hold};
+ghost use Rattle.irtext_read.specs.MustRead.{MustRead, MayRead};
 ghost use Rattle.irtext_outcomes.specs.Readers.Directives.{attribute_at, entry_at, keyed_at, dictionary_at};
 ghost use Rattle.irtext_parse.specs.Readers.PiecesOf.{entry_of, pair_at, Allows};
-ghost use Rattle.irtext_outcomes.specs.Readers.Roots.{itself, replaced};
+ghost use Rattle.irtext_outcomes.specs.Readers.Streams.{itself, replaced};
 ghost use Rattle.irtext_grammar.specs.Contexts.Held.{attribute_of, entries_of};
 
 use crate::irfmt::demanded::{spaced_text, text_demanded};
@@ -32,7 +32,7 @@ fn attr_demanded<A: AttrText>(stream: &mut TextStream) -> ParseResult<AttrObj<A>
 /// Whether a dictionary may take the attribute under the key: the key of given names takes these alone.
 #[tactic(auto, using(irtext_grammar::proofs::Lists::SameText::texts))]
 fn is_allowed<A>(key: &Identifier, attr: &AttrObj<A>) -> bool
-    ensures { result ≡ keeps_key key.now (attribute_of attr.now) }
+    ensures { result ≡ may_hold key.now (attribute_of attr.now) }
 {
     if key.as_str() != "builtin_given_names" {
         return true;

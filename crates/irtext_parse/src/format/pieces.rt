@@ -8,10 +8,10 @@ ghost use Rattle.irtext_base.specs.Stream.{first_of};
 ghost use Rattle.irtext_read.specs.AttrTexts.{attr_at};
 ghost use Rattle.irtext_grammar.specs.Graphs.Build.{put_all};
 ghost use Rattle.irtext_outcomes.specs.Readers.Parts.{symbol_at};
-ghost use Rattle.irtext_outcomes.specs.Readers.MustRead.{MustRead};
+ghost use Rattle.irtext_read.specs.MustRead.{MustRead};
 ghost use Rattle.irtext_outcomes.specs.Readers.Directives.{with_entries, with_regions, no_pieces, keyed_at, dictionary_at, region_at, regions_at, piece_after, pieces_after, body_at};
 ghost use Rattle.irtext_parse.specs.Readers.PiecesOf.{entry_of, pieces_of, Adds};
-ghost use Rattle.irtext_outcomes.specs.Readers.Roots.{itself, replaced};
+ghost use Rattle.irtext_outcomes.specs.Readers.Streams.{itself, replaced};
 ghost use Rattle.irtext_grammar.specs.Contexts.Held.{entries_of};
 ghost use Rattle.irtext_grammar.specs.Grammar.Tree.{ident};
 

@@ -1,8 +1,8 @@
 //! Reading of an operation's regions, so far without blocks.
 ghost use Rattle.irtext_outcomes.specs.Readers.Parts.{braces_at};
-ghost use Rattle.irtext_outcomes.specs.Readers.MustRead.{MustRead};
+ghost use Rattle.irtext_read.specs.MustRead.{MustRead};
 ghost use Rattle.irtext_outcomes.specs.Readers.Directives.{region_at, regions_at};
-ghost use Rattle.irtext_outcomes.specs.Readers.Roots.{itself, replaced};
+ghost use Rattle.irtext_outcomes.specs.Readers.Streams.{itself, replaced};
 
 use crate::irfmt::demanded::braces_parse;
 use irtext_base::parsable::{CharStream, ParseResult, ParserNameTrackerError, TextStream};

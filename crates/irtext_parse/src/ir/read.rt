@@ -3,8 +3,9 @@ ghost use Rattle.std.specs.Prelude.{◌≡◌, false, IfOk, IfErr, OnErr};
 ghost use Rattle.irtext_context.specs.Made.{SameObjects};
 ghost use Rattle.irtext_read.specs.AttrTexts.{attr_at};
 ghost use Rattle.irtext_read.specs.States.{marks_of};
-ghost use Rattle.irtext_outcomes.specs.Readers.Roots.{KeepsRest, Refusal};
-ghost use Rattle.irtext_outcomes.specs.Readers.SectionRead.{ReadsWith, MissesWith};
+ghost use Rattle.irtext_outcomes.specs.Readers.Refusals.{Refusal};
+ghost use Rattle.irtext_outcomes.specs.Readers.Streams.{KeepsRest};
+ghost use Rattle.irtext_outcomes.specs.Promises.Section.{ReadsWith, MissesWith};
 
 mod body;
 mod head;

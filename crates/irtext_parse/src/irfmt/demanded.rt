@@ -1,7 +1,7 @@
 //! Tokens that must stand where they are read: a missing one is a committed fault.
 ghost use Rattle.irtext_base.specs.Faults.{characters};
 ghost use Rattle.irtext_read.specs.Tokens.{number_at, integer_at};
-ghost use Rattle.irtext_outcomes.specs.Readers.MustRead.{MustRead};
+ghost use Rattle.irtext_read.specs.MustRead.{MustRead};
 ghost use Rattle.irtext_outcomes.specs.Readers.Positions.{spaced_at};
 ghost use Rattle.irtext_outcomes.specs.Readers.Parts.{index_at, symbol_at, braces_at};
 

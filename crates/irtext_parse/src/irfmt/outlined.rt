@@ -4,16 +4,18 @@ ghost use Rattle.std.specs.Map.{lookup};
 ghost use Rattle.irtext_read.specs.AttrTexts.{attr_at};
 ghost use Rattle.irtext_read.specs.States.{marks_of, same_index};
 ghost use Rattle.irtext_outcomes.specs.Readers.Parts.{index_at};
-ghost use Rattle.irtext_outcomes.specs.Readers.MustRead.{MustRead};
+ghost use Rattle.irtext_read.specs.MustRead.{MustRead};
 ghost use Rattle.irtext_outcomes.specs.Readers.NewPaths.{AddsPaths, MustReadOver};
 ghost use Rattle.irtext_outcomes.specs.Promises.Supported.{RefusedAs, EntriesRefused, SectionRefused};
-ghost use Rattle.irtext_outcomes.specs.Readers.SectionRead.{indices_of, known_given, given_over, known_entry, entry_over, Faults, Locates, Applies, AppliesAll, ReadsEntry, ReadsEntries, ReadsSection, given_kept, entries_kept, entries_over};
+ghost use Rattle.irtext_outcomes.specs.Promises.Section.{indices_of, known_given, given_over, known_entry, entry_over, Faults, Locates, Applies, AppliesAll, ReadsEntry, ReadsEntries, ReadsSection, given_kept, entries_kept, entries_over};
 ghost use Rattle.irtext_outcomes.specs.Readers.Section.{entry_location_at, content_at, known_index, entry_at};
-ghost use Rattle.irtext_outcomes.specs.Readers.Roots.{itself, replaced, may_follow, Demand, KeepsRest};
+ghost use Rattle.irtext_outcomes.specs.Readers.Marks.{may_follow};
+ghost use Rattle.irtext_outcomes.specs.Readers.Refusals.{CommittedRefusal};
+ghost use Rattle.irtext_outcomes.specs.Readers.Streams.{itself, replaced, KeepsRest};
 
 use crate::irfmt::demanded::{index_demanded, spaced_text, text_demanded};
 pub use crate::irfmt::marker::{OUTLINED_ATTR_MARKER, outlined_marker_or};
-use crate::location::nested::location_read;
+use crate::location::nested::location_demanded;
 use crate::parsable::out_of_memory;
 use indexmap::IndexMap;
 use irtext_context::base::{Context, Operation, Ptr};
@@ -72,7 +74,7 @@ fn entry_location<T: IrText<A>, A: AttrText>(
     }
     text_demanded(stream, "@[")?;
     skip_white_space(stream);
-    let location = location_read(stream, ctx)?;
+    let location = location_demanded(stream, ctx)?;
     spaced_text(stream, "]")?;
     text_demanded(stream, ",")?;
     skip_white_space(stream);
@@ -127,7 +129,7 @@ fn entry_parse<T: IrText<A>, A: AttrText, U>(
     ensures fine { OnOk result (s.new.stream.failed ≡ s.old.stream.failed) }
     ensures read { OnOk result (ReadsEntry (attr_at A.IrText.reading) (marks_of s.old.state) s.old.state.ctx.now.paths s.new.state.ctx.now.paths entries.old.entries s.old.stream entries.new.entries s.new.stream) }
     ensures missed { s.old.stream.failed ≡ false → IfErr result (λ fault. Faults (RefusedAs (entry_at (attr_at A.IrText.reading) (may_follow (marks_of s.old.state) entries.old.entries) s.old.stream.rest)) s.old.stream fault) }
-    ensures refused { IfErr result (λ fault. Demand s.old.stream fault s.new.stream) }
+    ensures refused { IfErr result (λ fault. CommittedRefusal s.old.stream fault s.new.stream) }
 {
     let entry = entry_read(s, entries)?;
     if entries.insert(entry.0, entry.1).is_err() {
@@ -148,7 +150,7 @@ fn entries_parse<T: IrText<A>, A: AttrText, U>(
     ensures fine { OnOk result (s.new.stream.failed ≡ s.old.stream.failed) }
     ensures read { IfOk result (λ entries. ReadsEntries (attr_at A.IrText.reading) (indices_of (marks_of s.old.state)) s.new.state.ctx.now.paths entries.entries s.old.stream s.new.stream) }
     ensures missed { s.old.stream.failed ≡ false → IfErr result (λ fault. Faults (EntriesRefused (attr_at A.IrText.reading) (indices_of (marks_of s.old.state)) s.old.stream.rest) s.old.stream fault) }
-    ensures refused { IfErr result (λ fault. Demand s.old.stream fault s.new.stream) }
+    ensures refused { IfErr result (λ fault. CommittedRefusal s.old.stream fault s.new.stream) }
     ensures paths { IfOk result (λ entries. s.new.state.ctx.now.paths ≡ entries_kept s.old.state.ctx.now.paths (entries_over s.new.state.ctx.now.paths entries.entries)) }
 {
     let mut entries = IndexMap::new(s.stream.allocator());
@@ -219,7 +221,7 @@ pub(crate) fn section_parse<T: IrText<A>, A: AttrText, U>(
     ensures rest { KeepsRest s.old.state s.new.state }
     ensures read { OnOk result (ReadsSection (attr_at A.IrText.reading) s.old s.new) }
     ensures missed { s.old.stream.failed ≡ false → IfErr result (λ fault. Faults (SectionRefused (attr_at A.IrText.reading) (indices_of (marks_of s.old.state)) s.old.stream.rest) s.old.stream fault) }
-    ensures refused { IfErr result (λ fault. Demand s.old.stream fault s.new.stream) }
+    ensures refused { IfErr result (λ fault. CommittedRefusal s.old.stream fault s.new.stream) }
     ensures marks { OnErr result (marks_of s.new.state ≡ marks_of s.old.state) }
     ensures adds { OnErr result (AddsPaths s.old.state.ctx.now s.new.state.ctx.now) }
 {

@@ -6,14 +6,14 @@ ghost use Rattle.irtext_base.specs.Locations.{attr_view, attr_view_in};
 ghost use Rattle.irtext_base.specs.Moves.{all_kept, row_kept};
 ghost use Rattle.irtext_read.specs.AttrTexts.{attr_at};
 ghost use Rattle.irtext_outcomes.specs.Readers.Locations.{begins_source, begins_location, metadata_at, name_at, row_at, fused_at, named_at, call_site_at, location_within, more_within, location_at};
-ghost use Rattle.irtext_outcomes.specs.Readers.MustRead.{MustRead};
+ghost use Rattle.irtext_read.specs.MustRead.{MustRead};
 ghost use Rattle.irtext_grammar.specs.Contexts.Held.{location_over};
 ghost use Rattle.irtext_outcomes.specs.Readers.NewPaths.{AddsPaths, MayReadOver, MustReadWithin, MustReadInside, known_location, known_row, row_over, joined_rows, PushesRow};
-ghost use Rattle.irtext_outcomes.specs.Readers.Roots.{itself, replaced};
+ghost use Rattle.irtext_outcomes.specs.Readers.Streams.{itself, replaced};
 
 use crate::irfmt::demanded::{spaced_text, text_demanded};
 use crate::location::made::{call_site_made, fused_made, named_made};
-use crate::location::source::{place_read, quoted_demanded};
+use crate::location::source::{place_demanded, quoted_demanded};
 use irtext_base::base::AttrObj;
 use irtext_context::base::Context;
 use irtext_base::location::Location;
@@ -52,7 +52,7 @@ fn attr_demanded<A: AttrText>(stream: &mut TextStream) -> ParseResult<AttrObj<A>
 }
 
 /// The attribute between `<` and `>`, where `<` stands.
-fn metadata_read<A: AttrText>(stream: &mut TextStream) -> ParseResult<Option<AttrObj<A>>, A>
+fn metadata_demanded<A: AttrText>(stream: &mut TextStream) -> ParseResult<Option<AttrObj<A>>, A>
     ensures { MustRead itself replaced attr_view_in (metadata_at (attr_at A.IrText.reading)) stream.old result stream.new }
 {
     if stream.has_failed() {
@@ -70,7 +70,7 @@ fn metadata_read<A: AttrText>(stream: &mut TextStream) -> ParseResult<Option<Att
 }
 
 /// A name, and what stands in front of the location that it names.
-fn name_read<A>(stream: &mut TextStream) -> ParseResult<String, A>
+fn name_demanded<A>(stream: &mut TextStream) -> ParseResult<String, A>
     ensures read { MustRead itself replaced (λ s. string_bytes s) name_at stream.old result stream.new }
     ensures shorter { OnOk result (length stream.new.rest < length stream.old.rest) }
 {
@@ -101,7 +101,7 @@ fn push_location<A: Drop>(
 
 /// The locations found and those behind them, as long as `,` follows.
 #[cycle(locations)]
-fn more_read<T: IrText<A>, A: AttrText>(
+fn more_demanded<T: IrText<A>, A: AttrText>(
     stream: &mut TextStream,
     ctx: &mut Context<T, A>,
     mut found: Vec<Location<A>>,
@@ -115,7 +115,7 @@ fn more_read<T: IrText<A>, A: AttrText>(
     while next_is(stream, ',') {
         text_demanded(stream, ",")?;
         skip_white_space(stream);
-        let location = location_read(stream, ctx)?;
+        let location = location_demanded(stream, ctx)?;
         push_location(stream, &mut found, location)?;
     }
     Ok(found)
@@ -123,7 +123,7 @@ fn more_read<T: IrText<A>, A: AttrText>(
 
 /// Locations with `,` between.
 #[cycle(locations)]
-fn row_read<T: IrText<A>, A: AttrText>(
+fn row_demanded<T: IrText<A>, A: AttrText>(
     stream: &mut TextStream,
     ctx: &mut Context<T, A>,
 ) -> ParseResult<Vec<Location<A>>, A>
@@ -138,14 +138,14 @@ fn row_read<T: IrText<A>, A: AttrText>(
     if !begins_location(stream) {
         return Ok(found);
     }
-    let location = location_read(stream, ctx)?;
+    let location = location_demanded(stream, ctx)?;
     push_location(stream, &mut found, location)?;
-    more_read(stream, ctx, found)
+    more_demanded(stream, ctx, found)
 }
 
 /// Several locations as one.
 #[cycle(locations)]
-fn fused_read<T: IrText<A>, A: AttrText>(
+fn fused_demanded<T: IrText<A>, A: AttrText>(
     stream: &mut TextStream,
     ctx: &mut Context<T, A>,
 ) -> ParseResult<Location<A>, A>
@@ -155,17 +155,17 @@ fn fused_read<T: IrText<A>, A: AttrText>(
 {
     text_demanded(stream, "fused")?;
     skip_white_space(stream);
-    let metadata = metadata_read(stream)?;
+    let metadata = metadata_demanded(stream)?;
     text_demanded(stream, "[")?;
     skip_white_space(stream);
-    let locations = row_read(stream, ctx)?;
+    let locations = row_demanded(stream, ctx)?;
     text_demanded(stream, "]")?;
     fused_made(stream, metadata, locations)
 }
 
 /// A name for a location.
 #[cycle(locations)]
-fn named_read<T: IrText<A>, A: AttrText>(
+fn named_demanded<T: IrText<A>, A: AttrText>(
     stream: &mut TextStream,
     ctx: &mut Context<T, A>,
 ) -> ParseResult<Location<A>, A>
@@ -173,15 +173,15 @@ fn named_read<T: IrText<A>, A: AttrText>(
     ensures read { MustReadInside known_location location_over (λ depth. named_at (location_within (attr_at A.IrText.reading) depth) (more_within (attr_at A.IrText.reading) depth)) ctx.new.paths stream.old result stream.new }
     ensures paths { IfOk result (λ l. ctx.new.paths ≡ all_kept ctx.old.paths (location_over ctx.new.paths l)) }
 {
-    let name = name_read(stream)?;
-    let child = location_read(stream, ctx)?;
+    let name = name_demanded(stream)?;
+    let child = location_demanded(stream, ctx)?;
     text_demanded(stream, ")")?;
     named_made(stream, name, child)
 }
 
 /// A callee's location with its caller's.
 #[cycle(locations)]
-fn call_site_read<T: IrText<A>, A: AttrText>(
+fn call_site_demanded<T: IrText<A>, A: AttrText>(
     stream: &mut TextStream,
     ctx: &mut Context<T, A>,
 ) -> ParseResult<Location<A>, A>
@@ -191,16 +191,16 @@ fn call_site_read<T: IrText<A>, A: AttrText>(
 {
     text_demanded(stream, "callsite")?;
     spaced_text(stream, "(")?;
-    let callee = location_read(stream, ctx)?;
+    let callee = location_demanded(stream, ctx)?;
     spaced_text(stream, "at")?;
-    let caller = location_read(stream, ctx)?;
+    let caller = location_demanded(stream, ctx)?;
     spaced_text(stream, ")")?;
     call_site_made(stream, callee, caller)
 }
 
 /// A location, which must stand there.
 #[cycle(locations)]
-pub(crate) fn location_read<T: IrText<A>, A: AttrText>(
+pub(crate) fn location_demanded<T: IrText<A>, A: AttrText>(
     stream: &mut TextStream,
     ctx: &mut Context<T, A>,
 ) -> ParseResult<Location<A>, A>
@@ -212,16 +212,16 @@ pub(crate) fn location_read<T: IrText<A>, A: AttrText>(
         return Err(refuse(stream, Cause::StreamFailed));
     }
     if begins_source(stream) {
-        return place_read(stream, ctx);
+        return place_demanded(stream, ctx);
     }
     if next_is(stream, 'f') {
-        return fused_read(stream, ctx);
+        return fused_demanded(stream, ctx);
     }
     if next_is(stream, 'n') {
-        return named_read(stream, ctx);
+        return named_demanded(stream, ctx);
     }
     if next_is(stream, 'c') {
-        return call_site_read(stream, ctx);
+        return call_site_demanded(stream, ctx);
     }
     if next_is(stream, '?') {
         text_demanded(stream, "?")?;
@@ -232,7 +232,7 @@ pub(crate) fn location_read<T: IrText<A>, A: AttrText>(
 }
 
 /// A location, which may be missing.
-pub(crate) fn location_may<T: IrText<A>, A: AttrText>(
+pub(crate) fn location_parse<T: IrText<A>, A: AttrText>(
     stream: &mut TextStream,
     ctx: &mut Context<T, A>,
 ) -> ParseResult<Location<A>, A>
@@ -246,5 +246,5 @@ pub(crate) fn location_may<T: IrText<A>, A: AttrText>(
     if !begins_location(stream) {
         return Err(unexpected(stream, Expected::Location));
     }
-    location_read(stream, ctx)
+    location_demanded(stream, ctx)
 }

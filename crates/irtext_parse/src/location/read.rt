@@ -1,6 +1,6 @@
 //! Reading of lines and columns.
 ghost use Rattle.irtext_base.specs.Faults.{characters};
-ghost use Rattle.irtext_outcomes.specs.Readers.MustRead.{MustRead};
+ghost use Rattle.irtext_read.specs.MustRead.{MustRead};
 ghost use Rattle.irtext_outcomes.specs.Readers.Positions.{labelled_at, position_at};
 
 use crate::irfmt::demanded::{i32_demanded, spaced_text, text_demanded};
@@ -16,7 +16,7 @@ fn labelled_number<S: CharStream, A>(stream: &mut S, word: &str) -> ParseResult<
 }
 
 /// A line and a column.
-pub(crate) fn position_parse<S: CharStream, A>(stream: &mut S) -> ParseResult<SourcePosition, A>
+pub(crate) fn position_demanded<S: CharStream, A>(stream: &mut S) -> ParseResult<SourcePosition, A>
     ensures { MustRead S.view S.at (λ at. at) position_at stream.old result stream.new }
 {
     let line = labelled_number(stream, "line")?;

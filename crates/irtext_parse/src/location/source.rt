@@ -4,14 +4,14 @@ ghost use Rattle.irtext_base.specs.Moves.{path_kept, all_kept};
 ghost use Rattle.irtext_base.specs.Paths.{path_of, is_known};
 ghost use Rattle.irtext_outcomes.specs.Readers.Positions.{position_at};
 ghost use Rattle.irtext_outcomes.specs.Readers.Locations.{bytes_at, path_at, source_at, place_at};
-ghost use Rattle.irtext_outcomes.specs.Readers.MustRead.{MustRead, MayRead};
+ghost use Rattle.irtext_read.specs.MustRead.{MustRead, MayRead};
 ghost use Rattle.irtext_grammar.specs.Contexts.Held.{location_over};
 ghost use Rattle.irtext_outcomes.specs.Readers.NewPaths.{AddsPaths, MustReadOver, MayReadOver, known_location};
-ghost use Rattle.irtext_outcomes.specs.Readers.Roots.{itself, replaced};
+ghost use Rattle.irtext_outcomes.specs.Readers.Streams.{itself, replaced};
 
 use crate::irfmt::demanded::{spaced_text, text_demanded};
 use crate::location::nested::begins_source;
-use crate::location::read::position_parse;
+use crate::location::read::position_demanded;
 use irtext_context::base::Context;
 use irtext_base::location::{Location, Source};
 use irtext_base::parsable::{CharStream, ParseResult, SourcePosition, TextStream};
@@ -29,7 +29,7 @@ pub(crate) fn quoted_demanded<A>(stream: &mut TextStream) -> ParseResult<String,
 }
 
 /// A path between quotation marks, which the context keeps from then on.
-fn path_read<T: IrText<A>, A: AttrText>(
+fn path_demanded<T: IrText<A>, A: AttrText>(
     stream: &mut TextStream,
     ctx: &mut Context<T, A>,
 ) -> ParseResult<Source, A>
@@ -45,7 +45,7 @@ fn path_read<T: IrText<A>, A: AttrText>(
 }
 
 /// A source, which must stand there.
-fn source_read<T: IrText<A>, A: AttrText>(
+fn source_demanded<T: IrText<A>, A: AttrText>(
     stream: &mut TextStream,
     ctx: &mut Context<T, A>,
 ) -> ParseResult<Source, A>
@@ -57,7 +57,7 @@ fn source_read<T: IrText<A>, A: AttrText>(
         return Err(refuse(stream, Cause::StreamFailed));
     }
     if next_is(stream, '"') {
-        return path_read(stream, ctx);
+        return path_demanded(stream, ctx);
     }
     if next_is(stream, '<') {
         text_demanded(stream, "<in-memory>")?;
@@ -68,7 +68,7 @@ fn source_read<T: IrText<A>, A: AttrText>(
 }
 
 /// A source, a line and a column, which must stand there.
-pub(crate) fn place_read<T: IrText<A>, A: AttrText>(
+pub(crate) fn place_demanded<T: IrText<A>, A: AttrText>(
     stream: &mut TextStream,
     ctx: &mut Context<T, A>,
 ) -> ParseResult<Location<A>, A>
@@ -76,14 +76,14 @@ pub(crate) fn place_read<T: IrText<A>, A: AttrText>(
     ensures read { MustReadOver known_location location_over place_at ctx.new.paths stream.old result stream.new }
     ensures paths { IfOk result (λ l. ctx.new.paths ≡ all_kept ctx.old.paths (location_over ctx.new.paths l)) }
 {
-    let src = source_read(stream, ctx)?;
+    let src = source_demanded(stream, ctx)?;
     spaced_text(stream, ":")?;
-    let pos = position_parse(stream)?;
+    let pos = position_demanded(stream)?;
     Ok(Location::SrcPos { src, pos })
 }
 
 /// A source, which may be missing.
-pub(crate) fn source_may<T: IrText<A>, A: AttrText>(
+pub(crate) fn source_parse<T: IrText<A>, A: AttrText>(
     stream: &mut TextStream,
     ctx: &mut Context<T, A>,
 ) -> ParseResult<Source, A>
@@ -97,11 +97,11 @@ pub(crate) fn source_may<T: IrText<A>, A: AttrText>(
     if !begins_source(stream) {
         return Err(unexpected(stream, Expected::Source));
     }
-    source_read(stream, ctx)
+    source_demanded(stream, ctx)
 }
 
 /// A line and a column, which may be missing.
-pub(crate) fn position_may<A>(stream: &mut TextStream) -> ParseResult<SourcePosition, A>
+pub(crate) fn position_parse<A>(stream: &mut TextStream) -> ParseResult<SourcePosition, A>
     ensures { MayRead itself replaced (λ at. at) position_at stream.old result stream.new }
 {
     if stream.has_failed() {
@@ -113,5 +113,5 @@ pub(crate) fn position_may<A>(stream: &mut TextStream) -> ParseResult<SourcePosi
             Err(_) => refuse(stream, Cause::Memory),
         });
     }
-    position_parse(stream)
+    position_demanded(stream)
 }

@@ -6,13 +6,13 @@ ghost use Rattle.irtext_read.specs.AttrTexts.{attr_at};
 ghost use Rattle.irtext_read.specs.States.{marks_of};
 ghost use Rattle.irtext_outcomes.specs.Readers.Locations.{source_at, location_at};
 ghost use Rattle.irtext_outcomes.specs.Readers.Positions.{position_at};
-ghost use Rattle.irtext_outcomes.specs.Readers.MustRead.{MayRead};
+ghost use Rattle.irtext_read.specs.MustRead.{MayRead};
 ghost use Rattle.irtext_grammar.specs.Contexts.Held.{location_over};
 ghost use Rattle.irtext_outcomes.specs.Readers.NewPaths.{AddsPaths, MayReadOver, known_location};
-ghost use Rattle.irtext_outcomes.specs.Readers.Roots.{itself, replaced, KeepsRest};
+ghost use Rattle.irtext_outcomes.specs.Readers.Streams.{itself, replaced, KeepsRest};
 
-use crate::location::nested::location_may;
-use crate::location::source::{position_may, source_may};
+use crate::location::nested::location_parse;
+use crate::location::source::{position_parse, source_parse};
 use crate::parsable::{Parsable, ParseResult, StateStream};
 use irtext_base::location::{Location, Source};
 use irtext_base::parsable::SourcePosition;
@@ -29,7 +29,7 @@ impl<T: IrText<A>, A: AttrText, U> Parsable<T, A, U> for SourcePosition {
         ensures read { MayRead itself replaced (λ at. at) position_at stream.old.stream result stream.new.stream }
         ensures state { stream.new.state ≡ stream.old.state }
     {
-        position_may(&mut stream.stream)
+        position_parse(&mut stream.stream)
     }
 }
 
@@ -49,7 +49,7 @@ impl<T: IrText<A>, A: AttrText, U> Parsable<T, A, U> for Source {
         ensures paths { IfOk result (λ source. stream.new.state.ctx.now.paths ≡ path_kept stream.old.state.ctx.now.paths (path_of stream.new.state.ctx.now.paths source)) }
     {
         let ctx = &mut *stream.state.ctx;
-        source_may(&mut stream.stream, ctx)
+        source_parse(&mut stream.stream, ctx)
     }
 }
 
@@ -71,6 +71,6 @@ impl<T: IrText<A>, A: AttrText, U> Parsable<T, A, U> for Location<A> {
         ensures paths { IfOk result (λ l. stream.new.state.ctx.now.paths ≡ all_kept stream.old.state.ctx.now.paths (location_over stream.new.state.ctx.now.paths l)) }
     {
         let ctx = &mut *stream.state.ctx;
-        location_may(&mut stream.stream, ctx)
+        location_parse(&mut stream.stream, ctx)
     }
 }

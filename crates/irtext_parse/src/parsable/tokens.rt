@@ -2,8 +2,8 @@
 ghost use Rattle.std.specs.Prelude.{◌≡◌, pos};
 ghost use Rattle.irtext_read.specs.Integers.{bool_at, int_at, signed_below, unsigned_below};
 ghost use Rattle.irtext_read.specs.Tokens.{identifier_at};
-ghost use Rattle.irtext_outcomes.specs.Readers.MustRead.{MayRead};
-ghost use Rattle.irtext_outcomes.specs.Readers.Roots.{itself, replaced};
+ghost use Rattle.irtext_read.specs.MustRead.{MayRead};
+ghost use Rattle.irtext_outcomes.specs.Readers.Streams.{itself, replaced};
 
 use crate::parsable::{Parsable, ParseResult, StateStream};
 use irtext_base::base::Identifier;

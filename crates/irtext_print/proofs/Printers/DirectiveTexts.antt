@@ -7,7 +7,7 @@ use Rattle.irtext_base.specs.Text.{Text}
 use Rattle.irtext_base.specs.declared.format.Directive as code
 use Rattle.irtext_print.specs.Printers.PieceText.{directive_text, directives_text, left_behind}
 use Rattle.irtext_grammar.specs.Grammar.Tree.{Attribute}
-use Rattle.irtext_print.proofs.Printers.LocationTexts.{more}
+use Rattle.irtext_print.proofs.Printers.Locations.{more}
 
 -- one directive more
 pub directive_more : {A : Type 0} (written : A → Text) (is_outlined : A → Bool) (ds : List Directive) (es : List (Text × Attribute A)) (r : Text)

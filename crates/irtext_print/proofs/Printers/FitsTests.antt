@@ -7,8 +7,8 @@ use Rattle.irtext_base.specs.Text.{Text}
 use Rattle.irtext_base.specs.Format as format
 use Rattle.irtext_base.specs.Format.{Directive, count, keys, has, same_text, is_header, sym_name_key}
 use Rattle.irtext_grammar.specs.Graphs.Graph.{Printing, lookup, written_keys}
-use Rattle.irtext_print.specs.Printers.PieceText.{write_key}
-use Rattle.irtext_print.specs.Printers.Soles.{key_there}
+use Rattle.irtext_print.specs.Printers.PieceText.{is_key_written}
+use Rattle.irtext_print.specs.Printers.PrintedOperation.{has_named_key}
 use Rattle.irtext_grammar.specs.Grammar.Tree.{Attribute}
 
 -- a test of all values of a list
@@ -45,7 +45,7 @@ any_count test (d ∷ ds) = go (test d) (any_count test ds)
     go false h = h
 
 -- the keys that are named are there
-pub all_keys : {A : Type 0} (es : List (Text × Attribute A)) (ds : List Directive) → list_all (key_there es) ds ≡ list_all (λ k. is_some (lookup k es)) (keys ds)
+pub all_keys : {A : Type 0} (es : List (Text × Attribute A)) (ds : List Directive) → list_all (has_named_key es) ds ≡ list_all (λ k. is_some (lookup k es)) (keys ds)
 all_keys es [] = refl
 all_keys es (format.word s ∷ ds) = all_keys es ds
 all_keys es (format.operand i ∷ ds) = all_keys es ds
@@ -73,7 +73,7 @@ abbrev symbol_key : List Directive → List Text
 symbol_key ds = cond (count is_header ds == 0) [] (sym_name_key ∷ [])
 
 -- the keys that directives write are those that one of them writes
-key_written : (key : Text) (ds : List Directive) → (has same_text key (keys ds) || has same_text key (symbol_key ds)) ≡ write_key key ds
+key_written : (key : Text) (ds : List Directive) → (has same_text key (keys ds) || has same_text key (symbol_key ds)) ≡ is_key_written key ds
 key_written key [] = refl
 key_written key (format.word s ∷ ds) = key_written key ds
 key_written key (format.operand i ∷ ds) = key_written key ds
@@ -82,15 +82,15 @@ key_written key (format.successor i ∷ ds) = key_written key ds
 key_written key (format.successors ∷ ds) = key_written key ds
 key_written key (format.attribute k ∷ ds) = go (same_text key k) (key_written key ds)
   where
-    go : (b : Bool) → (has same_text key (keys ds) || has same_text key (symbol_key ds)) ≡ write_key key ds
-        → ((b || has same_text key (keys ds)) || has same_text key (symbol_key ds)) ≡ (b || write_key key ds)
+    go : (b : Bool) → (has same_text key (keys ds) || has same_text key (symbol_key ds)) ≡ is_key_written key ds
+        → ((b || has same_text key (keys ds)) || has same_text key (symbol_key ds)) ≡ (b || is_key_written key ds)
     go true h = refl
     go false h = h
 key_written key (format.dictionary ∷ ds) = key_written key ds
 key_written key (format.result_type i ∷ ds) = key_written key ds
 key_written key (format.region i ∷ ds) = key_written key ds
 key_written key (format.regions ∷ ds) = key_written key ds
-key_written key (format.header ∷ ds) = ap (λ c. has same_text key (keys ds) || has same_text key (cond c [] (sym_name_key ∷ []))) (counted (count is_header ds)) ∙ go (same_text key sym_name_key) refl (count is_header ds == 0) (has same_text key (keys ds)) (write_key key ds) (key_written key ds)
+key_written key (format.header ∷ ds) = ap (λ c. has same_text key (keys ds) || has same_text key (cond c [] (sym_name_key ∷ []))) (counted (count is_header ds)) ∙ go (same_text key sym_name_key) refl (count is_header ds == 0) (has same_text key (keys ds)) (is_key_written key ds) (key_written key ds)
   where
     go : (b : Bool) → same_text key sym_name_key ≡ b → (c a w : Bool) → (a || has same_text key (cond c [] (sym_name_key ∷ []))) ≡ w → (a || (b || false)) ≡ (b || w)
     go true e c true w h = refl
@@ -99,5 +99,5 @@ key_written key (format.header ∷ ds) = ap (λ c. has same_text key (keys ds) |
     go false e false a w h = sym (ap (λ b. a || (b || false)) e) ∙ h
 
 -- the same of all keys that are written
-pub written_key : {T A : Type 0} (C : Printing T A) (key : Text) (ds : List Directive) → has same_text key (written_keys C ds) ≡ write_key key ds
+pub written_key : {T A : Type 0} (C : Printing T A) (key : Text) (ds : List Directive) → has same_text key (written_keys C ds) ≡ is_key_written key ds
 written_key C key ds = has_append key (keys ds) (symbol_key ds) ∙ key_written key ds

@@ -16,7 +16,7 @@ use Rattle.irtext_print.specs.Printers.PieceText.{symbol_in, region_text}
 use Rattle.irtext_print.specs.Printers.Shown.{Shown}
 use Rattle.irtext_grammar.specs.Contexts.Held.{entries_of}
 use Rattle.irtext_print.specs.Printers.Appended.{Writes}
-use Rattle.irtext_print.proofs.Printers.LocationTexts.{more, worded}
+use Rattle.irtext_print.proofs.Printers.Locations.{more, worded}
 use Rattle.irtext_print.proofs.Printers.RegionTexts.{region_bytes}
 
 module _ {T A : Type 0} where

@@ -20,17 +20,17 @@ use Rattle.irtext_context.specs.declared.base.region.Region.{Region}
 use Rattle.irtext_base.proofs.Characters.{and_left}
 use Rattle.irtext_print.specs.Printers.ConcreteText.{concrete_text, directives_in}
 use Rattle.irtext_grammar.specs.Graphs.Graph.{GraphOp, Printing, lookup, outlined, inline, entries, written_keys, part_of, body_of, tree_regions}
-use Rattle.irtext_print.specs.Printers.PieceText.{write_key, listed, entry_text, rows_text, inline_text_in, spaced_if, symbol_text, symbol_in, repeated, region_text, directives_text}
-use Rattle.irtext_print.specs.Printers.PrintedOperation.{is_written, is_printed, is_printed_in, fits_directives, fits_format, regions_fit, keys_there, symbol_fits, all_written, none_outlined, levels}
+use Rattle.irtext_print.specs.Printers.PieceText.{is_key_written, dictionary_entries, entry_text, rows_text, inline_text_in, spaced_if, symbol_text, symbol_in, repeated, region_text, directives_text}
+use Rattle.irtext_print.specs.Printers.PrintedOperation.{is_supported, is_printed, is_printed_in, fits_directives, fits_format, regions_fit, has_named_keys, symbol_fits, covers_all, none_outlined, levels}
 use Rattle.irtext_print.specs.Printers.Shown.{Shown}
-use Rattle.irtext_grammar.specs.Spelling.Spell.{hugs, piece, parts, body, entry, attribute, joined, joined_from, comma, region_texts}
+use Rattle.irtext_grammar.specs.Spelling.Spell.{joins_left, piece, parts, body, entry, attribute, joined, joined_from, comma, region_texts}
 use Rattle.irtext_grammar.specs.Contexts.Held.{entries_of, empty_regions}
 use Rattle.irtext_grammar.specs.Grammar.Tree as tree
 use Rattle.irtext_grammar.specs.Grammar.Tree.{Attribute, given_names, ident, own, Part}
 use Rattle.irtext_print.specs.declared.printable.state.RegionPrintDepthLimit.{RegionPrintDepthLimit}
 use Rattle.irtext_print.specs.declared.printable.state.RegionPrintDepthLimit.TheVariants.{Unlimited, Max}
 use Rattle.irtext_print.proofs.Printers.FitsTests.{counted, written_key}
-use Rattle.irtext_print.proofs.Printers.LocationTexts.{more}
+use Rattle.irtext_print.proofs.Printers.Locations.{more}
 
 -- the same text so many times, joined by nothing
 joined_repeated : (n : ℕ) (r : Text) → joined [] (replicate n r) ≡ repeated n r
@@ -60,19 +60,19 @@ module _ {T A : Type 0} (L : Language ⊤ T A) (C : Printing T A) (o : GraphOp T
   abbrev tail : List Directive → List (Part ⊤ T A)
   tail ds = filter_map (part_of C all o) ds
 
-  rows_are : joined comma (map (entry L) (entries C (filter (λ e. not (has same_text e.0 (written_keys C all))) (inline C o.attributes)))) ≡ rows_text L.owns.written (listed C.own_outlined all o.attributes)
+  rows_are : joined comma (map (entry L) (entries C (filter (λ e. not (has same_text e.0 (written_keys C all))) (inline C o.attributes)))) ≡ rows_text L.owns.written (dictionary_entries C.own_outlined all o.attributes)
   rows_are =
       ap (joined comma) (map_both (entry L) (λ e. (record { place = tt; text = e.0 }, e.1)) (filter (λ e. not (has same_text e.0 (written_keys C all))) (inline C o.attributes))
-      ∙ ap (map (entry_text L.owns.written)) (filter_alike (λ e. not (has same_text e.0 (written_keys C all))) (λ e. not (write_key e.0 all)) (λ e. ap not (written_key C e.0 all)) (inline C o.attributes)))
+      ∙ ap (map (entry_text L.owns.written)) (filter_alike (λ e. not (has same_text e.0 (written_keys C all))) (λ e. not (is_key_written e.0 all)) (λ e. ap not (written_key C e.0 all)) (inline C o.attributes)))
 
   inline_is : (k : Text) (a : Attribute A) (b : Bool) → piece L (tree.attribute k (cond b None (Some a))) ≡ cond b (codes "!outlined") (attribute L a)
   inline_is k a true = refl
   inline_is k a false = refl
 
-  pub parts_text : (ds : List Directive) (n : ℕ) → list_all is_written ds ≡ true → parts L (tail ds) (replicate n r) ≡ left n ds
+  pub parts_text : (ds : List Directive) (n : ℕ) → list_all is_supported ds ≡ true → parts L (tail ds) (replicate n r) ≡ left n ds
   parts_text [] n h = refl
   parts_text (format.word s ∷ ds) n h =
-      ap (λ z. cond (begins hugs s) [] (codes " ") ++ (s ++ z)) (parts_text ds n h) ∙ sym (append_assoc (cond (begins hugs s) [] (codes " ")) s (left n ds))
+      ap (λ z. cond (begins joins_left s) [] (codes " ") ++ (s ++ z)) (parts_text ds n h) ∙ sym (append_assoc (cond (begins joins_left s) [] (codes " ")) s (left n ds))
   parts_text (format.attribute k ∷ ds) n h = go (lookup k o.attributes) (parts_text ds n h)
     where
       go : (x : Option (Attribute A)) → parts L (tail ds) (replicate n r) ≡ left n ds
@@ -81,7 +81,7 @@ module _ {T A : Type 0} (L : Language ⊤ T A) (C : Printing T A) (o : GraphOp T
       go (Some a) e = ap (λ z. codes " " ++ (z ++ parts L (tail ds) (replicate n r))) (inline_is k a (outlined C a)) ∙ ap (λ z. codes " " ++ (cond (outlined C a) (codes "!outlined") (attribute L a) ++ z)) e
   parts_text (format.dictionary ∷ ds) n h =
       ap (λ z. codes " [" ++ ((z ++ codes "]") ++ parts L (tail ds) (replicate n r))) rows_are
-      ∙ ap (λ z. codes " [" ++ ((rows_text L.owns.written (listed C.own_outlined all o.attributes) ++ codes "]") ++ z)) (parts_text ds n h)
+      ∙ ap (λ z. codes " [" ++ ((rows_text L.owns.written (dictionary_entries C.own_outlined all o.attributes) ++ codes "]") ++ z)) (parts_text ds n h)
   parts_text (format.header ∷ ds) n h = go (lookup sym_name_key o.attributes) (parts_text ds n h)
     where
       go : (x : Option (Attribute A)) → parts L (tail ds) (replicate n r) ≡ left n ds
@@ -122,7 +122,7 @@ module _ {T A U : Type 0} (L : Language ⊤ T A) (C : Printing T A) (s : Shown U
     printed_is = ap (λ f. fits_format C f (entries_of op.attributes) (length op.regions)) (custom_is (C.format_of (id_of op.id)) ds known)
 
     -- its concrete text
-    pub concrete_is : list_all is_written ds ≡ true → concrete_text L C op s ≡ id_text op.id ++ directives_text L.owns.written C.own_outlined ds (entries_of op.attributes) (region_text s) (length op.regions) ds
+    pub concrete_is : list_all is_supported ds ≡ true → concrete_text L C op s ≡ id_text op.id ++ directives_text L.owns.written C.own_outlined ds (entries_of op.attributes) (region_text s) (length op.regions) ds
     concrete_is w =
         let o : GraphOp T A = record { id = id_of op.id; results = []; operands = []; successors = []; attributes = entries_of op.attributes; location = None } in
         let texts = region_texts L s.width s.indent (tree_regions C (levels s.limit) 0 (empty_regions op.regions)) in
@@ -153,7 +153,7 @@ module _ {T A U : Type 0} (L : Language ⊤ T A) (C : Printing T A) (s : Shown U
   pub concrete_appended : (old mid new : List ℕ) → fits_directives C ds (entries_of es) n ≡ true → mid ≡ old ++ encode_utf8_all (id_text id)
       → new ≡ mid ++ encode_utf8_all (directives_text L.owns.written C.own_outlined ds (entries_of es) (region_text s) n ds) → new ≡ old ++ encode_utf8_all (concrete_text L C op s)
   concrete_appended old mid new h p q =
-      let w = and_left (list_all is_written ds) (regions_fit ds n && (keys_there (entries_of es) ds && (symbol_fits (entries_of es) ds && (all_written C ds (entries_of es) && none_outlined C (entries_of es))))) h in
+      let w = and_left (list_all is_supported ds) (regions_fit ds n && (has_named_keys (entries_of es) ds && (symbol_fits (entries_of es) ds && (covers_all C ds (entries_of es) && none_outlined C (entries_of es))))) h in
       let is : concrete_text L C op s ≡ id_text id ++ directives_text L.owns.written C.own_outlined ds (entries_of es) (region_text s) n ds
       = concrete_is L C s op ds own_directives w ∙ ap (λ i. id_text i ++ directives_text L.owns.written C.own_outlined ds (entries_of op.attributes) (region_text s) (length op.regions) ds) given.same_id
       ∙ ap (λ z. id_text id ++ directives_text L.owns.written C.own_outlined ds (entries_of z) (region_text s) (length op.regions) ds) given.same_attributes

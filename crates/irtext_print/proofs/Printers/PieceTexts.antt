@@ -17,11 +17,11 @@ use Rattle.irtext_base.specs.Format.{Directive}
 use Rattle.irtext_base.proofs.Characters.{and_left, and_right}
 use Rattle.irtext_grammar.specs.Grammar.Tree.{Attribute}
 use Rattle.irtext_grammar.specs.Graphs.Graph.{lookup, outlined, inline}
-use Rattle.irtext_print.specs.Printers.PieceText.{word_text, words, outlining, write_key, listed, entry_text}
-use Rattle.irtext_grammar.specs.Spelling.Spell.{hugs, comma, attribute, joined_from}
+use Rattle.irtext_print.specs.Printers.PieceText.{word_text, words, outlining, is_key_written, dictionary_entries, entry_text}
+use Rattle.irtext_grammar.specs.Spelling.Spell.{joins_left, comma, attribute, joined_from}
 use Rattle.irtext_grammar.specs.Contexts.Held.{attribute_of, entries_of}
 use Rattle.irtext_grammar.proofs.Lists.Ascii.{ascii-identifier, encodes-ascii}
-use Rattle.irtext_print.proofs.Printers.LocationTexts.{worded, more, left_text}
+use Rattle.irtext_print.proofs.Printers.Locations.{worded, more, left_text}
 
 -- the attribute under a key, as a dictionary finds it
 pub looked : {A : Type 0} (key : Text) (es : List (Text × AttrObj A)) → lookup key (entries_of es) ≡ option_map attribute_of (dictionary.lookup (bytes_eq key) es)
@@ -43,7 +43,7 @@ pub unchanged : (old : List ℕ) → old ≡ old ++ encode_utf8_all []
 unchanged old = sym (append-nil old)
 
 -- a fixed word is written
-pub word_appended : (word : List ℕ) (hugging : Bool) (old now new : List ℕ) → IsUtf8 word → hugging ≡ begins hugs (chars word) → now ≡ old ++ cond hugging [] (codes " ") → new ≡ now ++ word
+pub word_appended : (word : List ℕ) (hugging : Bool) (old now new : List ℕ) → IsUtf8 word → hugging ≡ begins joins_left (chars word) → now ≡ old ++ cond hugging [] (codes " ") → new ≡ now ++ word
     → new ≡ old ++ encode_utf8_all (word_text (chars word))
 word_appended word hugging old now new u h p q =
     let is : word ≡ encode_utf8_all (chars word) = sym (encodes-chars word u) in
@@ -82,46 +82,46 @@ row_written false t ts now next all p h = more now next (next ++ encode_utf8_all
 module _ {A : Type 0} (written : A → Text) (is_outlined : A → Bool) (ds : List Directive) (key : Text) (attr : AttrObj A) (es : List (Text × AttrObj A)) where
   -- the test of the dictionary's entries
   abbrev free : Text × Attribute A → Bool
-  free e = not (write_key e.0 ds)
+  free e = not (is_key_written e.0 ds)
 
   -- an entry that the dictionary writes
-  listed_more : (not (outlined (outlining is_outlined) (attribute_of attr)) && not (write_key key ds)) ≡ true
-      → listed is_outlined ds (entries_of ((key, attr) ∷ es)) ≡ (key, attribute_of attr) ∷ listed is_outlined ds (entries_of es)
+  listed_more : (not (outlined (outlining is_outlined) (attribute_of attr)) && not (is_key_written key ds)) ≡ true
+      → dictionary_entries is_outlined ds (entries_of ((key, attr) ∷ es)) ≡ (key, attribute_of attr) ∷ dictionary_entries is_outlined ds (entries_of es)
   listed_more h =
       let rest = inline (outlining is_outlined) (entries_of es) in
-      ap (λ b. filter free (cond b ((key, attribute_of attr) ∷ rest) rest)) (and_left (not (outlined (outlining is_outlined) (attribute_of attr))) (not (write_key key ds)) h)
-      ∙ ap (λ b. cond b ((key, attribute_of attr) ∷ filter free rest) (filter free rest)) (and_right (not (outlined (outlining is_outlined) (attribute_of attr))) (not (write_key key ds)) h)
+      ap (λ b. filter free (cond b ((key, attribute_of attr) ∷ rest) rest)) (and_left (not (outlined (outlining is_outlined) (attribute_of attr))) (not (is_key_written key ds)) h)
+      ∙ ap (λ b. cond b ((key, attribute_of attr) ∷ filter free rest) (filter free rest)) (and_right (not (outlined (outlining is_outlined) (attribute_of attr))) (not (is_key_written key ds)) h)
 
   -- one that it doesn't
-  listed_same : (not (outlined (outlining is_outlined) (attribute_of attr)) && not (write_key key ds)) ≡ false
-      → listed is_outlined ds (entries_of ((key, attr) ∷ es)) ≡ listed is_outlined ds (entries_of es)
+  listed_same : (not (outlined (outlining is_outlined) (attribute_of attr)) && not (is_key_written key ds)) ≡ false
+      → dictionary_entries is_outlined ds (entries_of ((key, attr) ∷ es)) ≡ dictionary_entries is_outlined ds (entries_of es)
   listed_same h = go (not (outlined (outlining is_outlined) (attribute_of attr))) h
     where
-      go : (b : Bool) → (b && not (write_key key ds)) ≡ false → filter free (cond b ((key, attribute_of attr) ∷ inline (outlining is_outlined) (entries_of es)) (inline (outlining is_outlined) (entries_of es))) ≡ filter free (inline (outlining is_outlined) (entries_of es))
+      go : (b : Bool) → (b && not (is_key_written key ds)) ≡ false → filter free (cond b ((key, attribute_of attr) ∷ inline (outlining is_outlined) (entries_of es)) (inline (outlining is_outlined) (entries_of es))) ≡ filter free (inline (outlining is_outlined) (entries_of es))
       go false h = refl
       go true h = ap (λ b. cond b ((key, attribute_of attr) ∷ filter free (inline (outlining is_outlined) (entries_of es))) (filter free (inline (outlining is_outlined) (entries_of es)))) h
 
   -- what is left of the rows of these entries
   abbrev pub rows_left : Bool → List (Text × AttrObj A) → Text
-  rows_left first es = left_text first (map (entry_text written) (listed is_outlined ds (entries_of es)))
+  rows_left first es = left_text first (map (entry_text written) (dictionary_entries is_outlined ds (entries_of es)))
 
   -- an entry is written
-  pub row_more : (left : List (Text × AttrObj A)) (first : Bool) (now next all : List ℕ) → left ≡ (key, attr) ∷ es → (not (outlined (outlining is_outlined) (attribute_of attr)) && not (write_key key ds)) ≡ true
+  pub row_more : (left : List (Text × AttrObj A)) (first : Bool) (now next all : List ℕ) → left ≡ (key, attr) ∷ es → (not (outlined (outlining is_outlined) (attribute_of attr)) && not (is_key_written key ds)) ≡ true
       → next ≡ now ++ encode_utf8_all (cond first [] comma ++ entry_text written (key, attribute_of attr)) → now ++ encode_utf8_all (rows_left first left) ≡ all → next ++ encode_utf8_all (rows_left false es) ≡ all
   row_more left first now next all e h p before =
-      row_written first (entry_text written (key, attribute_of attr)) (map (entry_text written) (listed is_outlined ds (entries_of es))) now next all p
+      row_written first (entry_text written (key, attribute_of attr)) (map (entry_text written) (dictionary_entries is_outlined ds (entries_of es))) now next all p
       (ap (λ z. now ++ encode_utf8_all (left_text first (map (entry_text written) z))) (sym (listed_more h)) ∙ ap (λ z. now ++ encode_utf8_all (rows_left first z)) (sym e) ∙ before)
 
   -- an entry is left out
-  pub row_same : (left : List (Text × AttrObj A)) (first : Bool) (now all : List ℕ) → left ≡ (key, attr) ∷ es → (not (outlined (outlining is_outlined) (attribute_of attr)) && not (write_key key ds)) ≡ false
+  pub row_same : (left : List (Text × AttrObj A)) (first : Bool) (now all : List ℕ) → left ≡ (key, attr) ∷ es → (not (outlined (outlining is_outlined) (attribute_of attr)) && not (is_key_written key ds)) ≡ false
       → now ++ encode_utf8_all (rows_left first left) ≡ all → now ++ encode_utf8_all (rows_left first es) ≡ all
   row_same left first now all e h before =
       ap (λ z. now ++ encode_utf8_all (left_text first (map (entry_text written) z))) (sym (listed_same h)) ∙ ap (λ z. now ++ encode_utf8_all (rows_left first z)) (sym e) ∙ before
 
 -- all rows are written
 pub rows_end : {A : Type 0} (written : A → Text) (is_outlined : A → Bool) (ds : List Directive) (left : List (Text × AttrObj A)) (first : Bool) (now all : List ℕ) → left ≡ []
-    → now ++ encode_utf8_all (left_text first (map (entry_text written) (listed is_outlined ds (entries_of left)))) ≡ all → now ≡ all
-rows_end {A = A} written is_outlined ds left first now all e before = go first (ap (λ z. now ++ encode_utf8_all (left_text first (map (entry_text written) (listed is_outlined ds (entries_of z))))) (sym e) ∙ before)
+    → now ++ encode_utf8_all (left_text first (map (entry_text written) (dictionary_entries is_outlined ds (entries_of left)))) ≡ all → now ≡ all
+rows_end {A = A} written is_outlined ds left first now all e before = go first (ap (λ z. now ++ encode_utf8_all (left_text first (map (entry_text written) (dictionary_entries is_outlined ds (entries_of z))))) (sym e) ∙ before)
   where
     go : (first : Bool) → now ++ encode_utf8_all (left_text first []) ≡ all → now ≡ all
     go true h = sym (append-nil now) ∙ h

@@ -19,7 +19,7 @@ use Rattle.irtext_base.specs.declared.location.Location.{Location}
 use Rattle.irtext_print.specs.Printers.ConcreteText.{concrete_of, concrete_text, printed_concrete, debugging, debug_text}
 use Rattle.irtext_grammar.specs.Graphs.Graph.{Graph, Printing, Limit, Entry, is_elided, mark_at, marks_in_regions, entries_of_regions, own_entry, outlined, outlined_entries}
 use Rattle.irtext_grammar.specs.Spelling.Locations.{known_text}
-use Rattle.irtext_print.specs.Printers.PrintedOperation.{printed, levels, is_printed, is_printed_in, is_written, fits_format, regions_fit, keys_there, symbol_fits, all_written, none_outlined, mark_text, gathered_at, entry_at, entry_text, section_text, root_text}
+use Rattle.irtext_print.specs.Printers.PrintedOperation.{printed, levels, is_printed, is_printed_in, is_supported, fits_format, regions_fit, has_named_keys, symbol_fits, covers_all, none_outlined, mark_text, gathered_at, entry_at, entry_text, section_text, root_text}
 use Rattle.irtext_print.specs.Printers.Printing.{gathered_of, with_gathered}
 use Rattle.irtext_grammar.specs.Spelling.Section.{text, section}
 use Rattle.irtext_print.specs.Printers.Shown.{Shown}
@@ -27,7 +27,7 @@ use Rattle.irtext_grammar.specs.Spelling.Spell.{mark_if}
 use Rattle.irtext_grammar.specs.Contexts.Held.{graph_at, entries_of, empty_regions}
 use Rattle.irtext_grammar.specs.Grammar.Tree.{Attribute}
 use Rattle.irtext_print.specs.Printers.Appended.{Writes, text_of}
-use Rattle.irtext_print.proofs.Printers.LocationTexts.{more}
+use Rattle.irtext_print.proofs.Printers.Locations.{more}
 use Rattle.irtext_print.proofs.Printers.OperationTexts.{seen}
 use Rattle.irtext_print.proofs.Printers.RootParts.{none, plain_mark, plain_section, plain_gathered, known}
 
@@ -76,11 +76,11 @@ module _ {T A : Type 0} (C : Printing T A) where
       go None h = absurd (true≢false (sym h))
       go (Some format.canonical) h = absurd (true≢false (sym h))
       go (Some (format.custom ds)) h =
-          let fits-5 = and_right (list_all is_written ds) (regions_fit ds (length op.regions) && (keys_there (entries_of op.attributes) ds && (symbol_fits (entries_of op.attributes) ds && (all_written C ds (entries_of op.attributes) && none_outlined C (entries_of op.attributes))))) h in
-          let fits-4 = and_right (regions_fit ds (length op.regions)) (keys_there (entries_of op.attributes) ds && (symbol_fits (entries_of op.attributes) ds && (all_written C ds (entries_of op.attributes) && none_outlined C (entries_of op.attributes)))) fits-5 in
-          let fits-3 = and_right (keys_there (entries_of op.attributes) ds) (symbol_fits (entries_of op.attributes) ds && (all_written C ds (entries_of op.attributes) && none_outlined C (entries_of op.attributes))) fits-4 in
-          let fits-2 = and_right (symbol_fits (entries_of op.attributes) ds) (all_written C ds (entries_of op.attributes) && none_outlined C (entries_of op.attributes)) fits-3 in
-          and_right (all_written C ds (entries_of op.attributes)) (none_outlined C (entries_of op.attributes)) fits-2
+          let fits-5 = and_right (list_all is_supported ds) (regions_fit ds (length op.regions) && (has_named_keys (entries_of op.attributes) ds && (symbol_fits (entries_of op.attributes) ds && (covers_all C ds (entries_of op.attributes) && none_outlined C (entries_of op.attributes))))) h in
+          let fits-4 = and_right (regions_fit ds (length op.regions)) (has_named_keys (entries_of op.attributes) ds && (symbol_fits (entries_of op.attributes) ds && (covers_all C ds (entries_of op.attributes) && none_outlined C (entries_of op.attributes)))) fits-5 in
+          let fits-3 = and_right (has_named_keys (entries_of op.attributes) ds) (symbol_fits (entries_of op.attributes) ds && (covers_all C ds (entries_of op.attributes) && none_outlined C (entries_of op.attributes))) fits-4 in
+          let fits-2 = and_right (symbol_fits (entries_of op.attributes) ds) (covers_all C ds (entries_of op.attributes) && none_outlined C (entries_of op.attributes)) fits-3 in
+          and_right (covers_all C ds (entries_of op.attributes)) (none_outlined C (entries_of op.attributes)) fits-2
 
 module _ {T A : Type 0} (L : Language ⊤ T A) (C : Printing T A) (es : List (Text × Attribute A)) (free : none_outlined C es ≡ true) where
   mark_is : (l : Option Text) → mark_if L (mark_at C 0 l (outlined_entries C es)) ≡ plain_mark l

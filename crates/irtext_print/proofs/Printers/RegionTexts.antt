@@ -9,7 +9,7 @@ use Rattle.irtext_print.specs.declared.printable.state.RegionPrintDepthLimit.{Re
 use Rattle.irtext_print.specs.declared.printable.state.RegionPrintDepthLimit.TheVariants.{Unlimited, Max}
 use Rattle.irtext_print.proofs.Printers.Appended.{spaces-ascii}
 use Rattle.irtext_grammar.proofs.Lists.Ascii.{ascii-from, encodes-ascii}
-use Rattle.irtext_print.proofs.Printers.LocationTexts.{worded, more}
+use Rattle.irtext_print.proofs.Printers.Locations.{worded, more}
 
 ascii-newline : (k : ℕ) → IsAscii (newline k)
 ascii-newline k = IsAscii-append (codes "\n") (replicate k 32) (ascii-from (codes "\n") refl) (spaces-ascii k)

@@ -1,4 +1,4 @@
--- What errors print as, in bytes, with the locations of theirs that are known in front.
+-- For callers: what errors print as, in bytes, with the locations of theirs that are known in front.
 use Rattle.std.specs.Prelude.{List, ℕ, [], ◌++◌, Option, Some, None, codes}
 use Rattle.std.specs.Option.{option_map}
 use Rattle.std.specs.Str.{encode_utf8_all}

@@ -1,4 +1,4 @@
--- What errors and answers print as.
+-- For callers: what errors and answers print as.
 use Rattle.std.specs.Prelude.{List, ℕ, Option, Some, Result, Ok, Err, ⊤}
 use Rattle.irtext_base.specs.Text.{Text}
 use Rattle.irtext_context.specs.declared.base.context.Context.{Context}

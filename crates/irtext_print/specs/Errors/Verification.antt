@@ -1,4 +1,4 @@
--- The texts of what verification refuses, in bytes.
+-- For callers: the texts of what verification refuses, in bytes.
 use Rattle.std.specs.Prelude.{List, ℕ, ◌++◌, codes, string_bytes}
 use Rattle.irtext_print.specs.declared.ir.verify.BasicBlockVerifyErr as block
 use Rattle.irtext_print.specs.declared.ir.verify.BasicBlockVerifyErr.TheVariants as of_block

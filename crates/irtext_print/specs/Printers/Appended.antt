@@ -1,4 +1,4 @@
--- What a printing appends, and the state that it leaves.
+-- For callers: what a printing appends, and the state that it leaves.
 use Rattle.std.specs.Prelude.{◌≡◌, ℕ, List, [], ◌++◌, Option, Some, None, IfSome}
 use Rattle.irtext_print.specs.Printers.Shown.{Shown}
 use Rattle.irtext_print.specs.declared.printable.state.RegionPrintDepthLimit.{RegionPrintDepthLimit}

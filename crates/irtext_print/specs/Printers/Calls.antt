@@ -1,4 +1,4 @@
--- Calls of closures that print.
+-- For callers: calls of closures that print.
 use Rattle.std.specs.Prelude.{◌≡◌, Result, Ok}
 use Rattle.std.specs.Borrow.{Bor, MutBor}
 use Rattle.std.specs.Fn.{Shared}

@@ -1,4 +1,4 @@
--- The concrete text of an operation, by the text of its tree: without its mark, and without a section.
+-- For callers: the concrete text of an operation, by the text of its tree: without its mark, and without a section.
 use Rattle.std.specs.Prelude.{ℕ, cond, List, [], ◌∷◌, Option, Some, None, ⊤}
 use Rattle.std.specs.Option.{option_map, option_and_then}
 use Rattle.std.specs.Str.{encode_utf8_all}

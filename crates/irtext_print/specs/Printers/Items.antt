@@ -1,4 +1,4 @@
--- Items that are written one behind another, with separators between.
+-- For callers: items that are written one behind another, with separators between.
 use Rattle.std.specs.Prelude.{◌≡◌, ℕ, List, [], ◌∷◌, ◌++◌, Bool, true, false, cond, MatchBool, string_bytes, Option}
 use Rattle.std.specs.List.{FoldsTo}
 use Rattle.std.specs.Iterator.{Drains}

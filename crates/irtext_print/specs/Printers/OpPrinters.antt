@@ -1,4 +1,4 @@
--- The texts of an operation's parts: its header, with a type too, and its one region.
+-- For callers: the texts of an operation's parts: its header, with a type too, and its one region.
 use Rattle.std.specs.Prelude.{ℕ, cond, ◌==◌, List, ◌++◌, length, Option, Some, None, codes}
 use Rattle.std.specs.Option.{option_map, option_and_then}
 use Rattle.std.specs.Str.{encode_utf8_all}

@@ -1,4 +1,4 @@
--- What is written of an operation's attributes and regions by the directives of its format.
+-- For callers: what is written of an operation's attributes and regions by the directives of its format.
 use Rattle.std.specs.Prelude.{ℕ, zero, suc, ◌+◌, ◌-◌, ◌==◌, Bool, false, cond, not, List, [], ◌∷◌, ◌++◌, map, filter, Option, Some, None, codes, ⊤}
 use Rattle.std.specs.List.{list_any}
 use Rattle.irtext_base.specs.Text.{Text, begins}
@@ -8,7 +8,7 @@ use Rattle.irtext_base.specs.Own.{Language, unplaced, missing}
 use Rattle.irtext_grammar.specs.Graphs.Graph.{Printing, lookup, outlined, inline}
 use Rattle.irtext_print.specs.Printers.Printing.{lowered}
 use Rattle.irtext_print.specs.Printers.Shown.{Shown}
-use Rattle.irtext_grammar.specs.Spelling.Spell.{hugs, newline, attribute, joined, comma}
+use Rattle.irtext_grammar.specs.Spelling.Spell.{joins_left, newline, attribute, joined, comma}
 use Rattle.irtext_grammar.specs.Grammar.Tree.{Attribute, ident, given_names, own}
 
 -- what printing asks of the caller's attributes, where it is only whether one is outlined
@@ -30,7 +30,7 @@ spaced_if (Some text) = spaced text
 
 -- a fixed word, behind a space unless it hugs what stands before it
 abbrev pub word_text : Text → Text
-word_text s = cond (begins hugs s) [] (codes " ") ++ s
+word_text s = cond (begins joins_left s) [] (codes " ") ++ s
 
 -- a text so many times
 abbrev pub repeated : ℕ → Text → Text
@@ -44,14 +44,14 @@ left_behind n format.regions = 0
 left_behind n _ = n
 
 -- the directive writes the attribute under a key
-abbrev pub writes_key : Text → Directive → Bool
-writes_key key (format.attribute named) = same_text key named
-writes_key key format.header = same_text key sym_name_key
-writes_key key _ = false
+abbrev pub names_key : Text → Directive → Bool
+names_key key (format.attribute named) = same_text key named
+names_key key format.header = same_text key sym_name_key
+names_key key _ = false
 
 -- one of the directives writes the attribute under a key
-abbrev pub write_key : Text → List Directive → Bool
-write_key key ds = list_any (writes_key key) ds
+abbrev pub is_key_written : Text → List Directive → Bool
+is_key_written key ds = list_any (names_key key) ds
 
 -- a symbol's name behind `@`, where there is one
 abbrev pub symbol_text : Option Text → Text
@@ -67,8 +67,8 @@ module _ {A : Type 0} where
   symbol_in (Some (own a)) = None
 
   -- the entries that the dictionary writes: those that no other directive writes and that are not outlined
-  abbrev pub listed : (A → Bool) → List Directive → List (Text × Attribute A) → List (Text × Attribute A)
-  listed is_outlined ds es = filter (λ e. not (write_key e.0 ds)) (inline (outlining is_outlined) es)
+  abbrev pub dictionary_entries : (A → Bool) → List Directive → List (Text × Attribute A) → List (Text × Attribute A)
+  dictionary_entries is_outlined ds es = filter (λ e. not (is_key_written e.0 ds)) (inline (outlining is_outlined) es)
 
   module _ (written : A → Text) where
     -- an entry
@@ -93,7 +93,7 @@ module _ {A : Type 0} where
       abbrev pub directive_text : List Directive → List (Text × Attribute A) → Text → ℕ → Directive → Text
       directive_text ds es r n (format.word s) = word_text s
       directive_text ds es r n (format.attribute k) = spaced_if (inline_text_in (lookup k es))
-      directive_text ds es r n format.dictionary = codes " [" ++ (rows_text (listed is_outlined ds es) ++ codes "]")
+      directive_text ds es r n format.dictionary = codes " [" ++ (rows_text (dictionary_entries is_outlined ds es) ++ codes "]")
       directive_text ds es r n format.header = symbol_text (symbol_in (lookup sym_name_key es))
       directive_text ds es r n (format.region i) = cond (n == 0) [] (spaced r)
       directive_text ds es r n format.regions = spaced (repeated n r)

@@ -1,4 +1,4 @@
--- The operations that are printed so far, and their texts: those that fit their format, where that names no value, block or type,
+-- For callers: the operations that are printed so far, and their texts: those that fit their format, where that names no value, block or type,
 -- and no attribute is outlined.
 use Rattle.std.specs.Prelude.{◌≡◌, ◌≤◌, ◌^◌, ℕ, suc, ◌+◌, Bool, true, false, cond, not, ◌&&◌, ◌||◌, ◌==◌, nat_lt, List, [], ◌∷◌, ◌++◌, length, Option, Some, None, is_some, codes, decimal, ⊤}
 use Rattle.std.specs.List.{list_all}
@@ -26,16 +26,18 @@ use Rattle.irtext_print.specs.declared.printable.refusal.Refusal.{Refusal}
 use Rattle.irtext_print.specs.declared.printable.refusal.Refusal.TheVariants.{Memory, Depth, Misfit}
 use Rattle.irtext_print.specs.declared.printable.state.RegionPrintDepthLimit.{RegionPrintDepthLimit}
 use Rattle.irtext_print.specs.declared.printable.state.RegionPrintDepthLimit.TheVariants.{Unlimited, Max}
+use Rattle.irtext_print.specs.declared.ir.print.fits.SingleKind.{SingleKind}
+use Rattle.irtext_print.specs.declared.ir.print.fits.SingleKind.TheVariants as sole
 
 -- a directive that is written so far: one that names no value, no block and no type
-abbrev pub is_written : Directive → Bool
-is_written (format.word s) = true
-is_written (format.attribute k) = true
-is_written format.dictionary = true
-is_written format.header = true
-is_written (format.region i) = true
-is_written format.regions = true
-is_written _ = false
+abbrev pub is_supported : Directive → Bool
+is_supported (format.word s) = true
+is_supported (format.attribute k) = true
+is_supported format.dictionary = true
+is_supported format.header = true
+is_supported (format.region i) = true
+is_supported format.regions = true
+is_supported _ = false
 
 -- the directives write so many regions: no more than have a directive of their own, where none writes those that are left
 abbrev pub regions_fit : List Directive → ℕ → Bool
@@ -43,8 +45,8 @@ regions_fit ds n = cond (count is_regions ds == 0) (n == length (region_places d
 
 module _ {A : Type 0} (es : List (Text × Attribute A)) where
   -- each key that a directive names is there
-  abbrev pub keys_there : List Directive → Bool
-  keys_there ds = list_all (λ k. is_some (lookup k es)) (keys ds)
+  abbrev pub has_named_keys : List Directive → Bool
+  has_named_keys ds = list_all (λ k. is_some (lookup k es)) (keys ds)
 
   -- the attribute under the symbol's key is an identifier
   abbrev pub has_symbol : Bool
@@ -56,8 +58,8 @@ module _ {A : Type 0} (es : List (Text × Attribute A)) where
 
 module _ {T A : Type 0} (C : Printing T A) where
   -- each attribute is written: the dictionary is, or each key is one that a directive writes
-  abbrev pub all_written : List Directive → List (Text × Attribute A) → Bool
-  all_written ds es = not (count is_dictionary ds == 0) || list_all (λ e. has same_text e.0 (written_keys C ds)) es
+  abbrev pub covers_all : List Directive → List (Text × Attribute A) → Bool
+  covers_all ds es = not (count is_dictionary ds == 0) || list_all (λ e. has same_text e.0 (written_keys C ds)) es
 
   -- no attribute is outlined
   abbrev pub none_outlined : List (Text × Attribute A) → Bool
@@ -65,7 +67,7 @@ module _ {T A : Type 0} (C : Printing T A) where
 
   -- the directives write all of these attributes and so many regions, and nothing that is not there
   abbrev pub fits_directives : List Directive → List (Text × Attribute A) → ℕ → Bool
-  fits_directives ds es n = list_all is_written ds && (regions_fit ds n && (keys_there es ds && (symbol_fits es ds && (all_written ds es && none_outlined es))))
+  fits_directives ds es n = list_all is_supported ds && (regions_fit ds n && (has_named_keys es ds && (symbol_fits es ds && (covers_all ds es && none_outlined es))))
 
   -- the same of an operation's format; one without directives is not written so far, nor is an operation that is not registered
   abbrev pub fits_format : Option Format → List (Text × Attribute A) → ℕ → Bool
@@ -136,3 +138,14 @@ module _ {T A U : Type 0} (L : Language ⊤ T A) (C : Printing T A) where
   abbrev pub printed : ContextView T A → Ptr Operation → Shown U → Option (List ℕ × Shown U)
   printed ctx p s = cond (is_printed_in C (operation ctx p) && (length s.gathered == 0))
       (option_map (λ g. (encode_utf8_all (text L C g s.indent s.width (levels s.limit)), s)) (graph_of L.owns.written ctx p)) None
+
+-- the directive is this one
+abbrev pub is_of_kind : SingleKind → Directive → Bool
+is_of_kind sole.Regions = is_regions
+is_of_kind sole.Dictionary = is_dictionary
+is_of_kind sole.Header = is_header
+
+-- the key that the directive names, if it names one, is there
+abbrev pub has_named_key : {A : Type 0} → List (Text × Attribute A) → Directive → Bool
+has_named_key es (format.attribute k) = is_some (lookup k es)
+has_named_key es _ = true

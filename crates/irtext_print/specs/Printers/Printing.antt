@@ -1,4 +1,4 @@
--- Words on the printing state and its guards.
+-- For callers: words on the printing state and its guards.
 use Rattle.std.specs.Prelude.{ℕ, zero, suc, List, Option, Some, None}
 use Rattle.std.specs.Borrow.{GName}
 use Rattle.irtext_context.specs.declared.base.arena.Ptr.{Ptr}

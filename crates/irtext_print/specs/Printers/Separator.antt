@@ -1,4 +1,4 @@
--- What separates the items of a list, and the texts of plain values.
+-- For callers: what separates the items of a list, and the texts of plain values.
 use Rattle.std.specs.Prelude.{ℕ, Bool, true, false, List, [], ◌∷◌, ◌++◌, codes}
 use Rattle.std.specs.Char.{encode_utf8}
 use Rattle.irtext_base.specs.declared.printable.ListSeparator.{ListSeparator}

@@ -1,4 +1,4 @@
--- What a printing state shows.
+-- For callers: what a printing state shows.
 use Rattle.std.specs.Prelude.{ℕ, List}
 use Rattle.irtext_context.specs.declared.base.arena.Ptr.{Ptr}
 use Rattle.irtext_context.specs.declared.base.operation.Operation.{Operation}

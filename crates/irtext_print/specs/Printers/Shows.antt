@@ -1,4 +1,4 @@
--- What a `Displayable` shows.
+-- For callers: what a `Displayable` shows.
 use Rattle.std.specs.Prelude.{ℕ, List, Option}
 use Rattle.irtext_print.specs.Printers.Shown.{Shown}
 use Rattle.irtext_print.specs.Printers.Appended.{fresh, text_of}

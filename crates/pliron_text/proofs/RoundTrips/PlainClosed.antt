@@ -10,9 +10,9 @@ use Rattle.irtext_grammar.specs.Names.Script.{Path, Script, done, does_all}
 use Rattle.irtext_grammar.specs.Names.Scopes.{no_scope, failures}
 use Rattle.irtext_grammar.specs.Names.Acts.{all_of}
 use Rattle.irtext_grammar.specs.Graphs.Closed.{Thing, same_thing, defined_results, directives_script, body_script, graph_regions, Closed}
-use Rattle.irtext_grammar.specs.Spelling.Fine.{Each}
+use Rattle.irtext_grammar.specs.Spelling.Spellable.{Each}
 use Rattle.pliron_text.specs.Promises.PlainRoot.{PlainRoot}
-use Rattle.irtext_print.specs.Printers.PrintedOperation.{is_written}
+use Rattle.irtext_print.specs.Printers.PrintedOperation.{is_supported}
 use Rattle.irtext_outcomes.specs.Promises.Supported.{HaveNoBlocks}
 use Rattle.irtext_grammar.specs.Spelling.Writable.{has_region}
 
@@ -32,7 +32,7 @@ module _ {T A : Type 0} (C : Printing T A) (isolated : Id → Bool) where
   quiet_regions p j true (region r no_blocks rs) h e = (record { same = λ k. refl }, quiet_regions p (suc j) true rs h (λ q. refl))
   quiet_regions p j iso (region r (block b os bs) rs) h e = absurd h
 
-  quiet_directives : (ds : List Directive) (p : Path) (o : GraphOp T A) (rest : List Directive) → list_all is_written rest ≡ true → (rs : List (Script Thing ⊤ → Script Thing ⊤)) → Each Quiet rs → (k : Script Thing ⊤)
+  quiet_directives : (ds : List Directive) (p : Path) (o : GraphOp T A) (rest : List Directive) → list_all is_supported rest ≡ true → (rs : List (Script Thing ⊤ → Script Thing ⊤)) → Each Quiet rs → (k : Script Thing ⊤)
       → failures same_thing no_scope (directives_script ds p o rest rs k) ≡ failures same_thing no_scope k
   quiet_directives ds p o [] e rs h k = refl
   quiet_directives ds p o (format.region i ∷ rest) e [] h k = quiet_directives ds p o rest e [] h k

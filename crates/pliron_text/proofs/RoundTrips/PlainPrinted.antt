@@ -15,8 +15,8 @@ use Rattle.irtext_grammar.specs.Graphs.Closed.{count_fits}
 use Rattle.irtext_grammar.specs.Contexts.Formats.{isolated}
 use Rattle.irtext_grammar.specs.Graphs.Graph.{GraphOp, GraphBlock, Printing, outlined, written_keys}
 use Rattle.irtext_outcomes.specs.Promises.KeptRoot.{IsKept, StandsAlone}
-use Rattle.pliron_text.specs.Promises.PlainRoot.{PlainRoot, GivesWords}
-use Rattle.irtext_print.specs.Printers.PrintedOperation.{is_written, regions_fit, keys_there, symbol_fits, all_written, none_outlined, fits_directives, fits_format, is_printed, printing}
+use Rattle.pliron_text.specs.Promises.PlainRoot.{PlainRoot, GivesIdentifiers}
+use Rattle.irtext_print.specs.Printers.PrintedOperation.{is_supported, regions_fit, has_named_keys, symbol_fits, covers_all, none_outlined, fits_directives, fits_format, is_printed, printing}
 use Rattle.irtext_outcomes.specs.Promises.Supported.{HaveNoBlocks}
 use Rattle.irtext_grammar.specs.Contexts.Held.{graph_at, entries_of, empty_regions}
 use Rattle.irtext_grammar.specs.Grammar.Tree.{Attribute}
@@ -27,7 +27,7 @@ use Rattle.irtext_grammar.proofs.Graphs.FitsFormat.{and_left, and_right}
 abbrev NamesNothing : List Directive → Type 0
 NamesNothing ds = (operand_places ds ≡ []) × (count is_operands ds ≡ 0) × (successor_places ds ≡ []) × (count is_successors ds ≡ 0) × (type_places ds ≡ [])
 
-names_nothing : (ds : List Directive) → list_all is_written ds ≡ true → NamesNothing ds
+names_nothing : (ds : List Directive) → list_all is_supported ds ≡ true → NamesNothing ds
 names_nothing [] e = (refl, refl, refl, refl, refl)
 names_nothing (format.word s ∷ ds) e = names_nothing ds e
 names_nothing (format.attribute k ∷ ds) e = names_nothing ds e
@@ -66,26 +66,26 @@ as_many O B (r ∷ rs) = ap suc (as_many O B rs)
 module _ {T A : Type 0} (C : Printing T A) where
   -- what the test of a printed operation says
   record Tested (ds : List Directive) (es : List (Text × Attribute A)) (n : ℕ) : Type 0 where
-    written : list_all is_written ds ≡ true
+    written : list_all is_supported ds ≡ true
     regions : regions_fit ds n ≡ true
-    keys : keys_there es ds ≡ true
+    keys : has_named_keys es ds ≡ true
     symbol : symbol_fits es ds ≡ true
-    all : all_written C ds es ≡ true
+    all : covers_all C ds es ≡ true
     inline : none_outlined C es ≡ true
 
   tested : (ds : List Directive) (es : List (Text × Attribute A)) (n : ℕ) → fits_directives C ds es n ≡ true → Tested ds es n
   tested ds es n e =
-      let a = and_right (list_all is_written ds) _ e in
+      let a = and_right (list_all is_supported ds) _ e in
       let b = and_right (regions_fit ds n) _ a in
-      let c = and_right (keys_there es ds) _ b in
+      let c = and_right (has_named_keys es ds) _ b in
       let d = and_right (symbol_fits es ds) _ c in
       record {
-        written = and_left (list_all is_written ds) _ e;
+        written = and_left (list_all is_supported ds) _ e;
         regions = and_left (regions_fit ds n) _ a;
-        keys = and_left (keys_there es ds) _ b;
+        keys = and_left (has_named_keys es ds) _ b;
         symbol = and_left (symbol_fits es ds) _ c;
-        all = and_left (all_written C ds es) _ d;
-        inline = and_right (all_written C ds es) _ d;
+        all = and_left (covers_all C ds es) _ d;
+        inline = and_right (covers_all C ds es) _ d;
       }
 
   -- the operation has a format with directives, and meets the test
@@ -98,7 +98,7 @@ module _ {T A : Type 0} (ctx : ContextView T A) (outlined_own once : A → Bool)
   abbrev C : Printing T A
   C = printing ctx.dialects outlined_own once same
 
-  pub gives_words : GivesWords C
+  pub gives_words : GivesIdentifiers C
   gives_words = record { given = λ v n e. absurd (cc e); label = λ b n e. absurd (cc e) }
 
   pub plain_printed : (op : OperationView T A) (l : Option Text) → is_printed C op ≡ true → IsKept ctx op → StandsAlone ctx.dialects op → PlainRoot C (isolated ctx.dialects) (graph_at op l)

@@ -12,8 +12,8 @@ use Rattle.irtext_grammar.specs.Grammar.Bare.{bare_name, bare_part, bare_body, b
 use Rattle.irtext_grammar.specs.Graphs.Graph.{Graph, GraphOp, GraphBlock, Printing, outlined, lookup, named, value, part_of, body_of, tree_regions, written}
 use Rattle.irtext_outcomes.specs.Readers.Directives.{is_read, IsRead}
 use Rattle.pliron_text.specs.Promises.PlainRoot.{PlainRoot}
-use Rattle.irtext_print.specs.Printers.PrintedOperation.{is_written}
-use Rattle.irtext_outcomes.specs.Promises.Supported.{HaveNoBlocks, IsSoFar}
+use Rattle.irtext_print.specs.Printers.PrintedOperation.{is_supported}
+use Rattle.irtext_outcomes.specs.Promises.Supported.{HaveNoBlocks, IsSupported}
 use Rattle.irtext_grammar.proofs.Graphs.BareScript.{nothing_left}
 use Rattle.irtext_grammar.proofs.Graphs.FitsFormat.{and_left, and_right}
 
@@ -80,7 +80,7 @@ module _ {T A : Type 0} (C : Printing T A) where
   header_read (Some (ident n)) = refl
   header_read (Some (own a)) = tt
 
-  part_read : (ds : List Directive) (o : GraphOp T A) → list_all (λ e. not (outlined C e.1)) o.attributes ≡ true → (d : Directive) → is_written d ≡ true → Read (part_of C ds o d)
+  part_read : (ds : List Directive) (o : GraphOp T A) → list_all (λ e. not (outlined C e.1)) o.attributes ≡ true → (d : Directive) → is_supported d ≡ true → Read (part_of C ds o d)
   part_read ds o h (format.word s) e = refl
   part_read ds o h (format.attribute k) e = attribute_read k (lookup k o.attributes) (looked k o.attributes h)
   part_read ds o h format.dictionary e = refl
@@ -97,9 +97,9 @@ module _ {T A : Type 0} (C : Printing T A) where
   more_read None ps h k = k
   more_read (Some p) ps h k = ap₂ ◌&&◌ h k
 
-  parts_read : (ds : List Directive) (o : GraphOp T A) → list_all (λ e. not (outlined C e.1)) o.attributes ≡ true → (rest : List Directive) → list_all is_written rest ≡ true → list_all is_read (filter_map (part_of C ds o) rest) ≡ true
+  parts_read : (ds : List Directive) (o : GraphOp T A) → list_all (λ e. not (outlined C e.1)) o.attributes ≡ true → (rest : List Directive) → list_all is_supported rest ≡ true → list_all is_read (filter_map (part_of C ds o) rest) ≡ true
   parts_read ds o h [] e = refl
-  parts_read ds o h (d ∷ rest) e = more_read (part_of C ds o d) (filter_map (part_of C ds o) rest) (part_read ds o h d (and_left (is_written d) _ e)) (parts_read ds o h rest (and_right (is_written d) _ e))
+  parts_read ds o h (d ∷ rest) e = more_read (part_of C ds o d) (filter_map (part_of C ds o) rest) (part_read ds o h d (and_left (is_supported d) _ e)) (parts_read ds o h rest (and_right (is_supported d) _ e))
 
   blocks_written : (rs : Regions (GraphOp T A) (GraphBlock T A) ⊤) → HaveNoBlocks rs → (n : ℕ) → HaveNoBlocks (tree_regions C None n rs)
   blocks_written no_regions h n = tt
@@ -112,7 +112,7 @@ module _ {T A : Type 0} (C : Printing T A) where
     written_read = subst (λ f. IsRead (body_of C g.own f)) (sym plain.is_format) (parts_read plain.directives g.own plain.inline plain.directives plain.plain)
 
     -- and so is the tree that a text reads as
-    pub tree_so_far : (t : Tree ℕ T A) → bare t ≡ written C None g → IsSoFar t
+    pub tree_so_far : (t : Tree ℕ T A) → bare t ≡ written C None g → IsSupported t
     tree_so_far t e = record {
       names = nothing_left bare_name t.own.names (ap (λ z. z.own.names) e ∙ ap (map (λ r. value_of r)) plain.results);
       body = body_read t.own.body (subst IsRead (sym (ap (λ z. z.own.body) e)) written_read);

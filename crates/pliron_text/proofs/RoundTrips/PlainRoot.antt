@@ -7,39 +7,38 @@ use Rattle.irtext_base.specs.Own.{Texts, Language, language, unplaced, Lawful, U
 use Rattle.irtext_grammar.specs.Grammar.Forest.{Regions, no_regions, region, no_blocks, block, MatchRegions, AllRegions, regions_list}
 use Rattle.irtext_grammar.specs.Grammar.Tree.{Op, Head, Brace, Tree}
 use Rattle.irtext_grammar.specs.Grammar.Bare.{bare}
-use Rattle.irtext_grammar.specs.Spelling.Fine.{Each}
-use Rattle.irtext_grammar.specs.Graphs.Fillable.{OpKeepsKeys, BlockKeepsKeys, GraphKeepsKeys}
+use Rattle.irtext_grammar.specs.Spelling.Spellable.{Each}
+use Rattle.irtext_grammar.specs.Graphs.ReservedKeys.{OpKeepsKeys, BlockKeepsKeys, GraphKeepsKeys}
 use Rattle.irtext_grammar.specs.Spelling.Writable.{Behind}
 use Rattle.irtext_grammar.specs.Graphs.Graph.{Graph, GraphOp, GraphBlock, Printing, marks_in_regions, mark_at, written, entries_of, op_outlined}
 use Rattle.irtext_grammar.specs.Spelling.Section as section
 use Rattle.irtext_grammar.specs.Grammar.Section.{Entry}
 use Rattle.irtext_grammar.specs.Names.Script.{done, does_all, UnknownIndex}
 use Rattle.irtext_grammar.specs.Names.Scopes.{Scopes, ◌⊳◌, no_scope, facts, failures, is_among}
-use Rattle.irtext_grammar.specs.Names.Acts.{section_acts, region_scripts, tree_script, failures_of, keeps_key, rule_of, Rule}
+use Rattle.irtext_grammar.specs.Names.Acts.{section_acts, region_scripts, tree_script, failures_of, may_hold, rule_of, Rule}
 use Rattle.irtext_grammar.specs.Graphs.Build.{content, build}
 use Rattle.irtext_grammar.specs.Graphs.Closed.{FitRegions, FitsFormat, Fit}
 use Rattle.irtext_grammar.specs.Graphs.Contents.{OpContent, BlockContent, Contents}
-use Rattle.irtext_grammar.specs.Graphs.KeysDiffer.{GraphKeysDiffer}
+use Rattle.irtext_grammar.specs.Graphs.RoundTrip.{GraphKeysDiffer, LocationReads, ComesBack, KeysDiffer}
 use Rattle.irtext_grammar.specs.Grammar.Marked.{reads_root}
-use Rattle.pliron_text.specs.Promises.PlainRoot.{PlainRoot, GivesWords}
-use Rattle.irtext_grammar.specs.Graphs.RoundTrip.{LocationReads, ComesBack, KeysDiffer}
+use Rattle.pliron_text.specs.Promises.PlainRoot.{PlainRoot, GivesIdentifiers}
 use Rattle.irtext_grammar.specs.Graphs.Same.{Locations, SmallOp, SmallBlock, SmallGraph, UpToFillings, stood}
-use Rattle.irtext_outcomes.specs.Promises.Supported.{HaveNoBlocks, IsSoFar, AreSoFar}
-use Rattle.irtext_grammar.specs.Graphs.Wordy.{WordyOp, WordyBlock, Wordy}
+use Rattle.irtext_outcomes.specs.Promises.Supported.{HaveNoBlocks, IsSupported, AllSupported}
+use Rattle.irtext_grammar.specs.Graphs.Identifiers.{OpHasIdentifiers, BlockHasIdentifiers, HasIdentifiers}
 use Rattle.irtext_grammar.specs.Spelling.SectionEntries.{bare_section, written_section, numbers}
 use Rattle.irtext_grammar.proofs.Graphs.Fillings.{fillings}
 use Rattle.irtext_grammar.proofs.Names.Followed.{failures_follow}
 use Rattle.irtext_grammar.proofs.Names.Following.{operation_follow, regions_follow}
-use Rattle.irtext_grammar.proofs.Grammar.Formed.{formed_read}
+use Rattle.irtext_grammar.proofs.Grammar.PartsOfFormats.{formed_read}
 use Rattle.pliron_text.proofs.RoundTrips.PlainClosed.{plain_closed}
 use Rattle.pliron_text.proofs.RoundTrips.PlainRead.{tree_so_far}
 use Rattle.pliron_text.proofs.RoundTrips.PlainSection.{plain_entries, plain_section, no_marks, one_mark, content_written, entries_are, section_is, plain_small, are_so_far}
 use Rattle.irtext_grammar.proofs.Names.Resolved.{tree_resolves}
 use Rattle.irtext_grammar.proofs.RoundTrips.RootBack.{FineItems, RootRead, root_back}
 use Rattle.irtext_grammar.proofs.RoundTrips.RootResolves.{marks_written, marks_in_order}
-use Rattle.irtext_grammar.proofs.Sections.SectionBare.{content_bare, root_resolves_bare}
+use Rattle.irtext_grammar.proofs.Sections.Bare.{content_bare, root_resolves_bare}
 use Rattle.irtext_grammar.proofs.Graphs.WrittenAs.{WrittenOp, WrittenBlock, written_as, accepted_written}
-use Rattle.irtext_grammar.proofs.Graphs.WrittenFine.{written_fine}
+use Rattle.irtext_grammar.proofs.Graphs.WrittenSpellable.{written_fine}
 
 -- what a root comes back as, where that is of the form that is read so far
 pub record ComesBackAs {T A X : Type 0} (types : Texts T) (owns : Texts A) (location_at : Text → Standing X) (K : Locations X) (first : ℕ → X) (C : Printing T A) (isolated : Id → Bool) (g : Graph T A) (width n : ℕ) : Type 0 where
@@ -50,8 +49,8 @@ pub record ComesBackAs {T A X : Type 0} (types : Texts T) (owns : Texts A) (loca
   pub ends : after_space rest ≡ []
   pub resolves : failures_of isolated tree entries ≡ []
   pub same : UpToFillings K (stood C isolated g) (build isolated first entries tree)
-  pub tree_form : IsSoFar tree
-  pub entries_form : AreSoFar entries
+  pub tree_form : IsSupported tree
+  pub entries_form : AllSupported entries
 
 -- what holds of regions without blocks
 all_empty : {O B : Type 0} (OfO : O → Type 0) (OfB : B → Type 0) (rs : Regions O B ⊤) → HaveNoBlocks rs → AllRegions OfO OfB (λ r. ⊤) rs
@@ -66,7 +65,7 @@ entry_clean (Some l) s C rules m e =
     let unit : ⊤ = tt in
     ap₂ (λ a b. cond (is_among 0 a && not (is_among 0 b)) [] (record { cause = UnknownIndex 0; at = Some unit } ∷ []) ++ []) m e
 
-module _ {T A : Type 0} (C : Printing T A) (isolated : Id → Bool) (g : Graph T A) (plain : PlainRoot C isolated g) (gives : GivesWords C) where
+module _ {T A : Type 0} (C : Printing T A) (isolated : Id → Bool) (g : Graph T A) (plain : PlainRoot C isolated g) (gives : GivesIdentifiers C) where
   fit : Fit C isolated g
   fit = (
     subst (λ f. FitsFormat C isolated f g.own (length (regions_list g.regions))) (sym plain.is_format) (plain.accepted, plain.fits),
@@ -78,12 +77,12 @@ module _ {T A : Type 0} (C : Printing T A) (isolated : Id → Bool) (g : Graph T
       regions_fit (region r no_blocks rs) h = (tt, regions_fit rs h)
       regions_fit (region r (block b os bs) rs) h = absurd h
 
-  wordy : Wordy C g
+  wordy : HasIdentifiers C g
   wordy = record {
     given = gives.given;
     label = gives.label;
     own = plain.wordy;
-    regions = all_empty (WordyOp C) (WordyBlock C) g.regions plain.blocks;
+    regions = all_empty (OpHasIdentifiers C) (BlockHasIdentifiers C) g.regions plain.blocks;
     marks = let m = no_marks C g.regions plain.blocks in let o = one_mark C g.own.location (op_outlined C g.own) in omega arith;
   }
 
@@ -135,7 +134,7 @@ module _ {T A : Type 0} (C : Printing T A) (isolated : Id → Bool) (g : Graph T
         regions_match (region r (block b os bs) rs) qs h m = absurd h
 
 module _ {T A X : Type 0} (types : Texts T) (owns : Texts A) (types_law : Lawful T types) (owns_law : Lawful A owns) (unreserved : Unreserved A owns) (location_at : Text → Standing X) (K : Locations X)
-    (first : ℕ → X) (positions : (p : ℕ) → K.is_position (first p) ≡ true) (C : Printing T A) (isolated : Id → Bool) (gives : GivesWords C) (g : Graph T A) (plain : PlainRoot C isolated g) (located : LocationReads location_at K g.own.location) where
+    (first : ℕ → X) (positions : (p : ℕ) → K.is_position (first p) ≡ true) (C : Printing T A) (isolated : Id → Bool) (gives : GivesIdentifiers C) (g : Graph T A) (plain : PlainRoot C isolated g) (located : LocationReads location_at K g.own.location) where
   abbrev L : Language ℕ T A
   L = language types owns C.format_of
 

@@ -11,7 +11,7 @@ use Rattle.irtext_grammar.specs.Graphs.Graph.{Graph, GraphOp, GraphBlock, Printi
 use Rattle.irtext_grammar.specs.Graphs.Build.{content}
 use Rattle.irtext_grammar.specs.Grammar.Section.{Entry, of_item, of_once}
 use Rattle.pliron_text.specs.Promises.PlainRoot.{PlainRoot}
-use Rattle.irtext_outcomes.specs.Promises.Supported.{HaveNoBlocks, AreSoFar}
+use Rattle.irtext_outcomes.specs.Promises.Supported.{HaveNoBlocks, AllSupported}
 use Rattle.irtext_grammar.specs.Spelling.SectionEntries.{bare_section, written_section, SmallSection, mark_of, own_content}
 use Rattle.irtext_grammar.proofs.Graphs.FitsFormat.{and_left, and_right}
 
@@ -89,7 +89,7 @@ module _ {T A : Type 0} (C : Printing T A) where
         go (Some l) = omega arith
 
   -- entries that are written so have the form that is read so far
-  pub are_so_far : {X : Type 0} (text : X → Text) (l : Option Text) (es : List (Entry ℕ A X)) → bare_section text es ≡ plain_section l → AreSoFar es
+  pub are_so_far : {X : Type 0} (text : X → Text) (l : Option Text) (es : List (Entry ℕ A X)) → bare_section text es ≡ plain_section l → AllSupported es
   are_so_far text None [] e = tt
   are_so_far text None (x ∷ es) e = absurd (cc e)
   are_so_far text (Some l) [] e = tt

@@ -14,21 +14,21 @@ use Rattle.irtext_base.proofs.Scalars.{AreScalars, scalars_more, scalars_ascii}
 use Rattle.irtext_grammar.specs.Grammar.Forest.{Regions, no_regions, region, no_blocks, block}
 use Rattle.irtext_grammar.specs.Grammar.Tree as tree
 use Rattle.irtext_grammar.specs.Grammar.Tree.{Name, Attribute, given_names, ident, own, Part, Piece}
-use Rattle.irtext_grammar.specs.Spelling.Fine.{Each, FineAttribute}
+use Rattle.irtext_grammar.specs.Spelling.Spellable.{Each, IsSpellableAttribute}
 use Rattle.irtext_grammar.specs.Graphs.Graph as graph
 use Rattle.irtext_grammar.specs.Graphs.Graph.{Graph, GraphOp, GraphBlock, Printing, outlined, lookup, named, entries, inline, part_of, body_of, mark_at, marks_in_regions, entries_of, tree_regions, written, written_keys, op_outlined}
 use Rattle.pliron_text.specs.Promises.PlainRoot.{PlainRoot}
-use Rattle.irtext_print.specs.Printers.PrintedOperation.{is_written}
+use Rattle.irtext_print.specs.Printers.PrintedOperation.{is_supported}
 use Rattle.irtext_grammar.specs.Spelling.Section as section
 use Rattle.irtext_outcomes.specs.Promises.Supported.{HaveNoBlocks}
 use Rattle.irtext_grammar.specs.Spelling.Spell as spell
-use Rattle.irtext_grammar.specs.Spelling.Spell.{joined, joined_from, comma, newline, hugs}
-use Rattle.irtext_grammar.specs.Graphs.Wordy.{WordyEntry}
+use Rattle.irtext_grammar.specs.Spelling.Spell.{joined, joined_from, comma, newline, joins_left}
+use Rattle.irtext_grammar.specs.Graphs.Identifiers.{EntryHasIdentifiers}
 use Rattle.irtext_grammar.proofs.Lists.Ascii.{ascii-from}
 use Rattle.irtext_grammar.proofs.Graphs.FitsFormat.{meets, and_left, and_right}
 use Rattle.irtext_outcomes.proofs.RoundTrips.KeptText.{scalars_joined, scalars_word, all_given}
 use Rattle.pliron_text.proofs.RoundTrips.PlainSection.{plain_entries, no_marks, entries_are}
-use Rattle.irtext_grammar.proofs.Graphs.WrittenFine.{each_filter}
+use Rattle.irtext_grammar.proofs.Graphs.WrittenSpellable.{each_filter}
 
 -- ---- words, spaces and lists
 graphic_scalars : (s : Text) → list_all is_ascii_graphic s ≡ true → AreScalars s
@@ -61,7 +61,7 @@ either_scalars true = refl
 either_scalars false = refl
 
 module _ {T A : Type 0} (L : Language ⊤ T A) (lawful : Lawful A L.owns) where
-  attribute_scalars : (a : Attribute A) → FineAttribute a → AreScalars (spell.attribute L a)
+  attribute_scalars : (a : Attribute A) → IsSpellableAttribute a → AreScalars (spell.attribute L a)
   attribute_scalars (given_names ns) h =
       let inner = joined comma (map spell.or_question ns) in
       scalars_more (codes "builtin.given_names [") (inner ++ codes "]") refl (scalars_more inner (codes "]") (scalars_joined (map spell.or_question ns) (all_given ns h)) refl)
@@ -79,7 +79,7 @@ module _ {T A : Type 0} (L : Language ⊤ T A) (lawful : Lawful A L.owns) where
   PartScalars tree.regions = ⊤
 
   space_scalars : (x : Piece ⊤ T A) → AreScalars (spell.space L x)
-  space_scalars (tree.word s) = either_scalars (begins hugs s)
+  space_scalars (tree.word s) = either_scalars (begins joins_left s)
   space_scalars (tree.operand i n) = refl
   space_scalars (tree.operands ns) = refl
   space_scalars (tree.successor i n) = refl
@@ -98,11 +98,11 @@ module _ {T A : Type 0} (L : Language ⊤ T A) (lawful : Lawful A L.owns) where
   parts_scalars (tree.regions ∷ ps) h rs k = scalars_more (codes " ") (joined [] rs ++ spell.parts L ps []) refl (scalars_more (joined [] rs) (spell.parts L ps []) (together_scalars rs k) (parts_scalars ps h.1 [] tt))
 
   module _ (C : Printing T A) where
-    entry_texts : (es : List (Text × Attribute A)) → Each WordyEntry es → Each AreScalars (map (spell.entry L) (entries C es))
+    entry_texts : (es : List (Text × Attribute A)) → Each EntryHasIdentifiers es → Each AreScalars (map (spell.entry L) (entries C es))
     entry_texts [] h = tt
     entry_texts (e ∷ es) h = (scalars_more e.0 (codes ": " ++ spell.attribute L e.1) (scalars_word e.0 h.0.0) (scalars_more (codes ": ") (spell.attribute L e.1) refl (attribute_scalars e.1 h.0.1)), entry_texts es h.1)
 
-    dictionary_scalars : (es : List (Text × Attribute A)) → Each WordyEntry es → AreScalars (spell.dictionary L (entries C es))
+    dictionary_scalars : (es : List (Text × Attribute A)) → Each EntryHasIdentifiers es → AreScalars (spell.dictionary L (entries C es))
     dictionary_scalars es h =
         let inner = joined comma (map (spell.entry L) (entries C es)) in
         scalars_more (codes "[") (inner ++ codes "]") refl (scalars_more inner (codes "]") (scalars_joined (map (spell.entry L) (entries C es)) (entry_texts es h)) refl)
@@ -110,9 +110,9 @@ module _ {T A : Type 0} (L : Language ⊤ T A) (lawful : Lawful A L.owns) where
     -- an attribute that is looked up
     abbrev FineIf : Option (Attribute A) → Type 0
     FineIf None = ⊤
-    FineIf (Some a) = FineAttribute a
+    FineIf (Some a) = IsSpellableAttribute a
 
-    looked_up : (k : Text) (es : List (Text × Attribute A)) → Each WordyEntry es → FineIf (lookup k es)
+    looked_up : (k : Text) (es : List (Text × Attribute A)) → Each EntryHasIdentifiers es → FineIf (lookup k es)
     looked_up k [] h = tt
     looked_up k (e ∷ es) h = go (same_text k e.0) (looked_up k es h.1)
       where
@@ -139,11 +139,11 @@ module _ {T A : Type 0} (L : Language ⊤ T A) (lawful : Lawful A L.owns) where
     header_part (Some (ident n)) h = scalars_more (codes "@") n refl (scalars_word n h)
     header_part (Some (own a)) h = tt
 
-    module _ (ds : List Directive) (o : GraphOp T A) (h : Each WordyEntry o.attributes) where
-      part_scalars : (d : Directive) → is_written d ≡ true → word_prints d ≡ true → PartIf (part_of C ds o d)
+    module _ (ds : List Directive) (o : GraphOp T A) (h : Each EntryHasIdentifiers o.attributes) where
+      part_scalars : (d : Directive) → is_supported d ≡ true → word_prints d ≡ true → PartIf (part_of C ds o d)
       part_scalars (format.word s) e w = graphic_scalars s (and_right (nat_lt 0 (length s)) (list_all is_ascii_graphic s) w)
       part_scalars (format.attribute k) e w = attribute_part k (lookup k o.attributes) (looked_up k o.attributes h)
-      part_scalars format.dictionary e w = dictionary_scalars _ (each_filter WordyEntry (λ e. not (has same_text e.0 (written_keys C ds))) (inline C o.attributes) (each_filter WordyEntry (λ e. not (outlined C e.1)) o.attributes h))
+      part_scalars format.dictionary e w = dictionary_scalars _ (each_filter EntryHasIdentifiers (λ e. not (has same_text e.0 (written_keys C ds))) (inline C o.attributes) (each_filter EntryHasIdentifiers (λ e. not (outlined C e.1)) o.attributes h))
       part_scalars (format.region i) e w = tt
       part_scalars format.regions e w = tt
       part_scalars format.header e w = header_part (lookup sym_name_key o.attributes) (looked_up sym_name_key o.attributes h)
@@ -157,10 +157,10 @@ module _ {T A : Type 0} (L : Language ⊤ T A) (lawful : Lawful A L.owns) where
       one_more None ps q k = k
       one_more (Some p) ps q k = (q, k)
 
-      all_parts : (rest : List Directive) → list_all is_written rest ≡ true → list_all word_prints rest ≡ true → Each PartScalars (filter_map (part_of C ds o) rest)
+      all_parts : (rest : List Directive) → list_all is_supported rest ≡ true → list_all word_prints rest ≡ true → Each PartScalars (filter_map (part_of C ds o) rest)
       all_parts [] e w = tt
       all_parts (d ∷ rest) e w =
-          one_more (part_of C ds o d) (filter_map (part_of C ds o) rest) (part_scalars d (and_left (is_written d) _ e) (and_left (word_prints d) _ w)) (all_parts rest (and_right (is_written d) _ e) (and_right (word_prints d) _ w))
+          one_more (part_of C ds o d) (filter_map (part_of C ds o) rest) (part_scalars d (and_left (is_supported d) _ e) (and_left (word_prints d) _ w)) (all_parts rest (and_right (is_supported d) _ e) (and_right (word_prints d) _ w))
 
     -- ---- the regions, the mark and the section
     braces_scalars : (width n : ℕ) → AreScalars (spell.region_text L width n (tree.shown tt) [])

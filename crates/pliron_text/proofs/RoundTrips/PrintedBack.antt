@@ -25,7 +25,7 @@ use Rattle.irtext_print.specs.Printers.PrintedOperation.{printing, is_printed}
 use Rattle.irtext_grammar.specs.Graphs.Same.{UpToFillings, stood}
 use Rattle.irtext_grammar.specs.Spelling.Section.{text}
 use Rattle.irtext_print.specs.Printers.Shown.{Shown}
-use Rattle.irtext_outcomes.specs.Promises.Supported.{so_far, location_standing}
+use Rattle.irtext_outcomes.specs.Promises.Supported.{supported, location_standing}
 use Rattle.irtext_grammar.specs.Contexts.Held.{graph_at, graph_of, whole}
 use Rattle.irtext_outcomes.specs.Promises.Root.{location_of, IsFirst, BuildsRoot, RefusesRoot}
 use Rattle.irtext_outcomes.proofs.RoundTrips.KeptBack.{location_reads}
@@ -80,9 +80,9 @@ module _ {T A : Type 0} (types : Texts T) (reading : Text → Outcome A) (text_o
         builds_back q new same_dialects b =
             let first = location_of {A = A} new.state.ctx.now.paths old.state.src (whole old.stream) in
             let r = back old.state.src (whole old.stream) new.state.ctx.now.paths in
-            let there = subst (λ t. reads_root (so_far ctx.dialects types owns) (location_standing attr) b.tree b.entries t new.stream.rest) is_text
-            (subst (λ d. reads_root (so_far d types owns) (location_standing attr) b.tree b.entries old.stream.rest new.stream.rest) same_dialects b.reads) in
-            let o = one_root (so_far ctx.dialects types owns) types_law owns_law (λ p q t e f. e ∙ sym f) (λ t u e. absurd e) (location_standing attr) b.tree r.tree b.entries r.entries
+            let there = subst (λ t. reads_root (supported ctx.dialects types owns) (location_standing attr) b.tree b.entries t new.stream.rest) is_text
+            (subst (λ d. reads_root (supported d types owns) (location_standing attr) b.tree b.entries old.stream.rest new.stream.rest) same_dialects b.reads) in
+            let o = one_root (supported ctx.dialects types owns) types_law owns_law (λ p q t e f. e ∙ sym f) (λ t u e. absurd e) (location_standing attr) b.tree r.tree b.entries r.entries
             (text L C g s.indent s.width None) new.stream.rest r.rest there r.reads in (
               build (isolated ctx.dialects) first b.entries b.tree,
               b.builds ∙ ap (λ d. Some (build (isolated d) first b.entries b.tree)) same_dialects,
@@ -96,5 +96,5 @@ module _ {T A : Type 0} (types : Texts T) (reading : Text → Outcome A) (text_o
         never_refused fault same_dialects there =
             let f = subst (λ d. RefusesRoot types owns attr d old.stream fault) same_dialects there in
             let r = back old.state.src (whole old.stream) ctx.paths in
-            let here = subst (λ t. reads_root (so_far ctx.dialects types owns) (location_standing attr) r.tree r.entries t r.rest) (sym is_text) r.reads in
+            let here = subst (λ t. reads_root (supported ctx.dialects types owns) (location_standing attr) r.tree r.entries t r.rest) (sym is_text) r.reads in
             subst (λ z. IsFirst (whole old.stream) z fault) r.resolves (f.first r.tree r.entries r.rest here r.tree_form r.entries_form)

@@ -8,19 +8,18 @@ ghost use Rattle.irtext_grammar.specs.Grammar.Bare.{bare};
 ghost use Rattle.irtext_grammar.specs.Graphs.Build.{build};
 ghost use Rattle.irtext_grammar.specs.Graphs.Closed.{Closed, Fit};
 ghost use Rattle.irtext_grammar.specs.Graphs.Contents.{Contents};
-ghost use Rattle.irtext_grammar.specs.Graphs.Fillable.{GraphKeepsKeys};
+ghost use Rattle.irtext_grammar.specs.Graphs.ReservedKeys.{GraphKeepsKeys};
 ghost use Rattle.irtext_grammar.specs.Graphs.Graph.{Graph, Printing, written};
-ghost use Rattle.irtext_grammar.specs.Graphs.KeysDiffer.{GraphKeysDiffer};
+ghost use Rattle.irtext_grammar.specs.Graphs.RoundTrip.{GraphKeysDiffer, ComesBack, GraphHeld};
 ghost use Rattle.irtext_grammar.specs.Grammar.Marked.{reads_root};
 ghost use Rattle.irtext_grammar.specs.Grammar.Section.{Entry};
 ghost use Rattle.irtext_grammar.specs.Grammar.Reads.{reads};
 ghost use Rattle.irtext_grammar.specs.Graphs.Regained.{ComesBackWhole, Named};
-ghost use Rattle.irtext_grammar.specs.Graphs.RoundTrip.{ComesBack, GraphHeld};
 ghost use Rattle.irtext_grammar.specs.Graphs.Same.{Locations, SmallGraph, UpToFillings, stood};
 ghost use Rattle.irtext_grammar.specs.Spelling.Section.{text};
 ghost use Rattle.irtext_grammar.specs.Graphs.StandsFor.{Distinct, StandsFor};
 ghost use Rattle.irtext_grammar.specs.Grammar.Tree.{Tree};
-ghost use Rattle.irtext_grammar.specs.Graphs.Wordy.{Wordy};
+ghost use Rattle.irtext_grammar.specs.Graphs.Identifiers.{HasIdentifiers};
 ghost use Rattle.irtext_grammar.specs.Spelling.SectionEntries.{SmallSection};
 
 use irtext_base::text::{AttrText, IrText};
@@ -40,7 +39,7 @@ pub fn equal_up_to_fillings<T: IrText<A>, A: AttrText, X>()
 pub fn text_comes_back<T: IrText<A>, A: AttrText, X>()
     ensures { (location_at : List ℕ → Standing X) (K : Locations X) (first : ℕ → X) (C : Printing T A) (isolated : Id → Bool) (g : Graph T A) (width n : ℕ) →
         ((p : ℕ) → K.is_position (first p) ≡ true) → C.same_own ≡ A.eq →
-        Wordy C g → Fit C isolated g → SmallGraph C isolated g → GraphKeepsKeys g → GraphHeld location_at K g → Closed C isolated g → SmallSection C g →
+        HasIdentifiers C g → Fit C isolated g → SmallGraph C isolated g → GraphKeepsKeys g → GraphHeld location_at K g → Closed C isolated g → SmallSection C g →
         ComesBack (texts_of T.reading T.written) (texts_of A.reading A.written) location_at K first C isolated g width n }
 {}
 
@@ -51,7 +50,7 @@ pub fn each_reading_comes_back<T: IrText<A>, A: AttrText, X>()
         let types = texts_of T.reading T.written in
         let owns = texts_of A.reading A.written in
         ((p : ℕ) → K.is_position (first p) ≡ true) → C.same_own ≡ A.eq →
-        Wordy C g → Fit C isolated g → SmallGraph C isolated g → GraphKeepsKeys g → GraphHeld location_at K g → Closed C isolated g → SmallSection C g →
+        HasIdentifiers C g → Fit C isolated g → SmallGraph C isolated g → GraphKeepsKeys g → GraphHeld location_at K g → Closed C isolated g → SmallSection C g →
         (t : Tree ℕ T A) (es : List (Entry ℕ A X)) (rest : List ℕ) →
         reads_root (language types owns C.format_of) location_at t es (text (unplaced types owns C.format_of) C g n width None) rest →
         (after_space rest ≡ []) × (failures_of isolated t es ≡ []) × UpToFillings K (stood C isolated g) (build isolated first es t) }
@@ -62,7 +61,7 @@ pub fn each_reading_comes_back<T: IrText<A>, A: AttrText, X>()
 pub fn named_root_comes_back<T: IrText<A>, A: AttrText, X>()
     ensures { (location_at : List ℕ → Standing X) (K : Locations X) (first : ℕ → X) (C : Printing T A) (isolated : Id → Bool) (g : Graph T A) (width n : ℕ) →
         ((p : ℕ) → K.is_position (first p) ≡ true) → C.same_own ≡ A.eq →
-        Wordy C g → Fit C isolated g → SmallGraph C isolated g → GraphKeepsKeys g → GraphHeld location_at K g → Closed C isolated g → SmallSection C g → Named C g →
+        HasIdentifiers C g → Fit C isolated g → SmallGraph C isolated g → GraphKeepsKeys g → GraphHeld location_at K g → Closed C isolated g → SmallSection C g → Named C g →
         ComesBackWhole (texts_of T.reading T.written) (texts_of A.reading A.written) location_at K first C isolated g width n }
 {}
 
@@ -85,7 +84,7 @@ pub fn read_root_comes_back<T: IrText<A>, A: AttrText, X>()
         ((id : Id) (format : Format) → C.format_of id ≡ Some format → Accepted format) →
         reads (language (texts_of T.reading T.written) (texts_of A.reading A.written) C.format_of) t source rest → failures_of isolated t es ≡ [] →
         StandsFor (stood C isolated g) (build isolated before es t) → Distinct C isolated g →
-        Wordy C g → Fit C isolated g → SmallGraph C isolated g → GraphHeld location_at K g → SmallSection C g →
+        HasIdentifiers C g → Fit C isolated g → SmallGraph C isolated g → GraphHeld location_at K g → SmallSection C g →
         ComesBackWhole (texts_of T.reading T.written) (texts_of A.reading A.written) location_at K first C isolated g width n }
 {}
 

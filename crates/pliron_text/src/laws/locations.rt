@@ -6,10 +6,10 @@ ghost use Rattle.irtext_base.specs.Answers.{Outcome};
 ghost use Rattle.irtext_base.specs.Locations.{AttrView};
 ghost use Rattle.irtext_base.specs.Paths.{Written};
 ghost use Rattle.irtext_base.specs.Text.{after_space, begins};
-ghost use Rattle.irtext_outcomes.specs.Readers.LocationBound.{LeavesNoMore};
+ghost use Rattle.irtext_outcomes.specs.Readers.RestLengths.{LeavesNoMore};
 ghost use Rattle.irtext_outcomes.specs.Readers.Locations.{location_at, location_within, more_within};
 ghost use Rattle.irtext_grammar.specs.Spelling.Locations.{written_text};
-ghost use Rattle.irtext_outcomes.specs.Promises.WrittenBack.{AllFit, AllRead, EndsLocation, GivesBack, left_behind};
+ghost use Rattle.irtext_outcomes.specs.Promises.LocationsBack.{AllFit, AllRead, EndsLocation, GivesBack, left_behind};
 
 /// What is written of a location of any kind is read back as this location before whatever is no digit, if its metadata is read
 /// back and its paths, names, lines and columns fit: also under each bound on the nesting that the text's length meets. Of what

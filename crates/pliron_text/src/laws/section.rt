@@ -7,10 +7,10 @@ ghost use Rattle.irtext_grammar.specs.Grammar.Bare.{bare};
 ghost use Rattle.irtext_grammar.specs.Graphs.Build.{build};
 ghost use Rattle.irtext_grammar.specs.Graphs.Closed.{Closed, Fit};
 ghost use Rattle.irtext_grammar.specs.Graphs.Contents.{Contents};
-ghost use Rattle.irtext_grammar.specs.Graphs.Fillable.{GraphKeepsKeys};
+ghost use Rattle.irtext_grammar.specs.Graphs.ReservedKeys.{GraphKeepsKeys};
 ghost use Rattle.irtext_grammar.specs.Graphs.Graph.{entries_of, shared, written, Graph, Printing};
 ghost use Rattle.irtext_grammar.specs.Grammar.Marked.{reads_root};
-ghost use Rattle.pliron_text.specs.Promises.PlainRoot.{GivesWords, PlainRoot};
+ghost use Rattle.pliron_text.specs.Promises.PlainRoot.{GivesIdentifiers, PlainRoot};
 ghost use Rattle.irtext_grammar.specs.Grammar.Section.{Entry};
 ghost use Rattle.irtext_grammar.specs.Graphs.RoundTrip.{ComesBack, GraphHeld, LocationReads};
 ghost use Rattle.irtext_grammar.specs.Graphs.Same.{stood, Locations, SameShapes, SmallGraph};
@@ -18,7 +18,7 @@ ghost use Rattle.irtext_grammar.specs.Names.Scopes.{facts};
 ghost use Rattle.irtext_grammar.specs.Names.Script.{done};
 ghost use Rattle.irtext_grammar.specs.Spelling.Section.{text};
 ghost use Rattle.irtext_grammar.specs.Grammar.Tree.{Tree};
-ghost use Rattle.irtext_grammar.specs.Graphs.Wordy.{Wordy};
+ghost use Rattle.irtext_grammar.specs.Graphs.Identifiers.{HasIdentifiers};
 ghost use Rattle.irtext_grammar.specs.Spelling.SectionEntries.{bare_section, index_of, numbers, written_section, SmallSection};
 
 use irtext_base::text::{AttrText, IrText};
@@ -28,7 +28,7 @@ use irtext_base::text::{AttrText, IrText};
 /// a position stands where the location was unknown, and nothing else differs.
 pub fn plain_root_comes_back<T: IrText<A>, A: AttrText, X>()
     ensures { (location_at : List ℕ → Standing X) (K : Locations X) (first : ℕ → X) (C : Printing T A) (isolated : Id → Bool) (g : Graph T A) (width n : ℕ) →
-        ((p : ℕ) → K.is_position (first p) ≡ true) → GivesWords C → PlainRoot C isolated g → LocationReads location_at K g.own.location →
+        ((p : ℕ) → K.is_position (first p) ≡ true) → GivesIdentifiers C → PlainRoot C isolated g → LocationReads location_at K g.own.location →
         ComesBack (texts_of T.reading T.written) (texts_of A.reading A.written) location_at K first C isolated g width n }
 {}
 
@@ -40,7 +40,7 @@ pub fn section_comes_back<T: IrText<A>, A: AttrText, X>()
         let types = texts_of T.reading T.written in
         let owns = texts_of A.reading A.written in
         let printing = unplaced types owns C.format_of in
-        C.same_own ≡ A.eq → Wordy C g → Fit C isolated g → SmallGraph C isolated g → GraphKeepsKeys g → GraphHeld location_at K g → Closed C isolated g → SmallSection C g →
+        C.same_own ≡ A.eq → HasIdentifiers C g → Fit C isolated g → SmallGraph C isolated g → GraphKeepsKeys g → GraphHeld location_at K g → Closed C isolated g → SmallSection C g →
         (t : Tree ℕ T A) × (es : List (Entry ℕ A X)) × (u : List ℕ) × reads_root (language types owns C.format_of) location_at t es (text printing C g n width None) u
         × (bare t ≡ written C None g) × (bare_section K.text es ≡ written_section C (entries_of C None g))
         × (failures_of isolated t es ≡ []) × Contents C K.text es g t × SameShapes (stood C isolated g) (build isolated first es t) }
@@ -50,7 +50,7 @@ pub fn section_comes_back<T: IrText<A>, A: AttrText, X>()
 /// has items. So are the indices of the section's entries, where what is written once follows the items without a gap, each
 /// attribute in one entry.
 pub fn indices_in_order<T, A>()
-    ensures marks { (C : Printing T A) (isolated : Id → Bool) (l : Option ℕ) (g : Graph T A) → Wordy C g → Fit C isolated g →
+    ensures marks { (C : Printing T A) (isolated : Id → Bool) (l : Option ℕ) (g : Graph T A) → HasIdentifiers C g → Fit C isolated g →
         (facts same_text (tree_script isolated (written C l g) done)).marks ≡ numbers 0 (length (entries_of C l g)) }
     ensures entries { (C : Printing T A) (l : Option ℕ) (g : Graph T A) →
         map index_of (written_section C (entries_of C l g)) ≡ numbers 0 (length (entries_of C l g) + length (shared C (entries_of C l g))) }

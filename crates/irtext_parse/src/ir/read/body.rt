@@ -8,11 +8,11 @@ ghost use Rattle.irtext_context.specs.Made.{AddsRegions};
 ghost use Rattle.irtext_read.specs.AttrTexts.{attr_at};
 ghost use Rattle.irtext_read.specs.States.{marks_of};
 ghost use Rattle.irtext_grammar.specs.Contexts.Formats.{IsAccepted};
-ghost use Rattle.irtext_outcomes.specs.Readers.MustRead.{MustRead};
-ghost use Rattle.irtext_outcomes.specs.Readers.OperationRead.{MakesWith};
+ghost use Rattle.irtext_read.specs.MustRead.{MustRead};
+ghost use Rattle.irtext_outcomes.specs.Promises.Operation.{MakesWith};
 ghost use Rattle.irtext_outcomes.specs.Readers.Operations.{body_of};
 ghost use Rattle.irtext_parse.specs.Readers.PiecesOf.{pieces_of};
-ghost use Rattle.irtext_outcomes.specs.Readers.Roots.{itself, replaced, KeepsRest};
+ghost use Rattle.irtext_outcomes.specs.Readers.Streams.{itself, replaced, KeepsRest};
 
 use crate::format::pieces::{Pieces, body_parse};
 use crate::parsable::out_of_memory;

@@ -4,9 +4,8 @@ ghost use Rattle.irtext_base.specs.Answers.{Takes, DemandsOf};
 ghost use Rattle.irtext_context.specs.DialectTable.{registered};
 ghost use Rattle.irtext_base.specs.Faults.{id_of};
 ghost use Rattle.irtext_outcomes.specs.Readers.Parts.{lead_of, behind_lead, is_led};
-ghost use Rattle.irtext_outcomes.specs.Readers.MustRead.{MayRead};
-ghost use Rattle.irtext_outcomes.specs.Readers.Operations.{led_id_at};
-ghost use Rattle.irtext_outcomes.specs.Readers.Registered.{Registers};
+ghost use Rattle.irtext_read.specs.MustRead.{MayRead};
+ghost use Rattle.irtext_outcomes.specs.Readers.Operations.{led_id_at, Registers};
 
 use irtext_context::base::Context;
 use irtext_base::base::OpId;

@@ -2,8 +2,9 @@
 ghost use Rattle.std.specs.Prelude.{◌≡◌, ◌++◌, IfOk, OnErr};
 ghost use Rattle.irtext_read.specs.States.{marks_of};
 ghost use Rattle.irtext_outcomes.specs.Readers.Parts.{mark_at};
-ghost use Rattle.irtext_outcomes.specs.Readers.MustRead.{MustRead};
-ghost use Rattle.irtext_outcomes.specs.Readers.Roots.{itself, replaced, fresh_mark_at, noted, KeepsRest};
+ghost use Rattle.irtext_read.specs.MustRead.{MustRead};
+ghost use Rattle.irtext_outcomes.specs.Readers.Marks.{fresh_mark_at, noted};
+ghost use Rattle.irtext_outcomes.specs.Readers.Streams.{itself, replaced, KeepsRest};
 
 use crate::irfmt::demanded::index_demanded;
 use crate::parsable::out_of_memory;

@@ -3,9 +3,10 @@ ghost use Rattle.std.specs.Prelude.{◌≡◌, ◌≤◌, ℕ, false, IfOk, IfEr
 ghost use Rattle.irtext_context.specs.Context.{KeepsOlder};
 ghost use Rattle.irtext_read.specs.AttrTexts.{attr_at};
 ghost use Rattle.irtext_read.specs.States.{marks_of};
-ghost use Rattle.irtext_outcomes.specs.Readers.OperationRead.{ReadsOperation, MissesOperation};
-ghost use Rattle.irtext_outcomes.specs.Readers.Roots.{fresh_mark_at, KeepsRest};
-ghost use Rattle.irtext_outcomes.specs.Readers.SectionRead.{Faults};
+ghost use Rattle.irtext_outcomes.specs.Promises.Operation.{ReadsOperation, MissesOperation};
+ghost use Rattle.irtext_outcomes.specs.Readers.Marks.{fresh_mark_at};
+ghost use Rattle.irtext_outcomes.specs.Readers.Streams.{KeepsRest};
+ghost use Rattle.irtext_outcomes.specs.Promises.Section.{Faults};
 ghost use Rattle.irtext_outcomes.specs.Promises.Supported.{OperationRefused};
 
 use crate::ir::read::body::{known_body_parse, make_read};

@@ -6,8 +6,9 @@ ghost use Rattle.irtext_context.specs.Made.{SameObjects};
 ghost use Rattle.irtext_base.specs.Stream.{IsAt};
 ghost use Rattle.irtext_read.specs.AttrTexts.{attr_at};
 ghost use Rattle.irtext_read.specs.States.{marks_of};
-ghost use Rattle.irtext_outcomes.specs.Readers.Roots.{KeepsRest, Refusal};
-ghost use Rattle.irtext_outcomes.specs.Readers.SectionRead.{ReadsWith, MissesWith, is_unplaced, IsReported};
+ghost use Rattle.irtext_outcomes.specs.Readers.Refusals.{Refusal};
+ghost use Rattle.irtext_outcomes.specs.Readers.Streams.{KeepsRest};
+ghost use Rattle.irtext_outcomes.specs.Promises.Section.{ReadsWith, MissesWith, is_unplaced, IsReported};
 
 use crate::ir::read::OperationParserConfig;
 use crate::ir::read::operation::operation_parse;

@@ -6,17 +6,16 @@ ghost use Rattle.irtext_base.specs.Format as format;
 ghost use Rattle.irtext_base.specs.Format.{count, region_places};
 ghost use Rattle.irtext_print.specs.Printers.PieceText.{outlining};
 ghost use Rattle.irtext_print.specs.Printers.PrintedOperation as printed;
-ghost use Rattle.irtext_print.specs.Printers.Soles as soles;
 ghost use Rattle.irtext_grammar.specs.Contexts.Held.{entries_of};
 
-use crate::ir::print::pieces::{is_outlined, symbol_of, write_key};
+use crate::ir::print::pieces::{is_outlined, symbol_of, is_key_written};
 use irtext_base::base::AttributeDict;
 use irtext_base::format::Directive;
 use irtext_base::text::AttrText;
 
 /// Whether a directive names no value, no block and no type.
-fn is_written(directive: &Directive) -> bool
-    ensures { result ≡ printed.is_written (directive_of directive.now) }
+fn is_supported(directive: &Directive) -> bool
+    ensures { result ≡ printed.is_supported (directive_of directive.now) }
 {
     match directive {
         Directive::Operand(_) | Directive::Operands => false,
@@ -26,10 +25,10 @@ fn is_written(directive: &Directive) -> bool
     }
 }
 
-fn all_are_written(directives: &[Directive]) -> bool
-    ensures { result ≡ list_all printed.is_written (directives_of directives.now) }
+fn all_supported(directives: &[Directive]) -> bool
+    ensures { result ≡ list_all printed.is_supported (directives_of directives.now) }
 {
-    directives.iter().all(|d| is_written(d))
+    directives.iter().all(|d| is_supported(d))
 }
 
 fn writes_region(directive: &Directive) -> bool
@@ -47,27 +46,27 @@ fn count_regions(directives: &[Directive]) -> usize
 
 /// The directives of which one can stand.
 #[derive(Clone, Copy)]
-enum Sole {
+enum SingleKind {
     Regions,
     Dictionary,
     Header,
 }
 
-fn is_sole(sole: Sole, directive: &Directive) -> bool
-    ensures { result ≡ soles.is_sole sole (directive_of directive.now) }
+fn is_of_kind(sole: SingleKind, directive: &Directive) -> bool
+    ensures { result ≡ printed.is_of_kind sole (directive_of directive.now) }
 {
     match sole {
-        Sole::Regions => matches!(directive, Directive::Regions),
-        Sole::Dictionary => matches!(directive, Directive::AttrDict),
-        Sole::Header => matches!(directive, Directive::SymbolHeader),
+        SingleKind::Regions => matches!(directive, Directive::Regions),
+        SingleKind::Dictionary => matches!(directive, Directive::AttrDict),
+        SingleKind::Header => matches!(directive, Directive::SymbolHeader),
     }
 }
 
 /// Whether a directive stands among others.
-fn stands(sole: Sole, directives: &[Directive]) -> bool
-    ensures { result ≡ not (count (soles.is_sole sole) (directives_of directives.now) == 0) }
+fn has_directive(sole: SingleKind, directives: &[Directive]) -> bool
+    ensures { result ≡ not (count (printed.is_of_kind sole) (directives_of directives.now) == 0) }
 {
-    directives.iter().any(|d| is_sole(sole, d))
+    directives.iter().any(|d| is_of_kind(sole, d))
 }
 
 /// Whether directives write so many regions.
@@ -75,7 +74,7 @@ fn regions_fit(directives: &[Directive], regions: usize) -> bool
     ensures { result ≡ printed.regions_fit (directives_of directives.now) regions }
 {
     let places = count_regions(directives);
-    if stands(Sole::Regions, directives) {
+    if has_directive(SingleKind::Regions, directives) {
         regions >= places
     } else {
         regions == places
@@ -83,8 +82,8 @@ fn regions_fit(directives: &[Directive], regions: usize) -> bool
 }
 
 /// Whether the key that a directive names, if it names one, is there.
-fn key_is_there<A: AttrText>(attributes: &AttributeDict<A>, directive: &Directive) -> bool
-    ensures { result ≡ soles.key_there (entries_of attributes.now) (directive_of directive.now) }
+fn has_named_key<A: AttrText>(attributes: &AttributeDict<A>, directive: &Directive) -> bool
+    ensures { result ≡ printed.has_named_key (entries_of attributes.now) (directive_of directive.now) }
 {
     match directive {
         Directive::Attr(key) => attributes.get(key).is_some(),
@@ -92,27 +91,27 @@ fn key_is_there<A: AttrText>(attributes: &AttributeDict<A>, directive: &Directiv
     }
 }
 
-fn keys_there<A: AttrText>(attributes: &AttributeDict<A>, directives: &[Directive]) -> bool
-    ensures { result ≡ printed.keys_there (entries_of attributes.now) (directives_of directives.now) }
+fn has_named_keys<A: AttrText>(attributes: &AttributeDict<A>, directives: &[Directive]) -> bool
+    ensures { result ≡ printed.has_named_keys (entries_of attributes.now) (directives_of directives.now) }
 {
-    directives.iter().all(|d| key_is_there(attributes, d))
+    directives.iter().all(|d| has_named_key(attributes, d))
 }
 
 /// Whether the symbol's name is there, where a directive writes it.
 fn symbol_fits<A: AttrText>(attributes: &AttributeDict<A>, directives: &[Directive]) -> bool
     ensures { result ≡ printed.symbol_fits (entries_of attributes.now) (directives_of directives.now) }
 {
-    !stands(Sole::Header, directives) || symbol_of(attributes).is_some()
+    !has_directive(SingleKind::Header, directives) || symbol_of(attributes).is_some()
 }
 
 /// Whether each attribute is written.
-fn all_written<A: AttrText>(attributes: &AttributeDict<A>, directives: &[Directive]) -> bool
-    ensures { result ≡ printed.all_written (outlining A.outlined) (directives_of directives.now) (entries_of attributes.now) }
+fn covers_all<A: AttrText>(attributes: &AttributeDict<A>, directives: &[Directive]) -> bool
+    ensures { result ≡ printed.covers_all (outlining A.outlined) (directives_of directives.now) (entries_of attributes.now) }
 {
-    stands(Sole::Dictionary, directives)
+    has_directive(SingleKind::Dictionary, directives)
         || attributes
             .iter()
-            .all(|(key, _)| write_key(directives, key.as_str()))
+            .all(|(key, _)| is_key_written(directives, key.as_str()))
 }
 
 fn none_outlined<A: AttrText>(attributes: &AttributeDict<A>) -> bool
@@ -130,10 +129,10 @@ pub(crate) fn fits<A: AttrText>(
 ) -> bool
     ensures { result ≡ printed.fits_directives (outlining A.outlined) (directives_of directives.now) (entries_of attributes.now) regions }
 {
-    all_are_written(directives)
+    all_supported(directives)
         && regions_fit(directives, regions)
-        && keys_there(attributes, directives)
+        && has_named_keys(attributes, directives)
         && symbol_fits(attributes, directives)
-        && all_written(attributes, directives)
+        && covers_all(attributes, directives)
         && none_outlined(attributes)
 }

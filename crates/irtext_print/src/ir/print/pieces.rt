@@ -16,18 +16,18 @@ use irtext_base::text::AttrText;
 use std::fmt;
 
 /// Whether no space stands before a word that begins with this character.
-fn hugs(c: char) -> bool
-    ensures { result ≡ spell.hugs c }
+fn joins_left(c: char) -> bool
+    ensures { result ≡ spell.joins_left c }
 {
     matches!(c, ',' | ':' | ';' | ')' | ']' | '>')
 }
 
 /// Whether no space stands before a word.
-fn begins_hugging(word: &str) -> bool
-    ensures { result ≡ begins spell.hugs (chars word.now) }
+fn word_joins_left(word: &str) -> bool
+    ensures { result ≡ begins spell.joins_left (chars word.now) }
 {
     match word.chars().next() {
-        Some(c) => hugs(c),
+        Some(c) => joins_left(c),
         None => false,
     }
 }
@@ -36,7 +36,7 @@ fn begins_hugging(word: &str) -> bool
 pub(crate) fn fmt_word(word: &str, f: &mut String) -> fmt::Result
     ensures { OnOk result (string_bytes f.new ≡ string_bytes f.old ++ encode_utf8_all (pieces.word_text (chars word.now))) }
 {
-    if !begins_hugging(word) {
+    if !word_joins_left(word) {
         f.push_str(" ")?;
     }
     f.push_str(word)?;
@@ -113,8 +113,8 @@ pub(crate) fn fmt_symbol<A: AttrText>(attributes: &AttributeDict<A>, f: &mut Str
 }
 
 /// Whether a directive writes the attribute under a key.
-fn writes_key(directive: &Directive, key: &str) -> bool
-    ensures { result ≡ pieces.writes_key key.now (directive_of directive.now) }
+fn names_key(directive: &Directive, key: &str) -> bool
+    ensures { result ≡ pieces.names_key key.now (directive_of directive.now) }
 {
     match directive {
         Directive::Attr(named) => key == named.as_str(),
@@ -124,17 +124,17 @@ fn writes_key(directive: &Directive, key: &str) -> bool
 }
 
 /// Whether one of the directives writes the attribute under a key.
-pub(crate) fn write_key(directives: &[Directive], key: &str) -> bool
-    ensures { result ≡ pieces.write_key key.now (directives_of directives.now) }
+pub(crate) fn is_key_written(directives: &[Directive], key: &str) -> bool
+    ensures { result ≡ pieces.is_key_written key.now (directives_of directives.now) }
 {
-    directives.iter().any(|d| writes_key(d, key))
+    directives.iter().any(|d| names_key(d, key))
 }
 
 /// Whether the dictionary writes an entry: no other directive does, and it is not outlined.
 fn is_listed<A: AttrText>(directives: &[Directive], key: &Identifier, attr: &AttrObj<A>) -> bool
-    ensures { result ≡ (not (graph.outlined (pieces.outlining A.outlined) (attribute_of attr.now)) && not (pieces.write_key key.now (directives_of directives.now))) }
+    ensures { result ≡ (not (graph.outlined (pieces.outlining A.outlined) (attribute_of attr.now)) && not (pieces.is_key_written key.now (directives_of directives.now))) }
 {
-    !is_outlined(attr) && !write_key(directives, key.as_str())
+    !is_outlined(attr) && !is_key_written(directives, key.as_str())
 }
 
 /// Appends an entry, behind `, ` where it is not the first.
@@ -160,7 +160,7 @@ fn fmt_entries<A: AttrText>(
     directives: &[Directive],
     f: &mut String,
 ) -> fmt::Result
-    ensures { OnOk result (string_bytes f.new ≡ string_bytes f.old ++ encode_utf8_all (pieces.rows_text A.IrText.written (pieces.listed A.outlined (directives_of directives.now) (entries_of attributes.now)))) }
+    ensures { OnOk result (string_bytes f.new ≡ string_bytes f.old ++ encode_utf8_all (pieces.rows_text A.IrText.written (pieces.dictionary_entries A.outlined (directives_of directives.now) (entries_of attributes.now)))) }
 {
     let mut first = true;
     for (key, attr) in attributes.iter() {
@@ -178,7 +178,7 @@ pub(crate) fn fmt_dictionary<A: AttrText>(
     directives: &[Directive],
     f: &mut String,
 ) -> fmt::Result
-    ensures { OnOk result (string_bytes f.new ≡ string_bytes f.old ++ encode_utf8_all (codes " [" ++ (pieces.rows_text A.IrText.written (pieces.listed A.outlined (directives_of directives.now) (entries_of attributes.now)) ++ codes "]"))) }
+    ensures { OnOk result (string_bytes f.new ≡ string_bytes f.old ++ encode_utf8_all (codes " [" ++ (pieces.rows_text A.IrText.written (pieces.dictionary_entries A.outlined (directives_of directives.now) (entries_of attributes.now)) ++ codes "]"))) }
 {
     f.push_str(" [")?;
     fmt_entries(attributes, directives, f)?;

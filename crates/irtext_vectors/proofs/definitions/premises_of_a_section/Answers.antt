@@ -7,10 +7,10 @@ use Rattle.irtext_base.specs.Reading.{the}
 use Rattle.irtext_base.specs.Text.{begins, Text}
 use Rattle.irtext_grammar.proofs.Lists.SameText.{same_text_refl, same_text_true}
 use Rattle.irtext_grammar.specs.Graphs.Closed.{Fit}
-use Rattle.irtext_grammar.specs.Graphs.Fillable.{GraphKeepsKeys}
+use Rattle.irtext_grammar.specs.Graphs.ReservedKeys.{GraphKeepsKeys}
 use Rattle.irtext_grammar.specs.Graphs.RoundTrip.{GraphHeld, LocationReads}
 use Rattle.irtext_grammar.specs.Graphs.Same.{SmallGraph}
-use Rattle.irtext_grammar.specs.Graphs.Wordy.{Wordy}
+use Rattle.irtext_grammar.specs.Graphs.Identifiers.{HasIdentifiers}
 use Rattle.irtext_vectors.specs.Demo.{isolated, plain_printing}
 use Rattle.irtext_vectors.specs.Graphs.{on_line_one}
 use Rattle.irtext_vectors.specs.Located.{note_on_line_one, text_locations, up_to_bracket}
@@ -65,7 +65,7 @@ small = (
 none_some : {X : Type 0} (x : X) → None ≡ Some x → ⊥
 none_some x e = cc
 
-wordy : Wordy plain_printing note_on_line_one
+wordy : HasIdentifiers plain_printing note_on_line_one
 wordy = record {
   given = λ v n e. absurd (none_some n e);
   label = λ b n e. absurd (none_some n e);

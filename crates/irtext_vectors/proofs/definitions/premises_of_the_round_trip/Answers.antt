@@ -1,9 +1,9 @@
 use Rattle.std.specs.Prelude.{◌≡◌, refl, Some, None}
 use Rattle.std.proofs.Common.{arith}
 use Rattle.irtext_grammar.specs.Graphs.Closed.{Fit}
-use Rattle.irtext_grammar.specs.Graphs.Fillable.{GraphKeepsKeys}
+use Rattle.irtext_grammar.specs.Graphs.ReservedKeys.{GraphKeepsKeys}
 use Rattle.irtext_grammar.specs.Graphs.Same.{SmallGraph}
-use Rattle.irtext_grammar.specs.Graphs.Wordy.{Wordy}
+use Rattle.irtext_grammar.specs.Graphs.Identifiers.{HasIdentifiers}
 use Rattle.irtext_vectors.specs.Demo.{isolated, plain_printing}
 use Rattle.irtext_vectors.specs.Graphs.{use_before_definition}
 use Rattle.irtext_vectors.proofs.definitions.premises_of_the_round_trip.Goals as goal
@@ -44,7 +44,7 @@ small = (
 none_some : {X : Type 0} (x : X) → None ≡ Some x → ⊥
 none_some x e = cc
 
-wordy : Wordy plain_printing use_before_definition
+wordy : HasIdentifiers plain_printing use_before_definition
 wordy = record {
   given = λ v n e. absurd (none_some n e);
   label = λ b n e. absurd (none_some n e);

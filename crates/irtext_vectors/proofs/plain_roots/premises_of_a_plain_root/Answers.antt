@@ -1,6 +1,6 @@
 use Rattle.std.specs.Prelude.{◌≡◌, refl, [], ◌∷◌, codes, Some, None}
 use Rattle.irtext_base.specs.Format as format
-use Rattle.pliron_text.specs.Promises.PlainRoot.{GivesWords, PlainRoot}
+use Rattle.pliron_text.specs.Promises.PlainRoot.{GivesIdentifiers, PlainRoot}
 use Rattle.irtext_vectors.specs.PlainRoots.{all_isolated, by_plain_formats, two_regions}
 use Rattle.irtext_vectors.proofs.plain_roots.premises_of_a_plain_root.Goals as goal
 
@@ -10,7 +10,7 @@ returns-clause-is_written c = refl
 none_some : {X : Type 0} (x : X) → None ≡ Some x → ⊥
 none_some x e = cc
 
-gives : GivesWords by_plain_formats
+gives : GivesIdentifiers by_plain_formats
 gives = record { given = λ v n e. absurd (none_some n e); label = λ b n e. absurd (none_some n e) }
 
 plain : PlainRoot by_plain_formats all_isolated two_regions

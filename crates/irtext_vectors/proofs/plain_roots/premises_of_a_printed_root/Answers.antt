@@ -19,7 +19,7 @@ use Rattle.irtext_outcomes.specs.Promises.KeptRoot.{AllHold, IsKept}
 use Rattle.irtext_print.specs.Printers.PrintedOperation.{fits_format, printing}
 use Rattle.irtext_print.specs.Printers.Shown.{Shown}
 use Rattle.irtext_grammar.specs.Spelling.Spell.{spelled}
-use Rattle.irtext_outcomes.specs.Promises.WrittenBack.{AllFit}
+use Rattle.irtext_outcomes.specs.Promises.LocationsBack.{AllFit}
 use Rattle.irtext_print.specs.Printers.Appended.{fresh}
 use Rattle.irtext_print.specs.declared.printable.state.RegionPrintDepthLimit.TheVariants.{Unlimited}
 use Rattle.irtext_base.proofs.LocationViews.{seen-unknown}

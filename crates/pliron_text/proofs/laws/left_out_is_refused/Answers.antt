@@ -6,13 +6,13 @@ use Rattle.irtext_grammar.specs.Graphs.Graph.{written, entries_of}
 use Rattle.irtext_grammar.specs.Spelling.Section.{section}
 use Rattle.irtext_grammar.specs.Grammar.Reads.{reads}
 use Rattle.irtext_grammar.specs.Grammar.Bare.{bare}
-use Rattle.irtext_grammar.specs.Grammar.LeftOut.{AllShown}
+use Rattle.irtext_grammar.specs.Grammar.Marked.{AllShown}
 use Rattle.irtext_grammar.proofs.Grammar.BackTree as back
 use Rattle.irtext_grammar.proofs.Grammar.Placed as placed
 use Rattle.irtext_grammar.proofs.Grammar.Unique as unique
 use Rattle.irtext_grammar.proofs.Grammar.Lenient.{lenient, lenient_reads, bare_all_shown}
-use Rattle.irtext_grammar.proofs.Graphs.WrittenFine.{written_fine_under}
-use Rattle.irtext_grammar.proofs.Sections.BehindSection.{section_behind}
+use Rattle.irtext_grammar.proofs.Graphs.WrittenSpellable.{written_fine_under}
+use Rattle.irtext_grammar.proofs.Sections.BehindRoot.{section_behind}
 use Rattle.pliron_text.proofs.laws.left_out_is_refused.Goals as goal
 
 pub returns : goal.returns

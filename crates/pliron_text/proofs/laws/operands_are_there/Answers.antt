@@ -1,8 +1,8 @@
 use Rattle.irtext_base.specs.Own.{language, texts_of}
 use Rattle.irtext_grammar.specs.Names.Acts.{section_acts, rule_of}
 use Rattle.irtext_grammar.specs.Names.Script.{does_all, done}
-use Rattle.irtext_grammar.proofs.Grammar.Formed.{each_accepted, formed_read}
-use Rattle.irtext_grammar.proofs.Graphs.Holding.{all_there}
+use Rattle.irtext_grammar.proofs.Grammar.PartsOfFormats.{each_accepted, formed_read}
+use Rattle.irtext_grammar.proofs.Graphs.Links.{all_there}
 use Rattle.pliron_text.proofs.laws.operands_are_there.Goals as goal
 
 pub returns : goal.returns

@@ -7,8 +7,8 @@ use Rattle.irtext_grammar.specs.Spelling.Section.{section}
 use Rattle.irtext_grammar.specs.Grammar.Reads.{reads}
 use Rattle.irtext_grammar.proofs.Grammar.BackTree as back
 use Rattle.irtext_grammar.proofs.Grammar.Placed as placed
-use Rattle.irtext_grammar.proofs.Graphs.WrittenFine.{written_fine}
-use Rattle.irtext_grammar.proofs.Sections.BehindSection.{section_behind}
+use Rattle.irtext_grammar.proofs.Graphs.WrittenSpellable.{written_fine}
+use Rattle.irtext_grammar.proofs.Sections.BehindRoot.{section_behind}
 use Rattle.pliron_text.proofs.laws.root_before_section.Goals as goal
 
 pub returns : goal.returns

@@ -13,7 +13,7 @@ use Rattle.irtext_grammar.proofs.Grammar.BackTree as back
 use Rattle.irtext_grammar.proofs.Grammar.Placed as placed
 use Rattle.irtext_grammar.proofs.Names.Resolved.{tree_resolves}
 use Rattle.irtext_grammar.proofs.Graphs.Match.{same_shapes}
-use Rattle.irtext_grammar.proofs.Graphs.WrittenFine.{written_fine}
+use Rattle.irtext_grammar.proofs.Graphs.WrittenSpellable.{written_fine}
 use Rattle.irtext_grammar.proofs.Graphs.BareScript.{resolves_bare}
 use Rattle.irtext_grammar.proofs.Graphs.BareBuild.{shapes_bare}
 use Rattle.pliron_text.proofs.laws.round_trip.Goals as goal

@@ -1,6 +1,6 @@
 use Rattle.irtext_base.specs.Own.{language, texts_of}
-use Rattle.irtext_grammar.proofs.Grammar.Formed.{formed_read, each_accepted}
-use Rattle.irtext_grammar.proofs.Graphs.Holding.{bound_linked}
+use Rattle.irtext_grammar.proofs.Grammar.PartsOfFormats.{formed_read, each_accepted}
+use Rattle.irtext_grammar.proofs.Graphs.Links.{bound_linked}
 use Rattle.pliron_text.proofs.laws.uses_are_built.Goals as goal
 
 pub returns : goal.returns

@@ -1,6 +1,6 @@
 use Rattle.irtext_read.proofs.Steps.{insisted}
 use Rattle.irtext_parse.proofs.Readers.PieceSteps.{as_tree}
-use Rattle.irtext_outcomes.proofs.Readers.Rooted.{alone}
+use Rattle.irtext_outcomes.proofs.Readers.PlainStream.{alone}
 use Rattle.irtext_parse.proofs.format.entries.attr_demanded.Goals as goal
 
 pub returns : goal.returns

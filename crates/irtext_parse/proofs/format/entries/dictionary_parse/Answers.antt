@@ -12,7 +12,7 @@ use Rattle.irtext_outcomes.specs.Readers.Directives.{entry_at, dictionary_at}
 use Rattle.irtext_grammar.specs.Contexts.Held.{entries_of}
 use Rattle.irtext_grammar.specs.Grammar.Tree.{Attribute}
 use Rattle.irtext_parse.proofs.Readers.PieceSteps.{first_refused}
-use Rattle.irtext_outcomes.proofs.Readers.Rooted.{alone}
+use Rattle.irtext_outcomes.proofs.Readers.PlainStream.{alone}
 use Rattle.irtext_outcomes.proofs.Readers.Steps.{first, spaced, more, refuses, refuses_seen, last_seen}
 use Rattle.irtext_parse.proofs.format.entries.dictionary_parse.Goals as goal
 

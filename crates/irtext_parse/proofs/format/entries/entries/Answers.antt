@@ -4,7 +4,7 @@ use Rattle.irtext_read.specs.ListOutcomes.{items_after}
 use Rattle.irtext_read.proofs.ListOutcomes.{list_begun, list_empty}
 use Rattle.irtext_outcomes.specs.Readers.Directives.{entry_at}
 use Rattle.irtext_grammar.specs.Contexts.Held.{entries_of}
-use Rattle.irtext_outcomes.proofs.Readers.Rooted.{alone}
+use Rattle.irtext_outcomes.proofs.Readers.PlainStream.{alone}
 use Rattle.irtext_parse.proofs.format.entries.entries.Goals as goal
 
 pub returns-in-Ok : goal.returns-in-Ok

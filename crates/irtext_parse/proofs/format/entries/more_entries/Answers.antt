@@ -6,7 +6,7 @@ use Rattle.irtext_read.proofs.ListOutcomes.{behind_separator, behind_space, foun
 use Rattle.irtext_read.proofs.Steps.{took, spaced, more, refuses, insisted}
 use Rattle.irtext_outcomes.specs.Readers.Directives.{entry_at}
 use Rattle.irtext_grammar.specs.Contexts.Held.{entries_of}
-use Rattle.irtext_outcomes.proofs.Readers.Rooted.{alone}
+use Rattle.irtext_outcomes.proofs.Readers.PlainStream.{alone}
 use Rattle.irtext_parse.proofs.format.entries.more_entries.Goals as goal
 
 pub loop-stream-init : goal.loop-stream-init

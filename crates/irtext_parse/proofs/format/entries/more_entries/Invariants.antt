@@ -3,7 +3,7 @@ use Rattle.irtext_read.specs.AttrTexts.{attr_at}
 use Rattle.irtext_read.proofs.ListOutcomes.{Found}
 use Rattle.irtext_outcomes.specs.Readers.Directives.{entry_at}
 use Rattle.irtext_grammar.specs.Contexts.Held.{entries_of}
-use Rattle.irtext_outcomes.proofs.Readers.Rooted.{alone}
+use Rattle.irtext_outcomes.proofs.Readers.PlainStream.{alone}
 use Rattle.irtext_parse.proofs.format.entries.more_entries.Given as goal
 
 abbrev pub invariant-loop-stream : goal.invariant-loop-stream

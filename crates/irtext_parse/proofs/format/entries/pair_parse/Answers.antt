@@ -10,7 +10,7 @@ use Rattle.irtext_outcomes.specs.Readers.Positions.{spaced_at}
 use Rattle.irtext_outcomes.specs.Readers.Directives.{attribute_at}
 use Rattle.irtext_parse.specs.Readers.PiecesOf.{entry_of}
 use Rattle.irtext_grammar.specs.Grammar.Tree.{Attribute}
-use Rattle.irtext_outcomes.proofs.Readers.Rooted.{alone}
+use Rattle.irtext_outcomes.proofs.Readers.PlainStream.{alone}
 use Rattle.irtext_outcomes.proofs.Readers.Steps.{begins_with, begun_by, more, refuses, refuses_seen, last_seen}
 use Rattle.irtext_parse.proofs.format.entries.pair_parse.Goals as goal
 

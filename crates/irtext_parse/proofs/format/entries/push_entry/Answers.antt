@@ -8,7 +8,7 @@ use Rattle.irtext_parse.specs.Readers.PiecesOf.{entry_of}
 use Rattle.irtext_grammar.specs.Contexts.Held.{entries_of}
 use Rattle.irtext_grammar.specs.Grammar.Tree.{Attribute}
 use Rattle.irtext_parse.proofs.Readers.PieceSteps.{pushed}
-use Rattle.irtext_outcomes.proofs.Readers.Rooted.{alone}
+use Rattle.irtext_outcomes.proofs.Readers.PlainStream.{alone}
 use Rattle.irtext_outcomes.proofs.Readers.Steps.{begins_with, begins_refused, begun_by, starved}
 use Rattle.irtext_parse.proofs.format.entries.push_entry.Goals as goal
 

@@ -4,9 +4,9 @@ use Rattle.std.specs.Str.{chars}
 use Rattle.irtext_base.specs.Faults.{characters}
 use Rattle.irtext_read.specs.Tokens.{text_at}
 use Rattle.irtext_read.proofs.Characters.{encodes-characters}
-use Rattle.irtext_outcomes.specs.Readers.MustRead.{MustRead}
+use Rattle.irtext_read.specs.MustRead.{MustRead}
 use Rattle.irtext_parse.specs.Readers.PiecesOf.{pieces_of}
-use Rattle.irtext_outcomes.specs.Readers.Roots.{itself, replaced}
+use Rattle.irtext_outcomes.specs.Readers.Streams.{itself, replaced}
 use Rattle.irtext_parse.proofs.Readers.PieceSteps.{nothing_added}
 use Rattle.irtext_parse.proofs.format.pieces.piece_parse.Goals as goal
 

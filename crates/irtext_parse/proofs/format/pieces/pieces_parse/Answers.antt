@@ -8,7 +8,7 @@ use Rattle.irtext_outcomes.specs.Readers.Directives.{piece_after, pieces_after, 
 use Rattle.irtext_parse.specs.Readers.PiecesOf.{pieces_of}
 use Rattle.irtext_grammar.specs.Contexts.Held.{entries_of}
 use Rattle.irtext_parse.proofs.Readers.PieceSteps.{with_attributes}
-use Rattle.irtext_outcomes.proofs.Readers.Rooted.{alone}
+use Rattle.irtext_outcomes.proofs.Readers.PlainStream.{alone}
 use Rattle.irtext_outcomes.proofs.Readers.Steps.{starts, spaced, more, refuses}
 use Rattle.irtext_parse.proofs.format.pieces.pieces_parse.Goals as goal
 

@@ -3,7 +3,7 @@ use Rattle.irtext_context.specs.Directives.{directives_of}
 use Rattle.irtext_read.specs.AttrTexts.{attr_at}
 use Rattle.irtext_outcomes.specs.Readers.Directives.{pieces_after, no_pieces}
 use Rattle.irtext_parse.specs.Readers.PiecesOf.{pieces_of}
-use Rattle.irtext_outcomes.proofs.Readers.Rooted.{alone}
+use Rattle.irtext_outcomes.proofs.Readers.PlainStream.{alone}
 use Rattle.irtext_outcomes.proofs.Readers.Steps.{Passed}
 use Rattle.irtext_parse.proofs.format.pieces.pieces_parse.Given as goal
 

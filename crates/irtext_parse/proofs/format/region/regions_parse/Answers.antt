@@ -1,7 +1,7 @@
 use Rattle.std.proofs.Common.{◌≡◌, suc, sym, subst, ◌∙◌, arith}
 use Rattle.std.proofs.lemmas.Result.{err_from_is_err_and}
 use Rattle.irtext_outcomes.proofs.Readers.RegionSteps.{Counted, behind_region, none_counted, all_counted, goes_on, one_more}
-use Rattle.irtext_outcomes.proofs.Readers.Rooted.{alone}
+use Rattle.irtext_outcomes.proofs.Readers.PlainStream.{alone}
 use Rattle.irtext_outcomes.proofs.Readers.Steps.{refuses}
 use Rattle.irtext_parse.proofs.format.region.regions_parse.Goals as goal
 

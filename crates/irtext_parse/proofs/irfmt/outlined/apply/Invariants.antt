@@ -1,8 +1,8 @@
 use Rattle.std.proofs.Common.{◌≡◌, length}
 use Rattle.irtext_context.specs.Context.{ContextView}
 use Rattle.irtext_read.specs.States.{marks_of}
-use Rattle.irtext_outcomes.specs.Readers.Roots.{KeepsRest}
-use Rattle.irtext_outcomes.specs.Readers.SectionRead.{AppliesAll}
+use Rattle.irtext_outcomes.specs.Readers.Streams.{KeepsRest}
+use Rattle.irtext_outcomes.specs.Promises.Section.{AppliesAll}
 use Rattle.irtext_parse.proofs.irfmt.outlined.apply.Given as goal
 
 abbrev pub invariant-loop-index : goal.invariant-loop-index

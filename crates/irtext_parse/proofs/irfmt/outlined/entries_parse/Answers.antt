@@ -2,10 +2,10 @@ use Rattle.std.proofs.Common.{sym, ◌∙◌, subst}
 use Rattle.std.proofs.lemmas.Result.{err_from_is_err_and}
 use Rattle.irtext_read.specs.AttrTexts.{attr_at}
 use Rattle.irtext_read.specs.States.{marks_of}
-use Rattle.irtext_outcomes.specs.Readers.SectionRead.{ReadsEntry, Faults}
+use Rattle.irtext_outcomes.specs.Promises.Section.{ReadsEntry, Faults}
 use Rattle.irtext_outcomes.specs.Readers.Section.{entry_at}
 use Rattle.irtext_outcomes.specs.Promises.Supported.{RefusedAs}
-use Rattle.irtext_outcomes.specs.Readers.Roots.{may_follow}
+use Rattle.irtext_outcomes.specs.Readers.Marks.{may_follow}
 use Rattle.irtext_outcomes.proofs.Readers.Answered.{moves_more}
 use Rattle.irtext_outcomes.proofs.Readers.NewPaths.{adds_more}
 use Rattle.irtext_outcomes.proofs.Readers.SectionSteps.{entry_noted, entries_kept_more, entries_stop}

@@ -2,8 +2,8 @@ use Rattle.std.proofs.Common.{◌≡◌, length}
 use Rattle.irtext_read.specs.AttrTexts.{attr_at}
 use Rattle.irtext_read.specs.States.{marks_of}
 use Rattle.irtext_outcomes.specs.Readers.NewPaths.{AddsPaths}
-use Rattle.irtext_outcomes.specs.Readers.Roots.{KeepsRest}
-use Rattle.irtext_outcomes.specs.Readers.SectionRead.{Moves, entries_kept, entries_over}
+use Rattle.irtext_outcomes.specs.Readers.Streams.{KeepsRest}
+use Rattle.irtext_outcomes.specs.Promises.Section.{Moves, entries_kept, entries_over}
 use Rattle.irtext_outcomes.proofs.Readers.SectionSteps.{EntriesSoFar}
 use Rattle.irtext_parse.proofs.irfmt.outlined.entries_parse.Given as goal
 

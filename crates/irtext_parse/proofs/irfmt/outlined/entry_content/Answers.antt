@@ -2,8 +2,8 @@ use Rattle.std.proofs.Common.{refl, codes}
 use Rattle.std.proofs.lemmas.Result.{err_from_is_err_and}
 use Rattle.irtext_base.specs.Answers.{mapped}
 use Rattle.irtext_read.specs.Tokens.{text_at}
-use Rattle.irtext_outcomes.specs.Readers.SectionRead.{given_over}
-use Rattle.irtext_outcomes.proofs.Readers.Rooted.{alone}
+use Rattle.irtext_outcomes.specs.Promises.Section.{given_over}
+use Rattle.irtext_outcomes.proofs.Readers.PlainStream.{alone}
 use Rattle.irtext_outcomes.proofs.Readers.Steps.{first, more, spaced, refuses, refuses_seen, last_seen}
 use Rattle.irtext_parse.proofs.irfmt.outlined.entry_content.Goals as goal
 

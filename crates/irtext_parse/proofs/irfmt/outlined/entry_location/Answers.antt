@@ -9,10 +9,10 @@ use Rattle.irtext_read.specs.Tokens.{text_at}
 use Rattle.irtext_outcomes.specs.Readers.Locations.{location_at}
 use Rattle.irtext_outcomes.specs.Readers.Positions.{space_at, spaced_at}
 use Rattle.irtext_grammar.specs.Contexts.Held.{location_over}
-use Rattle.irtext_outcomes.specs.Readers.SectionRead.{given_over}
+use Rattle.irtext_outcomes.specs.Promises.Section.{given_over}
 use Rattle.irtext_outcomes.specs.Readers.Section.{entry_location_at}
-use Rattle.irtext_outcomes.proofs.Locations.LocationRows.{at_length}
-use Rattle.irtext_outcomes.proofs.Readers.Rooted.{alone}
+use Rattle.irtext_outcomes.proofs.Locations.Rows.{at_length}
+use Rattle.irtext_outcomes.proofs.Readers.PlainStream.{alone}
 use Rattle.irtext_outcomes.proofs.Readers.Steps.{starts, more, spaced, refuses, last_spaced}
 use Rattle.irtext_parse.proofs.irfmt.outlined.entry_location.Goals as goal
 
@@ -61,7 +61,7 @@ returns-in_err-text_demanded-2-clause-read g c =
 pub returns-clause-read : goal.returns-clause-read
 returns-clause-read g c =
     let attr = attr_at g.A.IrText.reading in
-    let paths = c.location_read.new.ctx.paths in
+    let paths = c.location_demanded.new.ctx.paths in
     let q = starts alone (entry_location_at attr) (located attr) c.args.stream.now (sym c.has_failed.ensures ∙ c.if-has_failed.false) (rw (sym c.next_is.ensures ∙ c.if-not-next_is.false) refl) in
     let l = at_length attr c.in_ok-location.ensures.read in
     record {

@@ -3,11 +3,11 @@ use Rattle.std.proofs.Common.{ap, sym, nat_eq, ◌∙◌}
 use Rattle.std.proofs.lemmas.Result.{err_from_is_err_and}
 use Rattle.irtext_read.specs.AttrTexts.{attr_at}
 use Rattle.irtext_read.specs.States.{marks_of}
-use Rattle.irtext_outcomes.specs.Readers.Roots.{may_follow}
-use Rattle.irtext_outcomes.specs.Readers.SectionRead.{entry_over}
+use Rattle.irtext_outcomes.specs.Readers.Marks.{may_follow}
+use Rattle.irtext_outcomes.specs.Promises.Section.{entry_over}
 use Rattle.irtext_outcomes.proofs.Readers.Answered.{answered, not_answered, moves_more, moves_taken}
 use Rattle.irtext_outcomes.proofs.Readers.SectionSteps.{entry_new, succeeded}
-use Rattle.irtext_outcomes.proofs.Readers.Known.{demands, demands_memory, demands_behind, reads_fine, entry_shorter, entry_spares}
+use Rattle.irtext_outcomes.proofs.Readers.EntryIndices.{demands, demands_memory, demands_behind, reads_fine, entry_shorter, entry_spares}
 use Rattle.irtext_parse.proofs.irfmt.outlined.entry_parse.Goals as goal
 
 pub returns-in_err-entry-clause-refused : goal.returns-in_err-entry-clause-refused

@@ -1,7 +1,7 @@
 use Rattle.std.proofs.Common.{refl}
 use Rattle.std.proofs.lemmas.Result.{err_from_is_err_and}
-use Rattle.irtext_outcomes.specs.Readers.SectionRead.{entry_over}
-use Rattle.irtext_outcomes.proofs.Readers.Rooted.{alone}
+use Rattle.irtext_outcomes.specs.Promises.Section.{entry_over}
+use Rattle.irtext_outcomes.proofs.Readers.PlainStream.{alone}
 use Rattle.irtext_outcomes.proofs.Readers.Steps.{first, refuses_seen, last_seen}
 use Rattle.irtext_parse.proofs.irfmt.outlined.entry_read.Goals as goal
 

@@ -3,10 +3,10 @@ use Rattle.std.proofs.lemmas.Result.{err_from_is_err_and}
 use Rattle.irtext_read.specs.AttrTexts.{attr_at}
 use Rattle.irtext_read.specs.States.{marks_of}
 use Rattle.irtext_outcomes.specs.Readers.Section.{AllEntries, heading_at}
-use Rattle.irtext_outcomes.specs.Readers.SectionRead.{indices_of, entries_over, Moves, AppliesAll}
+use Rattle.irtext_outcomes.specs.Promises.Section.{indices_of, entries_over, Moves, AppliesAll}
 use Rattle.irtext_outcomes.specs.Promises.Supported.{RefusedAs, EntriesRefused, SectionRefused, no_heading, no_entry}
 use Rattle.irtext_outcomes.proofs.Readers.Answered.{answered, not_answered, faults_behind, faults_as, moves_more, moves_taken}
-use Rattle.irtext_outcomes.proofs.Readers.Known.{demands, heading_spares, reads_fine}
+use Rattle.irtext_outcomes.proofs.Readers.EntryIndices.{demands, heading_spares, reads_fine}
 use Rattle.irtext_parse.proofs.irfmt.outlined.section_parse.Goals as goal
 
 pub returns-in_err-spaced_text-clause-refused : goal.returns-in_err-spaced_text-clause-refused

@@ -2,8 +2,8 @@ use Rattle.std.specs.Prelude.{string_bytes}
 use Rattle.irtext_base.specs.Answers.{unless_failed}
 use Rattle.irtext_base.proofs.Compose.{answers_demanded}
 use Rattle.irtext_outcomes.specs.Readers.Locations.{bytes_at}
-use Rattle.irtext_outcomes.specs.Readers.Roots.{itself, replaced}
-use Rattle.irtext_outcomes.proofs.Readers.Rooted.{alone}
+use Rattle.irtext_outcomes.specs.Readers.Streams.{itself, replaced}
+use Rattle.irtext_outcomes.proofs.Readers.PlainStream.{alone}
 use Rattle.irtext_parse.proofs.location.source.quoted_demanded.Goals as goal
 
 pub returns : goal.returns

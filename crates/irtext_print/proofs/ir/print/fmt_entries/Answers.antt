@@ -1,7 +1,7 @@
 use Rattle.std.proofs.Common.{◌++◌, string_bytes}
 use Rattle.std.specs.Str.{encode_utf8_all}
 use Rattle.irtext_print.specs.Printers.PrintedOperation.{entries_from}
-use Rattle.irtext_print.proofs.Printers.PrintedModules.{entries-more}
+use Rattle.irtext_print.proofs.Printers.PrintedSections.{entries-more}
 use Rattle.irtext_print.proofs.ir.print.fmt_entries.Goals as goal
 
 pub loop-index-preserved : goal.loop-index-preserved

@@ -1,6 +1,6 @@
 use Rattle.std.proofs.Common.{string_bytes}
 use Rattle.irtext_grammar.specs.Spelling.Locations.{known_text}
-use Rattle.irtext_print.proofs.Printers.LocationTexts.{entry_appended}
+use Rattle.irtext_print.proofs.Printers.Locations.{entry_appended}
 use Rattle.irtext_print.proofs.ir.print.fmt_entry.Goals as goal
 
 pub returns : goal.returns

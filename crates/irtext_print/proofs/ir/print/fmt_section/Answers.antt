@@ -2,8 +2,8 @@ use Rattle.std.proofs.Common.{◌≡◌, ◌<◌, ◌++◌, ◌∙◌, ◌==◌,
 use Rattle.irtext_print.specs.Printers.PrintedOperation.{entries_from, section_text}
 use Rattle.irtext_print.specs.Printers.Printing.{gathered_of}
 use Rattle.irtext_print.proofs.Printers.Appended.{then}
-use Rattle.irtext_print.proofs.Printers.LocationTexts.{worded}
-use Rattle.irtext_print.proofs.Printers.PrintedModules.{positive, section_text-some}
+use Rattle.irtext_print.proofs.Printers.Locations.{worded}
+use Rattle.irtext_print.proofs.Printers.PrintedSections.{positive, section_text-some}
 use Rattle.irtext_print.proofs.ir.print.fmt_section.Goals as goal
 
 pub returns-clause-text : goal.returns-clause-text

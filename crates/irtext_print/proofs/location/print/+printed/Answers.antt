@@ -5,7 +5,7 @@ use Rattle.irtext_base.specs.Locations.{attr_view_in, location_view, in_row, row
 use Rattle.irtext_base.specs.Paths.{path_of}
 use Rattle.irtext_grammar.specs.Spelling.Locations.{metadata_text, row_texts, location_text}
 use Rattle.irtext_grammar.specs.Spelling.Spell.{joined, comma}
-use Rattle.irtext_print.proofs.Printers.LocationTexts.{two_framed, word, next_written}
+use Rattle.irtext_print.proofs.Printers.Locations.{two_framed, word, next_written}
 use Rattle.irtext_base.proofs.LocationViews.{seen-fused, seen-named, seen-call_site, seen-unknown}
 use Rattle.irtext_print.proofs.location.print.+printed.Goals as goal
 

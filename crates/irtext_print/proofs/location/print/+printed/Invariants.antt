@@ -4,7 +4,7 @@ use Rattle.irtext_base.specs.Locations.{location_view, in_row, row_sourced}
 use Rattle.irtext_base.specs.Paths.{path_of}
 use Rattle.irtext_grammar.specs.Spelling.Locations.{row_texts}
 use Rattle.irtext_grammar.specs.Spelling.Spell.{joined, comma}
-use Rattle.irtext_print.proofs.Printers.LocationTexts.{left_text}
+use Rattle.irtext_print.proofs.Printers.Locations.{left_text}
 use Rattle.irtext_print.proofs.location.print.+printed.Given as goal
 
 -- what was written, and then what is left, are all of the locations

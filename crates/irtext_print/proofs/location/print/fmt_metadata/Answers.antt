@@ -1,7 +1,7 @@
 use Rattle.std.proofs.Common.{refl, codes, string_bytes}
 use Rattle.irtext_base.specs.Locations.{attr_view}
 use Rattle.irtext_grammar.specs.Spelling.AttrText.{attr_text}
-use Rattle.irtext_print.proofs.Printers.LocationTexts.{enclosed}
+use Rattle.irtext_print.proofs.Printers.Locations.{enclosed}
 use Rattle.irtext_print.proofs.location.print.fmt_metadata.Goals as goal
 
 pub returns-in_ok-push_str-2 : goal.returns-in_ok-push_str-2

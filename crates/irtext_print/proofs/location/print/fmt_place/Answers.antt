@@ -3,7 +3,7 @@ use Rattle.irtext_base.specs.Causes.{position_text}
 use Rattle.irtext_base.specs.Paths.{path_of}
 use Rattle.irtext_grammar.specs.Spelling.Locations.{source_text}
 use Rattle.irtext_print.proofs.Printers.Appended.{then}
-use Rattle.irtext_print.proofs.Printers.LocationTexts.{between_two}
+use Rattle.irtext_print.proofs.Printers.Locations.{between_two}
 use Rattle.irtext_print.proofs.location.print.fmt_place.Goals as goal
 
 pub returns : goal.returns

@@ -1,5 +1,5 @@
 use Rattle.std.proofs.Common.{string_bytes}
-use Rattle.irtext_print.proofs.Printers.LocationTexts.{position_appended}
+use Rattle.irtext_print.proofs.Printers.Locations.{position_appended}
 use Rattle.irtext_print.proofs.location.print.fmt_position.Goals as goal
 
 pub returns : goal.returns

@@ -2,7 +2,7 @@ use Rattle.std.proofs.Common.{◌≡◌, ◌∙◌, ◌++◌, None, ap, sym, ref
 use Rattle.irtext_base.specs.Paths.{path_of}
 use Rattle.irtext_grammar.specs.Spelling.Locations.{source_text}
 use Rattle.std.specs.Str.{encode_utf8_all}
-use Rattle.irtext_print.proofs.Printers.LocationTexts.{word}
+use Rattle.irtext_print.proofs.Printers.Locations.{word}
 use Rattle.irtext_print.proofs.location.print.fmt_source.Goals as goal
 
 pub returns-in_ok-push_str-in-None : goal.returns-in_ok-push_str-in-None

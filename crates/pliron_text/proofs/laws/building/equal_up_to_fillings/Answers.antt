@@ -2,7 +2,7 @@ use Rattle.std.specs.Prelude.{refl}
 use Rattle.irtext_base.specs.Own.{language, texts_of}
 use Rattle.irtext_grammar.specs.Names.Script.{done, does_all}
 use Rattle.irtext_grammar.specs.Names.Acts.{section_acts, rule_of}
-use Rattle.irtext_grammar.proofs.Grammar.Formed.{formed_read}
+use Rattle.irtext_grammar.proofs.Grammar.PartsOfFormats.{formed_read}
 use Rattle.irtext_grammar.proofs.Graphs.WrittenAs.{accepted_written}
 use Rattle.irtext_grammar.proofs.Graphs.Fillings.{fillings}
 use Rattle.pliron_text.proofs.laws.building.equal_up_to_fillings.Goals as goal

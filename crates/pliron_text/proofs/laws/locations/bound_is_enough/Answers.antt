@@ -1,6 +1,6 @@
 use Rattle.std.proofs.Math.Nat.{le_refl}
-use Rattle.irtext_outcomes.proofs.Locations.LocationBound.{within_enough}
-use Rattle.irtext_outcomes.proofs.Locations.LocationLeaves.{leaves_within}
+use Rattle.irtext_outcomes.proofs.Locations.Bounds.{within_enough}
+use Rattle.irtext_outcomes.proofs.Locations.LocationRests.{leaves_within}
 use Rattle.pliron_text.proofs.laws.locations.bound_is_enough.Goals as goal
 
 pub returns-clause-locations : goal.returns-clause-locations

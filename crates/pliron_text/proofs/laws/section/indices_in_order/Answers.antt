@@ -1,6 +1,6 @@
 use Rattle.irtext_grammar.specs.Graphs.Graph.{entries_of}
 use Rattle.irtext_grammar.proofs.RoundTrips.RootResolves.{marks_in_order}
-use Rattle.irtext_grammar.proofs.Sections.SectionIndices.{section_indices}
+use Rattle.irtext_grammar.proofs.Sections.Indices.{section_indices}
 use Rattle.irtext_grammar.proofs.Sections.SharedOnce.{distinct_shared}
 use Rattle.pliron_text.proofs.laws.section.indices_in_order.Goals as goal
 

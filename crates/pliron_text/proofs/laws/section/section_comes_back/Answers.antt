@@ -6,7 +6,7 @@ use Rattle.irtext_grammar.specs.Graphs.Same.{stood, SameShapes}
 use Rattle.irtext_grammar.proofs.Graphs.BareBuild.{shapes_bare}
 use Rattle.irtext_grammar.proofs.Graphs.Match.{same_shapes}
 use Rattle.irtext_grammar.proofs.RoundTrips.RootResolves.{root_resolves, text_back}
-use Rattle.irtext_grammar.proofs.Sections.SectionContent.{contents_back}
+use Rattle.irtext_grammar.proofs.Sections.Content.{contents_back}
 use Rattle.irtext_grammar.proofs.Graphs.OwnEquality.{sound, reflexive}
 use Rattle.pliron_text.proofs.laws.section.section_comes_back.Goals as goal
 

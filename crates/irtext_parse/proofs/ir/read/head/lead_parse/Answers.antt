@@ -2,7 +2,7 @@ use Rattle.std.proofs.Common.{sym, ◌∙◌, ap, not, eqb, length}
 use Rattle.irtext_base.proofs.Compose.{seen_after}
 use Rattle.irtext_read.proofs.Words.{taken_since}
 use Rattle.irtext_outcomes.specs.Readers.Parts.{lead_of, behind_lead}
-use Rattle.irtext_outcomes.proofs.Readers.Led.{is_led-bytes}
+use Rattle.irtext_outcomes.proofs.Readers.Leads.{is_led-bytes}
 use Rattle.irtext_parse.proofs.ir.read.head.lead_parse.Goals as goal
 
 pub text_since-requires : goal.text_since-requires

@@ -1,7 +1,7 @@
 use Rattle.std.proofs.Common.{sym, ◌∙◌}
 use Rattle.std.proofs.lemmas.Result.{err_from_is_err_and}
 use Rattle.irtext_outcomes.proofs.Readers.Steps.{lens}
-use Rattle.irtext_outcomes.proofs.Readers.Led.{id_refused, id_registered, known_id}
+use Rattle.irtext_outcomes.proofs.Readers.Leads.{id_refused, id_registered, known_id}
 use Rattle.irtext_parse.proofs.ir.read.head.led_id_parse.Goals as goal
 
 pub returns-in_err-id-clause-read : goal.returns-in_err-id-clause-read

@@ -1,6 +1,6 @@
 use Rattle.std.proofs.Common.{sym, ◌∙◌}
 use Rattle.irtext_outcomes.proofs.Readers.Steps.{lens}
-use Rattle.irtext_outcomes.proofs.Readers.Led.{lead_alone, lead_more}
+use Rattle.irtext_outcomes.proofs.Readers.Leads.{lead_alone, lead_more}
 use Rattle.irtext_parse.proofs.ir.read.head.skip_lead.Goals as goal
 
 pub returns-then-not-next_is : goal.returns-then-not-next_is

@@ -3,12 +3,12 @@ use Rattle.std.proofs.lemmas.Result.{err_from_is_err_and}
 use Rattle.irtext_base.specs.Faults.{id_of}
 use Rattle.irtext_read.specs.AttrTexts.{attr_at}
 use Rattle.irtext_read.specs.States.{marks_of}
-use Rattle.irtext_outcomes.specs.Readers.OperationRead.{operation_at}
+use Rattle.irtext_outcomes.specs.Promises.Operation.{operation_at}
 use Rattle.irtext_outcomes.specs.Readers.Operations.{operation_with}
 use Rattle.irtext_parse.specs.Readers.PiecesOf.{pieces_of}
-use Rattle.irtext_outcomes.specs.Readers.Roots.{noted}
+use Rattle.irtext_outcomes.specs.Readers.Marks.{noted}
 use Rattle.irtext_outcomes.proofs.Readers.OperationSteps.{mark_next, space_next, body_next, operation_missed, id_missed, read_accepts}
-use Rattle.irtext_outcomes.proofs.Readers.Rooted.{alone}
+use Rattle.irtext_outcomes.proofs.Readers.PlainStream.{alone}
 use Rattle.irtext_outcomes.proofs.Readers.Steps.{Passed, begins_with, begins_refused, begun_by, spaced, more, refuses, refuses_seen, last_seen, starved}
 use Rattle.irtext_parse.proofs.ir.read.operation.operation_parse.Goals as goal
 

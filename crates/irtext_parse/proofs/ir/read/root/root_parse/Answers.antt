@@ -2,14 +2,14 @@ use Rattle.std.proofs.Common.{◌≡◌, false, ◌&&◌, refl, sym, ◌∙◌}
 use Rattle.irtext_read.specs.AttrTexts.{attr_at}
 use Rattle.irtext_read.specs.States.{marks_of}
 use Rattle.irtext_context.proofs.Kept.{kept_trans}
-use Rattle.irtext_outcomes.specs.Readers.Roots.{fresh_mark_at}
-use Rattle.irtext_outcomes.specs.Readers.SectionRead.{indices_of, is_noted, no_operation, no_section}
+use Rattle.irtext_outcomes.specs.Readers.Marks.{fresh_mark_at}
+use Rattle.irtext_outcomes.specs.Promises.Section.{indices_of, is_noted, no_operation, no_section}
 use Rattle.irtext_outcomes.specs.Promises.Supported.{OperationRefused, SectionRefused}
 use Rattle.irtext_outcomes.proofs.Readers.Answered.{reports}
 use Rattle.irtext_outcomes.proofs.Readers.SectionSteps.{noted_there, both_hold, held_under, first_fails, none_noted, held_beside}
 use Rattle.irtext_outcomes.proofs.Readers.NewPaths.{adds_kept}
-use Rattle.irtext_outcomes.proofs.Readers.Known.{refusal, demanded_refusal, reported_refusal, read_fine}
-use Rattle.irtext_outcomes.proofs.Readers.OperationSpares.{operation_spares}
+use Rattle.irtext_outcomes.proofs.Readers.EntryIndices.{refusal, demanded_refusal, reported_refusal, read_fine}
+use Rattle.irtext_outcomes.proofs.Readers.OperationNeverFailed.{operation_spares}
 use Rattle.irtext_parse.proofs.ir.read.root.root_parse.Goals as goal
 use Rattle.irtext_parse.proofs.ir.read.root.root_parse.Goals.{then-not-config-via-then-not-config, then-not-config-via-else-not-config+then-not-has_marks}
 

@@ -1,5 +1,5 @@
 use Rattle.std.proofs.Common.{◌++◌, codes, refl, string_bytes}
-use Rattle.irtext_print.proofs.Printers.LocationTexts.{more, worded}
+use Rattle.irtext_print.proofs.Printers.Locations.{more, worded}
 use Rattle.irtext_print.proofs.Printers.PieceTexts.{identifier_appended}
 use Rattle.irtext_print.proofs.ir.print.concrete.fmt_id.Goals as goal
 

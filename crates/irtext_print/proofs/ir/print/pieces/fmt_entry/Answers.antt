@@ -5,7 +5,7 @@ use Rattle.irtext_print.specs.Printers.PieceText.{words}
 use Rattle.irtext_grammar.specs.Spelling.Spell.{attribute, comma}
 use Rattle.irtext_grammar.specs.Contexts.Held.{attribute_of}
 use Rattle.irtext_print.proofs.Printers.Appended.{then}
-use Rattle.irtext_print.proofs.Printers.LocationTexts.{worded, more}
+use Rattle.irtext_print.proofs.Printers.Locations.{worded, more}
 use Rattle.irtext_print.proofs.Printers.PieceTexts.{identifier_appended, comma_ascii, attribute_text}
 use Rattle.irtext_print.proofs.ir.print.pieces.fmt_entry.Goals as goal
 use Rattle.irtext_print.proofs.ir.print.pieces.fmt_entry.Goals.{then-not-first+in_ok-push_str, else-not-first}

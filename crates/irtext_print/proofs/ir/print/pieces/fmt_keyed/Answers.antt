@@ -4,7 +4,7 @@ use Rattle.irtext_grammar.specs.Graphs.Graph.{lookup}
 use Rattle.irtext_print.specs.Printers.PieceText.{inline_text, inline_text_in, spaced_if}
 use Rattle.irtext_grammar.specs.Contexts.Held.{attribute_of, entries_of}
 use Rattle.irtext_print.proofs.Printers.Appended.{then}
-use Rattle.irtext_print.proofs.Printers.LocationTexts.{worded}
+use Rattle.irtext_print.proofs.Printers.Locations.{worded}
 use Rattle.irtext_print.proofs.Printers.PieceTexts.{found_under, unchanged}
 use Rattle.irtext_print.proofs.ir.print.pieces.fmt_keyed.Goals as goal
 

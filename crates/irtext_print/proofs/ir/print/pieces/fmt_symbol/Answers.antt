@@ -1,7 +1,7 @@
 use Rattle.std.proofs.Common.{◌++◌, ◌∙◌, codes, refl, sym, ap, option_copied, string_bytes}
 use Rattle.std.specs.Str.{encode_utf8_all}
 use Rattle.irtext_print.specs.Printers.PieceText.{symbol_text}
-use Rattle.irtext_print.proofs.Printers.LocationTexts.{worded}
+use Rattle.irtext_print.proofs.Printers.Locations.{worded}
 use Rattle.irtext_print.proofs.Printers.PieceTexts.{identifier_appended}
 use Rattle.irtext_print.proofs.ir.print.pieces.fmt_symbol.Goals as goal
 

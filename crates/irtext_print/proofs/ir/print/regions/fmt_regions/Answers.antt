@@ -2,7 +2,7 @@ use Rattle.std.proofs.Common.{◌≡◌, ◌++◌, ◌∙◌, ◌-◌, ◌+◌, 
 use Rattle.std.proofs.lemmas.List.{append-nil}
 use Rattle.std.specs.Str.{encode_utf8_all}
 use Rattle.irtext_print.specs.Printers.PieceText.{region_text, repeated, spaced}
-use Rattle.irtext_print.proofs.Printers.LocationTexts.{worded}
+use Rattle.irtext_print.proofs.Printers.Locations.{worded}
 use Rattle.irtext_print.proofs.Printers.RegionTexts.{region_more}
 use Rattle.irtext_print.proofs.ir.print.regions.fmt_regions.Goals as goal
 

@@ -1,6 +1,6 @@
 use Rattle.std.proofs.Common.{◌∙◌, sym, ap, refl, codes, string_bytes, option_copied}
 use Rattle.irtext_context.specs.Context.{operation}
-use Rattle.irtext_print.proofs.Printers.LocationTexts.{worded}
+use Rattle.irtext_print.proofs.Printers.Locations.{worded}
 use Rattle.irtext_print.proofs.Printers.OpPrinters.{header_appended}
 use Rattle.irtext_print.proofs.Printers.OperationTexts.{seen}
 use Rattle.irtext_print.proofs.Printers.PieceTexts.{identifier_appended}
