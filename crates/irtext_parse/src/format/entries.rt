@@ -1,8 +1,8 @@
 //! Reading of attributes under keys: the entries of a dictionary, and the attribute that a directive names.
-ghost use Rattle.std.specs.Prelude.{◌≡◌, OnErr, false, length};
+ghost use Rattle.std.specs.Prelude.{◌≡◌};
 ghost use Rattle.irtext_base.specs.Answers.{mapped};
 ghost use Rattle.irtext_read.specs.AttrTexts.{attr_at};
-ghost use Rattle.irtext_read.specs.ListOutcomes.{item_after, items_after, separated_at};
+ghost use Rattle.irtext_read.specs.ListOutcomes.{separated_at};
 ghost use Rattle.irtext_grammar.specs.Names.Acts.{may_hold};
 ghost use Rattle.irtext_read.specs.MustRead.{MustRead, MayRead};
 ghost use Rattle.irtext_outcomes.specs.Readers.Directives.{attribute_at, entry_at, keyed_at, dictionary_at};
@@ -15,8 +15,8 @@ use irtext_base::base::{AttrObj, Identifier};
 use irtext_base::parsable::{CharStream, ParseResult, Place, TextStream};
 use irtext_base::result::Cause;
 use irtext_base::text::AttrText;
-use irtext_read::irfmt::faults::{demand, next_is, refuse, refuse_at};
-use irtext_read::irfmt::parsers::{attr_parse, identifier_parse, skip_white_space};
+use irtext_read::irfmt::faults::{demand, refuse, refuse_at};
+use irtext_read::irfmt::parsers::{attr_parse, identifier_parse, list_parser, skip_white_space};
 
 /// A key and its attribute.
 pub(crate) type Entry<A> = (Identifier, AttrObj<A>);
@@ -100,49 +100,11 @@ pub(crate) fn keyed_parse<A: AttrText>(
     allowed(stream, at, entry)
 }
 
-/// Appends an entry to those found, and passes the white space behind it. A refusal leaves them as they were.
-fn push_entry<A: AttrText>(stream: &mut TextStream, found: &mut Vec<Entry<A>>) -> ParseResult<(), A>
-    ensures read { MayRead itself replaced (λ _. entries_of found.new.items) (item_after 44 (entry_at (attr_at A.IrText.reading)) (entries_of found.old.items)) stream.old result stream.new }
-    ensures unread { OnErr result (found.new.items ≡ found.old.items) }
-{
-    let entry = entry_parse(stream)?;
-    let Ok(()) = found.push(entry) else {
-        return Err(refuse(stream, Cause::Memory));
-    };
-    skip_white_space(stream);
-    Ok(())
-}
-
-/// The entries found and those behind them, as long as `,` follows.
-fn more_entries<A: AttrText>(
-    stream: &mut TextStream,
-    mut found: Vec<Entry<A>>,
-) -> ParseResult<Vec<Entry<A>>, A>
-    ensures { stream.old.failed ≡ false → MustRead itself replaced (λ es. entries_of es.items) (λ t. items_after 44 (entry_at (attr_at A.IrText.reading)) (length t) (entries_of found.items) t) stream.old result stream.new }
-{
-    while next_is(stream, ',') {
-        let _ = stream.take();
-        skip_white_space(stream);
-        let answer = push_entry(stream, &mut found);
-        demand(stream, answer)?;
-    }
-    Ok(found)
-}
-
 /// Entries with `,` between them.
 fn entries<A: AttrText>(stream: &mut TextStream) -> ParseResult<Vec<Entry<A>>, A>
     ensures { MayRead itself replaced (λ es. entries_of es.items) (separated_at 44 (entry_at (attr_at A.IrText.reading))) stream.old result stream.new }
 {
-    let mut found = Vec::new(stream.allocator());
-    match push_entry(stream, &mut found) {
-        Ok(()) => more_entries(stream, found),
-        Err(fault) => {
-            if fault.committed {
-                return Err(fault);
-            }
-            Ok(found)
-        }
-    }
+    list_parser(stream, ',', |s: &mut TextStream| entry_parse(s))
 }
 
 /// Reads the entries of a dictionary, between brackets and with `,` between them. A fault is committed.
