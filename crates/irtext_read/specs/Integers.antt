@@ -1,5 +1,5 @@
 -- Integers of every type, hexadecimal numbers and truth values: what a text is to the reader of each.
-use Rattle.std.specs.Prelude.{ℕ, ◌+◌, ◌-◌, ◌*◌, ◌^◌, ℤ, pos, Bool, true, false, cond, nat_lt, Option, Some, None, [], ◌∷◌, ◌++◌, codes}
+use Rattle.std.specs.Prelude.{ℕ, ◌+◌, ◌-◌, ◌^◌, ℤ, pos, Bool, true, false, cond, nat_lt, Option, Some, None, [], ◌∷◌, ◌++◌, codes}
 use Rattle.std.specs.Char.{is_ascii_digit, is_ascii_hexdigit}
 use Rattle.std.specs.Str.Parse.{digits_value}
 use Rattle.irtext_base.specs.Text.{Text, begins, front, after}
@@ -7,7 +7,7 @@ use Rattle.irtext_base.specs.Reading.{the}
 use Rattle.irtext_base.specs.Stream.{first_of}
 use Rattle.irtext_base.specs.Faults.{ADigit, AHexadecimalDigit, ATrueOrFalse, Unexpected, NumberRange}
 use Rattle.irtext_base.specs.Answers.{Outcome, Read, Missing, Bad, mapped, followed}
-use Rattle.irtext_read.specs.Tokens.{text_at, sign_of, after_sign, negated, fitting}
+use Rattle.irtext_read.specs.Tokens.{text_at, sign_of, after_sign, negated}
 
 -- how many magnitudes fit an unsigned type of so many bits: none behind a minus, not even 0
 abbrev pub unsigned_below : ℕ → Bool → ℕ
@@ -29,15 +29,6 @@ within below negative n = cond (nat_lt n (below negative)) (Some (integer_by neg
 abbrev pub within_of : (Bool → ℕ) → Bool → Option ℕ → Option ℤ
 within_of below negative None = None
 within_of below negative (Some n) = within below negative n
-
--- the number that hexadecimal digits write, where it fits 64 bits
-abbrev pub hexadecimal_value_of : Text → Option ℕ
-hexadecimal_value_of digits = fitting (digits_value 16 digits)
-
--- the number with one more hexadecimal digit behind it, where it fits 64 bits
-abbrev pub hexadecimal_appended : Option ℕ → ℕ → Option ℕ
-hexadecimal_appended None digit = None
-hexadecimal_appended (Some n) digit = fitting (n * 16 + digit)
 
 -- the sign as a text
 abbrev pub sign_text : Option ℕ → Text

@@ -1,3 +1,4 @@
+pub mod Digits
 pub mod Tokens
 pub mod Spelled
 pub mod QuotedTexts

@@ -1,5 +1,5 @@
 -- Quoted texts: what a text is to their reader. A unit is an escape, or a character as it stands.
-use Rattle.std.specs.Prelude.{ℕ, ◌+◌, ◌*◌, ◌^◌, Bool, cond, not, ◌&&◌, ◌==◌, nat_lt, Option, Some, None, [], ◌∷◌, ◌++◌, codes}
+use Rattle.std.specs.Prelude.{ℕ, Bool, cond, not, ◌&&◌, ◌==◌, Option, Some, None, [], ◌∷◌, ◌++◌, codes}
 use Rattle.std.specs.Char.{is_ascii_hexdigit}
 use Rattle.std.specs.Str.Parse.{digits_value}
 use lib.Utf8.{scalar}
@@ -21,19 +21,6 @@ escape_of e = cond (e == 92) (Some 92) (cond (e == 34) (Some 34) (cond (e == 39)
 abbrev pub escaped : Option ℕ → ℕ → Text → Outcome ℕ
 escaped (Some c) e text = Read c (92 ∷ e ∷ []) text
 escaped None e text = Bad (BadEscape e) []
-
--- the number, where it is less than 2 to the 32
-abbrev pub fitting_word : ℕ → Option ℕ
-fitting_word n = cond (nat_lt n (2 ^ 32)) (Some n) None
-
--- the number with one more hexadecimal digit behind it, where it fits
-abbrev pub word_appended : Option ℕ → ℕ → Option ℕ
-word_appended None digit = None
-word_appended (Some n) digit = fitting_word (n * 16 + digit)
-
--- the number that hexadecimal digits write, where it fits
-abbrev pub word_of : Text → Option ℕ
-word_of digits = fitting_word (digits_value 16 digits)
 
 -- the character of a number, where it is one's
 abbrev pub character_of : Option ℕ → Option ℕ

@@ -1,13 +1,14 @@
 -- Tokens: what a text is to the reader of each.
-use Rattle.std.specs.Prelude.{ℕ, zero, suc, ℤ, pos, negsuc, ◌*◌, ◌+◌, ◌^◌, Bool, cond, ◌||◌, nat_lt, Option, Some, None, [], ◌∷◌, ◌++◌, codes, ⊤}
-use Rattle.std.specs.Char.{is_ascii_digit, is_whitespace}
-use Rattle.std.specs.Str.Parse.{digits_value}
+use Rattle.std.specs.Prelude.{ℕ, zero, suc, ℤ, pos, negsuc, Bool, cond, ◌||◌, nat_lt, Option, Some, None, [], ◌∷◌, ◌++◌, codes, ⊤}
+use Rattle.std.specs.Char.{is_ascii_digit, is_ascii_hexdigit, is_whitespace}
 use Rattle.irtext_base.specs.Text.{Text, begins, front, after, begins_word, in_word}
 use Rattle.irtext_base.specs.Reading.{the}
 use Rattle.irtext_base.specs.Format.{Id}
 use Rattle.irtext_base.specs.Stream.{first_of}
 use Rattle.irtext_base.specs.Faults.{Demand, Word, AnIdentifier, ADigit, AnOperation, Unexpected, NumberRange}
 use Rattle.irtext_base.specs.Answers.{Outcome, Read, Missing, Bad, prefixed, mapped, followed}
+pub use Rattle.irtext_read.specs.Digits.{fitting}
+use Rattle.irtext_read.specs.Digits.{value_in}
 use Rattle.irtext_read.specs.declared.irfmt.parsers.class.Class.{Class}
 use Rattle.irtext_read.specs.declared.irfmt.parsers.class.Class.TheVariants as class
 
@@ -15,6 +16,7 @@ use Rattle.irtext_read.specs.declared.irfmt.parsers.class.Class.TheVariants as c
 abbrev pub has : Class → ℕ → Bool
 has class.WhiteSpace c = is_whitespace c
 has class.Digit c = is_ascii_digit c
+has class.HexadecimalDigit c = is_ascii_hexdigit c
 has class.Beginning c = begins_word c
 has class.Word c = in_word c
 has class.Dotted c = in_word c || the 46 c
@@ -55,18 +57,9 @@ abbrev pub after_sign : Text → Text
 after_sign [] = []
 after_sign (c ∷ text) = cond (is_sign c) text (c ∷ text)
 
--- the number, where it is less than 2 to the 64
-abbrev pub fitting : ℕ → Option ℕ
-fitting n = cond (nat_lt n (2 ^ 64)) (Some n) None
-
 -- the number that digits write, where it fits
 abbrev pub value_of : Text → Option ℕ
-value_of digits = fitting (digits_value 10 digits)
-
--- the number with one more digit behind it, where it fits
-abbrev pub appended : Option ℕ → ℕ → Option ℕ
-appended None digit = None
-appended (Some n) digit = fitting (n * 10 + digit)
+value_of digits = value_in 10 digits
 
 -- what a sign and a number that fits or doesn't are: the number, or a fault at the sign
 abbrev pub numbered : Text → Text → Text → Option ℕ → Outcome ℕ

@@ -8,8 +8,7 @@ use irtext_read::irfmt::faults::{
     begins, demand, demanded, next_is, pass, refuse, refuse_at, unexpected,
 };
 use irtext_read::irfmt::parsers::{
-    Class, i32_parse, id_parse, identifier_parse, skip_class, skip_white_space,
-    text_parse, usize_parse,
+    Class, id_parse, identifier_parse, int_parse, skip_class, skip_white_space, text_parse,
 };
 use irtext_types::DemoAttr;
 use std::alloc::Global;
@@ -138,14 +137,14 @@ fn words_and_fixed_texts(rt: HostRuntime) -> Result<(), Fail> {
 /// What is said of the number that a text begins with.
 fn index(alloc: Global, text: &str) -> Result<String, Fail> {
     let mut stream = TextStream::new(alloc, text)?;
-    let answer = usize_parse::<TextStream, DemoAttr>(&mut stream);
+    let answer = int_parse::<TextStream, usize, DemoAttr>(&mut stream);
     line(alloc, &answer)
 }
 
 /// What is said of the integer that a text begins with.
 fn integer(alloc: Global, text: &str) -> Result<String, Fail> {
     let mut stream = TextStream::new(alloc, text)?;
-    let answer = i32_parse::<TextStream, DemoAttr>(&mut stream);
+    let answer = int_parse::<TextStream, i32, DemoAttr>(&mut stream);
     line(alloc, &answer)
 }
 
