@@ -34,7 +34,7 @@ use irtext_base::parsable::{
 };
 use irtext_base::result::Cause;
 use irtext_base::text::{AttrText, IrText};
-use irtext_read::irfmt::faults::{demand, next_is, refuse, refuse_at};
+use irtext_read::irfmt::faults::{committed, next_is, refuse, refuse_at};
 use irtext_read::irfmt::parsers::{id_parse, skip_white_space};
 use irtext_read::parsable::{StateStream, StreamLocation};
 use std::alloc::AllocError;
@@ -77,7 +77,7 @@ fn demand_if<S: CharStream, X, A>(
     ensures { cond wanted (DemandsOf S.view S.at answer stream.old result stream.new) ((result ≡ answer) × (stream.new ≡ stream.old)) }
 {
     if wanted {
-        demand(stream, answer)
+        committed(stream, answer)
     } else {
         answer
     }

@@ -2,7 +2,7 @@
 ghost use Rattle.irtext_base.specs.Answers.{Answers, unless_failed};
 ghost use Rattle.irtext_read.specs.Integers.{hexadecimal_mark_at, hex_int_at};
 
-use crate::irfmt::faults::{begins, demanded, unexpected};
+use crate::irfmt::faults::{begins, commit_unexpected};
 use crate::irfmt::parsers::class::Class;
 use crate::irfmt::parsers::digits::{Radix, out_of_range, take_digits};
 use crate::irfmt::parsers::fixed_text::text_parse;
@@ -19,8 +19,7 @@ fn mark_parse<S: CharStream, A>(stream: &mut S) -> ParseResult<(), A>
     if begins(stream, Class::HexadecimalDigit) {
         return Ok(());
     }
-    let fault = unexpected(stream, Expected::HexadecimalDigit);
-    Err(demanded(stream, fault))
+    Err(commit_unexpected(stream, Expected::HexadecimalDigit))
 }
 
 /// Reads a number of `0x` and one hexadecimal digit or more, in both cases and as far as they go. Where the first character is no

@@ -6,7 +6,7 @@ ghost use Rattle.irtext_base.specs.Answers.{Answers, Takes, unless_failed};
 ghost use Rattle.irtext_read.specs.Tokens.{sign_of, after_sign};
 ghost use Rattle.irtext_read.specs.Integers.{within_of, sign_text, sign_at, int_at, number_text_at};
 
-use crate::irfmt::faults::{begins, demanded, refuse, unexpected};
+use crate::irfmt::faults::{begins, commit, refuse, unexpected};
 use crate::irfmt::parsers::class::{Class, skip_class};
 use crate::irfmt::parsers::digits::{Radix, out_of_range, take_digits};
 use crate::irfmt::parsers::from_str_radix::FromStrRadix;
@@ -40,7 +40,7 @@ fn sign_parse<S: CharStream, A>(stream: &mut S) -> ParseResult<Option<char>, A>
     }
     let fault = unexpected(stream, Expected::Digit);
     if sign.is_some() {
-        return Err(demanded(stream, fault));
+        return Err(commit(stream, fault));
     }
     Err(fault)
 }

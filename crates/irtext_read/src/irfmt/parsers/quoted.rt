@@ -8,20 +8,12 @@ ghost use Rattle.irtext_base.specs.Faults.{fault_of, demand_of, Memory, Unexpect
 ghost use Rattle.irtext_base.specs.Answers.{Answers, Takes, Starves, Commits, mapped, demanded, unless_failed};
 ghost use Rattle.irtext_read.specs.QuotedTexts.{is_plain, escape_of, character_of, unit_at, units_at, quoted_at};
 
-use crate::irfmt::faults::{begins, next_is, refuse, refuse_at};
+use crate::irfmt::faults::{begins, commit_unexpected, next_is, refuse, refuse_at};
 use crate::irfmt::parsers::class::Class;
 use crate::irfmt::parsers::digits::{Radix, take_digits};
 use crate::irfmt::parsers::fixed_text::text_parse;
 use irtext_base::parsable::{CharStream, ParseFault, ParseResult, Place};
 use irtext_base::result::{Cause, Expected};
-
-/// A committed fault at the next character, or at the end, where this is expected. It leaves the stream failed.
-fn required<S: CharStream, A>(stream: &mut S, expected: Expected) -> ParseFault<A>
-    ensures { Commits S.view S.at (Unexpected (first_of (S.view stream.old).rest) (demand_of expected)) [] stream.old result stream.new }
-{
-    let found = stream.peek();
-    refuse(stream, Cause::Unexpected { found, expected })
-}
 
 /// Whether the character stands for itself in a quoted text.
 fn is_plain(c: char) -> bool
@@ -92,16 +84,16 @@ fn unicode_parse<S: CharStream, A>(stream: &mut S, escape: Place) -> ParseResult
         Answers S.view S.at (λ c. c) (unit_at (S.view before).rest) before result stream.new }
 {
     if !next_is(stream, '{') {
-        return Err(required(stream, Expected::Char('{')));
+        return Err(commit_unexpected(stream, Expected::Char('{')));
     }
     let _ = stream.take();
     let digits = stream.position();
     if !begins(stream, Class::HexadecimalDigit) {
-        return Err(required(stream, Expected::HexadecimalDigit));
+        return Err(commit_unexpected(stream, Expected::HexadecimalDigit));
     }
     let number = take_digits(stream, Radix::Hexadecimal);
     if !next_is(stream, '}') {
-        return Err(required(stream, Expected::Char('}')));
+        return Err(commit_unexpected(stream, Expected::Char('}')));
     }
     let Some(c) = character(number) else {
         return Err(no_character(stream, escape, digits));
@@ -133,13 +125,13 @@ fn unit_parse<S: CharStream, A>(stream: &mut S) -> ParseResult<char, A>
 {
     let place = stream.position();
     let Some(c) = stream.take() else {
-        return Err(required(stream, Expected::Char('"')));
+        return Err(commit_unexpected(stream, Expected::Char('"')));
     };
     if c != '\\' {
         return Ok(c);
     }
     let Some(c) = stream.take() else {
-        return Err(required(stream, Expected::EscapedCharacter));
+        return Err(commit_unexpected(stream, Expected::EscapedCharacter));
     };
     if c == 'u' {
         return unicode_parse(stream, place);

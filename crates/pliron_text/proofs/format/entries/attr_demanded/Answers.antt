@@ -4,4 +4,4 @@ use Rattle.pliron_text.proofs.Rooted.{alone}
 use Rattle.pliron_text.proofs.format.entries.attr_demanded.Goals as goal
 
 pub returns : goal.returns
-returns g c = as_tree c.demand.result (insisted alone c.attr_parse-answer.ensures c.demand.ensures)
+returns g c = as_tree c.committed.result (insisted alone c.attr_parse-answer.ensures c.committed.ensures)

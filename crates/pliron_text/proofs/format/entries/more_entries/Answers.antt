@@ -21,7 +21,7 @@ loop-stream-preserved g c = λ e.
     let w = goes_on 44 item alone b f in
     let p1 = took alone 44 (behind_separator 44 item w.0 found) w.2 b c.take.ensures.after in
     let p2 = spaced alone (behind_space 44 item w.0 found) p1 c.skip_white_space.ensures in
-    let must = insisted alone c.push_entry-answer.ensures.read c.in_ok-demand.ensures in
+    let must = insisted alone c.push_entry-answer.ensures.read c.in_ok-committed.ensures in
     let less = falls_behind alone {now = c.loop-stream.stream} 44 b c.take.ensures.after c.skip_white_space.ensures must in
     record {
       room = w.0;
@@ -29,8 +29,8 @@ loop-stream-preserved g c = λ e.
       passed = more alone (λ more v. items_after 44 item w.0 more v) p2 must;
     }
 
-pub returns-in_err-demand : goal.returns-in_err-demand
-returns-in_err-demand g c = λ e.
+pub returns-in_err-committed : goal.returns-in_err-committed
+returns-in_err-committed g c = λ e.
     let f = c.loop-stream.invariant e in
     let item = entry_at (attr_at g.A.IrText.reading) in
     let found = entries_of c.loop-stream.found.items in
@@ -38,7 +38,7 @@ returns-in_err-demand g c = λ e.
     let w = goes_on 44 item alone b f in
     let p1 = took alone 44 (behind_separator 44 item w.0 found) w.2 b c.take.ensures.after in
     let p2 = spaced alone (behind_space 44 item w.0 found) p1 c.skip_white_space.ensures in
-    let must = insisted alone c.push_entry-answer.ensures.read c.in_err-demand.ensures in
+    let must = insisted alone c.push_entry-answer.ensures.read c.in_err-committed.ensures in
     let p = err_from_is_err_and c.from_residual.result c.from_residual.ensures.1 in
     rw (p.1, p.2) (refuses alone (λ more v. items_after 44 item w.0 more v) p2 must)
 

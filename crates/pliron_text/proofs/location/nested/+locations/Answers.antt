@@ -154,7 +154,7 @@ location_read-returns-then-next_is-3-clause-read g t c =
 
 pub location_read-returns-clause-read : goal.location_read-returns-clause-read
 location_read-returns-clause-read g t c =
-    refused_within (λ d s. not_there (location_within (attr_at g.A.IrText.reading) d) _ c.args.stream.now (sym c.has_failed.ensures ∙ c.if-has_failed.false) (none_begins (attr_at g.A.IrText.reading) d c.args.stream.now.rest (nowhere c.args.stream.now.rest (sym c.begins_source.ensures ∙ c.if-begins_source.false) (sym c.next_is.ensures ∙ c.if-next_is.false) (sym c.next_is-2.ensures ∙ c.if-next_is-2.false) (sym c.next_is-3.ensures ∙ c.if-next_is-3.false) (sym c.next_is-4.ensures ∙ c.if-next_is-4.false))) c.unexpected-fault.ensures c.demanded.ensures)
+    refused_within (λ d s. not_there (location_within (attr_at g.A.IrText.reading) d) _ c.args.stream.now (sym c.has_failed.ensures ∙ c.if-has_failed.false) (none_begins (attr_at g.A.IrText.reading) d c.args.stream.now.rest (nowhere c.args.stream.now.rest (sym c.begins_source.ensures ∙ c.if-begins_source.false) (sym c.next_is.ensures ∙ c.if-next_is.false) (sym c.next_is-2.ensures ∙ c.if-next_is-2.false) (sym c.next_is-3.ensures ∙ c.if-next_is-3.false) (sym c.next_is-4.ensures ∙ c.if-next_is-4.false))) c.unexpected-fault.ensures c.commit.ensures)
 
 pub more_read-returns-in_err-text_demanded-clause-adds : goal.more_read-returns-in_err-text_demanded-clause-adds
 more_read-returns-in_err-text_demanded-clause-adds g t c = c.loop-stream.invariant.adds

@@ -9,7 +9,7 @@ use Rattle.irtext_read.proofs.irfmt.parsers.quoted.unicode_parse.Goals as goal
 pub returns-then-not-next_is : goal.returns-then-not-next_is
 returns-then-not-next_is g c = λ before k p.
     let m = g.met.S.CharStream in
-    unopened g.S.CharStream.view g.S.CharStream.at m.view_at m.at_view m.at_at before c.args.stream.now c.required.new.stream c.required.result k (sym c.next_is.ensures ∙ c.if-not-next_is.true) c.required.ensures
+    unopened g.S.CharStream.view g.S.CharStream.at m.view_at m.at_view m.at_at before c.args.stream.now c.commit_unexpected.new.stream c.commit_unexpected.result k (sym c.next_is.ensures ∙ c.if-not-next_is.true) c.commit_unexpected.ensures
 
 pub returns-then-not-begins : goal.returns-then-not-begins
 returns-then-not-begins g c = λ before k p.
@@ -18,7 +18,7 @@ returns-then-not-begins g c = λ before k p.
     let m = g.met.S.CharStream in
     let opens = c.take.new.self in
     let o : Opened view at m.view_at m.at_view m.at_at before opens = opened view at m.view_at m.at_view m.at_at before c.args.stream.now opens k (sym c.next_is.ensures ∙ c.if-not-next_is.false) c.take.ensures.after in
-    uncounted view at m.view_at m.at_view m.at_at before opens c.required-then-not-begins.new.stream c.required-then-not-begins.result o (sym c.begins.ensures ∙ c.if-not-begins.true) c.required-then-not-begins.ensures
+    uncounted view at m.view_at m.at_view m.at_at before opens c.commit_unexpected-then-not-begins.new.stream c.commit_unexpected-then-not-begins.result o (sym c.begins.ensures ∙ c.if-not-begins.true) c.commit_unexpected-then-not-begins.ensures
 
 pub returns-then-not-next_is-2 : goal.returns-then-not-next_is-2
 returns-then-not-next_is-2 g c = λ before k p.
@@ -29,7 +29,7 @@ returns-then-not-next_is-2 g c = λ before k p.
     let now = c.take_digits-number.new.stream in
     let o : Opened view at m.view_at m.at_view m.at_at before opens = opened view at m.view_at m.at_view m.at_at before c.args.stream.now opens k (sym c.next_is.ensures ∙ c.if-not-next_is.false) c.take.ensures.after in
     let h = counted view at m.view_at m.at_view m.at_at before opens now o (sym c.begins.ensures ∙ c.if-not-begins.false) c.take_digits-number.ensures.takes in
-    unclosed view at m.view_at m.at_view m.at_at before now c.required-then-not-next_is-2.new.stream (front is_ascii_hexdigit (view opens).rest) c.required-then-not-next_is-2.result h (sym c.next_is-2.ensures ∙ c.if-not-next_is-2.true) c.required-then-not-next_is-2.ensures
+    unclosed view at m.view_at m.at_view m.at_at before now c.commit_unexpected-then-not-next_is-2.new.stream (front is_ascii_hexdigit (view opens).rest) c.commit_unexpected-then-not-next_is-2.result h (sym c.next_is-2.ensures ∙ c.if-not-next_is-2.true) c.commit_unexpected-then-not-next_is-2.ensures
 
 pub returns-in_default : goal.returns-in_default
 returns-in_default g c = λ before k p.
