@@ -1,5 +1,5 @@
 -- One more item of a list.
-use Rattle.std.proofs.Common.{◌≡◌, ℕ, ◌<◌, ◌≤◌, Bool, true, false, Some, Result, Ok, Err, List, [], ◌∷◌, ◌++◌, length, refl, sym, ◌∙◌, ap, subst, append_assoc, append-nil, length-append, arith}
+use Rattle.std.proofs.Common.{◌≡◌, ℕ, ◌<◌, ◌≤◌, Bool, true, false, Some, Result, Ok, Err, List, [], ◌∷◌, ◌++◌, length, refl, sym, ◌∙◌, ap, subst, append_assoc, length-append, arith}
 use Rattle.std.specs.Fn.{Mut, Called}
 use Rattle.std.specs.Borrow.{MutBor}
 use Rattle.std.specs.Bool.{MatchBool, ◌==◌}
@@ -9,9 +9,8 @@ use Rattle.std.proofs.lemmas.Bool.Decides.{nat_tests}
 use Rattle.std.proofs.lemmas.Str.{length-le-encodes}
 use Rattle.irtext_base.specs.Text.{Text, begins, front, after, after_space}
 use Rattle.irtext_base.specs.Reading.{the}
-use Rattle.irtext_base.specs.Stream.{StreamView, first_of, after_failure}
-use Rattle.irtext_base.specs.Faults.{Fault, fault_of}
-use Rattle.irtext_base.specs.Answers.{Takes, Passes, Commits, Demands}
+use Rattle.irtext_base.specs.Stream.{StreamView, first_of}
+use Rattle.irtext_base.specs.Answers.{Takes, Demands}
 use Rattle.irtext_base.specs.declared.parsable.fault.ParseFault.{ParseFault}
 use Rattle.irtext_base.proofs.Along.{front_after, falls}
 use Rattle.irtext_read.proofs.Spelling.{takes_none_is}
@@ -106,12 +105,12 @@ module _ {S : Type 0} (view : S → StreamView) (at : S → StreamView → S) wh
   unless_met R false s r u e h = h
 
   -- the fault of an item that must stand, committed
-  pub commits_item : {X A : Type 0} {s t u : S} {fault last : ParseFault A} → ((s : S) → at s (view s) ≡ s) → KeepsRules view at {Y = X} s (Err fault) t → Demands view at fault t last u → Insisted view at fault t last u
+  pub commits_item : {A : Type 0} {t u : S} {fault last : ParseFault A} → ((s : S) → at s (view s) ≡ s) → (fault.committed ≡ true → (view t).failed ≡ true) → Demands view at fault t last u → Insisted view at fault t last u
   commits_item {t = t} at_view k d = record {
     cause = d.cause;
     place = d.place;
     committed = d.committed;
-    already = λ e. d.left ∙ (ap (λ (b : Bool). at t (let v : StreamView = record { passed = (view t).passed; rest = (view t).rest; failed = b } in v)) (sym (k.1 e)) ∙ at_view t);
+    already = λ e. d.left ∙ (ap (λ (b : Bool). at t (let v : StreamView = record { passed = (view t).passed; rest = (view t).rest; failed = b } in v)) (sym (k e)) ∙ at_view t);
     failing = λ e. d.left;
   }
 

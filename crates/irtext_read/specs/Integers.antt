@@ -6,8 +6,9 @@ use Rattle.irtext_base.specs.Text.{Text, begins, front, after}
 use Rattle.irtext_base.specs.Reading.{the}
 use Rattle.irtext_base.specs.Stream.{first_of}
 use Rattle.irtext_base.specs.Faults.{ADigit, AHexadecimalDigit, ATrueOrFalse, Unexpected, NumberRange}
-use Rattle.irtext_base.specs.Answers.{Outcome, Read, Missing, Bad, mapped, followed}
-use Rattle.irtext_read.specs.Tokens.{text_at, sign_of, after_sign, negated}
+use Rattle.irtext_base.specs.Answers.{Outcome, Read, Missing, Bad}
+use Rattle.irtext_read.specs.Infix.{Reader, ◌▷◌, ◌⇒◌, either}
+use Rattle.irtext_read.specs.Tokens.{word, sign_of, after_sign, negated}
 
 -- how many magnitudes fit an unsigned type of so many bits: none behind a minus, not even 0
 abbrev pub unsigned_below : ℕ → Bool → ℕ
@@ -49,8 +50,8 @@ abbrev pub before_hexadecimal : Text → Outcome Unit
 before_hexadecimal text = cond (begins is_ascii_hexdigit text) (Read tt [] text) (Missing (Unexpected (first_of text) AHexadecimalDigit))
 
 -- `0x`, in front of a hexadecimal digit
-abbrev pub hexadecimal_mark_at : Text → Outcome Unit
-hexadecimal_mark_at text = followed (text_at (codes "0x") text) (λ u text. before_hexadecimal text)
+abbrev pub hexadecimal_mark_at : Reader Unit
+hexadecimal_mark_at = word (codes "0x") ▷ before_hexadecimal
 
 -- what was made of a number's text, or a fault at its beginning where it doesn't fit
 abbrev pub ranged : {X : Type 0} → Text → Text → Option X → Outcome X
@@ -88,5 +89,5 @@ unfoldable pub hex_int_at : (Bool → ℕ) → Text → Outcome ℤ
 hex_int_at below text = numeral_at is_ascii_hexdigit (hexadecimal_integer below) (hexadecimal_mark_at text)
 
 -- `true` or `false`; where neither begins, a truth value is missing
-unfoldable pub bool_at : Text → Outcome Bool
-bool_at text = cond (begins (the 116) text) (mapped (λ u. true) (text_at (codes "true") text)) (cond (begins (the 102) text) (mapped (λ u. false) (text_at (codes "false") text)) (Missing (Unexpected (first_of text) ATrueOrFalse)))
+unfoldable pub bool_at : Reader Bool
+bool_at = either (begins (the 116)) (word (codes "true") ⇒ λ _. true) (either (begins (the 102)) (word (codes "false") ⇒ λ _. false) (λ text. Missing (Unexpected (first_of text) ATrueOrFalse)))

@@ -1,3 +1,4 @@
+pub mod Infix
 pub mod Digits
 pub mod Tokens
 pub mod Spelled
@@ -10,5 +11,4 @@ pub mod Lists
 pub mod ListTexts
 pub mod MustRead
 pub mod ListOutcomes
-pub mod Infix
 pub mod AttrTexts

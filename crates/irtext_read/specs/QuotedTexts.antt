@@ -6,8 +6,9 @@ use lib.Utf8.{scalar}
 use Rattle.irtext_base.specs.Text.{Text, front, after}
 use Rattle.irtext_base.specs.Stream.{first_of}
 use Rattle.irtext_base.specs.Faults.{Word, AHexadecimalDigit, AnEscapedCharacter, Unexpected, BadEscape, BadUnicodeEscape}
-use Rattle.irtext_base.specs.Answers.{Outcome, Read, Missing, Bad, prefixed, mapped, followed}
-use Rattle.irtext_read.specs.Tokens.{text_at}
+use Rattle.irtext_base.specs.Answers.{Outcome, Read, Missing, Bad, prefixed, mapped}
+use Rattle.irtext_read.specs.Infix.{Reader, ◌▷◌}
+use Rattle.irtext_read.specs.Tokens.{word}
 
 -- a character that stands for itself: neither a quotation mark nor a backslash
 abbrev pub is_plain : ℕ → Bool
@@ -75,5 +76,5 @@ units_at [] (c ∷ text) = cond (c == 34) (Read [] (c ∷ []) text) (unit_before
 units_at (d ∷ left) (c ∷ text) = units_at left text
 
 -- a quotation mark, units, and the next quotation mark
-unfoldable pub quoted_at : Text → Outcome Text
-quoted_at text = followed (text_at (codes "\"") text) (λ mark text. units_at [] text)
+unfoldable pub quoted_at : Reader Text
+quoted_at = word (codes "\"") ▷ units_at []

@@ -6,8 +6,9 @@ use Rattle.irtext_base.specs.Reading.{the}
 use Rattle.irtext_base.specs.Format.{Id}
 use Rattle.irtext_base.specs.Stream.{first_of}
 use Rattle.irtext_base.specs.Faults.{Demand, Word, AnIdentifier, ADigit, AnOperation, Unexpected, NumberRange}
-use Rattle.irtext_base.specs.Answers.{Outcome, Read, Missing, Bad, prefixed, mapped, followed}
+use Rattle.irtext_base.specs.Answers.{Outcome, Read, Missing, Bad, prefixed}
 pub use Rattle.irtext_read.specs.Digits.{fitting}
+use Rattle.irtext_read.specs.Infix.{Reader, ◌▷◌, ◌▶◌, ◌⇒◌}
 use Rattle.irtext_read.specs.Digits.{value_in}
 use Rattle.irtext_read.specs.declared.irfmt.parsers.class.Class.{Class}
 use Rattle.irtext_read.specs.declared.irfmt.parsers.class.Class.TheVariants as class
@@ -42,6 +43,10 @@ spelled_at whole (c ∷ word) (d ∷ text) = cond (the c d) (prefixed (d ∷ [])
 -- a fixed text
 abbrev pub text_at : Text → Text → Outcome Unit
 text_at word text = spelled_at word word text
+
+-- the reader of a fixed text
+abbrev pub word : Text → Reader Unit
+word w = text_at w
 
 -- a plus or a minus
 abbrev pub is_sign : ℕ → Bool
@@ -118,5 +123,5 @@ abbrev pub id_with : Text → Text → Id
 id_with dialect name = record { dialect = dialect; name = name }
 
 -- an operation's id
-unfoldable pub id_at : Text → Outcome Id
-id_at text = followed (word_at AnOperation text) (λ dialect text. followed (text_at (codes ".") text) (λ dot text. mapped (id_with dialect) (identifier_at text)))
+unfoldable pub id_at : Reader Id
+id_at = word_at AnOperation ▶ λ dialect. word (codes ".") ▷ identifier_at ⇒ id_with dialect

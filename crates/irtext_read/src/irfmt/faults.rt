@@ -97,7 +97,10 @@ pub fn commit<S: CharStream, A>(stream: &mut S, fault: ParseFault<A>) -> ParseFa
 }
 
 /// The same answer, its fault committed. A fault leaves the stream failed.
-pub fn committed<S: CharStream, X, A>(stream: &mut S, answer: ParseResult<X, A>) -> ParseResult<X, A>
+pub fn committed<S: CharStream, X, A>(
+    stream: &mut S,
+    answer: ParseResult<X, A>,
+) -> ParseResult<X, A>
     ensures { DemandsOf S.view S.at answer stream.old result stream.new }
 {
     match answer {

@@ -1,7 +1,5 @@
-use Rattle.std.proofs.Common.{Ok, [], ◌∷◌, sym, ◌∙◌}
+use Rattle.std.proofs.Common.{Ok, sym, ◌∙◌}
 use Rattle.std.proofs.lemmas.Result.{err_from_is_err_and}
-use Rattle.irtext_base.specs.Stream.{first_of}
-use Rattle.irtext_base.specs.Faults.{Unexpected, Word}
 use Rattle.irtext_read.specs.Lists.{Calls, Delimited, no_left, bad_inside, no_right, closed, Opens}
 use Rattle.irtext_read.proofs.ListSteps.{unless_met}
 use Rattle.irtext_read.proofs.ListRules.{delimited_list_keeps}
