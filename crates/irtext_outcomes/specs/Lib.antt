@@ -4,7 +4,6 @@ pub use Rattle.irtext_base.specs.Reading
 pub use Rattle.irtext_base.specs.Format
 pub use Rattle.irtext_base.specs.Own
 pub mod Promises
-
 -- What functions promise one another
 pub use Rattle.irtext_base.specs.Causes
 pub use Rattle.irtext_base.specs.Faults

@@ -3,7 +3,6 @@ pub use Rattle.irtext_base.specs.Text
 pub use Rattle.irtext_base.specs.Reading
 pub use Rattle.irtext_base.specs.Format
 pub use Rattle.irtext_base.specs.Own
-
 -- What functions promise one another
 pub use Rattle.irtext_base.specs.Causes
 pub use Rattle.irtext_base.specs.Faults

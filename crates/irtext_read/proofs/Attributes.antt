@@ -14,7 +14,7 @@ use Rattle.irtext_base.specs.declared.parsable.position.Place.{Place}
 use Rattle.irtext_base.proofs.Along.{front_after}
 use Rattle.irtext_base.proofs.Compose.{gives_mapped, refuses_mapped, seen_after, takes_stands}
 use Rattle.irtext_read.specs.Tokens.{word_at, text_at, identifier_at}
-use Rattle.irtext_read.specs.Infix.{◌▷◌, word as fixed}
+use Rattle.irtext_read.specs.Infix.{◌▷◌}
 use Rattle.irtext_read.specs.MustRead.{MayRead, MustRead}
 use Rattle.irtext_base.specs.Locations.{given_names, ident, own}
 use Rattle.irtext_read.specs.AttrTexts.{leads, given_name_at, given_names_at, ident_at, attr_at}
@@ -118,7 +118,7 @@ module _ {S : Type 0} (l : Lens S) where
       record { answers = rw f g }
 
   -- what must stand behind a fixed text that was passed is read, and the whole with it
-  pub behind_word : {V W A : Type 0} {sees : W → V} {next : Text → Outcome V} {word rest : Text} {old mid new : S} {r : Result W (ParseFault A)} → (l.view old).failed ≡ false → Takes l.view l.at word rest old mid → ((l.view mid).failed ≡ false → MustRead l.view l.at sees next mid r new) → MayRead l.view l.at sees (fixed word ▷ next) old r new
+  pub behind_word : {V W A : Type 0} {sees : W → V} {next : Text → Outcome V} {word rest : Text} {old mid new : S} {r : Result W (ParseFault A)} → (l.view old).failed ≡ false → Takes l.view l.at word rest old mid → ((l.view mid).failed ≡ false → MustRead l.view l.at sees next mid r new) → MayRead l.view l.at sees (text_at word ▷ next) old r new
   behind_word {A = A} {next = next} {word = word} {rest = rest} {old = old} {mid = mid} f k h =
       let fine : (l.view mid).failed ≡ false = ap (λ v. v.failed) (seen_after l.view l.at l.view_at l.at_at old mid word rest k) ∙ f in
       let b = word_read {A = A} word rest old mid f k in

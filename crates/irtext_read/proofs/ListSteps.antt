@@ -1,5 +1,5 @@
 -- One more item of a list.
-use Rattle.std.proofs.Common.{◌≡◌, ℕ, ◌<◌, ◌≤◌, Bool, true, false, Some, Result, Ok, Err, List, [], ◌∷◌, ◌++◌, length, refl, sym, ◌∙◌, ap, subst, append_assoc, append-nil, length-append, arith}
+use Rattle.std.proofs.Common.{◌≡◌, ℕ, ◌<◌, ◌≤◌, Bool, true, false, Some, Result, Ok, Err, List, [], ◌∷◌, ◌++◌, length, refl, sym, ◌∙◌, ap, subst, append_assoc, length-append, arith}
 use Rattle.std.specs.Fn.{Mut, Called}
 use Rattle.std.specs.Borrow.{MutBor}
 use Rattle.std.specs.Bool.{MatchBool, ◌==◌}
@@ -9,13 +9,12 @@ use Rattle.std.proofs.lemmas.Bool.Decides.{nat_tests}
 use Rattle.std.proofs.lemmas.Str.{length-le-encodes}
 use Rattle.irtext_base.specs.Text.{Text, begins, front, after, after_space}
 use Rattle.irtext_base.specs.Reading.{the}
-use Rattle.irtext_base.specs.Stream.{StreamView, first_of, after_failure}
-use Rattle.irtext_base.specs.Faults.{Fault, fault_of}
-use Rattle.irtext_base.specs.Answers.{Takes, Passes, Commits, Demands}
+use Rattle.irtext_base.specs.Stream.{StreamView, first_of}
+use Rattle.irtext_base.specs.Answers.{Takes, Demands}
 use Rattle.irtext_base.specs.declared.parsable.fault.ParseFault.{ParseFault}
 use Rattle.irtext_base.proofs.Along.{front_after, falls}
 use Rattle.irtext_read.proofs.Spelling.{takes_none_is}
-use Rattle.irtext_read.specs.Lists.{Calls, AlwaysKeepsRules, KeepsRules, UnlessFailed, prepended, skipped, HandsOn, Skips, Opens}
+use Rattle.irtext_read.specs.Lists.{Calls, AlwaysKeepsRules, KeepsRules, Insisted, UnlessFailed, prepended, skipped, HandsOn, Skips, Opens}
 
 not_zero : (n : ℕ) → 0 < n → (n == 0) ≡ false
 not_zero n h = grind (arith, nat_tests)
@@ -105,13 +104,14 @@ module _ {S : Type 0} (view : S → StreamView) (at : S → StreamView → S) wh
   unless_met R true s r u e h = absurd (cc)
   unless_met R false s r u e h = h
 
-  -- a missing thing that is demanded is bad where it is missing
-  pub passes_demanded : {A : Type 0} (cause : Fault) (t : S) (fault last : ParseFault A) (u : S) → Passes view at cause t fault t → Demands view at fault t last u → Commits view at cause [] t last u
-  passes_demanded cause t fault last u p d = record {
-    because = ap fault_of d.cause ∙ p.because;
+  -- the fault of an item that must stand, committed
+  pub commits_item : {A : Type 0} {t u : S} {fault last : ParseFault A} → ((s : S) → at s (view s) ≡ s) → (fault.committed ≡ true → (view t).failed ≡ true) → Demands view at fault t last u → Insisted view at fault t last u
+  commits_item {t = t} at_view k d = record {
+    cause = d.cause;
+    place = d.place;
     committed = d.committed;
-    place = rw (d.place, append-nil) p.place;
-    left = record { seen = after_failure (view t); is = d.left; fails = refl; same = refl };
+    already = λ e. d.left ∙ (ap (λ (b : Bool). at t (let v : StreamView = record { passed = (view t).passed; rest = (view t).rest; failed = b } in v)) (sym (k e)) ∙ at_view t);
+    failing = λ e. d.left;
   }
 
   -- where no white space stands the stream stays

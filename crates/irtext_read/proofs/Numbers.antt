@@ -1,43 +1,41 @@
--- A number grows by one digit after another, and where one is not read.
-use Rattle.std.proofs.Common.{◌≡◌, ℕ, ◌+◌, ◌-◌, ◌*◌, ◌^◌, ◌<◌, true, false, not, cond, eqb, ltb, Option, Some, None, [], ◌∷◌, ◌++◌, refl, sym, ◌∙◌, ap, arith, ◌⊎◌, inl, inr}
+-- A number grows by one digit after another; the numbers that are read of any type are those of the grammar.
+use Rattle.std.proofs.Common.{◌≡◌, ℕ, ℤ, pos, ◌+◌, ◌*◌, ◌^◌, ◌<◌, Bool, true, false, cond, nat_lt, ltb, Option, Some, None, Result, Ok, Err, [], ◌∷◌, ◌++◌, refl, sym, ◌∙◌, ap, arith, inl, inr}
 use Rattle.std.proofs.lemmas.Bool.Decides.{nat_tests}
 use Rattle.std.proofs.lemmas.Int.Digits.{digits_value_push}
-use Rattle.std.proofs.lemmas.Str.{encode_ascii, encodes-append}
+use Rattle.std.proofs.lemmas.Str.{encode_ascii}
 use Rattle.std.specs.Char.{is_ascii_digit, digit_value}
-use Rattle.std.specs.Option.{option_eq}
 use Rattle.std.specs.Str.{encode_utf8_all}
 use Rattle.std.specs.Str.Parse.{digits_value}
 use Rattle.irtext_base.specs.Text.{Text, begins, front, after}
 use Rattle.irtext_base.specs.Reading.{the}
-use Rattle.irtext_base.specs.Stream.{StreamView, IsAt, first_of, after_failure}
-use Rattle.irtext_base.specs.Faults.{Memory, NumberRange, fault_of}
-use Rattle.irtext_base.specs.Answers.{Outcome, Bad, Takes, Starves, Refuses}
+use Rattle.irtext_base.specs.Stream.{StreamView}
+use Rattle.irtext_base.specs.Answers.{Outcome, Read, Missing, Bad, Answers, demanded, mapped, unless_failed}
 use Rattle.irtext_base.specs.declared.parsable.fault.ParseFault.{ParseFault}
-use Rattle.irtext_base.proofs.Compose.{seen_after, takes_more, refuses_before}
-use Rattle.irtext_read.specs.Tokens.{is_sign, sign_of, after_sign, fitting, appended, value_of, numbered, number_at, integer_of, integer_at}
-use Rattle.irtext_read.proofs.Words.{encodes-front_digits}
-
--- the value of a digit
-digit_value_is : (c : ℕ) → is_ascii_digit c ≡ true → digit_value c ≡ c - 48
-digit_value_is c e = grind (arith, nat_tests)
+use Rattle.irtext_read.specs.Digits.{base, fitting, appended, value_in}
+use Rattle.irtext_read.specs.Integers.{unsigned_below, signed_below, integer_by, within, ranged, no_digit_behind, numeral_at, signed_integer, int_at}
+use Rattle.irtext_read.specs.MustRead.{MustRead}
+use Rattle.irtext_read.specs.Tokens.{is_sign, sign_of, after_sign, value_of, negated, numbered, no_digit, number_at, integer_of, integered, no_integer, integer_at}
+use Rattle.irtext_read.specs.declared.irfmt.parsers.digits.Radix.{Radix}
+use Rattle.irtext_read.specs.declared.irfmt.parsers.digits.Radix.TheVariants as radix
 
 -- a number that doesn't fit fits no better with one more digit
-too_great : (n d : ℕ) → ltb n (2 ^ 64) ≡ false → ltb (n * 10 + d) (2 ^ 64) ≡ false
-too_great n d e = grind (arith, nat_tests)
+too_great : (r : Radix) (n d : ℕ) → ltb n (2 ^ 64) ≡ false → ltb (n * base r + d) (2 ^ 64) ≡ false
+too_great radix.Decimal n d e = grind (arith, nat_tests)
+too_great radix.Hexadecimal n d e = grind (arith, nat_tests)
 
-appended-fitting : (n d : ℕ) → appended (fitting n) d ≡ fitting (n * 10 + d)
-appended-fitting n d =
-    elim (ltb n (2 ^ 64)) as (λ b. ltb n (2 ^ 64) ≡ b → appended (cond b (Some n) None) d ≡ fitting (n * 10 + d)) [
+appended-fitting : (r : Radix) (n d : ℕ) → appended (base r) (fitting n) d ≡ fitting (n * base r + d)
+appended-fitting r n d =
+    elim (ltb n (2 ^ 64)) as (λ b. ltb n (2 ^ 64) ≡ b → appended (base r) (cond b (Some n) None) d ≡ fitting (n * base r + d)) [
       | true ↦ (λ e. refl)
-      | false ↦ (λ e. rw (too_great n d e) refl)
+      | false ↦ (λ e. rw (too_great r n d e) refl)
     ] refl
+
+-- one more digit
+pub value_in-push : (r : Radix) (digits : Text) (c : ℕ) → appended (base r) (value_in (base r) digits) (digit_value c) ≡ value_in (base r) (digits ++ (c ∷ []))
+value_in-push r digits c = appended-fitting r (digits_value (base r) digits) (digit_value c) ∙ ap fitting (sym (digits_value_push (base r) digits c))
 
 is_sign_ascii : (c : ℕ) → is_sign c ≡ true → c < 128
 is_sign_ascii c e = grind (arith, nat_tests)
-
--- one more digit
-pub value_of-push : (digits : Text) (c : ℕ) → is_ascii_digit c ≡ true → appended (value_of digits) (c - 48) ≡ value_of (digits ++ (c ∷ []))
-value_of-push digits c e = appended-fitting (digits_value 10 digits) (c - 48) ∙ ap fitting (ap (λ z. digits_value 10 digits * 10 + z) (sym (digit_value_is c e)) ∙ sym (digits_value_push 10 digits c))
 
 -- the bytes of a sign and digits
 pub encodes-sign : (text : Text) → encode_utf8_all (sign_of text) ≡ sign_of text
@@ -48,69 +46,98 @@ encodes-sign (c ∷ text) =
       | false ↦ (λ e. refl)
     ] refl
 
-encodes-signed : (text digits : Text) → encode_utf8_all (sign_of text ++ front is_ascii_digit digits) ≡ sign_of text ++ front is_ascii_digit digits
-encodes-signed text digits = encodes-append (sign_of text) (front is_ascii_digit digits) ∙ rw (encodes-sign text, encodes-front_digits digits) refl
+-- no number is less than nothing
+none_below : (n : ℕ) → nat_lt n 0 ≡ false
+none_below n = grind (arith, nat_tests)
 
--- a character that the sign's test takes for a minus is a minus
-pub minus_first : (sign : Text) → not (option_eq eqb (first_of sign) (Some 45)) ≡ false → begins (the 45) sign ≡ true
-minus_first [] e = absurd (cc)
-minus_first (c ∷ sign) e = grind (arith, nat_tests)
+unsigned_read : (sign digits rest : Text) (minus : Bool) (n : ℕ) → begins (the 45) sign ≡ minus → ranged (sign ++ digits) rest (within (unsigned_below 64) minus n) ≡ mapped pos (numbered sign digits rest (fitting n))
+unsigned_read sign digits rest true n e = rw (none_below n) (elim (nat_lt n (2 ^ 64)) as (λ b. ranged (sign ++ digits) rest None ≡ mapped pos (numbered sign digits rest (cond b (Some n) None))) [ true ↦ rw e refl | false ↦ refl ])
+unsigned_read sign digits rest false n e = elim (nat_lt n (2 ^ 64)) as (λ b. ranged (sign ++ digits) rest (cond b (Some (integer_by false n)) None) ≡ mapped pos (numbered sign digits rest (cond b (Some n) None))) [ true ↦ rw e refl | false ↦ refl ]
 
--- behind a minus, and where it doesn't fit, no number is read
-numbered-refused : (sign digits rest : Text) (v : Option ℕ) → (v ≡ None) ⊎ (begins (the 45) sign ≡ true) → numbered sign digits rest v ≡ Bad (NumberRange (sign ++ digits)) []
-numbered-refused sign digits rest None h = refl
-numbered-refused sign digits rest (Some n) (inl e) = absurd (cc)
-numbered-refused sign digits rest (Some n) (inr e) = rw e refl
+no_unsigned : (below : Bool → ℕ) (sign text : Text) → numeral_at is_ascii_digit (signed_integer below) (no_digit_behind sign text) ≡ mapped pos (no_digit sign text)
+no_unsigned below [] text = refl
+no_unsigned below (c ∷ sign) text = refl
 
-number_at-refused : (text : Text) → begins is_ascii_digit (after_sign text) ≡ true → (value_of (front is_ascii_digit (after_sign text)) ≡ None) ⊎ (begins (the 45) (sign_of text) ≡ true) → number_at text ≡ Bad (NumberRange (sign_of text ++ front is_ascii_digit (after_sign text))) []
-unfolding number_at
-number_at-refused text b h = rw b (numbered-refused (sign_of text) (front is_ascii_digit (after_sign text)) (after is_ascii_digit (after_sign text)) (value_of (front is_ascii_digit (after_sign text))) h)
+-- an unsigned number of 64 bits is the grammar's
+pub number_is : (text : Text) → int_at (unsigned_below 64) text ≡ mapped pos (number_at text)
+unfolding int_at number_at
+number_is text =
+    let sign = sign_of text in
+    let digits = front is_ascii_digit (after_sign text) in
+    let rest = after is_ascii_digit (after_sign text) in
+    elim (begins is_ascii_digit (after_sign text)) as (λ b. numeral_at is_ascii_digit (signed_integer (unsigned_below 64)) (cond b (Read sign sign (after_sign text)) (no_digit_behind sign (after_sign text))) ≡ mapped pos (cond b (numbered sign digits rest (value_of digits)) (no_digit sign (after_sign text)))) [
+      | true ↦ unsigned_read sign digits rest (begins (the 45) sign) (digits_value 10 digits) refl
+      | false ↦ no_unsigned (unsigned_below 64) sign (after_sign text)
+    ]
 
-integer_at-refused : (text : Text) → begins is_ascii_digit (after_sign text) ≡ true → integer_of (sign_of text) (value_of (front is_ascii_digit (after_sign text))) ≡ None → integer_at text ≡ Bad (NumberRange (sign_of text ++ front is_ascii_digit (after_sign text))) []
-unfolding integer_at
-integer_at-refused text b h = rw b (rw h refl)
+small : (n : ℕ) → nat_lt n 2147483649 ≡ true → (nat_lt n (2 ^ 64) ≡ true) × (nat_lt 2147483648 n ≡ false)
+small n e = (grind (arith, nat_tests), grind (arith, nat_tests))
 
-module _ {S : Type 0} (view : S → StreamView) (at : S → StreamView → S) (view_at : (s : S) (v : StreamView) → view (at s v) ≡ v) (at_at : (s : S) (v w : StreamView) → at (at s v) w ≡ at s w) where
-  -- a stream behind the sign and the digits of a number
-  pub record Digits (old mid new : S) : Type 0 where
-    pub sign : Takes view at (sign_of (view old).rest) (after_sign (view old).rest) old mid
-    pub digits : Takes view at (front is_ascii_digit (view mid).rest) (after is_ascii_digit (view mid).rest) mid new
+great : (n : ℕ) → nat_lt n 2147483649 ≡ false → nat_lt 2147483648 n ≡ true
+great n e = grind (arith, nat_tests)
 
-  -- the sign and the digits
-  abbrev pub taken_by : S → S → Text
-  taken_by old mid = sign_of (view old).rest ++ front is_ascii_digit (view mid).rest
+smaller : (n : ℕ) → nat_lt n 2147483648 ≡ true → (nat_lt n (2 ^ 64) ≡ true) × (nat_lt 2147483647 n ≡ false)
+smaller n e = (grind (arith, nat_tests), grind (arith, nat_tests))
 
-  -- both were taken
-  pub takes_signed : (old mid new : S) → Digits old mid new → Takes view at (taken_by old mid) (after is_ascii_digit (view mid).rest) old new
-  takes_signed old mid new d = takes_more view at view_at at_at old mid new (sign_of (view old).rest) (after_sign (view old).rest) (front is_ascii_digit (view mid).rest) (after is_ascii_digit (view mid).rest) d.sign d.digits
+greater : (n : ℕ) → nat_lt n 2147483648 ≡ false → nat_lt 2147483647 n ≡ true
+greater n e = grind (arith, nat_tests)
 
-  pub passed_signed : (old mid new : S) → Digits old mid new → (view old).passed ++ taken_by old mid ≡ (view new).passed
-  passed_signed old mid new d = sym (ap (λ v. v.passed) (seen_after view at view_at at_at old new (taken_by old mid) (after is_ascii_digit (view mid).rest) (takes_signed old mid new d)))
+-- what fits 32 bits with its sign
+signed_fits : (sign : Text) (minus : Bool) (n : ℕ) → begins (the 45) sign ≡ minus → within (signed_below 32) minus n ≡ integer_of sign (fitting n)
+signed_fits sign true n e =
+    elim (nat_lt n 2147483649) as (λ b. nat_lt n 2147483649 ≡ b → cond b (Some (negated n)) None ≡ integer_of sign (fitting n)) [
+      | true ↦ (λ q. let p = small n q in rw p.0 (rw e (rw p.1 refl)))
+      | false ↦ (λ q. elim (nat_lt n (2 ^ 64)) as (λ b. None ≡ integer_of sign (cond b (Some n) None)) [ true ↦ rw e (rw (great n q) refl) | false ↦ refl ])
+    ] refl
+signed_fits sign false n e =
+    elim (nat_lt n 2147483648) as (λ b. nat_lt n 2147483648 ≡ b → cond b (Some (pos n)) None ≡ integer_of sign (fitting n)) [
+      | true ↦ (λ q. let p = smaller n q in rw p.0 (rw e (rw p.1 refl)))
+      | false ↦ (λ q. elim (nat_lt n (2 ^ 64)) as (λ b. None ≡ integer_of sign (cond b (Some n) None)) [ true ↦ rw e (rw (greater n q) refl) | false ↦ refl ])
+    ] refl
 
-  -- the fault of a number that is not read, however it is
-  refused_signed : {A X : Type 0} (o : Outcome X) (old mid new last : S) (fault : ParseFault A) → Digits old mid new → o ≡ Bad (NumberRange (taken_by old mid)) [] →
-      (fault_of fault.cause ≡ Memory) ⊎ (fault_of fault.cause ≡ NumberRange (encode_utf8_all (taken_by old mid))) → fault.committed ≡ true → IsAt fault.pos.line fault.pos.column (view old).passed → last ≡ at new (after_failure (view new)) →
-      Starves view at old fault last ⊎ Refuses view at o old fault last
-  refused_signed o old mid new last fault d q f c p n =
-      let e : encode_utf8_all (taken_by old mid) ≡ taken_by old mid = encodes-signed (view old).rest (view mid).rest in
-      rw q (refuses_before view at view_at at_at (NumberRange (taken_by old mid)) old new last (taken_by old mid) (after is_ascii_digit (view mid).rest) fault (takes_signed old mid new d) c p n (rw e at f))
+ranged_integer : (sign digits rest : Text) (o : Option ℤ) → ranged (sign ++ digits) rest o ≡ integered sign digits rest o
+ranged_integer sign digits rest None = refl
+ranged_integer sign digits rest (Some z) = refl
 
-  -- what stands behind the sign
-  behind_sign : (old mid new : S) → Digits old mid new → (view mid).rest ≡ after_sign (view old).rest
-  behind_sign old mid new d = ap (λ v. v.rest) (seen_after view at view_at at_at old mid (sign_of (view old).rest) (after_sign (view old).rest) d.sign)
+no_signed : (below : Bool → ℕ) (sign text : Text) → numeral_at is_ascii_digit (signed_integer below) (no_digit_behind sign text) ≡ no_integer sign text
+no_signed below [] text = refl
+no_signed below (c ∷ sign) text = refl
 
-  -- the fault of a number that is not read
-  pub number_refused : {A : Type 0} (old mid new last : S) (fault : ParseFault A) → Digits old mid new → begins is_ascii_digit (view mid).rest ≡ true → (value_of (front is_ascii_digit (view mid).rest) ≡ None) ⊎ (begins (the 45) (sign_of (view old).rest) ≡ true) →
-      (fault_of fault.cause ≡ Memory) ⊎ (fault_of fault.cause ≡ NumberRange (encode_utf8_all (taken_by old mid))) → fault.committed ≡ true → IsAt fault.pos.line fault.pos.column (view old).passed → last ≡ at new (after_failure (view new)) →
-      Starves view at old fault last ⊎ Refuses view at (number_at (view old).rest) old fault last
-  number_refused old mid new last fault d b h f c p n =
-      let r = behind_sign old mid new d in
-      refused_signed (number_at (view old).rest) old mid new last fault d (rw r (number_at-refused (view old).rest (rw r at b) (rw r at h))) f c p n
+-- a signed number of 32 bits is the grammar's
+pub integer_is : (text : Text) → int_at (signed_below 32) text ≡ integer_at text
+unfolding int_at integer_at
+integer_is text =
+    let sign = sign_of text in
+    let digits = front is_ascii_digit (after_sign text) in
+    let rest = after is_ascii_digit (after_sign text) in
+    elim (begins is_ascii_digit (after_sign text)) as (λ b. numeral_at is_ascii_digit (signed_integer (signed_below 32)) (cond b (Read sign sign (after_sign text)) (no_digit_behind sign (after_sign text))) ≡ cond b (integered sign digits rest (integer_of sign (value_of digits))) (no_integer sign (after_sign text))) [
+      | true ↦ ap (ranged (sign ++ digits) rest) (signed_fits sign (begins (the 45) sign) (digits_value 10 digits) refl) ∙ ranged_integer sign digits rest (integer_of sign (value_of digits))
+      | false ↦ no_signed (signed_below 32) sign (after_sign text)
+    ]
 
-  -- the fault of an integer that is not read
-  pub integer_refused : {A : Type 0} (old mid new last : S) (fault : ParseFault A) → Digits old mid new → begins is_ascii_digit (view mid).rest ≡ true → integer_of (sign_of (view old).rest) (value_of (front is_ascii_digit (view mid).rest)) ≡ None →
-      (fault_of fault.cause ≡ Memory) ⊎ (fault_of fault.cause ≡ NumberRange (encode_utf8_all (taken_by old mid))) → fault.committed ≡ true → IsAt fault.pos.line fault.pos.column (view old).passed → last ≡ at new (after_failure (view new)) →
-      Starves view at old fault last ⊎ Refuses view at (integer_at (view old).rest) old fault last
-  integer_refused old mid new last fault d b h f c p n =
-      let r = behind_sign old mid new d in
-      refused_signed (integer_at (view old).rest) old mid new last fault d (rw r (integer_at-refused (view old).rest (rw r at b) (rw r at h))) f c p n
+mapped_unless : (b : Bool) (o : Outcome ℕ) → demanded (unless_failed b (mapped pos o)) ≡ mapped pos (demanded (unless_failed b o))
+mapped_unless true o = refl
+mapped_unless false (Read n taken rest) = refl
+mapped_unless false (Missing cause) = refl
+mapped_unless false (Bad cause upto) = refl
+
+module _ {S A : Type 0} (view : S → StreamView) (at : S → StreamView → S) where
+  -- a number that is answered as an integer is answered
+  pub as_number : (o : Outcome ℕ) (old new : S) (r : Result ℕ (ParseFault A)) → Answers view at pos (mapped pos o) old r new → Answers view at (λ n. n) o old r new
+  as_number (Read n taken rest) old new (Ok m) h = let e : m ≡ n = cc in (e, h.1)
+  as_number (Missing cause) old new (Ok m) h = absurd h
+  as_number (Bad cause upto) old new (Ok m) h = absurd h
+  as_number o old new (Err fault) (inl h) = inl h
+  as_number (Read n taken rest) old new (Err fault) (inr h) = absurd h
+  as_number (Missing cause) old new (Err fault) (inr h) = inr h
+  as_number (Bad cause upto) old new (Err fault) (inr h) = inr h
+
+  -- an unsigned number of 64 bits that must stand there is the grammar's
+  pub number_must : (old new : S) (r : Result ℕ (ParseFault A)) → Answers view at pos (demanded (unless_failed (view old).failed (int_at (unsigned_below 64) (view old).rest))) old r new → MustRead view at (λ n. n) number_at old r new
+  number_must old new r h =
+      let e = ap (λ o. demanded (unless_failed (view old).failed o)) (number_is (view old).rest) ∙ mapped_unless (view old).failed (number_at (view old).rest) in
+      record { answers = as_number (demanded (unless_failed (view old).failed (number_at (view old).rest))) old new r (rw e at h) }
+
+  -- a signed number of 32 bits that must stand there is the grammar's
+  pub integer_must : (old new : S) (r : Result ℤ (ParseFault A)) → Answers view at (λ z. z) (demanded (unless_failed (view old).failed (int_at (signed_below 32) (view old).rest))) old r new → MustRead view at (λ z. z) integer_at old r new
+  integer_must old new r h = record { answers = rw (integer_is (view old).rest) at h }

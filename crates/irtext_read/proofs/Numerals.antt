@@ -1,9 +1,8 @@
 -- Digits behind what stands in front of them, and what is made of both.
-use Rattle.std.proofs.Common.{◌≡◌, ℕ, ℤ, ◌+◌, ◌*◌, ◌^◌, ◌<◌, ◌≤◌, Bool, true, false, cond, eqb, ltb, Option, Some, None, List, [], ◌∷◌, ◌++◌, refl, sym, ◌∙◌, ap, subst, append-nil, arith, ◌⊎◌, inl, inr, codes}
+use Rattle.std.proofs.Common.{◌≡◌, ℕ, ℤ, ◌^◌, ◌<◌, ◌≤◌, Bool, true, false, cond, eqb, ltb, Option, Some, None, List, [], ◌∷◌, ◌++◌, refl, sym, ◌∙◌, ap, subst, append-nil, arith, ◌⊎◌, inl, inr, codes}
 use Rattle.std.proofs.lemmas.Bool.Decides.{nat_tests}
-use Rattle.std.proofs.lemmas.Int.Digits.{digits_value_push}
 use Rattle.std.proofs.lemmas.Str.{encode_ascii, encodes-append}
-use Rattle.std.specs.Char.{is_ascii_digit, is_ascii_hexdigit, digit_value}
+use Rattle.std.specs.Char.{is_ascii_digit, is_ascii_hexdigit}
 use Rattle.std.specs.Option.{option_eq}
 use Rattle.std.specs.Str.{encode_utf8_all}
 use Rattle.std.specs.Str.Parse.{digits_value}
@@ -15,7 +14,7 @@ use Rattle.irtext_base.specs.Answers.{Outcome, Read, Missing, Bad, Takes, Starve
 use Rattle.irtext_base.specs.declared.parsable.fault.ParseFault.{ParseFault}
 use Rattle.irtext_base.proofs.Compose.{seen_after, takes_more, starves_after, refuses_before}
 use Rattle.irtext_read.specs.Tokens.{sign_of, after_sign, fitting, text_at, spelled_at}
-use Rattle.irtext_read.specs.Integers.{within, within_of, signed_integer, hexadecimal_integer, signed_text, sign_text, no_digit_behind, sign_at, before_hexadecimal, hexadecimal_mark_at, hexadecimal_appended, hexadecimal_value_of, ranged, numeral_at}
+use Rattle.irtext_read.specs.Integers.{within, within_of, signed_integer, hexadecimal_integer, signed_text, sign_text, no_digit_behind, sign_at, before_hexadecimal, hexadecimal_mark_at, ranged, numeral_at}
 use Rattle.irtext_read.proofs.Numbers.{encodes-sign}
 use Rattle.irtext_read.proofs.Words.{encodes-front, encodes-front_digits}
 
@@ -24,21 +23,6 @@ is_hexdigit_ascii c e = grind (arith, nat_tests)
 
 pub encodes-front_hexadecimal : (text : Text) → encode_utf8_all (front is_ascii_hexdigit text) ≡ front is_ascii_hexdigit text
 encodes-front_hexadecimal = encodes-front is_ascii_hexdigit is_hexdigit_ascii
-
--- a number that doesn't fit fits no better with one more digit
-too_great : (n d : ℕ) → ltb n (2 ^ 64) ≡ false → ltb (n * 16 + d) (2 ^ 64) ≡ false
-too_great n d e = grind (arith, nat_tests)
-
-hexadecimal_appended-fitting : (n d : ℕ) → hexadecimal_appended (fitting n) d ≡ fitting (n * 16 + d)
-hexadecimal_appended-fitting n d =
-    elim (ltb n (2 ^ 64)) as (λ b. ltb n (2 ^ 64) ≡ b → hexadecimal_appended (cond b (Some n) None) d ≡ fitting (n * 16 + d)) [
-      | true ↦ (λ e. refl)
-      | false ↦ (λ e. rw (too_great n d e) refl)
-    ] refl
-
--- one more hexadecimal digit
-pub hexadecimal_value_of-push : (digits : Text) (c : ℕ) → hexadecimal_appended (hexadecimal_value_of digits) (digit_value c) ≡ hexadecimal_value_of (digits ++ (c ∷ []))
-hexadecimal_value_of-push digits c = hexadecimal_appended-fitting (digits_value 16 digits) (digit_value c) ∙ ap fitting (sym (digits_value_push 16 digits c))
 
 -- where what fits a type fits 64 bits, what doesn't fit these doesn't fit the type
 not_below : (n m : ℕ) → m ≤ 2 ^ 64 → ltb n (2 ^ 64) ≡ false → ltb n m ≡ false

@@ -1,7 +1,6 @@
 -- The numbers that hexadecimal digits write, and the characters of numbers.
-use Rattle.std.proofs.Common.{◌≡◌, ℕ, ◌+◌, ◌*◌, ◌^◌, ◌<◌, true, false, cond, ltb, Some, None, [], ◌∷◌, ◌++◌, codes, refl, sym, ◌∙◌, ap, arith}
+use Rattle.std.proofs.Common.{◌≡◌, ℕ, ◌^◌, ◌<◌, true, false, cond, ltb, Some, None, [], ◌++◌, codes, refl, sym, ◌∙◌, ap, arith}
 use Rattle.std.proofs.lemmas.Bool.Decides.{nat_tests}
-use Rattle.std.proofs.lemmas.Int.Digits.{digits_value_push}
 use Rattle.std.specs.Char.{is_ascii_hexdigit, digit_value}
 use Rattle.std.specs.Str.Parse.{digits_value}
 use Rattle.std.specs.Str.{encode_utf8_all}
@@ -9,7 +8,8 @@ use lib.Utf8.{scalar}
 use Rattle.irtext_base.specs.Text.{Text, front}
 use Rattle.irtext_base.specs.Faults.{BadUnicodeEscape}
 use Rattle.irtext_base.specs.Answers.{Outcome, Read, Bad}
-use Rattle.irtext_read.specs.QuotedTexts.{fitting_word, word_appended, word_of, character_of, named}
+use Rattle.irtext_read.specs.QuotedTexts.{character_of, named}
+use Rattle.irtext_read.specs.Digits.{fitting, value_in}
 use Rattle.irtext_read.proofs.Words.{encodes-front}
 
 -- the value of a hexadecimal digit
@@ -23,34 +23,19 @@ hexdigit_ascii c e = grind (arith, nat_tests)
 pub encodes-front_hexdigits : (text : Text) → encode_utf8_all (front is_ascii_hexdigit text) ≡ front is_ascii_hexdigit text
 encodes-front_hexdigits = encodes-front is_ascii_hexdigit hexdigit_ascii
 
--- a number that doesn't fit fits no better with one more digit
-too_great : (n d : ℕ) → ltb n (2 ^ 32) ≡ false → ltb (n * 16 + d) (2 ^ 32) ≡ false
-too_great n d e = grind (arith, nat_tests)
-
-word_appended-fitting : (n d : ℕ) → word_appended (fitting_word n) d ≡ fitting_word (n * 16 + d)
-word_appended-fitting n d =
-    elim (ltb n (2 ^ 32)) as (λ b. ltb n (2 ^ 32) ≡ b → word_appended (cond b (Some n) None) d ≡ fitting_word (n * 16 + d)) [
-      | true ↦ (λ e. refl)
-      | false ↦ (λ e. rw (too_great n d e) refl)
-    ] refl
-
--- one more digit
-pub word_of-push : (digits : Text) (c : ℕ) → word_appended (word_of digits) (digit_value c) ≡ word_of (digits ++ (c ∷ []))
-word_of-push digits c = word_appended-fitting (digits_value 16 digits) (digit_value c) ∙ ap fitting_word (sym (digits_value_push 16 digits c))
-
 -- a number that doesn't fit is no character's
-no_scalar : (n : ℕ) → ltb n (2 ^ 32) ≡ false → scalar n ≡ false
+no_scalar : (n : ℕ) → ltb n (2 ^ 64) ≡ false → scalar n ≡ false
 no_scalar n e = grind (arith, nat_tests)
 
-character_of-fitting : (n : ℕ) → character_of (fitting_word n) ≡ cond (scalar n) (Some n) None
+character_of-fitting : (n : ℕ) → character_of (fitting n) ≡ cond (scalar n) (Some n) None
 character_of-fitting n =
-    elim (ltb n (2 ^ 32)) as (λ b. ltb n (2 ^ 32) ≡ b → character_of (cond b (Some n) None) ≡ cond (scalar n) (Some n) None) [
+    elim (ltb n (2 ^ 64)) as (λ b. ltb n (2 ^ 64) ≡ b → character_of (cond b (Some n) None) ≡ cond (scalar n) (Some n) None) [
       | true ↦ (λ e. refl)
       | false ↦ (λ e. rw (no_scalar n e) refl)
     ] refl
 
 -- digits that name a character
-pub named_some : (digits text : Text) (c : ℕ) → Some c ≡ character_of (word_of digits) → named digits text ≡ Read c (codes "\\u{" ++ (digits ++ codes "}")) text
+pub named_some : (digits text : Text) (c : ℕ) → Some c ≡ character_of (value_in 16 digits) → named digits text ≡ Read c (codes "\\u{" ++ (digits ++ codes "}")) text
 named_some digits text c e =
     let n = digits_value 16 digits in
     let taken : Text = codes "\\u{" ++ (digits ++ codes "}") in
@@ -60,7 +45,7 @@ named_some digits text c e =
     ] (e ∙ character_of-fitting n)
 
 -- digits that name none
-pub named_none : (digits text : Text) → character_of (word_of digits) ≡ None → named digits text ≡ Bad (BadUnicodeEscape digits) []
+pub named_none : (digits text : Text) → character_of (value_in 16 digits) ≡ None → named digits text ≡ Bad (BadUnicodeEscape digits) []
 named_none digits text e =
     let n = digits_value 16 digits in
     let taken : Text = codes "\\u{" ++ (digits ++ codes "}") in

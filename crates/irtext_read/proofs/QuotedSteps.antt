@@ -11,8 +11,9 @@ use Rattle.irtext_base.specs.Answers.{Outcome, Read, Missing, Bad, Takes, Starve
 use Rattle.irtext_base.specs.declared.parsable.fault.ParseFault.{ParseFault}
 use Rattle.irtext_base.proofs.Bytes.{first_some}
 use Rattle.irtext_base.proofs.Compose.{seen_after, takes_more, starves_after, commits_after, refuses_before, answers_after}
-use Rattle.irtext_read.specs.QuotedTexts.{is_plain, escape_of, word_of, character_of, closed, braced, unicode_at, unit_at, units_at}
+use Rattle.irtext_read.specs.QuotedTexts.{is_plain, escape_of, character_of, closed, braced, unicode_at, unit_at, units_at}
 use Rattle.irtext_read.proofs.Spelling.{begins_the, takes_none, takes_next}
+use Rattle.irtext_read.specs.Digits.{value_in}
 use Rattle.irtext_read.proofs.QuotedNumbers.{encodes-front_hexdigits, named_some, named_none}
 use Rattle.irtext_read.proofs.QuotedUnits.{unit_takes, never_missing, whole, whole_nil, whole_run, whole_unit, whole_bad, unit_unescaped, unit_unknown, unit_unicode, unicode_unopened, braced_none, braced_some, closed_open}
 
@@ -143,7 +144,7 @@ module _ {S : Type 0} (view : S → StreamView) (at : S → StreamView → S) wh
         }
 
     -- the brace behind the digits, where they name a character
-    pub braces_closed : (before now next : S) (digits : Text) (c : ℕ) → Counted before now digits → begins (the 125) (view now).rest ≡ true → Some c ≡ character_of (word_of digits) → next ≡ at now (advanced (view now)) → Gives view at (unit_at (view before).rest) before c next
+    pub braces_closed : (before now next : S) (digits : Text) (c : ℕ) → Counted before now digits → begins (the 125) (view now).rest ≡ true → Some c ≡ character_of (value_in 16 digits) → next ≡ at now (advanced (view now)) → Gives view at (unit_at (view before).rest) before c next
     braces_closed before now next digits c h q e n =
         let m = begins_the 125 (view now).rest q in
         let k = takes_next view at view_at at_view at_at now next 125 m.0 m.1 n in
@@ -194,7 +195,7 @@ module _ {S : Type 0} (view : S → StreamView) (at : S → StreamView → S) wh
           refused_before old last new (92 ∷ b ∷ []) (view last).rest (BadEscape b) fault k (unit_unknown (view old).rest (view last).rest b k.same q h) (inr g) c l w
 
       -- digits that name no character
-      pub unnamed : (before opens now new : S) (fault : ParseFault A) → let digits = front is_ascii_hexdigit (view opens).rest in Counted before now digits → begins (the 125) (view now).rest ≡ true → character_of (word_of digits) ≡ None →
+      pub unnamed : (before opens now new : S) (fault : ParseFault A) → let digits = front is_ascii_hexdigit (view opens).rest in Counted before now digits → begins (the 125) (view now).rest ≡ true → character_of (value_in 16 digits) ≡ None →
           (fault_of fault.cause ≡ Memory) ⊎ (fault_of fault.cause ≡ BadUnicodeEscape (encode_utf8_all digits)) → fault.committed ≡ true → IsAt fault.pos.line fault.pos.column (view before).passed → new ≡ at now (after_failure (view now)) → Starves view at before fault new ⊎ Refuses view at (unit_at (view before).rest) before fault new
       unnamed before opens now new fault h q e f c p n =
           let digits = front is_ascii_hexdigit (view opens).rest in

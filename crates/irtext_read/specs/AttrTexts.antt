@@ -1,13 +1,13 @@
 -- Attributes: what a text is to their reader, given what it is to the reader of the caller's own.
-use Rattle.std.specs.Prelude.{◌≡◌, true, false, Bool, cond, List, Option, Some, None, codes}
+use Rattle.std.specs.Prelude.{◌≡◌, true, false, Bool, List, Option, Some, None, codes}
 use Rattle.std.specs.Str.{bytes_eq}
 use Rattle.irtext_base.specs.Text.{Text, begins, front, after, in_dotted}
 use Rattle.irtext_base.specs.Reading.{the}
-use Rattle.irtext_base.specs.Answers.{Outcome, Takes, mapped}
+use Rattle.irtext_base.specs.Answers.{Outcome, Takes}
 use Rattle.irtext_base.specs.Stream.{StreamView}
 use Rattle.irtext_base.specs.Locations.{AttrView, given_names, ident, own}
-use Rattle.irtext_read.specs.Tokens.{space_at, text_at, identifier_at}
-use Rattle.irtext_read.specs.Infix.{Reader, word, ◌▷◌, ◌◁◌}
+use Rattle.irtext_read.specs.Tokens.{space_at, word, identifier_at}
+use Rattle.irtext_read.specs.Infix.{Reader, ◌▷◌, ◌◁◌, ◌⇒◌, either}
 use Rattle.irtext_read.specs.ListOutcomes.{separated_at}
 use Rattle.irtext_read.specs.declared.irfmt.parsers.attributes.Lead.{Lead}
 use Rattle.irtext_read.specs.declared.irfmt.parsers.attributes.Lead.TheVariants as lead
@@ -17,12 +17,12 @@ abbrev pub leads : Text → Text → Bool
 leads word text = bytes_eq (front in_dotted text) word
 
 -- a given name, or `?` where there is none
-abbrev pub given_name_at : Text → Outcome (Option Text)
-given_name_at text = cond (begins (the 63) text) (mapped (λ _. None) (text_at (codes "?") text)) (mapped Some (identifier_at text))
+abbrev pub given_name_at : Reader (Option Text)
+given_name_at = either (begins (the 63)) (word (codes "?") ⇒ λ _. None) (identifier_at ⇒ Some)
 
 -- given names with `,` between them
-abbrev pub names_at : Text → Outcome (List (Option Text))
-names_at text = separated_at 44 given_name_at text
+abbrev pub names_at : Reader (List (Option Text))
+names_at = separated_at 44 given_name_at
 
 -- given names between brackets
 abbrev pub bracketed_names_at : Reader (List (Option Text))
@@ -42,9 +42,8 @@ ident_at = word (codes "builtin.identifier") ▷ spaced_identifier_at
 
 module _ {A : Type 0} (reading : Text → Outcome A) where
   -- given names or an identifier, where their word stands, and else an attribute of the caller
-  unfoldable pub attr_at : Text → Outcome (AttrView A)
-  attr_at text = cond (leads (codes "builtin.given_names") text) (mapped given_names (given_names_at text))
-      (cond (leads (codes "builtin.identifier") text) (mapped ident (ident_at text)) (mapped own (reading text)))
+  unfoldable pub attr_at : Reader (AttrView A)
+  attr_at = either (leads (codes "builtin.given_names")) (given_names_at ⇒ given_names) (either (leads (codes "builtin.identifier")) (ident_at ⇒ ident) (reading ⇒ own))
 
 module _ {S : Type 0} (view : S → StreamView) (at : S → StreamView → S) where
   -- the word that leads somewhere was taken, or no such word stands there and the stream stays

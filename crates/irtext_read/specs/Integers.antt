@@ -1,13 +1,14 @@
 -- Integers of every type, hexadecimal numbers and truth values: what a text is to the reader of each.
-use Rattle.std.specs.Prelude.{ℕ, ◌+◌, ◌-◌, ◌*◌, ◌^◌, ℤ, pos, Bool, true, false, cond, nat_lt, Option, Some, None, [], ◌∷◌, ◌++◌, codes}
+use Rattle.std.specs.Prelude.{ℕ, ◌+◌, ◌-◌, ◌^◌, ℤ, pos, Bool, true, false, cond, nat_lt, Option, Some, None, [], ◌∷◌, ◌++◌, codes}
 use Rattle.std.specs.Char.{is_ascii_digit, is_ascii_hexdigit}
 use Rattle.std.specs.Str.Parse.{digits_value}
 use Rattle.irtext_base.specs.Text.{Text, begins, front, after}
 use Rattle.irtext_base.specs.Reading.{the}
 use Rattle.irtext_base.specs.Stream.{first_of}
 use Rattle.irtext_base.specs.Faults.{ADigit, AHexadecimalDigit, ATrueOrFalse, Unexpected, NumberRange}
-use Rattle.irtext_base.specs.Answers.{Outcome, Read, Missing, Bad, mapped, followed}
-use Rattle.irtext_read.specs.Tokens.{text_at, sign_of, after_sign, negated, fitting}
+use Rattle.irtext_base.specs.Answers.{Outcome, Read, Missing, Bad}
+use Rattle.irtext_read.specs.Infix.{Reader, ◌▷◌, ◌⇒◌, either}
+use Rattle.irtext_read.specs.Tokens.{word, sign_of, after_sign, negated}
 
 -- how many magnitudes fit an unsigned type of so many bits: none behind a minus, not even 0
 abbrev pub unsigned_below : ℕ → Bool → ℕ
@@ -30,15 +31,6 @@ abbrev pub within_of : (Bool → ℕ) → Bool → Option ℕ → Option ℤ
 within_of below negative None = None
 within_of below negative (Some n) = within below negative n
 
--- the number that hexadecimal digits write, where it fits 64 bits
-abbrev pub hexadecimal_value_of : Text → Option ℕ
-hexadecimal_value_of digits = fitting (digits_value 16 digits)
-
--- the number with one more hexadecimal digit behind it, where it fits 64 bits
-abbrev pub hexadecimal_appended : Option ℕ → ℕ → Option ℕ
-hexadecimal_appended None digit = None
-hexadecimal_appended (Some n) digit = fitting (n * 16 + digit)
-
 -- the sign as a text
 abbrev pub sign_text : Option ℕ → Text
 sign_text None = []
@@ -58,8 +50,8 @@ abbrev pub before_hexadecimal : Text → Outcome Unit
 before_hexadecimal text = cond (begins is_ascii_hexdigit text) (Read tt [] text) (Missing (Unexpected (first_of text) AHexadecimalDigit))
 
 -- `0x`, in front of a hexadecimal digit
-abbrev pub hexadecimal_mark_at : Text → Outcome Unit
-hexadecimal_mark_at text = followed (text_at (codes "0x") text) (λ u text. before_hexadecimal text)
+abbrev pub hexadecimal_mark_at : Reader Unit
+hexadecimal_mark_at = word (codes "0x") ▷ before_hexadecimal
 
 -- what was made of a number's text, or a fault at its beginning where it doesn't fit
 abbrev pub ranged : {X : Type 0} → Text → Text → Option X → Outcome X
@@ -97,5 +89,5 @@ unfoldable pub hex_int_at : (Bool → ℕ) → Text → Outcome ℤ
 hex_int_at below text = numeral_at is_ascii_hexdigit (hexadecimal_integer below) (hexadecimal_mark_at text)
 
 -- `true` or `false`; where neither begins, a truth value is missing
-unfoldable pub bool_at : Text → Outcome Bool
-bool_at text = cond (begins (the 116) text) (mapped (λ u. true) (text_at (codes "true") text)) (cond (begins (the 102) text) (mapped (λ u. false) (text_at (codes "false") text)) (Missing (Unexpected (first_of text) ATrueOrFalse)))
+unfoldable pub bool_at : Reader Bool
+bool_at = either (begins (the 116)) (word (codes "true") ⇒ λ _. true) (either (begins (the 102)) (word (codes "false") ⇒ λ _. false) (λ text. Missing (Unexpected (first_of text) ATrueOrFalse)))

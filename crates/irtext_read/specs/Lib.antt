@@ -1,3 +1,5 @@
+pub mod Infix
+pub mod Digits
 pub mod Tokens
 pub mod Spelled
 pub mod QuotedTexts
@@ -9,6 +11,5 @@ pub mod Lists
 pub mod ListTexts
 pub mod MustRead
 pub mod ListOutcomes
-pub mod Infix
 pub mod AttrTexts
 pub mod QuotedBytes

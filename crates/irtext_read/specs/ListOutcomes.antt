@@ -2,8 +2,9 @@
 use Rattle.std.specs.Prelude.{ℕ, zero, suc, cond, List, [], ◌∷◌, ◌++◌, length}
 use Rattle.irtext_base.specs.Text.{Text, begins}
 use Rattle.irtext_base.specs.Reading.{the}
-use Rattle.irtext_base.specs.Answers.{Outcome, Read, Missing, Bad, mapped, followed}
-use Rattle.irtext_read.specs.Tokens.{space_at, text_at}
+use Rattle.irtext_base.specs.Answers.{Outcome, Read, Missing, Bad}
+use Rattle.irtext_read.specs.Infix.{Reader, ◌▷◌, ◌▶◌, ◌⇒◌}
+use Rattle.irtext_read.specs.Tokens.{space_at, word}
 
 -- the list, or no items where the first is missing
 abbrev pub or_empty : {X : Type 0} → Outcome (List X) → Text → Outcome (List X)
@@ -13,16 +14,16 @@ or_empty (Bad cause upto) text = Bad cause upto
 
 module _ {X : Type 0} (separator : ℕ) (item : Text → Outcome X) where
   -- the items found and one more, with the white space behind it
-  abbrev pub item_after : List X → Text → Outcome (List X)
-  item_after found text = followed (item text) (λ x t. mapped (λ _. found ++ (x ∷ [])) (space_at t))
+  abbrev pub item_after : List X → Reader (List X)
+  item_after found = item ▶ λ x. space_at ⇒ λ _. found ++ (x ∷ [])
 
   -- the items found and those behind them, which must stand as long as a separator follows, with white space after each, and n of them at most
   abbrev pub items_after : ℕ → List X → Text → Outcome (List X)
   items_after zero found text = Read found [] text
   items_after (suc n) found text = cond (begins (the separator) text)
-      (followed (text_at (separator ∷ []) text) (λ _ t. followed (space_at t) (λ _ u. followed (item_after found u) (λ more v. items_after n more v))))
+      ((word (separator ∷ []) ▷ space_at ▷ item_after found ▶ λ more. items_after n more) text)
       (Read found [] text)
 
   -- items with a separator between them, and white space after each item and each separator, as far as they go
   abbrev pub separated_at : Text → Outcome (List X)
-  separated_at text = or_empty (followed (item_after [] text) (λ found t. items_after (length t) found t)) text
+  separated_at text = or_empty ((item_after [] ▶ λ found t. items_after (length t) found t) text) text

@@ -1,13 +1,14 @@
 -- Quoted texts: what a text is to their reader. A unit is an escape, or a character as it stands.
-use Rattle.std.specs.Prelude.{ℕ, ◌+◌, ◌*◌, ◌^◌, Bool, cond, not, ◌&&◌, ◌==◌, nat_lt, Option, Some, None, [], ◌∷◌, ◌++◌, codes}
+use Rattle.std.specs.Prelude.{ℕ, Bool, cond, not, ◌&&◌, ◌==◌, Option, Some, None, [], ◌∷◌, ◌++◌, codes}
 use Rattle.std.specs.Char.{is_ascii_hexdigit}
 use Rattle.std.specs.Str.Parse.{digits_value}
 use lib.Utf8.{scalar}
 use Rattle.irtext_base.specs.Text.{Text, front, after}
 use Rattle.irtext_base.specs.Stream.{first_of}
 use Rattle.irtext_base.specs.Faults.{Word, AHexadecimalDigit, AnEscapedCharacter, Unexpected, BadEscape, BadUnicodeEscape}
-use Rattle.irtext_base.specs.Answers.{Outcome, Read, Missing, Bad, prefixed, mapped, followed}
-use Rattle.irtext_read.specs.Tokens.{text_at}
+use Rattle.irtext_base.specs.Answers.{Outcome, Read, Missing, Bad, prefixed, mapped}
+use Rattle.irtext_read.specs.Infix.{Reader, ◌▷◌}
+use Rattle.irtext_read.specs.Tokens.{word}
 
 -- a character that stands for itself: neither a quotation mark nor a backslash
 abbrev pub is_plain : ℕ → Bool
@@ -21,19 +22,6 @@ escape_of e = cond (e == 92) (Some 92) (cond (e == 34) (Some 34) (cond (e == 39)
 abbrev pub escaped : Option ℕ → ℕ → Text → Outcome ℕ
 escaped (Some c) e text = Read c (92 ∷ e ∷ []) text
 escaped None e text = Bad (BadEscape e) []
-
--- the number, where it is less than 2 to the 32
-abbrev pub fitting_word : ℕ → Option ℕ
-fitting_word n = cond (nat_lt n (2 ^ 32)) (Some n) None
-
--- the number with one more hexadecimal digit behind it, where it fits
-abbrev pub word_appended : Option ℕ → ℕ → Option ℕ
-word_appended None digit = None
-word_appended (Some n) digit = fitting_word (n * 16 + digit)
-
--- the number that hexadecimal digits write, where it fits
-abbrev pub word_of : Text → Option ℕ
-word_of digits = fitting_word (digits_value 16 digits)
 
 -- the character of a number, where it is one's
 abbrev pub character_of : Option ℕ → Option ℕ
@@ -88,5 +76,5 @@ units_at [] (c ∷ text) = cond (c == 34) (Read [] (c ∷ []) text) (unit_before
 units_at (d ∷ left) (c ∷ text) = units_at left text
 
 -- a quotation mark, units, and the next quotation mark
-unfoldable pub quoted_at : Text → Outcome Text
-quoted_at text = followed (text_at (codes "\"") text) (λ mark text. units_at [] text)
+unfoldable pub quoted_at : Reader Text
+quoted_at = word (codes "\"") ▷ units_at []

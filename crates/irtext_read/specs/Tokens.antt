@@ -1,13 +1,15 @@
 -- Tokens: what a text is to the reader of each.
-use Rattle.std.specs.Prelude.{ℕ, zero, suc, ℤ, pos, negsuc, ◌*◌, ◌+◌, ◌^◌, Bool, cond, ◌||◌, nat_lt, Option, Some, None, [], ◌∷◌, ◌++◌, codes, ⊤}
-use Rattle.std.specs.Char.{is_ascii_digit, is_whitespace}
-use Rattle.std.specs.Str.Parse.{digits_value}
+use Rattle.std.specs.Prelude.{ℕ, zero, suc, ℤ, pos, negsuc, Bool, cond, ◌||◌, nat_lt, Option, Some, None, [], ◌∷◌, ◌++◌, codes, ⊤}
+use Rattle.std.specs.Char.{is_ascii_digit, is_ascii_hexdigit, is_whitespace}
 use Rattle.irtext_base.specs.Text.{Text, begins, front, after, begins_word, in_word}
 use Rattle.irtext_base.specs.Reading.{the}
 use Rattle.irtext_base.specs.Format.{Id}
 use Rattle.irtext_base.specs.Stream.{first_of}
 use Rattle.irtext_base.specs.Faults.{Demand, Word, AnIdentifier, ADigit, AnOperation, Unexpected, NumberRange}
-use Rattle.irtext_base.specs.Answers.{Outcome, Read, Missing, Bad, prefixed, mapped, followed}
+use Rattle.irtext_base.specs.Answers.{Outcome, Read, Missing, Bad, prefixed}
+pub use Rattle.irtext_read.specs.Digits.{fitting}
+use Rattle.irtext_read.specs.Infix.{Reader, ◌▷◌, ◌▶◌, ◌⇒◌}
+use Rattle.irtext_read.specs.Digits.{value_in}
 use Rattle.irtext_read.specs.declared.irfmt.parsers.class.Class.{Class}
 use Rattle.irtext_read.specs.declared.irfmt.parsers.class.Class.TheVariants as class
 
@@ -15,6 +17,7 @@ use Rattle.irtext_read.specs.declared.irfmt.parsers.class.Class.TheVariants as c
 abbrev pub has : Class → ℕ → Bool
 has class.WhiteSpace c = is_whitespace c
 has class.Digit c = is_ascii_digit c
+has class.HexadecimalDigit c = is_ascii_hexdigit c
 has class.Beginning c = begins_word c
 has class.Word c = in_word c
 has class.Dotted c = in_word c || the 46 c
@@ -41,6 +44,10 @@ spelled_at whole (c ∷ word) (d ∷ text) = cond (the c d) (prefixed (d ∷ [])
 abbrev pub text_at : Text → Text → Outcome Unit
 text_at word text = spelled_at word word text
 
+-- the reader of a fixed text
+abbrev pub word : Text → Reader Unit
+word w = text_at w
+
 -- a plus or a minus
 abbrev pub is_sign : ℕ → Bool
 is_sign c = the 43 c || the 45 c
@@ -55,18 +62,9 @@ abbrev pub after_sign : Text → Text
 after_sign [] = []
 after_sign (c ∷ text) = cond (is_sign c) text (c ∷ text)
 
--- the number, where it is less than 2 to the 64
-abbrev pub fitting : ℕ → Option ℕ
-fitting n = cond (nat_lt n (2 ^ 64)) (Some n) None
-
 -- the number that digits write, where it fits
 abbrev pub value_of : Text → Option ℕ
-value_of digits = fitting (digits_value 10 digits)
-
--- the number with one more digit behind it, where it fits
-abbrev pub appended : Option ℕ → ℕ → Option ℕ
-appended None digit = None
-appended (Some n) digit = fitting (n * 10 + digit)
+value_of digits = value_in 10 digits
 
 -- what a sign and a number that fits or doesn't are: the number, or a fault at the sign
 abbrev pub numbered : Text → Text → Text → Option ℕ → Outcome ℕ
@@ -125,5 +123,5 @@ abbrev pub id_with : Text → Text → Id
 id_with dialect name = record { dialect = dialect; name = name }
 
 -- an operation's id
-unfoldable pub id_at : Text → Outcome Id
-id_at text = followed (word_at AnOperation text) (λ dialect text. followed (text_at (codes ".") text) (λ dot text. mapped (id_with dialect) (identifier_at text)))
+unfoldable pub id_at : Reader Id
+id_at = word_at AnOperation ▶ λ dialect. word (codes ".") ▷ identifier_at ⇒ id_with dialect

@@ -19,7 +19,6 @@ pub mod SincereAttributes
 pub mod EqualTypes
 pub mod EqualAttributes
 pub mod DemoDialects
-
 -- What functions promise one another
 pub mod IntegersBack
 pub mod TypeListsBack

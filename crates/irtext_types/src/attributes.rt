@@ -19,7 +19,7 @@ use crate::words::{DottedWord, dotted_parse};
 use irtext_base::parsable::{ParseResult, TextStream};
 use irtext_base::result::{Cause, Expected};
 use irtext_base::text::{AttrText, IrText};
-use irtext_read::irfmt::faults::{demand, refuse};
+use irtext_read::irfmt::faults::{committed, refuse};
 use irtext_read::irfmt::parsers::{quoted_string_parse, skip_white_space};
 use irtext_read::printable::fmt_quoted;
 use std::alloc::AllocError;
@@ -92,7 +92,7 @@ fn characters_behind<A>(stream: &mut TextStream) -> ParseResult<Characters, A>
     }
     skip_white_space(stream);
     let found = characters_parse(stream);
-    demand(stream, found)
+    committed(stream, found)
 }
 
 /// Reads what stands behind the word of an attribute.

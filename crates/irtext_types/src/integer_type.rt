@@ -7,8 +7,8 @@ ghost use Rattle.irtext_types.specs.IntegerTypes.{integer_type_text, signedness_
 use crate::width::Width;
 use irtext_base::parsable::{CharStream, ParseResult, TextStream};
 use irtext_base::result::{Cause, Expected};
-use irtext_read::irfmt::faults::{begins, demand, next_is, refuse, unexpected};
-use irtext_read::irfmt::parsers::number::{out_of_range, take_digits};
+use irtext_read::irfmt::faults::{begins, committed, next_is, refuse, unexpected};
+use irtext_read::irfmt::parsers::digits::{Radix, out_of_range, take_digits};
 use irtext_read::irfmt::parsers::{Class, skip_white_space, text_parse};
 use std::fmt;
 
@@ -85,7 +85,7 @@ fn width_parse<A>(stream: &mut TextStream) -> ParseResult<Width, A>
         return Err(unexpected(stream, Expected::Digit));
     }
     let place = stream.position();
-    let number = take_digits(stream);
+    let number = take_digits(stream, Radix::Decimal);
     match width_if(number) {
         Some(width) => Ok(width),
         None => Err(out_of_range(stream, place)),
@@ -93,10 +93,10 @@ fn width_parse<A>(stream: &mut TextStream) -> ParseResult<Width, A>
 }
 
 /// The width of a number that fits 64 bits or doesn't, where that is one.
-fn width_if(number: Option<usize>) -> Option<Width>
+fn width_if(number: Option<u64>) -> Option<Width>
     ensures { result ≡ width_if number }
 {
-    Width::new(number?)
+    Width::new(number? as usize)
 }
 
 /// Reads an integer type: `si`, `ui` or `i`, and a width in decimal digits, with nothing between.
@@ -105,7 +105,7 @@ pub fn integer_type_parse<A>(stream: &mut TextStream) -> ParseResult<IntegerType
 {
     let kind = signedness_parse(stream)?;
     let width = width_parse(stream);
-    let width = demand(stream, width)?;
+    let width = committed(stream, width)?;
     Ok(IntegerType { kind, width })
 }
 
@@ -118,5 +118,5 @@ pub fn integer_type_behind<A>(stream: &mut TextStream) -> ParseResult<IntegerTyp
     }
     skip_white_space(stream);
     let found = integer_type_parse(stream);
-    demand(stream, found)
+    committed(stream, found)
 }

@@ -11,7 +11,7 @@ use crate::words::text_behind;
 use irtext_base::parsable::{CharStream, ParseResult, TextStream};
 use irtext_base::result::Cause;
 use irtext_base::text::IrText;
-use irtext_read::irfmt::faults::{begins, demand, next_is, refuse};
+use irtext_read::irfmt::faults::{begins, committed, next_is, refuse};
 use irtext_read::irfmt::parsers::{Class, skip_white_space};
 use std::fmt;
 
@@ -24,7 +24,7 @@ fn type_behind<A>(stream: &mut TextStream) -> ParseResult<DemoType, A>
     }
     skip_white_space(stream);
     let found = <DemoType as IrText<A>>::read(stream);
-    demand(stream, found)
+    committed(stream, found)
 }
 
 /// Reads a type with white space round it, and adds it behind the others.
@@ -82,7 +82,7 @@ fn list_behind<A>(stream: &mut TextStream) -> ParseResult<TypeList, A>
     }
     skip_white_space(stream);
     let found = list_parse(stream);
-    demand(stream, found)
+    committed(stream, found)
 }
 
 /// Reads `)`, where it must stand, and answers the types.

@@ -7,7 +7,7 @@ ghost use Rattle.irtext_types.specs.Words.{behind_space, dotted_at};
 
 use irtext_base::parsable::{CharStream, ParseResult, TextStream};
 use irtext_base::result::{Cause, Expected};
-use irtext_read::irfmt::faults::{begins, demand, refuse, refuse_at, unexpected};
+use irtext_read::irfmt::faults::{begins, committed, refuse, refuse_at, unexpected};
 use irtext_read::irfmt::parsers::{Class, skip_class, skip_white_space, text_parse};
 
 /// The words that texts of one kind begin with.
@@ -63,5 +63,5 @@ pub fn text_behind<A>(stream: &mut TextStream, text: &str) -> ParseResult<(), A>
     }
     skip_white_space(stream);
     let found = text_parse(stream, text);
-    demand(stream, found)
+    committed(stream, found)
 }

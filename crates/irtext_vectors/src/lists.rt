@@ -3,7 +3,7 @@ use crate::helpers::{Stream, behind, in_context, left};
 use irtext_base::parsable::{CharStream, ParseResult, SourcePosition, TextStream};
 use irtext_base::printable::ListSeparator;
 use irtext_read::irfmt::parsers::{
-    delimited_list_parser, i32_parse, list_parser, list_with_sep_parser, spaced,
+    delimited_list_parser, int_parse, list_parser, list_with_sep_parser, spaced,
     zero_or_more_parser,
 };
 use irtext_types::DemoAttr;
@@ -114,12 +114,12 @@ const MARKED: &[(&str, &str)] = &[
 /// What a reader of lists answers.
 fn read(alloc: Global, stream: &mut TextStream, reader: Reader) -> Result<String, Fail> {
     let answer: ParseResult<Vec<i32>, DemoAttr> = match reader {
-        Reader::Commas => list_parser(stream, ',', i32_parse),
-        Reader::Brackets => delimited_list_parser(stream, '[', ']', ',', i32_parse),
-        Reader::Items => zero_or_more_parser(stream, i32_parse),
+        Reader::Commas => list_parser(stream, ',', int_parse),
+        Reader::Brackets => delimited_list_parser(stream, '[', ']', ',', int_parse),
+        Reader::Items => zero_or_more_parser(stream, int_parse),
         Reader::Empty => zero_or_more_parser(stream, |_| Ok(0)),
-        Reader::Spaces => list_with_sep_parser(stream, ListSeparator::Char(' '), i32_parse),
-        Reader::Lines => list_with_sep_parser(stream, ListSeparator::Newline, i32_parse),
+        Reader::Spaces => list_with_sep_parser(stream, ListSeparator::Char(' '), int_parse),
+        Reader::Lines => list_with_sep_parser(stream, ListSeparator::Newline, int_parse),
     };
     told(alloc, &answer, stream.position().position(), stream.peek())
 }
@@ -132,14 +132,14 @@ fn read_text(alloc: Global, reader: Reader, text: &str) -> Result<String, Fail> 
 
 /// What an item with white space round it answers.
 fn read_spaced(alloc: Global, stream: &mut TextStream) -> Result<String, Fail> {
-    let answer: ParseResult<i32, DemoAttr> = spaced(stream, i32_parse);
+    let answer: ParseResult<i32, DemoAttr> = spaced(stream, int_parse);
     behind(alloc, &answer, stream.peek())
 }
 
 /// What an item or the marker in its place answers.
 fn read_marked(alloc: Global, text: &str) -> Result<String, Fail> {
     let mut stream = TextStream::new(alloc, text)?;
-    let answer: ParseResult<Option<i32>, DemoAttr> = outlined_marker_or(&mut stream, i32_parse);
+    let answer: ParseResult<Option<i32>, DemoAttr> = outlined_marker_or(&mut stream, int_parse);
     marked(alloc, &answer, stream.peek())
 }
 
@@ -157,7 +157,7 @@ fn marked(
 
 /// What a list answers on a stream with its state.
 fn read_with(alloc: Global, s: &mut Stream<'_>) -> Result<String, Fail> {
-    let answer: ParseResult<Vec<i32>, DemoAttr> = list_parser(s, ',', i32_parse);
+    let answer: ParseResult<Vec<i32>, DemoAttr> = list_parser(s, ',', int_parse);
     told(alloc, &answer, s.position().position(), s.peek())
 }
 

@@ -4,12 +4,9 @@ use irtext_base::parsable::{
     CharStream, ParseFault, ParseResult, Place, SourcePosition, TextStream,
 };
 use irtext_base::result::{Cause, Expected};
-use irtext_read::irfmt::faults::{
-    begins, demand, demanded, next_is, pass, refuse, refuse_at, unexpected,
-};
+use irtext_read::irfmt::faults::{begins, commit, committed, next_is, pass, refuse, refuse_at, unexpected};
 use irtext_read::irfmt::parsers::{
-    Class, i32_parse, id_parse, identifier_parse, skip_class, skip_white_space,
-    text_parse, usize_parse,
+    Class, id_parse, identifier_parse, int_parse, skip_class, skip_white_space, text_parse,
 };
 use irtext_types::DemoAttr;
 use std::alloc::Global;
@@ -138,14 +135,14 @@ fn words_and_fixed_texts(rt: HostRuntime) -> Result<(), Fail> {
 /// What is said of the number that a text begins with.
 fn index(alloc: Global, text: &str) -> Result<String, Fail> {
     let mut stream = TextStream::new(alloc, text)?;
-    let answer = usize_parse::<TextStream, DemoAttr>(&mut stream);
+    let answer = int_parse::<TextStream, usize, DemoAttr>(&mut stream);
     line(alloc, &answer)
 }
 
 /// What is said of the integer that a text begins with.
 fn integer(alloc: Global, text: &str) -> Result<String, Fail> {
     let mut stream = TextStream::new(alloc, text)?;
-    let answer = i32_parse::<TextStream, DemoAttr>(&mut stream);
+    let answer = int_parse::<TextStream, i32, DemoAttr>(&mut stream);
     line(alloc, &answer)
 }
 
@@ -166,7 +163,7 @@ fn fault(number: usize, stream: &mut TextStream, start: Place) -> ParseFault<Dem
         0 => pass(stream, Cause::BadEscape('q')),
         1 => {
             let missing = unexpected(stream, Expected::Digit);
-            demanded(stream, missing)
+            commit(stream, missing)
         }
         2 => refuse(stream, Cause::UnknownIndex(3)),
         _ => refuse_at(stream, start, Cause::DuplicateIndex(3)),
@@ -197,7 +194,7 @@ fn faults_are_committed_or_not(rt: HostRuntime) -> Result<(), Fail> {
             *wanted
         );
     }
-    let value: ParseResult<u8, DemoAttr> = demand(&mut stream, Ok(7));
+    let value: ParseResult<u8, DemoAttr> = committed(&mut stream, Ok(7));
     assert_eq!(rt; value.ok(), Some(7));
     Ok(())
 }

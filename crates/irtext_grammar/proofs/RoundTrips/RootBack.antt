@@ -22,7 +22,7 @@ use Rattle.irtext_grammar.specs.Spelling.SectionEntries.{bare_section, written_s
 use Rattle.irtext_base.proofs.Characters.{after_twice}
 use Rattle.irtext_grammar.proofs.Grammar.BackTree as back
 use Rattle.irtext_grammar.proofs.Grammar.Placed as placed
-use Rattle.irtext_grammar.proofs.Sections.Back.{FineEntryOf, found_section}
+use Rattle.irtext_grammar.proofs.Sections.Back.{IsSpellableEntryOf, found_section}
 use Rattle.irtext_grammar.proofs.Sections.Marked.{is_some_list, marked_bare, marked_written}
 
 module _ {T A X : Type 0} (types : Texts T) (owns : Texts A) (types_law : Lawful T types) (owns_law : Lawful A owns) (unreserved : Unreserved A owns) (location_at : Text → Standing X) (K : Locations X) (C : Printing T A) where
@@ -32,8 +32,8 @@ module _ {T A X : Type 0} (types : Texts T) (owns : Texts A) (types_law : Lawful
   abbrev B : Language ⊤ T A
   B = unplaced types owns C.format_of
 
-  abbrev pub FineItems : List (graph.Entry C) → Type 0
-  FineItems all = Each (FineEntryOf L types_law owns_law unreserved length (λ t. refl) location_at K C (length all) (shared C all)) all
+  abbrev pub AreSpellableItems : List (graph.Entry C) → Type 0
+  AreSpellableItems all = Each (IsSpellableEntryOf L types_law owns_law unreserved length (λ t. refl) location_at K C (length all) (shared C all)) all
 
   -- a tree and entries that a whole text reads as, which are these without places
   abbrev pub RootRead : Tree ⊤ T A → List (Entry ⊤ A Text) → Text → Type 0
@@ -41,7 +41,7 @@ module _ {T A X : Type 0} (types : Texts T) (owns : Texts A) (types_law : Lawful
 
   -- a section that was found behind a tree
   section_behind : (t : Tree ℕ T A) (all : List (graph.Entry C)) (f : Text) → is_some_list all ≡ marked t → after_space f ≡ after_space (section.section B C all)
-      → length all + length (shared C all) < 2 ^ 64 → FineItems all
+      → length all + length (shared C all) < 2 ^ 64 → AreSpellableItems all
       → (es : List (Entry ℕ A X)) × (u : Text) × section_if L location_at (marked t) es f u × (bare_section K.text es ≡ written_section C all) × (after_space u ≡ [])
   section_behind t [] f e s h w = ([], f, subst (λ b. section_if L location_at b [] f f) e refl, refl, s)
   section_behind t (x ∷ xs) f e s h w =
@@ -56,7 +56,7 @@ module _ {T A X : Type 0} (types : Texts T) (owns : Texts A) (types_law : Lawful
   TreeRead t text f = (t' : Tree ℕ T A) × (u : Text) × reads.reads L t' text u × (bare t' ≡ t) × (after_space u ≡ after_space f)
 
   -- the text of a graph whose tree is read back before the section
-  pub root_behind : (g : Graph T A) (width n : ℕ) → let f = section.section B C (entries_of C None g) in TreeRead (written C None g) (spelled B width n (written C None g) ++ f) f → SmallSection C g → FineItems (entries_of C None g)
+  pub root_behind : (g : Graph T A) (width n : ℕ) → let f = section.section B C (entries_of C None g) in TreeRead (written C None g) (spelled B width n (written C None g) ++ f) f → SmallSection C g → AreSpellableItems (entries_of C None g)
       → RootRead (written C None g) (written_section C (entries_of C None g)) (section.text B C g n width None)
   root_behind g width n r small items =
       let all = entries_of C None g in
@@ -71,6 +71,6 @@ module _ {T A X : Type 0} (types : Texts T) (owns : Texts A) (types_law : Lawful
       (q.0, r.0, q.1, q.2, r.2)
 
   -- the text of a graph whose tree can be written
-  pub root_back : (g : Graph T A) (width n : ℕ) → Writable B (written C None g) → Behind (written C None g).own.mark (section.section B C (entries_of C None g)) → SmallSection C g → FineItems (entries_of C None g)
+  pub root_back : (g : Graph T A) (width n : ℕ) → Writable B (written C None g) → Behind (written C None g).own.mark (section.section B C (entries_of C None g)) → SmallSection C g → AreSpellableItems (entries_of C None g)
       → RootRead (written C None g) (written_section C (entries_of C None g)) (section.text B C g n width None)
   root_back g width n fine behind small items = root_behind g width n (tree_back (written C None g) width n (section.section B C (entries_of C None g)) fine behind) small items

@@ -27,7 +27,7 @@ use Rattle.irtext_grammar.proofs.Names.Following.{regions_follow, operation_foll
 use Rattle.irtext_grammar.proofs.Names.Followed.{failures_follow}
 use Rattle.irtext_grammar.proofs.Sections.MarksWritten.{Numbered, root_numbered}
 use Rattle.irtext_grammar.proofs.Names.Resolved.{tree_resolves}
-use Rattle.irtext_grammar.proofs.Sections.Back.{SmallItem, FinePair, FineEntryOf}
+use Rattle.irtext_grammar.proofs.Sections.Back.{SmallItem, IsSpellablePair, IsSpellableEntryOf}
 use Rattle.irtext_grammar.proofs.Sections.Bare.{root_resolves_bare}
 use Rattle.irtext_grammar.proofs.Sections.Content.{length_entries}
 use Rattle.irtext_grammar.proofs.Sections.Kept.{section_clean}
@@ -37,7 +37,7 @@ use Rattle.irtext_grammar.proofs.Graphs.WrittenSpellable.{each_filter, written_f
 use Rattle.irtext_grammar.proofs.Grammar.BackTree as back
 use Rattle.irtext_grammar.proofs.Sections.BehindRoot.{section_behind}
 use Rattle.irtext_grammar.proofs.Grammar.Placed as placed
-use Rattle.irtext_grammar.proofs.RoundTrips.RootBack.{FineItems, RootRead, TreeRead, root_behind}
+use Rattle.irtext_grammar.proofs.RoundTrips.RootBack.{AreSpellableItems, RootRead, TreeRead, root_behind}
 
 from_zero : (a b : ℕ) → 0 + a ≡ b → a ≡ b
 from_zero a b e = omega arith
@@ -145,17 +145,17 @@ module _ {T A X : Type 0} (types : Texts T) (owns : Texts A) (types_law : Lawful
   ItemSmall = SmallItem L types_law owns_law unreserved length (λ t. refl) location_at K C
 
   abbrev PairFine : ℕ → List A → Text × Attribute A → Type 0
-  PairFine = FinePair L types_law owns_law unreserved length (λ t. refl) location_at K C
+  PairFine = IsSpellablePair L types_law owns_law unreserved length (λ t. refl) location_at K C
 
   abbrev ItemFine : ℕ → List A → graph.Entry C → Type 0
-  ItemFine = FineEntryOf L types_law owns_law unreserved length (λ t. refl) location_at K C
+  ItemFine = IsSpellableEntryOf L types_law owns_law unreserved length (λ t. refl) location_at K C
 
   small_item : (items : ℕ) (once : List A) → items + length once < 2 ^ 64 → (a : Attribute A) → Mention C sound once a → ItemSmall items once a
   small_item items once h (given_names ns) m = tt
   small_item items once h (ident n) m = tt
   small_item items once h (own a) m = λ e. let p = place_below C sound a once (m e) in omega arith
 
-  fine_items : (g : Graph T A) → HasIdentifiers C g → GraphHeld location_at K g → SmallSection C g → FineItems types owns types_law owns_law unreserved location_at K C (entries_of C None g)
+  fine_items : (g : Graph T A) → HasIdentifiers C g → GraphHeld location_at K g → SmallSection C g → AreSpellableItems types owns types_law owns_law unreserved location_at K C (entries_of C None g)
   fine_items g w held small =
       let all = entries_of C None g in
       let items = length all in

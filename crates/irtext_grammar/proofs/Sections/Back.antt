@@ -85,8 +85,8 @@ module _ {P T A X : Type 0} (L : Language P T A) (types : Lawful T L.types) (own
     SmallItem (own a) = C.own_once a ≡ true → items + place_in C once a < 2 ^ 64
     SmallItem _ = ⊤
 
-    abbrev pub FinePair : Text × Attribute A → Type 0
-    FinePair e = EntryHasIdentifiers e × SmallItem e.1
+    abbrev pub IsSpellablePair : Text × Attribute A → Type 0
+    IsSpellablePair e = EntryHasIdentifiers e × SmallItem e.1
 
     found_direct : (a : Attribute A) (f : Text) → IsSpellableAttribute a → Ends f → Found (read.item L location_at) bare_item (direct a) (spell.attribute B a ++ f) f
     found_direct a f w e = let r = reaches_attribute a f w e in record { item = direct a; thru = record { left = r.left; reading = r.reading; same = r.same }; same = refl }
@@ -105,7 +105,7 @@ module _ {P T A X : Type 0} (L : Language P T A) (types : Lawful T L.types) (own
     abbrev pair_text : Text × Attribute A → Text
     pair_text a = a.0 ++ (codes " = " ++ section.item B C items once a.1)
 
-    found_pair : (a : Text × Attribute A) (f : Text) → FinePair a → Ends f → Found (read.pair L location_at) bare_pair (written_pair C items once a) (pair_text a ++ f) f
+    found_pair : (a : Text × Attribute A) (f : Text) → IsSpellablePair a → Ends f → Found (read.pair L location_at) bare_pair (written_pair C items once a) (pair_text a ++ f) f
     found_pair a f w e =
         let s = section.item B C items once a.1 in
         let n = found_name a.0 (32 ∷ 61 ∷ 32 ∷ (s ++ f)) w.0.0 (inr refl) in
@@ -140,13 +140,13 @@ module _ {P T A X : Type 0} (L : Language P T A) (types : Lawful T L.types) (own
         located l t x left e g q s = record { left = left; reading = subst (λ z. location_at z ≡ found x left) (sym (tight l t e g)) q; same = s }
 
     -- what is known of an item's entry
-    abbrev pub FineEntryOf : graph.Entry C → Type 0
-    FineEntryOf e = LocationReads location_at K e.location × Each FinePair e.attributes
+    abbrev pub IsSpellableEntryOf : graph.Entry C → Type 0
+    IsSpellableEntryOf e = LocationReads location_at K e.location × Each IsSpellablePair e.attributes
 
     regroup : (d l j f : Text) → (codes "!" ++ (d ++ (codes " = " ++ (l ++ (codes "[" ++ (j ++ codes "]\n")))))) ++ f ≡ 33 ∷ (d ++ (32 ∷ 61 ∷ 32 ∷ (l ++ (91 ∷ (j ++ (93 ∷ 10 ∷ f))))))
     regroup d l j f = simp append_assoc
 
-    found_entry : (n : ℕ) (e : graph.Entry C) (f : Text) → n < 2 ^ 64 → FineEntryOf e
+    found_entry : (n : ℕ) (e : graph.Entry C) (f : Text) → n < 2 ^ 64 → IsSpellableEntryOf e
         → Found (read.entry L location_at) (bare_section_entry K.text) (of_item (mark_of n) e.location (map (written_pair C items once) e.attributes)) (section.entry_text B C items once n e ++ f) f
     found_entry n e f h w =
         let j = joined comma (map pair_text e.attributes) in
@@ -155,7 +155,7 @@ module _ {P T A X : Type 0} (L : Language P T A) (types : Lawful T L.types) (own
         let t1 = 32 ∷ 61 ∷ 32 ∷ (l ++ (91 ∷ (j ++ t3))) in
         let m = found_mark n t1 h (inr refl) in
         let x = found_located e.location (j ++ t3) w.0 in
-        let es = found_list (read.pair L location_at) bare_pair (written_pair C items once) pair_text FinePair found_pair reads.no_word e.attributes t3 w.1 (inr refl) refl refl in
+        let es = found_list (read.pair L location_at) bare_pair (written_pair C items once) pair_text IsSpellablePair found_pair reads.no_word e.attributes t3 w.1 (inr refl) refl refl in
         record {
           item = of_item m.item x.item es.item;
           thru = reaches_entry m.item x.item es.item (reaches_from (ap after_space (regroup (decimal n) l j f)) (reaches_then m.thru (reaches_then (reaches_from refl (reaches_literal 61 [] (32 ∷ (l ++ (91 ∷ (j ++ t3)))) refl)) (reaches_then (reaches_from refl x.thru)
@@ -204,7 +204,7 @@ module _ {P T A X : Type 0} (L : Language P T A) (types : Lawful T L.types) (own
       reaches_entries : (x : Entry P A X) (xs : List (Entry P A X)) {t f : Text} → Reaches (read.entry L location_at x ▹ Entries xs) t f → Reaches (Entries (x ∷ xs)) t f
       reaches_entries x xs r = record { left = r.left; reading = r.reading; same = r.same }
 
-  found_items : (items : ℕ) (once : List A) (n : ℕ) (es : List (graph.Entry C)) (last : List (Entry ⊤ A Text)) (s f : Text) → n + length es < 2 ^ 64 → Each (FineEntryOf items once) es → Found Entries (bare_section K.text) last s f
+  found_items : (items : ℕ) (once : List A) (n : ℕ) (es : List (graph.Entry C)) (last : List (Entry ⊤ A Text)) (s f : Text) → n + length es < 2 ^ 64 → Each (IsSpellableEntryOf items once) es → Found Entries (bare_section K.text) last s f
       → Found Entries (bare_section K.text) (written_items C items once n es ++ last) (section.entry_texts B C items once n es ++ s) f
   found_items items once n [] last s f h w r = r
   found_items items once n (e ∷ es) last s f h w r =
@@ -217,7 +217,7 @@ module _ {P T A X : Type 0} (L : Language P T A) (types : Lawful T L.types) (own
       reaches_entries x xs r = record { left = r.left; reading = r.reading; same = r.same }
 
   -- the section of a list of items that is not empty
-  pub found_section : (e : graph.Entry C) (es : List (graph.Entry C)) (f : Text) → let all = e ∷ es in length all + length (shared C all) < 2 ^ 64 → Each (FineEntryOf (length all) (shared C all)) all → begins (the 33) (after_space f) ≡ false
+  pub found_section : (e : graph.Entry C) (es : List (graph.Entry C)) (f : Text) → let all = e ∷ es in length all + length (shared C all) < 2 ^ 64 → Each (IsSpellableEntryOf (length all) (shared C all)) all → begins (the 33) (after_space f) ≡ false
       → Found (read.section L location_at) (bare_section K.text) (written_section C all) (section.section B C all ++ f) f
   found_section e es f h w b =
       let all = e ∷ es in

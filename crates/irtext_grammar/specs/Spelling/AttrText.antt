@@ -13,10 +13,10 @@ attr_text written (ident n) = codes "builtin.identifier " ++ n
 attr_text written (own a) = written a
 
 -- the names in an attribute are identifiers
-abbrev pub FineAttr : {A : Type 0} → AttrView A → Type 0
-FineAttr (given_names ns) = Each IsGiven ns
-FineAttr (ident n) = IsIdentifier n
-FineAttr (own a) = ⊤
+abbrev pub IsSpellableAttr : {A : Type 0} → AttrView A → Type 0
+IsSpellableAttr (given_names ns) = Each IsGiven ns
+IsSpellableAttr (ident n) = IsIdentifier n
+IsSpellableAttr (own a) = ⊤
 
 -- the attribute, as trees hold it
 abbrev pub attr_tree : {A : Type 0} → AttrView A → tree.Attribute A

@@ -16,7 +16,7 @@ use Rattle.irtext_read.specs.ListOutcomes.{item_after, items_after, or_empty}
 use Rattle.irtext_read.specs.AttrTexts.{leads, given_name_at, names_at, given_names_at, ident_at, attr_at}
 use Rattle.irtext_read.proofs.Attributes.{names_lead, ident_leads, own_leads}
 use Rattle.irtext_read.proofs.Grammar.{identifier_at-identifier}
-use Rattle.irtext_grammar.specs.Spelling.AttrText.{attr_text, FineAttr}
+use Rattle.irtext_grammar.specs.Spelling.AttrText.{attr_text, IsSpellableAttr}
 use Rattle.irtext_grammar.specs.Spelling.Spellable.{Each, IsIdentifier, IsGiven}
 use Rattle.irtext_grammar.specs.Spelling.Spell.{joined, joined_from, comma, or_question}
 
@@ -136,7 +136,7 @@ missing_there (Bad cause upto) e = absurd (cc)
 
 module _ {A : Type 0} (reading : Text → Outcome A) (written : A → Text) (lawful : Lawful A (texts_of reading written)) (unreserved : Unreserved A (texts_of reading written)) where
   -- what is written of an attribute reads as that attribute, before every end
-  pub attr_back : (v : AttrView A) (rest : Text) → FineAttr v → Ends rest → (taken left : Text) × (attr_at reading (attr_text written v ++ rest) ≡ Read v taken left) × (after_space left ≡ after_space rest)
+  pub attr_back : (v : AttrView A) (rest : Text) → IsSpellableAttr v → Ends rest → (taken left : Text) × (attr_at reading (attr_text written v ++ rest) ≡ Read v taken left) × (after_space left ≡ after_space rest)
   attr_back (given_names ns) rest h e =
       let text = codes "builtin.given_names [" ++ inside rest ns in
       let flat : attr_text written (given_names ns) ++ rest ≡ text = ap (λ z. codes "builtin.given_names [" ++ z) (append_assoc (joined comma (map or_question ns)) (codes "]") rest) in

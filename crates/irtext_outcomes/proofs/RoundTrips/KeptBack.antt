@@ -12,7 +12,7 @@ use Rattle.irtext_base.specs.Locations.{AttrView, given_names, ident, own, src_p
 use Rattle.irtext_base.specs.Paths.{Written}
 use Rattle.irtext_base.specs.declared.location.Location.{Location, Unknown}
 use Rattle.irtext_read.specs.AttrTexts.{attr_at}
-use Rattle.irtext_grammar.specs.Spelling.AttrText.{FineAttr, attr_text}
+use Rattle.irtext_grammar.specs.Spelling.AttrText.{IsSpellableAttr, attr_text}
 use Rattle.irtext_outcomes.specs.Promises.KeptRoot.{AllHold, RowHold}
 use Rattle.irtext_outcomes.specs.Readers.Locations.{WrittenRow}
 use Rattle.irtext_grammar.specs.Spelling.Locations.{written_text, known_text}
@@ -47,7 +47,7 @@ module _ {A : Type 0} (reading : Text → Outcome A) (text_of : A → Text) (law
   attr_starts (own a) rest = lawful.starts a rest
 
   -- an attribute whose names are identifiers is read back
-  kept_reads : (v : AttrView A) → FineAttr v → AttrReads (attr_at reading) text_of v
+  kept_reads : (v : AttrView A) → IsSpellableAttr v → AttrReads (attr_at reading) text_of v
   kept_reads v k = record {
     starts = attr_starts v;
     again = λ rest ends.
@@ -55,30 +55,30 @@ module _ {A : Type 0} (reading : Text → Outcome A) (text_of : A → Text) (law
         (r.1, record { taken = r.0; is = r.2; whole = splits_attr reading sincere.reads (attr_text text_of v ++ rest) v r.0 r.1 r.2 }, r.3);
   }
 
-  metadata_reads : (m : Option (AttrView A)) → IfSome m FineAttr → IfSome m (AttrReads (attr_at reading) text_of)
+  metadata_reads : (m : Option (AttrView A)) → IfSome m IsSpellableAttr → IfSome m (AttrReads (attr_at reading) text_of)
   metadata_reads None k = tt
   metadata_reads (Some v) k = kept_reads v k
 
   mutual
-    all_read : (l : Written A) → AllHold FineAttr l → AllRead (attr_at reading) text_of l
+    all_read : (l : Written A) → AllHold IsSpellableAttr l → AllRead (attr_at reading) text_of l
     all_read (src_pos s at) k = tt
     all_read (fused m ls) k = (metadata_reads m k.0, row_read ls k.1)
     all_read (named name child) k = all_read child k
     all_read (call_site callee caller) k = (all_read callee k.0, all_read caller k.1)
     all_read unknown k = tt
 
-    row_read : (ls : WrittenRow A) → RowHold FineAttr ls → RowRead (attr_at reading) text_of ls
+    row_read : (ls : WrittenRow A) → RowHold IsSpellableAttr ls → RowRead (attr_at reading) text_of ls
     row_read no_location k = tt
     row_read (location l ls) k = (all_read l k.0, row_read ls k.1)
 
   -- the text of a location that is kept is read back before `]`
-  written_reads : (l : Written A) → AllFit l → AllHold FineAttr l → LocationReads (location_standing (attr_at reading)) (locations text_of) (Some (written_text text_of l))
+  written_reads : (l : Written A) → AllFit l → AllHold IsSpellableAttr l → LocationReads (location_standing (attr_at reading)) (locations text_of) (Some (written_text text_of l))
   written_reads l fits kept = (
     no_space text_of l,
     λ rest h. (l, left_behind l rest, ap standing (location_back (attr_at reading) text_of l (all_read l kept) fits rest (stops rest h) (length (written_text text_of l ++ rest)) (le_refl _)).is, refl, left_space l rest),
   )
 
   -- and so is what is printed of a location
-  pub location_reads : (paths : List (List ℕ)) (l : Location A) → AllFit (location_over paths l) → AllHold FineAttr (location_over paths l) → LocationReads (location_standing (attr_at reading)) (locations text_of) (known_text text_of paths l)
+  pub location_reads : (paths : List (List ℕ)) (l : Location A) → AllFit (location_over paths l) → AllHold IsSpellableAttr (location_over paths l) → LocationReads (location_standing (attr_at reading)) (locations text_of) (known_text text_of paths l)
   location_reads paths Unknown fits kept = tt
   location_reads paths l fits kept = written_reads (location_over paths l) fits kept

@@ -14,7 +14,7 @@ use Rattle.irtext_base.specs.Quoted.{quoted}
 use Rattle.irtext_base.specs.declared.parsable.position.SourcePosition.{SourcePosition}
 use Rattle.irtext_base.specs.declared.location.Location.{Location, Unknown}
 use Rattle.irtext_base.proofs.Scalars.{AreScalars, scalars_more, scalars_ascii, scalars_quoted}
-use Rattle.irtext_grammar.specs.Spelling.AttrText.{FineAttr, attr_text}
+use Rattle.irtext_grammar.specs.Spelling.AttrText.{IsSpellableAttr, attr_text}
 use Rattle.irtext_grammar.specs.Spelling.Spellable.{Each, IsIdentifier, IsGiven}
 use Rattle.irtext_outcomes.specs.Promises.KeptRoot.{AllHold, RowHold}
 use Rattle.irtext_outcomes.specs.Readers.Locations.{WrittenRow}
@@ -59,19 +59,19 @@ scalars_source None u = refl
 scalars_source (Some path) u = scalars_quoted (chars path) (scalars-chars path u)
 
 module _ {A : Type 0} (texts : Texts A) (lawful : Lawful A texts) where
-  scalars_attr : (v : AttrView A) → FineAttr v → AreScalars (attr_text texts.written v)
+  scalars_attr : (v : AttrView A) → IsSpellableAttr v → AreScalars (attr_text texts.written v)
   scalars_attr (given_names ns) k =
       let inner = joined comma (map or_question ns) in
       scalars_more (codes "builtin.given_names [") (inner ++ codes "]") refl (scalars_more inner (codes "]") (scalars_joined (map or_question ns) (all_given ns k)) refl)
   scalars_attr (ident n) k = scalars_more (codes "builtin.identifier ") n refl (scalars_word n k)
   scalars_attr (own a) k = lawful.scalars a
 
-  scalars_metadata : (m : Option (AttrView A)) → IfSome m FineAttr → AreScalars (metadata_text texts.written m)
+  scalars_metadata : (m : Option (AttrView A)) → IfSome m IsSpellableAttr → AreScalars (metadata_text texts.written m)
   scalars_metadata None k = refl
   scalars_metadata (Some v) k = scalars_more (codes "<") (attr_text texts.written v ++ codes ">") refl (scalars_more (attr_text texts.written v) (codes ">") (scalars_attr v k) refl)
 
   mutual
-    scalars_location : (l : Written A) → AllFit l → AllHold FineAttr l → AreScalars (written_text texts.written l)
+    scalars_location : (l : Written A) → AllFit l → AllHold IsSpellableAttr l → AreScalars (written_text texts.written l)
     scalars_location (src_pos s at) fits k = scalars_more (source_text s) (codes ": " ++ position_text at) (scalars_source s fits.0) (scalars_more (codes ": ") (position_text at) refl (scalars_position at fits.1))
     scalars_location (fused m ls) fits k =
         let row = joined comma (row_texts texts.written ls) in
@@ -88,11 +88,11 @@ module _ {A : Type 0} (texts : Texts A) (lawful : Lawful A texts) where
         (scalars_more (codes " at ") (second ++ codes ")") refl (scalars_more second (codes ")") (scalars_location caller fits.1 k.1) refl)))
     scalars_location unknown fits k = refl
 
-    scalars_row : (ls : WrittenRow A) → RowFit ls → RowHold FineAttr ls → Each AreScalars (row_texts texts.written ls)
+    scalars_row : (ls : WrittenRow A) → RowFit ls → RowHold IsSpellableAttr ls → Each AreScalars (row_texts texts.written ls)
     scalars_row no_location fits k = tt
     scalars_row (location l ls) fits k = (scalars_location l fits.0 k.0, scalars_row ls fits.1 k.1)
 
   -- what is printed of a location is a text of characters
-  pub scalars_known : (paths : List (List ℕ)) (l : Location A) → AllFit (location_over paths l) → AllHold FineAttr (location_over paths l) → IfSome (known_text texts.written paths l) AreScalars
+  pub scalars_known : (paths : List (List ℕ)) (l : Location A) → AllFit (location_over paths l) → AllHold IsSpellableAttr (location_over paths l) → IfSome (known_text texts.written paths l) AreScalars
   scalars_known paths Unknown fits k = tt
   scalars_known paths l fits k = scalars_location (location_over paths l) fits k

@@ -6,7 +6,7 @@ use Rattle.irtext_base.specs.Faults.{id_of}
 use Rattle.irtext_base.specs.Locations.{AttrView, src_pos, fused, named, call_site, unknown, LocationsOf, no_location, location}
 use Rattle.irtext_base.specs.Paths.{Written}
 use Rattle.irtext_base.specs.Text.{Text}
-use Rattle.irtext_grammar.specs.Spelling.AttrText.{FineAttr}
+use Rattle.irtext_grammar.specs.Spelling.AttrText.{IsSpellableAttr}
 use Rattle.irtext_grammar.specs.Graphs.ReservedKeys.{KeepsKeys}
 use Rattle.irtext_grammar.specs.Spelling.Spellable.{Each, IsIdentifier}
 use Rattle.irtext_grammar.specs.Contexts.Formats.{isolated, IsAccepted}
@@ -40,7 +40,7 @@ pub record IsKept {T A : Type 0} (ctx : ContextView T A) (op : OperationView T A
   pub keys : KeepsKeys (entries_of op.attributes)
   pub differ : KeysDiffer (entries_of op.attributes)
   pub fits : AllFit (location_over ctx.paths op.loc)
-  pub holds : AllHold FineAttr (location_over ctx.paths op.loc)
+  pub holds : AllHold IsSpellableAttr (location_over ctx.paths op.loc)
   pub accepted : IsAccepted ctx.dialects (id_of op.id)
 
 -- a root that can be read alone: it is isolated, or has no region

@@ -8,10 +8,10 @@ use Rattle.irtext_base.specs.Format.{Format, Directive, sym_name_key}
 use Rattle.irtext_base.specs.Faults.{Unexpected, AnOperation, NotIsolated, ReservedKey}
 use Rattle.irtext_base.specs.Answers.{Outcome, Read, Missing, Bad, mapped}
 use Rattle.irtext_base.specs.Locations.{AttrView}
-use Rattle.irtext_read.specs.Infix.{word, nothing, either, ◌▷◌, ◌◁◌, ◌▶◌, ◌⇒◌}
+use Rattle.irtext_read.specs.Infix.{nothing, either, ◌▷◌, ◌◁◌, ◌▶◌, ◌⇒◌}
 use Rattle.irtext_read.specs.ListOutcomes.{separated_at}
 use Rattle.irtext_base.specs.Stream.{first_of}
-use Rattle.irtext_read.specs.Tokens.{text_at, identifier_at}
+use Rattle.irtext_read.specs.Tokens.{word, text_at, identifier_at}
 use Rattle.irtext_grammar.specs.Names.Acts.{may_hold}
 use Rattle.irtext_grammar.specs.Spelling.AttrText.{attr_tree}
 use Rattle.irtext_grammar.specs.Graphs.Build.{put_all}

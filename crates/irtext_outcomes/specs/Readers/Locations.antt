@@ -8,7 +8,8 @@ use Rattle.irtext_base.specs.Faults.{Unexpected, ASource, ALocation}
 use Rattle.irtext_base.specs.Answers.{Outcome, Read, Missing, Bad, prefixed}
 use Rattle.irtext_base.specs.Locations.{AttrView, src_pos, fused, named, call_site, unknown, LocationsOf, no_location, location}
 use Rattle.irtext_base.specs.Paths.{Written}
-use Rattle.irtext_read.specs.Infix.{word, nothing, either, ◌▷◌, ◌▶◌, ◌⇒◌}
+use Rattle.irtext_read.specs.Tokens.{word}
+use Rattle.irtext_read.specs.Infix.{nothing, either, ◌▷◌, ◌▶◌, ◌⇒◌}
 use Rattle.irtext_read.specs.QuotedTexts.{quoted_at}
 use Rattle.irtext_outcomes.specs.Readers.Positions.{space_at, spaced_at, position_at}
 

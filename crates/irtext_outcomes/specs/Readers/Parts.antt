@@ -4,8 +4,8 @@ use Rattle.std.specs.Char.{is_whitespace}
 use Rattle.irtext_base.specs.Text.{Text, begins, front, after_space}
 use Rattle.irtext_base.specs.Reading.{the}
 use Rattle.irtext_base.specs.Answers.{Outcome, prefixed}
-use Rattle.irtext_read.specs.Infix.{word, nothing, either, ◌▷◌, ◌⇒◌}
-use Rattle.irtext_read.specs.Tokens.{identifier_at, number_at}
+use Rattle.irtext_read.specs.Infix.{nothing, either, ◌▷◌, ◌⇒◌}
+use Rattle.irtext_read.specs.Tokens.{word, identifier_at, number_at}
 use Rattle.irtext_outcomes.specs.Readers.Positions.{space_at}
 
 -- a text without its first character

@@ -2,9 +2,9 @@
 use Rattle.std.specs.Prelude.{ℤ, codes, ⊤}
 use Rattle.irtext_base.specs.Text.{Text}
 use Rattle.irtext_base.specs.Answers.{Outcome}
-use Rattle.irtext_read.specs.Infix.{word, ◌▷◌, ◌▶◌, ◌⇒◌}
+use Rattle.irtext_read.specs.Infix.{◌▷◌, ◌▶◌, ◌⇒◌}
 pub use Rattle.irtext_read.specs.Tokens.{space_at}
-use Rattle.irtext_read.specs.Tokens.{integer_at}
+use Rattle.irtext_read.specs.Tokens.{word, integer_at}
 use Rattle.irtext_base.specs.declared.parsable.position.SourcePosition.{SourcePosition}
 
 -- a fixed text with white space round it

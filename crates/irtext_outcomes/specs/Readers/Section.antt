@@ -10,7 +10,8 @@ use Rattle.irtext_base.specs.Paths.{Written}
 use Rattle.irtext_outcomes.specs.Readers.Locations.{location_at}
 use Rattle.irtext_outcomes.specs.Readers.Positions.{space_at, spaced_at}
 use Rattle.irtext_outcomes.specs.Readers.Parts.{index_at}
-use Rattle.irtext_read.specs.Infix.{word, nothing, either, ◌▷◌, ◌▶◌, ◌⇒◌}
+use Rattle.irtext_read.specs.Tokens.{word}
+use Rattle.irtext_read.specs.Infix.{nothing, either, ◌▷◌, ◌▶◌, ◌⇒◌}
 
 module _ {A : Type 0} (attr : Text → Outcome (AttrView A)) where
   -- an entry's location, where one stands

@@ -15,7 +15,7 @@ use irtext_base::base::{AttrObj, Identifier};
 use irtext_base::parsable::{CharStream, ParseResult, Place, TextStream};
 use irtext_base::result::Cause;
 use irtext_base::text::AttrText;
-use irtext_read::irfmt::faults::{demand, refuse, refuse_at};
+use irtext_read::irfmt::faults::{committed, refuse, refuse_at};
 use irtext_read::irfmt::parsers::{attr_parse, identifier_parse, list_parser, skip_white_space};
 
 /// A key and its attribute.
@@ -26,7 +26,7 @@ fn attr_demanded<A: AttrText>(stream: &mut TextStream) -> ParseResult<AttrObj<A>
     ensures { MustRead itself replaced attribute_of (attribute_at (attr_at A.IrText.reading)) stream.old result stream.new }
 {
     let answer = attr_parse(stream);
-    demand(stream, answer)
+    committed(stream, answer)
 }
 
 /// Whether a dictionary may take the attribute under the key: the key of given names takes these alone.

@@ -24,7 +24,7 @@ use irtext_base::parsable::{CharStream, ParseFault, ParseResult, TextStream};
 use irtext_base::result::{Cause, Expected};
 use irtext_base::text::AttrText;
 use irtext_read::irfmt::demanded::text_demanded;
-use irtext_read::irfmt::faults::{demanded, refuse, unexpected};
+use irtext_read::irfmt::faults::{commit, refuse, unexpected};
 use irtext_read::irfmt::parsers::skip_white_space;
 
 /// What was read of an operation behind its id: its attributes, and how many regions it has.
@@ -46,7 +46,7 @@ fn not_read<A>(stream: &mut TextStream) -> ParseFault<A>
     ensures { Commits itself replaced (Unexpected (first_of stream.old.rest) AnOperation) [] stream.old result stream.new }
 {
     let fault = unexpected(stream, Expected::Operation);
-    demanded(stream, fault)
+    commit(stream, fault)
 }
 
 /// Puts entries in, one after the other. It is refused only where memory is.

@@ -1,6 +1,5 @@
 //! Tokens that must stand where they are read: a missing one is a committed fault.
 ghost use Rattle.irtext_base.specs.Faults.{characters};
-ghost use Rattle.irtext_read.specs.Tokens.{number_at, integer_at};
 ghost use Rattle.irtext_read.specs.MustRead.{MustRead};
 ghost use Rattle.irtext_outcomes.specs.Readers.Positions.{spaced_at};
 ghost use Rattle.irtext_outcomes.specs.Readers.Parts.{index_at, symbol_at, braces_at};
@@ -8,15 +7,13 @@ ghost use Rattle.irtext_outcomes.specs.Readers.Parts.{index_at, symbol_at, brace
 use irtext_base::base::Identifier;
 use irtext_base::parsable::{CharStream, ParseResult};
 use irtext_base::result::Cause;
+use irtext_read::irfmt::demanded::usize_demanded;
 pub(crate) use irtext_read::irfmt::demanded::{identifier_demanded, text_demanded};
-use irtext_read::irfmt::faults::{demand, refuse};
-use irtext_read::irfmt::parsers::{i32_parse, skip_white_space, usize_parse};
+use irtext_read::irfmt::faults::refuse;
+use irtext_read::irfmt::parsers::skip_white_space;
 
 /// A fixed text with white space round it.
-pub(crate) fn spaced_text<S: CharStream, A>(
-    stream: &mut S,
-    text: &str,
-) -> ParseResult<(), A>
+pub(crate) fn spaced_text<S: CharStream, A>(stream: &mut S, text: &str) -> ParseResult<(), A>
     ensures { MustRead S.view S.at (λ u. u) (spaced_at (characters text.now)) stream.old result stream.new }
 {
     if stream.has_failed() {
@@ -28,28 +25,12 @@ pub(crate) fn spaced_text<S: CharStream, A>(
     Ok(())
 }
 
-/// An index.
-pub(crate) fn usize_demanded<S: CharStream, A>(stream: &mut S) -> ParseResult<usize, A>
-    ensures { MustRead S.view S.at (λ n. n) number_at stream.old result stream.new }
-{
-    let answer = usize_parse(stream);
-    demand(stream, answer)
-}
-
 /// `!` and an index.
 pub(crate) fn index_demanded<S: CharStream, A>(stream: &mut S) -> ParseResult<usize, A>
     ensures { MustRead S.view S.at (λ n. n) index_at stream.old result stream.new }
 {
     text_demanded(stream, "!")?;
     usize_demanded(stream)
-}
-
-/// A line or a column.
-pub(crate) fn i32_demanded<S: CharStream, A>(stream: &mut S) -> ParseResult<i32, A>
-    ensures { MustRead S.view S.at (λ z. z) integer_at stream.old result stream.new }
-{
-    let answer = i32_parse(stream);
-    demand(stream, answer)
 }
 
 /// `@` and a name, which must stand there.

@@ -26,10 +26,12 @@ fn take_text<S: CharStream>(stream: &mut S, text: &str) -> bool
 
 /// Reads optional white space and the marker, and answers `None`. Where the marker doesn't stand whole, it reads the item where the
 /// call began, and answers `Some` of its value or its fault.
-pub fn outlined_marker_or<S: CharStream, X: Drop, A: Drop, F: FnMut(&mut S) -> ParseResult<X, A> + Drop>(
-    stream: &mut S,
-    mut item: F,
-) -> ParseResult<Option<X>, A>
+pub fn outlined_marker_or<
+    S: CharStream,
+    X: Drop,
+    A: Drop,
+    F: FnMut(&mut S) -> ParseResult<X, A> + Drop,
+>(stream: &mut S, mut item: F) -> ParseResult<Option<X>, A>
 where
     requires callable { F.IsAlwaysCallable item }
     requires rules { AlwaysKeepsRules S.view S.at (λ r. r) F.FnMut }

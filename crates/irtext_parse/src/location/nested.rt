@@ -20,7 +20,7 @@ use irtext_base::location::Location;
 use irtext_base::parsable::{CharStream, ParseResult, TextStream};
 use irtext_base::result::{Cause, Expected};
 use irtext_base::text::{AttrText, IrText};
-use irtext_read::irfmt::faults::{demand, demanded, next_is, refuse, unexpected};
+use irtext_read::irfmt::faults::{commit, committed, next_is, refuse, unexpected};
 use irtext_read::irfmt::parsers::{attr_parse, skip_white_space};
 
 /// Whether a source begins here.
@@ -48,7 +48,7 @@ fn attr_demanded<A: AttrText>(stream: &mut TextStream) -> ParseResult<AttrObj<A>
     ensures { MustRead itself replaced attr_view (attr_at A.IrText.reading) stream.old result stream.new }
 {
     let answer = attr_parse(stream);
-    demand(stream, answer)
+    committed(stream, answer)
 }
 
 /// The attribute between `<` and `>`, where `<` stands.
@@ -228,7 +228,7 @@ pub(crate) fn location_demanded<T: IrText<A>, A: AttrText>(
         return Ok(Location::Unknown);
     }
     let fault = unexpected(stream, Expected::Location);
-    Err(demanded(stream, fault))
+    Err(commit(stream, fault))
 }
 
 /// A location, which may be missing.

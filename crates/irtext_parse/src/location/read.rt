@@ -3,8 +3,9 @@ ghost use Rattle.irtext_base.specs.Faults.{characters};
 ghost use Rattle.irtext_read.specs.MustRead.{MustRead};
 ghost use Rattle.irtext_outcomes.specs.Readers.Positions.{labelled_at, position_at};
 
-use crate::irfmt::demanded::{i32_demanded, spaced_text, text_demanded};
+use crate::irfmt::demanded::{spaced_text, text_demanded};
 use irtext_base::parsable::{CharStream, ParseResult, SourcePosition};
+use irtext_read::irfmt::demanded::i32_demanded;
 
 /// A word, `:` and a number.
 fn labelled_number<S: CharStream, A>(stream: &mut S, word: &str) -> ParseResult<i32, A>

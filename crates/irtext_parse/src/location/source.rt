@@ -17,7 +17,7 @@ use irtext_base::location::{Location, Source};
 use irtext_base::parsable::{CharStream, ParseResult, SourcePosition, TextStream};
 use irtext_base::result::{Cause, Expected};
 use irtext_base::text::{AttrText, IrText};
-use irtext_read::irfmt::faults::{demand, demanded, next_is, refuse, unexpected};
+use irtext_read::irfmt::faults::{commit, committed, next_is, refuse, unexpected};
 use irtext_read::irfmt::parsers::{held, quoted_string_parse};
 
 /// A text between quotation marks.
@@ -25,7 +25,7 @@ pub(crate) fn quoted_demanded<A>(stream: &mut TextStream) -> ParseResult<String,
     ensures { MustRead itself replaced (λ s. string_bytes s) bytes_at stream.old result stream.new }
 {
     let answer = quoted_string_parse(stream);
-    demand(stream, answer)
+    committed(stream, answer)
 }
 
 /// A path between quotation marks, which the context keeps from then on.
@@ -64,7 +64,7 @@ fn source_demanded<T: IrText<A>, A: AttrText>(
         return Ok(Source::InMemory);
     }
     let fault = unexpected(stream, Expected::Source);
-    Err(demanded(stream, fault))
+    Err(commit(stream, fault))
 }
 
 /// A source, a line and a column, which must stand there.

@@ -1,11 +1,12 @@
 //! Tokens that must stand where they are read: a missing one is a committed fault, which leaves the stream failed.
 ghost use Rattle.irtext_base.specs.Faults.{characters};
-ghost use Rattle.irtext_read.specs.Tokens.{text_at, identifier_at};
+ghost use Rattle.irtext_read.specs.Tokens.{text_at, identifier_at, number_at, integer_at};
 ghost use Rattle.irtext_read.specs.MustRead.{MustRead};
 
-use crate::irfmt::faults::demand;
+use crate::irfmt::faults::committed;
 use crate::irfmt::parsers::fixed_text::text_parse;
 use crate::irfmt::parsers::identifier::identifier_parse;
+use crate::irfmt::parsers::integer::int_parse;
 use irtext_base::base::Identifier;
 use irtext_base::parsable::{CharStream, ParseResult};
 
@@ -14,7 +15,7 @@ pub fn text_demanded<S: CharStream, A>(stream: &mut S, text: &str) -> ParseResul
     ensures { MustRead S.view S.at (λ u. u) (text_at (characters text.now)) stream.old result stream.new }
 {
     let answer = text_parse(stream, text);
-    demand(stream, answer)
+    committed(stream, answer)
 }
 
 /// Reads an identifier as `identifier_parse` does, with its faults committed.
@@ -22,5 +23,21 @@ pub fn identifier_demanded<S: CharStream, A>(stream: &mut S) -> ParseResult<Iden
     ensures { MustRead S.view S.at (λ name. name) identifier_at stream.old result stream.new }
 {
     let answer = identifier_parse(stream);
-    demand(stream, answer)
+    committed(stream, answer)
+}
+
+/// Reads a number below 2 ^ 64 as `int_parse` does, with its faults committed.
+pub fn usize_demanded<S: CharStream, A>(stream: &mut S) -> ParseResult<usize, A>
+    ensures { MustRead S.view S.at (λ n. n) number_at stream.old result stream.new }
+{
+    let answer = int_parse(stream);
+    committed(stream, answer)
+}
+
+/// Reads an integer of 32 bits as `int_parse` does, with its faults committed.
+pub fn i32_demanded<S: CharStream, A>(stream: &mut S) -> ParseResult<i32, A>
+    ensures { MustRead S.view S.at (λ z. z) integer_at stream.old result stream.new }
+{
+    let answer = int_parse(stream);
+    committed(stream, answer)
 }

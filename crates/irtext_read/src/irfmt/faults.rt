@@ -76,8 +76,16 @@ pub fn unexpected<S: CharStream, A>(stream: &S, expected: Expected) -> ParseFaul
     pass(stream, Cause::Unexpected { found, expected })
 }
 
+/// A committed fault at the next character, or at the end, where this is expected. It leaves the stream failed.
+pub fn commit_unexpected<S: CharStream, A>(stream: &mut S, expected: Expected) -> ParseFault<A>
+    ensures { Commits S.view S.at (Unexpected (first_of (S.view stream.old).rest) (demand_of expected)) [] stream.old result stream.new }
+{
+    let found = stream.peek();
+    refuse(stream, Cause::Unexpected { found, expected })
+}
+
 /// The same fault, committed, which leaves the stream failed.
-pub fn demanded<S: CharStream, A>(stream: &mut S, fault: ParseFault<A>) -> ParseFault<A>
+pub fn commit<S: CharStream, A>(stream: &mut S, fault: ParseFault<A>) -> ParseFault<A>
     ensures { Demands S.view S.at fault stream.old result stream.new }
 {
     stream.fail();
@@ -89,11 +97,14 @@ pub fn demanded<S: CharStream, A>(stream: &mut S, fault: ParseFault<A>) -> Parse
 }
 
 /// The same answer, its fault committed. A fault leaves the stream failed.
-pub fn demand<S: CharStream, X, A>(stream: &mut S, answer: ParseResult<X, A>) -> ParseResult<X, A>
+pub fn committed<S: CharStream, X, A>(
+    stream: &mut S,
+    answer: ParseResult<X, A>,
+) -> ParseResult<X, A>
     ensures { DemandsOf S.view S.at answer stream.old result stream.new }
 {
     match answer {
         Ok(value) => Ok(value),
-        Err(fault) => Err(demanded(stream, fault)),
+        Err(fault) => Err(commit(stream, fault)),
     }
 }

@@ -2,13 +2,13 @@
 
 pub mod attributes;
 pub mod class;
+pub mod digits;
 pub mod fixed_text;
 pub mod from_str_radix;
 pub mod hexadecimal;
 pub mod identifier;
 pub mod integer;
 pub mod lists;
-pub mod number;
 pub mod operation_id;
 pub mod quoted;
 pub mod standing;
@@ -16,6 +16,7 @@ pub mod truth;
 
 pub use attributes::{attr_parse, type_parse};
 pub use class::{Class, skip_class, skip_white_space};
+pub use digits::Radix;
 pub use fixed_text::{held, text_parse};
 pub use from_str_radix::FromStrRadix;
 pub use hexadecimal::hex_int_parse;
@@ -24,7 +25,6 @@ pub use integer::{int_parse, number_as_string_parse};
 pub use lists::{
     delimited_list_parser, list_parser, list_with_sep_parser, spaced, zero_or_more_parser,
 };
-pub use number::{i32_parse, usize_parse};
 pub use operation_id::id_parse;
 pub use quoted::quoted_string_parse;
 pub use standing::location;

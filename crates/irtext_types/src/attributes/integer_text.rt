@@ -10,7 +10,7 @@ use crate::integer_type::{IntegerType, integer_type_behind};
 use crate::words::text_behind;
 use irtext_base::parsable::{ParseResult, TextStream};
 use irtext_base::result::Cause;
-use irtext_read::irfmt::faults::{demand, refuse};
+use irtext_read::irfmt::faults::{committed, refuse};
 use irtext_read::irfmt::parsers::{int_parse, skip_white_space};
 use std::fmt;
 
@@ -33,7 +33,7 @@ fn value_behind<A>(stream: &mut TextStream) -> ParseResult<i64, A>
     }
     skip_white_space(stream);
     let found = int_parse(stream);
-    demand(stream, found)
+    committed(stream, found)
 }
 
 /// The attribute of an integer and its type.

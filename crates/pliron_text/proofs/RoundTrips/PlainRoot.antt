@@ -34,7 +34,7 @@ use Rattle.pliron_text.proofs.RoundTrips.PlainClosed.{plain_closed}
 use Rattle.pliron_text.proofs.RoundTrips.PlainRead.{tree_so_far}
 use Rattle.pliron_text.proofs.RoundTrips.PlainSection.{plain_entries, plain_section, no_marks, one_mark, content_written, entries_are, section_is, plain_small, are_so_far}
 use Rattle.irtext_grammar.proofs.Names.Resolved.{tree_resolves}
-use Rattle.irtext_grammar.proofs.RoundTrips.RootBack.{FineItems, RootRead, root_back}
+use Rattle.irtext_grammar.proofs.RoundTrips.RootBack.{AreSpellableItems, RootRead, root_back}
 use Rattle.irtext_grammar.proofs.RoundTrips.RootResolves.{marks_written, marks_in_order}
 use Rattle.irtext_grammar.proofs.Sections.Bare.{content_bare, root_resolves_bare}
 use Rattle.irtext_grammar.proofs.Graphs.WrittenAs.{WrittenOp, WrittenBlock, written_as, accepted_written}
@@ -149,10 +149,10 @@ module _ {T A X : Type 0} (types : Texts T) (owns : Texts A) (types_law : Lawful
       go None = record { ends = inl refl; one = λ e. inl refl }
       go (Some l) = record { ends = inr refl; one = λ e. absurd (cc e) }
 
-  items : FineItems types owns types_law owns_law unreserved location_at K C (entries_of C None g)
-  items = subst (FineItems types owns types_law owns_law unreserved location_at K C) (sym (entries_are C isolated g plain)) (go g.own.location located)
+  items : AreSpellableItems types owns types_law owns_law unreserved location_at K C (entries_of C None g)
+  items = subst (AreSpellableItems types owns types_law owns_law unreserved location_at K C) (sym (entries_are C isolated g plain)) (go g.own.location located)
     where
-      go : (l : Option Text) → LocationReads location_at K l → FineItems types owns types_law owns_law unreserved location_at K C (plain_entries C l)
+      go : (l : Option Text) → LocationReads location_at K l → AreSpellableItems types owns types_law owns_law unreserved location_at K C (plain_entries C l)
       go None h = tt
       go (Some l) h = ((h, tt), tt)
 

@@ -7,7 +7,7 @@ ghost use Rattle.irtext_base.specs.Locations.{AttrView};
 ghost use Rattle.irtext_base.specs.Own.{Ends, language, texts_of};
 ghost use Rattle.irtext_base.specs.Text.{after_space, begins, begins_word};
 ghost use Rattle.irtext_read.specs.AttrTexts.{attr_at};
-ghost use Rattle.irtext_grammar.specs.Spelling.AttrText.{attr_text, attr_tree, FineAttr};
+ghost use Rattle.irtext_grammar.specs.Spelling.AttrText.{attr_text, attr_tree, IsSpellableAttr};
 ghost use Rattle.irtext_grammar.specs.Grammar.Reads.{attribute};
 
 use irtext_base::text::{AttrText, IrText};
@@ -15,7 +15,7 @@ use irtext_base::text::{AttrText, IrText};
 /// What is written of an attribute whose names are identifiers is read back as that attribute, before every end of a text, and what
 /// is left is what stands behind it, white space aside.
 pub fn attribute_comes_back<A: AttrText>()
-    ensures { (v : AttrView A) (rest : List ℕ) → FineAttr v → Ends rest →
+    ensures { (v : AttrView A) (rest : List ℕ) → IsSpellableAttr v → Ends rest →
         (taken left : List ℕ) × (attr_at A.reading (attr_text A.written v ++ rest) ≡ Read v taken left) × (after_space left ≡ after_space rest) }
 {}
 

@@ -12,7 +12,7 @@ use irtext_base::base::OpId;
 use irtext_base::parsable::{CharStream, ParseResult, Place};
 use irtext_base::result::Cause;
 use irtext_base::text::{AttrText, IrText};
-use irtext_read::irfmt::faults::{demand, next_is, refuse, refuse_at};
+use irtext_read::irfmt::faults::{committed, next_is, refuse, refuse_at};
 use irtext_read::irfmt::parsers::{id_parse, skip_white_space};
 
 /// Passes white space, and `=` with white space where it stands: an operation without results may begin so.
@@ -46,7 +46,7 @@ fn demand_if<S: CharStream, X, A>(
     ensures { cond wanted (DemandsOf S.view S.at answer stream.old result stream.new) ((result ≡ answer) × (stream.new ≡ stream.old)) }
 {
     if wanted {
-        demand(stream, answer)
+        committed(stream, answer)
     } else {
         answer
     }

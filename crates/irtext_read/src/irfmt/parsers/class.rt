@@ -13,6 +13,8 @@ pub enum Class {
     WhiteSpace,
     /// `0` to `9`.
     Digit,
+    /// `0` to `9`, `a` to `f` and `A` to `F`.
+    HexadecimalDigit,
     /// What a word begins with: an ASCII letter or `_`.
     Beginning,
     /// What a word goes on with: an ASCII letter, an ASCII digit or `_`.
@@ -29,6 +31,7 @@ impl Class {
         match self {
             Class::WhiteSpace => c.is_whitespace(),
             Class::Digit => c.is_ascii_digit(),
+            Class::HexadecimalDigit => c.is_ascii_hexdigit(),
             Class::Beginning => c.is_ascii_alphabetic() || c == '_',
             Class::Word => c.is_ascii_alphanumeric() || c == '_',
             Class::Dotted => c.is_ascii_alphanumeric() || c == '_' || c == '.',

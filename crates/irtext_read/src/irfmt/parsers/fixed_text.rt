@@ -6,7 +6,7 @@ ghost use Rattle.irtext_base.specs.Stream.{first_of};
 ghost use Rattle.irtext_read.specs.Spelled.{Spells, Misses};
 ghost use Rattle.irtext_read.specs.Tokens.{text_at};
 
-use crate::irfmt::faults::{demanded, next_is, refuse, unexpected};
+use crate::irfmt::faults::{commit, next_is, refuse, unexpected};
 use irtext_base::parsable::{CharStream, ParseFault, ParseResult};
 use irtext_base::result::{Cause, Expected, Token};
 use std::alloc::{AllocError, Global};
@@ -32,7 +32,7 @@ fn missing<S: CharStream, A>(stream: &mut S, begun: bool, expected: Expected) ->
 {
     let fault = unexpected(stream, expected);
     if begun {
-        return demanded(stream, fault);
+        return commit(stream, fault);
     }
     fault
 }

@@ -1,15 +1,31 @@
 //! The readers of integers of every type, and of numbers as their text.
 ghost use Rattle.std.specs.Prelude.{◌≡◌, string_bytes};
 ghost use Rattle.std.specs.Option.{option_map};
-ghost use Rattle.irtext_base.specs.Answers.{Answers, unless_failed};
+ghost use Rattle.irtext_base.specs.Stream.{first_of};
+ghost use Rattle.irtext_base.specs.Answers.{Answers, Takes, unless_failed};
+ghost use Rattle.irtext_read.specs.Tokens.{sign_of, after_sign};
 ghost use Rattle.irtext_read.specs.Integers.{within_of, sign_text, sign_at, int_at, number_text_at};
 
-use crate::irfmt::faults::{begins, demanded, refuse, unexpected};
+use crate::irfmt::faults::{begins, commit, refuse, unexpected};
 use crate::irfmt::parsers::class::{Class, skip_class};
+use crate::irfmt::parsers::digits::{Radix, out_of_range, take_digits};
 use crate::irfmt::parsers::from_str_radix::FromStrRadix;
-use crate::irfmt::parsers::number::{out_of_range, take_digits, take_sign};
 use irtext_base::parsable::{CharStream, ParseResult};
 use irtext_base::result::{Cause, Expected};
+
+/// Passes the sign, if one stands first, and answers it.
+fn take_sign<S: CharStream>(stream: &mut S) -> Option<char>
+    ensures sign { result ≡ first_of (sign_of (S.view stream.old).rest) }
+    ensures takes { Takes S.view S.at (sign_of (S.view stream.old).rest) (after_sign (S.view stream.old).rest) stream.old stream.new }
+{
+    match stream.peek() {
+        Some(c) if c == '+' || c == '-' => {
+            let _ = stream.take();
+            Some(c)
+        }
+        _ => None,
+    }
+}
 
 /// Reads `+`, `-` or no sign, in front of a digit.
 fn sign_parse<S: CharStream, A>(stream: &mut S) -> ParseResult<Option<char>, A>
@@ -24,16 +40,16 @@ fn sign_parse<S: CharStream, A>(stream: &mut S) -> ParseResult<Option<char>, A>
     }
     let fault = unexpected(stream, Expected::Digit);
     if sign.is_some() {
-        return Err(demanded(stream, fault));
+        return Err(commit(stream, fault));
     }
     Err(fault)
 }
 
 /// The number of a magnitude that fits 64 bits or doesn't, behind a minus or not, where it fits its type.
-pub(crate) fn number_of<N: FromStrRadix>(negative: bool, magnitude: Option<usize>) -> Option<N>
+pub(crate) fn number_of<N: FromStrRadix>(negative: bool, magnitude: Option<u64>) -> Option<N>
     ensures { option_map N.number result ≡ within_of N.below negative magnitude }
 {
-    N::from_magnitude(negative, magnitude? as u64)
+    N::from_magnitude(negative, magnitude?)
 }
 
 /// Reads a number: `+`, `-` or no sign, and one digit or more, as far as they go. Where no digit stands, it answers that a digit is
@@ -45,7 +61,7 @@ pub fn int_parse<S: CharStream, N: FromStrRadix, A>(stream: &mut S) -> ParseResu
 {
     let place = stream.position();
     let sign = sign_parse(stream)?;
-    let magnitude = take_digits(stream);
+    let magnitude = take_digits(stream, Radix::Decimal);
     match number_of(sign == Some('-'), magnitude) {
         Some(number) => Ok(number),
         None => Err(out_of_range(stream, place)),

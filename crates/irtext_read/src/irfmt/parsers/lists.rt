@@ -4,9 +4,9 @@ ghost use Rattle.std.specs.Prelude.{◌≡◌, ℕ, List, [], ◌++◌, MatchRes
 ghost use Rattle.std.specs.Bool.{MatchBool};
 ghost use Rattle.irtext_base.specs.Text.{Text};
 ghost use Rattle.irtext_base.specs.Places.{StandsBehind};
-ghost use Rattle.irtext_read.specs.Lists.{AlwaysKeepsRules, Calls, KeepsRules, Insisted, UnlessFailed, Items, SpacedItems, Separated, TailAfter, Delimited, WithSeparator, Spaced, character_of, listed};
+ghost use Rattle.irtext_read.specs.Lists.{AlwaysKeepsRules, Calls, KeepsRules, UnlessFailed, Items, SpacedItems, Separated, TailAfter, Delimited, WithSeparator, Spaced, character_of, listed};
 
-use crate::irfmt::faults::{begins, demanded, next_is, pass, refuse, unexpected};
+use crate::irfmt::faults::{begins, commit, commit_unexpected, next_is, pass, refuse, unexpected};
 use crate::irfmt::parsers::class::{Class, skip_white_space};
 use irtext_base::parsable::{CharStream, ParseFault, ParseResult, Place};
 use irtext_base::printable::ListSeparator;
@@ -18,16 +18,6 @@ fn is_still_at<S: CharStream>(stream: &S, place: Place) -> bool
     ensures { (passed taken : Text) → passed ++ taken ≡ (S.view stream.now).passed → StandsBehind place passed → MatchBool result (taken ≡ []) (taken ≡ [] → ⊥) }
 {
     stream.text_since(place).is_empty()
-}
-
-/// The fault of an item that must stand. An uncommitted one is committed, and leaves the stream failed.
-fn insisted<S: CharStream, A>(stream: &mut S, fault: ParseFault<A>) -> ParseFault<A>
-    ensures { Insisted S.view S.at fault stream.old result stream.new }
-{
-    if fault.committed {
-        return fault;
-    }
-    demanded(stream, fault)
 }
 
 /// The character of a separator, where it has one.
@@ -96,7 +86,7 @@ where
                     return Err(refuse(stream, Cause::Memory));
                 }
             }
-            Err(fault) => return Err(insisted(stream, fault)),
+            Err(fault) => return Err(commit(stream, fault)),
         }
         skip_white_space(stream);
     }
@@ -176,8 +166,7 @@ where
     skip_white_space(stream);
     let found = separated(stream, sep, item)?;
     if !next_is(stream, right) {
-        let fault = unexpected(stream, Expected::Char(right));
-        return Err(demanded(stream, fault));
+        return Err(commit_unexpected(stream, Expected::Char(right)));
     }
     let _ = stream.take();
     Ok(found)
@@ -255,7 +244,7 @@ where
         }
         Err(fault) => {
             if begun {
-                return Err(insisted(stream, fault));
+                return Err(commit(stream, fault));
             }
             Err(fault)
         }

@@ -3,7 +3,7 @@ ghost use Rattle.irtext_base.specs.Answers.{Answers, unless_failed};
 ghost use Rattle.irtext_base.specs.Faults.{id_of};
 ghost use Rattle.irtext_read.specs.Tokens.{id_at};
 
-use crate::irfmt::faults::demand;
+use crate::irfmt::faults::committed;
 use crate::irfmt::parsers::fixed_text::text_parse;
 use crate::irfmt::parsers::identifier::{identifier_parse, word_parse};
 use irtext_base::base::OpId;
@@ -17,8 +17,8 @@ pub fn id_parse<S: CharStream, A>(stream: &mut S) -> ParseResult<OpId, A>
 {
     let dialect = word_parse(stream, Expected::Operation)?;
     let dot = text_parse(stream, ".");
-    demand(stream, dot)?;
+    committed(stream, dot)?;
     let name = identifier_parse(stream);
-    let name = demand(stream, name)?;
+    let name = committed(stream, name)?;
     Ok(OpId { dialect, name })
 }

@@ -1,26 +1,19 @@
 //! The reader of quoted texts.
 ghost use Rattle.std.specs.Prelude.{◌≡◌, ℕ, List, [], ◌++◌, ◌⊎◌, true, codes, IfOk, MatchResult, string_bytes};
-ghost use Rattle.std.specs.Char.{is_ascii_hexdigit, digit_value};
 ghost use Rattle.std.specs.Str.{encode_utf8_all};
 ghost use Rattle.irtext_base.specs.Text.{front, after, begins};
 ghost use Rattle.irtext_base.specs.Stream.{IsAt, first_of, after_failure};
 ghost use Rattle.irtext_base.specs.Places.{StandsBehind};
 ghost use Rattle.irtext_base.specs.Faults.{fault_of, demand_of, Memory, Unexpected, BadUnicodeEscape};
 ghost use Rattle.irtext_base.specs.Answers.{Answers, Takes, Starves, Commits, mapped, demanded, unless_failed};
-ghost use Rattle.irtext_read.specs.QuotedTexts.{is_plain, escape_of, word_appended, word_of, character_of, unit_at, units_at, quoted_at};
+ghost use Rattle.irtext_read.specs.QuotedTexts.{is_plain, escape_of, character_of, unit_at, units_at, quoted_at};
 
-use crate::irfmt::faults::{next_is, refuse, refuse_at};
+use crate::irfmt::faults::{begins, commit_unexpected, next_is, refuse, refuse_at};
+use crate::irfmt::parsers::class::Class;
+use crate::irfmt::parsers::digits::{Radix, take_digits};
 use crate::irfmt::parsers::fixed_text::text_parse;
 use irtext_base::parsable::{CharStream, ParseFault, ParseResult, Place};
 use irtext_base::result::{Cause, Expected};
-
-/// A committed fault at the next character, or at the end, where this is expected. It leaves the stream failed.
-fn required<S: CharStream, A>(stream: &mut S, expected: Expected) -> ParseFault<A>
-    ensures { Commits S.view S.at (Unexpected (first_of (S.view stream.old).rest) (demand_of expected)) [] stream.old result stream.new }
-{
-    let found = stream.peek();
-    refuse(stream, Cause::Unexpected { found, expected })
-}
 
 /// Whether the character stands for itself in a quoted text.
 fn is_plain(c: char) -> bool
@@ -57,55 +50,15 @@ fn append_plain<S: CharStream, A>(stream: &mut S, text: &mut String) -> ParseRes
     }
 }
 
-/// The value of a hexadecimal digit.
-fn digit_of(c: char) -> u32
-    ensures { is_ascii_hexdigit c ≡ true → result ≡ digit_value c }
-{
-    match c.to_digit(16) {
-        Some(digit) => digit,
-        None => 0,
-    }
-}
-
-/// The number with one more hexadecimal digit behind it, where it fits.
-fn append_digit(number: Option<u32>, digit: u32) -> Option<u32>
-    ensures { result ≡ word_appended number digit }
-{
-    number?.checked_mul(16)?.checked_add(digit)
-}
-
-/// Passes hexadecimal digits, as far as they go, and answers the number that they write, where it fits.
-#[tactic(auto, using(irtext_base::proofs::Along::fronts))]
-fn take_digits<S: CharStream>(stream: &mut S) -> Option<u32>
-    ensures value { result ≡ word_of (front is_ascii_hexdigit (S.view stream.old).rest) }
-    ensures takes { Takes S.view S.at (front is_ascii_hexdigit (S.view stream.old).rest) (after is_ascii_hexdigit (S.view stream.old).rest) stream.old stream.new }
-{
-    let mut number = Some(0);
-    while let Some(c) = stream.peek() {
-        if !c.is_ascii_hexdigit() {
-            break;
-        }
-        let _ = stream.take();
-        number = append_digit(number, digit_of(c));
-    }
-    number
-}
-
 /// The character of a number, where it is one's.
-fn character(number: Option<u32>) -> Option<char>
+fn character(number: Option<u64>) -> Option<char>
     ensures { result ≡ character_of number }
 {
-    char::from_u32(number?)
-}
-
-/// Whether a hexadecimal digit comes next.
-fn digit_is_next<S: CharStream>(stream: &S) -> bool
-    ensures { result ≡ begins is_ascii_hexdigit (S.view stream.now).rest }
-{
-    match stream.peek() {
-        Some(c) => c.is_ascii_hexdigit(),
-        None => false,
+    let number = number?;
+    if number > 0x10FFFF {
+        return None;
     }
+    char::from_u32(number as u32)
 }
 
 /// The fault of hexadecimal digits since a place, which name no character, at the escape's own place. It leaves the stream failed.
@@ -131,16 +84,16 @@ fn unicode_parse<S: CharStream, A>(stream: &mut S, escape: Place) -> ParseResult
         Answers S.view S.at (λ c. c) (unit_at (S.view before).rest) before result stream.new }
 {
     if !next_is(stream, '{') {
-        return Err(required(stream, Expected::Char('{')));
+        return Err(commit_unexpected(stream, Expected::Char('{')));
     }
     let _ = stream.take();
     let digits = stream.position();
-    if !digit_is_next(stream) {
-        return Err(required(stream, Expected::HexadecimalDigit));
+    if !begins(stream, Class::HexadecimalDigit) {
+        return Err(commit_unexpected(stream, Expected::HexadecimalDigit));
     }
-    let number = take_digits(stream);
+    let number = take_digits(stream, Radix::Hexadecimal);
     if !next_is(stream, '}') {
-        return Err(required(stream, Expected::Char('}')));
+        return Err(commit_unexpected(stream, Expected::Char('}')));
     }
     let Some(c) = character(number) else {
         return Err(no_character(stream, escape, digits));
@@ -172,13 +125,13 @@ fn unit_parse<S: CharStream, A>(stream: &mut S) -> ParseResult<char, A>
 {
     let place = stream.position();
     let Some(c) = stream.take() else {
-        return Err(required(stream, Expected::Char('"')));
+        return Err(commit_unexpected(stream, Expected::Char('"')));
     };
     if c != '\\' {
         return Ok(c);
     }
     let Some(c) = stream.take() else {
-        return Err(required(stream, Expected::EscapedCharacter));
+        return Err(commit_unexpected(stream, Expected::EscapedCharacter));
     };
     if c == 'u' {
         return unicode_parse(stream, place);

@@ -8,7 +8,7 @@ use Rattle.irtext_types.proofs.integer_type.integer_type_parse.Goals as goal
 pub returns-in_err-width : goal.returns-in_err-width
 returns-in_err-width g c =
     let mid = c.signedness_parse.new.stream in
-    let end = c.demand.new.stream in
+    let end = c.committed.new.stream in
     let kind = c.in_ok-kind.kind in
     let p = err_from_is_err_and c.from_residual-in_err-width.result c.from_residual-in_err-width.ensures.1 in
     let n = answers_demanded (λ s. s) (λ s v. v) (λ s v. refl) (λ s v w. refl) (λ w. w) (unless_failed mid.failed (width_at mid.rest)) mid c.width_parse-width.new.stream end c.width_parse-width.result (Err c.in_err-width.field-0.0) c.width_parse-width.ensures c.in_err-width.ensures in

@@ -12,5 +12,5 @@ pub returns : goal.returns
 returns g c =
     let mid = c.skip_white_space.new.stream in
     let whole = takes_whole c.args.stream.now mid _ _ (sym c.has_failed.ensures ∙ c.if-has_failed.false) c.skip_white_space.ensures in
-    says_behind (λ t. t) list_at c.args.stream.now mid c.list_parse-found.new.stream c.demand.new.stream _ _ c.list_parse-found.result c.demand.result (sym c.has_failed.ensures ∙ c.if-has_failed.false) c.skip_white_space.ensures
-    (subst (λ b. Says (λ t. t) (unless_failed b (list_at mid.rest)) mid c.list_parse-found.result c.list_parse-found.new.stream) (sym whole) c.list_parse-found.ensures) c.demand.ensures
+    says_behind (λ t. t) list_at c.args.stream.now mid c.list_parse-found.new.stream c.committed.new.stream _ _ c.list_parse-found.result c.committed.result (sym c.has_failed.ensures ∙ c.if-has_failed.false) c.skip_white_space.ensures
+    (subst (λ b. Says (λ t. t) (unless_failed b (list_at mid.rest)) mid c.list_parse-found.result c.list_parse-found.new.stream) (sym whole) c.list_parse-found.ensures) c.committed.ensures

@@ -12,7 +12,7 @@ use Rattle.irtext_context.specs.declared.base.region.Region.{Region}
 use Rattle.irtext_base.specs.declared.format.Directive as code
 use Rattle.irtext_base.specs.declared.format.Directive.TheVariants as step
 use Rattle.irtext_base.specs.Paths.{written_with}
-use Rattle.irtext_grammar.specs.Spelling.AttrText.{FineAttr}
+use Rattle.irtext_grammar.specs.Spelling.AttrText.{IsSpellableAttr}
 use Rattle.irtext_grammar.specs.Contexts.Formats.{format_of}
 use Rattle.irtext_grammar.specs.Graphs.Graph.{Printing, body_of, written}
 use Rattle.irtext_outcomes.specs.Promises.KeptRoot.{AllHold, IsKept}
@@ -49,7 +49,7 @@ module _ (directives : Vec code.Directive Global) (r : Ptr Region) (items : dire
     keys = refl;
     differ = refl;
     fits = subst (λ l. AllFit (written_with [] l)) (sym (seen-unknown {A = Text})) tt;
-    holds = subst (λ l. AllHold FineAttr (written_with [] l)) (sym (seen-unknown {A = Text})) tt;
+    holds = subst (λ l. AllHold IsSpellableAttr (written_with [] l)) (sym (seen-unknown {A = Text})) tt;
     accepted = ap (λ ds. first_fault (format.custom (directives_of ds))) items;
   }
 

@@ -9,4 +9,4 @@ use Rattle.irtext_parse.proofs.location.source.quoted_demanded.Goals as goal
 pub returns : goal.returns
 returns g c =
     let old = c.args.stream.now in
-    record { answers = answers_demanded itself replaced alone.view_at alone.at_at (λ s. string_bytes s) (unless_failed old.failed (bytes_at old.rest)) old c.quoted_string_parse-answer.new.stream c.demand.new.stream c.quoted_string_parse-answer.result c.demand.result c.quoted_string_parse-answer.ensures c.demand.ensures }
+    record { answers = answers_demanded itself replaced alone.view_at alone.at_at (λ s. string_bytes s) (unless_failed old.failed (bytes_at old.rest)) old c.quoted_string_parse-answer.new.stream c.committed.new.stream c.quoted_string_parse-answer.result c.committed.result c.quoted_string_parse-answer.ensures c.committed.ensures }

@@ -1,9 +1,7 @@
-use Rattle.std.proofs.Common.{Ok, [], ◌∷◌, sym, ◌∙◌}
+use Rattle.std.proofs.Common.{Ok, sym, ◌∙◌}
 use Rattle.std.proofs.lemmas.Result.{err_from_is_err_and}
-use Rattle.irtext_base.specs.Stream.{first_of}
-use Rattle.irtext_base.specs.Faults.{Unexpected, Word}
 use Rattle.irtext_read.specs.Lists.{Calls, Delimited, no_left, bad_inside, no_right, closed, Opens}
-use Rattle.irtext_read.proofs.ListSteps.{unless_met, passes_demanded}
+use Rattle.irtext_read.proofs.ListSteps.{unless_met}
 use Rattle.irtext_read.proofs.ListRules.{delimited_list_keeps}
 use Rattle.irtext_read.proofs.irfmt.parsers.lists.delimited_list_parser.Goals as goal
 
@@ -25,8 +23,7 @@ returns-in_err-found-clause-kept g c =
 pub returns-then-not-next_is-2-clause-answers : goal.returns-then-not-next_is-2-clause-answers
 returns-then-not-next_is-2-clause-answers g c =
     let opens : Opens g.S.CharStream.view g.S.CharStream.at c.args.left c.args.stream.now c.skip_white_space.new.stream = record { mid = c.take.new.self; begins_so = sym c.next_is.ensures ∙ c.if-not-next_is.false; taken = c.take.ensures.after; skips = c.skip_white_space.ensures.is } in
-    let missing = passes_demanded g.S.CharStream.view g.S.CharStream.at (Unexpected (first_of (g.S.CharStream.view c.separated.new.stream).rest) (Word (c.args.right ∷ []))) c.separated.new.stream c.unexpected-fault.result c.demanded.result c.demanded.new.stream c.unexpected-fault.ensures c.demanded.ensures in
-    unless_met g.S.CharStream.view g.S.CharStream.at (Delimited g.S.CharStream.view g.S.CharStream.at (Calls (λ r. r) g.F.FnMut) c.args.left c.args.right c.args.sep c.args.item) (g.S.CharStream.view c.args.stream.now).failed c.args.stream.now _ _ (sym c.has_failed.ensures ∙ c.if-has_failed.false) (no_right _ _ _ _ _ _ _ opens c.in_ok-found.ensures (sym c.next_is-2.ensures ∙ c.if-not-next_is-2.true) missing)
+    unless_met g.S.CharStream.view g.S.CharStream.at (Delimited g.S.CharStream.view g.S.CharStream.at (Calls (λ r. r) g.F.FnMut) c.args.left c.args.right c.args.sep c.args.item) (g.S.CharStream.view c.args.stream.now).failed c.args.stream.now _ _ (sym c.has_failed.ensures ∙ c.if-has_failed.false) (no_right _ _ _ _ _ _ _ opens c.in_ok-found.ensures (sym c.next_is-2.ensures ∙ c.if-not-next_is-2.true) c.commit_unexpected.ensures)
 
 pub returns-clause-answers : goal.returns-clause-answers
 returns-clause-answers g c =

@@ -1,6 +1,6 @@
 use Rattle.std.proofs.Common.{rules, of_calls, refl, ◌≡◌, Ok, Err, ◌++◌, ◌∷◌, [], ◌∙◌, ap, sym, append-nil}
 use Rattle.irtext_read.specs.Lists.{Calls, none, insisted, no_more_room, next, prepended, HandsOn, Opens}
-use Rattle.irtext_read.proofs.ListSteps.{called_at, rules_at, tail_lt, prepended-more}
+use Rattle.irtext_read.proofs.ListSteps.{called_at, rules_at, tail_lt, prepended-more, commits_item}
 use Rattle.irtext_read.proofs.irfmt.parsers.lists.tail.Goals as goal
 
 pub returns-then-is_err : goal.returns-then-is_err
@@ -14,7 +14,7 @@ pub returns-in-Err : goal.returns-in-Err
 returns-in-Err g c =
     let called : Calls (λ r. r) g.F.FnMut c.loop-sep.item c.skip_white_space.new.stream (Err c.in-Err.fault) c.item.new.self c.item.new.arg2 = called_at c.in-Err.ensures refl in
     let opens : Opens g.S.CharStream.view g.S.CharStream.at c.args.sep c.loop-sep.stream c.skip_white_space.new.stream = record { mid = c.take.new.self; begins_so = sym c.loop-sep-test.ensures; taken = c.take.ensures.after; skips = c.skip_white_space.ensures.is } in
-    c.loop-sep.invariant.1 _ _ (_, insisted _ _ _ _ _ _ _ _ opens called c.insisted.ensures, refl)
+    c.loop-sep.invariant.1 _ _ (_, insisted _ _ _ _ _ _ _ _ opens called (commits_item g.S.CharStream.view g.S.CharStream.at g.met.S.CharStream.at_view (rules_at g.S.CharStream.view g.S.CharStream.at c.requires.rules _ _ _ _ _ called).1 c.commit.ensures), refl)
 
 pub loop-sep-smaller : goal.loop-sep-smaller
 loop-sep-smaller g c =

@@ -9,16 +9,16 @@ use Rattle.irtext_read.proofs.irfmt.parsers.quoted.unicode_parse.Goals as goal
 pub returns-then-not-next_is : goal.returns-then-not-next_is
 returns-then-not-next_is g c = λ before k p.
     let m = g.met.S.CharStream in
-    unopened g.S.CharStream.view g.S.CharStream.at m.view_at m.at_view m.at_at before c.args.stream.now c.required.new.stream c.required.result k (sym c.next_is.ensures ∙ c.if-not-next_is.true) c.required.ensures
+    unopened g.S.CharStream.view g.S.CharStream.at m.view_at m.at_view m.at_at before c.args.stream.now c.commit_unexpected.new.stream c.commit_unexpected.result k (sym c.next_is.ensures ∙ c.if-not-next_is.true) c.commit_unexpected.ensures
 
-pub returns-then-not-digit_is_next : goal.returns-then-not-digit_is_next
-returns-then-not-digit_is_next g c = λ before k p.
+pub returns-then-not-begins : goal.returns-then-not-begins
+returns-then-not-begins g c = λ before k p.
     let view = g.S.CharStream.view in
     let at = g.S.CharStream.at in
     let m = g.met.S.CharStream in
     let opens = c.take.new.self in
     let o : Opened view at m.view_at m.at_view m.at_at before opens = opened view at m.view_at m.at_view m.at_at before c.args.stream.now opens k (sym c.next_is.ensures ∙ c.if-not-next_is.false) c.take.ensures.after in
-    uncounted view at m.view_at m.at_view m.at_at before opens c.required-then-not-digit_is_next.new.stream c.required-then-not-digit_is_next.result o (sym c.digit_is_next.ensures ∙ c.if-not-digit_is_next.true) c.required-then-not-digit_is_next.ensures
+    uncounted view at m.view_at m.at_view m.at_at before opens c.commit_unexpected-then-not-begins.new.stream c.commit_unexpected-then-not-begins.result o (sym c.begins.ensures ∙ c.if-not-begins.true) c.commit_unexpected-then-not-begins.ensures
 
 pub returns-then-not-next_is-2 : goal.returns-then-not-next_is-2
 returns-then-not-next_is-2 g c = λ before k p.
@@ -28,8 +28,8 @@ returns-then-not-next_is-2 g c = λ before k p.
     let opens = c.take.new.self in
     let now = c.take_digits-number.new.stream in
     let o : Opened view at m.view_at m.at_view m.at_at before opens = opened view at m.view_at m.at_view m.at_at before c.args.stream.now opens k (sym c.next_is.ensures ∙ c.if-not-next_is.false) c.take.ensures.after in
-    let h = counted view at m.view_at m.at_view m.at_at before opens now o (sym c.digit_is_next.ensures ∙ c.if-not-digit_is_next.false) c.take_digits-number.ensures.takes in
-    unclosed view at m.view_at m.at_view m.at_at before now c.required-then-not-next_is-2.new.stream (front is_ascii_hexdigit (view opens).rest) c.required-then-not-next_is-2.result h (sym c.next_is-2.ensures ∙ c.if-not-next_is-2.true) c.required-then-not-next_is-2.ensures
+    let h = counted view at m.view_at m.at_view m.at_at before opens now o (sym c.begins.ensures ∙ c.if-not-begins.false) c.take_digits-number.ensures.takes in
+    unclosed view at m.view_at m.at_view m.at_at before now c.commit_unexpected-then-not-next_is-2.new.stream (front is_ascii_hexdigit (view opens).rest) c.commit_unexpected-then-not-next_is-2.result h (sym c.next_is-2.ensures ∙ c.if-not-next_is-2.true) c.commit_unexpected-then-not-next_is-2.ensures
 
 pub returns-in_default : goal.returns-in_default
 returns-in_default g c = λ before k p.
@@ -40,7 +40,7 @@ returns-in_default g c = λ before k p.
     let now = c.take_digits-number.new.stream in
     let digits = front is_ascii_hexdigit (view opens).rest in
     let o : Opened view at m.view_at m.at_view m.at_at before opens = opened view at m.view_at m.at_view m.at_at before c.args.stream.now opens k (sym c.next_is.ensures ∙ c.if-not-next_is.false) c.take.ensures.after in
-    let h = counted view at m.view_at m.at_view m.at_at before opens now o (sym c.digit_is_next.ensures ∙ c.if-not-digit_is_next.false) c.take_digits-number.ensures.takes in
+    let h = counted view at m.view_at m.at_view m.at_at before opens now o (sym c.begins.ensures ∙ c.if-not-begins.false) c.take_digits-number.ensures.takes in
     let r = c.no_character.ensures in
     let e = sym (ap character_of c.take_digits-number.ensures.value) ∙ (sym c.character.ensures ∙ c.in_default.is) in
     let s = sym (ap (λ v. v.passed) (seen_after view at m.view_at m.at_at opens now digits (after is_ascii_hexdigit (view opens).rest) c.take_digits-number.ensures.takes)) in
@@ -56,5 +56,5 @@ returns g c = λ before k p.
     let now = c.take_digits-number.new.stream in
     let digits = front is_ascii_hexdigit (view opens).rest in
     let o : Opened view at m.view_at m.at_view m.at_at before opens = opened view at m.view_at m.at_view m.at_at before c.args.stream.now opens k (sym c.next_is.ensures ∙ c.if-not-next_is.false) c.take.ensures.after in
-    let h = counted view at m.view_at m.at_view m.at_at before opens now o (sym c.digit_is_next.ensures ∙ c.if-not-digit_is_next.false) c.take_digits-number.ensures.takes in
+    let h = counted view at m.view_at m.at_view m.at_at before opens now o (sym c.begins.ensures ∙ c.if-not-begins.false) c.take_digits-number.ensures.takes in
     braces_closed view at m.view_at m.at_view m.at_at before now c.take-2.new.self digits c.in-Some.c h (sym c.next_is-2.ensures ∙ c.if-not-next_is-2.false) (c.in-Some.ensures ∙ ap character_of c.take_digits-number.ensures.value) c.take-2.ensures.after

@@ -7,8 +7,8 @@ use Rattle.irtext_read.proofs.irfmt.parsers.quoted.unit_parse.Goals as goal
 pub returns-in_default-take : goal.returns-in_default-take
 returns-in_default-take g c =
     let m = g.met.S.CharStream in
-    unescaped g.S.CharStream.view g.S.CharStream.at m.view_at m.at_view m.at_at c.args.stream.now c.take.new.self c.take-2.new.self c.required-in_default-take.new.stream c.in-Some.c c.required-in_default-take.result
-    c.if-c-ne92.false c.in-Some.ensures.value c.take.ensures.after (sym c.in_default-take.is ∙ c.take-2.ensures.value) c.take-2.ensures.after c.required-in_default-take.ensures
+    unescaped g.S.CharStream.view g.S.CharStream.at m.view_at m.at_view m.at_at c.args.stream.now c.take.new.self c.take-2.new.self c.commit_unexpected-in_default-take.new.stream c.in-Some.c c.commit_unexpected-in_default-take.result
+    c.if-c-ne92.false c.in-Some.ensures.value c.take.ensures.after (sym c.in_default-take.is ∙ c.take-2.ensures.value) c.take-2.ensures.after c.commit_unexpected-in_default-take.ensures
 
 pub returns-then-c-eq117 : goal.returns-then-c-eq117
 returns-then-c-eq117 g c =
