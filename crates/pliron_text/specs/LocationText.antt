@@ -1,14 +1,11 @@
 -- What a text reads as, where a line and a column stand, with each fault's cause and place.
-use Rattle.std.specs.Prelude.{ℤ, codes, ⊤}
+use Rattle.std.specs.Prelude.{ℤ, codes}
 use Rattle.irtext_base.specs.Text.{Text}
 use Rattle.irtext_base.specs.Answers.{Outcome, followed, mapped}
 pub use Rattle.irtext_read.specs.Tokens.{space_at}
+pub use Rattle.irtext_read.specs.Demanded.{spaced_at}
 use Rattle.irtext_read.specs.Tokens.{text_at, integer_at}
 use Rattle.irtext_base.specs.declared.parsable.position.SourcePosition.{SourcePosition}
-
--- a fixed text with white space round it
-abbrev pub spaced_at : Text → Text → Outcome ⊤
-spaced_at word text = followed (space_at text) (λ _ t. followed (text_at word t) (λ _ u. space_at u))
 
 -- a word, `:` and a number
 abbrev pub labelled_at : Text → Text → Outcome ℤ

@@ -1,28 +1,15 @@
 -- What a text reads as, where the parts stand that operations have in common, with each fault's cause and place.
-use Rattle.std.specs.Prelude.{ℕ, Bool, true, false, cond, Option, Some, None, [], ◌∷◌, ◌++◌, codes, ⊤}
+use Rattle.std.specs.Prelude.{ℕ, Bool, true, false, cond, Option, Some, None, [], ◌∷◌, ◌++◌}
 use Rattle.std.specs.Char.{is_whitespace}
 use Rattle.irtext_base.specs.Text.{Text, begins, front, after_space}
 use Rattle.irtext_base.specs.Reading.{the}
-use Rattle.irtext_base.specs.Answers.{Outcome, Read, prefixed, followed, mapped}
-use Rattle.irtext_read.specs.Tokens.{text_at, identifier_at, number_at}
-use Rattle.pliron_text.specs.LocationText.{space_at}
+use Rattle.irtext_base.specs.Answers.{Outcome, Read, prefixed, mapped}
+pub use Rattle.irtext_read.specs.Demanded.{index_at, symbol_at, braces_at}
 
 -- a text without its first character
 abbrev pub without_first : Text → Text
 without_first [] = []
 without_first (c ∷ text) = text
-
--- `@` and a name
-abbrev pub symbol_at : Text → Outcome Text
-symbol_at text = followed (text_at (codes "@") text) (λ _ t. identifier_at t)
-
--- a region without blocks
-abbrev pub braces_at : Text → Outcome ⊤
-braces_at text = followed (text_at (codes "{") text) (λ _ t. followed (space_at t) (λ _ u. text_at (codes "}") u))
-
--- `!` and an index
-abbrev pub index_at : Text → Outcome ℕ
-index_at text = followed (text_at (codes "!") text) (λ _ t. number_at t)
 
 -- a mark, where one stands
 abbrev pub mark_at : Text → Outcome (Option ℕ)

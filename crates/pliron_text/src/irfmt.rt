@@ -1,6 +1,5 @@
 //! Readers of tokens, stored printers, and the section of marked items.
 
-pub(crate) mod demanded;
 mod marker;
 pub mod outlined;
 pub mod printers;

@@ -10,11 +10,11 @@ ghost use Rattle.pliron_text.specs.PiecesOf.{entry_of, pair_at, Allows};
 ghost use Rattle.pliron_text.specs.Roots.{itself, replaced};
 ghost use Rattle.pliron_text.specs.Stands.{attribute_of, entries_of};
 
-use crate::irfmt::demanded::{spaced_text, text_demanded};
 use irtext_base::base::{AttrObj, Identifier};
 use irtext_base::parsable::{CharStream, ParseResult, Place, TextStream};
 use irtext_base::result::Cause;
 use irtext_base::text::AttrText;
+use irtext_read::irfmt::demanded::{spaced_text_demanded, text_demanded};
 use irtext_read::irfmt::faults::{committed, next_is, refuse, refuse_at};
 use irtext_read::irfmt::parsers::{attr_parse, identifier_parse, skip_white_space};
 
@@ -63,7 +63,7 @@ fn pair_parse<A: AttrText>(stream: &mut TextStream) -> ParseResult<Entry<A>, A>
     ensures { MayRead itself replaced entry_of (pair_at (attr_at A.IrText.reading)) stream.old result stream.new }
 {
     let key = identifier_parse(stream)?;
-    spaced_text(stream, ":")?;
+    spaced_text_demanded(stream, ":")?;
     let attr = attr_demanded(stream)?;
     Ok((key, attr))
 }

@@ -23,7 +23,6 @@ ghost use Rattle.pliron_text.specs.TopLevel.{IsFresh, BuildsRoot, RefusesRoot};
 
 use crate::format::pieces::{Pieces, body_parse};
 use crate::ir::print::concrete::OpObj;
-use crate::irfmt::demanded::index_demanded;
 use crate::irfmt::outlined::section_parse;
 use crate::parsable::{Parsable, out_of_memory};
 use irtext_base::base::operation::add_regions;
@@ -34,6 +33,7 @@ use irtext_base::parsable::{
 };
 use irtext_base::result::Cause;
 use irtext_base::text::{AttrText, IrText};
+use irtext_read::irfmt::demanded::index_demanded;
 use irtext_read::irfmt::faults::{committed, next_is, refuse, refuse_at};
 use irtext_read::irfmt::parsers::{id_parse, skip_white_space};
 use irtext_read::parsable::{StateStream, StreamLocation};

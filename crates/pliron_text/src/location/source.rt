@@ -8,7 +8,6 @@ ghost use Rattle.pliron_text.specs.MustRead.{MustRead, MayRead};
 ghost use Rattle.pliron_text.specs.NewPaths.{AddsPaths, MustReadOver, MayReadOver, known_location, location_over};
 ghost use Rattle.pliron_text.specs.Roots.{itself, replaced};
 
-use crate::irfmt::demanded::{spaced_text, text_demanded};
 use crate::location::nested::begins_source;
 use crate::location::read::position_parse;
 use irtext_base::base::Context;
@@ -16,6 +15,7 @@ use irtext_base::location::{Location, Source};
 use irtext_base::parsable::{CharStream, ParseResult, SourcePosition, TextStream};
 use irtext_base::result::{Cause, Expected};
 use irtext_base::text::{AttrText, IrText};
+use irtext_read::irfmt::demanded::{spaced_text_demanded, text_demanded};
 use irtext_read::irfmt::faults::{commit, committed, next_is, refuse, unexpected};
 use irtext_read::irfmt::parsers::{held, quoted_string_parse};
 
@@ -76,7 +76,7 @@ pub(crate) fn place_read<T: IrText<A>, A: AttrText>(
     ensures paths { IfOk result (λ l. ctx.new.paths ≡ all_kept ctx.old.paths (location_over ctx.new.paths l)) }
 {
     let src = source_read(stream, ctx)?;
-    spaced_text(stream, ":")?;
+    spaced_text_demanded(stream, ":")?;
     let pos = position_parse(stream)?;
     Ok(Location::SrcPos { src, pos })
 }

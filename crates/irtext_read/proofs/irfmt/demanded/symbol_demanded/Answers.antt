@@ -1,5 +1,5 @@
-use Rattle.pliron_text.proofs.Steps.{lens, first, last}
-use Rattle.pliron_text.proofs.irfmt.demanded.symbol_parse.Goals as goal
+use Rattle.irtext_read.proofs.Steps.{lens, first, last}
+use Rattle.irtext_read.proofs.irfmt.demanded.symbol_demanded.Goals as goal
 
 pub returns : goal.returns
 returns g c =
