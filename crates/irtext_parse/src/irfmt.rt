@@ -1,5 +1,4 @@
-//! Readers of tokens that must stand, and the section of marked items.
+//! The marker of outlined items, and their section.
 
-pub(crate) mod demanded;
 mod marker;
 pub mod outlined;

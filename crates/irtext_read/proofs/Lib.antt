@@ -17,6 +17,7 @@ pub mod SeparatedMet
 pub mod ListOutcomes
 pub mod Attributes
 pub mod SincereTokens
+pub mod Honest
 pub mod ListsAsOutcomes
 pub mod ListReads
 pub mod QuotedText

@@ -1,6 +1,7 @@
 pub mod Infix
 pub mod Digits
 pub mod Tokens
+pub mod Demanded
 pub mod Spelled
 pub mod QuotedTexts
 pub mod States

@@ -1,29 +1,16 @@
 -- For callers: what a text reads as, where the parts stand that operations have in common, with each fault's cause and place.
-use Rattle.std.specs.Prelude.{ℕ, Bool, true, false, cond, Option, Some, None, [], ◌∷◌, ◌++◌, codes, ⊤}
+use Rattle.std.specs.Prelude.{ℕ, Bool, true, false, cond, Option, Some, None, [], ◌∷◌, ◌++◌}
 use Rattle.std.specs.Char.{is_whitespace}
 use Rattle.irtext_base.specs.Text.{Text, begins, front, after_space}
 use Rattle.irtext_base.specs.Reading.{the}
 use Rattle.irtext_base.specs.Answers.{Outcome, prefixed}
-use Rattle.irtext_read.specs.Infix.{nothing, either, ◌▷◌, ◌⇒◌}
-use Rattle.irtext_read.specs.Tokens.{word, identifier_at, number_at}
-use Rattle.irtext_outcomes.specs.Readers.Positions.{space_at}
+use Rattle.irtext_read.specs.Infix.{nothing, either, ◌⇒◌}
+pub use Rattle.irtext_read.specs.Demanded.{index_at, symbol_at, braces_at}
 
 -- a text without its first character
 abbrev pub without_first : Text → Text
 without_first [] = []
 without_first (c ∷ text) = text
-
--- `@` and a name
-abbrev pub symbol_at : Text → Outcome Text
-symbol_at = word (codes "@") ▷ identifier_at
-
--- a region without blocks
-abbrev pub braces_at : Text → Outcome ⊤
-braces_at = word (codes "{") ▷ space_at ▷ word (codes "}")
-
--- `!` and an index
-abbrev pub index_at : Text → Outcome ℕ
-index_at = word (codes "!") ▷ number_at
 
 -- a mark, where one stands
 abbrev pub mark_at : Text → Outcome (Option ℕ)

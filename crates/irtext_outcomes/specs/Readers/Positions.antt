@@ -1,15 +1,12 @@
 -- For callers: what a text reads as, where a line and a column stand, with each fault's cause and place.
-use Rattle.std.specs.Prelude.{ℤ, codes, ⊤}
+use Rattle.std.specs.Prelude.{ℤ, codes}
 use Rattle.irtext_base.specs.Text.{Text}
 use Rattle.irtext_base.specs.Answers.{Outcome}
 use Rattle.irtext_read.specs.Infix.{◌▷◌, ◌▶◌, ◌⇒◌}
 pub use Rattle.irtext_read.specs.Tokens.{space_at}
+pub use Rattle.irtext_read.specs.Demanded.{spaced_at}
 use Rattle.irtext_read.specs.Tokens.{word, integer_at}
 use Rattle.irtext_base.specs.declared.parsable.position.SourcePosition.{SourcePosition}
-
--- a fixed text with white space round it
-abbrev pub spaced_at : Text → Text → Outcome ⊤
-spaced_at w = space_at ▷ word w ▷ space_at
 
 -- a word, `:` and a number
 abbrev pub labelled_at : Text → Text → Outcome ℤ

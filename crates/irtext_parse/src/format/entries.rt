@@ -10,7 +10,6 @@ ghost use Rattle.irtext_parse.specs.Readers.PiecesOf.{entry_of, pair_at, Allows}
 ghost use Rattle.irtext_outcomes.specs.Readers.Streams.{itself, replaced};
 ghost use Rattle.irtext_grammar.specs.Contexts.Held.{attribute_of, entries_of};
 
-use crate::irfmt::demanded::{spaced_text, text_demanded};
 use irtext_base::base::{AttrObj, Identifier};
 use irtext_base::parsable::{CharStream, ParseResult, Place, TextStream};
 use irtext_base::result::Cause;
@@ -63,7 +62,7 @@ fn pair_parse<A: AttrText>(stream: &mut TextStream) -> ParseResult<Entry<A>, A>
     ensures { MayRead itself replaced entry_of (pair_at (attr_at A.IrText.reading)) stream.old result stream.new }
 {
     let key = identifier_parse(stream)?;
-    spaced_text(stream, ":")?;
+    spaced_text_demanded(stream, ":")?;
     let attr = attr_demanded(stream)?;
     Ok((key, attr))
 }

@@ -17,13 +17,12 @@ ghost use Rattle.irtext_grammar.specs.Grammar.Tree.{ident};
 
 use crate::format::entries::{Entry, dictionary_parse, keyed_parse};
 use crate::format::region::{region_parse, regions_parse};
-use crate::irfmt::demanded::symbol_parse;
 use irtext_base::base::{AttrObj, AttributeDict, Identifier, Refusal};
 use irtext_base::format::{Directive, OpFormat};
 use irtext_base::parsable::{CharStream, ParseFault, ParseResult, TextStream};
 use irtext_base::result::{Cause, Expected};
 use irtext_base::text::AttrText;
-use irtext_read::irfmt::demanded::text_demanded;
+use irtext_read::irfmt::demanded::{symbol_demanded, text_demanded};
 use irtext_read::irfmt::faults::{commit, refuse, unexpected};
 use irtext_read::irfmt::parsers::skip_white_space;
 
@@ -133,7 +132,7 @@ fn dictionary_piece<A: AttrText>(
 fn header_piece<A: AttrText>(stream: &mut TextStream, found: &mut Pieces<A>) -> ParseResult<(), A>
     ensures { MustRead itself replaced (λ _. pieces_of found.new) (λ t. mapped (λ name. with_entries (pieces_of found.old) ((sym_name_key, ident name) ∷ [])) (symbol_at t)) stream.old result stream.new }
 {
-    let symbol = symbol_parse(stream)?;
+    let symbol = symbol_demanded(stream)?;
     match Identifier::from_word(stream.allocator(), "builtin_sym_name") {
         Ok(key) => store_entry(stream, (key, AttrObj::Ident(symbol)), found),
         Err(_) => Err(no_memory(stream)),

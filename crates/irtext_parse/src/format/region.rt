@@ -4,9 +4,9 @@ ghost use Rattle.irtext_read.specs.MustRead.{MustRead};
 ghost use Rattle.irtext_outcomes.specs.Readers.Directives.{region_at, regions_at};
 ghost use Rattle.irtext_outcomes.specs.Readers.Streams.{itself, replaced};
 
-use crate::irfmt::demanded::braces_parse;
 use irtext_base::parsable::{CharStream, ParseResult, ParserNameTrackerError, TextStream};
 use irtext_base::result::Cause;
+use irtext_read::irfmt::demanded::braces_demanded;
 use irtext_read::irfmt::faults::{next_is, refuse};
 use irtext_read::irfmt::parsers::skip_white_space;
 
@@ -21,7 +21,7 @@ pub(crate) fn region_parse<A>(stream: &mut TextStream, isolated: bool) -> ParseR
         let error = ParserNameTrackerError::TopLevelOpRegionNotIsolatedFromAbove;
         return Err(refuse(stream, Cause::ParserNameTracker(error)));
     }
-    braces_parse(stream)
+    braces_demanded(stream)
 }
 
 /// Reads regions as long as `{` follows, with white space after each, and answers how many. A fault is committed.

@@ -13,7 +13,6 @@ ghost use Rattle.irtext_outcomes.specs.Readers.Marks.{may_follow};
 ghost use Rattle.irtext_outcomes.specs.Readers.Refusals.{CommittedRefusal};
 ghost use Rattle.irtext_outcomes.specs.Readers.Streams.{itself, replaced, KeepsRest};
 
-use crate::irfmt::demanded::{index_demanded, spaced_text, text_demanded};
 pub use crate::irfmt::marker::{OUTLINED_ATTR_MARKER, outlined_marker_or};
 use crate::location::nested::location_demanded;
 use crate::parsable::out_of_memory;
@@ -23,6 +22,7 @@ use irtext_base::location::Location;
 use irtext_base::parsable::{CharStream, ParseResult, TextStream};
 use irtext_base::result::Cause;
 use irtext_base::text::{AttrText, IrText};
+use irtext_read::irfmt::demanded::{index_demanded, spaced_text_demanded, text_demanded};
 use irtext_read::irfmt::faults::{next_is, refuse, refuse_at};
 use irtext_read::irfmt::parsers::skip_white_space;
 use irtext_read::parsable::StateStream;
@@ -75,7 +75,7 @@ fn entry_location<T: IrText<A>, A: AttrText>(
     text_demanded(stream, "@[")?;
     skip_white_space(stream);
     let location = location_demanded(stream, ctx)?;
-    spaced_text(stream, "]")?;
+    spaced_text_demanded(stream, "]")?;
     text_demanded(stream, ",")?;
     skip_white_space(stream);
     Ok(Some(location))
@@ -90,7 +90,7 @@ fn entry_content<T: IrText<A>, A: AttrText>(
     ensures read { MustReadOver known_given given_over (content_at (attr_at A.IrText.reading)) ctx.new.paths stream.old result stream.new }
     ensures paths { IfOk result (λ given. ctx.new.paths ≡ given_kept ctx.old.paths (given_over ctx.new.paths given)) }
 {
-    spaced_text(stream, "=")?;
+    spaced_text_demanded(stream, "=")?;
     let location = entry_location(stream, ctx)?;
     text_demanded(stream, "[")?;
     skip_white_space(stream);
@@ -225,7 +225,7 @@ pub(crate) fn section_parse<T: IrText<A>, A: AttrText, U>(
     ensures marks { OnErr result (marks_of s.new.state ≡ marks_of s.old.state) }
     ensures adds { OnErr result (AddsPaths s.old.state.ctx.now s.new.state.ctx.now) }
 {
-    spaced_text(&mut s.stream, "outlined_attributes:")?;
+    spaced_text_demanded(&mut s.stream, "outlined_attributes:")?;
     let entries = entries_parse(s)?;
     apply(s, entries);
     s.state.truncate_marks(0);

@@ -11,7 +11,6 @@ ghost use Rattle.irtext_grammar.specs.Contexts.Held.{location_over};
 ghost use Rattle.irtext_outcomes.specs.Readers.NewPaths.{AddsPaths, MayReadOver, MustReadWithin, MustReadInside, known_location, known_row, row_over, joined_rows, PushesRow};
 ghost use Rattle.irtext_outcomes.specs.Readers.Streams.{itself, replaced};
 
-use crate::irfmt::demanded::{spaced_text, text_demanded};
 use crate::location::made::{call_site_made, fused_made, named_made};
 use crate::location::source::{place_demanded, quoted_demanded};
 use irtext_base::base::AttrObj;
@@ -20,6 +19,7 @@ use irtext_base::location::Location;
 use irtext_base::parsable::{CharStream, ParseResult, TextStream};
 use irtext_base::result::{Cause, Expected};
 use irtext_base::text::{AttrText, IrText};
+use irtext_read::irfmt::demanded::{spaced_text_demanded, text_demanded};
 use irtext_read::irfmt::faults::{commit, committed, next_is, refuse, unexpected};
 use irtext_read::irfmt::parsers::{attr_parse, skip_white_space};
 
@@ -75,11 +75,11 @@ fn name_demanded<A>(stream: &mut TextStream) -> ParseResult<String, A>
     ensures shorter { OnOk result (length stream.new.rest < length stream.old.rest) }
 {
     text_demanded(stream, "name")?;
-    spaced_text(stream, ":")?;
+    spaced_text_demanded(stream, ":")?;
     let name = quoted_demanded(stream)?;
-    spaced_text(stream, ",")?;
+    spaced_text_demanded(stream, ",")?;
     text_demanded(stream, "loc")?;
-    spaced_text(stream, ":")?;
+    spaced_text_demanded(stream, ":")?;
     text_demanded(stream, "(")?;
     Ok(name)
 }
@@ -190,11 +190,11 @@ fn call_site_demanded<T: IrText<A>, A: AttrText>(
     ensures paths { IfOk result (λ l. ctx.new.paths ≡ all_kept ctx.old.paths (location_over ctx.new.paths l)) }
 {
     text_demanded(stream, "callsite")?;
-    spaced_text(stream, "(")?;
+    spaced_text_demanded(stream, "(")?;
     let callee = location_demanded(stream, ctx)?;
-    spaced_text(stream, "at")?;
+    spaced_text_demanded(stream, "at")?;
     let caller = location_demanded(stream, ctx)?;
-    spaced_text(stream, ")")?;
+    spaced_text_demanded(stream, ")")?;
     call_site_made(stream, callee, caller)
 }
 

@@ -3,16 +3,15 @@ ghost use Rattle.irtext_base.specs.Faults.{characters};
 ghost use Rattle.irtext_read.specs.MustRead.{MustRead};
 ghost use Rattle.irtext_outcomes.specs.Readers.Positions.{labelled_at, position_at};
 
-use crate::irfmt::demanded::{spaced_text, text_demanded};
 use irtext_base::parsable::{CharStream, ParseResult, SourcePosition};
-use irtext_read::irfmt::demanded::i32_demanded;
+use irtext_read::irfmt::demanded::{i32_demanded, spaced_text_demanded, text_demanded};
 
 /// A word, `:` and a number.
 fn labelled_number<S: CharStream, A>(stream: &mut S, word: &str) -> ParseResult<i32, A>
     ensures { MustRead S.view S.at (λ z. z) (labelled_at (characters word.now)) stream.old result stream.new }
 {
     text_demanded(stream, word)?;
-    spaced_text(stream, ":")?;
+    spaced_text_demanded(stream, ":")?;
     i32_demanded(stream)
 }
 
@@ -21,7 +20,7 @@ pub(crate) fn position_demanded<S: CharStream, A>(stream: &mut S) -> ParseResult
     ensures { MustRead S.view S.at (λ at. at) position_at stream.old result stream.new }
 {
     let line = labelled_number(stream, "line")?;
-    spaced_text(stream, ",")?;
+    spaced_text_demanded(stream, ",")?;
     let column = labelled_number(stream, "column")?;
     Ok(SourcePosition { line, column })
 }

@@ -9,7 +9,6 @@ ghost use Rattle.irtext_grammar.specs.Contexts.Held.{location_over};
 ghost use Rattle.irtext_outcomes.specs.Readers.NewPaths.{AddsPaths, MustReadOver, MayReadOver, known_location};
 ghost use Rattle.irtext_outcomes.specs.Readers.Streams.{itself, replaced};
 
-use crate::irfmt::demanded::{spaced_text, text_demanded};
 use crate::location::nested::begins_source;
 use crate::location::read::position_demanded;
 use irtext_context::base::Context;
@@ -17,6 +16,7 @@ use irtext_base::location::{Location, Source};
 use irtext_base::parsable::{CharStream, ParseResult, SourcePosition, TextStream};
 use irtext_base::result::{Cause, Expected};
 use irtext_base::text::{AttrText, IrText};
+use irtext_read::irfmt::demanded::{spaced_text_demanded, text_demanded};
 use irtext_read::irfmt::faults::{commit, committed, next_is, refuse, unexpected};
 use irtext_read::irfmt::parsers::{held, quoted_string_parse};
 
@@ -77,7 +77,7 @@ pub(crate) fn place_demanded<T: IrText<A>, A: AttrText>(
     ensures paths { IfOk result (λ l. ctx.new.paths ≡ all_kept ctx.old.paths (location_over ctx.new.paths l)) }
 {
     let src = source_demanded(stream, ctx)?;
-    spaced_text(stream, ":")?;
+    spaced_text_demanded(stream, ":")?;
     let pos = position_demanded(stream)?;
     Ok(Location::SrcPos { src, pos })
 }

@@ -1,14 +1,17 @@
 //! Tokens that must stand where they are read: a missing one is a committed fault, which leaves the stream failed.
 ghost use Rattle.irtext_base.specs.Faults.{characters};
 ghost use Rattle.irtext_read.specs.Tokens.{text_at, identifier_at, number_at, integer_at};
+ghost use Rattle.irtext_read.specs.Demanded.{spaced_at, index_at, symbol_at, braces_at};
 ghost use Rattle.irtext_read.specs.MustRead.{MustRead};
 
-use crate::irfmt::faults::committed;
+use crate::irfmt::faults::{committed, refuse};
+use crate::irfmt::parsers::class::skip_white_space;
 use crate::irfmt::parsers::fixed_text::text_parse;
 use crate::irfmt::parsers::identifier::identifier_parse;
 use crate::irfmt::parsers::integer::int_parse;
 use irtext_base::base::Identifier;
 use irtext_base::parsable::{CharStream, ParseResult};
+use irtext_base::result::Cause;
 
 /// Reads a fixed text as `text_parse` does, with its faults committed.
 pub fn text_demanded<S: CharStream, A>(stream: &mut S, text: &str) -> ParseResult<(), A>
@@ -40,4 +43,42 @@ pub fn i32_demanded<S: CharStream, A>(stream: &mut S) -> ParseResult<i32, A>
 {
     let answer = int_parse(stream);
     committed(stream, answer)
+}
+
+/// Reads a fixed text with white space round it.
+pub fn spaced_text_demanded<S: CharStream, A>(stream: &mut S, text: &str) -> ParseResult<(), A>
+    ensures { MustRead S.view S.at (λ u. u) (spaced_at (characters text.now)) stream.old result stream.new }
+{
+    if stream.has_failed() {
+        return Err(refuse(stream, Cause::StreamFailed));
+    }
+    skip_white_space(stream);
+    text_demanded(stream, text)?;
+    skip_white_space(stream);
+    Ok(())
+}
+
+/// Reads `!` and an index.
+pub fn index_demanded<S: CharStream, A>(stream: &mut S) -> ParseResult<usize, A>
+    ensures { MustRead S.view S.at (λ n. n) index_at stream.old result stream.new }
+{
+    text_demanded(stream, "!")?;
+    usize_demanded(stream)
+}
+
+/// Reads `@` and a name.
+pub fn symbol_demanded<S: CharStream, A>(stream: &mut S) -> ParseResult<Identifier, A>
+    ensures { MustRead S.view S.at (λ name. name) symbol_at stream.old result stream.new }
+{
+    text_demanded(stream, "@")?;
+    identifier_demanded(stream)
+}
+
+/// Reads the braces of a region without blocks.
+pub fn braces_demanded<S: CharStream, A>(stream: &mut S) -> ParseResult<(), A>
+    ensures { MustRead S.view S.at (λ u. u) braces_at stream.old result stream.new }
+{
+    text_demanded(stream, "{")?;
+    skip_white_space(stream);
+    text_demanded(stream, "}")
 }

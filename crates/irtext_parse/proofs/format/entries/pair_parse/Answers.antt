@@ -22,18 +22,18 @@ behind_colon attr key u t = mapped (λ a. (key, a)) (attribute_at attr t)
 abbrev behind_key : {A : Type 0} → (Text → Outcome (AttrView A)) → Text → Text → Outcome (Text × Attribute A)
 behind_key attr key t = followed (spaced_at (codes ":") t) (behind_colon attr key)
 
-pub returns-in_err-spaced_text : goal.returns-in_err-spaced_text
-returns-in_err-spaced_text g c =
+pub returns-in_err-spaced_text_demanded : goal.returns-in_err-spaced_text_demanded
+returns-in_err-spaced_text_demanded g c =
     let attr = attr_at g.A.IrText.reading in
     let h = may_read alone (λ name. name) identifier_at c.args.stream.now c.identifier_parse.new.stream (Ok c.in_ok-key.key) c.in_ok-key.ensures in
-    let p = err_from_is_err_and c.from_residual-in_err-spaced_text.result c.from_residual-in_err-spaced_text.ensures.1 in
-    rw (p.1, p.2) (begun_by alone (behind_key attr) h (refuses alone (behind_colon attr c.in_ok-key.key) (begins_with alone (behind_key attr) h) c.in_err-spaced_text.ensures))
+    let p = err_from_is_err_and c.from_residual-in_err-spaced_text_demanded.result c.from_residual-in_err-spaced_text_demanded.ensures.1 in
+    rw (p.1, p.2) (begun_by alone (behind_key attr) h (refuses alone (behind_colon attr c.in_ok-key.key) (begins_with alone (behind_key attr) h) c.in_err-spaced_text_demanded.ensures))
 
 pub returns-in_err-attr : goal.returns-in_err-attr
 returns-in_err-attr g c =
     let attr = attr_at g.A.IrText.reading in
     let h = may_read alone (λ name. name) identifier_at c.args.stream.now c.identifier_parse.new.stream (Ok c.in_ok-key.key) c.in_ok-key.ensures in
-    let q = more alone (behind_colon attr c.in_ok-key.key) (begins_with alone (behind_key attr) h) c.in_ok-spaced_text.ensures in
+    let q = more alone (behind_colon attr c.in_ok-key.key) (begins_with alone (behind_key attr) h) c.in_ok-spaced_text_demanded.ensures in
     let p = err_from_is_err_and c.from_residual-in_err-attr.result c.from_residual-in_err-attr.ensures.1 in
     rw (p.1, p.2) (begun_by alone (behind_key attr) h (refuses_seen alone (λ a. (c.in_ok-key.key, a)) q c.in_err-attr.ensures))
 
@@ -41,5 +41,5 @@ pub returns : goal.returns
 returns g c =
     let attr = attr_at g.A.IrText.reading in
     let h = may_read alone (λ name. name) identifier_at c.args.stream.now c.identifier_parse.new.stream (Ok c.in_ok-key.key) c.in_ok-key.ensures in
-    let q = more alone (behind_colon attr c.in_ok-key.key) (begins_with alone (behind_key attr) h) c.in_ok-spaced_text.ensures in
+    let q = more alone (behind_colon attr c.in_ok-key.key) (begins_with alone (behind_key attr) h) c.in_ok-spaced_text_demanded.ensures in
     begun_by alone (behind_key attr) h (last_seen alone entry_of (λ a. (c.in_ok-key.key, a)) (c.in_ok-key.key, c.in_ok-attr.attr) refl q c.in_ok-attr.ensures)

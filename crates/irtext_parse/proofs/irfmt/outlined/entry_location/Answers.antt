@@ -42,13 +42,13 @@ returns-in_err-location-clause-read g c =
     let p = err_from_is_err_and c.from_residual-in_err-location.result c.from_residual-in_err-location.ensures.1 in
     rw (p.1, p.2) (record { known = tt; read = refuses alone _ (spaced alone (λ _ t. placed attr t) (more alone _ q c.in_ok-text_demanded.ensures) c.skip_white_space.ensures) (at_length attr c.in_err-location.ensures.read).read })
 
-pub returns-in_err-spaced_text-clause-read : goal.returns-in_err-spaced_text-clause-read
-returns-in_err-spaced_text-clause-read g c =
+pub returns-in_err-spaced_text_demanded-clause-read : goal.returns-in_err-spaced_text_demanded-clause-read
+returns-in_err-spaced_text_demanded-clause-read g c =
     let attr = attr_at g.A.IrText.reading in
     let q = starts alone (entry_location_at attr) (located attr) c.args.stream.now (sym c.has_failed.ensures ∙ c.if-has_failed.false) (rw (sym c.next_is.ensures ∙ c.if-not-next_is.false) refl) in
-    let p = err_from_is_err_and c.from_residual-in_err-spaced_text.result c.from_residual-in_err-spaced_text.ensures.1 in
+    let p = err_from_is_err_and c.from_residual-in_err-spaced_text_demanded.result c.from_residual-in_err-spaced_text_demanded.ensures.1 in
     let l = (at_length attr c.in_ok-location.ensures.read).read in
-    rw (p.1, p.2) (record { known = tt; read = refuses alone _ (more alone behind_location (spaced alone (λ _ t. placed attr t) (more alone _ q c.in_ok-text_demanded.ensures) c.skip_white_space.ensures) l) c.in_err-spaced_text.ensures })
+    rw (p.1, p.2) (record { known = tt; read = refuses alone _ (more alone behind_location (spaced alone (λ _ t. placed attr t) (more alone _ q c.in_ok-text_demanded.ensures) c.skip_white_space.ensures) l) c.in_err-spaced_text_demanded.ensures })
 
 pub returns-in_err-text_demanded-2-clause-read : goal.returns-in_err-text_demanded-2-clause-read
 returns-in_err-text_demanded-2-clause-read g c =
@@ -56,7 +56,7 @@ returns-in_err-text_demanded-2-clause-read g c =
     let q = starts alone (entry_location_at attr) (located attr) c.args.stream.now (sym c.has_failed.ensures ∙ c.if-has_failed.false) (rw (sym c.next_is.ensures ∙ c.if-not-next_is.false) refl) in
     let p = err_from_is_err_and c.from_residual-in_err-text_demanded-2.result c.from_residual-in_err-text_demanded-2.ensures.1 in
     let l = (at_length attr c.in_ok-location.ensures.read).read in
-    rw (p.1, p.2) (record { known = tt; read = refuses alone _ (more alone _ (more alone behind_location (spaced alone (λ _ t. placed attr t) (more alone _ q c.in_ok-text_demanded.ensures) c.skip_white_space.ensures) l) c.in_ok-spaced_text.ensures) c.in_err-text_demanded-2.ensures })
+    rw (p.1, p.2) (record { known = tt; read = refuses alone _ (more alone _ (more alone behind_location (spaced alone (λ _ t. placed attr t) (more alone _ q c.in_ok-text_demanded.ensures) c.skip_white_space.ensures) l) c.in_ok-spaced_text_demanded.ensures) c.in_err-text_demanded-2.ensures })
 
 pub returns-clause-read : goal.returns-clause-read
 returns-clause-read g c =
@@ -67,5 +67,5 @@ returns-clause-read g c =
     record {
       known = l.known;
       read = last_spaced alone (given_over paths) (λ _. Some (location_over paths c.in_ok-location.location)) (Some c.in_ok-location.location) refl
-          (more alone _ (more alone _ (more alone behind_location (spaced alone (λ _ t. placed attr t) (more alone _ q c.in_ok-text_demanded.ensures) c.skip_white_space.ensures) l.read) c.in_ok-spaced_text.ensures) c.in_ok-text_demanded-2.ensures) c.skip_white_space-2.ensures;
+          (more alone _ (more alone _ (more alone behind_location (spaced alone (λ _ t. placed attr t) (more alone _ q c.in_ok-text_demanded.ensures) c.skip_white_space.ensures) l.read) c.in_ok-spaced_text_demanded.ensures) c.in_ok-text_demanded-2.ensures) c.skip_white_space-2.ensures;
     }

@@ -36,34 +36,34 @@ module _ {A : Type 0} (inner : Text → Outcome (Written A)) (rows : Text → Ou
   abbrev behind_word : (Text → Outcome (AttrView A)) → Text → Outcome (Written A)
   behind_word attr text = followed (metadata_at attr text) behind_metadata
 
-pub call_site_demanded-returns-in_err-spaced_text-clause-read : goal.call_site_demanded-returns-in_err-spaced_text-clause-read
-call_site_demanded-returns-in_err-spaced_text-clause-read g t c =
-    let p = err_from_is_err_and c.from_residual-in_err-spaced_text.result c.from_residual-in_err-spaced_text.ensures.1 in
-    rw (p.1, p.2) (refused_inside (λ d s. refuses alone _ (first alone _ c.in_ok-text_demanded.ensures) c.in_err-spaced_text.ensures))
+pub call_site_demanded-returns-in_err-spaced_text_demanded-clause-read : goal.call_site_demanded-returns-in_err-spaced_text_demanded-clause-read
+call_site_demanded-returns-in_err-spaced_text_demanded-clause-read g t c =
+    let p = err_from_is_err_and c.from_residual-in_err-spaced_text_demanded.result c.from_residual-in_err-spaced_text_demanded.ensures.1 in
+    rw (p.1, p.2) (refused_inside (λ d s. refuses alone _ (first alone _ c.in_ok-text_demanded.ensures) c.in_err-spaced_text_demanded.ensures))
 
 pub call_site_demanded-returns-in_err-callee-clause-read : goal.call_site_demanded-returns-in_err-callee-clause-read
 call_site_demanded-returns-in_err-callee-clause-read g t c =
     let p = err_from_is_err_and c.from_residual-in_err-callee.result c.from_residual-in_err-callee.ensures.1 in
-    rw (p.1, p.2) (refused_inside (λ d s. refuses alone _ (more alone _ (first alone _ c.in_ok-text_demanded.ensures) c.in_ok-spaced_text.ensures) (c.in_err-callee.ensures.read.within d (omega (arith, s, shorter 99 (codes "allsite") c.in_ok-text_demanded.ensures, no_longer c.in_ok-spaced_text.ensures))).read))
+    rw (p.1, p.2) (refused_inside (λ d s. refuses alone _ (more alone _ (first alone _ c.in_ok-text_demanded.ensures) c.in_ok-spaced_text_demanded.ensures) (c.in_err-callee.ensures.read.within d (omega (arith, s, shorter 99 (codes "allsite") c.in_ok-text_demanded.ensures, no_longer c.in_ok-spaced_text_demanded.ensures))).read))
 
-pub call_site_demanded-returns-in_err-spaced_text-2-clause-read : goal.call_site_demanded-returns-in_err-spaced_text-2-clause-read
-call_site_demanded-returns-in_err-spaced_text-2-clause-read g t c =
-    let p = err_from_is_err_and c.from_residual-in_err-spaced_text-2.result c.from_residual-in_err-spaced_text-2.ensures.1 in
-    rw (p.1, p.2) (refused_inside (λ d s. refuses alone _ (more alone _ (more alone _ (first alone _ c.in_ok-text_demanded.ensures) c.in_ok-spaced_text.ensures) (c.in_ok-callee.ensures.read.within d (omega (arith, s, shorter 99 (codes "allsite") c.in_ok-text_demanded.ensures, no_longer c.in_ok-spaced_text.ensures))).read) c.in_err-spaced_text-2.ensures))
+pub call_site_demanded-returns-in_err-spaced_text_demanded-2-clause-read : goal.call_site_demanded-returns-in_err-spaced_text_demanded-2-clause-read
+call_site_demanded-returns-in_err-spaced_text_demanded-2-clause-read g t c =
+    let p = err_from_is_err_and c.from_residual-in_err-spaced_text_demanded-2.result c.from_residual-in_err-spaced_text_demanded-2.ensures.1 in
+    rw (p.1, p.2) (refused_inside (λ d s. refuses alone _ (more alone _ (more alone _ (first alone _ c.in_ok-text_demanded.ensures) c.in_ok-spaced_text_demanded.ensures) (c.in_ok-callee.ensures.read.within d (omega (arith, s, shorter 99 (codes "allsite") c.in_ok-text_demanded.ensures, no_longer c.in_ok-spaced_text_demanded.ensures))).read) c.in_err-spaced_text_demanded-2.ensures))
 
 pub call_site_demanded-returns-in_err-caller-clause-read : goal.call_site_demanded-returns-in_err-caller-clause-read
 call_site_demanded-returns-in_err-caller-clause-read g t c =
     let p = err_from_is_err_and c.from_residual-in_err-caller.result c.from_residual-in_err-caller.ensures.1 in
-    rw (p.1, p.2) (refused_inside (λ d s. refuses alone _ (more alone _ (more alone _ (more alone _ (first alone _ c.in_ok-text_demanded.ensures) c.in_ok-spaced_text.ensures) (c.in_ok-callee.ensures.read.within d (omega (arith, s, shorter 99 (codes "allsite") c.in_ok-text_demanded.ensures, no_longer c.in_ok-spaced_text.ensures))).read) c.in_ok-spaced_text-2.ensures) (c.in_err-caller.ensures.read.within d (omega (arith, s, shorter 99 (codes "allsite") c.in_ok-text_demanded.ensures, no_longer c.in_ok-spaced_text.ensures, no_longer (c.in_ok-callee.ensures.read.within d (omega (arith, s, shorter 99 (codes "allsite") c.in_ok-text_demanded.ensures, no_longer c.in_ok-spaced_text.ensures))).read, no_longer c.in_ok-spaced_text-2.ensures))).read))
+    rw (p.1, p.2) (refused_inside (λ d s. refuses alone _ (more alone _ (more alone _ (more alone _ (first alone _ c.in_ok-text_demanded.ensures) c.in_ok-spaced_text_demanded.ensures) (c.in_ok-callee.ensures.read.within d (omega (arith, s, shorter 99 (codes "allsite") c.in_ok-text_demanded.ensures, no_longer c.in_ok-spaced_text_demanded.ensures))).read) c.in_ok-spaced_text_demanded-2.ensures) (c.in_err-caller.ensures.read.within d (omega (arith, s, shorter 99 (codes "allsite") c.in_ok-text_demanded.ensures, no_longer c.in_ok-spaced_text_demanded.ensures, no_longer (c.in_ok-callee.ensures.read.within d (omega (arith, s, shorter 99 (codes "allsite") c.in_ok-text_demanded.ensures, no_longer c.in_ok-spaced_text_demanded.ensures))).read, no_longer c.in_ok-spaced_text_demanded-2.ensures))).read))
 
-pub call_site_demanded-returns-in_err-spaced_text-3-clause-read : goal.call_site_demanded-returns-in_err-spaced_text-3-clause-read
-call_site_demanded-returns-in_err-spaced_text-3-clause-read g t c =
-    let p = err_from_is_err_and c.from_residual-in_err-spaced_text-3.result c.from_residual-in_err-spaced_text-3.ensures.1 in
-    rw (p.1, p.2) (refused_inside (λ d s. refuses_seen alone _ (more alone _ (more alone _ (more alone _ (more alone _ (first alone _ c.in_ok-text_demanded.ensures) c.in_ok-spaced_text.ensures) (c.in_ok-callee.ensures.read.within d (omega (arith, s, shorter 99 (codes "allsite") c.in_ok-text_demanded.ensures, no_longer c.in_ok-spaced_text.ensures))).read) c.in_ok-spaced_text-2.ensures) (c.in_ok-caller.ensures.read.within d (omega (arith, s, shorter 99 (codes "allsite") c.in_ok-text_demanded.ensures, no_longer c.in_ok-spaced_text.ensures, no_longer (c.in_ok-callee.ensures.read.within d (omega (arith, s, shorter 99 (codes "allsite") c.in_ok-text_demanded.ensures, no_longer c.in_ok-spaced_text.ensures))).read, no_longer c.in_ok-spaced_text-2.ensures))).read) c.in_err-spaced_text-3.ensures))
+pub call_site_demanded-returns-in_err-spaced_text_demanded-3-clause-read : goal.call_site_demanded-returns-in_err-spaced_text_demanded-3-clause-read
+call_site_demanded-returns-in_err-spaced_text_demanded-3-clause-read g t c =
+    let p = err_from_is_err_and c.from_residual-in_err-spaced_text_demanded-3.result c.from_residual-in_err-spaced_text_demanded-3.ensures.1 in
+    rw (p.1, p.2) (refused_inside (λ d s. refuses_seen alone _ (more alone _ (more alone _ (more alone _ (more alone _ (first alone _ c.in_ok-text_demanded.ensures) c.in_ok-spaced_text_demanded.ensures) (c.in_ok-callee.ensures.read.within d (omega (arith, s, shorter 99 (codes "allsite") c.in_ok-text_demanded.ensures, no_longer c.in_ok-spaced_text_demanded.ensures))).read) c.in_ok-spaced_text_demanded-2.ensures) (c.in_ok-caller.ensures.read.within d (omega (arith, s, shorter 99 (codes "allsite") c.in_ok-text_demanded.ensures, no_longer c.in_ok-spaced_text_demanded.ensures, no_longer (c.in_ok-callee.ensures.read.within d (omega (arith, s, shorter 99 (codes "allsite") c.in_ok-text_demanded.ensures, no_longer c.in_ok-spaced_text_demanded.ensures))).read, no_longer c.in_ok-spaced_text_demanded-2.ensures))).read) c.in_err-spaced_text_demanded-3.ensures))
 
 pub call_site_demanded-location_demanded-requires-2 : goal.call_site_demanded-location_demanded-requires-2
 call_site_demanded-location_demanded-requires-2 g t c = λ κs x.
-    (omega (arith, c.decreases, shorter 99 (codes "allsite") c.in_ok-text_demanded.ensures, no_longer c.in_ok-spaced_text.ensures, no_longer (c.in_ok-callee.ensures.read.within (length c.spaced_text.new.stream.rest) (omega arith)).read, no_longer c.in_ok-spaced_text-2.ensures), x)
+    (omega (arith, c.decreases, shorter 99 (codes "allsite") c.in_ok-text_demanded.ensures, no_longer c.in_ok-spaced_text_demanded.ensures, no_longer (c.in_ok-callee.ensures.read.within (length c.spaced_text_demanded.new.stream.rest) (omega arith)).read, no_longer c.in_ok-spaced_text_demanded-2.ensures), x)
 
 pub call_site_demanded-returns-clause-read : goal.call_site_demanded-returns-clause-read
 call_site_demanded-returns-clause-read g t c =
@@ -75,8 +75,8 @@ call_site_demanded-returns-clause-read g t c =
     let kept = c.in_ok-caller.ensures.adds.kept in
     record {
       inside = λ d s. made (call_site callee caller)
-          (turned alone (λ t. Read (written_with paths (call_site callee caller)) [] t) (ap (λ z. Read (call_site z (written_with paths caller)) [] c.spaced_text-3.new.stream.rest) (sym (written_same before paths kept callee k)))
-          (more_seen alone _ (more alone _ (more alone _ (more alone _ (more alone _ (first alone _ c.in_ok-text_demanded.ensures) c.in_ok-spaced_text.ensures) (c.in_ok-callee.ensures.read.within d (omega (arith, s, shorter 99 (codes "allsite") c.in_ok-text_demanded.ensures, no_longer c.in_ok-spaced_text.ensures))).read) c.in_ok-spaced_text-2.ensures) (c.in_ok-caller.ensures.read.within d (omega (arith, s, shorter 99 (codes "allsite") c.in_ok-text_demanded.ensures, no_longer c.in_ok-spaced_text.ensures, no_longer (c.in_ok-callee.ensures.read.within d (omega (arith, s, shorter 99 (codes "allsite") c.in_ok-text_demanded.ensures, no_longer c.in_ok-spaced_text.ensures))).read, no_longer c.in_ok-spaced_text-2.ensures))).read) c.in_ok-spaced_text-3.ensures))
+          (turned alone (λ t. Read (written_with paths (call_site callee caller)) [] t) (ap (λ z. Read (call_site z (written_with paths caller)) [] c.spaced_text_demanded-3.new.stream.rest) (sym (written_same before paths kept callee k)))
+          (more_seen alone _ (more alone _ (more alone _ (more alone _ (more alone _ (first alone _ c.in_ok-text_demanded.ensures) c.in_ok-spaced_text_demanded.ensures) (c.in_ok-callee.ensures.read.within d (omega (arith, s, shorter 99 (codes "allsite") c.in_ok-text_demanded.ensures, no_longer c.in_ok-spaced_text_demanded.ensures))).read) c.in_ok-spaced_text_demanded-2.ensures) (c.in_ok-caller.ensures.read.within d (omega (arith, s, shorter 99 (codes "allsite") c.in_ok-text_demanded.ensures, no_longer c.in_ok-spaced_text_demanded.ensures, no_longer (c.in_ok-callee.ensures.read.within d (omega (arith, s, shorter 99 (codes "allsite") c.in_ok-text_demanded.ensures, no_longer c.in_ok-spaced_text_demanded.ensures))).read, no_longer c.in_ok-spaced_text_demanded-2.ensures))).read) c.in_ok-spaced_text_demanded-3.ensures))
           (both_true (are_known (length paths) callee) (are_known (length paths) caller) (stays_known before paths kept callee k) (known_of c.in_ok-caller.ensures.read)) c.call_site_made.ensures;
     }
 

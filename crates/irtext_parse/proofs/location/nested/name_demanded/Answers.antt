@@ -5,39 +5,39 @@ use Rattle.irtext_outcomes.proofs.Readers.PlainStream.{alone}
 use Rattle.irtext_outcomes.proofs.Readers.Steps.{first, more, refuses, refuses_seen, last_seen}
 use Rattle.irtext_parse.proofs.location.nested.name_demanded.Goals as goal
 
-pub returns-in_err-spaced_text-clause-read : goal.returns-in_err-spaced_text-clause-read
-returns-in_err-spaced_text-clause-read g c =
-    let p = err_from_is_err_and c.from_residual-in_err-spaced_text.result c.from_residual-in_err-spaced_text.ensures.1 in
-    rw (p.1, p.2) (refuses alone _ (first alone _ c.in_ok-text_demanded.ensures) c.in_err-spaced_text.ensures)
+pub returns-in_err-spaced_text_demanded-clause-read : goal.returns-in_err-spaced_text_demanded-clause-read
+returns-in_err-spaced_text_demanded-clause-read g c =
+    let p = err_from_is_err_and c.from_residual-in_err-spaced_text_demanded.result c.from_residual-in_err-spaced_text_demanded.ensures.1 in
+    rw (p.1, p.2) (refuses alone _ (first alone _ c.in_ok-text_demanded.ensures) c.in_err-spaced_text_demanded.ensures)
 
 pub returns-in_err-name-clause-read : goal.returns-in_err-name-clause-read
 returns-in_err-name-clause-read g c =
     let p = err_from_is_err_and c.from_residual-in_err-name.result c.from_residual-in_err-name.ensures.1 in
-    rw (p.1, p.2) (refuses alone _ (more alone _ (first alone _ c.in_ok-text_demanded.ensures) c.in_ok-spaced_text.ensures) c.in_err-name.ensures)
+    rw (p.1, p.2) (refuses alone _ (more alone _ (first alone _ c.in_ok-text_demanded.ensures) c.in_ok-spaced_text_demanded.ensures) c.in_err-name.ensures)
 
-pub returns-in_err-spaced_text-2-clause-read : goal.returns-in_err-spaced_text-2-clause-read
-returns-in_err-spaced_text-2-clause-read g c =
-    let p = err_from_is_err_and c.from_residual-in_err-spaced_text-2.result c.from_residual-in_err-spaced_text-2.ensures.1 in
-    rw (p.1, p.2) (refuses alone _ (more alone _ (more alone _ (first alone _ c.in_ok-text_demanded.ensures) c.in_ok-spaced_text.ensures) c.in_ok-name.ensures) c.in_err-spaced_text-2.ensures)
+pub returns-in_err-spaced_text_demanded-2-clause-read : goal.returns-in_err-spaced_text_demanded-2-clause-read
+returns-in_err-spaced_text_demanded-2-clause-read g c =
+    let p = err_from_is_err_and c.from_residual-in_err-spaced_text_demanded-2.result c.from_residual-in_err-spaced_text_demanded-2.ensures.1 in
+    rw (p.1, p.2) (refuses alone _ (more alone _ (more alone _ (first alone _ c.in_ok-text_demanded.ensures) c.in_ok-spaced_text_demanded.ensures) c.in_ok-name.ensures) c.in_err-spaced_text_demanded-2.ensures)
 
 pub returns-in_err-text_demanded-2-clause-read : goal.returns-in_err-text_demanded-2-clause-read
 returns-in_err-text_demanded-2-clause-read g c =
     let p = err_from_is_err_and c.from_residual-in_err-text_demanded-2.result c.from_residual-in_err-text_demanded-2.ensures.1 in
-    rw (p.1, p.2) (refuses alone _ (more alone _ (more alone _ (more alone _ (first alone _ c.in_ok-text_demanded.ensures) c.in_ok-spaced_text.ensures) c.in_ok-name.ensures) c.in_ok-spaced_text-2.ensures) c.in_err-text_demanded-2.ensures)
+    rw (p.1, p.2) (refuses alone _ (more alone _ (more alone _ (more alone _ (first alone _ c.in_ok-text_demanded.ensures) c.in_ok-spaced_text_demanded.ensures) c.in_ok-name.ensures) c.in_ok-spaced_text_demanded-2.ensures) c.in_err-text_demanded-2.ensures)
 
-pub returns-in_err-spaced_text-3-clause-read : goal.returns-in_err-spaced_text-3-clause-read
-returns-in_err-spaced_text-3-clause-read g c =
-    let p = err_from_is_err_and c.from_residual-in_err-spaced_text-3.result c.from_residual-in_err-spaced_text-3.ensures.1 in
-    rw (p.1, p.2) (refuses alone _ (more alone _ (more alone _ (more alone _ (more alone _ (first alone _ c.in_ok-text_demanded.ensures) c.in_ok-spaced_text.ensures) c.in_ok-name.ensures) c.in_ok-spaced_text-2.ensures) c.in_ok-text_demanded-2.ensures) c.in_err-spaced_text-3.ensures)
+pub returns-in_err-spaced_text_demanded-3-clause-read : goal.returns-in_err-spaced_text_demanded-3-clause-read
+returns-in_err-spaced_text_demanded-3-clause-read g c =
+    let p = err_from_is_err_and c.from_residual-in_err-spaced_text_demanded-3.result c.from_residual-in_err-spaced_text_demanded-3.ensures.1 in
+    rw (p.1, p.2) (refuses alone _ (more alone _ (more alone _ (more alone _ (more alone _ (first alone _ c.in_ok-text_demanded.ensures) c.in_ok-spaced_text_demanded.ensures) c.in_ok-name.ensures) c.in_ok-spaced_text_demanded-2.ensures) c.in_ok-text_demanded-2.ensures) c.in_err-spaced_text_demanded-3.ensures)
 
 pub returns-in_err-text_demanded-3-clause-read : goal.returns-in_err-text_demanded-3-clause-read
 returns-in_err-text_demanded-3-clause-read g c =
     let p = err_from_is_err_and c.from_residual-in_err-text_demanded-3.result c.from_residual-in_err-text_demanded-3.ensures.1 in
-    rw (p.1, p.2) (refuses_seen alone _ (more alone _ (more alone _ (more alone _ (more alone _ (more alone _ (first alone _ c.in_ok-text_demanded.ensures) c.in_ok-spaced_text.ensures) c.in_ok-name.ensures) c.in_ok-spaced_text-2.ensures) c.in_ok-text_demanded-2.ensures) c.in_ok-spaced_text-3.ensures) c.in_err-text_demanded-3.ensures)
+    rw (p.1, p.2) (refuses_seen alone _ (more alone _ (more alone _ (more alone _ (more alone _ (more alone _ (first alone _ c.in_ok-text_demanded.ensures) c.in_ok-spaced_text_demanded.ensures) c.in_ok-name.ensures) c.in_ok-spaced_text_demanded-2.ensures) c.in_ok-text_demanded-2.ensures) c.in_ok-spaced_text_demanded-3.ensures) c.in_err-text_demanded-3.ensures)
 
 pub returns-clause-read : goal.returns-clause-read
-returns-clause-read g c = last_seen alone (λ s. string_bytes s) (λ _. string_bytes c.in_ok-name.name) c.in_ok-name.name refl (more alone _ (more alone _ (more alone _ (more alone _ (more alone _ (first alone _ c.in_ok-text_demanded.ensures) c.in_ok-spaced_text.ensures) c.in_ok-name.ensures) c.in_ok-spaced_text-2.ensures) c.in_ok-text_demanded-2.ensures) c.in_ok-spaced_text-3.ensures) c.in_ok-text_demanded-3.ensures
+returns-clause-read g c = last_seen alone (λ s. string_bytes s) (λ _. string_bytes c.in_ok-name.name) c.in_ok-name.name refl (more alone _ (more alone _ (more alone _ (more alone _ (more alone _ (first alone _ c.in_ok-text_demanded.ensures) c.in_ok-spaced_text_demanded.ensures) c.in_ok-name.ensures) c.in_ok-spaced_text_demanded-2.ensures) c.in_ok-text_demanded-2.ensures) c.in_ok-spaced_text_demanded-3.ensures) c.in_ok-text_demanded-3.ensures
 
 pub returns-clause-shorter : goal.returns-clause-shorter
 returns-clause-shorter g c =
-    omega (arith, shorter 110 (codes "ame") c.in_ok-text_demanded.ensures, no_longer c.in_ok-spaced_text.ensures, no_longer c.in_ok-name.ensures, no_longer c.in_ok-spaced_text-2.ensures, no_longer c.in_ok-text_demanded-2.ensures, no_longer c.in_ok-spaced_text-3.ensures, no_longer c.in_ok-text_demanded-3.ensures)
+    omega (arith, shorter 110 (codes "ame") c.in_ok-text_demanded.ensures, no_longer c.in_ok-spaced_text_demanded.ensures, no_longer c.in_ok-name.ensures, no_longer c.in_ok-spaced_text_demanded-2.ensures, no_longer c.in_ok-text_demanded-2.ensures, no_longer c.in_ok-spaced_text_demanded-3.ensures, no_longer c.in_ok-text_demanded-3.ensures)

@@ -2,16 +2,16 @@ use Rattle.std.proofs.lemmas.Result.{err_from_is_err_and}
 use Rattle.irtext_outcomes.proofs.Readers.Steps.{lens, first, more, refuses, refuses_seen}
 use Rattle.irtext_parse.proofs.location.read.position_demanded.Goals as goal
 
-pub returns-in_err-spaced_text : goal.returns-in_err-spaced_text
-returns-in_err-spaced_text g c =
+pub returns-in_err-spaced_text_demanded : goal.returns-in_err-spaced_text_demanded
+returns-in_err-spaced_text_demanded g c =
     let m = g.met.S.CharStream in
     let l = lens g.S.CharStream.view g.S.CharStream.at m.view_at m.at_view m.at_at in
-    let p = err_from_is_err_and c.from_residual-in_err-spaced_text.result c.from_residual-in_err-spaced_text.ensures.1 in
-    rw (p.1, p.2) (refuses l _ (first l _ c.in_ok-line.ensures) c.in_err-spaced_text.ensures)
+    let p = err_from_is_err_and c.from_residual-in_err-spaced_text_demanded.result c.from_residual-in_err-spaced_text_demanded.ensures.1 in
+    rw (p.1, p.2) (refuses l _ (first l _ c.in_ok-line.ensures) c.in_err-spaced_text_demanded.ensures)
 
 pub returns-in_err-column : goal.returns-in_err-column
 returns-in_err-column g c =
     let m = g.met.S.CharStream in
     let l = lens g.S.CharStream.view g.S.CharStream.at m.view_at m.at_view m.at_at in
     let p = err_from_is_err_and c.from_residual-in_err-column.result c.from_residual-in_err-column.ensures.1 in
-    rw (p.1, p.2) (refuses_seen l _ (more l _ (first l _ c.in_ok-line.ensures) c.in_ok-spaced_text.ensures) c.in_err-column.ensures)
+    rw (p.1, p.2) (refuses_seen l _ (more l _ (first l _ c.in_ok-line.ensures) c.in_ok-spaced_text_demanded.ensures) c.in_err-column.ensures)

@@ -9,15 +9,15 @@ use Rattle.irtext_outcomes.proofs.Readers.PlainStream.{alone}
 use Rattle.irtext_outcomes.proofs.Readers.Steps.{first, more, refuses, refuses_seen, last_seen}
 use Rattle.irtext_parse.proofs.location.source.place_demanded.Goals as goal
 
-pub returns-in_err-spaced_text-clause-read : goal.returns-in_err-spaced_text-clause-read
-returns-in_err-spaced_text-clause-read g c =
-    let p = err_from_is_err_and c.from_residual-in_err-spaced_text.result c.from_residual-in_err-spaced_text.ensures.1 in
-    rw (p.1, p.2) (record { known = tt; read = refuses alone _ (first alone _ c.in_ok-src.ensures.read.read) c.in_err-spaced_text.ensures })
+pub returns-in_err-spaced_text_demanded-clause-read : goal.returns-in_err-spaced_text_demanded-clause-read
+returns-in_err-spaced_text_demanded-clause-read g c =
+    let p = err_from_is_err_and c.from_residual-in_err-spaced_text_demanded.result c.from_residual-in_err-spaced_text_demanded.ensures.1 in
+    rw (p.1, p.2) (record { known = tt; read = refuses alone _ (first alone _ c.in_ok-src.ensures.read.read) c.in_err-spaced_text_demanded.ensures })
 
 pub returns-in_err-pos-clause-read : goal.returns-in_err-pos-clause-read
 returns-in_err-pos-clause-read g c =
     let p = err_from_is_err_and c.from_residual-in_err-pos.result c.from_residual-in_err-pos.ensures.1 in
-    rw (p.1, p.2) (record { known = tt; read = refuses_seen alone _ (more alone _ (first alone _ c.in_ok-src.ensures.read.read) c.in_ok-spaced_text.ensures) c.in_err-pos.ensures })
+    rw (p.1, p.2) (record { known = tt; read = refuses_seen alone _ (more alone _ (first alone _ c.in_ok-src.ensures.read.read) c.in_ok-spaced_text_demanded.ensures) c.in_err-pos.ensures })
 
 pub returns-clause-read : goal.returns-clause-read
 returns-clause-read g c =
@@ -26,5 +26,5 @@ returns-clause-read g c =
     let seen = seen-src_pos {A = g.row.A.Denot} c.in_ok-src.src c.in_ok-pos.pos in
     record {
       known = rw seen r.known;
-      read = last_seen alone (location_over paths) (src_pos (path_of paths c.in_ok-src.src)) (SrcPos c.in_ok-src.src c.in_ok-pos.pos) (ap (written_with paths) seen) (more alone _ (first alone _ r.read) c.in_ok-spaced_text.ensures) c.in_ok-pos.ensures;
+      read = last_seen alone (location_over paths) (src_pos (path_of paths c.in_ok-src.src)) (SrcPos c.in_ok-src.src c.in_ok-pos.pos) (ap (written_with paths) seen) (more alone _ (first alone _ r.read) c.in_ok-spaced_text_demanded.ensures) c.in_ok-pos.ensures;
     }

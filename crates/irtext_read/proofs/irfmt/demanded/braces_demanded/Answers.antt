@@ -1,7 +1,7 @@
 use Rattle.std.proofs.Common.{codes}
 use Rattle.irtext_read.specs.Tokens.{text_at}
-use Rattle.irtext_outcomes.proofs.Readers.Steps.{lens, first, spaced, last}
-use Rattle.irtext_parse.proofs.irfmt.demanded.braces_parse.Goals as goal
+use Rattle.irtext_read.proofs.Steps.{lens, first, spaced, last}
+use Rattle.irtext_read.proofs.irfmt.demanded.braces_demanded.Goals as goal
 
 pub returns : goal.returns
 returns g c =

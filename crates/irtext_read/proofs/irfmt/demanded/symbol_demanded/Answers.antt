@@ -1,5 +1,5 @@
-use Rattle.irtext_outcomes.proofs.Readers.Steps.{lens, first, last}
-use Rattle.irtext_parse.proofs.irfmt.demanded.symbol_parse.Goals as goal
+use Rattle.irtext_read.proofs.Steps.{lens, first, last}
+use Rattle.irtext_read.proofs.irfmt.demanded.symbol_demanded.Goals as goal
 
 pub returns : goal.returns
 returns g c =

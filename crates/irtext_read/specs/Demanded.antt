@@ -1,0 +1,21 @@
+-- What a text is to the readers of several tokens, each of which must stand.
+use Rattle.std.specs.Prelude.{ℕ, codes}
+use Rattle.irtext_base.specs.Text.{Text}
+use Rattle.irtext_read.specs.Infix.{Reader, ◌▷◌}
+use Rattle.irtext_read.specs.Tokens.{space_at, word, identifier_at, number_at}
+
+-- a fixed text with white space round it
+abbrev pub spaced_at : Text → Reader Unit
+spaced_at text = space_at ▷ word text ▷ space_at
+
+-- `!` and an index
+abbrev pub index_at : Reader ℕ
+index_at = word (codes "!") ▷ number_at
+
+-- `@` and a name
+abbrev pub symbol_at : Reader Text
+symbol_at = word (codes "@") ▷ identifier_at
+
+-- a region without blocks
+abbrev pub braces_at : Reader Unit
+braces_at = word (codes "{") ▷ space_at ▷ word (codes "}")
