@@ -1,0 +1,203 @@
+//! The stream of a text, places, faults and tokens.
+use crate::helpers::{line, told};
+use irtext_base::parsable::{
+    CharStream, ParseFault, ParseResult, Place, SourcePosition, TextStream,
+};
+use irtext_base::result::{Cause, Expected};
+use irtext_read::irfmt::faults::{
+    begins, demand, demanded, next_is, pass, refuse, refuse_at, unexpected,
+};
+use irtext_read::irfmt::parsers::{
+    Class, i32_parse, id_parse, identifier_parse, skip_class, skip_white_space, text_parse,
+    usize_parse,
+};
+use irtext_types::DemoAttr;
+use std::alloc::Global;
+use std::test::Fail;
+
+/// Texts, and what is said of the number below 2 ^ 64 that each begins with.
+const INDICES: &[(&str, &str)] = &[
+    ("0", "0"),
+    ("+0042x", "42"),
+    ("18446744073709551615", "18446744073709551615"),
+    (
+        "18446744073709551616",
+        "line: 1, column: 1: Number out of range: 18446744073709551616!",
+    ),
+    ("-0", "line: 1, column: 1: Number out of range: -0!"),
+    (
+        "",
+        "line: 1, column: 1: Unexpected end of input, expected digit",
+    ),
+    ("+x", "line: 1, column: 2: Unexpected `x`, expected digit!"),
+];
+
+/// Texts, and what is said of the integer that each begins with.
+const INTEGERS: &[(&str, &str)] = &[
+    ("-2147483648", "-2147483648"),
+    ("+2147483647", "2147483647"),
+    (
+        "2147483648",
+        "line: 1, column: 1: Number out of range: 2147483648!",
+    ),
+    ("-0", "0"),
+    ("- 1", "line: 1, column: 2: Unexpected ` `, expected digit!"),
+];
+
+/// What is said of the words and fixed texts of ` \t_a1 builtin.module ->x`, one behind the other.
+const WORDS: &[&str] = &[
+    "_a1",
+    "builtin.module",
+    "read",
+    "line: 1, column: 24: Unexpected `x`, expected `a text of more than 24 bytes`",
+    "line: 1, column: 25: Unexpected end of input, expected `xy`!",
+    "line: 1, column: 25: The stream has failed!",
+];
+
+/// What is said of faults behind `a` in `ab`.
+const FAULTS: &[&str] = &[
+    "line: 1, column: 2: Unexpected escaped character \\q",
+    "line: 1, column: 2: Unexpected `b`, expected digit!",
+    "line: 1, column: 2: No operation or block found for outline index: 3!",
+    "line: 1, column: 1: Duplicate outline index: 3!",
+];
+
+#[test]
+fn a_stream_counts_lines_and_characters(rt: HostRuntime) -> Result<(), Fail> {
+    let mut stream = TextStream::new(rt.alloc(), "é\nb")?;
+    let start = stream.position();
+    assert_eq!(rt; start.position(), SourcePosition::default());
+    assert_eq!(rt; stream.peek(), Some('é'));
+    assert_eq!(rt; stream.take(), Some('é'));
+    assert_eq!(rt;
+        stream.position().position(),
+        SourcePosition { line: 1, column: 2 }
+    );
+    assert_eq!(rt; stream.take(), Some('\n'));
+    assert_eq!(rt;
+        stream.position().position(),
+        SourcePosition { line: 2, column: 1 }
+    );
+    assert_eq!(rt; stream.text_since(start), "é\n");
+    assert_eq!(rt; stream.take(), Some('b'));
+    assert_eq!(rt; stream.take(), None);
+    stream.reset(start);
+    assert_eq!(rt; stream.peek(), Some('é'));
+    assert!(rt; !stream.has_failed());
+    stream.fail();
+    assert!(rt; stream.has_failed());
+    Ok(())
+}
+
+/// What is said of a fixed text.
+fn fixed(alloc: Global, stream: &mut TextStream, text: &str) -> Result<String, Fail> {
+    match text_parse::<TextStream, DemoAttr>(stream, text) {
+        Ok(()) => Ok(String::from_str(alloc, "read")?),
+        Err(fault) => told(alloc, &fault),
+    }
+}
+
+/// What is said of the identifier behind white space.
+fn identifier(alloc: Global, stream: &mut TextStream) -> Result<String, Fail> {
+    skip_white_space(stream);
+    let answer = identifier_parse::<TextStream, DemoAttr>(stream);
+    line(alloc, &answer)
+}
+
+/// What is said of the operation's id behind white space.
+fn id(alloc: Global, stream: &mut TextStream) -> Result<String, Fail> {
+    skip_class(stream, Class::WhiteSpace);
+    let answer = id_parse::<TextStream, DemoAttr>(stream);
+    line(alloc, &answer)
+}
+
+/// What is said of the word or fixed text of a line.
+fn word(alloc: Global, number: usize, stream: &mut TextStream) -> Result<String, Fail> {
+    match number {
+        0 => identifier(alloc, stream),
+        1 => id(alloc, stream),
+        2 => {
+            skip_white_space(stream);
+            fixed(alloc, stream, "->")
+        }
+        3 => fixed(alloc, stream, "a text of more than 24 bytes"),
+        4 => fixed(alloc, stream, "xy"),
+        _ => identifier(alloc, stream),
+    }
+}
+
+#[test]
+fn words_and_fixed_texts(rt: HostRuntime) -> Result<(), Fail> {
+    let mut stream = TextStream::new(rt.alloc(), " \t_a1 builtin.module ->x")?;
+    for (number, wanted) in WORDS.iter().enumerate() {
+        assert_eq!(rt; word(rt.alloc(), number, &mut stream)?.as_str(), *wanted);
+    }
+    Ok(())
+}
+
+/// What is said of the number that a text begins with.
+fn index(alloc: Global, text: &str) -> Result<String, Fail> {
+    let mut stream = TextStream::new(alloc, text)?;
+    let answer = usize_parse::<TextStream, DemoAttr>(&mut stream);
+    line(alloc, &answer)
+}
+
+/// What is said of the integer that a text begins with.
+fn integer(alloc: Global, text: &str) -> Result<String, Fail> {
+    let mut stream = TextStream::new(alloc, text)?;
+    let answer = i32_parse::<TextStream, DemoAttr>(&mut stream);
+    line(alloc, &answer)
+}
+
+#[test]
+fn numbers_that_fit_and_that_do_not(rt: HostRuntime) -> Result<(), Fail> {
+    for row in INDICES {
+        assert_eq!(rt; index(rt.alloc(), row.0)?.as_str(), row.1);
+    }
+    for row in INTEGERS {
+        assert_eq!(rt; integer(rt.alloc(), row.0)?.as_str(), row.1);
+    }
+    Ok(())
+}
+
+/// The fault of a line, where the stream stands, or at its start.
+fn fault(number: usize, stream: &mut TextStream, start: Place) -> ParseFault<DemoAttr> {
+    match number {
+        0 => pass(stream, Cause::BadEscape('q')),
+        1 => {
+            let missing = unexpected(stream, Expected::Digit);
+            demanded(stream, missing)
+        }
+        2 => refuse(stream, Cause::UnknownIndex(3)),
+        _ => refuse_at(stream, start, Cause::DuplicateIndex(3)),
+    }
+}
+
+/// What is said of the fault of a line.
+fn refused(
+    alloc: Global,
+    number: usize,
+    stream: &mut TextStream,
+    start: Place,
+) -> Result<String, Fail> {
+    let fault = fault(number, stream, start);
+    told(alloc, &fault)
+}
+
+#[test]
+fn faults_are_committed_or_not(rt: HostRuntime) -> Result<(), Fail> {
+    let mut stream = TextStream::new(rt.alloc(), "ab")?;
+    let start = stream.position();
+    assert!(rt; next_is(&stream, 'a') && begins(&stream, Class::Beginning));
+    let _ = stream.take();
+    assert!(rt; !next_is(&stream, 'a') && !begins(&stream, Class::WhiteSpace));
+    for (number, wanted) in FAULTS.iter().enumerate() {
+        assert_eq!(rt;
+            refused(rt.alloc(), number, &mut stream, start)?.as_str(),
+            *wanted
+        );
+    }
+    let value: ParseResult<u8, DemoAttr> = demand(&mut stream, Ok(7));
+    assert_eq!(rt; value.ok(), Some(7));
+    Ok(())
+}

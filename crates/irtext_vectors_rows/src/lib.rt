@@ -1,0 +1,6 @@
+//! Worked rows: of each definition what it says of one text, tree, graph or format.
+#![tactic(auto)]
+
+pub mod definitions;
+pub mod location_rows;
+pub mod plain_roots;
