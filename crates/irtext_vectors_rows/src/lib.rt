@@ -2,5 +2,6 @@
 #![tactic(auto)]
 
 pub mod definitions;
+pub mod labels;
 pub mod location_rows;
 pub mod plain_roots;
