@@ -1,0 +1,225 @@
+//! Which formats are accepted, and by which condition the others are refused; and the operations of a dialect.
+use crate::helpers::named;
+use irtext_base::base::{Identifier, OpId};
+use irtext_context::dialect::{Dialect, DialectName};
+use irtext_base::format::{Directive, FormatFault, OpFormat};
+use irtext_context::format::check_format;
+use irtext_base::result::Result as Answer;
+use irtext_types::DemoAttr;
+use std::alloc::Global;
+use std::convert::AsStr;
+use std::test::Fail;
+
+/// The directive without a text that a letter stands for: a place by its number or letter, a list by a capital.
+fn plain(letter: char) -> Option<Directive> {
+    match letter {
+        '0' => Some(Directive::Operand(0)),
+        '1' => Some(Directive::Operand(1)),
+        'O' => Some(Directive::Operands),
+        's' => Some(Directive::Successor(0)),
+        't' => Some(Directive::Successor(1)),
+        'S' => Some(Directive::Successors),
+        'v' => Some(Directive::ResultType(0)),
+        'w' => Some(Directive::ResultType(1)),
+        'a' => Some(Directive::Region(0)),
+        'b' => Some(Directive::Region(1)),
+        'R' => Some(Directive::Regions),
+        'd' => Some(Directive::AttrDict),
+        'h' => Some(Directive::SymbolHeader),
+        _ => None,
+    }
+}
+
+/// The key of the attribute that a letter stands for.
+fn key(letter: char) -> Option<&'static str> {
+    match letter {
+        'k' => Some("k"),
+        'n' => Some("builtin_sym_name"),
+        'g' => Some("builtin_given_names"),
+        _ => None,
+    }
+}
+
+/// The literal that any other character stands for.
+fn literal(letter: char) -> &'static str {
+    match letter {
+        '_' => "",
+        ' ' => "a b",
+        '>' => "->",
+        ',' => ",",
+        ':' => ":",
+        '{' => "{",
+        'x' => "x",
+        _ => "to",
+    }
+}
+
+/// The directive that a character stands for.
+fn directive(alloc: Global, letter: char) -> Result<Directive, Fail> {
+    if let Some(directive) = plain(letter) {
+        return Ok(directive);
+    }
+    match key(letter) {
+        Some(key) => Ok(Directive::Attr(named(alloc, key)?)),
+        None => Ok(Directive::Literal(String::from_str(alloc, literal(letter))?)),
+    }
+}
+
+/// The format with one directive for each character.
+fn format_of(alloc: Global, letters: &str) -> Result<OpFormat, Fail> {
+    let mut directives = Vec::new(alloc);
+    for letter in letters.chars() {
+        directives.push(directive(alloc, letter)?)?;
+    }
+    Ok(OpFormat::Custom(directives))
+}
+
+const ACCEPTED: &[&str] = &[
+    "", "xx", "1,0", "0,O", "ts", "v", "ab", "aR", "n", "hd", "Oa", "ak", "O>", "Od", "Oh", "OS:",
+    "S0", "R:",
+];
+
+const REFUSED: &[(&str, FormatFault)] = &[
+    ("_", FormatFault::C1),
+    (" ", FormatFault::C1),
+    ("1 ", FormatFault::C1),
+    ("1", FormatFault::C2),
+    ("00", FormatFault::C2),
+    ("OO", FormatFault::C2),
+    ("t", FormatFault::C3),
+    ("w", FormatFault::C4),
+    ("v:v", FormatFault::C4),
+    ("ba", FormatFault::C5),
+    ("Ra", FormatFault::C5),
+    ("RR", FormatFault::C5),
+    ("kk", FormatFault::C6),
+    ("g", FormatFault::C6),
+    ("dd", FormatFault::C6),
+    ("hn", FormatFault::C6),
+    ("a0", FormatFault::C7),
+    ("aO", FormatFault::C7),
+    ("av", FormatFault::C7),
+    ("O.", FormatFault::C8),
+    ("Ok", FormatFault::C8),
+    ("O0", FormatFault::C8),
+    ("O,0", FormatFault::C8),
+    ("S", FormatFault::C8),
+    ("OS", FormatFault::C8),
+    ("SO", FormatFault::C8),
+    ("OSx", FormatFault::C8),
+    ("R{", FormatFault::C8),
+];
+
+#[test]
+fn formats_that_read_uniquely_are_accepted(rt: HostRuntime) -> Result<(), Fail> {
+    assert!(rt; check_format(&OpFormat::Canonical).is_ok());
+    for letters in ACCEPTED {
+        let format = format_of(rt.alloc(), letters)?;
+        assert_eq!(rt; check_format(&format), Ok(()));
+    }
+    Ok(())
+}
+
+#[test]
+fn formats_are_refused_by_the_first_condition_that_they_fail(rt: HostRuntime) -> Result<(), Fail> {
+    for row in REFUSED {
+        let format = format_of(rt.alloc(), row.0)?;
+        assert_eq!(rt; check_format(&format), Err(row.1));
+    }
+    Ok(())
+}
+
+/// The name of a dialect.
+fn dialect_name(alloc: Global, text: &str) -> Result<DialectName, Fail> {
+    Ok(DialectName::from(named(alloc, text)?))
+}
+
+/// Whether a name's copy and its identifier equal what it was made of.
+fn comes_back(alloc: Global) -> Result<bool, Fail> {
+    let name = dialect_name(alloc, "test")?;
+    let copy: Answer<DialectName, DemoAttr> = name.try_clone();
+    let same = matches!(&copy, Ok(copy) if *copy == name);
+    let word = named(alloc, "test")?;
+    Ok(same && name.as_str() == "test" && Identifier::from(name) == word)
+}
+
+/// The name of a dialect as a text, or why a text is none.
+fn told(alloc: Global, text: &str) -> Result<String, Fail> {
+    let answer: Answer<DialectName, DemoAttr> = DialectName::try_new(alloc, text);
+    match &answer {
+        Ok(name) => Ok(format!(in alloc; "{name}")?),
+        Err(error) => Ok(format!(in alloc; "{}", error.err)?),
+    }
+}
+
+/// What is said of registering an operation under the name `test.z`: an empty text, or why it is refused.
+fn registered(
+    alloc: Global,
+    dialect: &mut Dialect,
+    letters: &str,
+    isolated: bool,
+) -> Result<String, Fail> {
+    let id = OpId {
+        dialect: named(alloc, "test")?,
+        name: named(alloc, "z")?,
+    };
+    let format = format_of(alloc, letters)?;
+    let answer: Answer<(), DemoAttr> = dialect.add_op(id, format, isolated);
+    match &answer {
+        Ok(()) => Ok(String::new(alloc)),
+        Err(error) => Ok(format!(in alloc; "{error}")?),
+    }
+}
+
+/// Formats that are registered one behind the other under one name, whether as isolated, and what is said of them.
+const REGISTERED: &[(&str, bool, &str)] = &[
+    ("0", false, ""),
+    ("", true, ""),
+    (
+        "S",
+        false,
+        "Compilation error: invalid argument.\nFormat refused by condition C8",
+    ),
+];
+
+/// Whether the last format that was accepted is kept.
+fn keeps(alloc: Global, dialect: &mut Dialect) -> Result<bool, Fail> {
+    for row in REGISTERED {
+        if registered(alloc, dialect, row.0, row.1)?.as_str() != row.2 {
+            return Ok(false);
+        }
+    }
+    let id = OpId {
+        dialect: named(alloc, "test")?,
+        name: named(alloc, "z")?,
+    };
+    Ok(matches!(dialect.op(&id), Some(info) if info.isolated))
+}
+
+/// The same with a dialect of its own.
+fn last_is_kept(alloc: Global) -> Result<bool, Fail> {
+    let mut dialect = Dialect::new(alloc, dialect_name(alloc, "test")?);
+    keeps(alloc, &mut dialect)
+}
+
+/// What is said of registering `test.z` with another dialect.
+fn of_another(alloc: Global) -> Result<String, Fail> {
+    let mut dialect = Dialect::new(alloc, dialect_name(alloc, "builtin")?);
+    registered(alloc, &mut dialect, "", false)
+}
+
+#[test]
+fn dialects_and_their_names(rt: HostRuntime) -> Result<(), Fail> {
+    assert!(rt; comes_back(rt.alloc())?);
+    assert_eq!(rt; told(rt.alloc(), "test")?.as_str(), "test");
+    assert_eq!(rt;
+        told(rt.alloc(), "1a")?.as_str(),
+        "Unexpected `1`, expected identifier"
+    );
+    assert!(rt; last_is_kept(rt.alloc())?);
+    assert_eq!(rt;
+        of_another(rt.alloc())?.as_str(),
+        "Compilation error: invalid argument.\nOperation test.z is not of dialect builtin"
+    );
+    Ok(())
+}

@@ -1,0 +1,21 @@
+//! Worked rows of the crates below printing and reading: each public call once, on a stream or a context.
+#![tactic(auto)]
+
+#[cfg(test)]
+mod contexts;
+#[cfg(test)]
+mod demo;
+#[cfg(test)]
+mod formats;
+#[cfg(test)]
+mod helpers;
+#[cfg(test)]
+mod lists;
+#[cfg(test)]
+mod locations;
+#[cfg(test)]
+mod numbers;
+#[cfg(test)]
+mod quoted;
+#[cfg(test)]
+mod streams;

@@ -1,0 +1,11 @@
+//! Worked rows of what is parsable: values, locations, and the marker in the place of an item.
+#![tactic(auto)]
+
+#[cfg(test)]
+mod helpers;
+#[cfg(test)]
+mod location_readings;
+#[cfg(test)]
+mod markers;
+#[cfg(test)]
+mod values;

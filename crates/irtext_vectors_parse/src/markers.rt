@@ -1,0 +1,61 @@
+//! Items with white space round them, and the marker that may stand for one.
+use crate::helpers::{behind, left};
+use irtext_base::parsable::{ParseResult, TextStream};
+use irtext_parse::irfmt::outlined::outlined_marker_or;
+use irtext_read::irfmt::parsers::{int_parse, spaced};
+use irtext_types::DemoAttr;
+use std::alloc::Global;
+use std::test::Fail;
+
+/// What is said of the items with white space round them of ` 7 x`, one behind the other.
+const SPACED: &[&str] = &[
+    "7|Some('x')",
+    "line: 1, column: 4: Unexpected `x`, expected digit|Some('x')",
+];
+
+/// Texts, and what is said of the item or the marker in its place.
+const MARKED: &[(&str, &str)] = &[
+    ("  !outlined x", "None|Some(' ')"),
+    ("7", "Some(7)|None"),
+    (
+        "!outlin",
+        "line: 1, column: 1: Unexpected `!`, expected digit|Some('!')",
+    ),
+];
+
+/// What an item with white space round it answers.
+fn read_spaced(alloc: Global, stream: &mut TextStream) -> Result<String, Fail> {
+    let answer: ParseResult<i32, DemoAttr> = spaced(stream, int_parse);
+    behind(alloc, &answer, stream.peek())
+}
+
+/// What an item or the marker in its place answers.
+fn read_marked(alloc: Global, text: &str) -> Result<String, Fail> {
+    let mut stream = TextStream::new(alloc, text)?;
+    let answer: ParseResult<Option<i32>, DemoAttr> = outlined_marker_or(&mut stream, int_parse);
+    marked(alloc, &answer, stream.peek())
+}
+
+/// What an answer says of an item that a marker may stand for.
+fn marked(
+    alloc: Global,
+    answer: &ParseResult<Option<i32>, DemoAttr>,
+    next: Option<char>,
+) -> Result<String, Fail> {
+    match answer {
+        Ok(found) => Ok(format!(in alloc; "{found:?}|{next:?}")?),
+        Err(fault) => left(alloc, fault, next),
+    }
+}
+
+#[test]
+fn items_and_the_marker(rt: HostRuntime) -> Result<(), Fail> {
+    let mut stream = TextStream::new(rt.alloc(), " 7 x")?;
+    for wanted in SPACED {
+        assert_eq!(rt; read_spaced(rt.alloc(), &mut stream)?.as_str(), *wanted);
+    }
+    for row in MARKED {
+        assert_eq!(rt; read_marked(rt.alloc(), row.0)?.as_str(), row.1);
+    }
+    Ok(())
+}

@@ -1,0 +1,115 @@
+//! Attributes and types as they are read and printed.
+use crate::helpers::{Ctx, Stream, in_context, left};
+use irtext_base::base::AttrObj;
+use irtext_context::base::Context;
+use irtext_base::parsable::{CharStream, ParseResult};
+use irtext_print::printable::Disp;
+use irtext_read::irfmt::parsers::{attr_parse, type_parse};
+use irtext_types::{DemoAttr, DemoType};
+use std::alloc::Global;
+use std::test::Fail;
+
+/// Texts, and what is said of the attribute that each begins with.
+const ATTRIBUTES: &[(&str, &str)] = &[
+    (
+        "builtin.given_names [a, ?]",
+        "builtin.given_names [a, ?]|None",
+    ),
+    (
+        "builtin.given_names[ a ,?\n, b1 ] x",
+        "builtin.given_names [a, ?, b1]|Some(' ')",
+    ),
+    ("builtin.given_names []", "builtin.given_names []|None"),
+    (
+        "builtin.given_names [a,]",
+        "line: 1, column: 24: Unexpected `]`, expected identifier!",
+    ),
+    (
+        "builtin.given_names [a b]",
+        "line: 1, column: 24: Unexpected `b`, expected `]`!",
+    ),
+    (
+        "builtin.given_names a",
+        "line: 1, column: 21: Unexpected `a`, expected `[`!",
+    ),
+    (
+        "builtin.identifier  entry;",
+        "builtin.identifier entry|Some(';')",
+    ),
+    (
+        "builtin.identifier\n1",
+        "line: 2, column: 1: Unexpected `1`, expected identifier!",
+    ),
+    (
+        "builtin.identifierx",
+        "line: 1, column: 1: Unregistered attribute builtin.identifierx!",
+    ),
+    (
+        "builtin.identifier.x a",
+        "line: 1, column: 1: Unregistered attribute builtin.identifier.x!",
+    ),
+    ("builtin.string \"a\" x", "builtin.string \"a\"|Some(' ')"),
+    (
+        "1",
+        "line: 1, column: 1: Unexpected `1`, expected attribute|Some('1')",
+    ),
+];
+
+/// Texts, and what is said of the type that each begins with.
+const TYPES: &[(&str, &str)] = &[
+    ("test.ptr x", "Pointer|Some(' ')"),
+    (
+        "",
+        "line: 1, column: 1: Unexpected end of input, expected type|None",
+    ),
+];
+
+/// The text of an attribute that was read, or the fault, and what stands behind.
+fn printed(
+    alloc: Global,
+    answer: &ParseResult<AttrObj<DemoAttr>, DemoAttr>,
+    next: Option<char>,
+) -> Result<String, Fail> {
+    let ctx: Ctx = Context::new(alloc);
+    match answer {
+        Ok(attr) => Ok(format!(in alloc; "{}|{next:?}", attr.disp(&ctx))?),
+        Err(fault) => left(alloc, fault, next),
+    }
+}
+
+/// The type that was read, or the fault, and what stands behind.
+fn printed_type(
+    alloc: Global,
+    answer: &ParseResult<DemoType, DemoAttr>,
+    next: Option<char>,
+) -> Result<String, Fail> {
+    match answer {
+        Ok(ptr) => Ok(format!(in alloc; "{ptr:?}|{next:?}")?),
+        Err(fault) => left(alloc, fault, next),
+    }
+}
+
+/// What is said of the attribute that is read.
+fn attribute(alloc: Global, s: &mut Stream<'_>) -> Result<String, Fail> {
+    let answer = attr_parse(s);
+    let next = s.peek();
+    printed(alloc, &answer, next)
+}
+
+/// What is said of the type that is read.
+fn type_of(alloc: Global, s: &mut Stream<'_>) -> Result<String, Fail> {
+    let answer = type_parse(s);
+    let next = s.peek();
+    printed_type(alloc, &answer, next)
+}
+
+#[test]
+fn attributes_and_types_of_a_text(rt: HostRuntime) -> Result<(), Fail> {
+    for row in ATTRIBUTES {
+        assert_eq!(rt; in_context(rt.alloc(), row.0, attribute)?.as_str(), row.1);
+    }
+    for row in TYPES {
+        assert_eq!(rt; in_context(rt.alloc(), row.0, type_of)?.as_str(), row.1);
+    }
+    Ok(())
+}

@@ -1,0 +1,118 @@
+//! Errors in errors, and errors as faults of a reading.
+use crate::helpers::{Ctx, line};
+use irtext_context::base::Context;
+use irtext_base::location::{Location, Source};
+use irtext_base::parsable::{ParseResult, SourcePosition};
+use irtext_base::result::{Cause, Error, ErrorKind};
+use irtext_print::printable::Disp;
+use irtext_read::parsable::IntoParseResult;
+use irtext_types::DemoAttr;
+use std::alloc::Global;
+use std::fmt;
+use std::test::Fail;
+
+/// What a call answers here: an error either way.
+type Answer = Result<Error<DemoAttr>, Error<DemoAttr>>;
+
+/// A place in memory.
+pub(crate) fn at(line: i32, column: i32) -> Location<DemoAttr> {
+    Location::SrcPos {
+        src: Source::InMemory,
+        pos: SourcePosition { line, column },
+    }
+}
+
+/// The text of an answer, with the locations of its error.
+fn shown(alloc: Global, answer: &Answer) -> Result<String, Fail> {
+    let ctx: Ctx = Context::new(alloc);
+    Ok(format!(in alloc; "{}", answer.disp(&ctx))?)
+}
+
+/// The texts of errors that hold others, with their locations.
+const INNER: &[&str] = &[
+    "[<in-memory>: line: 1, column: 1] Compilation error: invalid argument.\nCompilation error: verification failed.\n[<in-memory>: line: 1, column: 2] Compilation error: invalid input program.\nRepeated item reads nothing",
+    "Compilation error: invalid argument.\nan error occurred when formatting an argument",
+    "[<in-memory>: line: 4, column: 2] Compilation error: verification failed.\nCompilation error: invalid argument.\nan error occurred when formatting an argument",
+];
+
+/// An error in an error in another.
+fn third(alloc: Global) -> Result<Error<DemoAttr>, Fail> {
+    let first = irtext_base::input_error!(at(1, 2), Cause::EmptyItem);
+    let second = irtext_base::verify_error_noloc!(Cause::Nested(Box::new(alloc, first)?));
+    Ok(irtext_base::arg_error!(at(1, 1), Cause::Nested(Box::new(alloc, second)?)))
+}
+
+/// An error of a formatter in another.
+fn formatted(alloc: Global) -> Result<Error<DemoAttr>, Fail> {
+    let inner: Error<DemoAttr> = Error::from(fmt::Error);
+    Ok(Error {
+        kind: ErrorKind::VerificationFailed,
+        err: Cause::Nested(Box::new(alloc, inner)?),
+        loc: at(4, 2),
+    })
+}
+
+/// The text of the error of a line.
+fn shown_inner(alloc: Global, number: usize) -> Result<String, Fail> {
+    let answer: Answer = match number {
+        0 => Ok(third(alloc)?),
+        1 => Ok(Error::from(fmt::Error)),
+        _ => Ok(formatted(alloc)?),
+    };
+    shown(alloc, &answer)
+}
+
+/// What errors, a value and an answer are to a reading.
+const FAULTS: &[&str] = &[
+    "line: 4, column: 2: Repeated item reads nothing!",
+    "line: 1, column: 1: Repeated item reads nothing!",
+    "7",
+    "line: 4, column: 2: List separator is white space!",
+];
+
+/// An error with its location.
+fn located() -> Error<DemoAttr> {
+    irtext_base::input_error!(at(4, 2), Cause::EmptyItem)
+}
+
+/// An error without its location.
+fn alone() -> Error<DemoAttr> {
+    irtext_base::arg_error_noloc!(Cause::EmptyItem)
+}
+
+/// An answer that is a value.
+fn good() -> Result<u8, Error<DemoAttr>> {
+    Ok(7)
+}
+
+/// An answer that is an error.
+fn bad() -> Result<u8, Error<DemoAttr>> {
+    irtext_base::input_err!(at(4, 2), Cause::BadSeparator)
+}
+
+/// The error, value or answer of a line, as that of a reading.
+fn of_reading(number: usize) -> ParseResult<u8, DemoAttr> {
+    match number {
+        0 => located().into_parse_result(),
+        1 => alone().into_parse_result(),
+        2 => good().into_parse_result(),
+        _ => bad().into_parse_result(),
+    }
+}
+
+/// What is said of the answer of a line.
+fn said(alloc: Global, number: usize) -> Result<String, Fail> {
+    let answer = of_reading(number);
+    line(alloc, &answer)
+}
+
+#[test]
+fn errors_in_errors_and_in_readings(rt: HostRuntime) -> Result<(), Fail> {
+    for (number, wanted) in INNER.iter().enumerate() {
+        assert_eq!(rt; shown_inner(rt.alloc(), number)?.as_str(), *wanted);
+    }
+    for (number, wanted) in FAULTS.iter().enumerate() {
+        assert_eq!(rt; said(rt.alloc(), number)?.as_str(), *wanted);
+    }
+    Ok(())
+}

@@ -1,0 +1,53 @@
+//! The printing state and its guards.
+use irtext_print::printable::{RegionPrintDepthLimit, State, fmt_indented_newline};
+use std::test::Fail;
+
+#[test]
+fn a_guard_gives_back_the_indentation_of_its_entry(rt: HostRuntime) -> Result<(), Fail> {
+    let mut state = State::new(rt.alloc(), 5u8);
+    let mut text = String::new(rt.alloc());
+    {
+        let guard = state.indent().ok().ok_or("too deep")?;
+        fmt_indented_newline(guard.state, &mut text)
+            .ok()
+            .ok_or("refused")?;
+        guard.state.set_indent_width(8);
+    }
+    fmt_indented_newline(&state, &mut text)
+        .ok()
+        .ok_or("refused")?;
+    assert_eq!(rt; text.as_str(), "\n  \n");
+    assert_eq!(rt; state.indent_width(), 8);
+    assert_eq!(rt; *state.aux_data_ref(), 5);
+    *state.aux_data_mut() = 6;
+    assert_eq!(rt; *state.aux_data_ref(), 6);
+    Ok(())
+}
+
+#[test]
+fn too_deep_an_indentation_is_refused(rt: HostRuntime) -> Result<(), Fail> {
+    let mut state = State::new(rt.alloc(), ());
+    state.set_indent_width(40000);
+    let guard = state.indent().ok().ok_or("too deep")?;
+    assert!(rt; guard.state.indent().is_err());
+    Ok(())
+}
+
+/// Whether a limit of one region is given back, and no region is entered within it.
+fn limited(state: &mut State<()>) -> bool {
+    state.set_region_print_depth_limit(RegionPrintDepthLimit::Max(1));
+    let inside = match state.enter_region() {
+        Some(guard) => {
+            guard.state.current_region_print_depth_limit() == RegionPrintDepthLimit::Max(0)
+                && guard.state.enter_region().is_none()
+        }
+        None => false,
+    };
+    inside && state.current_region_print_depth_limit() == RegionPrintDepthLimit::Max(1)
+}
+
+#[test]
+fn a_limit_elides_regions(rt: HostRuntime) {
+    let mut state = State::new(rt.alloc(), ());
+    assert!(rt; limited(&mut state));
+}

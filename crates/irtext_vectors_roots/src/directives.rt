@@ -1,0 +1,150 @@
+//! Operations that are read and printed by the directives of their formats.
+use crate::helpers::{Ctx, named, root};
+use crate::registering::register_operation;
+use irtext_types::DemoAttr;
+use pliron_text::base::{Context, OpId, Operation, Ptr};
+use pliron_text::dialect::DialectName;
+use pliron_text::format::{Directive, OpFormat};
+use pliron_text::ir::OperationText;
+use pliron_text::parsable::parse_from_str;
+use pliron_text::printable::Disp;
+use pliron_text::result::Result as Answer;
+use std::alloc::Global;
+use std::test::Fail;
+
+/// The format of `lab.d` by its letters, a text, and the concrete text of the root that it reads as, or why it is refused.
+const ROWS: &[(&str, &str, &str)] = &[
+    ("", "lab.d", "lab.d"),
+    (
+        "d",
+        "lab.d [a: builtin.integer <1: i8>, a: builtin.string \"s\"]",
+        "lab.d [a: builtin.string \"s\"]",
+    ),
+    ("d", "lab.d [ ]", "lab.d []"),
+    (
+        "d",
+        "lab.d [builtin_given_names: builtin.string \"s\"]",
+        "Compilation error: invalid input program.\nParse error at line: 1, column: 8\nReserved attribute key: builtin_given_names\n",
+    ),
+    ("xx", "lab.d x\nx", "lab.d x x"),
+    ("ab", "lab.d{}{ }", "lab.d \n{\n  \n} \n{\n  \n}"),
+    (
+        "aR",
+        "lab.d {}{} {}",
+        "lab.d \n{\n  \n} \n{\n  \n}\n{\n  \n}",
+    ),
+    ("R:", "lab.d :", "lab.d :"),
+    ("R:", "lab.d {}:", "lab.d \n{\n  \n}:"),
+    (
+        "n",
+        "lab.d builtin.identifier x",
+        "lab.d builtin.identifier x",
+    ),
+    (
+        "hd",
+        "lab.d @s [k:builtin.identifier y , l :builtin.string \"\\u{e9}\"]",
+        "lab.d @s [k: builtin.identifier y, l: builtin.string \"é\"]",
+    ),
+    (
+        "ak",
+        "lab.d {} builtin.string \"s\"",
+        "lab.d \n{\n  \n} builtin.string \"s\"",
+    ),
+    (
+        "x",
+        "lab.d y",
+        "Compilation error: invalid input program.\nParse error at line: 1, column: 7\nUnexpected `y`, expected `x`\n",
+    ),
+];
+
+/// The directive that a letter stands for.
+fn directive(alloc: Global, letter: char) -> Result<Directive, Fail> {
+    match letter {
+        'a' => Ok(Directive::Region(0)),
+        'b' => Ok(Directive::Region(1)),
+        'R' => Ok(Directive::Regions),
+        'd' => Ok(Directive::AttrDict),
+        'h' => Ok(Directive::SymbolHeader),
+        'k' => Ok(Directive::Attr(named(alloc, "k")?)),
+        'n' => Ok(Directive::Attr(named(alloc, "builtin_sym_name")?)),
+        ':' => Ok(Directive::Literal(String::from_str(alloc, ":")?)),
+        _ => Ok(Directive::Literal(String::from_str(alloc, "x")?)),
+    }
+}
+
+/// The format with one directive for each letter.
+fn format_of(alloc: Global, letters: &str) -> Result<OpFormat, Fail> {
+    let mut directives = Vec::new(alloc);
+    for letter in letters.chars() {
+        directives.push(directive(alloc, letter)?)?;
+    }
+    Ok(OpFormat::Custom(directives))
+}
+
+/// Registers `lab.d`, which is isolated, with the format of these letters.
+fn register(alloc: Global, ctx: &mut Ctx, letters: &str) -> Result<(), Fail> {
+    let id = OpId {
+        dialect: named(alloc, "lab")?,
+        name: named(alloc, "d")?,
+    };
+    let name = DialectName::from(named(alloc, "lab")?);
+    let answer: Answer<(), DemoAttr> = register_operation(
+        ctx,
+        &name,
+        id,
+        format_of(alloc, letters)?,
+        true,
+    );
+    Ok(answer.ok().ok_or("refused")?)
+}
+
+/// The concrete text of a root.
+fn concrete(alloc: Global, ctx: &Ctx, op: Ptr<Operation>) -> Result<String, Fail> {
+    if !ctx.contains_operation(op) {
+        return Err(Fail::from("no such operation"));
+    }
+    Ok(format!(in alloc; "{}", Operation::get_op_dyn(op, ctx).disp(ctx))?)
+}
+
+/// The whole text of a root.
+fn whole(alloc: Global, ctx: &Ctx, op: Ptr<Operation>) -> Result<String, Fail> {
+    if !ctx.contains_operation(op) {
+        return Err(Fail::from("no such operation"));
+    }
+    Ok(format!(in alloc; "{}", op.disp(ctx))?)
+}
+
+/// Whether the root's whole text is read back as a root of the same text.
+fn comes_back(alloc: Global, ctx: &mut Ctx, op: Ptr<Operation>) -> Result<bool, Fail> {
+    let text = whole(alloc, ctx, op)?;
+    let again = root(ctx, text.as_str()).ok_or("refused")?;
+    Ok(whole(alloc, ctx, again)?.as_str() == text.as_str())
+}
+
+/// The concrete text of the root that a text reads as, or why it is refused.
+fn answered(alloc: Global, ctx: &mut Ctx, text: &str) -> Result<String, Fail> {
+    match parse_from_str(|s| Operation::top_level_parse(s), ctx, text) {
+        Ok(op) => {
+            if !comes_back(alloc, ctx, op)? {
+                return Err(Fail::from("other text"));
+            }
+            concrete(alloc, ctx, op)
+        }
+        Err(error) => Ok(format!(in alloc; "{error}")?),
+    }
+}
+
+/// The same in a context of its own.
+fn formatted(alloc: Global, letters: &str, text: &str) -> Result<String, Fail> {
+    let mut ctx: Ctx = Context::new(alloc);
+    register(alloc, &mut ctx, letters)?;
+    answered(alloc, &mut ctx, text)
+}
+
+#[test]
+fn directives_are_read_and_printed(rt: HostRuntime) -> Result<(), Fail> {
+    for row in ROWS {
+        assert_eq!(rt; formatted(rt.alloc(), row.0, row.1)?.as_str(), row.2);
+    }
+    Ok(())
+}

@@ -1,0 +1,116 @@
+//! What the macros make of a cause or a text: those of this layer, and those of the lowest crate.
+use crate::helpers::Ctx;
+use irtext_types::DemoAttr;
+use pliron_text::base::Context;
+use pliron_text::location::{Location, Source};
+use pliron_text::parsable::SourcePosition;
+use pliron_text::printable::Disp;
+use pliron_text::result::{Cause, Error, ErrorKind};
+use std::alloc::Global;
+use std::test::Fail;
+
+/// What a call answers here: an error either way.
+type Answer = Result<Error<DemoAttr>, Error<DemoAttr>>;
+
+/// What the macros make, with its location.
+const MADE: &[&str] = &[
+    "[<in-memory>: line: 4, column: 2] Compilation error: invalid input program.\nRepeated item reads nothing",
+    "[<in-memory>: line: 4, column: 2] Compilation error: verification failed.\nlocated 1",
+    "Compilation error: verification failed.\nThe stream has failed",
+    "[<in-memory>: line: 4, column: 2] Compilation error: invalid input program.\nList separator is white space",
+    "Compilation error: invalid input program.\nalone 2",
+    "[<in-memory>: line: 4, column: 2] Compilation error: invalid argument.\nOut of memory",
+    "Compilation error: invalid argument.\nalone 3",
+];
+
+/// A place in memory.
+fn at(line: i32, column: i32) -> Location<DemoAttr> {
+    Location::SrcPos {
+        src: Source::InMemory,
+        pos: SourcePosition { line, column },
+    }
+}
+
+/// The error of a line, as a macro of the text layer makes it.
+fn made(alloc: Global, number: usize) -> Answer {
+    match number {
+        0 => Ok(pliron_text::create_error!(at(4, 2), ErrorKind::InvalidInput, Cause::EmptyItem)),
+        1 => Ok(pliron_text::verify_error!(at(4, 2), in alloc; "located {}", 1)),
+        2 => Ok(pliron_text::verify_error_noloc!(Cause::StreamFailed)),
+        3 => Ok(pliron_text::input_error!(at(4, 2), Cause::BadSeparator)),
+        4 => Ok(pliron_text::input_error_noloc!(in alloc; "alone {}", 2)),
+        5 => Ok(pliron_text::arg_error!(at(4, 2), Cause::Memory)),
+        _ => Ok(pliron_text::arg_error_noloc!(in alloc; "alone 3")),
+    }
+}
+
+/// The error of a line, as a macro of the text layer answers it.
+fn answered(alloc: Global, number: usize) -> Answer {
+    match number {
+        0 => pliron_text::create_err!(at(4, 2), ErrorKind::InvalidInput, Cause::EmptyItem),
+        1 => pliron_text::verify_err!(at(4, 2), in alloc; "located {}", 1),
+        2 => pliron_text::verify_err_noloc!(Cause::StreamFailed),
+        3 => pliron_text::input_err!(at(4, 2), Cause::BadSeparator),
+        4 => pliron_text::input_err_noloc!(in alloc; "alone {}", 2),
+        5 => pliron_text::arg_err!(at(4, 2), Cause::Memory),
+        _ => pliron_text::arg_err_noloc!(in alloc; "alone 3"),
+    }
+}
+
+/// The error of a line, as a macro of the lowest crate makes it.
+fn made_below(alloc: Global, number: usize) -> Answer {
+    match number {
+        0 => Ok(irtext_base::create_error!(at(4, 2), ErrorKind::InvalidInput, Cause::EmptyItem)),
+        1 => Ok(irtext_base::verify_error!(at(4, 2), in alloc; "located {}", 1)),
+        2 => Ok(irtext_base::verify_error_noloc!(Cause::StreamFailed)),
+        3 => Ok(irtext_base::input_error!(at(4, 2), Cause::BadSeparator)),
+        4 => Ok(irtext_base::input_error_noloc!(in alloc; "alone {}", 2)),
+        5 => Ok(irtext_base::arg_error!(at(4, 2), Cause::Memory)),
+        _ => Ok(irtext_base::arg_error_noloc!(in alloc; "alone 3")),
+    }
+}
+
+/// The error of a line, as a macro of the lowest crate answers it.
+fn answered_below(alloc: Global, number: usize) -> Answer {
+    match number {
+        0 => irtext_base::create_err!(at(4, 2), ErrorKind::InvalidInput, Cause::EmptyItem),
+        1 => irtext_base::verify_err!(at(4, 2), in alloc; "located {}", 1),
+        2 => irtext_base::verify_err_noloc!(Cause::StreamFailed),
+        3 => irtext_base::input_err!(at(4, 2), Cause::BadSeparator),
+        4 => irtext_base::input_err_noloc!(in alloc; "alone {}", 2),
+        5 => irtext_base::arg_err!(at(4, 2), Cause::Memory),
+        _ => irtext_base::arg_err_noloc!(in alloc; "alone 3"),
+    }
+}
+
+/// What the macros of a set make for a line.
+fn of_set(alloc: Global, set: usize, number: usize) -> Answer {
+    match set {
+        0 => made(alloc, number),
+        1 => answered(alloc, number),
+        2 => made_below(alloc, number),
+        _ => answered_below(alloc, number),
+    }
+}
+
+/// The text of an answer, with the locations of its error.
+fn shown(alloc: Global, answer: &Answer) -> Result<String, Fail> {
+    let ctx: Ctx = Context::new(alloc);
+    Ok(format!(in alloc; "{}", answer.disp(&ctx))?)
+}
+
+/// The text of what the macros of a set make for a line.
+fn shown_of_set(alloc: Global, set: usize, number: usize) -> Result<String, Fail> {
+    let answer = of_set(alloc, set, number);
+    shown(alloc, &answer)
+}
+
+#[test]
+fn what_the_macros_make(rt: HostRuntime) -> Result<(), Fail> {
+    for set in 0..4 {
+        for (number, wanted) in MADE.iter().enumerate() {
+            assert_eq!(rt; shown_of_set(rt.alloc(), set, number)?.as_str(), *wanted);
+        }
+    }
+    Ok(())
+}
