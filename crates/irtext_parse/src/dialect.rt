@@ -6,10 +6,10 @@ ghost use Rattle.irtext_outcomes.specs.Readers.Streams.{itself, replaced};
 
 use crate::parsable::{Parsable, ParseResult, StateStream};
 use irtext_base::base::Identifier;
-use irtext_context::dialect::DialectName;
 use irtext_base::parsable::CharStream;
 use irtext_base::result::Cause;
 use irtext_base::text::{AttrText, IrText};
+use irtext_context::dialect::DialectName;
 use irtext_read::irfmt::faults::refuse_at;
 use irtext_read::irfmt::parsers::identifier_parse;
 

@@ -6,13 +6,13 @@ ghost use Rattle.irtext_base.specs.Text.{is_identifier};
 ghost use Rattle.irtext_base.specs.declared.location.Location.{Unknown};
 ghost use Rattle.irtext_types.specs.DemoDialects.{demo_operations, id_with, module_directives, function_directives, scope_directives, module_op, function_op, scope_op, nop_op, with_operation, Registers, RegistersAll};
 
-use irtext_context::base::Context;
 use irtext_base::base::{Identifier, OpId};
-use irtext_context::dialect::{Dialect, DialectName};
 use irtext_base::format::{Directive, OpFormat};
 use irtext_base::location::Location;
 use irtext_base::result::{Cause, Error, ErrorKind, Result as Answer};
 use irtext_base::text::{AttrText, IrText};
+use irtext_context::base::Context;
+use irtext_context::dialect::{Dialect, DialectName};
 use std::alloc::{AllocError, Global};
 
 /// The refusal for want of memory.

@@ -1,9 +1,9 @@
 //! Identifiers, dictionaries, and the objects of a context.
 use crate::helpers::{Ctx, named};
 use irtext_base::base::{AttrObj, AttributeDict, Identifier, OpId, Refusal};
-use irtext_context::base::{Context, Operation, Ptr};
 use irtext_base::location::Location;
 use irtext_base::result::Result as Answer;
+use irtext_context::base::{Context, Operation, Ptr};
 use irtext_types::DemoAttr;
 use std::alloc::Global;
 use std::test::Fail;

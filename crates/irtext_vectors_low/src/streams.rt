@@ -4,7 +4,9 @@ use irtext_base::parsable::{
     CharStream, ParseFault, ParseResult, Place, SourcePosition, TextStream,
 };
 use irtext_base::result::{Cause, Expected};
-use irtext_read::irfmt::faults::{begins, commit, committed, next_is, pass, refuse, refuse_at, unexpected};
+use irtext_read::irfmt::faults::{
+    begins, commit, committed, next_is, pass, refuse, refuse_at, unexpected,
+};
 use irtext_read::irfmt::parsers::{
     Class, id_parse, identifier_parse, int_parse, skip_class, skip_white_space, text_parse,
 };

@@ -1,6 +1,6 @@
 //! What the tests share: streams with a context of the demo types, and what an answer says as a text.
-use irtext_context::base::Context;
 use irtext_base::location::Source;
+use irtext_context::base::Context;
 use irtext_parse::parsable::{ParseFault, ParseResult, State, StateStream, TextStream};
 use irtext_types::{DemoAttr, DemoType};
 use std::alloc::Global;

@@ -1,6 +1,6 @@
 //! Locations of each kind as they are read, and why others are refused.
-use irtext_context::base::Context;
 use irtext_base::location::{Location, Source};
+use irtext_context::base::Context;
 use irtext_parse::parsable::{Parsable, SourcePosition, parse_from_str};
 use irtext_print::printable::Disp;
 use irtext_types::{DemoAttr, DemoType};

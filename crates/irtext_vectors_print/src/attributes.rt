@@ -1,8 +1,8 @@
 //! Attributes and types as they are read and printed.
 use crate::helpers::{Ctx, Stream, in_context, left};
 use irtext_base::base::AttrObj;
-use irtext_context::base::Context;
 use irtext_base::parsable::{CharStream, ParseResult};
+use irtext_context::base::Context;
 use irtext_print::printable::Disp;
 use irtext_read::irfmt::parsers::{attr_parse, type_parse};
 use irtext_types::{DemoAttr, DemoType};

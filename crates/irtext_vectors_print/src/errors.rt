@@ -1,9 +1,9 @@
 //! Errors in errors, and errors as faults of a reading.
 use crate::helpers::{Ctx, line};
-use irtext_context::base::Context;
 use irtext_base::location::{Location, Source};
 use irtext_base::parsable::{ParseResult, SourcePosition};
 use irtext_base::result::{Cause, Error, ErrorKind};
+use irtext_context::base::Context;
 use irtext_print::printable::Disp;
 use irtext_read::parsable::IntoParseResult;
 use irtext_types::DemoAttr;

@@ -1,9 +1,9 @@
 //! What the tests share: contexts of the demo types, names, and what an answer says as a text.
-use irtext_context::base::Context;
 use irtext_base::base::Identifier;
 use irtext_base::location::Source;
 use irtext_base::parsable::{ParseFault, ParseResult, TextStream};
 use irtext_base::result::Result as Answer;
+use irtext_context::base::Context;
 use irtext_read::parsable::{State, StateStream};
 use irtext_types::{DemoAttr, DemoType};
 use std::alloc::Global;

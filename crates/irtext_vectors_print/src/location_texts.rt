@@ -1,10 +1,10 @@
 //! Locations of each kind as texts, and errors behind theirs: files by the paths that the context keeps.
 use crate::helpers::Ctx;
 use irtext_base::base::{AttrObj, Identifier};
-use irtext_context::base::Context;
 use irtext_base::location::{Location, Source};
 use irtext_base::parsable::SourcePosition;
 use irtext_base::result::{Cause, Error};
+use irtext_context::base::Context;
 use irtext_print::printable::Disp;
 use irtext_types::{Characters, DemoAttr};
 use std::alloc::Global;

@@ -10,7 +10,6 @@ pub use Rattle.irtext_grammar.specs.Graphs
 pub use Rattle.irtext_grammar.specs.Spelling
 pub use Rattle.irtext_grammar.specs.Contexts
 pub mod Promises
-
 -- What functions promise one another: streams, faults and answers, what a reader answers, what a printer appends.
 pub use Rattle.irtext_base.specs.Stream
 pub use Rattle.irtext_base.specs.Places

@@ -1,5 +1,5 @@
 -- For callers: what reading a root promises: a tree of the form that is read so far, which resolves, and what it builds; or else why not.
-use Rattle.std.specs.Prelude.{◌≡◌, ◌≢◌, ℕ, ◌-◌, false, Option, Some, None, List, [], ◌∷◌, length, take}
+use Rattle.std.specs.Prelude.{◌≡◌, ◌≢◌, ◌⊎◌, ℕ, ◌-◌, false, Option, Some, None, List, [], ◌∷◌, length, take}
 use Rattle.irtext_base.specs.Text.{Text, line_behind, column_behind}
 use Rattle.irtext_base.specs.Own.{Texts}
 use Rattle.irtext_base.specs.Stream.{StreamView, cut, IsAt}
@@ -98,6 +98,10 @@ module _ {T A : Type 0} (types : Texts T) (owns : Texts A) (attr : Text → Outc
     pub upto : Text
     pub refused : RootRefused dialects attr old.rest cause upto
     pub at : ReportedAt cause upto old fault
+
+-- memory was refused, or this is said of the fault
+abbrev pub UnlessMemory : {A : Type 0} → (ParseFault A → Type 0) → ParseFault A → Type 0
+UnlessMemory says f = (fault_of f.cause ≡ fault.Memory) ⊎ says f
 
 module _ {T A U : Type 0} (types : Texts T) (owns : Texts A) (attr : Text → Outcome (AttrView A)) where
   -- A root stood where the stream stood: the text reads by the context's dialects, with its section, as a tree of the form that is

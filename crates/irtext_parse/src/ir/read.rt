@@ -14,9 +14,9 @@ mod operation;
 mod root;
 
 use crate::parsable::Parsable;
-use irtext_context::base::{Operation, Ptr};
 use irtext_base::parsable::{CharStream, ParseResult};
 use irtext_base::text::{AttrText, IrText};
+use irtext_context::base::{Operation, Ptr};
 use irtext_read::parsable::StateStream;
 pub use root::outermost_parse;
 

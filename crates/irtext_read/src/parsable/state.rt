@@ -8,10 +8,10 @@ ghost use Rattle.irtext_read.specs.States.{marks_of, same_index, LocatesAt, Mark
 ghost use Rattle.irtext_base.specs.declared.location.Location.{Location};
 
 use indexmap::IndexMap;
-use irtext_context::base::{Context, Operation, Ptr};
 use irtext_base::location::{Location, Source};
 use irtext_base::parsable::{CharStream, Place, TextStream};
 use irtext_base::text::{AttrText, IrText};
+use irtext_context::base::{Context, Operation, Ptr};
 use std::alloc::{AllocError, Global};
 
 /// What a reading carries beside its text.

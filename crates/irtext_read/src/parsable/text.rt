@@ -5,11 +5,11 @@ ghost use Rattle.std.specs.Str.{encode_utf8_all};
 ghost use Rattle.irtext_read.specs.FromText.{at_beginning, IsErrorOf, IsStarved, Passes, Runs, Ran};
 
 use crate::parsable::{State, StateStream};
-use irtext_context::base::Context;
 use irtext_base::location::{Location, Source};
 use irtext_base::parsable::{ParseFault, ParseResult, TextStream};
 use irtext_base::result::{Cause, Error, ErrorKind, Result};
 use irtext_base::text::{AttrText, IrText};
+use irtext_context::base::Context;
 use std::alloc::{AllocError, Global};
 
 /// The error of a refused reading from memory.

@@ -1,17 +1,16 @@
 //! The calls of operations that are about their text.
-ghost use Rattle.std.specs.Prelude.{◌≡◌, ◌⊎◌, IfOk, IfErr, OnErr};
-ghost use Rattle.irtext_base.specs.Faults.{Memory, fault_of};
+ghost use Rattle.std.specs.Prelude.{◌≡◌, IfOk, IfErr, OnErr};
 ghost use Rattle.irtext_context.specs.Made.{SameObjects};
 ghost use Rattle.irtext_base.specs.Own.{texts_of};
 ghost use Rattle.irtext_read.specs.AttrTexts.{attr_at};
 ghost use Rattle.irtext_read.specs.States.{marks_of};
 ghost use Rattle.irtext_outcomes.specs.Readers.Refusals.{Refusal};
 ghost use Rattle.irtext_outcomes.specs.Readers.Streams.{KeepsRest};
-ghost use Rattle.irtext_outcomes.specs.Promises.Root.{IsFresh, BuildsRoot, RefusesRoot};
+ghost use Rattle.irtext_outcomes.specs.Promises.Root.{IsFresh, BuildsRoot, RefusesRoot, UnlessMemory};
 
-use irtext_context::base::{Context, Operation, Ptr};
 use irtext_base::parsable::ParseResult;
 use irtext_base::text::{AttrText, IrText};
+use irtext_context::base::{Context, Operation, Ptr};
 use irtext_parse::ir::read::{OperationParserConfig, outermost_parse};
 use irtext_print::ir::print::concrete::OpObj;
 use irtext_read::parsable::StateStream;
@@ -32,7 +31,7 @@ pub trait OperationText {
         ensures rest { KeepsRest stream.old.state stream.new.state }
         ensures refused { IfErr result (λ fault. Refusal stream.old.stream fault stream.new.stream) }
         ensures builds { IsFresh stream.old → IfOk result (λ op. BuildsRoot (texts_of T.reading T.written) (texts_of A.reading A.written) (attr_at A.reading) op stream.old stream.new) }
-        ensures unresolved { IsFresh stream.old → IfErr result (λ fault. (fault_of fault.cause ≡ Memory) ⊎ RefusesRoot (texts_of T.reading T.written) (texts_of A.reading A.written) (attr_at A.reading) stream.old.state.ctx.now.dialects stream.old.stream fault) }
+        ensures unresolved { IsFresh stream.old → IfErr result (UnlessMemory (RefusesRoot (texts_of T.reading T.written) (texts_of A.reading A.written) (attr_at A.reading) stream.old.state.ctx.now.dialects stream.old.stream)) }
         ensures objects { OnErr result (SameObjects stream.old.state.ctx.now stream.new.state.ctx.now) }
         ensures marks { OnErr result (marks_of stream.new.state ≡ marks_of stream.old.state) };
 

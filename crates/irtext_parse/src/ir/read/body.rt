@@ -16,12 +16,12 @@ ghost use Rattle.irtext_outcomes.specs.Readers.Streams.{itself, replaced, KeepsR
 
 use crate::format::pieces::{Pieces, body_parse};
 use crate::parsable::out_of_memory;
-use irtext_context::base::operation::add_regions;
-use irtext_context::base::{Context, Operation, Ptr};
 use irtext_base::base::OpId;
 use irtext_base::location::Location;
 use irtext_base::parsable::{CharStream, ParseResult, TextStream};
 use irtext_base::text::{AttrText, IrText};
+use irtext_context::base::operation::add_regions;
+use irtext_context::base::{Context, Operation, Ptr};
 use irtext_read::parsable::StateStream;
 use std::alloc::AllocError;
 

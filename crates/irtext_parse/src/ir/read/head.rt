@@ -7,11 +7,11 @@ ghost use Rattle.irtext_outcomes.specs.Readers.Parts.{lead_of, behind_lead, is_l
 ghost use Rattle.irtext_read.specs.MustRead.{MayRead};
 ghost use Rattle.irtext_outcomes.specs.Readers.Operations.{led_id_at, Registers};
 
-use irtext_context::base::Context;
 use irtext_base::base::OpId;
 use irtext_base::parsable::{CharStream, ParseResult, Place};
 use irtext_base::result::Cause;
 use irtext_base::text::{AttrText, IrText};
+use irtext_context::base::Context;
 use irtext_read::irfmt::faults::{committed, next_is, refuse, refuse_at};
 use irtext_read::irfmt::parsers::{id_parse, skip_white_space};
 

@@ -6,12 +6,12 @@ ghost use Rattle.irtext_read.specs.MustRead.{MustRead};
 ghost use Rattle.irtext_outcomes.specs.Readers.Marks.{fresh_mark_at, noted};
 ghost use Rattle.irtext_outcomes.specs.Readers.Streams.{itself, replaced, KeepsRest};
 
-use irtext_read::irfmt::demanded::index_demanded;
 use crate::parsable::out_of_memory;
-use irtext_context::base::{Operation, Ptr};
 use irtext_base::parsable::{CharStream, ParseResult};
 use irtext_base::result::Cause;
 use irtext_base::text::{AttrText, IrText};
+use irtext_context::base::{Operation, Ptr};
+use irtext_read::irfmt::demanded::index_demanded;
 use irtext_read::irfmt::faults::{next_is, refuse, refuse_at};
 use irtext_read::parsable::StateStream;
 use std::alloc::AllocError;

@@ -12,9 +12,9 @@ ghost use Rattle.irtext_outcomes.specs.Promises.Supported.{OperationRefused};
 use crate::ir::read::body::{known_body_parse, make_read};
 use crate::ir::read::head::led_id_parse;
 use crate::ir::read::mark::operation_mark_parse;
-use irtext_context::base::{Operation, Ptr};
 use irtext_base::parsable::{CharStream, ParseResult};
 use irtext_base::text::{AttrText, IrText};
+use irtext_context::base::{Operation, Ptr};
 use irtext_read::irfmt::parsers::skip_white_space;
 use irtext_read::parsable::{StateStream, StreamLocation};
 

@@ -13,10 +13,10 @@ ghost use Rattle.irtext_outcomes.specs.Promises.Section.{ReadsWith, MissesWith, 
 use crate::ir::read::OperationParserConfig;
 use crate::ir::read::operation::operation_parse;
 use crate::irfmt::outlined::section_parse;
-use irtext_context::base::{Operation, Ptr};
 use irtext_base::parsable::{ParseFault, ParseResult, ParserNameTrackerError, SourcePosition};
 use irtext_base::result::Cause;
 use irtext_base::text::{AttrText, IrText};
+use irtext_context::base::{Operation, Ptr};
 use irtext_read::parsable::StateStream;
 
 /// Whether a fault's place is that of what stands round it.
