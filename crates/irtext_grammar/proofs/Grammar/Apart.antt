@@ -44,6 +44,7 @@ abbrev pub first : Option Directive → List ℕ
 first None = []
 first (Some d) = beginnings d
 
+-- whether a directive, if there is one, is a list
 abbrev pub listed : Option Directive → Bool
 listed None = false
 listed (Some d) = is_list d

@@ -33,20 +33,24 @@ hugs_small c e = grind (arith, nat_tests)
 hugs_follow : (c : ℕ) → joins_left c ≡ true → can_follow c ≡ true
 hugs_follow c e = implied (joins_left c) (can_follow c) (ascii (λ c. not (joins_left c) || can_follow c) refl c (hugs_small c e)) e
 
+-- the parts of an operation's text, joined from the left, are the same joined from the right
 pub regroup : (r d nm b m f : Text) → ((r ++ ((d ++ (46 ∷ nm)) ++ b)) ++ m) ++ f ≡ r ++ (d ++ (46 ∷ (nm ++ (b ++ (m ++ f)))))
 regroup r d nm b m f = simp append_assoc
 
 regroup_joined : (x j l f : Text) → ((x ++ j) ++ l) ++ f ≡ x ++ (j ++ (l ++ f))
 regroup_joined x j l f = simp append_assoc
 
+-- a newline with its indentation is white space
 pub newline_white : (k : ℕ) (x : Text) → after_space (newline k ++ x) ≡ after_space x
 newline_white zero x = refl
 newline_white (suc k) x = newline_white k x
 
 module _ {P T A : Type 0} (L : Language P T A) (types : Lawful T L.types) (owns : Lawful A L.owns) (unreserved : Unreserved A L.owns) (anywhere : (p : P) (t : Text) → L.at p t) where
+  -- a reading that keeps its place reaches where the reading alone does
   pub here : (p : P) {R : Reading} {t f : Text} → Reaches R t f → Reaches (reads.here L p R) t f
   here p r = record { left = r.left; reading = (anywhere p _, r.reading); same = r.same }
 
+  -- a name reads back
   pub back_name : (n : Name P) (f : Text) → IsName n → Ends f → Reaches (reads.name L n) (n.text ++ f) f
   back_name n f e h = here n.place (reaches_identifier n.text f e h)
 
@@ -54,9 +58,11 @@ module _ {P T A : Type 0} (L : Language P T A) (types : Lawful T L.types) (owns 
   back_signed : (c : ℕ) (s f : Text) → is_whitespace c ≡ false → IsIdentifier s → Ends f → Reaches (literal (c ∷ []) ▸ identifier s) (c ∷ (s ++ f)) f
   back_signed c s f w e h = record { left = f; reading = (s ++ f, after_stops is_whitespace c (s ++ f) w, identifier_here s f e h); same = refl }
 
+  -- a label that is named reads back
   pub back_target : (n : Name P) (f : Text) → IsName n → Ends f → Reaches (reads.target L n) (spell.label L n ++ f) f
   back_target n f e h = record { left = f; reading = (n.text ++ f, after_stops is_whitespace 94 (n.text ++ f) refl, (anywhere n.place (n.text ++ f), identifier_here n.text f e h)); same = refl }
 
+  -- a type reads back
   pub back_type : (x : T) (f : Text) → Ends f → Reaches (reads.type L x) (L.types.written x ++ f) f
   back_type x f h = let a = types.again x f h in
       record { left = a.0; reading = subst (λ t. L.types.outcome t ≡ found x a.0) (sym (word_tight (L.types.written x ++ f) (types.starts x f))) a.1; same = a.2 }
@@ -75,6 +81,7 @@ module _ {P T A : Type 0} (L : Language P T A) (types : Lawful T L.types) (owns 
   back_bracketed F s Good back absent shut xs f g = reaches_then (reaches_literal 91 [] ((joined comma (map s xs) ++ codes "]") ++ f) refl)
       (reaches_then (reaches_from (ap after_space (append_assoc (joined comma (map s xs)) (codes "]") f)) (back_list F s Good back absent xs (93 ∷ f) g (inr refl) refl (shut f))) (reaches_literal 93 [] f refl))
 
+  -- an attribute reads back
   pub back_attribute : (a : Attribute A) (f : Text) → IsSpellableAttribute a → Ends f → Reaches (reads.attribute L a) (spell.attribute L a ++ f) f
   back_attribute (given_names ns) f e h = reaches_then (reaches_keyword 98 (codes "uiltin.given_names") (32 ∷ 91 ∷ ((joined comma (map or_question ns) ++ codes "]") ++ f)) refl refl)
       (reaches_from refl (back_bracketed reads.given_name or_question IsGiven back_given reads.no_given_name (λ f. refl) ns f e))
@@ -97,9 +104,11 @@ module _ {P T A : Type 0} (L : Language P T A) (types : Lawful T L.types) (owns 
   back_entry e f g h = reaches_then (reaches_from (ap after_space (append_assoc e.0.text (58 ∷ 32 ∷ spell.attribute L e.1) f)) (back_name e.0 (58 ∷ 32 ∷ (spell.attribute L e.1 ++ f)) g.0 (inr refl)))
       (reaches_then (reaches_literal 58 [] (32 ∷ (spell.attribute L e.1 ++ f)) refl) (reaches_from refl (back_attribute e.1 f g.1 h)))
 
+  -- a dictionary reads back
   pub back_dictionary : (es : List (Name P × Attribute A)) (f : Text) → Each IsSpellableEntry es → Reaches (reads.dictionary L es) (spell.dictionary L es ++ f) f
   back_dictionary es f g = back_bracketed (reads.entry L) (spell.entry L) IsSpellableEntry back_entry reads.no_word (λ f. refl) es f g
 
+  -- what stands behind a piece ends it, and does not go on with it
   abbrev pub FollowsWell : Piece P T A → Text → Type 0
   FollowsWell (tree.word s) f = ⊤
   FollowsWell p f = Ends f × NoneOf (continuing p) (after_space f)
@@ -188,6 +197,7 @@ module _ {P T A : Type 0} (L : Language P T A) (types : Lawful T L.types) (owns 
   unwhite (tree.region i ∷ ps) (r ∷ rs) m u a = (u, subst (λ s. (r ▸ reads.parts L ps rs) s u) (after_twice is_whitespace m) a, refl)
   unwhite (tree.regions ∷ ps) rs m u a = (u, subst (λ s. (repeated (the 123) rs ▸ reads.parts L ps []) s u) (after_twice is_whitespace m) a, refl)
 
+  -- a part's reading, and then those of the parts behind it
   pub reaches_part : {R : Reading} {t g f : Text} (ps : List (Part P T A)) (rs : List Reading) → Reaches R t g → Reaches (reads.parts L ps rs) g f → Reaches (white (R ▸ reads.parts L ps rs)) t f
   reaches_part {R} {t} ps rs r s =
       let a = unwhite ps rs r.left s.left (subst (λ w. reads.parts L ps rs w s.left) (sym r.same) s.reading) in
@@ -197,6 +207,7 @@ module _ {P T A : Type 0} (L : Language P T A) (types : Lawful T L.types) (owns 
   oneof_left xs ys [] e = absurd (true≢false (sym e))
   oneof_left xs ys (c ∷ t) e = inr (has_left (kind c) xs ys e)
 
+  -- a text that begins with one of some kinds begins with one of more kinds
   pub oneof_right : (xs ys : List ℕ) (t : Text) → OneOf ys t → OneOf (xs ++ ys) t
   oneof_right xs ys t (inl e) = inl e
   oneof_right xs ys [] (inr e) = absurd (true≢false (sym e))
@@ -225,6 +236,7 @@ module _ {P T A : Type 0} (L : Language P T A) (types : Lawful T L.types) (owns 
   space_white _ x f = refl
 
   module _ (width : ℕ) where
+    -- the regions of an operation
     abbrev pub Inner : Type 0
     Inner = Regions (Op P T A) (Head P T A) (Brace P)
 
@@ -245,6 +257,7 @@ module _ {P T A : Type 0} (L : Language P T A) (types : Lawful T L.types) (owns 
     joined_nothing [] = refl
     joined_nothing (t ∷ ts) = refl
 
+    -- what stands behind an operation's regions begins no region
     pub back_regions : (n : ℕ) (rs : Inner) (f : Text) → BackRegions n rs → begins (the 123) (after_space f) ≡ false
         → Reaches (repeated (the 123) (reads.region_readings L rs)) (joined [] (spell.region_texts L width n rs) ++ f) f
     back_regions n rs f b e = reaches_from (ap (λ t. after_space (t ++ f)) (joined_nothing (spell.region_texts L width n rs))) (back_joined n rs f b e)
@@ -261,6 +274,7 @@ module _ {P T A : Type 0} (L : Language P T A) (types : Lawful T L.types) (owns 
       pub thru : Reaches (reads.parts L ps (reads.region_readings L rs)) (spell.parts L ps (spell.region_texts L width n rs) ++ f) f
       pub begin : OneOf (starts last ps rs) (after_space (spell.parts L ps (spell.region_texts L width n rs) ++ f))
 
+    -- the parts of a body read back, each before the next
     pub back_parts : (last : List ℕ) (n : ℕ) (ps : List (Part P T A)) (rs : Inner) (f : Text) → Apart last ps rs
         → AreSpellable ps → Enough ps rs → BackRegions n rs → Ends f → OneOf last (after_space f) → BackParts last n ps rs f
     back_parts last n [] no_regions f c g en b h o = record { thru = record { left = after_space f; reading = refl; same = after_twice is_whitespace f }; begin = o }

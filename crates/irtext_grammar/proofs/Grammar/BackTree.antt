@@ -165,9 +165,11 @@ module _ {P T A : Type 0} (L : Language P T A) (types : Lawful T L.types) (owns 
   abbrev pub Leaves : Type 0
   Leaves = Blocks (Op P T A) (Head P T A) (Brace P)
 
+  -- operations, one behind the other
   abbrev pub Steps : Type 0
   Steps = Operations (Op P T A) (Head P T A) (Brace P)
 
+  -- the text of each of the operations reads back
   abbrev pub BackOperations : ℕ → Steps → Type 0
   BackOperations n no_operations = ⊤
   BackOperations n (operation o rs os) = ((f : Text) → Behind o.mark f → Reaches (reads.operation_read L o (reads.region_readings L rs)) (spell.operation_text L o (spell.region_texts L width n rs) ++ f) f) × BackOperations n os

@@ -117,6 +117,7 @@ module _ {P T A : Type 0} (L : Language P T A) (never_out : (t u : Text) → L.l
     all_steps no_operations = tt
     all_steps (operation o rs os) = (lenient_operation o rs (all_regions rs), all_steps os)
 
+  -- what reads in the text's own language reads in the lenient one, with every region shown
   pub lenient_reads : (t : Tree P T A) (text rest : Text) → reads.reads L t text rest → reads.reads M t text rest × AllShown t
   lenient_reads t text rest a = lenient_operation t.own t.regions (all_regions t.regions) text rest a
 
@@ -139,5 +140,6 @@ module _ {P T A : Type 0} where
     bare_operations_shown no_operations s = tt
     bare_operations_shown (operation o rs os) s = (tt, bare_regions_shown rs s.1, bare_operations_shown os s.2)
 
+  -- a tree without its places has every region shown where the tree has
   pub bare_all_shown : (t : Tree P T A) → AllShown t → AllShown (bare t)
   bare_all_shown t s = bare_regions_shown t.regions s

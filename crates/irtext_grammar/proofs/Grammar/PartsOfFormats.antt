@@ -81,6 +81,7 @@ module _ {P T A : Type 0} (L : Language P T A) where
   abbrev pub AllAccepted : Tree P T A → Type 0
   AllAccepted t = KnownAccepted t.own × AllRegions KnownAccepted (λ b. ⊤) (λ r. ⊤) t.regions
 
+  -- a tree that is read, in which no region is left out, has the parts of its formats
   pub formed_read : NoneLeftOut → (t : Tree P T A) (text rest : Text) → AllAccepted t → reads L t text rest → Formed t
   formed_read none t text rest a h = let r = op_read t.own t.regions text rest a.0 h in (r.0, regions_read none t.regions a.1 r.1)
 
@@ -99,5 +100,6 @@ module _ {P T A : Type 0} (L : Language P T A) where
       each_operations no_operations = tt
       each_operations (operation o rs os) = (each o.id, each_regions rs, each_operations os)
 
+    -- where all formats of a language are accepted, so are those of a tree's operations
     pub each_accepted : (t : Tree P T A) → AllAccepted t
     each_accepted t = (each t.own.id, each_regions t.regions)

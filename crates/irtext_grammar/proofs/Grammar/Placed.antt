@@ -16,6 +16,7 @@ use Rattle.irtext_grammar.specs.Grammar.Reads as reads
 abbrev pub Placed : {X Y : Type 0} → (X → Reading) → (X → Y) → Y → Text → Text → Type 0
 Placed {X} F bare y t u = (x : X) × F x t u × (bare x ≡ y)
 
+-- what reads without places reads with some places, of which it is the bare thing
 abbrev pub Places : {X Y : Type 0} → (X → Reading) → (X → Y) → (Y → Reading) → Type 0
 Places {X} {Y} F bare G = (y : Y) (t u : Text) → G y t u → Placed F bare y t u
 
@@ -27,6 +28,7 @@ module _ {X Y : Type 0} (F : X → Reading) (bare : X → Y) (G : Y → Reading)
       let s = places_more ys (after_space k) u b in
       (r.0 ∷ s.0, (m, l, (k, r.1, s.1)), ap₂ ◌∷◌ r.2 s.2)
 
+  -- the same of a list, where it holds of an item
   pub places_list : (absent : Text → Type 0) → Places (λ xs. separated sep absent (map F xs)) (map bare) (λ ys. separated sep absent (map G ys))
   places_list absent [] t u a = ([], a, refl)
   places_list absent (y ∷ ys) t u (m, a, b) =
@@ -51,6 +53,7 @@ module _ {P T A : Type 0} (L : Language P T A) (spot : Text → P) (at_spot : (t
   places_mark_if None t u a = (None, a, refl)
   places_mark_if (Some m) t u a = (Some (record { place = spot t; index = m.index }), (at_spot t, a.1), refl)
 
+  -- an attribute has no place: it reads with places as without
   pub same_attribute : (a : Attribute A) (t u : Text) → reads.attribute B a t u → reads.attribute L a t u
   same_attribute (tree.given_names ns) t u a = a
   same_attribute (tree.ident n) t u a = a
@@ -277,6 +280,7 @@ module _ {P T A : Type 0} (L : Language P T A) (spot : Text → P) (at_spot : (t
     all_steps no_operations = tt
     all_steps (operation o rs os) = (places_operation o rs (all_regions rs), all_steps os)
 
+  -- a tree without places that a text reads as has places with which the text reads as it
   pub placed : (t : Tree ⊤ T A) (text rest : Text) → reads.reads B t text rest → (t' : Tree P T A) × reads.reads L t' text rest × (bare t' ≡ t)
   placed t text rest a =
       let r = places_operation t.own t.regions (all_regions t.regions) text rest a in

@@ -16,18 +16,22 @@ use Rattle.irtext_grammar.specs.Grammar.Reads as reads
 abbrev pub Agree : Type 0 → Reading → Reading → Type 0
 Agree C R S = (t u v : Text) → R t u → S t v → C × (u ≡ v)
 
+-- what reads of a text as two values reads as one value, and leaves one rest
 abbrev pub Sure : {X : Type 0} → (X → Reading) → Type 0
 Sure {X} F = (x y : X) → Agree (x ≡ y) (F x) (F y)
 
+-- readings that agree on one thing agree on what follows from it
 pub agree_map : {C D : Type 0} {R S : Reading} → (C → D) → Agree C R S → Agree D R S
 agree_map f h t u v a b = let r = h t u v a b in (f r.0, r.1)
 
+-- sequences of readings agree where the first readings do, and then the second ones
 pub agree_then : {C D : Type 0} {R S R' S' : Reading} → Agree C R S → (C → Agree D R' S') → Agree (C × D) (R ▹ R') (S ▹ S')
 agree_then {R' = R'} h k t u v (m, a, b) (n, c, d) =
     let r = h t m n a c in
     let s = k r.0 (after_space n) u v (subst (λ w. R' (after_space w) u) r.1 b) d in
     ((r.0, s.0), s.1)
 
+-- the same without white space between
 pub agree_tight : {C D : Type 0} {R S R' S' : Reading} → Agree C R S → (C → Agree D R' S') → Agree (C × D) (R ▸ R') (S ▸ S')
 agree_tight {R' = R'} h k t u v (m, a, b) (n, c, d) =
     let r = h t m n a c in
@@ -38,12 +42,15 @@ same_rest : (w : Text) (u v : Text) → w ++ u ≡ w ++ v → u ≡ v
 same_rest [] u v e = e
 same_rest (c ∷ w) u v e = same_rest w u v (cc)
 
+-- a fixed word reads in one way
 pub one_literal : (w : Text) → Agree ⊤ (literal w) (literal w)
 one_literal w t u v a b = (tt, same_rest w u v (sym a ∙ b))
 
+-- an identifier reads in one way
 pub sure_identifier : Sure identifier
 sure_identifier x y t u v a b = (a.1 ∙ sym b.1, a.2 ∙ sym b.2)
 
+-- digits read in one way
 pub sure_digits : Sure digits
 sure_digits x y t u v a b = (a.1 ∙ sym b.1, a.3 ∙ sym b.3)
 
@@ -51,6 +58,7 @@ sure_digits x y t u v a b = (a.1 ∙ sym b.1, a.3 ∙ sym b.3)
 pub clash : {Z : Type 0} (test : ℕ → Bool) (c : ℕ) (t m : Text) → begins test t ≡ false → t ≡ c ∷ m → test c ≡ true → Z
 clash test c t m a b d = absurd (true≢false (sym d ∙ ap (begins test) (sym b) ∙ a))
 
+-- a number reads in one way
 pub sure_number : Sure number
 sure_number x y t u v (inl a) (inl b) = sure_digits x y t u v a.1 b.1
 sure_number x y t u v (inl a) (inr (m, b, c)) = clash (the 43) 43 t m a.0 b refl
@@ -64,12 +72,14 @@ module _ {X : Type 0} (F : X → Reading) (sure : Sure F) (sep : ℕ) (is_sep : 
   sure_more (x ∷ xs) [] t u v (m, b, c) a = clash (the sep) sep t m a.0 b is_sep
   sure_more (x ∷ xs) (y ∷ ys) t u v a b = agree_map (λ p. ap₂ ◌∷◌ p.1.0 p.1.1) (agree_then (one_literal (sep ∷ [])) λ _. agree_then (sure x y) λ _. sure_more xs ys) t u v a b
 
+  -- a list with a separator reads in one way where each item does, and no item begins where the list is empty
   pub sure_separated : (missing : Text → Type 0) → ((x : X) (t u : Text) → F x t u → missing t → ⊥) → Sure (λ xs. separated sep missing (map F xs))
   sure_separated none not [] [] t u v a b = (refl, a.1 ∙ sym b.1)
   sure_separated none not [] (y ∷ ys) t u v a (m, b, c) = absurd (not y t m b a.0)
   sure_separated none not (x ∷ xs) [] t u v (m, b, c) a = absurd (not x t m b a.0)
   sure_separated none not (x ∷ xs) (y ∷ ys) t u v a b = agree_map (λ p. ap₂ ◌∷◌ p.0 p.1) (agree_then (sure x y) λ _. sure_more xs ys) t u v a b
 
+-- a list ends in one way
 pub agree_ends : (test : ℕ → Bool) → Agree ⊤ (ends test) (ends test)
 agree_ends test t u v a b = (tt, a.1 ∙ sym b.1)
 
@@ -101,6 +111,7 @@ sure_id : Sure reads.id
 sure_id x y = agree_map (λ p. λ i. record { dialect = p.0 i; name = p.1.1 i }) (agree_tight (sure_identifier x.dialect y.dialect) λ _. agree_tight (one_literal (codes ".")) λ _. sure_identifier x.name y.name)
 
 module _ {P T A : Type 0} (L : Language P T A) (owns : Lawful A L.owns) where
+  -- an attribute begins as a word does
   pub attribute_begins : (a : Attribute A) (t u : Text) → reads.attribute L a t u → begins begins_word t ≡ false → ⊥
   attribute_begins (given_names ns) t u (m, a, b) e = clash begins_word 98 t ((codes "uiltin.given_names") ++ m) e a.0 refl
   attribute_begins (ident n) t u (m, a, b) e = clash begins_word 98 t ((codes "uiltin.identifier") ++ m) e a.0 refl
@@ -117,6 +128,7 @@ module _ {P T A : Type 0} (L : Language P T A) (types : Lawful T L.types) (owns 
   same_mark : (m n : Mark P) → m.place ≡ n.place → m.index ≡ n.index → m ≡ n
   same_mark m n e f = λ i. record { place = e i; index = f i }
 
+  -- a name reads in one way
   pub sure_name : Sure (reads.name L)
   sure_name m n = agree_map (λ p. same_name m n p.0 p.1) (sure_here m.place n.place (sure_identifier m.text n.text))
 
@@ -126,6 +138,7 @@ module _ {P T A : Type 0} (L : Language P T A) (types : Lawful T L.types) (owns 
   sure_target : Sure (reads.target L)
   sure_target m n = agree_map (λ p. same_name m n p.1.0 p.1.1) (agree_tight (one_literal (codes "^")) λ _. sure_here m.place n.place (sure_identifier m.text n.text))
 
+  -- a mark reads in one way
   pub sure_mark : Sure (reads.mark L)
   sure_mark m n = agree_map (λ p. same_mark m n p.0 p.1.1) (sure_here m.place n.place (agree_tight (one_literal (codes "!")) λ _. sure_number m.index n.index))
 
@@ -135,6 +148,7 @@ module _ {P T A : Type 0} (L : Language P T A) (types : Lawful T L.types) (owns 
   sure_mark_if (Some m) None = λ t u v b a. clash (the 33) 33 t b.1.0 a.0 b.1.1 refl
   sure_mark_if (Some m) (Some n) = agree_map (ap Some) (sure_mark m n)
 
+  -- what was found in two ways is one value and one rest
   pub same_found : {X : Type 0} (x y : X) (u v : Text) → found x u ≡ found y v → (x ≡ y) × (u ≡ v)
   same_found x y u v e = (cc, cc)
 
@@ -144,6 +158,7 @@ module _ {P T A : Type 0} (L : Language P T A) (types : Lawful T L.types) (owns 
   type_begins : (x : T) (t u : Text) → reads.type L x t u → reads.no_type L t → ⊥
   type_begins x t u a b = cc (a, b)
 
+  -- a name reads nowhere where no word begins
   pub name_begins : (n : Name P) (t u : Text) → reads.name L n t u → reads.no_word t → ⊥
   name_begins n t u a b = true≢false (sym a.1.0 ∙ b)
 
@@ -156,6 +171,7 @@ module _ {P T A : Type 0} (L : Language P T A) (types : Lawful T L.types) (owns 
   given_names_text : (t m n : Text) → keyword (codes "builtin.given_names") t m → keyword (codes "builtin.identifier") t n → ⊥
   given_names_text t m n a b = let e : get_or ((codes "builtin.given_names") ++ m) 8 0 ≡ get_or ((codes "builtin.identifier") ++ n) 8 0 = ap (λ s. get_or s 8 0) (sym a.0 ∙ b.0) in true≢false (ap (λ c. c == 103) e)
 
+  -- an attribute reads in one way
   pub sure_attribute : Sure (reads.attribute L)
   sure_attribute (given_names ms) (given_names ns) = agree_map (λ p. ap given_names p.1.1.0)
       (agree_then (agree_keyword (codes "builtin.given_names")) λ _. agree_then (one_literal (codes "[")) λ _.
@@ -233,6 +249,7 @@ module _ {P T A : Type 0} (L : Language P T A) (types : Lawful T L.types) (owns 
   sure_repeated (region brace bs rs) no_regions s t u v (m, b, c) a = absurd (brace_begins brace _ t m b a.0)
   sure_repeated (region brace bs rs) (region brace' bs' ss) s t u v a b = agree_map (λ p. λ i. region (p.0.0 i) (p.0.1 i) (p.1 i)) (agree_then (s.0 brace' bs') λ _. sure_repeated rs ss s.1) t u v a b
 
+  -- readings that agree do so behind white space
   pub agree_white : {C : Type 0} {R S : Reading} → Agree C R S → Agree C (white R) (white S)
   agree_white h t u v a b = h (after_space t) u v a b
 

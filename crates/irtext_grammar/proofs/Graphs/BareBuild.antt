@@ -66,5 +66,6 @@ module _ {P T A X Y : Type 0} (isolated : Id → Bool) (first : P → X) (es : L
     shape_operations (operation c cs ds) w m v l p i no_operations e f s = absurd s
     shape_operations (operation c cs ds) w m v l p i (operation o rs os) e f s = (shape_op c w m v l o e f s.0, shape_regions cs w v (i ∷ p) 0 (isolated o.id) rs e s.1, shape_operations ds w m v l p (suc i) os e f s.2)
 
+  -- what has the shape of a tree built without its places has that of the tree built
   pub shapes_bare : (a : Root (StoodOp T A) (StoodBlock T A) ⊤) (t : Tree P T A) → SameShapes a (build isolated bare_first bare_es (bare t)) → SameShapes a (build isolated first es t)
   shapes_bare a t s = (shape_op a.own [] [] [] [] t.own refl refl s.0, shape_regions a.regions [] [] [] 0 (isolated t.own.id) t.regions refl s.1)

@@ -20,6 +20,7 @@ mapped_length : {A B : Type 0} (F : A → B) (xs : List A) → length (map F xs)
 mapped_length F [] = refl
 mapped_length F (x ∷ xs) = ap suc (mapped_length F xs)
 
+-- one mapping after another is both at once
 pub mapped_twice : {A B D : Type 0} (F : A → B) (G : B → D) (xs : List A) → map G (map F xs) ≡ map (λ x. G (F x)) xs
 mapped_twice F G [] = refl
 mapped_twice F G (x ∷ xs) = ap (λ z. G (F x) ∷ z) (mapped_twice F G xs)
@@ -46,11 +47,13 @@ from_mapped F (suc n) k es = ap₂ (λ o z. option_to_list o ++ z) (at_mapped F 
 in_order_mapped : {X Y : Type 0} (F : X → Y) (es : List (ℕ × X)) → in_order (map (second F) es) ≡ map F (in_order es)
 in_order_mapped F es = ap (λ n. in_order_from n 0 (map (second F) es)) (mapped_length (second F) es) ∙ from_mapped F (length es) 0 es
 
+-- facts whose names stay are the same facts
 pub fact_same : (fs : List (Fact Text)) → map (fact_as (λ n. n)) fs ≡ fs
 fact_same [] = refl
 fact_same (uses n u ∷ fs) = ap (λ z. uses n u ∷ z) (fact_same fs)
 fact_same (defines n p ∷ fs) = ap (λ z. defines n p ∷ z) (fact_same fs)
 
+-- whatever the names, they have the property that all have
 pub any_script : {P : Type 0} (x : Script Text P) → AllScript (λ n. ⊤) x
 any_script done = tt
 any_script (does a k) = (any_act a, any_script k)
@@ -66,12 +69,14 @@ any_script (does a k) = (any_act a, any_script k)
 any_script (within iso p body k) = (any_script body, any_script k)
 
 module _ {P : Type 0} where
+  -- a script without its places
   abbrev pub E : Script Text P → Script Text ⊤
   E x = script_as (λ n. n) (λ p. tt) x
 
   abbrev B : Act Text P → Act Text ⊤
   B a = act_as (λ n. n) (λ p. tt) a
 
+  -- acts without their places, and what is done then
   pub does_bare : (xs : List (Act Text P)) (k : Script Text P) → E (does_all xs k) ≡ does_all (map B xs) (E k)
   does_bare [] k = refl
   does_bare (a ∷ xs) k = ap (does (B a)) (does_bare xs k)
@@ -92,6 +97,7 @@ module _ {P : Type 0} where
   bare_marks None = refl
   bare_marks (Some m) = refl
 
+  -- each of the scripts is the other's without its places
   abbrev pub BareAll : List (Script Text P → Script Text P) → List (Script Text ⊤ → Script Text ⊤) → Type 0
   BareAll [] [] = ⊤
   BareAll (r ∷ rs) (s ∷ ss) = ((x : Script Text P) → E (r x) ≡ s (E x)) × BareAll rs ss
@@ -121,9 +127,11 @@ module _ {P A : Type 0} where
   bare_entries_if None = refl
   bare_entries_if (Some es) = refl
 
+-- the test of texts without their places is the test of the texts
 pub same_itself : (a b : Text) → ⊤ → ⊤ → same_text a b ≡ same_text a b
 same_itself a b h k = refl
 
+-- a list without images is empty
 pub nothing_left : {X Y : Type 0} (F : X → Y) (xs : List X) → map F xs ≡ [] → xs ≡ []
 nothing_left F [] e = refl
 nothing_left F (x ∷ xs) e = cc
@@ -234,14 +242,17 @@ module _ {P T A : Type 0} where
   bare_single_labels (tree.piece (tree.header n) ∷ ps) = bare_single_labels ps
   bare_single_labels (tree.piece (tree.types ts) ∷ ps) = bare_single_labels ps
 
+  -- the parts of a body without its places
   pub bare_parts : (b : Body P T A) → parts_of (bare_body b) ≡ map bare_part (parts_of b)
   bare_parts (custom ps) = refl
   bare_parts (canonical ns ls es xs ys) = refl
 
+  -- a body has the same result types without its places
   pub bare_result_types : (b : Body P T A) → result_types (bare_body b) ≡ result_types b
   bare_result_types (custom ps) = ap in_order (bare_types ps)
   bare_result_types (canonical ns ls es xs ys) = refl
 
+  -- an operation has the same operands without its places
   pub bare_operand_names : (o : Op P T A) → operand_names (bare_op o) ≡ map bare_name (operand_names o)
   bare_operand_names o =
       let single : List (ℕ × Name P) = views (λ p. elim p [ tree.operand i n ↦ (i, n) ∷ [] | _ ↦ [] ]) (parts_of o.body) in
@@ -249,6 +260,7 @@ module _ {P T A : Type 0} where
       ap (λ ps. in_order (views (λ p. elim p [ tree.operand i n ↦ (i, n) ∷ [] | _ ↦ [] ]) ps) ++ views (λ p. elim p [ tree.operands ns ↦ ns | _ ↦ [] ]) ps) (bare_parts o.body)
       ∙ (ap₂ ◌++◌ (ap in_order (bare_operand (parts_of o.body)) ∙ in_order_mapped bare_name single) (bare_operands (parts_of o.body)) ∙ mapped_both bare_name (in_order single) list)
 
+  -- an operation has the same successors without its places
   pub bare_successor_labels : (o : Op P T A) → successor_labels (bare_op o) ≡ map bare_name (successor_labels o)
   bare_successor_labels o =
       let single : List (ℕ × Name P) = views (λ p. elim p [ tree.successor i n ↦ (i, n) ∷ [] | _ ↦ [] ]) (parts_of o.body) in
@@ -312,6 +324,7 @@ module _ {P T A : Type 0} where
       regions_bare p j iso no_regions = tt
       regions_bare p j iso (region b bs rs) = ((λ x. bare_region_script iso b _ x _ (blocks_bare (j ∷ p) 0 bs)), regions_bare p (suc j) iso rs)
 
+      -- the script of blocks without their places
       pub blocks_bare : (p : Path) (k : ℕ) (bs : Blocks (Op P T A) (Head P T A) (Brace P)) → E (blocks_script isolated p k bs) ≡ blocks_script isolated p k (bare_blocks bs)
       blocks_bare p k no_blocks = refl
       blocks_bare p k (block h os bs) =
@@ -323,6 +336,7 @@ module _ {P T A : Type 0} where
           bare_operation_script (i ∷ p) o _ _ (operations_script isolated p (suc i) os x) (regions_bare (i ∷ p) 0 (isolated o.id) rs)
           ∙ ap (operation_script (i ∷ p) (bare_op o) (region_scripts isolated (i ∷ p) 0 (isolated o.id) (bare_regions rs))) (operations_bare p (suc i) os x)
 
+    -- the script of a tree without its places
     pub tree_bare : (t : Tree P T A) (x : Script Text P) → E (tree_script isolated t x) ≡ tree_script isolated (bare t) (E x)
     tree_bare t x = bare_operation_script [] t.own _ _ x (regions_bare [] 0 (isolated t.own.id) t.regions)
 

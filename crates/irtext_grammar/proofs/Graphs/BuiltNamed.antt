@@ -413,12 +413,14 @@ module _ {P T A X : Type 0} (C : Printing T A) (isolated : Id → Bool) (first :
   abbrev B : List ℕ
   B = block_marks_in_regions t.regions
 
+  -- all results, arguments and blocks have names
   pub built_named : Named C g
   built_named = (
     op_named C isolated first es B g.own t.own t.regions [] [] [] [] s.0 r.counts.0 r.keys.0 f.0,
     regions_of C isolated first es B (OpNamed C) (BlockNamed C) (op_named C isolated first es B) (block_named C isolated first es B) [] [] [] [] 0 0 (isolated g.own.id) (isolated t.own.id) g.regions t.regions s.1 r.counts.1 r.keys.1 f.1 (λ i h. h),
   )
 
+  -- the dictionaries hold what may stand in them
   pub built_kept : GraphKeepsKeys g
   built_kept = (
     op_kept C isolated first es B r.section.kept g.own t.own t.regions [] [] [] [] s.0 r.counts.0 r.keys.0 f.0,
@@ -430,12 +432,15 @@ module _ {P T A X : Type 0} (C : Printing T A) (isolated : Id → Bool) (first :
   pub no_results : g.own.results ≡ []
   no_results = none_named g.own.results (result_types t.own.body) t.own.names s.0.shape.result_types r.counts.0 (ap (map (λ n. n.text)) r.nothing_outside.0)
 
+  -- the root has no operands
   pub no_operands : g.own.operands ≡ []
   no_operands = none_mapped _ g.own.operands (s.0.shape.operands ∙ ap (map _) (no_operand_names t.own (no_texts _ r.nothing_outside.1)))
 
+  -- the root has no successors
   pub no_successors : g.own.successors ≡ []
   no_successors = none_mapped _ g.own.successors (s.0.shape.successors ∙ ap (map _) (no_successor_labels t.own (no_texts _ r.nothing_outside.2)))
 
+  -- the root is isolated if it has a region
   pub isolated_if : has_region g.regions ≡ true → isolated g.own.id ≡ true
   isolated_if e = ap isolated s.0.shape.id ∙ r.is_isolated (regions_too [] [] [] 0 0 (isolated g.own.id) (isolated t.own.id) g.regions t.regions s.1 e)
     where

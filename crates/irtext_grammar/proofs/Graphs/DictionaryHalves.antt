@@ -45,6 +45,7 @@ label_stays l (e ∷ es) h = go (same_text e.0 block_label_key) (and_right (may_
     go false h f = f
 
 module _ {T A : Type 0} (C : Printing T A) where
+  -- whether an attribute stands behind its item
   abbrev pub inlined : Attribute A → Bool
   inlined a = not (outlined C a)
 
@@ -68,6 +69,7 @@ module _ {T A : Type 0} (C : Printing T A) where
   content_but_label (Some t) None es base y h = ap (put_all base) (no_label es h)
   content_but_label (Some t) (Some n) es base y h = ap (put_all base) (no_label es h)
 
+  -- the label of a block with its entry: the one that the entry gives, or else the one that was read
   pub content_label : {Y : Type 0} (l o : Option Text) (es : List (Text × Attribute A)) (t : Text) (y : Y) → KeepsRule block_may_hold es
       → labelled t (cond (is_marked C l (label_entry o ++ es)) (Some (y, label_entry o ++ es)) None) ≡ elim o [ Some n ↦ n | None ↦ t ]
   content_label None None [] t y h = refl
@@ -117,6 +119,7 @@ module _ {T A : Type 0} (C : Printing T A) where
         no : {X : Type 0} (x : X) (xs : List X) → x ∷ xs ≡ [] → ⊥
         no x xs q = cc
 
+    -- a dictionary with its outlined attributes put in again is the item's own
     pub same_dictionary : SameDictionary names es (put_all base (filter (λ e. outlined C e.1) es))
     same_dictionary key = go (same_text key given_names_key) refl
       where

@@ -214,6 +214,7 @@ module _ {P T A X : Type 0} (C : Printing T A) (isolated : Id → Bool) (K : Loc
     operations_same (operation c cs ds) (operation o rs os) w m v l q i f k d r s h t =
         (op_same w m v l c o (length (regions_list cs)) f.0 k.0 d.0 r.0 (says_of C K es c.location (op_outlined C c) _ s.0) h.0 t.0, regions_same cs rs w v (i ∷ q) 0 _ _ f.1 k.1 d.1 r.1 s.1 h.1 t.1, operations_same ds os w m v l q (suc i) f.2 k.2 d.2 r.2 s.2 h.2 t.2)
 
+  -- what is built of a tree that is written of a graph is equal to the graph up to fillings
   pub fillings : (g : Graph T A) (t : Tree P T A) (x : Script Text P) → Fit C isolated g → SmallGraph C isolated g → GraphKeepsKeys g → GraphKeysDiffer g → bare t ≡ written C None g → Formed t
       → failures same_text no_scope (tree_script isolated t x) ≡ [] → Contents C K.text es g t → UpToFillings K (stood C isolated g) (build isolated first es t)
   fillings g t x f small k d e formed resolves s =

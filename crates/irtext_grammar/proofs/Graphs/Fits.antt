@@ -36,10 +36,12 @@ module _ {T A : Type 0} (C : Printing T A) where
       headed (Some (ident n)) = refl
       headed (Some (own x)) = tt
 
+  -- each of the directives finds its part in the operation
   abbrev pub Fits : List format.Directive → GraphOp T A → List format.Directive → Type 0
   Fits ds o [] = ⊤
   Fits ds o (d ∷ rest) = (is_some (part_of C ds o d) ≡ true) × Fits ds o rest
 
+  -- what is written of an operation that fits has the directives of the format
   pub fits : (ds : List format.Directive) (o : GraphOp T A) (rest : List format.Directive) → Fits ds o rest → map directive (filter_map (part_of C ds o) rest) ≡ map Some rest
   fits ds o [] h = refl
   fits ds o (d ∷ rest) h = go (part_of C ds o d) (shaped ds o d) h.0 (filter_map (part_of C ds o) rest) (fits ds o rest h.1)

@@ -13,10 +13,12 @@ use Rattle.irtext_grammar.specs.Names.Acts.{singles, single_labels}
 use Rattle.irtext_grammar.specs.Graphs.Closed.{FitsCustom}
 use Rattle.irtext_grammar.proofs.Graphs.Fits.{Fits, fits}
 
+-- a conjunction's first half holds where it does
 pub and_left : (a b : Bool) → (a && b) ≡ true → a ≡ true
 and_left true b e = refl
 and_left false b e = absurd (true≢false (sym e))
 
+-- a conjunction's second half holds where it does
 pub and_right : (a b : Bool) → (a && b) ≡ true → b ≡ true
 and_right true b e = e
 and_right false b e = absurd (true≢false (sym e))
@@ -35,6 +37,7 @@ pub record Meets (ds : List Directive) : Type 0 where
 abbrev here : Bool → Bool → Bool → Bool → Bool → Bool → Bool → Bool → ℕ
 here a b c d e f g h = if a then (if b then (if c then (if d then (if e then (if f then (if g then (if h then 0 else 8) else 7) else 6) else 5) else 4) else 3) else 2) else 1
 
+-- a format without a fault meets each condition
 pub meets : (ds : List Directive) → first_fault (format.custom ds) ≡ 0 → Meets ds
 meets ds = go (c1 ds) refl (c2 ds) refl (c3 ds) refl (c4 ds) refl (c5 ds) refl (c6 ds) refl (c7 ds) refl (c8 ds) refl
   where
@@ -53,6 +56,7 @@ meets ds = go (c1 ds) refl (c2 ds) refl (c3 ds) refl (c4 ds) refl (c5 ds) refl (
 wider : (i k n : ℕ) → k ≤ n → nat_lt i k ≡ true → nat_lt i n ≡ true
 wider i k n h e = grind (arith, nat_tests)
 
+-- a number that the test calls smaller is smaller
 pub below : (i n : ℕ) → nat_lt i n ≡ true → i < n
 below i n e = grind (arith, nat_tests)
 
@@ -60,6 +64,7 @@ each_wider : (k n : ℕ) → k ≤ n → (ks : List ℕ) → list_all (λ i. nat
 each_wider k n h [] e = refl
 each_wider k n h (i ∷ ks) e = ap₂ ◌&&◌ (wider i k n h (and_left (nat_lt i k) (list_all (λ i. nat_lt i k) ks) e)) (each_wider k n h ks (and_right (nat_lt i k) (list_all (λ i. nat_lt i k) ks) e))
 
+-- where regions fit, there are no fewer than single places
 pub no_less : (places lists n : ℕ) (b : Bool) → cond b (n == places) (not (nat_lt n places)) ≡ true → places ≤ n
 no_less places lists n true e = grind (arith, nat_tests)
 no_less places lists n false e = grind (arith, nat_tests)
@@ -207,6 +212,7 @@ module _ {T A : Type 0} (C : Printing T A) where
     pub keys_there : list_all (λ k. is_some (lookup k o.attributes)) (keys rest) ≡ true
     pub symbol : Symbolic (symbol_there o) rest
 
+  -- an operation that has what the directives ask fits them
   pub asked : (ds : List Directive) (o : GraphOp T A) (rest : List Directive) → Asks o rest → Fits C ds o rest
   asked ds o [] a = tt
   asked ds o (format.word s ∷ rest) a = (refl, asked ds o rest (record { operands = a.operands; successors = a.successors; results = a.results; keys_there = a.keys_there; symbol = a.symbol }))
@@ -247,6 +253,7 @@ module _ {T A : Type 0} (C : Printing T A) where
     equal_counts : (m n : ℕ) → (n == m) ≡ true → cond (0 == 0) (n == m) (not (nat_lt n m)) ≡ true
     equal_counts m n e = e
 
+    -- an operation that fits a format has what its directives ask
     pub custom_asks : (ds : List Directive) (o : GraphOp T A) (n : ℕ) → Meets ds → FitsCustom C isolated ds o n → Asks o ds
     custom_asks ds o n m f = record {
       operands = places_there (operand_places ds) (count is_operands ds) (length o.operands) (and_left (are_places (operand_places ds)) _ m.second) f.operands;
@@ -256,11 +263,14 @@ module _ {T A : Type 0} (C : Printing T A) where
       symbol = has_symbol (symbol_there o) ds f.symbol;
     }
 
+    -- what is written of an operation that fits has the directives of the format
     pub has_directives : (ds : List Directive) (o : GraphOp T A) (n : ℕ) → Meets ds → FitsCustom C isolated ds o n → map directive (filter_map (part_of C ds o) ds) ≡ map Some ds
     has_directives ds o n m f = fits C ds o ds (asked ds o ds (custom_asks ds o n m f))
 
+    -- as many single operands are written as the format has places for
     pub singles_are : (ds : List Directive) (o : GraphOp T A) (n : ℕ) → Meets ds → FitsCustom C isolated ds o n → singles (filter_map (part_of C ds o) ds) ≡ length (operand_places ds)
     singles_are ds o n m f = singles_weigh (filter_map (part_of C ds o) ds) ∙ (ap (total weigh_operand) (has_directives ds o n m f) ∙ operands_weigh ds)
 
+    -- as many single successors are written as the format has places for
     pub labels_are : (ds : List Directive) (o : GraphOp T A) (n : ℕ) → Meets ds → FitsCustom C isolated ds o n → single_labels (filter_map (part_of C ds o) ds) ≡ length (successor_places ds)
     labels_are ds o n m f = labels_weigh (filter_map (part_of C ds o) ds) ∙ (ap (total weigh_successor) (has_directives ds o n m f) ∙ successors_weigh ds)

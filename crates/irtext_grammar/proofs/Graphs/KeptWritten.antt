@@ -69,6 +69,7 @@ pub record Good (m n : ℕ) (x : Script Text ⊤) : Type 0 where
 good_later : {k m n : ℕ} {x : Script Text ⊤} → n ≤ k → Good m k x → Good m n x
 good_later {k = k} {n = n} h f = record { kept = λ s b. f.kept s (below_more n k h s.marks b); below = f.below }
 
+-- the act marks nothing, and is not refused where it looks at no name
 pub record GoodAct (a : Act Text ⊤) : Type 0 where
   pub no_mark : (fact_of a).marks ≡ []
   pub no_fault : (s : Scopes Text) → names_one a ≡ false → act_failures same_text s a ≡ []
@@ -117,6 +118,7 @@ keys_good : {A : Type 0} (rule : Rule A) (es : List (Name ⊤ × Attribute A)) �
 keys_good rule [] h = tt
 keys_good rule (e ∷ es) h = (claimed _ _ h.0, keys_good rule es h.1)
 
+-- the entries that pass a test may stand where all may
 pub keeps_filter : {A : Type 0} (rule : Rule A) (test : Text × Attribute A → Bool) (es : List (Text × Attribute A)) → KeepsRule rule es → KeepsRule rule (filter test es)
 keeps_filter rule test [] h = refl
 keeps_filter rule test (e ∷ es) h = go (test e) (keeps_filter rule test es (and_right (rule e.0 e.1) _ h))

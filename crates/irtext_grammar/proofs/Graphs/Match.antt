@@ -39,15 +39,18 @@ arguments_small : {T : Type 0} (p : Path) (k : ℕ) (rs : List (ℕ × T)) (g : 
 arguments_small p k [] g e a = a
 arguments_small p k (r ∷ rs) g e a = (e.0, arguments_small p (suc k) rs g e.1 a)
 
+-- what holds of each holds of each behind the first ones
 pub each_drop : {X : Type 0} (Q : X → Type 0) (n : ℕ) (xs : List X) → Each Q xs → Each Q (drop n xs)
 each_drop Q zero xs e = e
 each_drop Q (suc n) [] e = tt
 each_drop Q (suc n) (x ∷ xs) e = each_drop Q n xs e.1
 
+-- it holds of what is there, if something is
 abbrev pub OfOption : {X : Type 0} → (X → Type 0) → Option X → Type 0
 OfOption Q None = ⊤
 OfOption Q (Some x) = Q x
 
+-- what holds of each holds at a place
 pub each_at : {X : Type 0} (Q : X → Type 0) (xs : List X) (i : ℕ) → Each Q xs → OfOption Q (slice_get xs i)
 each_at Q [] zero e = tt
 each_at Q [] (suc i) e = tt
@@ -107,6 +110,7 @@ module _ {T A : Type 0} (C : Printing T A) (isolated : Id → Bool) where
         body_small (C.format_of o.id) (i ∷ p) o _ _ e.0 (small_regions (i ∷ p) 0 (isolated o.id) rs e.1)
         (results_small (i ∷ p) 0 o.results _ e.0.results (small_operations p (suc i) os g e.2 a))
 
+  -- the numbers in the script of a small graph are small
   pub small_script : (g : Graph T A) → SmallGraph C isolated g → AllScript Small (graph_script C isolated g)
   small_script g e = body_small (C.format_of g.own.id) [] g.own _ _ e.0 (small_regions [] 0 (isolated g.own.id) g.regions e.1) (results_small [] 0 g.own.results _ e.0.results tt)
 
@@ -190,6 +194,7 @@ module _ {T A : Type 0} (C : Printing T A) (isolated : Id → Bool) where
           let q = n + marks_in_regions C None rs in
           (same_op n q v l w m o rs (f.0, f.1, tt) e.0 s t, same_regions n v w (i ∷ p) 0 (isolated o.id) rs f.1 e.1 s, same_operations (q + own_marks C o.location (op_outlined C o)) v l w m p (suc i) os f.2 e.2 s t)
 
+    -- what the written tree builds has the shape of the graph
     pub same_shapes : (g : Graph T A) → Fit C isolated g → SmallGraph C isolated g → SameShapes (stood C isolated g) (build isolated first es (written C None g))
     same_shapes g f e =
         let nothing : Scoped [] [] = record { same = refl; small = tt } in

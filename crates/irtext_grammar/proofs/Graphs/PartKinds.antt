@@ -11,6 +11,7 @@ use Rattle.irtext_grammar.specs.Grammar.Tree.{Name, Piece, Part, Body, custom, c
 use Rattle.irtext_grammar.proofs.Graphs.FitsFormat.{meets, and_left, and_right, below}
 use Rattle.irtext_grammar.proofs.Lists.InOrder.{firsts}
 
+-- what is there, spread, if something is
 abbrev pub spread_if : {X Y : Type 0} → (Y → List X) → Option Y → List X
 spread_if f None = []
 spread_if f (Some y) = f y
@@ -35,12 +36,14 @@ counted test (d ∷ ds) = go (test d) ∙ ap (λ n. cond (test d) (suc n) n) (co
     go false = refl
 
 module _ {P T A : Type 0} where
+  -- what the parts hold of one kind
   abbrev pub chosen : {Y : Type 0} → (Piece P T A → Option Y) → List (Part P T A) → List Y
   chosen sel [] = []
   chosen sel (tree.piece x ∷ ps) = option_to_list (sel x) ++ chosen sel ps
   chosen sel (tree.region i ∷ ps) = chosen sel ps
   chosen sel (tree.regions ∷ ps) = chosen sel ps
 
+  -- a view of the parts is what they hold of the kind that it looks at
   pub views_chosen : {X Y : Type 0} (view : Piece P T A → List X) (sel : Piece P T A → Option Y) (f : Y → List X) → ((x : Piece P T A) → view x ≡ spread_if f (sel x)) → (ps : List (Part P T A)) → views view ps ≡ flat_map f (chosen sel ps)
   views_chosen view sel f h [] = refl
   views_chosen view sel f h (tree.piece x ∷ ps) = ap₂ ◌++◌ (h x) (views_chosen view sel f h ps) ∙ go (sel x)
@@ -51,15 +54,19 @@ module _ {P T A : Type 0} where
   views_chosen view sel f h (tree.region i ∷ ps) = views_chosen view sel f h ps
   views_chosen view sel f h (tree.regions ∷ ps) = views_chosen view sel f h ps
 
+  -- the operand that a piece names, with its number
   abbrev pub single_operand : Piece P T A → Option (ℕ × Name P)
   single_operand x = elim x [ tree.operand i n ↦ Some (i, n) | _ ↦ None ]
 
+  -- the list of operands that a piece is
   abbrev pub operand_list : Piece P T A → Option (List (Name P))
   operand_list x = elim x [ tree.operands ns ↦ Some ns | _ ↦ None ]
 
+  -- the successor that a piece names, with its number
   abbrev pub single_successor : Piece P T A → Option (ℕ × Name P)
   single_successor x = elim x [ tree.successor i n ↦ Some (i, n) | _ ↦ None ]
 
+  -- the list of successors that a piece is
   abbrev pub successor_list : Piece P T A → Option (List (Name P))
   successor_list x = elim x [ tree.successors ns ↦ Some ns | _ ↦ None ]
 

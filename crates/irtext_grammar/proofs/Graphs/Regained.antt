@@ -76,5 +76,6 @@ module _ {T A X : Type 0} (C : Printing T A) (isolated : Id → Bool) (K : Locat
     operations_equal w m p i (operation o rs os) (operation x qs xs) n s =
         (op_equal w m o x n.0 s.0, regions_equal w (i ∷ p) 0 (isolated o.id) rs qs n.1 s.1, operations_equal w m p (suc i) os xs n.2 s.2)
 
+  -- equal up to fillings is equal up to positions, where all that can have a name has one
   pub regained : (g : Graph T A) (b : Built T A X) → Named C g → UpToFillings K (stood C isolated g) b → UpToPositions K (stood C isolated g) b
   regained g b n s = (op_equal [] [] g.own b.own n.0 s.0, regions_equal [] [] 0 (isolated g.own.id) g.regions b.regions n.1 s.1)

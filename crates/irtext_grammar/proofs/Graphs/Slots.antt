@@ -21,9 +21,11 @@ use Rattle.irtext_grammar.proofs.Lists.Numbering.{numbered, own, listed, all_num
 pub same_under : {X : Type 0} (a : List X) {x y : List X} → Same x y → Same (a ++ x) (a ++ y)
 same_under a h = same_both (same_refl a) h
 
+-- what stands in the middle may stand in front
 pub same_past : {X : Type 0} (h a b : List X) → Same (h ++ (a ++ b)) (a ++ (h ++ b))
 same_past h a b = same_then (same_path _ _ (sym (append_assoc h a b))) (same_then (same_both (same_swap h a) (same_refl b)) (same_path _ _ (append_assoc a h b)))
 
+-- the middle parts of two lists may change places
 pub same_two : {X : Type 0} (a x b y : List X) → Same ((a ++ x) ++ (b ++ y)) ((a ++ b) ++ (x ++ y))
 same_two a x b y = same_then (same_path _ _ (append_assoc a x (b ++ y))) (same_then (same_under a (same_past x b y)) (same_path _ _ (sym (append_assoc a b (x ++ y)))))
 
@@ -38,22 +40,27 @@ kept (x ∷ xs) = ap (λ z. x ∷ z) (kept xs)
 
 -- ---- what the operations of a built graph hold, in the order of its links
 module _ {T A X : Type 0} where
+  -- what an operation's operands and successors hold
   abbrev pub op_slots : Path → BuiltOp T A X → List (User × Option Place)
   op_slots p o = numbered (operand p) 0 o.operands ++ numbered (successor p) 0 o.successors
 
   abbrev mutual
+    -- what those in regions hold
     pub region_slots : Path → ℕ → Regions (BuiltOp T A X) (BuiltBlock T A X) ⊤ → List (User × Option Place)
     region_slots p j no_regions = []
     region_slots p j (region r bs rs) = block_slots (j ∷ p) 0 bs ++ region_slots p (suc j) rs
 
+    -- what those in blocks hold
     pub block_slots : Path → ℕ → Blocks (BuiltOp T A X) (BuiltBlock T A X) ⊤ → List (User × Option Place)
     block_slots p k no_blocks = []
     block_slots p k (block h os bs) = operation_slots (k ∷ p) 0 os ++ block_slots p (suc k) bs
 
+    -- what those of a block's operations hold
     pub operation_slots : Path → ℕ → Operations (BuiltOp T A X) (BuiltBlock T A X) ⊤ → List (User × Option Place)
     operation_slots p i no_operations = []
     operation_slots p i (operation o rs os) = (op_slots (i ∷ p) o ++ region_slots (i ∷ p) 0 rs) ++ operation_slots p (suc i) os
 
+  -- what all operands and successors of a root hold
   abbrev pub slots : Built T A X → List (User × Option Place)
   slots b = op_slots [] b.own ++ region_slots [] 0 b.regions
 
@@ -81,6 +88,7 @@ module _ (v l : List (Fact Text)) where
   labels_meant p k [] = refl
   labels_meant p k (n ∷ ns) = ap (λ z. (successor p k, look_label n) ∷ z) (labels_meant p (suc k) ns)
 
+  -- acts that use nothing, joined, use nothing
   pub nothing_both : {P : Type 0} (xs ys : List (Act Text P)) → M_acts xs ≡ [] → M_acts ys ≡ [] → M_acts (xs ++ ys) ≡ []
   nothing_both [] ys e f = f
   nothing_both (script.use_value w u ∷ xs) ys e f = cc
@@ -108,9 +116,11 @@ module _ (v l : List (Fact Text)) where
   keys_mean_nothing rule (e ∷ es) = keys_mean_nothing rule es
 
   module _ {P T A : Type 0} where
+    -- the acts at an operation's end use nothing
     pub closing_means_nothing : (p : Path) (o : Op P T A) → M_acts (closing_acts p o) ≡ []
     closing_means_nothing p o = nothing_both (result_definitions p 0 o.names) (mark_acts o.mark) (results_mean_nothing p 0 o.names) (mark_means_nothing o.mark)
 
+    -- the acts of a block's own use nothing
     pub header_means_nothing : (p : Path) (h : Head P T A) → M_acts (header_acts p h) ≡ []
     header_means_nothing p h =
         let last = script.define_label (record { name = h.label.text; at = h.label.place }) (script.block_at p) ∷ [] in
@@ -131,6 +141,7 @@ module _ (v l : List (Fact Text)) where
       abbrev more_labels : Piece P T A → Uses
       more_labels x = elim x [ tree.successors ns ↦ numbered (successor p) m (map look_label ns) | _ ↦ [] ]
 
+      -- what the uses of a body's parts mean
       abbrev pub parts_meant : List (Part P T A) → Uses
       parts_meant ps = views (λ x. M_acts (piece_acts p k m x)) ps
 
@@ -228,6 +239,7 @@ module _ (v l : List (Fact Text)) where
         names (tree.successors ns) = refl
         names _ = refl
 
+    -- what the uses of an operation mean, by its operands and successors in order
     pub op_meant : (p : Path) (o : Op P T A) → Numbered (parts_of o.body)
         → Same (parts_meant p (singles (parts_of o.body)) (single_labels (parts_of o.body)) (parts_of o.body)) (numbered (operand p) 0 (map look (operand_names o)) ++ numbered (successor p) 0 (map look_label (successor_labels o)))
     op_meant p o f =

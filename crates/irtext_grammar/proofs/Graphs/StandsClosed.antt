@@ -30,6 +30,7 @@ unequal x xs e = cc
 same_number : (m n : ℕ) → (m == n) ≡ (n == m)
 same_number m n = grind (arith, nat_tests)
 
+-- the test of values and blocks goes both ways
 pub thing_symmetric : (x y : Thing) → same_thing x y ≡ same_thing y x
 thing_symmetric (a_value v) (a_value w) = same_number v w
 thing_symmetric (a_value v) (a_block b) = refl
@@ -213,6 +214,7 @@ module _ {T A : Type 0} (C : Printing T A) (isolated : Id → Bool) where
   graph_only g r o s i =
       body_only [] g.own o s (C.format_of g.own.id) _ _ (regions_only [] 0 (isolated g.own.id) g.regions i) (subst (λ z. OnlyRegions (does_all (defined_results [] 0 z) done)) (sym r) tt)
 
+  -- a root that stands for what a tree builds is closed, where each operand and successor holds something
   pub stands_closed : {X : Type 0} (g : Graph T A) (b : Built T A X) → StandsFor (stood C isolated g) b → Linked b → Distinct C isolated g
       → g.own.results ≡ [] → g.own.operands ≡ [] → g.own.successors ≡ [] → (has_region g.regions ≡ true → isolated g.own.id ≡ true) → Closed C isolated g
   stands_closed g b s h d r o t i =

@@ -172,6 +172,7 @@ module _ {T A : Type 0} (C : Printing T A) where
     at_most : (K lists : ℕ) (k : ℕ) (b : Bool) → cond b (k == K) (not (nat_lt k K)) ≡ true → K ≤ k
     at_most K lists k b e = no_less K lists k b e
 
+    -- the operands that are written are the operation's, in order
     pub operands_back : in_order (views (λ p. elim p [ tree.operand i n ↦ (i, n) ∷ [] | _ ↦ [] ]) (filter_map (part_of C ds o) ds)) ++ views (λ p. elim p [ tree.operands ns ↦ ns | _ ↦ [] ]) (filter_map (part_of C ds o) ds) ≡ map (value C) o.operands
     operands_back =
         let es = views (λ p. elim p [ tree.operand i n ↦ (i, n) ∷ [] | _ ↦ [] ]) (filter_map (part_of C ds o) ds) in
@@ -183,6 +184,7 @@ module _ {T A : Type 0} (C : Printing T A) where
         ap₂ ◌++◌ (in_order_front (map (value C) o.operands) es (subst (λ z. are_places z ≡ true) (sym s.0) places) s.1 (omega arith) ∙ ap (λ z. take z (map (value C) o.operands)) k) (operand_lists ds o ds)
         ∙ front_and_rest (value C) (length (operand_places ds)) (count is_operands ds) o.operands (and_right (are_places (operand_places ds)) (nat_lt (count is_operands ds) 2) m.second) f.operands
 
+    -- the successors that are written are the operation's, in order
     pub successors_back : in_order (views (λ p. elim p [ tree.successor i n ↦ (i, n) ∷ [] | _ ↦ [] ]) (filter_map (part_of C ds o) ds)) ++ views (λ p. elim p [ tree.successors ns ↦ ns | _ ↦ [] ]) (filter_map (part_of C ds o) ds) ≡ map (target C) o.successors
     successors_back =
         let es = views (λ p. elim p [ tree.successor i n ↦ (i, n) ∷ [] | _ ↦ [] ]) (filter_map (part_of C ds o) ds) in
@@ -194,6 +196,7 @@ module _ {T A : Type 0} (C : Printing T A) where
         ap₂ ◌++◌ (in_order_front (map (target C) o.successors) es (subst (λ z. are_places z ≡ true) (sym s.0) places) s.1 (omega arith) ∙ ap (λ z. take z (map (target C) o.successors)) k) (successor_lists ds o ds)
         ∙ front_and_rest (target C) (length (successor_places ds)) (count is_successors ds) o.successors (and_right (are_places (successor_places ds)) (nat_lt (count is_successors ds) 2) m.third) f.successors
 
+    -- the result types that are written are the operation's, in order
     pub results_back : in_order (views (λ p. elim p [ tree.result_type i x ↦ (i, x) ∷ [] | _ ↦ [] ]) (filter_map (part_of C ds o) ds)) ≡ map (λ (r : ℕ × T). r.1) o.results
     results_back =
         let es = views (λ p. elim p [ tree.result_type i x ↦ (i, x) ∷ [] | _ ↦ [] ]) (filter_map (part_of C ds o) ds) in

@@ -35,6 +35,7 @@ module _ {P T A : Type 0} (C : Printing T A) where
   abbrev pub WrittenOp : GraphOp T A → Op P T A → Type 0
   WrittenOp o p = (n : ℕ) × (bare_op p ≡ tree_op C n o)
 
+  -- a block's own is what is written of the graph's block, its places aside
   abbrev pub WrittenBlock : GraphBlock T A → Head P T A → Type 0
   WrittenBlock h k = (n : ℕ) × (bare_head k ≡ tree_head C n h)
 
@@ -65,6 +66,7 @@ module _ {P T A : Type 0} (C : Printing T A) where
         let q = operation_parts (bare_op o) (tree_op C m c) (bare_regions rs) (tree_regions C None n cs) (bare_operations os) (tree_operations C None (m + own_marks C c.location (op_outlined C c)) ds) e in
         ((m, q.0), written_regions n cs rs q.1, written_operations (m + own_marks C c.location (op_outlined C c)) ds os q.2)
 
+  -- each item of the tree is what is written of the graph's item at its place
   pub written_as : (g : Graph T A) (t : Tree P T A) → bare t ≡ written C None g → MatchRoots WrittenOp WrittenBlock (λ x y. ⊤) g t
   written_as g t e = ((marks_in_regions C None g.regions, ap (λ z. z.own) e), written_regions 0 g.regions t.regions (ap (λ z. z.regions) e))
 
@@ -97,5 +99,6 @@ module _ {P T A : Type 0} (C : Printing T A) where
       known_operations (operation c cs ds) no_operations f w = absurd w
       known_operations (operation c cs ds) (operation o rs os) f w = (known c o (length (regions_list cs)) f.0 w.0, known_regions cs rs f.1 w.1, known_operations ds os f.2 w.2)
 
+    -- the formats of what is written of a graph that fits are accepted
     pub accepted_written : (g : Graph T A) (t : Tree P T A) → Fit C isolated g → bare t ≡ written C None g → AllAccepted L t
     accepted_written g t f e = let w = written_as g t e in (known g.own t.own (length (regions_list g.regions)) f.0 w.0, known_regions g.regions t.regions f.1 w.1)

@@ -16,6 +16,7 @@ use Rattle.irtext_grammar.proofs.Graphs.FitsFormat.{meets, singles_are, labels_a
 use Rattle.irtext_grammar.specs.Names.Plain.{plain}
 
 module _ {T A : Type 0} (C : Printing T A) where
+  -- a script under the printed names
   abbrev pub S : Script Thing ⊤ → Script Text ⊤
   S x = script_as (printed C) (λ p. p) x
 
@@ -47,6 +48,7 @@ module _ {T A : Type 0} (C : Printing T A) where
   mark_like None h = h
   mark_like (Some m) h = record { so = h.so }
 
+  -- acts joined are done one list after the other
   pub does_both : {N P : Type 0} (xs ys : List (Act N P)) (k : Script N P) → does_all (xs ++ ys) k ≡ does_all xs (does_all ys k)
   does_both [] ys k = refl
   does_both (x ∷ xs) ys k = ap (does x) (does_both xs ys k)
@@ -155,6 +157,7 @@ module _ {T A : Type 0} (C : Printing T A) where
         regions_like (n + marks_in_blocks C None bs) p (suc j) iso rs f.1,
       )
 
+      -- the script of written blocks is the graph's, but for marks and claims
       pub blocks_like : (n : ℕ) (p : Path) (k : ℕ) (bs : Blocks (GraphOp T A) (GraphBlock T A) ⊤) → FitBlocks C isolated bs → Like (blocks_script isolated p k (tree_blocks C None n bs)) (graph_blocks C isolated p k bs)
       blocks_like n p k no_blocks f = record { so = refl }
       blocks_like n p k (block b os bs) f =

@@ -55,6 +55,7 @@ each_map : {X Y : Type 0} (Q : X → Type 0) (R : Y → Type 0) (F : X → Y) �
 each_map Q R F h [] e = tt
 each_map Q R F h (x ∷ xs) e = (h x e.0, each_map Q R F h xs e.1)
 
+-- what holds of each holds of those that pass a test
 pub each_filter : {X : Type 0} (Q : X → Type 0) (test : X → Bool) (xs : List X) → Each Q xs → Each Q (filter test xs)
 each_filter Q test [] e = tt
 each_filter Q test (x ∷ xs) e = go (test x) (each_filter Q test xs e.1)
@@ -98,6 +99,7 @@ Room (format.region i ∷ rest) (suc n) = Room rest n
 Room (format.regions ∷ rest) n = Room rest 0
 Room (_ ∷ rest) n = Room rest n
 
+-- whether so many regions fit so many places and lists
 abbrev pub Fitted : ℕ → ℕ → ℕ → Bool
 Fitted places lists n = cond (lists == 0) (n == places) (not (nat_lt n places))
 
@@ -126,6 +128,7 @@ room_none (format.dictionary ∷ rest) e c = room_none rest e c
 room_none (format.result_type i ∷ rest) e c = room_none rest e c
 room_none (format.header ∷ rest) e c = room_none rest e c
 
+-- regions that fit have a place or a list each
 pub room : (rest : List Directive) (n : ℕ) → Fitted (length (region_places rest)) (count is_regions rest) n ≡ true → nat_lt (count is_regions rest) 2 ≡ true
     → none_behind is_regions (λ d. elim d [ format.region i ↦ true | _ ↦ false ]) rest ≡ true → Room rest n
 room [] n e f b = same_character n 0 e
@@ -221,6 +224,7 @@ module _ {T A : Type 0} (C : Printing T A) (isolated : Id → Bool) (given : (v 
   skip_header (Some (ident n)) qs rs e = e
   skip_header (Some (own x)) qs rs e = e
 
+  -- what is written of an operation that fits has a place for each of its regions
   pub enough : (ds : List Directive) (o : GraphOp T A) (rest : List Directive) (rs : Own) → Room rest (length (regions_list rs)) → Enough (filter_map (part_of C ds o) rest) rs
   enough ds o [] no_regions e = tt
   enough ds o [] (region r bs rs) e = absurd (omega arith)
@@ -237,6 +241,7 @@ module _ {T A : Type 0} (C : Printing T A) (isolated : Id → Bool) (given : (v 
   enough ds o (format.result_type i ∷ rest) rs e = skip_enough _ (slice_get o.results i) _ rs (enough ds o rest rs e)
   enough ds o (format.header ∷ rest) rs e = skip_header (lookup sym_name_key o.attributes) _ rs (enough ds o rest rs e)
 
+  -- as many regions are written as there are
   pub same_length : (l : Limit) (n : ℕ) (rs : Regions (GraphOp T A) (GraphBlock T A) ⊤) → length (regions_list (tree_regions C l n rs)) ≡ length (regions_list rs)
   same_length l n no_regions = refl
   same_length l n (region r bs rs) = go (is_elided C l) _ _ _ _ _ _ (same_length l n rs) (same_length l (n + marks_in_blocks C (inside C l) bs) rs)
@@ -362,6 +367,7 @@ module _ {T A : Type 0} (C : Printing T A) (isolated : Id → Bool) (given : (v 
 
 -- what is written of a graph that fits can be written
 module _ {T A : Type 0} (C : Printing T A) (isolated : Id → Bool) where
+  -- what is written of a graph that fits can be written and read back, also where regions are left out
   pub written_fine_under : (L : Language ⊤ T A) → ((i : Id) → L.format_of i ≡ C.format_of i) → (l : Limit) → (l ≡ None) ⊎ ((f : Text) → L.left_out (codes "{..}" ++ f) f) → (g : Graph T A) → HasIdentifiers C g → Fit C isolated g → SmallGraph C isolated g → Writable L (written C l g)
   written_fine_under L e l k g w f s =
       let q = marks_in_regions C l g.regions in
@@ -371,5 +377,6 @@ module _ {T A : Type 0} (C : Printing T A) (isolated : Id → Bool) where
         regions_fine C isolated w.given w.label L e l 0 g.regions k f.1 w.regions s.1 (omega arith),
       )
 
+  -- what is written of a graph that fits can be written and read back
   pub written_fine : (types : Texts T) (owns : Texts A) (g : Graph T A) → HasIdentifiers C g → Fit C isolated g → SmallGraph C isolated g → Writable (unplaced types owns C.format_of) (written C None g)
   written_fine types owns g w f s = written_fine_under (unplaced types owns C.format_of) (λ i. refl) None (inl refl) g w f s

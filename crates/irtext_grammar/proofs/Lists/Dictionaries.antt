@@ -16,6 +16,7 @@ abbrev pub last_of : {V : Type 0} → Text → List (Text × V) → Option V
 last_of key [] = None
 last_of key (d ∷ ds) = or_else (last_of key ds) (cond (same_text key d.0) (Some d.1) None)
 
+-- what a key has last in two lists joined: what the second has, or else the first
 pub last_both : {V : Type 0} (key : Text) (xs ys : List (Text × V)) → last_of key (xs ++ ys) ≡ or_else (last_of key ys) (last_of key xs)
 last_both key [] ys = sym (or_else-none (last_of key ys))
 last_both key (x ∷ xs) ys = ap (λ o. or_else o (cond (same_text key x.0) (Some x.1) None)) (last_both key xs ys) ∙ go (last_of key ys)
@@ -60,6 +61,7 @@ passing test None = None
 passing test (Some v) = cond (test v) (Some v) None
 
 module _ {V : Type 0} (test : V → Bool) (es : List (Text × V)) where
+  -- entries of the dictionary that pass the test, and all of them
   pub record Picks (xs : List (Text × V)) : Type 0 where
     pub each : Each (λ (e : Text × V). (lookup e.0 es ≡ Some e.1) × (test e.1 ≡ true)) xs
     pub all : (key : Text) (v : V) → lookup key es ≡ Some v → test v ≡ true → is_some (last_of key xs) ≡ true
@@ -77,6 +79,7 @@ module _ {V : Type 0} (test : V → Bool) (es : List (Text × V)) where
       go None s true k = (ap (λ z. lookup z es) (same_text_true key x.0 k) ∙ h.0.0, h.0.1)
       go None s false k = tt
 
+  -- what a key has last among the entries that are picked: its entry in the dictionary, where that passes
   pub last_passing : (xs : List (Text × V)) → Picks xs → (key : Text) → last_of key xs ≡ passing test (lookup key es)
   last_passing xs p key = go (last_of key xs) (last_stands key xs p.each) (lookup key es) refl (p.all key)
     where
@@ -104,6 +107,7 @@ module _ {V : Type 0} where
       let r = or_none (same_text e.0 f.0) (has same_text e.0 (map (λ f. f.0) fs)) n in
       (ap (λ b. cond b (Some e.1) (lookup f.0 es)) (differ f.0 e.0 r.0) ∙ h.0, behind e es fs r.1 h.1)
 
+  -- in a list without a key twice, each key has its own entry
   pub own_lookups : (es : List (Text × V)) → distinct same_text (map (λ e. e.0) es) ≡ true → Each (λ (e : Text × V). lookup e.0 es ≡ Some e.1) es
   own_lookups [] d = tt
   own_lookups (e ∷ es) d =
@@ -120,10 +124,12 @@ module _ {V : Type 0} where
       go true k r = ((h.0, k), r)
       go false k r = r
 
+  -- an alternative is there where its second half is
   pub some_else : (o q : Option V) → is_some q ≡ true → is_some (or_else o q) ≡ true
   some_else None q h = h
   some_else (Some v) q h = refl
 
+  -- an alternative is there where its first half is
   pub some_first : (o q : Option V) → is_some o ≡ true → is_some (or_else o q) ≡ true
   some_first None q h = absurd (true≢false (sym h))
   some_first (Some v) q h = refl

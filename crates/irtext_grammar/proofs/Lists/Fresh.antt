@@ -4,26 +4,32 @@ use Rattle.std.specs.Prelude.{⊤}
 use Rattle.irtext_base.specs.Format.{has, distinct}
 use Rattle.irtext_base.proofs.Characters.{and_left, and_right}
 
+-- a truth value whose negation holds is false
 pub is_not : (b : Bool) → not b ≡ true → b ≡ false
 is_not true e = sym e
 is_not false e = refl
 
+-- the negation of a false truth value holds
 pub not_is : (b : Bool) → b ≡ false → not b ≡ true
 not_is true e = sym e
 not_is false e = refl
 
+-- where a disjunction fails, its first half does
 pub neither_left : (a b : Bool) → (a || b) ≡ false → a ≡ false
 neither_left true b e = e
 neither_left false b e = refl
 
+-- where a disjunction fails, its second half does
 pub neither_right : (a b : Bool) → (a || b) ≡ false → b ≡ false
 neither_right true b e = absurd (true≢false e)
 neither_right false b e = e
 
+-- a disjunction fails where both halves do
 pub neither : (a b : Bool) → a ≡ false → b ≡ false → (a || b) ≡ false
 neither true b e f = e
 neither false b e f = f
 
+-- a conjunction holds where both halves do
 pub both : (a b : Bool) → a ≡ true → b ≡ true → (a && b) ≡ true
 both true b e f = f
 both false b e f = e
@@ -34,19 +40,23 @@ module _ {X : Type 0} (same : X → X → Bool) where
   Fresh before [] = ⊤
   Fresh before (x ∷ xs) = (has same x before ≡ false) × Fresh (before ++ x ∷ []) xs
 
+  -- two lists joined are new where the first is, and the second behind it
   pub fresh_join : (before xs ys : List X) → Fresh before xs → Fresh (before ++ xs) ys → Fresh before (xs ++ ys)
   fresh_join before [] ys f g = subst (λ b. Fresh b ys) (append-nil before) g
   fresh_join before (x ∷ xs) ys f g = (f.0, fresh_join (before ++ x ∷ []) xs ys f.1 (subst (λ b. Fresh b ys) (sym (append_assoc before (x ∷ []) xs)) g))
 
+  -- the front of a list that is new is new
   pub fresh_left : (before xs ys : List X) → Fresh before (xs ++ ys) → Fresh before xs
   fresh_left before [] ys f = tt
   fresh_left before (x ∷ xs) ys f = (f.0, fresh_left (before ++ x ∷ []) xs ys f.1)
 
+  -- the rest of a list that is new is new behind its front
   pub fresh_right : (before xs ys : List X) → Fresh before (xs ++ ys) → Fresh (before ++ xs) ys
   fresh_right before [] ys f = subst (λ b. Fresh b ys) (sym (append-nil before)) f
   fresh_right before (x ∷ xs) ys f = subst (λ b. Fresh b ys) (append_assoc before (x ∷ []) xs) (fresh_right (before ++ x ∷ []) xs ys f.1)
 
   module _ (symmetric : (x y : X) → same x y ≡ same y x) where
+    -- whether an item is in two lists joined
     pub has_both : (x : X) (xs ys : List X) → has same x (xs ++ ys) ≡ (has same x xs || has same x ys)
     has_both x [] ys = refl
     has_both x (y ∷ xs) ys = go (same x y) (has_both x xs ys)
@@ -90,8 +100,10 @@ module _ {X : Type 0} (same : X → X → Bool) where
     apart_nothing [] = tt
     apart_nothing (x ∷ xs) = (refl, apart_nothing xs)
 
+    -- a list that is new has no item twice
     pub fresh_distinct : (xs : List X) → Fresh [] xs → distinct same xs ≡ true
     fresh_distinct xs f = (fresh_is [] xs f).1
 
+    -- a list without an item twice is new
     pub distinct_fresh : (xs : List X) → distinct same xs ≡ true → Fresh [] xs
     distinct_fresh xs d = is_fresh [] xs (apart_nothing xs) d

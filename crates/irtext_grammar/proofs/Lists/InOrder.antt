@@ -10,6 +10,7 @@ use Rattle.irtext_grammar.specs.Grammar.Tree.{at_place, in_order_from, in_order}
 use Rattle.irtext_grammar.proofs.Graphs.FitsFormat.{and_left, and_right, below}
 use Rattle.irtext_grammar.proofs.Lists.SameText.{same_character, same_itself}
 
+-- two ways to ask whether a number is in a list
 pub any_has : (k : ℕ) (ks : List ℕ) → list_any (eqb k) ks ≡ has ◌==◌ k ks
 any_has k [] = refl
 any_has k (i ∷ ks) = ap (λ b. (k == i) || b) (any_has k ks)
@@ -26,6 +27,7 @@ none_is : (k : ℕ) (ks : List ℕ) → has ◌==◌ k ks ≡ false → AllByRec
 none_is k [] e = tt
 none_is k (i ∷ ks) e = (or_left (k == i) (has ◌==◌ k ks) e, none_is k ks (or_right (k == i) (has ◌==◌ k ks) e))
 
+-- a truth value whose negation holds is false
 pub not_true : (b : Bool) → not b ≡ true → b ≡ false
 not_true true e = absurd (true≢false (sym e))
 not_true false e = refl
@@ -39,6 +41,7 @@ distinct_more : (k : ℕ) (ks : List ℕ) → has ◌==◌ k ks ≡ false → di
 unfolding IsDistinct
 distinct_more k ks e f = (none_is k ks e, distinct_is ks f)
 
+-- a member of a list of numbers below a bound is below it
 pub each_below : (n : ℕ) (ks : List ℕ) → list_all (λ i. nat_lt i n) ks ≡ true → (q : ℕ) → list_any (eqb q) ks ≡ true → q < n
 each_below n [] e q h = absurd (true≢false (sym h))
 each_below n (k ∷ ks) e q h = go (q == k) refl h (each_below n ks (and_right (nat_lt k n) (list_all (λ i. nat_lt i n) ks) e) q)
@@ -73,10 +76,12 @@ abbrev pub AllFrom : {X : Type 0} → List X → List (ℕ × X) → Type 0
 AllFrom xs [] = ⊤
 AllFrom xs (e ∷ es) = (slice_get xs e.0 ≡ Some e.1) × AllFrom xs es
 
+-- the places of a list of placed items
 abbrev pub firsts : {X : Type 0} → List (ℕ × X) → List ℕ
 firsts [] = []
 firsts (e ∷ es) = e.0 ∷ firsts es
 
+-- there are as many places as items
 pub firsts_length : {X : Type 0} (es : List (ℕ × X)) → length (firsts es) ≡ length es
 firsts_length [] = refl
 firsts_length (e ∷ es) = ap suc (firsts_length es)

@@ -15,6 +15,7 @@ use Rattle.irtext_grammar.proofs.Lists.InOrder.{not_true, all_there, firsts, fir
 use Rattle.irtext_grammar.proofs.Lists.SameText.{same_character, same_itself}
 use Rattle.irtext_grammar.proofs.Lists.Sets.{Same, same_path, same_then, same_both}
 
+-- what is inside of equal options is equal
 pub some_inside : {X : Type 0} (x y : X) → Some x ≡ Some y → x ≡ y
 some_inside x y e = cc
 
@@ -23,6 +24,7 @@ abbrev pub numbered : {X : Type 0} → (ℕ → User) → ℕ → List X → Lis
 numbered u k [] = []
 numbered u k (x ∷ xs) = (u k, x) ∷ numbered u (suc k) xs
 
+-- two lists joined are numbered on
 pub numbered_both : {X : Type 0} (u : ℕ → User) (k n : ℕ) (xs ys : List X) → n ≡ k + length xs → numbered u k (xs ++ ys) ≡ numbered u k xs ++ numbered u n ys
 numbered_both u k n [] ys e = ap (λ z. numbered u z ys) (omega arith)
 numbered_both u k n (x ∷ xs) ys e = ap (λ z. (u k, x) ∷ z) (numbered_both u (suc k) n xs ys (omega arith))
@@ -36,6 +38,7 @@ in_numbered F u k n i [] x e h = absurd (none i x h)
 in_numbered F u k n zero (y ∷ xs) x e h = let m : n ≡ k = omega arith in inl (λ i. (u (m i), F (some_inside x y (sym h) i)))
 in_numbered F u k n (suc i) (y ∷ xs) x e h = inr (in_numbered F u (suc k) n i xs x (omega arith) h)
 
+-- a member of a numbered list stands at its own number
 pub numbered_in : {X Y : Type 0} (F : X → Y) (u : ℕ → User) (k : ℕ) (xs : List X) (w : User) (y : Y) → In (w, y) (numbered u k (map F xs)) → (i : ℕ) × (x : X) × (slice_get xs i ≡ Some x) × (w ≡ u (k + i)) × (y ≡ F x)
 numbered_in F u k [] w y h = absurd h
 numbered_in F u k (x ∷ xs) w y (inl e) = let m : k ≡ k + 0 = omega arith in (0, x, refl, ap (λ z. z.0) e ∙ ap u m, ap (λ z. z.1) e)
@@ -109,6 +112,7 @@ module _ {X : Type 0} (es : List (ℕ × X)) (places : are_places (firsts es) �
   at_all : (j : ℕ) → j < 0 + length es → is_some (at_place j es) ≡ true
   at_all j l = let f = firsts_length es in there j es (all_there (firsts es) places j (omega arith))
 
+  -- as many items in order as there are
   pub in_order_length : length (in_order es) ≡ length es
   in_order_length = from_length (length es) 0 es at_all
 
@@ -160,6 +164,7 @@ module _ {X : Type 0} (es : List (ℕ × X)) (places : are_places (firsts es) �
     own_numbered = record { into = to_numbered (in_order es) es in_order_got; back = from_numbered }
 
 module _ {X Y : Type 0} (F : X → Y) (u : ℕ → User) (k : ℕ) where
+  -- a list that is numbered on, with what each of its items means
   abbrev pub listed : List X → List (User × Y)
   listed xs = numbered u k (map F xs)
 

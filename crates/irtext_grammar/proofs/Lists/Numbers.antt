@@ -4,6 +4,7 @@ use Rattle.std.proofs.lemmas.Bool.Decides.{nat_tests}
 use Rattle.irtext_grammar.specs.Names.Scopes.{is_among}
 use Rattle.irtext_grammar.specs.Spelling.SectionEntries.{numbers}
 
+-- two runs of numbers, one behind the other, are one run
 pub numbers_both : (n a b : ℕ) → numbers n a ++ numbers (n + a) b ≡ numbers n (a + b)
 numbers_both n zero b = let e : n + 0 ≡ n = omega arith in let f : b ≡ 0 + b = omega arith in ap (λ k. numbers k b) e ∙ ap (numbers n) f
 numbers_both n (suc a) b =
@@ -11,6 +12,7 @@ numbers_both n (suc a) b =
     let f : suc (a + b) ≡ suc a + b = omega arith in
     ap (λ z. n ∷ z) (ap (λ k. numbers (suc n) a ++ numbers k b) e ∙ numbers_both (suc n) a b) ∙ ap (numbers n) f
 
+-- a run has as many numbers as it says
 pub length_numbers : (n k : ℕ) → length (numbers n k) ≡ k
 length_numbers n zero = refl
 length_numbers n (suc k) = ap suc (length_numbers (suc n) k)

@@ -15,9 +15,11 @@ use Rattle.irtext_grammar.proofs.Names.ResolvedScript.{each_both, each_left}
 abbrev pub values_in : {P T A : Type 0} → Piece P T A → List (Name P)
 values_in p = elim p [ tree.operand i n ↦ n ∷ [] | tree.operands ns ↦ ns | _ ↦ [] ]
 
+-- the labels that a piece names
 abbrev pub labels_in : {P T A : Type 0} → Piece P T A → List (Name P)
 labels_in p = elim p [ tree.successor i n ↦ n ∷ [] | tree.successors ns ↦ ns | _ ↦ [] ]
 
+-- the entries of a piece's dictionary
 abbrev pub entries_in : {P T A : Type 0} → Piece P T A → List (Name P × Attribute A)
 entries_in p = elim p [ tree.dictionary es ↦ es | _ ↦ [] ]
 
@@ -58,6 +60,7 @@ module _ {X : Type 0} (uv ul dv dl : Text → List X) (mk : ℕ → List X) wher
     flat_mark (Some m) = refl
 
   module _ {P T A : Type 0} where
+    -- what a piece's acts give: the values and the labels that it uses
     pub piece_gives : (p : Path) (k l : ℕ) (x : Piece P T A) → flat_map act_of (piece_acts p k l x) ≡ flat_map uv (texts (values_in x)) ++ flat_map ul (texts (labels_in x))
     piece_gives p k l (tree.operand i n) = sym (append-nil (uv n.text ++ []))
     piece_gives p k l (tree.operands ns) = flat_values p k ns ∙ sym (append-nil (flat_map uv (texts ns)))
@@ -70,9 +73,11 @@ module _ {X : Type 0} (uv ul dv dl : Text → List X) (mk : ℕ → List X) wher
     piece_gives p k l (tree.header n) = refl
     piece_gives p k l (tree.types ts) = refl
 
+    -- what the acts at an operation's end give: its results, and its mark
     pub closing_gives : (p : Path) (o : Op P T A) → flat_map act_of (closing_acts p o) ≡ flat_map dv (texts o.names) ++ flat_map mk (marked_as o.mark)
     closing_gives p o = flat_both act_of (result_definitions p 0 o.names) (mark_acts o.mark) ∙ ap₂ ◌++◌ (flat_results p 0 o.names) (flat_mark o.mark)
 
+    -- what the acts of a block's own give: its arguments, its label and its mark
     pub header_gives : (p : Path) (h : Head P T A) → flat_map act_of (header_acts p h) ≡ flat_map dv (texts (map (λ a. a.0) h.arguments)) ++ (flat_map mk (marked_as h.mark) ++ (dl h.label.text ++ []))
     header_gives p h =
         flat_both act_of (map (key_act block_may_hold) (entries_if h.attributes)) _
@@ -84,6 +89,7 @@ abbrev pub Holds : {P : Type 0} → Act Text P → Type 0
 Holds (claim b x) = b ≡ true
 Holds _ = ⊤
 
+-- the act is no entry
 abbrev pub NoEntry : {P : Type 0} → Act Text P → Type 0
 NoEntry (entry i p) = ⊥
 NoEntry _ = ⊤
@@ -134,6 +140,7 @@ module _ {P : Type 0} where
   keys_no_entry rule (e ∷ es) = (tt, keys_no_entry rule es)
 
 module _ {P T A : Type 0} where
+  -- the claims of a piece hold where its keys may stand
   pub piece_holds : (p : Path) (k l : ℕ) (x : Piece P T A) → KeysKept may_hold (entries_in x) → Each Holds (piece_acts p k l x)
   piece_holds p k l (tree.operand i n) h = (tt, tt)
   piece_holds p k l (tree.operands ns) h = easy_holds (value_uses p k ns) (easy_values p k ns)
@@ -146,6 +153,7 @@ module _ {P T A : Type 0} where
   piece_holds p k l (tree.header n) h = tt
   piece_holds p k l (tree.types ts) h = tt
 
+  -- the keys of a piece may stand where its claims hold
   pub holds_piece : (p : Path) (k l : ℕ) (x : Piece P T A) → Each Holds (piece_acts p k l x) → KeysKept may_hold (entries_in x)
   holds_piece p k l (tree.dictionary es) h = hold_keys may_hold es h
   holds_piece p k l (tree.operand i n) h = tt
@@ -158,6 +166,7 @@ module _ {P T A : Type 0} where
   holds_piece p k l (tree.header n) h = tt
   holds_piece p k l (tree.types ts) h = tt
 
+  -- no act of a piece is an entry
   pub piece_no_entry : (p : Path) (k l : ℕ) (x : Piece P T A) → Each NoEntry (piece_acts p k l x)
   piece_no_entry p k l (tree.operand i n) = (tt, tt)
   piece_no_entry p k l (tree.operands ns) = easy_no_entry (value_uses p k ns) (easy_values p k ns)
@@ -173,9 +182,11 @@ module _ {P T A : Type 0} where
   closing_rest : (p : Path) (o : Op P T A) → Each Easy (result_definitions p 0 o.names ++ mark_acts o.mark)
   closing_rest p o = each_both Easy (result_definitions p 0 o.names) (mark_acts o.mark) (easy_results p 0 o.names) (easy_mark o.mark)
 
+  -- the claims at an operation's end hold where its counts agree
   pub closing_holds : (p : Path) (o : Op P T A) → CountsAgree o → Each Holds (closing_acts p o)
   closing_holds p o h = (h, easy_holds (result_definitions p 0 o.names ++ mark_acts o.mark) (closing_rest p o))
 
+  -- no act at an operation's end is an entry
   pub closing_no_entry : (p : Path) (o : Op P T A) → Each NoEntry (closing_acts p o)
   closing_no_entry p o = (tt, easy_no_entry (result_definitions p 0 o.names ++ mark_acts o.mark) (closing_rest p o))
 
@@ -185,11 +196,14 @@ module _ {P T A : Type 0} where
   header_rest : (p : Path) (h : Head P T A) → Each Easy (rest_of p h)
   header_rest p h = each_both Easy (argument_definitions p 0 h.arguments) _ (easy_arguments p 0 h.arguments) (each_both Easy (mark_acts h.mark) _ (easy_mark h.mark) ((tt, tt), tt))
 
+  -- the claims of a block's own hold where its keys may stand
   pub header_holds : (p : Path) (h : Head P T A) → HeadKeysKept h → Each Holds (header_acts p h)
   header_holds p h k = each_both Holds (map (key_act block_may_hold) (entries_if h.attributes)) (rest_of p h) (keys_hold block_may_hold (entries_if h.attributes) k) (easy_holds (rest_of p h) (header_rest p h))
 
+  -- the keys of a block's own may stand where its claims hold
   pub holds_header : (p : Path) (h : Head P T A) → Each Holds (header_acts p h) → HeadKeysKept h
   holds_header p h k = hold_keys block_may_hold (entries_if h.attributes) (each_left Holds (map (key_act block_may_hold) (entries_if h.attributes)) (rest_of p h) k)
 
+  -- no act of a block's own is an entry
   pub header_no_entry : (p : Path) (h : Head P T A) → Each NoEntry (header_acts p h)
   header_no_entry p h = each_both NoEntry (map (key_act block_may_hold) (entries_if h.attributes)) (rest_of p h) (keys_no_entry block_may_hold (entries_if h.attributes)) (easy_no_entry (rest_of p h) (header_rest p h))

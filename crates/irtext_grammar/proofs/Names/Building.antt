@@ -72,6 +72,7 @@ bound-none [] = refl
 bound-none (uses n u ∷ f) = bound-none f
 bound-none (defines n p ∷ f) = bound-none f
 
+-- what each use means in the order of the script has the members of what the scopes bind
 pub bound_same : (x : Script) → Same (means [] [] x) (facts x).bound
 bound_same x =
     let f = facts x in

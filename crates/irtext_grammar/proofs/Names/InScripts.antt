@@ -16,21 +16,25 @@ pub record Both (A B : Type 0) : Type 0 where
   pub to : A → B
   pub from : B → A
 
+-- what holds both ways, and then both ways again
 pub both_then : {A B C : Type 0} → Both A B → Both B C → Both A C
 both_then a b = record { to = λ x. b.to (a.to x); from = λ x. a.from (b.from x) }
 
 -- each region is shown, and the parts of each operation have a place for each of its regions
 module _ {P T A : Type 0} where
   abbrev mutual
+    -- each operation in the regions has a place for each of its regions
     pub WholeRegions : Regions (Op P T A) (Head P T A) (Brace P) → Type 0
     WholeRegions no_regions = ⊤
     WholeRegions (region (shown place) bs rs) = WholeBlocks bs × WholeRegions rs
     WholeRegions (region elided bs rs) = ⊥
 
+    -- each operation in the blocks has
     pub WholeBlocks : Blocks (Op P T A) (Head P T A) (Brace P) → Type 0
     WholeBlocks no_blocks = ⊤
     WholeBlocks (block h os bs) = WholeOperations os × WholeBlocks bs
 
+    -- each of the operations has
     pub WholeOperations : Operations (Op P T A) (Head P T A) (Brace P) → Type 0
     WholeOperations no_operations = ⊤
     WholeOperations (operation o rs os) = (Enough (parts_of o.body) rs × WholeRegions rs) × WholeOperations os
@@ -60,6 +64,7 @@ module _ {P T A X : Type 0} (isolated : Id → Bool) (of_op : Op P T A → List 
   all_add p j iso (region brace bs rs) then a =
       a.0 (all_of (region_scripts isolated p (suc j) iso rs) then) ∙ (ap (λ z. outward iso (B bs) ++ z) (all_add p (suc j) iso rs then a.1) ∙ sym (append_assoc (outward iso (B bs)) (R iso rs) (L then)))
 
+  -- what is gathered of a body's parts
   pub parts_add : (p : Path) (k l : ℕ) (ps : List (Part P T A)) (q : Path) (j : ℕ) (iso : Bool) (rs : Regions (Op P T A) (Head P T A) (Brace P)) (then : Script Text P) → Enough ps rs → Adds q j iso rs
       → L (parts_script p k l ps (region_scripts isolated q j iso rs) then) ≡ R iso rs ++ L then
   parts_add p k l [] q j iso no_regions then e a = refl
@@ -72,6 +77,7 @@ module _ {P T A X : Type 0} (isolated : Id → Bool) (of_op : Op P T A → List 
   parts_add p k l (tree.regions ∷ ps) q j iso rs then e a =
       all_add q j iso rs (parts_script p k l ps [] then) a ∙ ap (λ z. R iso rs ++ z) (parts_add p k l ps q j iso no_regions then e tt)
 
+  -- what is gathered of an operation
   pub operation_adds : (p : Path) (o : Op P T A) (rs : Regions (Op P T A) (Head P T A) (Brace P)) (then : Script Text P) → Enough (parts_of o.body) rs → Adds p 0 (isolated o.id) rs
       → L (operation_script p o (region_scripts isolated p 0 (isolated o.id) rs) then) ≡ (R (isolated o.id) rs ++ of_op o) ++ L then
   operation_adds p o rs then e a =
@@ -79,18 +85,21 @@ module _ {P T A X : Type 0} (isolated : Id → Bool) (of_op : Op P T A → List 
       ∙ (ap (λ z. R (isolated o.id) rs ++ z) (closes p o then) ∙ sym (append_assoc (R (isolated o.id) rs) (of_op o) (L then)))
 
   mutual
+    -- what is gathered of regions
     pub regions_add : (p : Path) (j : ℕ) (iso : Bool) (rs : Regions (Op P T A) (Head P T A) (Brace P)) → WholeRegions rs → Adds p j iso rs
     regions_add p j iso no_regions w = tt
     regions_add p j iso (region (shown place) bs rs) w =
         (λ k. regions iso place (blocks_script isolated (j ∷ p) 0 bs) k ∙ ap (λ z. outward iso z ++ L k) (blocks_add (j ∷ p) 0 bs w.0), regions_add p (suc j) iso rs w.1)
     regions_add p j iso (region elided bs rs) w = absurd w
 
+    -- what is gathered of blocks
     pub blocks_add : (p : Path) (k : ℕ) (bs : Blocks (Op P T A) (Head P T A) (Brace P)) → WholeBlocks bs → L (blocks_script isolated p k bs) ≡ B bs
     blocks_add p k no_blocks w = ends
     blocks_add p k (block h os bs) w =
         heads (k ∷ p) h (operations_script isolated (k ∷ p) 0 os (blocks_script isolated p (suc k) bs))
         ∙ ap (λ z. of_head h ++ z) (operations_add (k ∷ p) 0 os (blocks_script isolated p (suc k) bs) w.0 ∙ ap (λ z. O os ++ z) (blocks_add p (suc k) bs w.1))
 
+    -- what is gathered of a block's operations
     pub operations_add : (p : Path) (i : ℕ) (os : Operations (Op P T A) (Head P T A) (Brace P)) (then : Script Text P) → WholeOperations os → L (operations_script isolated p i os then) ≡ O os ++ L then
     operations_add p i no_operations then w = refl
     operations_add p i (operation o rs os) then w =
@@ -106,20 +115,24 @@ module _ {P T A : Type 0} (isolated : Id → Bool) (of_piece : Piece P T A → T
     (heads : (p : Path) (h : Head P T A) (then : Script Text P) → Both (D (does_all (header_acts p h) then)) (of_head h × D then))
     (regions : (p : Path) (iso : Bool) (place : P) (bs : Blocks (Op P T A) (Head P T A) (Brace P)) (then : Script Text P) (Q : Type 0) → WholeBlocks bs → Both (D (blocks_script isolated p 0 bs)) Q
     → Both (D (within iso place (blocks_script isolated p 0 bs) then)) (inside iso bs Q × D then)) where
+  -- what is asked of a body's pieces
   abbrev pub OfParts : List (Part P T A) → Type 0
   OfParts [] = ⊤
   OfParts (tree.piece x ∷ ps) = of_piece x × OfParts ps
   OfParts (_ ∷ ps) = OfParts ps
 
   abbrev mutual
+    -- what is asked of regions
     pub OfRegions : Bool → Regions (Op P T A) (Head P T A) (Brace P) → Type 0
     OfRegions iso no_regions = ⊤
     OfRegions iso (region brace bs rs) = inside iso bs (OfBlocks bs) × OfRegions iso rs
 
+    -- what is asked of blocks
     pub OfBlocks : Blocks (Op P T A) (Head P T A) (Brace P) → Type 0
     OfBlocks no_blocks = ⊤
     OfBlocks (block h os bs) = of_head h × (OfOperations os × OfBlocks bs)
 
+    -- what is asked of operations
     pub OfOperations : Operations (Op P T A) (Head P T A) (Brace P) → Type 0
     OfOperations no_operations = ⊤
     OfOperations (operation o rs os) = (OfParts (parts_of o.body) × (OfRegions (isolated o.id) rs × of_op o)) × OfOperations os
@@ -135,6 +148,7 @@ module _ {P T A : Type 0} (isolated : Id → Bool) (of_piece : Piece P T A → T
       let s = all_hold p (suc j) iso rs then a.1 in
       record { to = λ d. let x = r.to d in let y = s.to x.1 in ((x.0, y.0), y.1); from = λ d. r.from (d.0.0, s.from (d.0.1, d.1)) }
 
+  -- what holds of the script of a body's parts holds of the parts, and the other way round
   pub parts_hold : (p : Path) (k l : ℕ) (ps : List (Part P T A)) (q : Path) (j : ℕ) (iso : Bool) (rs : Regions (Op P T A) (Head P T A) (Brace P)) (then : Script Text P) → Enough ps rs → Hold q j iso rs
       → Both (D (parts_script p k l ps (region_scripts isolated q j iso rs) then)) (OfParts ps × (OfRegions iso rs × D then))
   parts_hold p k l [] q j iso no_regions then e a = record { to = λ d. (tt, (tt, d)); from = λ d. d.1.1 }
@@ -153,6 +167,7 @@ module _ {P T A : Type 0} (isolated : Id → Bool) (of_piece : Piece P T A → T
       let s = parts_hold p k l ps q j iso no_regions then e tt in
       record { to = λ d. let u = r.to d in let v = s.to u.1 in (v.0, (u.0, v.1.1)); from = λ d. r.from (d.1.0, s.from (d.0, (tt, d.1.1))) }
 
+  -- the same of an operation
   pub operation_holds : (p : Path) (o : Op P T A) (rs : Regions (Op P T A) (Head P T A) (Brace P)) (then : Script Text P) → Enough (parts_of o.body) rs → Hold p 0 (isolated o.id) rs
       → Both (D (operation_script p o (region_scripts isolated p 0 (isolated o.id) rs) then)) ((OfParts (parts_of o.body) × (OfRegions (isolated o.id) rs × of_op o)) × D then)
   operation_holds p o rs then e a =
@@ -161,11 +176,13 @@ module _ {P T A : Type 0} (isolated : Id → Bool) (of_piece : Piece P T A → T
       record { to = λ d. let u = r.to d in let v = s.to u.1.1 in ((u.0, (u.1.0, v.0)), v.1); from = λ d. r.from (d.0.0, (d.0.1.0, s.from (d.0.1.1, d.1))) }
 
   mutual
+    -- the same of regions
     pub regions_hold : (p : Path) (j : ℕ) (iso : Bool) (rs : Regions (Op P T A) (Head P T A) (Brace P)) → WholeRegions rs → Hold p j iso rs
     regions_hold p j iso no_regions w = tt
     regions_hold p j iso (region (shown place) bs rs) w = (λ k. regions (j ∷ p) iso place bs k (OfBlocks bs) w.0 (blocks_hold (j ∷ p) 0 bs w.0), regions_hold p (suc j) iso rs w.1)
     regions_hold p j iso (region elided bs rs) w = absurd w
 
+    -- the same of blocks
     pub blocks_hold : (p : Path) (k : ℕ) (bs : Blocks (Op P T A) (Head P T A) (Brace P)) → WholeBlocks bs → Both (D (blocks_script isolated p k bs)) (OfBlocks bs)
     blocks_hold p k no_blocks w = record { to = λ d. tt; from = λ d. ends }
     blocks_hold p k (block h os bs) w =
@@ -174,6 +191,7 @@ module _ {P T A : Type 0} (isolated : Id → Bool) (of_piece : Piece P T A → T
         let t = blocks_hold p (suc k) bs w.1 in
         record { to = λ d. let u = r.to d in let v = s.to u.1 in (u.0, (v.0, t.to v.1)); from = λ d. r.from (d.0, s.from (d.1.0, t.from d.1.1)) }
 
+    -- the same of a block's operations
     pub operations_hold : (p : Path) (i : ℕ) (os : Operations (Op P T A) (Head P T A) (Brace P)) (then : Script Text P) → WholeOperations os → Both (D (operations_script isolated p i os then)) (OfOperations os × D then)
     operations_hold p i no_operations then w = record { to = λ d. (tt, d); from = λ d. d.1 }
     operations_hold p i (operation o rs os) then w =

@@ -58,14 +58,17 @@ front_run : (g : Option Text) → last_run (front_of_value g) ≡ []
 front_run None = refl
 front_run (Some g) = run_last g 95 [] refl refl
 
+-- a number in decimal has digits alone
 pub digits_all : (n : ℕ) → n < 2 ^ 64 → list_all is_ascii_digit (decimal n) ≡ true
 digits_all n small = digits_every (decimal n) (decimal_is_IsNumeral n small).0.1
 
+-- values with one printed name have one number
 pub values_differ : (g h : Option Text) (m n : ℕ) → m < 2 ^ 64 → n < 2 ^ 64 → value_name g m ≡ value_name h n → m ≡ n
 values_differ g h m n p q e =
     let k = not_digit_before (front_of_value g) (front_of_value h) 118 (decimal m) (decimal n) refl (digits_all m p) (digits_all n q) (sym (value_shape g m) ∙ (e ∙ value_shape h n)) in
     decimal_injective m n p q k.0
 
+-- blocks with one printed name have one generation and one place
 pub blocks_differ : (l k : Option Text) (b c : ℕ × ℕ) → b.0 < 2 ^ 64 → b.1 < 2 ^ 64 → c.0 < 2 ^ 64 → c.1 < 2 ^ 64 → block_name l b ≡ block_name k c → (b.0 ≡ c.0) × (b.1 ≡ c.1)
 blocks_differ l k b c p0 p1 q0 q1 e =
     let x = not_digit_before (front_of_block l ++ (107 ∷ decimal b.0)) (front_of_block k ++ (107 ∷ decimal c.0)) 118 (decimal b.1) (decimal c.1) refl (digits_all b.1 p1) (digits_all c.1 q1)
@@ -73,6 +76,7 @@ blocks_differ l k b c p0 p1 q0 q1 e =
     let y = not_digit_before (front_of_block l) (front_of_block k) 107 (decimal b.0) (decimal c.0) refl (digits_all b.0 p0) (digits_all c.0 q0) x.1 in
     (decimal_injective b.0 c.0 p0 q0 y.0, decimal_injective b.1 c.1 p1 q1 x.0)
 
+-- no value has the printed name of a block
 pub value_no_block : (g l : Option Text) (n : ℕ) (b : ℕ × ℕ) → n < 2 ^ 64 → b.0 < 2 ^ 64 → b.1 < 2 ^ 64 → value_name g n ≡ block_name l b → ⊥
 value_no_block g l n b p q r e =
     let x = not_digit_before (front_of_value g) (front_of_block l ++ (107 ∷ decimal b.0)) 118 (decimal n) (decimal b.1) refl (digits_all n p) (digits_all b.1 r)

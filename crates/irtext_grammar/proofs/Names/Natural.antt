@@ -4,6 +4,7 @@ use Rattle.std.specs.Prelude.{⊤}
 use Rattle.irtext_grammar.specs.Names.Script.{Word, Failure, Act, use_value, use_label, define_value, define_label, mark, entry, claim, Script, done, does, within, word_as, failure_as, act_as, script_as, UnresolvedReference, MultipleDefinitions}
 use Rattle.irtext_grammar.specs.Names.Scopes.{Fact, uses, defines, link, fail, Facts, ◌⊕◌, fact_of, Scopes, and_then, ◌⊳◌, is_among, outside, not_isolated, inside, lookup, bound_in, unresolved, outward, facts, defined_before, act_failures, left_open, failures}
 
+-- the images of two lists joined
 pub map_both : {A B : Type 0} (F : A → B) (xs ys : List A) → map F (xs ++ ys) ≡ map F xs ++ map F ys
 map_both F [] ys = refl
 map_both F (x ∷ xs) ys = ap (λ z. F x ∷ z) (map_both F xs ys)
@@ -22,6 +23,7 @@ AllFacts Q [] = ⊤
 AllFacts Q (uses n u ∷ fs) = Q n × AllFacts Q fs
 AllFacts Q (defines n p ∷ fs) = Q n × AllFacts Q fs
 
+-- each name in the act has the property
 abbrev pub AllAct : {N P : Type 0} → (N → Type 0) → Act N P → Type 0
 AllAct Q (use_value w u) = Q w.name
 AllAct Q (use_label w u) = Q w.name
@@ -29,6 +31,7 @@ AllAct Q (define_value w p) = Q w.name
 AllAct Q (define_label w p) = Q w.name
 AllAct Q _ = ⊤
 
+-- each name in the script has the property
 abbrev pub AllScript : {N P : Type 0} → (N → Type 0) → Script N P → Type 0
 AllScript Q done = ⊤
 AllScript Q (does a k) = AllAct Q a × AllScript Q k
@@ -39,17 +42,21 @@ all_both Q [] gs h k = k
 all_both Q (uses n u ∷ fs) gs h k = (h.0, all_both Q fs gs h.1 k)
 all_both Q (defines n p ∷ fs) gs h k = (h.0, all_both Q fs gs h.1 k)
 
+-- the fact, with its name mapped
 abbrev pub fact_as : {N M : Type 0} → (N → M) → Fact N → Fact M
 fact_as f (uses n u) = uses (f n) u
 fact_as f (defines n p) = defines (f n) p
 
+-- the facts, with their names mapped
 abbrev pub facts_as : {N M : Type 0} → (N → M) → Facts N → Facts M
 facts_as f x = record { values = map (fact_as f) x.values; labels = map (fact_as f) x.labels; marks = x.marks; entries = x.entries; bound = x.bound }
 
+-- the scope, if there is one, with its names mapped
 abbrev pub scope_as : {N M : Type 0} → (N → M) → Option (List (Fact N)) → Option (List (Fact M))
 scope_as f None = None
 scope_as f (Some fs) = Some (map (fact_as f) fs)
 
+-- the scopes, with their names mapped
 abbrev pub scopes_as : {N M : Type 0} → (N → M) → Scopes N → Scopes M
 scopes_as f s = record { values = scope_as f s.values; labels = scope_as f s.labels; marks = s.marks; entries = s.entries }
 
@@ -80,6 +87,7 @@ module _ {N P M Q : Type 0} (f : N → M) (h : P → Q) (eqn : N → N → Bool)
   abbrev F : Failure N P → Failure M Q
   F = failure_as f h
 
+  -- a mapped name has among mapped facts what the name has among the facts
   pub lookup_as : (n : N) (fs : List (Fact N)) → Small n → AllFacts Small fs → lookup eqm (f n) (map (fact_as f) fs) ≡ lookup eqn n fs
   lookup_as n [] s all = refl
   lookup_as n (uses m u ∷ fs) s all = lookup_as n fs s all.1
@@ -102,6 +110,7 @@ module _ {N P M Q : Type 0} (f : N → M) (h : P → Q) (eqn : N → N → Bool)
   outward_as true x v l = λ i. record { values = []; labels = []; marks = x.marks; entries = x.entries; bound = x.bound ++ (bound_in_as x.values x.values v v i ++ bound_in_as x.labels x.labels l l i) }
   outward_as false x v l = λ i. record { values = map (fact_as f) x.values; labels = []; marks = x.marks; entries = x.entries; bound = x.bound ++ bound_in_as x.labels x.labels l l i }
 
+  -- each name in the facts has the property
   pub record Of (x : Facts N) : Type 0 where
     pub values : AllFacts Small x.values
     pub labels : AllFacts Small x.labels
@@ -122,11 +131,13 @@ module _ {N P M Q : Type 0} (f : N → M) (h : P → Q) (eqn : N → N → Bool)
   of_outward true x o = record { values = tt; labels = tt }
   of_outward false x o = record { values = o.values; labels = tt }
 
+  -- the names in a script's facts have the property where those in the script do
   pub of_script : (s : Script N P) → AllScript Small s → Of (facts eqn s)
   of_script done all = record { values = tt; labels = tt }
   of_script (does a k) all = of_both (fact_of a) (facts eqn k) (of_act a all.0) (of_script k all.1)
   of_script (within iso p body k) all = of_both (outward eqn iso (facts eqn body)) (facts eqn k) (of_outward iso (facts eqn body) (of_script body all.0)) (of_script k all.1)
 
+  -- the facts of a mapped script are the mapped facts
   pub facts_natural : (s : Script N P) → AllScript Small s → facts eqm (script_as f h s) ≡ facts_as f (facts eqn s)
   facts_natural done all = refl
   facts_natural (does a k) all = ap₂ ◌⊕◌ (fact_of_as f h a) (facts_natural k all.1) ∙ sym (both_as f (fact_of a) (facts eqn k))
@@ -139,6 +150,7 @@ module _ {N P M Q : Type 0} (f : N → M) (h : P → Q) (eqn : N → N → Bool)
   OfScope None = ⊤
   OfScope (Some fs) = AllFacts Small fs
 
+  -- each name in the scopes has the property
   pub record OfScopes (s : Scopes N) : Type 0 where
     pub values : OfScope s.values
     pub labels : OfScope s.labels

@@ -12,10 +12,12 @@ use Rattle.irtext_grammar.proofs.Lists.SameText.{same_text_refl, same_text_true,
 use Rattle.irtext_grammar.proofs.Lists.Lists.{among, or_else, or_else-none, lookup-append, lookup-use, lookup-define, add, name_of, names_from, names-append, among-new, among-differs, among-added, among-names, entries, shown, entries-append, shown-append, find-entries, same_entries, same_shown}
 use Rattle.irtext_grammar.proofs.Lists.Sets.{Same, same_refl, same_path, same_then, same_both, same_map, same_swap}
 
+-- what a name stands for: its definition, or else a placeholder of this number
 abbrev pub held_of : Option Place → ℕ → Held
 held_of (Some p) k = bound p
 held_of None k = hole k
 
+-- what a name has among facts: its definition, or else its placeholder
 abbrev pub held : (Text → ℕ) → List Fact → Text → Held
 held v f n = held_of (lookup n f) (v n)
 
@@ -25,31 +27,39 @@ pub record Scope : Type 0 where
   pub number : Text → ℕ
   pub base : ℕ
 
+-- what a name stands for in a scope
 abbrev pub means : Scope → Text → Held
 means g = held g.number g.facts
 
+-- the names that facts mention
 abbrev pub names : List Fact → List Text
 names f = names_from [] f
 
+-- a scope's map
 abbrev pub map_of : Scope → List (Text × Held)
 map_of g = entries (means g) (names g.facts)
 
+-- the maps of scopes
 abbrev pub maps_of : List Scope → List (List (Text × Held))
 maps_of [] = []
 maps_of (g ∷ gs) = map_of g ∷ maps_of gs
 
+-- the facts of scopes
 abbrev pub facts_in : List Scope → List (List Fact)
 facts_in [] = []
 facts_in (g ∷ gs) = g.facts ∷ facts_in gs
 
+-- what the uses in the open scopes hold
 abbrev pub operands : List Scope → List (User × Held)
 operands [] = []
 operands (g ∷ gs) = shown (means g) g.facts ++ operands gs
 
+-- what is bound for good, as it is held
 abbrev pub final : List (User × Place) → List (User × Held)
 final [] = []
 final ((u, p) ∷ b) = (u, bound p) ∷ final b
 
+-- the name is among the facts, and has no definition
 pub record Pending (f : List Fact) (n : Text) : Type 0 where
   pub there : among n (names f) ≡ true
   pub open_yet : lookup n f ≡ None
@@ -60,10 +70,12 @@ pub record Apart (g : Scope) (high : ℕ) : Type 0 where
   pub within : (n : Text) → Pending g.facts n → (g.base ≤ g.number n) × (g.number n < high)
   pub apart : (m n : Text) → Pending g.facts m → Pending g.facts n → g.number m ≡ g.number n → m ≡ n
 
+-- the placeholders of open scopes lie one scope's above the other's
 abbrev pub Stacked : ℕ → List Scope → Type 0
 Stacked high [] = Unit {0}
 Stacked high (g ∷ gs) = Apart g high × Stacked g.base gs
 
+-- the reader's state is what the open scopes and what is bound say
 pub record Linked (gs : List Scope) (b : List (User × Place)) (s : Names) : Type 0 where
   pub scopes_are : s.scopes ≡ maps_of gs
   pub stacked : Stacked s.fresh gs
@@ -109,6 +121,7 @@ Agrees [] gs b (Err f) = ⊥
 Agrees (x ∷ xs) gs b (Ok s) = ⊥
 Agrees (x ∷ xs) gs b (Err f) = f ≡ x
 
+-- a reader's answer agrees with these failures, or else has open scopes of these facts
 pub record Follows (F : List Failure) (fs : List (List Fact)) (b : List (User × Place)) (r : Result Names Failure) : Type 0 where
   pub scopes : List Scope
   pub facts_are : facts_in scopes ≡ fs
@@ -178,6 +191,7 @@ module _ (g : Scope) (gs : List Scope) (b : List (User × Place)) (s : Names) (w
             (same_path _ _ (ap (λ z. (z ++ operands gs) ++ final b) (ap (λ h. shown (means g) g.facts ++ (u, h) ∷ []) (sym itself) ∙ sym (shown_more g x numbered same))));
       }
 
+-- a use is followed
 pub use_follows : (gs : List Scope) (b : List (User × Place)) (s : Names) (w : Word) (u : User) → Linked gs b s → Follows (outside (top (facts_in gs)) w) (onto (facts_in gs) (uses w.name u ∷ [])) b (use_name s w u)
 use_follows [] b s w u l = record { scopes = []; facts_are = refl; agrees = subst (λ z. Agrees (fail (NoActiveScope w.name) w.at) [] b (use_in s w u z)) (sym l.scopes_are) refl }
 use_follows (g ∷ gs) b s w u l = go (among w.name (names g.facts)) refl
@@ -290,6 +304,7 @@ module _ (g : Scope) (gs : List Scope) (b : List (User × Place)) (s : Names) (w
           ap (λ c. cond c (bound p) (hole (g.number n))) (ne_eqb (g.number n) (g.number w.name) (λ j. true≢false (sym (same_text_eq w.name n (sym (a.apart n w.name (record { there = k; open_yet = d }) here j))) ∙ i)))
           ∙ sym (ap (λ o. held_of o (g.number n)) (other_name n i ∙ d))
 
+-- a definition is followed
 pub define_follows : (gs : List Scope) (b : List (User × Place)) (s : Names) (w : Word) (p : Place) → Linked gs b s → Follows (defined_before (top (facts_in gs)) w) (onto (facts_in gs) (defines w.name p ∷ [])) b (define_name s w p)
 define_follows [] b s w p l = record { scopes = []; facts_are = refl; agrees = subst (λ z. Agrees (fail (NoActiveScope w.name) w.at) [] b (define_in s w p z)) (sym l.scopes_are) refl }
 define_follows (g ∷ gs) b s w p l = go (lookup w.name g.facts) refl (among w.name (names g.facts)) refl
@@ -312,6 +327,7 @@ define_follows (g ∷ gs) b s w p l = go (lookup w.name g.facts) refl (among w.n
 pub empty_scope : ℕ → Scope
 empty_scope n = record { facts = []; number = λ m. 0; base = n }
 
+-- a scope that is opened is followed
 pub enter_follows : (gs : List Scope) (b : List (User × Place)) (s : Names) → Linked gs b s → Linked (empty_scope s.fresh ∷ gs) b (enter_scope s)
 unfolding empty_scope
 enter_follows gs b s l = record {
@@ -327,6 +343,7 @@ enter_follows gs b s l = record {
   slots_are = l.slots_are;
 }
 
+-- a scope that is opened has no facts
 pub empty-facts : (n : ℕ) → (empty_scope n).facts ≡ []
 unfolding empty_scope
 empty-facts n = refl
@@ -389,10 +406,12 @@ pending-names F ns (x ∷ fs) =
     ∙ (ap (λ o. or_else o (first F fs)) (pending-add F ns (name_of x))
     ∙ or_else-assoc (pending (entries F ns)) (pend_of (F (name_of x)) (name_of x)) (first F fs))
 
+-- the first failure, if there is one
 abbrev pub head : List Failure → Option Failure
 head [] = None
 head (x ∷ xs) = Some x
 
+-- the failure of a name without a definition
 abbrev pub unresolved_name : ℕ → Text → Failure
 unresolved_name a n = record { cause = script.UnresolvedReference n; at = Some a }
 
@@ -447,10 +466,12 @@ left_linked g gs b s a l e =
           (same_path _ _ (append_assoc (operands gs) (final b) X ∙ ap (λ z. operands gs ++ z) (sym (final-append b (bound_in g.facts g.facts)))))));
     }
 
+-- the scopes round the innermost one
 abbrev pub under_scopes : List Scope → List Scope
 under_scopes [] = []
 under_scopes (g ∷ gs) = gs
 
+-- a scope that is closed is followed
 pub leave_follows : (gs : List Scope) (b : List (User × Place)) (s : Names) (a : ℕ) → Linked gs b s
     → Agrees (unresolved a (top_facts (facts_in gs)) (top_facts (facts_in gs))) (under_scopes gs) (b ++ bound_in (top_facts (facts_in gs)) (top_facts (facts_in gs))) (leave_scope s a)
 leave_follows [] b s a l = subst (λ z. Agrees [] [] (b ++ []) (leave_in s a z)) (sym l.scopes_are) (subst (λ z. Linked [] z s) (sym (append-nil b)) l)

@@ -4,12 +4,15 @@ use Rattle.irtext_grammar.specs.Names.Script.{use_value, use_label, define_value
 use Rattle.irtext_grammar.specs.Names.Scopes.{Fact, Facts, ◌⊕◌, Scopes, and_then, ◌⊳◌, fact_of, not_isolated, inside, outward, facts, act_failures, left_open, failures}
 use Rattle.irtext_grammar.specs.Names.Plain.{plain, Kept}
 
+-- the facts without marks and entries
 abbrev pub unmarked : {N : Type 0} → Facts N → Facts N
 unmarked x = record x { marks = []; entries = [] }
 
+-- the scopes without marks and entries
 abbrev pub unmarked_scopes : {N : Type 0} → Scopes N → Scopes N
 unmarked_scopes s = record s { marks = []; entries = [] }
 
+-- lists are empty that are empty joined
 pub both_empty : {A : Type 0} (xs ys : List A) → xs ++ ys ≡ [] → (xs ≡ []) × (ys ≡ [])
 both_empty [] ys e = (refl, e)
 both_empty (x ∷ xs) ys e = absurd (no x (xs ++ ys) e)
@@ -17,6 +20,7 @@ both_empty (x ∷ xs) ys e = absurd (no x (xs ++ ys) e)
     no : {A : Type 0} (x : A) (zs : List A) → x ∷ zs ≡ [] → ⊥
     no x zs k = cc
 
+-- empty lists joined are empty
 pub append_empty : {A : Type 0} (xs ys : List A) → xs ≡ [] → ys ≡ [] → xs ++ ys ≡ []
 append_empty xs ys e f = ap₂ ◌++◌ e f
 
@@ -37,6 +41,7 @@ inside_unmarked true s = refl
 inside_unmarked false s = refl
 
 module _ {N P : Type 0} (eq : N → N → Bool) where
+  -- the facts of a script without its marks and entries are its facts without them
   pub facts_plain : (x : Script N P) → facts eq (plain x) ≡ unmarked (facts eq x)
   facts_plain done = refl
   facts_plain (does (use_value w u) k) = ap (λ z. fact_of (use_value w u) ⊕ z) (facts_plain k)
@@ -52,6 +57,7 @@ module _ {N P : Type 0} (eq : N → N → Bool) where
   left_unmarked p true x = refl
   left_unmarked p false x = refl
 
+  -- a script is not refused where it is not refused without marks, entries and claims, and those hold
   pub no_failure : (s : Scopes N) (x : Script N P) → failures eq (unmarked_scopes s) (plain x) ≡ [] → Kept eq s x → failures eq s x ≡ []
   no_failure s done e h = refl
   no_failure s (does (use_value w u) k) e h =

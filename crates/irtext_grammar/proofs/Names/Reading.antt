@@ -13,6 +13,7 @@ use Rattle.irtext_grammar.proofs.Names.OnePass.{one_pass}
 use Rattle.irtext_grammar.proofs.Lists.Sets.{Same, same_refl, same_path, same_then, same_flip, same_both, same_swap}
 use Rattle.irtext_grammar.proofs.Names.PlaceholderMap.{Scope, Linked, Follows, Agrees, facts_in, maps_of, final, under_scopes, empty_scope, empty-facts, use_follows, define_follows, enter_follows, leave_follows}
 
+-- what a script binds, with what is still open at its end
 abbrev pub bound_all : Script → List (User × Place)
 bound_all x = scopes.bound same_text [] [] x
 
@@ -327,6 +328,7 @@ ends [] f (Err x) d = d
 ends (x ∷ F) f (Ok t) d = d
 ends (x ∷ F) f (Err y) d = d
 
+-- the reader's machine ends with the first failure, or with what the two passes bind
 pub reads : (x : Script) → AgreesWith (failures no_scope x) (facts x).bound (read (Ok fresh_tracker) (events x))
 reads x = ends (failures no_scope x) (facts x) (read (Ok fresh_tracker) (events x)) (subst (λ o. Follow o (read (Ok fresh_tracker) (events x))) (one_pass x) (run_follows (events x) (going start) (Ok fresh_tracker) begun))
 
@@ -339,6 +341,7 @@ rebound [] b c (Err x) s d = d
 rebound (x ∷ F) b c (Ok t) s d = d
 rebound (x ∷ F) b c (Err y) s d = d
 
+-- the same, with what is still open at the end
 pub reads_bound : (x : Script) → AgreesWith (failures no_scope x) (bound_all x) (read (Ok fresh_tracker) (events x))
 reads_bound x = rebound (failures no_scope x) (facts x).bound (bound_all x) (read (Ok fresh_tracker) (events x)) (same_flip (bound_same x)) (reads x)
 
@@ -347,9 +350,11 @@ read-failed : (f : Failure) (es : List Event) → read (Err f) es ≡ Err f
 read-failed f [] = refl
 read-failed f (e ∷ es) = read-failed f es
 
+-- events are read one list after the other
 pub read-append : (r : Result Tracker Failure) (es fs : List Event) → read r (es ++ fs) ≡ read (read r es) fs
 read-append r [] fs = refl
 read-append r (e ∷ es) fs = read-append (do_next r e) es fs
 
+-- what fails at the front of the events fails
 pub failed_front : (r : Result Tracker Failure) (es fs : List Event) (f : Failure) → read r es ≡ Err f → read r (es ++ fs) ≡ Err f
 failed_front r es fs f h = read-append r es fs ∙ (ap (λ q. read q fs) h ∙ read-failed f fs)

@@ -18,6 +18,7 @@ use Rattle.irtext_grammar.specs.Graphs.ReservedKeys.{GraphKeepsKeys}
 use Rattle.irtext_grammar.proofs.Graphs.KeptWritten.{Good, root_good}
 
 module _ {T A : Type 0} (C : Printing T A) (isolated : Id → Bool) (g : Graph T A) (fit : Fit C isolated g) (small : SmallGraph C isolated g) (closed : Closed C isolated g) where
+  -- the names of a closed root's written tree resolve
   pub names_resolve : failures same_text no_scope (plain (tree_script isolated (written C None g) done)) ≡ []
   names_resolve =
       ap (failures same_text no_scope) (written_like C isolated g fit)

@@ -143,6 +143,7 @@ module _ {P T A X : Type 0} (isolated : Id → Bool) (t : Tree P T A) (es : List
       (lists.labels_in_root isolated t w ∙ ap (λ z. z ++ []) (none_kept isolated (λ o. []) (λ h. h.label.text ∷ []) (isolated t.own.id) t.regions))
       ((uses.labels_in_root isolated (λ n. ⊥) t w).from (none_each (R used_labels (λ h. []) kept_inside ++ used_labels t.own) (append_empty (R used_labels (λ h. []) kept_inside) (used_labels t.own) (none_kept isolated used_labels (λ h. []) (isolated t.own.id) t.regions) u)))
 
+  -- a root that is not refused resolves
   pub resolves : failures_of isolated t es ≡ [] → Resolves isolated t es
   resolves e =
       let b = both_empty (failures same_text no_scope x) (failures same_text (no_scope ⊳ facts same_text x) (does_all (section_acts (rule_of t) es) done)) (sym parts_failures ∙ e) in
@@ -160,6 +161,7 @@ module _ {P T A X : Type 0} (isolated : Id → Bool) (t : Tree P T A) (es : List
         section = section_resolves (rule_of t) es (no_scope ⊳ facts same_text x) (marks_of isolated t) marks_are entries_are b.1;
       }
 
+  -- a root that resolves is not refused
   pub not_refused : Resolves isolated t es → failures_of isolated t es ≡ []
   not_refused r =
       let g : Good no_scope x = record {

@@ -39,6 +39,7 @@ module _ {P : Type 0} where
   scopes (does a k) = scopes k
   scopes (within isolated place body k) = scopes body ++ (cond isolated ((facts same_text body).values ∷ []) [] ++ ((facts same_text body).labels ∷ scopes k))
 
+-- the test of texts goes both ways
 pub same_text_symmetric : (s t : Text) → same_text s t ≡ same_text t s
 same_text_symmetric s t = go (same_text s t) refl
   where
@@ -46,6 +47,7 @@ same_text_symmetric s t = go (same_text s t) refl
     go true e = sym (same_text_eq t s (sym (same_text_true s t e)))
     go false e = sym (other_text t s (λ q. true≢false (sym (same_text_eq s t (sym q)) ∙ e)))
 
+-- the names that two lists of facts joined define
 pub defined_both : (fs gs : List (Fact Text)) → defined (fs ++ gs) ≡ defined fs ++ defined gs
 defined_both [] gs = refl
 defined_both (uses n u ∷ fs) gs = defined_both fs gs
@@ -63,6 +65,7 @@ lookup_defined n (defines m p ∷ fs) = ap (λ b. is_some (cond b (Some p) (look
 unequal : {X : Type 0} (x : X) (xs : List X) → x ∷ xs ≡ [] → ⊥
 unequal x xs e = cc
 
+-- a choice between nothing and something, where it is nothing
 pub if_nothing : {X : Type 0} (b : Bool) (x : X) → cond b [] (x ∷ []) ≡ [] → b ≡ true
 if_nothing true x e = refl
 if_nothing false x e = absurd (unequal x [] e)
@@ -71,6 +74,7 @@ then_nothing : {X : Type 0} (b : Bool) (x : X) → cond b (x ∷ []) [] ≡ [] �
 then_nothing true x e = absurd (unequal x [] e)
 then_nothing false x e = refl
 
+-- the other way round
 pub nothing_if : {X : Type 0} (b : Bool) (x : X) → b ≡ true → cond b [] (x ∷ []) ≡ []
 nothing_if true x e = refl
 nothing_if false x e = absurd (true≢false (sym e))
@@ -114,6 +118,7 @@ new_nothing : (o : Option (List (Fact Text))) → New o []
 new_nothing None = refl
 new_nothing (Some before) = tt
 
+-- two ways to ask whether a number is in a list
 pub among_has : (n : ℕ) (ms : List ℕ) → is_among n ms ≡ has ◌==◌ n ms
 among_has n [] = refl
 among_has n (m ∷ ms) = go (nat_eq m n) (n == m) (turned m n) (among_has n ms)
@@ -125,14 +130,17 @@ among_has n (m ∷ ms) = go (nat_eq m n) (n == m) (turned m n) (among_has n ms)
     go true b e h = ap (λ b. b || has ◌==◌ n ms) e
     go false b e h = h ∙ ap (λ b. b || has ◌==◌ n ms) e
 
+-- what holds of the members of two lists holds of those of both joined
 pub each_both : {X : Type 0} (Q : X → Type 0) (xs ys : List X) → Each Q xs → Each Q ys → Each Q (xs ++ ys)
 each_both Q [] ys a b = b
 each_both Q (x ∷ xs) ys a b = (a.0, each_both Q xs ys a.1 b)
 
+-- what holds of the members of two lists joined holds of those of the first
 pub each_left : {X : Type 0} (Q : X → Type 0) (xs ys : List X) → Each Q (xs ++ ys) → Each Q xs
 each_left Q [] ys a = tt
 each_left Q (x ∷ xs) ys a = (a.0, each_left Q xs ys a.1)
 
+-- and of those of the second
 pub each_right : {X : Type 0} (Q : X → Type 0) (xs ys : List X) → Each Q (xs ++ ys) → Each Q ys
 each_right Q [] ys a = a
 each_right Q (x ∷ xs) ys a = each_right Q xs ys a.1
@@ -176,6 +184,7 @@ module _ {P : Type 0} where
   OuterIsolated (does a k) = OuterIsolated k
   OuterIsolated (within iso p body k) = (iso ≡ true) × OuterIsolated k
 
+  -- what a script without entries has to meet so that it is not refused
   pub record Good (s : Scopes Text) (x : Script Text P) : Type 0 where
     pub claims : Claims x
     pub values : New s.values (facts same_text x).values
@@ -302,6 +311,7 @@ module _ {P : Type 0} where
             ((new_once (F body).values b.values, resolved_of p (F body).values (F body).values e.0), ((new_once (F body).labels b.labels, resolved_of p (F body).labels (F body).labels e.1), d.scopes));
       }
 
+  -- a script that is not refused meets it
   pub good_of : (s : Scopes Text) (x : Script Text P) → Entryless x → failures same_text s x ≡ [] → Good s x
   good_of s done n e = record { claims = tt; values = new_nothing s.values; labels = new_nothing s.labels; marks = tt; outer = λ h. tt; scopes = tt }
   good_of s (does a k) n e =
@@ -322,6 +332,7 @@ module _ {P : Type 0} where
   open_shared None h = absurd (true≢false (sym (h refl)))
   open_shared (Some fs) h = refl
 
+  -- a script that meets it is not refused
   pub of_good : (s : Scopes Text) (x : Script Text P) → Entryless x → Good s x → failures same_text s x ≡ []
   of_good s done n g = refl
   of_good s (does a k) n g =

@@ -16,6 +16,7 @@ use Rattle.irtext_grammar.proofs.Names.Plainly.{both_empty, append_empty}
 use Rattle.irtext_grammar.proofs.Lists.Fresh.{Fresh, fresh_distinct, distinct_fresh, both, is_not, not_is}
 use Rattle.irtext_grammar.proofs.Names.ResolvedScript.{among_has, each_both, each_left, each_right, if_nothing, nothing_if}
 
+-- the test of numbers goes both ways
 pub same_number_symmetric : (m n : ℕ) → (m == n) ≡ (n == m)
 same_number_symmetric m n = grind (arith, nat_tests)
 
@@ -73,6 +74,7 @@ module _ {P : Type 0} where
   of_right s ms ns em en (define_label w p ∷ acts) q r = absurd q.0
   of_right s ms ns em en (mark i p ∷ acts) q r = absurd q.0
 
+-- what is gathered of two lists joined
 pub flat_both : {X Y : Type 0} (f : X → List Y) (xs ys : List X) → flat_map f (xs ++ ys) ≡ flat_map f xs ++ flat_map f ys
 flat_both f [] ys = refl
 flat_both f (x ∷ xs) ys = ap (λ z. f x ++ z) (flat_both f xs ys) ∙ sym (append_assoc (f x) (flat_map f xs) (flat_map f ys))
@@ -161,6 +163,7 @@ module _ {P A X : Type 0} (rules : ℕ → Rule A) (es : List (Entry P A X)) whe
   index_all : flat_map index_of (section_acts rules es) ≡ indices es
   index_all = flat_both index_of (flat_map (entry_acts rules) es) (flat_map (late_acts rules es) es) ∙ (ap₂ ◌++◌ (entries_index rules es es) (entries_no_index rules es es) ∙ append-nil (indices es))
 
+  -- a section that is not refused resolves
   pub section_resolves : (s : Scopes Text) (marks : List ℕ) → s.marks ≡ marks → s.entries ≡ [] → failures same_text s (does_all (section_acts rules es) done) ≡ [] → SectionResolves rules marks es
   section_resolves s marks em en e =
       let r = right_of s marks [] em en (section_acts rules es) quiet e in
@@ -172,6 +175,7 @@ module _ {P A X : Type 0} (rules : ℕ → Rule A) (es : List (Entry P A X)) whe
         kept = h.1;
       }
 
+  -- a section that resolves is not refused
   pub resolves_section : (s : Scopes Text) (marks : List ℕ) → s.marks ≡ marks → s.entries ≡ [] → SectionResolves rules marks es → failures same_text s (does_all (section_acts rules es) done) ≡ []
   resolves_section s marks em en r =
       let h = hold_entries rules es es r.known r.kept in

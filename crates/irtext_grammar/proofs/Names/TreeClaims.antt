@@ -134,6 +134,7 @@ module _ {P T A : Type 0} (isolated : Id → Bool) where
           from = λ d. ((k.from d.1.0, (r.from (d.0.1, d.1.1), d.0.0)), s.from (d.0.2, d.1.2));
         }
 
+  -- the claims of a root's script hold exactly where its counts and keys are right
   pub root_claims : (t : Tree P T A) → WholeOperations (operation t.own t.regions no_operations) → Both (Claims (tree_script isolated t done)) ((CountsAgree t.own × CountRegions t.regions) × (OpKeysKept t.own × KeyRegions t.regions))
   root_claims t w =
       let h = scripts.operation_holds isolated (λ x. KeysKept may_hold (entries_in x)) CountsAgree HeadKeysKept (λ iso bs D. D) Claims tt pieces_claim closes_claim heads_claim within_claims [] t.own t.regions done w.0.0 (scripts.regions_hold isolated (λ x. KeysKept may_hold (entries_in x)) CountsAgree HeadKeysKept (λ iso bs D. D) Claims tt pieces_claim closes_claim heads_claim within_claims [] 0 (isolated t.own.id) t.regions w.0.1) in
@@ -163,6 +164,7 @@ module _ {P T A : Type 0} (isolated : Id → Bool) where
     operations_none no_operations = tt
     operations_none (operation o rs os) = ((nothing_asked (parts_of o.body), (regions_none (isolated o.id) rs, tt)), operations_none os)
 
+  -- a root's script has no entry
   pub root_entryless : (t : Tree P T A) → WholeOperations (operation t.own t.regions no_operations) → Entryless (tree_script isolated t done)
   root_entryless t w =
       let h = scripts.operation_holds isolated (λ x. ⊤) (λ o. ⊤) (λ h. ⊤) (λ iso bs D. D) Entryless tt pieces_none closes_none heads_none within_none [] t.own t.regions done w.0.0 (scripts.regions_hold isolated (λ x. ⊤) (λ o. ⊤) (λ h. ⊤) (λ iso bs D. D) Entryless tt pieces_none closes_none heads_none within_none [] 0 (isolated t.own.id) t.regions w.0.1) in
@@ -183,6 +185,7 @@ module _ {P T A : Type 0} (isolated : Id → Bool) where
   regions_outer iso no_regions = record { to = λ d e. absurd (true≢false (sym e)); from = λ d. tt }
   regions_outer iso (region brace bs rs) = record { to = λ d e. d.0; from = λ d. outer_regions iso (region brace bs rs) (d refl) }
 
+  -- the outermost regions of a root's script are isolated exactly where the root is
   pub root_outer : (t : Tree P T A) → WholeOperations (operation t.own t.regions no_operations) → Both (OuterIsolated (tree_script isolated t done)) (has_region t.regions ≡ true → isolated t.own.id ≡ true)
   root_outer t w =
       let h = scripts.operation_holds isolated (λ x. ⊤) (λ o. ⊤) (λ h. ⊤) (λ iso bs D. iso ≡ true) OuterIsolated tt (λ p k l x then. same_outer (piece_acts p k l x) then) (λ p o then. same_outer (closing_acts p o) then) (λ p h then. same_outer (header_acts p h) then) (λ p iso place bs then D w b. record { to = λ d. d; from = λ d. d }) [] t.own t.regions done w.0.0 (scripts.regions_hold isolated (λ x. ⊤) (λ o. ⊤) (λ h. ⊤) (λ iso bs D. iso ≡ true) OuterIsolated tt (λ p k l x then. same_outer (piece_acts p k l x) then) (λ p o then. same_outer (closing_acts p o) then) (λ p h then. same_outer (header_acts p h) then) (λ p iso place bs then D w b. record { to = λ d. d; from = λ d. d }) [] 0 (isolated t.own.id) t.regions w.0.1) in

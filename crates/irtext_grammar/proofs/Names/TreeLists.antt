@@ -14,27 +14,33 @@ use Rattle.irtext_grammar.proofs.Names.ActsOfTrees.{act_of, values_in, labels_in
 use Rattle.irtext_grammar.proofs.Names.InScripts as scripts
 use Rattle.irtext_grammar.proofs.Names.InScripts.{Both, both_then, WholeRegions, WholeBlocks, WholeOperations}
 
+-- a list gathered item by item
 pub flat_one : {X : Type 0} (xs : List X) → flat_map (λ x. x ∷ []) xs ≡ xs
 flat_one [] = refl
 flat_one (x ∷ xs) = ap (λ z. x ∷ z) (flat_one xs)
 
+-- nothing gathered of each item is nothing
 pub flat_none : {X Y : Type 0} (xs : List X) → (let f : X → List Y = λ x. [] in flat_map f xs ≡ [])
 flat_none [] = refl
 flat_none (x ∷ xs) = flat_none xs
 
+-- the names that two lists of facts joined use
 pub used_both : (fs gs : List (Fact Text)) → used (fs ++ gs) ≡ used fs ++ used gs
 used_both [] gs = refl
 used_both (uses n u ∷ fs) gs = ap (λ z. n ∷ z) (used_both fs gs)
 used_both (defines n p ∷ fs) gs = used_both fs gs
 
+-- nothing, whatever the item
 abbrev pub none : {X Y : Type 0} → X → List Y
 none x = []
 
+-- the item alone
 abbrev pub one : {X : Type 0} → X → List X
 one x = x ∷ []
 
 -- ---- lists, act by act
 module _ {P X : Type 0} (uv ul dv dl : Text → List X) (mk : ℕ → List X) (L : Script Text P → List X) (step : (a : Act Text P) (k : Script Text P) → L (does a k) ≡ act_of uv ul dv dl mk a ++ L k) where
+  -- what is gathered of acts, and then of what is done behind them
   pub acts_add : (acts : List (Act Text P)) (k : Script Text P) → L (does_all acts k) ≡ flat_map (act_of uv ul dv dl mk) acts ++ L k
   acts_add [] k = refl
   acts_add (a ∷ acts) k = step a (does_all acts k) ∙ (ap (λ z. act_of uv ul dv dl mk a ++ z) (acts_add acts k) ∙ sym (append_assoc (act_of uv ul dv dl mk a) (flat_map (act_of uv ul dv dl mk) acts) (L k)))
@@ -67,9 +73,11 @@ module _ {P T A X : Type 0} (isolated : Id → Bool) (dv dl : Text → List X) (
 abbrev pub values_defined : {P : Type 0} → Script Text P → List Text
 values_defined x = defined (facts same_text x).values
 
+-- the labels that a script defines
 abbrev pub labels_defined : {P : Type 0} → Script Text P → List Text
 labels_defined x = defined (facts same_text x).labels
 
+-- the marks of a script
 abbrev pub marks_in : {P : Type 0} → Script Text P → List ℕ
 marks_in x = (facts same_text x).marks
 
@@ -132,22 +140,27 @@ marks_head : {P T A : Type 0} (h : Head P T A) → flat_map none (texts (map (λ
 marks_head h = ap₂ ◌++◌ (flat_none (texts (map (λ a. a.0) h.arguments))) (append-nil (flat_map one (marked_as h.mark)) ∙ flat_one (marked_as h.mark))
 
 module _ {P T A : Type 0} (isolated : Id → Bool) where
+  -- the values that the script of blocks defines are those of the blocks
   pub values_in_blocks : (p : Path) (k : ℕ) (bs : Blocks (Op P T A) (Head P T A) (Brace P)) → WholeBlocks bs
       → values_defined (blocks_script isolated p k bs) ≡ all_in_blocks isolated (λ o. texts o.names) (λ h. texts (map (λ a. a.0) h.arguments)) shared bs
   values_in_blocks = in_blocks isolated one none none _ _ shared values_defined refl values_step values_regions values_op values_head
 
+  -- the values that a root's script defines are those of the root
   pub values_in_root : (t : Tree P T A) → WholeOperations (operation t.own t.regions no_operations)
       → values_defined (tree_script isolated t done) ≡ all_in_regions isolated (λ o. texts o.names) (λ h. texts (map (λ a. a.0) h.arguments)) shared (isolated t.own.id) t.regions ++ texts t.own.names
   values_in_root = in_root isolated one none none _ _ shared values_defined refl values_step values_regions values_op values_head
 
+  -- the labels that the script of blocks defines are those of the blocks
   pub labels_in_blocks : (p : Path) (k : ℕ) (bs : Blocks (Op P T A) (Head P T A) (Brace P)) → WholeBlocks bs
       → labels_defined (blocks_script isolated p k bs) ≡ all_in_blocks isolated (λ o. []) (λ h. h.label.text ∷ []) kept_inside bs
   labels_in_blocks = in_blocks isolated none one none _ _ kept_inside labels_defined refl labels_step labels_regions labels_op labels_head
 
+  -- the labels that a root's script defines are those of the root
   pub labels_in_root : (t : Tree P T A) → WholeOperations (operation t.own t.regions no_operations)
       → labels_defined (tree_script isolated t done) ≡ all_in_regions isolated (λ o. []) (λ h. h.label.text ∷ []) kept_inside (isolated t.own.id) t.regions ++ []
   labels_in_root = in_root isolated none one none _ _ kept_inside labels_defined refl labels_step labels_regions labels_op labels_head
 
+  -- the marks of a root's script are those of the root
   pub marks_in_root : (t : Tree P T A) → WholeOperations (operation t.own t.regions no_operations)
       → marks_in (tree_script isolated t done) ≡ all_in_regions isolated (λ o. marked_as o.mark) (λ h. marked_as h.mark) everywhere (isolated t.own.id) t.regions ++ marked_as t.own.mark
   marks_in_root = in_root isolated none none one _ _ everywhere marks_in refl marks_step marks_regions marks_op marks_head

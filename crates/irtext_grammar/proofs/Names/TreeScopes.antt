@@ -112,6 +112,7 @@ module _ {P T A : Type 0} (isolated : Id → Bool) where
         let r = each_two Ok (scopes_in_regions isolated (isolated o.id) rs) (scopes_in_operations isolated os) (regions_scopes (isolated o.id) rs) (operations_scopes os) in
         record { to = λ d. r.to (d.0.1.0, d.1); from = λ d. let u = r.from d in ((no_parts (parts_of o.body), (u.0, tt)), u.1) }
 
+  -- the scopes of a root's script resolve exactly where those of the root do
   pub root_scopes : (t : Tree P T A) → WholeOperations (operation t.own t.regions no_operations) → Both (Resolved (tree_script isolated t done)) (Each Ok (scopes_in_regions isolated (isolated t.own.id) t.regions))
   root_scopes t w =
       let h = scripts.operation_holds isolated (λ x. ⊤) (λ o. ⊤) (λ h. ⊤) Inside Resolved tt (λ p k l x then. same_scopes (piece_acts p k l x) then) (λ p o then. same_scopes (closing_acts p o) then) (λ p h then. same_scopes (header_acts p h) then) within_resolves [] t.own t.regions done w.0.0 (scripts.regions_hold isolated (λ x. ⊤) (λ o. ⊤) (λ h. ⊤) Inside Resolved tt (λ p k l x then. same_scopes (piece_acts p k l x) then) (λ p o then. same_scopes (closing_acts p o) then) (λ p h then. same_scopes (header_acts p h) then) within_resolves [] 0 (isolated t.own.id) t.regions w.0.1) in

@@ -26,6 +26,7 @@ abbrev pub Unless : Bool → Type 0 → Type 0
 Unless true Q = ⊤
 Unless false Q = Q
 
+-- nothing is asked
 abbrev pub Never : Bool → Type 0 → Type 0
 Never iso Q = ⊤
 
@@ -111,9 +112,11 @@ module _ {P T A : Type 0} (isolated : Id → Bool) (uv ul : Text → List Text) 
         let t = each_two (all_in_regions isolated named (λ h. []) outward (isolated o.id) rs ++ named o) (all_in_operations isolated named (λ h. []) outward os) r (operations_named os) in
         record { to = λ d. t.to ((d.0.1.0, d.0.0), d.1); from = λ d. let u = t.from d in ((u.0.1, (u.0.0, tt)), u.1) }
 
+  -- what holds of each name that the script of blocks uses holds of each that the blocks use
   pub in_blocks : (p : Path) (k : ℕ) (bs : Blocks (Op P T A) (Head P T A) (Brace P)) → WholeBlocks bs → Both (Each Q (L (blocks_script isolated p k bs))) (Each Q (all_in_blocks isolated named (λ h. []) outward bs))
   in_blocks p k bs w = both_then (scripts.blocks_hold isolated OfPiece (λ o. ⊤) (λ h. ⊤) S D start pieces_ask closes_ask heads_ask within_asks p k bs w) (blocks_named bs)
 
+  -- the same of a root
   pub in_root : (t : Tree P T A) → WholeOperations (operation t.own t.regions no_operations) → Both (Each Q (L (tree_script isolated t done))) (Each Q (all_in_regions isolated named (λ h. []) outward (isolated t.own.id) t.regions ++ named t.own))
   in_root t w =
       let h = scripts.operation_holds isolated OfPiece (λ o. ⊤) (λ h. ⊤) S D start pieces_ask closes_ask heads_ask within_asks [] t.own t.regions done w.0.0 (scripts.regions_hold isolated OfPiece (λ o. ⊤) (λ h. ⊤) S D start pieces_ask closes_ask heads_ask within_asks [] 0 (isolated t.own.id) t.regions w.0.1) in
@@ -174,14 +177,18 @@ labels_piece : {P T A : Type 0} (x : Piece P T A) → flat_map none (texts (valu
 labels_piece x = ap₂ ◌++◌ (flat_none (texts (values_in x))) (flat_one (texts (labels_in x)))
 
 module _ {P T A : Type 0} (isolated : Id → Bool) (Q : Text → Type 0) where
+  -- the same of the values that blocks use
   pub values_in_blocks : (p : Path) (k : ℕ) (bs : Blocks (Op P T A) (Head P T A) (Brace P)) → WholeBlocks bs → Both (Each Q (values_used (blocks_script isolated p k bs))) (Each Q (all_in_blocks isolated used_values (λ h. []) shared bs))
   values_in_blocks = in_blocks isolated one none values_in shared Unless values_used refl values_step values_piece Q (values_regions Q) (values_out Q)
 
+  -- the same of the values that a root uses
   pub values_in_root : (t : Tree P T A) → WholeOperations (operation t.own t.regions no_operations) → Both (Each Q (values_used (tree_script isolated t done))) (Each Q (all_in_regions isolated used_values (λ h. []) shared (isolated t.own.id) t.regions ++ used_values t.own))
   values_in_root = in_root isolated one none values_in shared Unless values_used refl values_step values_piece Q (values_regions Q) (values_out Q)
 
+  -- the same of the labels that blocks name
   pub labels_in_blocks : (p : Path) (k : ℕ) (bs : Blocks (Op P T A) (Head P T A) (Brace P)) → WholeBlocks bs → Both (Each Q (labels_used (blocks_script isolated p k bs))) (Each Q (all_in_blocks isolated used_labels (λ h. []) kept_inside bs))
   labels_in_blocks = in_blocks isolated none one labels_in kept_inside Never labels_used refl labels_step labels_piece Q (labels_regions Q) (labels_out Q)
 
+  -- the same of the labels that a root names
   pub labels_in_root : (t : Tree P T A) → WholeOperations (operation t.own t.regions no_operations) → Both (Each Q (labels_used (tree_script isolated t done))) (Each Q (all_in_regions isolated used_labels (λ h. []) kept_inside (isolated t.own.id) t.regions ++ used_labels t.own))
   labels_in_root = in_root isolated none one labels_in kept_inside Never labels_used refl labels_step labels_piece Q (labels_regions Q) (labels_out Q)

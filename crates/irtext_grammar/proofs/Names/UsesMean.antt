@@ -14,19 +14,23 @@ pub each_both : {A : Type 0} (Q : A → Type 0) (xs ys : List A) → Each Q xs �
 each_both Q [] ys h k = k
 each_both Q (x ∷ xs) ys h k = (h.0, each_both Q xs ys h.1 k)
 
+-- what holds of the members of two lists joined holds of those of the first
 pub each_front : {A : Type 0} (Q : A → Type 0) (xs ys : List A) → Each Q (xs ++ ys) → Each Q xs
 each_front Q [] ys h = tt
 each_front Q (x ∷ xs) ys h = (h.0, each_front Q xs ys h.1)
 
+-- and of those of the second
 pub each_rest : {A : Type 0} (Q : A → Type 0) (xs ys : List A) → Each Q (xs ++ ys) → Each Q ys
 each_rest Q [] ys h = h
 each_rest Q (x ∷ xs) ys h = each_rest Q xs ys h.1
 
+-- what holds of each holds of a member
 pub each_in : {A : Type 0} (Q : A → Type 0) (xs : List A) → Each Q xs → (x : A) → In x xs → Q x
 each_in Q [] h x i = absurd i
 each_in Q (y ∷ xs) h x (inl e) = subst Q (sym e) h.0
 each_in Q (y ∷ xs) h x (inr i) = each_in Q xs h.1 x i
 
+-- what holds of every member holds of each
 pub in_each : {A : Type 0} (Q : A → Type 0) (xs : List A) → ((x : A) → In x xs → Q x) → Each Q xs
 in_each Q [] h = tt
 in_each Q (y ∷ xs) h = (h y (inl refl), in_each Q xs (λ x i. h x (inr i)))
@@ -54,6 +58,7 @@ in_link u w (Some r) q = (to, from)
     from (inl e) = inl (λ i. (ap (λ z. z.0) e i, some_inside q r (ap (λ z. z.1) e) i))
     from (inr h) = absurd h
 
+-- members of lists joined correspond where those of their parts do
 pub in_both : {A B : Type 0} (x : A) (y : B) (xs bs : List A) (cs ds : List B) → In x xs ↔ In y cs → In x bs ↔ In y ds → In x (xs ++ bs) ↔ In y (cs ++ ds)
 in_both x y xs bs cs ds h k = (
   (λ i. ⊎_elim (λ j. in_left y cs ds (h.0 j)) (λ j. in_right y cs ds (k.0 j)) (in_split x xs bs i)),
@@ -61,15 +66,18 @@ in_both x y xs bs cs ds h k = (
 )
 
 module _ {N : Type 0} (eq : N → N → Bool) where
+  -- what the use in an act means
   abbrev pub meant_by : {P : Type 0} → List (Fact N) → List (Fact N) → Act N P → List (User × Option Place)
   meant_by v l (use_value w u) = (u, lookup eq w.name v) ∷ []
   meant_by v l (use_label w u) = (u, lookup eq w.name l) ∷ []
   meant_by v l _ = []
 
+  -- what the uses in acts mean
   abbrev pub acts_meant : {P : Type 0} → List (Fact N) → List (Fact N) → List (Act N P) → List (User × Option Place)
   acts_meant v l [] = []
   acts_meant v l (a ∷ rest) = meant_by v l a ++ acts_meant v l rest
 
+  -- what the uses in a script mean, in the script's order
   abbrev pub meant : {P : Type 0} → List (Fact N) → List (Fact N) → Script N P → List (User × Option Place)
   meant v l done = []
   meant v l (does a k) = meant_by v l a ++ meant v l k
@@ -86,6 +94,7 @@ module _ {N : Type 0} (eq : N → N → Bool) where
   bound_meant v l (does a k) u q = in_both (u, q) (u, Some q) _ _ _ _ (bound_by_meant v l a u q) (bound_meant v l k u q)
   bound_meant v l (within iso p body k) u q = in_both (u, q) (u, Some q) _ _ _ _ (bound_meant (cond iso (facts eq body).values v) (facts eq body).labels body u q) (bound_meant v l k u q)
 
+  -- the uses of acts, and then of what is done behind them
   pub meant_all : {P : Type 0} (v l : List (Fact N)) (acts : List (Act N P)) (k : Script N P) → meant v l (does_all acts k) ≡ acts_meant v l acts ++ meant v l k
   meant_all v l [] k = refl
   meant_all v l (a ∷ rest) k = ap (λ z. meant_by v l a ++ z) (meant_all v l rest k) ∙ sym (append_assoc (meant_by v l a) (acts_meant v l rest) (meant v l k))
@@ -94,6 +103,7 @@ module _ {N : Type 0} (eq : N → N → Bool) where
   abbrev pub Means : User × Option Place → Type 0
   Means e = is_some e.1 ≡ true
 
+  -- the name that is used is defined
   abbrev pub Known : List (Fact N) → Fact N → Type 0
   Known v (uses n u) = is_some (lookup eq n v) ≡ true
   Known v (defines n p) = ⊤

@@ -32,6 +32,7 @@ module _ {T A X : Type 0} (types : Texts T) (owns : Texts A) (types_law : Lawful
   abbrev B : Language ⊤ T A
   B = unplaced types owns C.format_of
 
+  -- what each of the entries needs so that its text is read back
   abbrev pub AreSpellableItems : List (graph.Entry C) → Type 0
   AreSpellableItems all = Each (IsSpellableEntryOf L types_law owns_law unreserved length (λ t. refl) location_at K C (length all) (shared C all)) all
 

@@ -112,6 +112,7 @@ module _ {T A : Type 0} (C : Printing T A) where
       let e' : n + 0 ≡ n = omega arith in
       subst (λ m. Numbered m 0 (tree_script isolated (written C l g) done)) e (root_numbered C isolated wordy.given wordy.label l g n done fit (record { count = 0; sum = e'; marks = refl; entries = refl }))
 
+  -- the marks of a written root are the numbers from 0 on
   pub marks_in_order : (isolated : Id → Bool) (l : Limit) (g : Graph T A) → HasIdentifiers C g → Fit C isolated g → (facts same_text (tree_script isolated (written C l g) done)).marks ≡ numbers 0 (length (entries_of C l g))
   marks_in_order isolated l g wordy fit = let m = marks_written isolated l g wordy fit in m.marks ∙ ap (numbers 0) (from_zero m.count (length (entries_of C l g)) m.sum)
 
@@ -130,6 +131,7 @@ module _ {T A : Type 0} (C : Printing T A) where
         ∙ (failures_follow same_text no_scope x y
         ∙ ap₂ ◌++◌ (tree_resolves C isolated g fit small closed keys) ((section_clean C sound reflexive (rule_of t) all (entries_ruled C g keys)).nothing _ (record { marks = marks_in_order isolated None g wordy fit; entries = m.entries })))
 
+    -- a tree and entries that are the written ones, places aside, resolve
     pub root_resolves : {P X : Type 0} (text : X → Text) (t : Tree P T A) (es : List (Entry P A X)) → bare t ≡ written C None g → bare_section text es ≡ written_section C all → failures_of isolated t es ≡ []
     root_resolves text t es e f = root_resolves_bare text isolated t es (ap₂ (failures_of isolated) e f ∙ written_resolves)
 

@@ -53,6 +53,7 @@ module _ {T A X : Type 0} (location_at : Text → Standing X) (K : Locations X) 
     operations_differ no_operations h = tt
     operations_differ (operation o rs os) h = (h.0.1, regions_differ rs h.1, operations_differ os h.2)
 
+  -- no dictionary of a graph whose items are held has a key twice
   pub held_differ : (g : Graph T A) → GraphHeld location_at K g → GraphKeysDiffer g
   held_differ g h = (h.0.1, regions_differ g.regions h.1)
 
@@ -61,6 +62,7 @@ module _ {T A X : Type 0} (types : Texts T) (owns : Texts A) (types_law : Lawful
   abbrev L : Language ℕ T A
   L = language types owns C.format_of
 
+  -- the printed text of a closed root reads as a tree and entries that resolve, and what they build is equal to the root up to fillings
   pub comes_back : (g : Graph T A) (width n : ℕ) → HasIdentifiers C g → Fit C isolated g → SmallGraph C isolated g → GraphKeepsKeys g → GraphHeld location_at K g → Closed C isolated g → SmallSection C g
       → ComesBack types owns location_at K first C isolated g width n
   comes_back g width n wordy fit small keys held closed numbers =

@@ -85,6 +85,7 @@ module _ {P T A X : Type 0} (L : Language P T A) (types : Lawful T L.types) (own
     SmallItem (own a) = C.own_once a ≡ true → items + place_in C once a < 2 ^ 64
     SmallItem _ = ⊤
 
+    -- the names of an entry are identifiers, and what it says is small enough to be read back
     abbrev pub IsSpellablePair : Text × Attribute A → Type 0
     IsSpellablePair e = EntryHasIdentifiers e × SmallItem e.1
 

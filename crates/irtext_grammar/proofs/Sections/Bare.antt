@@ -30,6 +30,7 @@ module _ {P : Type 0} where
   item_bare rule (n, reference m) = refl
 
 module _ {P A X Y : Type 0} (text : X → Y) where
+  -- a section without its places has the same attributes that are written once
   pub once_bare : (i : ℕ) (es : List (Entry P A X)) → shared_attribute i (bare_section text es) ≡ shared_attribute i es
   once_bare i [] = refl
   once_bare i (of_item m x items ∷ es) = once_bare i es

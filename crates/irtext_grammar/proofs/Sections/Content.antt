@@ -47,6 +47,7 @@ each_stands Q (y ∷ before) after x h = each_stands Q before after x h.1
 
 -- the entries of a graph are as many as its marks
 module _ {T A : Type 0} (C : Printing T A) where
+  -- an item has as many entries as marks
   pub own_length : (l : Option Text) (es : List (Text × Attribute A)) → length (own_entry C l es) ≡ own_marks C l es
   own_length l es = go (is_marked C l es)
     where
@@ -55,12 +56,14 @@ module _ {T A : Type 0} (C : Printing T A) where
       go false = refl
 
   mutual
+    -- regions have as many entries as marks
     pub regions_length : (l : Limit) (rs : Regions (GraphOp T A) (GraphBlock T A) ⊤) → length (entries_of_regions C l rs) ≡ marks_in_regions C l rs
     regions_length l no_regions = refl
     regions_length None (region r bs rs) = length-both (entries_of_blocks C None bs) (entries_of_regions C None rs) ∙ ap₂ ◌+◌ (blocks_length None bs) (regions_length None rs)
     regions_length (Some zero) (region r bs rs) = let e = regions_length (Some zero) rs in omega arith
     regions_length (Some (suc k)) (region r bs rs) = length-both (entries_of_blocks C (Some k) bs) (entries_of_regions C (Some (suc k)) rs) ∙ ap₂ ◌+◌ (blocks_length (Some k) bs) (regions_length (Some (suc k)) rs)
 
+    -- blocks have as many entries as marks
     pub blocks_length : (l : Limit) (bs : Blocks (GraphOp T A) (GraphBlock T A) ⊤) → length (entries_of_blocks C l bs) ≡ marks_in_blocks C l bs
     blocks_length l no_blocks = refl
     blocks_length l (block h os bs) =
@@ -71,6 +74,7 @@ module _ {T A : Type 0} (C : Printing T A) where
         let f = length-both (entries_of_operations C l os) (entries_of_blocks C l bs) in
         omega arith
 
+    -- operations have as many entries as marks
     pub operations_length : (l : Limit) (os : Operations (GraphOp T A) (GraphBlock T A) ⊤) → length (entries_of_operations C l os) ≡ marks_in_operations C l os
     operations_length l no_operations = refl
     operations_length l (operation o rs os) =
@@ -81,6 +85,7 @@ module _ {T A : Type 0} (C : Printing T A) where
         let f = length-both (own_entry C o.location (op_outlined C o)) (entries_of_operations C l os) in
         omega arith
 
+  -- a graph has as many entries as marks
   pub length_entries : (l : Limit) (g : Graph T A) → length (entries_of C l g) ≡ marks_in_regions C l g.regions + own_marks C g.own.location (op_outlined C g.own)
   length_entries l g = length-both (entries_of_regions C l g.regions) (own_entry C g.own.location (op_outlined C g.own)) ∙ ap₂ ◌+◌ (regions_length l g.regions) (own_length g.own.location (op_outlined C g.own))
 

@@ -17,6 +17,7 @@ module _ {T A : Type 0} (C : Printing T A) where
   indices_items items once n [] last = refl
   indices_items items once n (e ∷ es) last = ap (λ z. n ∷ z) (indices_items items once (suc n) es last)
 
+  -- the indices of a written section are the numbers from 0 on
   pub section_indices : (es : List (graph.Entry C)) → map index_of (written_section C es) ≡ numbers 0 (length es + length (shared C es))
   section_indices es =
       let m = length es in

@@ -9,6 +9,7 @@ use Rattle.irtext_grammar.specs.Graphs.Graph.{Graph, GraphOp, GraphBlock, Printi
 use Rattle.irtext_grammar.specs.Spelling.SectionEntries.{mark_of}
 use Rattle.irtext_grammar.specs.Grammar.Marked.{regions_marked, blocks_marked, operations_marked, marked}
 
+-- whether a list has a member
 abbrev pub is_some_list : {X : Type 0} → List X → Bool
 is_some_list [] = false
 is_some_list (x ∷ xs) = true
@@ -62,6 +63,7 @@ module _ {T A : Type 0} (C : Printing T A) where
         ∙ (or_assoc (regions_marked (tree_regions C None n rs)) (is_some (mark_at C q o.location (op_outlined C o))) (operations_marked (tree_operations C None w os))
         ∙ ap (λ b. b || operations_marked (tree_operations C None w os)) (or_turn (regions_marked (tree_regions C None n rs)) (is_some (mark_at C q o.location (op_outlined C o))))))
 
+  -- a written tree has a mark exactly where the graph has an entry
   pub marked_written : (g : Graph T A) → is_some_list (entries_of C None g) ≡ marked (written C None g)
   marked_written g =
       let q = marks_in_regions C None g.regions in
@@ -87,5 +89,6 @@ module _ {P T A : Type 0} where
     operations_bare no_operations = refl
     operations_bare (operation o rs os) = ap₂ ◌||◌ (ap₂ ◌||◌ (bare_is_some o.mark) (regions_bare rs)) (operations_bare os)
 
+  -- a tree has a mark exactly where it has one without its places
   pub marked_bare : (t : Tree P T A) → marked (bare t) ≡ marked t
   marked_bare t = ap₂ ◌||◌ (bare_is_some t.own.mark) (regions_bare t.regions)

@@ -34,6 +34,7 @@ pub record Silent (a : Act Text ⊤) : Type 0 where
   pub marks : (fact_of a).marks ≡ []
   pub entries : (fact_of a).entries ≡ []
 
+-- none of the acts is a mark or an entry
 abbrev pub AllSilent : List (Act Text ⊤) → Type 0
 AllSilent [] = ⊤
 AllSilent (a ∷ rest) = Silent a × AllSilent rest

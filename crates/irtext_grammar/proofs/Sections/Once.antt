@@ -91,6 +91,7 @@ module _ {T A : Type 0} (C : Printing T A) (sound : (a b : A) → C.same_own a b
   abbrev pub mentions : List (graph.Entry C) → List A
   mentions es = flat_map (λ e. flat_map (λ a. once C a.1) e.attributes) es
 
+  -- an attribute, where it is one that is written once, is in the list
   abbrev pub Mention : List A → Attribute A → Type 0
   Mention ms (own a) = C.own_once a ≡ true → has C.same_own a ms ≡ true
   Mention ms _ = ⊤
@@ -109,6 +110,7 @@ module _ {T A : Type 0} (C : Printing T A) (sound : (a b : A) → C.same_own a b
   each_of Q R h [] e = tt
   each_of Q R h (x ∷ xs) e = (h x e.0, each_of Q R h xs e.1)
 
+  -- so is each attribute of an entry
   abbrev pub Mentions : List A → graph.Entry C → Type 0
   Mentions ms e = Each (λ x. Mention ms x.1) e.attributes
 

@@ -34,5 +34,6 @@ module _ {T A : Type 0} (C : Printing T A) (sound : (a b : A) → C.same_own a b
         go true less more new = less
         go false less more new = ap₂ (λ p q. not p && q) new more
 
+    -- no attribute is written once in two places
     pub distinct_shared : (es : List (graph.Entry C)) → distinct C.same_own (shared C es) ≡ true
     distinct_shared es = distinct_firsts [] (mentions C sound es)

@@ -51,10 +51,12 @@ abbrev pub Splits : {X : Type 0} → (Text → Outcome X) → Type 0
 Splits {X} at = (text : Text) (x : X) (taken rest : Text) → at text ≡ Read x taken rest → taken ++ rest ≡ text
 
 module _ {X Y : Type 0} where
+  -- what is taken and what is left make up the text, of one reading and then another
   pub splits_followed : (at : Text → Outcome X) (next : X → Text → Outcome Y) → Splits at → ((x : X) → Splits (next x)) → Splits (λ text. followed (at text) next)
   splits_followed at next h k text y taken rest e =
       let r = followed_read (at text) next y taken rest e in
       ap (λ t. t ++ rest) (sym r.whole) ∙ (append_assoc r.front r.more rest ∙ (ap (λ t. r.front ++ t) (k r.value r.middle y r.more rest r.second) ∙ h text r.value r.front r.middle r.first))
 
+  -- the same of what is made of a reading
   pub splits_mapped : (see : X → Y) (at : Text → Outcome X) → Splits at → Splits (λ text. mapped see (at text))
   splits_mapped see at h text y taken rest e = let r = mapped_read see (at text) y taken rest e in h text r.0 taken rest r.1

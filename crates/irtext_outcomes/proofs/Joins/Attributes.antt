@@ -96,9 +96,11 @@ separated_tight names text rest h = list_tight 44 given names text rest h
 splits_names : Splits names_at
 splits_names = splits_separated 44 given_name_at given_name_takes
 
+-- the bracket that closes, behind what was read
 abbrev pub shut_next : {X : Type 0} → X → Text → Outcome X
 shut_next x text = mapped (λ _. x) (text_at (codes "]") text)
 
+-- what is taken and what is left of it make up the text
 pub splits_shut : {X : Type 0} (x : X) → Splits (shut_next x)
 splits_shut x = splits_mapped (λ _. x) (text_at (codes "]")) (splits_text (codes "]"))
 

@@ -106,6 +106,7 @@ module _ {T A : Type 0} (types : Texts T) (reading : Text → Outcome A) (writte
   abbrev l : Language ℕ T A
   l = language types (texts_of reading written) formats
 
+  -- the regions inside of an operation
   abbrev pub Inside : Type 0
   Inside = Regions (Op ℕ T A) (Head ℕ T A) (Brace ℕ)
 

@@ -45,6 +45,7 @@ allowed_read (Read d a r) e taken rest h = go (may_hold d.0 d.1) refl h
 allowed_read (Missing cause) e taken rest h = absurd (cc h)
 allowed_read (Bad cause upto) e taken rest h = absurd (cc h)
 
+-- an entry that is missing where its key is looked at was missing before
 pub allowed_missing : {A : Type 0} (o : Outcome (Text × Attribute A)) (cause : Fault) → allowed_entry o ≡ Missing cause → o ≡ Missing cause
 allowed_missing (Read d a r) cause h = go (may_hold d.0 d.1) h
   where
@@ -54,6 +55,7 @@ allowed_missing (Read d a r) cause h = go (may_hold d.0 d.1) h
 allowed_missing (Missing c) cause h = h
 allowed_missing (Bad c upto) cause h = absurd (cc h)
 
+-- what is taken of an entry and what is left make up the text
 pub splits_allowed : {A : Type 0} (at : Text → Outcome (Text × Attribute A)) → Splits at → Splits (λ text. allowed_entry (at text))
 splits_allowed at h text e taken rest f = h text e taken rest (allowed_read (at text) e taken rest f).0
 
@@ -76,11 +78,13 @@ pub word_missing : (text : Text) (cause : Fault) → identifier_at text ≡ Miss
 unfolding word_at
 word_missing text cause e = is_false (begins begins_word text) (λ b. let q = rw b at e in cc q)
 
+-- where no word begins, an identifier is missing
 pub missing_word : (text : Text) → begins begins_word text ≡ false → (cause : Fault) × (identifier_at text ≡ Missing cause)
 unfolding word_at
 missing_word text b = (fault.Unexpected (first_of text) AnIdentifier, rw b refl)
 
 module _ {T A : Type 0} (reading : Text → Outcome A) (types : Texts T) (owns : Texts A) (formats : Id → Option Format) (same : (text : Text) → owns.outcome text ≡ standing (reading text)) where
+  -- the language of the readers
   abbrev pub l : Language ℕ T A
   l = language types owns formats
 
@@ -90,11 +94,13 @@ module _ {T A : Type 0} (reading : Text → Outcome A) (types : Texts T) (owns :
       let m = mapped_read attr_tree (attr_at reading text) a taken rest e in
       subst (λ a. reads.attribute l a text rest) m.2 (attribute_read reading l same m.0 text taken rest m.1)
 
+  -- an attribute that the grammar reads is answered
   pub tree_found : (a : Attribute A) (text rest : Text) → reads.attribute l a text rest → (taken : Text) × (attribute_at (attr_at reading) text ≡ Read a taken rest)
   tree_found (tree.given_names ns) text rest r = let k = attribute-reads reading l same (view.given_names ns) text rest r in (k.0, ap (mapped attr_tree) k.1)
   tree_found (tree.ident n) text rest r = let k = attribute-reads reading l same (view.ident n) text rest r in (k.0, ap (mapped attr_tree) k.1)
   tree_found (tree.own a) text rest r = let k = attribute-reads reading l same (view.own a) text rest r in (k.0, ap (mapped attr_tree) k.1)
 
+  -- what is taken of an attribute and what is left make up the text
   pub splits_tree : Splits reading → Splits (attribute_at (attr_at reading))
   splits_tree h = splits_mapped attr_tree (attr_at reading) (splits_attr reading h)
 
@@ -106,6 +112,7 @@ module _ {T A : Type 0} (reading : Text → Outcome A) (types : Texts T) (owns :
       let m = mapped_read (λ a. (key, a)) (attribute_at (attr_at reading) text) e taken rest k.0 in
       (m.0, tree_read m.0 text taken rest m.1, m.2)
 
+  -- an attribute that the grammar reads, and that may stand under the key, is answered
   pub keyed_found : (key : Text) (a : Attribute A) (text rest : Text) → may_hold key a ≡ true → reads.attribute l a text rest
       → (taken : Text) × (allowed_entry (mapped (λ a. (key, a)) (attribute_at (attr_at reading) text)) ≡ Read (key, a) taken rest)
   keyed_found key a text rest f r =
@@ -116,16 +123,20 @@ module _ {T A : Type 0} (reading : Text → Outcome A) (types : Texts T) (owns :
   abbrev pub value_next : Text → Unit {0} → Text → Outcome (Text × Attribute A)
   value_next key u text = mapped (λ a. (key, a)) (attribute_at (attr_at reading) text)
 
+  -- what stands behind a key
   abbrev pub key_next : Text → Text → Outcome (Text × Attribute A)
   key_next key text = followed (spaced_at (codes ":") text) (value_next key)
 
+  -- whether an entry may stand in a dictionary
   abbrev pub allowed : Name ℕ × Attribute A → Bool
   allowed e = may_hold e.0.text e.1
 
+  -- what is taken of an entry with its key and what is left make up the text
   pub splits_entry : Splits reading → Splits (entry_at (attr_at reading))
   splits_entry h = splits_allowed (λ text. followed (identifier_at text) key_next) (splits_followed identifier_at key_next (splits_word _)
       (λ key. splits_followed (spaced_at (codes ":")) (value_next key) (splits_spaced (codes ":")) (λ u. splits_mapped (λ a. (key, a)) (attribute_at (attr_at reading)) (splits_tree h))))
 
+  -- an entry that is answered is one that the grammar reads, and may stand there
   pub entry_read : (text : Text) (e : Text × Attribute A) (taken rest : Text) → entry_at (attr_at reading) text ≡ Read e taken rest → ItemRead (reads.entry l) plain_entry allowed text e rest
   entry_read text e taken rest h =
       let k = allowed_read (followed (identifier_at text) key_next) e taken rest h in
@@ -153,9 +164,11 @@ module _ {T A : Type 0} (reading : Text → Outcome A) (types : Texts T) (owns :
             (followed-read (spaced_at (codes ":") mid) (value_next x.0.text) tt (plain_entry x) s.0 (after_space mid') k.0 rest s.1 (ap (mapped (λ a. (x.0.text, a))) k.1)),
       )
 
+  -- an entry that the grammar reads, and that may stand there, is answered
   pub entry_found : (x : Name ℕ × Attribute A) (text rest : Text) → reads.entry l x text rest → allowed x ≡ true → (taken : Text) × (entry_at (attr_at reading) text ≡ Read (plain_entry x) taken rest)
   entry_found x text rest r f = let k = entry_begun x text rest r in (k.0, ap allowed_entry k.1 ∙ rw f refl)
 
+  -- an entry that the grammar reads, and that may not stand there, is refused at its key
   pub entry_refused : (x : Name ℕ × Attribute A) (text rest : Text) → reads.entry l x text rest → allowed x ≡ false → entry_at (attr_at reading) text ≡ Bad (fault.ReservedKey x.0.text) []
   entry_refused x text rest r f = let k = entry_begun x text rest r in ap allowed_entry k.1 ∙ rw f refl
 
@@ -183,6 +196,7 @@ module _ {T A : Type 0} (reading : Text → Outcome A) (types : Texts T) (owns :
   abbrev open_next : Unit {0} → Text → Outcome (List (Text × Attribute A))
   open_next u text = followed (space_at text) list_next
 
+  -- what is taken of a dictionary and what is left make up the text
   pub splits_dictionary : Splits reading → Splits (dictionary_at (attr_at reading))
   unfolding dictionary_at
   splits_dictionary h = splits_followed (text_at (codes "[")) open_next (splits_text (codes "[")) (λ u. splits_followed space_at list_next splits_space
@@ -195,6 +209,7 @@ module _ {T A : Type 0} (reading : Text → Outcome A) (types : Texts T) (owns :
     pub read : reads.dictionary l entries text rest
     pub fine : list_all allowed entries ≡ true
 
+  -- a dictionary that is answered is one that the grammar reads, and each of its entries may stand there
   pub dictionary_read : Splits reading → (es : List (Text × Attribute A)) (text taken rest : Text) → dictionary_at (attr_at reading) text ≡ Read es taken rest → DictionaryRead text es rest
   unfolding dictionary_at
   dictionary_read h es text taken rest e =

@@ -34,6 +34,7 @@ known_read test (Read j a r) i taken rest e = go (test j) refl e
 known_read test (Missing cause) i taken rest e = absurd (cc e)
 known_read test (Bad cause upto) i taken rest e = absurd (cc e)
 
+-- what stands behind an entry's index
 abbrev pub said_next : {A : Type 0} → (Text → Outcome (AttrView A)) → ℕ → Text → Outcome (ℕ × Option (Written A))
 said_next attr i text = mapped (λ x. (i, x)) (content_at attr text)
 
@@ -48,6 +49,7 @@ module _ {T A : Type 0} (dialects : List (Text × Table)) (types : Texts T) (own
   abbrev Entry_ : Entry ℕ A (Written A) → Reading
   Entry_ e = entry (supported dialects types owns) (location_standing attr) e
 
+  -- an entry that is answered is one that the grammar reads
   pub entry_reads : (test : ℕ → Bool) (text : Text) (e : ℕ × Option (Written A)) (taken rest : Text) → entry_at attr test text ≡ Read e taken rest
       → Entry_ (item (record { place = length text; index = e.0 }) e.1) text rest × (test e.0 ≡ true)
   entry_reads test text e taken rest h =
@@ -83,6 +85,7 @@ among_push j k (n ∷ ns) = go (nat_eq n j) (k == j) (among_push j k ns)
     go true false h = refl
     go false c h = h
 
+-- the first two of three conditions change places
 pub swap : (a b c : Bool) → (a && (b && c)) ≡ (b && (a && c))
 swap true b c = refl
 swap false true c = refl
@@ -93,6 +96,7 @@ module _ (X : Type 0) (i : ℕ) where
   abbrev pub Allow : List (ℕ × X) → List ℕ → Type 0
   Allow earlier indices = (j : ℕ) → may_have (i ∷ []) earlier j ≡ (is_among j (i ∷ []) && not (is_among j indices))
 
+  -- before the first entry the two tests of an index say the same
   pub allow_first : Allow [] []
   allow_first j = go (nat_eq i j) (j == i) (grind (arith, nat_tests))
     where
@@ -131,9 +135,11 @@ onto [] earlier = earlier
 onto (e ∷ es) earlier = onto es (e ∷ earlier)
 
 module _ {T A : Type 0} (dialects : List (Text × Table)) (types : Texts T) (owns : Texts A) (attr : Text → Outcome (AttrView A)) (i : ℕ) where
+  -- what the reader answers of entries
   abbrev pub Said : Type 0
   Said = List (ℕ × Option (Written A))
 
+  -- the grammar's readings of entries
   abbrev pub readings : List (Entry ℕ A (Written A)) → List Reading
   readings es = map (entry (supported dialects types owns) (location_standing attr)) es
 
@@ -145,6 +151,7 @@ module _ {T A : Type 0} (dialects : List (Text × Table)) (types : Texts T) (own
     pub describe : DescribeEntries entries es
     pub allowed : refused i indices entries ≡ []
 
+  -- entries that are answered are entries that the grammar reads
   pub entries_read : (earlier : Said) (indices : List ℕ) (es : Said) (text rest : Text) → Allow (Option (Written A)) i earlier indices → Entries attr (i ∷ []) earlier es text rest → begins (the 33) rest ≡ false → EntriesRead indices es text rest
   entries_read earlier indices [] text rest h e none = record { entries = []; reads = (ap (begins (the 33)) (sym e) ∙ none, e); so_far = tt; describe = tt; allowed = refl }
   entries_read earlier indices (e ∷ es) text rest h (taken, mid, b, r, more) none =
@@ -181,6 +188,7 @@ module _ {T A : Type 0} (dialects : List (Text × Table)) (types : Texts T) (own
     pub failures : List (Failure Text ℕ)
     pub refused_first : refused i indices entries ≡ unknown_at index mid ∷ failures
 
+  -- entries that the grammar reads are answered, up to the first that is refused
   pub entries_found : (earlier : Said) (indices : List ℕ) (entries : List (Entry ℕ A (Written A))) (text rest : Text) → Allow (Option (Written A)) i earlier indices → AllSupported entries → repeated (the 33) (readings entries) text rest
       → Accepted earlier indices entries text rest ⊎ Stopped earlier indices entries text
   entries_found earlier indices [] text rest h form (none, e) = inl (record { es = []; stand = e; all = ap (begins (the 33)) e ∙ none; describe = tt; allowed = refl })

@@ -92,6 +92,7 @@ module _ (dialects : List (Text × Table)) where
     pub format : Format
     pub known : format_of dialects i ≡ Some format
 
+  -- a registered operation's id that is answered is one that the grammar reads behind a lead
   pub led_read : (text : Text) (i : Id) (taken rest : Text) → led_id_at dialects text ≡ Read i taken rest → LedRead i text rest
   led_read text i taken rest e =
       let r = registered_read (lead_of text) (behind (lead_of text) (id_at (behind_lead text))) i taken rest e in
@@ -99,11 +100,13 @@ module _ (dialects : List (Text × Table)) where
       let f = formatted (table.registered dialects (op_id i)) r.1 in
       record { id = id_read (behind_lead text) i a.0 rest a.1; format = f.0; known = f.1 }
 
+  -- an id that the grammar reads behind a lead, where its operation is registered, is answered
   pub led_found : (text : Text) (i : Id) (rest : Text) (f : Format) → reads.id i (behind_lead text) rest → format_of dialects i ≡ Some f → (taken : Text) × (led_id_at dialects text ≡ Read i taken rest)
   led_found text i rest f h k =
       let a = id_found (behind_lead text) i rest h in
       (lead_of text ++ a.0, registered-read (lead_of text) (behind (lead_of text) (id_at (behind_lead text))) i (lead_of text ++ a.0) rest (behind-read (lead_of text) (id_at (behind_lead text)) i a.0 rest a.1) (format_known i f k))
 
+  -- what is taken of a lead and an id and what is left make up the text
   pub splits_led : Splits (led_id_at dialects)
   splits_led text i taken rest e =
       let r = registered_read (lead_of text) (behind (lead_of text) (id_at (behind_lead text))) i taken rest e in
@@ -136,6 +139,7 @@ module _ {T A : Type 0} (types : Texts T) (owns : Texts A) (formats : Id → Opt
       go [] (g, h) = clash 61 left (after_space m) (ap after_space (h ∙ behind_dot)) f refl
       go (n ∷ ns) (k, g, h) = clash 44 k (after_space between) behind_dot g refl
 
+  -- a lead without results is one that the grammar reads
   pub lead_reads : (i : Id) (text mid : Text) → reads.id i (behind_lead text) mid → (m : Text) × reads.results_if l [] (after_space text) m × (after_space m ≡ behind_lead text)
   lead_reads i text mid a = go (begins (the 61) (after_space text)) refl a
     where
@@ -153,6 +157,7 @@ module _ {T A : Type 0} (types : Texts T) (owns : Texts A) (formats : Id → Opt
       no_equals : (c : ℕ) → begins_word c ≡ true → (c == 61) ≡ false
       no_equals c e = grind (arith, nat_tests)
 
+  -- a lead that the grammar reads without results is the reader's
   pub lead_found : (text m : Text) → reads.results_if l [] (after_space text) m → begins begins_word (after_space m) ≡ true → behind_lead text ≡ after_space m
   lead_found text m (inl (s, (none, e), f)) w =
       let g : after_space text ≡ 61 ∷ m = sym (after_twice is_whitespace text) ∙ (ap after_space (sym e) ∙ f) in

@@ -162,6 +162,7 @@ module _ {X Y : Type 0} (sep : ℕ) (i : Items X Y) where
     pub read : separated sep i.missing (map i.reading items) text rest
     pub fine : list_all i.allowed items ≡ true
 
+  -- a list that is answered is one that the grammar reads, item by item
   pub list_read : (text : Text) (all : List Y) (taken rest : Text) → separated_at sep i.item text ≡ Read all taken rest → ListRead text all rest
   list_read text all taken rest e =
       elim (or_read (followed (item_after sep i.item [] text) (first_next sep i.item)) text all taken rest e) [

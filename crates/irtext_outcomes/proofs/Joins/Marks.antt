@@ -17,17 +17,21 @@ use Rattle.irtext_outcomes.proofs.Joins.Tokens.{text_read, text-literal, splits_
 abbrev number_next : Unit {0} → Text → Outcome ℕ
 number_next _ text = number_at text
 
+-- what is taken of an index and what is left make up the text
 pub splits_index : Splits index_at
 splits_index = splits_followed (text_at (codes "!")) number_next (splits_text (codes "!")) (λ u. splits_number)
 
+-- an index that is answered is one that the grammar reads
 pub index_read : (text : Text) (i : ℕ) (taken rest : Text) → index_at text ≡ Read i taken rest → (literal (codes "!") ▸ number i) text rest
 index_read text i taken rest e =
     let a = followed_read (text_at (codes "!") text) number_next i taken rest e in
     (a.middle, text_read (codes "!") text a.front a.middle a.first, number_read a.middle i a.more rest a.second)
 
+-- an index that the grammar reads is answered
 pub index_found : (text : Text) (i : ℕ) (rest : Text) → (literal (codes "!") ▸ number i) text rest → (taken : Text) × (index_at text ≡ Read i taken rest)
 index_found text i rest (m, a, b) = let n = number_found m i rest b in (codes "!" ++ n.0, followed-read (text_at (codes "!") text) number_next tt i (codes "!") m n.0 rest (text-literal (codes "!") text m a) n.1)
 
+-- what is taken of a mark and what is left make up the text
 pub splits_mark : Splits mark_at
 splits_mark text x taken rest e = go (begins (the 33) text) e
   where

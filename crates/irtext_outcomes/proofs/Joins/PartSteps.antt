@@ -71,9 +71,11 @@ module _ {T A : Type 0} (isolated : Id → Bool) where
   pub record Passes (iso : Bool) (p : Part ℕ T A) (ps : List (Part ℕ T A)) (rs left : TreeRegions T A) : Type 0 where
     pub passes : (path : Path) (j k m : ℕ) (then : Script Text ℕ) → (i : ℕ) × (wrongs path j k m iso (p ∷ ps) rs then ≡ wrongs path i k m iso ps left then)
 
+  -- one more part that passes in front of parts without a failure
   pub quiet_more : (iso : Bool) (p : Part ℕ T A) (ps : List (Part ℕ T A)) (rs left : TreeRegions T A) → Passes iso p ps rs left → Quiet iso ps left → Quiet iso (p ∷ ps) rs
   quiet_more iso p ps rs left a b = record { quiet = λ path j k m then. let c = a.passes path j k m then in c.1 ∙ b.quiet path c.0 k m then }
 
+  -- one more part that passes in front of parts that fail
   pub fails_more : (iso : Bool) (p : Part ℕ T A) (ps : List (Part ℕ T A)) (rs left : TreeRegions T A) (f : Failure Text ℕ) → Passes iso p ps rs left → Fails iso ps left f → Fails iso (p ∷ ps) rs f
   fails_more iso p ps rs left f a b = record { fails = λ path j k m then. let c = a.passes path j k m then in let d = b.fails path c.0 k m then in (d.0, c.1 ∙ d.1) }
 
@@ -83,15 +85,19 @@ module _ {T A : Type 0} (isolated : Id → Bool) where
     pub count : next.regions + length (regions_list left) ≡ found.regions + length (regions_list rs)
     pub passes : (ps : List (Part ℕ T A)) → Passes iso p ps rs left
 
+  -- a word puts nothing in
   pub step_word : (iso : Bool) (found : Pieces A) (s : Text) (rs : TreeRegions T A) → Step iso found found (tree.piece (tree.word s)) rs rs
   step_word iso found s rs = record { attributes = λ ps. refl; count = refl; passes = λ ps. record { passes = λ path j k m then. (j, refl) } }
 
+  -- an attribute is put in under its key
   pub step_attribute : (iso : Bool) (found : Pieces A) (k : Text) (a : Attribute A) (rs : TreeRegions T A) → Step iso found (with_entries found ((k, a) ∷ [])) (tree.piece (tree.attribute k (Some a))) rs rs
   step_attribute iso found k a rs = record { attributes = λ ps. refl; count = refl; passes = λ ps. record { passes = λ path j k m then. (j, refl) } }
 
+  -- a symbol's name is put in under the key of symbols' names
   pub step_header : (iso : Bool) (found : Pieces A) (n : Name ℕ) (rs : TreeRegions T A) → Step iso found (with_entries found ((format.sym_name_key, tree.ident n.text) ∷ [])) (tree.piece (tree.header n)) rs rs
   step_header iso found n rs = record { attributes = λ ps. refl; count = refl; passes = λ ps. record { passes = λ path j k m then. (j, refl) } }
 
+  -- the entries of a dictionary are put in, where each may stand there
   pub step_dictionary : (iso : Bool) (found : Pieces A) (es : List (Name ℕ × Attribute A)) (rs : TreeRegions T A) → list_all (λ e. may_hold e.0.text e.1) es ≡ true
       → Step iso found (with_entries found (map plain_entry es)) (tree.piece (tree.dictionary es)) rs rs
   step_dictionary iso found es rs f = record {
@@ -100,9 +106,11 @@ module _ {T A : Type 0} (isolated : Id → Bool) where
     passes = λ ps. record { passes = λ path j k m then. (j, keys_quiet es (parts_script path k m ps (region_scripts isolated path j iso rs) then) f) };
   }
 
+  -- one region is counted, in an isolated operation
   pub step_region : (found : Pieces A) (i p : ℕ) (rs : TreeRegions T A) → Step true found (with_regions found 1) (tree.region i) (region (shown p) no_blocks rs) rs
   step_region found i p rs = record { attributes = λ ps. refl; count = omega arith; passes = λ ps. record { passes = λ path j k m then. (suc j, refl) } }
 
+  -- the other regions are counted, where the operation may have them
   pub step_regions : (iso : Bool) (found : Pieces A) (rs : TreeRegions T A) → HaveNoBlocks rs → MayHave iso rs → Step iso found (with_regions found (length (regions_list rs))) tree.regions rs no_regions
   step_regions iso found rs free may = record {
     attributes = λ ps. refl;

@@ -25,6 +25,7 @@ use Rattle.irtext_outcomes.proofs.Joins.Tokens.{text_read}
 use Rattle.irtext_outcomes.proofs.Joins.PartSteps.{MayPrecede, Orderly, Quiet, Step, step_word, step_attribute, step_header, step_dictionary, step_region, step_regions, quiet_more, TreeRegions}
 
 module _ {T A : Type 0} (reading : Text → Outcome A) (types : Texts T) (owns : Texts A) (formats : Id → Option Format) (same : (text : Text) → owns.outcome text ≡ standing (reading text)) (h : Splits reading) (isolated : Id → Bool) where
+  -- the language of the readers
   abbrev pub l : Language ℕ T A
   l = language types owns formats
 

@@ -35,6 +35,7 @@ use Rattle.irtext_outcomes.proofs.Joins.PartSteps.{MayPrecede, Orderly, kept, St
 use Rattle.irtext_outcomes.proofs.Joins.Tokens.{text-literal, splits_text, splits_space}
 
 module _ {T A : Type 0} (reading : Text → Outcome A) (types : Texts T) (owns : Texts A) (formats : Id → Option Format) (same : (text : Text) → owns.outcome text ≡ standing (reading text)) (h : Splits reading) (isolated : Id → Bool) where
+  -- the language of the readers
   abbrev pub l : Language ℕ T A
   l = language types owns formats
 

@@ -24,6 +24,7 @@ use Rattle.irtext_grammar.specs.Grammar.Tree.{Op, Head, Brace, shown, elided}
 use Rattle.irtext_outcomes.proofs.Joins.Answers.{followed_read, followed-read, Splits, splits_followed}
 use Rattle.irtext_outcomes.proofs.Joins.Tokens.{text_read, text-literal, splits_text, splits_space, word_read, word-identifier, splits_word}
 
+-- white space that is answered leaves what stands behind it
 pub space_read : (text : Text) (taken rest : Text) → space_at text ≡ Read tt taken rest → rest ≡ after_space text
 space_read text taken rest e = cc e
 
@@ -31,14 +32,17 @@ space_read text taken rest e = cc e
 abbrev name_next : Unit {0} → Text → Outcome Text
 name_next u text = identifier_at text
 
+-- a symbol's name that is answered is one that the grammar reads
 pub symbol_read : (text n taken rest : Text) → symbol_at text ≡ Read n taken rest → (literal (codes "@") ▸ identifier n) text rest
 symbol_read text n taken rest e =
     let a = followed_read (text_at (codes "@") text) name_next n taken rest e in
     (a.middle, text_read (codes "@") text a.front a.middle a.first, (word_read _ a.middle n a.more rest a.second).0)
 
+-- a symbol's name that the grammar reads is answered
 pub symbol_found : (text n rest : Text) → (literal (codes "@") ▸ identifier n) text rest → (taken : Text) × (symbol_at text ≡ Read n taken rest)
 symbol_found text n rest (m, a, b) = (_, followed-read (text_at (codes "@") text) name_next tt n (codes "@") m n rest (text-literal (codes "@") text m a) (word-identifier _ m n rest b))
 
+-- what is taken of a symbol's name and what is left make up the text
 pub splits_symbol : Splits symbol_at
 splits_symbol = splits_followed (text_at (codes "@")) name_next (splits_text (codes "@")) (λ u. splits_word _)
 
@@ -49,6 +53,7 @@ close_at u text = text_at (codes "}") text
 abbrev inside_at : Unit {0} → Text → Outcome (Unit {0})
 inside_at u text = followed (space_at text) close_at
 
+-- what is taken of braces and what is left make up the text
 pub splits_braces : Splits braces_at
 splits_braces = splits_followed (text_at (codes "{")) inside_at (splits_text (codes "{")) (λ u. splits_followed space_at close_at splits_space (λ v. splits_text (codes "}")))
 
@@ -56,6 +61,7 @@ splits_braces = splits_followed (text_at (codes "{")) inside_at (splits_text (co
 abbrev pub Braces : Text → Text → Type 0
 Braces = literal (codes "{") ▹ repeated (the 94) [] ▹ literal (codes "}")
 
+-- braces that are answered stand in the text
 pub braces_read : (text taken rest : Text) → braces_at text ≡ Read tt taken rest → Braces text rest
 braces_read text taken rest e =
     let a = followed_read (text_at (codes "{") text) inside_at tt taken rest e in
@@ -67,6 +73,7 @@ braces_read text taken rest e =
       (after_space a.middle, (ap (begins (the 94)) c, refl), after_twice is_whitespace a.middle ∙ c),
     )
 
+-- braces that stand in the text are answered
 pub braces_found : (text rest : Text) → Braces text rest → (taken : Text) × (braces_at text ≡ Read tt taken rest)
 braces_found text rest (m, a, (n, (b, c), d)) =
     let f : after_space m ≡ codes "}" ++ rest = sym (after_twice is_whitespace m) ∙ (ap after_space (sym c) ∙ d) in (
@@ -82,6 +89,7 @@ space_shorter text = omega (arith, ap length (front_after is_whitespace text), l
 braces_shorter : (text rest : Text) → Braces text rest → length rest + 1 ≤ length text
 braces_shorter text rest (m, a, (n, (b, c), d)) = omega (arith, ap length a, ap length c, ap length d, space_shorter m, space_shorter n)
 
+-- what is taken of a region and what is left make up the text
 pub splits_region : (iso : Bool) → Splits (λ text. region_at iso text)
 splits_region true text x taken rest e = splits_braces text x taken rest e
 splits_region false text x taken rest e = absurd (cc e)
@@ -101,6 +109,7 @@ splits_after iso (suc n) found text x taken rest e = go (begins (the 123) text) 
     go true k e = splits_followed (λ t. region_at iso t) (region_next iso n found) (splits_region iso) (λ u. splits_followed space_at (more_next iso n found) splits_space (λ v. k)) text x taken rest e
     go false k e = let f : [] ≡ taken = cc e in let g : text ≡ rest = cc e in ap₂ ◌++◌ (sym f) (sym g)
 
+-- what is taken of regions and what is left make up the text
 pub splits_regions : (iso : Bool) → Splits (λ text. regions_at iso text)
 splits_regions iso text x taken rest e = splits_after iso (length text) 0 text x taken rest e
 
@@ -112,6 +121,7 @@ module _ {T A : Type 0} (types : Texts T) (owns : Texts A) (formats : Id → Opt
   abbrev l : Language ℕ T A
   l = language types owns formats
 
+  -- the regions of a tree
   abbrev pub TreeRegions : Type 0
   TreeRegions = Regions (Op ℕ T A) (Head ℕ T A) (Brace ℕ)
 
@@ -162,6 +172,7 @@ module _ {T A : Type 0} (types : Texts T) (owns : Texts A) (formats : Id → Opt
       go false b e = no_more false found m text taken rest b e
       go true b e = absurd (cc e)
 
+  -- regions that are answered are regions that the grammar reads, without blocks
   pub regions_read : (iso : Bool) (m : ℕ) (text taken rest : Text) → regions_at iso text ≡ Read m taken rest → RegionsRead iso 0 m text rest
   regions_read true m text taken rest e = after_read (length text) 0 m text taken rest (omega arith) e
   regions_read false m text taken rest e = none_read (length text) 0 m text taken rest (omega arith) e
@@ -201,6 +212,7 @@ module _ {T A : Type 0} (types : Texts T) (owns : Texts A) (formats : Id → Opt
   refused_after zero found (c ∷ text) b h = absurd (omega (arith, h))
   refused_after (suc n) found text b h = rw b refl
 
+  -- regions that the grammar reads are refused where the operation is not isolated
   pub regions_refused : (p : ℕ) (rs : TreeRegions) (text rest : Text) → repeated (the 123) (reads.region_readings l (region (shown p) no_blocks rs)) text rest → regions_at false text ≡ Bad fault.NotIsolated []
   regions_refused p rs text rest (m, (at, braces), more) = refused_after (length text) 0 text (ap (begins (the 123)) braces.1) (omega arith)
 

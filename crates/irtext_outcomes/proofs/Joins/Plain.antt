@@ -120,6 +120,7 @@ module _ {T A : Type 0} (isolated : Id → Bool) (t : Tree ℕ T A) (form : IsSu
   pub record PiecesPass : Type 0 where
     pub passes : (then : Script Text ℕ) → failures same_text no_scope (operation_script [] t.own (region_scripts isolated [] 0 (isolated t.own.id) t.regions) then) ≡ failures same_text no_scope (does_all (closing_acts [] t.own) then)
 
+  -- what is refused of a root with a mark is what is refused of its entries, where its pieces pass
   pub failures_marked : {X : Type 0} (k : Mark ℕ) (es : List (Entry ℕ A X)) → PiecesPass → t.own.mark ≡ Some k → AllSupported es → failures_of isolated t es ≡ refused k.index [] es
   failures_marked k es p e so_far =
       ap (λ rules. failures same_text no_scope (tree_script isolated t (does_all (section_acts rules es) done))) (rule_so_far t form)
@@ -128,6 +129,7 @@ module _ {T A : Type 0} (isolated : Id → Bool) (t : Tree ℕ T A) (form : IsSu
       ∙ (ap (λ m. failures same_text no_scope (does_all (no_results ∷ mark_acts m) (does_all (section_acts (λ i. may_hold) es) done))) e
       ∙ ap (λ xs. failures same_text (behind_entries k.index []) (does_all xs done)) (section_acts-so_far es so_far))))
 
+  -- nothing is refused of a root without a mark, where its pieces pass
   pub failures_unmarked : (X : Type 0) → PiecesPass → t.own.mark ≡ None → failures_of {A = A} {X = X} isolated t [] ≡ []
   failures_unmarked X p e = p.passes done ∙ (ap (λ acts. failures same_text no_scope (does_all acts done)) closing_is ∙ ap (λ m. failures same_text no_scope (does_all (no_results ∷ mark_acts m) done)) e)
 
@@ -155,6 +157,7 @@ module _ {T A X : Type 0} (isolated : Id → Bool) (first : ℕ → X) (all : Li
   named : (o : Op ℕ T A) → o.names ≡ [] → (inline_entries o ++ read_names (map (λ n. n.text) o.names)) ≡ inline_entries o
   named o e = ap (λ ns. inline_entries o ++ read_names (map (λ n. n.text) ns)) e ∙ append-nil (inline_entries o)
 
+  -- what a tree of the supported form builds
   pub build_plain : (t : Tree ℕ T A) → IsSupported t → build isolated first all t ≡ plain_built t
   build_plain t form = λ i. record {
     own = record {

@@ -37,6 +37,7 @@ module _ {X : Type 0} (marks : List ℕ) (j : ℕ) where
   may_have-push [] rest e = refl
   may_have-push (d ∷ es) rest e = ap (λ b. not (d.0 == j) && b) (may_have-push es rest e) ∙ swap (not (d.0 == j)) (not (e.0 == j)) (may_have marks (es ++ rest) j)
 
+  -- whether an index may stand behind earlier ones, in whichever order these are kept
   pub may_have-onto : (es earlier : List (ℕ × X)) → may_have marks (onto es earlier) j ≡ may_have marks (es ++ earlier) j
   may_have-onto [] earlier = refl
   may_have-onto (e ∷ es) earlier = may_have-onto es (e ∷ earlier) ∙ may_have-push es earlier e

@@ -27,6 +27,7 @@ space_behind _ text = space_at text
 abbrev word_behind : Text → Unit {0} → Text → Outcome (Unit {0})
 word_behind word _ text = followed (text_at word text) space_behind
 
+-- a word behind white space that is answered stands there
 pub spaced_read : (word text taken rest : Text) → spaced_at word text ≡ Read tt taken rest → (m : Text) × literal word (after_space text) m × (after_space m ≡ rest)
 spaced_read word text taken rest e =
     let a = followed_read (space_at text) (word_behind word) tt taken rest e in
@@ -35,6 +36,7 @@ spaced_read word text taken rest e =
     let g : after_space b.middle ≡ rest = cc b.second in
     (b.middle, f ∙ text_read word a.middle b.front b.middle b.first, g)
 
+-- a word that stands behind white space is answered
 pub spaced_found : (word text m : Text) → literal word (after_space text) m → (taken : Text) × (spaced_at word text ≡ Read tt taken (after_space m))
 spaced_found word text m e = (
   front is_whitespace text ++ (word ++ front is_whitespace m),
@@ -135,6 +137,7 @@ module _ {T A : Type 0} (dialects : List (Text × Table)) (types : Texts T) (own
   abbrev pub Content : Option (Written A) → Reading
   Content x = literal (codes "=") ▹ Located x ▹ literal (codes "[") ▹ separated 44 reads.no_word [] ▹ literal (codes "]")
 
+  -- what an entry gives, as it is answered, is what the grammar reads
   pub content_read : (text : Text) (x : Option (Written A)) (taken rest : Text) → content_at attr text ≡ Read x taken rest → Content x (after_space text) rest
   content_read text x taken rest e =
       let a = followed_read (spaced_at (codes "=") text) (content_next attr) x taken rest e in
@@ -160,6 +163,7 @@ module _ {T A : Type 0} (dialects : List (Text × Table)) (types : Texts T) (own
         ),
       )
 
+  -- what the grammar reads of an entry is answered
   pub content_found : (text : Text) (x : Option (Written A)) (rest : Text) → Content x (after_space text) rest → (taken : Text) × (content_at attr text ≡ Read x taken rest)
   content_found text x rest (m, a, (n, b, (k, c, (h, (none, e), d)))) =
       let s = spaced_found (codes "=") text m a in

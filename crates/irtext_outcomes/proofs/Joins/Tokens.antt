@@ -54,12 +54,15 @@ spelled-literal : (whole word rest : Text) → spelled_at whole word (word ++ re
 spelled-literal whole [] rest = refl
 spelled-literal whole (c ∷ word) rest = rw (the_same c) (ap (prefixed (c ∷ [])) (spelled-literal whole word rest))
 
+-- a fixed word that is answered is one that the grammar reads
 pub text_read : (word text taken rest : Text) → text_at word text ≡ Read tt taken rest → literal word text rest
 text_read word text taken rest e = (spelled_read word word text taken rest e).1
 
+-- a fixed word that the grammar reads is answered
 pub text-literal : (word text rest : Text) → literal word text rest → text_at word text ≡ Read tt word rest
 text-literal word text rest e = ap (text_at word) e ∙ spelled-literal word word rest
 
+-- what is taken of a fixed word and what is left make up the text
 pub splits_text : (word : Text) → Splits (text_at word)
 splits_text word text u taken rest e = let k = spelled_read word word text taken rest e in ap (λ t. t ++ rest) k.0 ∙ sym k.1
 
@@ -76,14 +79,17 @@ word_go : (demand : Demand) (text x taken rest : Text) (b : Bool) → begins beg
 word_go demand text x taken rest true f e = ((f, cc e, cc e), cc e)
 word_go demand text x taken rest false f e = absurd (cc e)
 
+-- an identifier that is answered is one that the grammar reads
 pub word_read : (demand : Demand) (text x taken rest : Text) → word_at demand text ≡ Read x taken rest → identifier x text rest × (x ≡ taken)
 unfolding word_at
 word_read demand text x taken rest e = word_go demand text x taken rest (begins begins_word text) refl e
 
+-- an identifier that the grammar reads is answered
 pub word-identifier : (demand : Demand) (text x rest : Text) → identifier x text rest → word_at demand text ≡ Read x x rest
 unfolding word_at
 word-identifier demand text x rest (f, g, h) = rw f (ap₂ (λ w r. Read w w r) (sym g) (sym h))
 
+-- what is taken of an identifier and what is left make up the text
 pub splits_word : (demand : Demand) → Splits (word_at demand)
 splits_word demand text x taken rest e =
     let r = word_read demand text x taken rest e in
@@ -158,9 +164,11 @@ unfolding number_at
 number_reads [] n taken rest e = absurd (cc e)
 number_reads (c ∷ text) n taken rest e = number_go c text n taken rest (is_sign c) refl e
 
+-- a number that is answered is one that the grammar reads
 pub number_read : (text : Text) (n : ℕ) (taken rest : Text) → number_at text ≡ Read n taken rest → number n text rest
 number_read text n taken rest e = (number_reads text n taken rest e).0
 
+-- what is taken of a number and what is left make up the text
 pub splits_number : Splits number_at
 splits_number text n taken rest e = (number_reads text n taken rest e).1
 
@@ -168,6 +176,7 @@ splits_number text n taken rest e = (number_reads text n taken rest e).1
 no_sign : (c : ℕ) → is_ascii_digit c ≡ true → is_sign c ≡ false
 no_sign c e = grind (arith, nat_tests)
 
+-- a number that the grammar reads is answered
 pub number_found : (text : Text) (n : ℕ) (rest : Text) → number n text rest → (taken : Text) × (number_at text ≡ Read n taken rest)
 unfolding number_at
 number_found [] n rest (inl a) = absurd (true≢false (sym a.1.0))
@@ -193,6 +202,7 @@ id_read text i taken rest e =
       ),
     )
 
+-- an id that the grammar reads is answered
 pub id_found : (text : Text) (i : Id) (rest : Text) → reads.id i text rest → (taken : Text) × (id_at text ≡ Read i taken rest)
 unfolding id_at
 id_found text i rest (m, a, (n, b, c)) = (
@@ -201,6 +211,7 @@ id_found text i rest (m, a, (n, b, c)) = (
       (followed-read _ _ tt i (codes ".") n i.name rest (text-literal (codes ".") m n b) (ap (mapped (id_with i.dialect)) (word-identifier _ n i.name rest c))),
 )
 
+-- what is taken of an id and what is left make up the text
 pub splits_id : Splits id_at
 unfolding id_at
 splits_id = splits_followed (word_at _) _ (splits_word _) (λ d. splits_followed (text_at (codes ".")) _ (splits_text (codes ".")) (λ u. splits_mapped (id_with d) identifier_at (splits_word _)))

@@ -76,6 +76,7 @@ memory text = mapped (λ _. None) (text_at (codes "<in-memory>") text)
 abbrev no_source : Text → Outcome (Option (List ℕ))
 no_source text = Missing (Unexpected (first_of text) ASource)
 
+-- where a source begins, its reader does not miss it
 pub source_begins : (text : Text) → begins begins_source text ≡ true → is_missing (source_at text) ≡ false
 source_begins text h = by (begins (the 34) text) refl
   where
@@ -91,19 +92,24 @@ module _ {A : Type 0} (inner : Text → Outcome (Written A)) (more : Text → Ou
   pub is_place : begins begins_source text ≡ true → kind_at inner more attr text ≡ place_at text
   is_place a = rw a refl
 
+  -- where `f` stands and no source, the reader is that of a fused location
   pub is_fused : begins begins_source text ≡ false → begins (the 102) text ≡ true → kind_at inner more attr text ≡ fused_at inner more attr text
   is_fused a b = rw (a, b) refl
 
+  -- where `n` stands, it is that of a named one
   pub is_named : begins begins_source text ≡ false → begins (the 102) text ≡ false → begins (the 110) text ≡ true → kind_at inner more attr text ≡ named_at inner more text
   is_named a b c = rw (a, b, c) refl
 
+  -- where `c` stands, it is that of a call site
   pub is_call_site : begins begins_source text ≡ false → begins (the 102) text ≡ false → begins (the 110) text ≡ false → begins (the 99) text ≡ true → kind_at inner more attr text ≡ call_site_at inner more text
   is_call_site a b c d = rw (a, b, c, d) refl
 
+  -- where `?` stands, it is that of an unknown one
   pub is_unknown : begins begins_source text ≡ false → begins (the 102) text ≡ false → begins (the 110) text ≡ false → begins (the 99) text ≡ false → begins (the 63) text ≡ true
       → kind_at inner more attr text ≡ mapped (λ _. unknown) (text_at (codes "?") text)
   is_unknown a b c d e = rw (a, b, c, d, e) refl
 
+  -- elsewhere no location begins
   pub is_none : begins begins_source text ≡ false → begins (the 102) text ≡ false → begins (the 110) text ≡ false → begins (the 99) text ≡ false → begins (the 63) text ≡ false
       → kind_at inner more attr text ≡ Missing (Unexpected (first_of text) ALocation)
   is_none a b c d e = rw (a, b, c, d, e) refl

@@ -36,6 +36,7 @@ module _ {A : Type 0} (attr : Text → Outcome (AttrView A)) (no_more : LeavesNo
   leaves_attr : (b : ℕ) (text : Text) → length text ≤ b → Leaves b (attr text)
   leaves_attr b text h = leaves_up_to (length text) b (attr text) h (no_more.by text)
 
+  -- metadata leaves no more than its text
   pub leaves_metadata : (b : ℕ) (text : Text) → length text ≤ b → Leaves b (metadata_at attr text)
   leaves_metadata b text h =
       leaves_either b _ _ _ (leaves_followed b _ _ (leaves_text b (codes "<") text h) (λ _ t i. leaves_prefixed b _ _ (leaves_followed b _ _ (leaves_attr b (after_space t) (space_bound b t i)) end))) (leaves_read b None [] text h)
@@ -57,6 +58,7 @@ module _ {A : Type 0} (inner : Text → Outcome (Written A)) (more : Text → Ou
   leaves_row : (text : Text) → length text ≤ b → Leaves b (row_at inner more text)
   leaves_row text h = leaves_row_of (inner text) text h (inner_leaves text h)
 
+  -- further locations of a list leave no more than their text
   pub leaves_more : (text : Text) → length text ≤ b → Leaves b (more_at inner more text)
   leaves_more text h = leaves_either b _ _ _ (leaves_followed b _ _ (leaves_text b (codes ",") text h)
       (λ _ t i. leaves_prefixed b _ _ (leaves_followed b _ _ (inner_leaves (after_space t) (space_bound b t i)) leaves_behind))) (leaves_read b no_location [] text h)
@@ -78,6 +80,7 @@ module _ {A : Type 0} (inner : Text → Outcome (Written A)) (more : Text → Ou
     leaves_call_site text h = leaves_followed b _ _ (leaves_text b (codes "callsite") text h) (λ _ t i. leaves_followed b _ _ (leaves_spaced b (codes "(") t i) (λ _ u j. leaves_followed b _ _ (inner_leaves u j) (λ callee v k.
         leaves_followed b _ _ (leaves_spaced b (codes "at") v k) (λ _ w l. leaves_followed b _ _ (inner_leaves w l) (λ caller x m. leaves_mapped b _ _ (leaves_spaced b (codes ")") x m))))))
 
+    -- a location of any kind leaves no more than its text
     pub leaves_kind : (text : Text) → length text ≤ b → Leaves b (kind_at inner more attr text)
     leaves_kind text h = leaves_either b _ _ _ (leaves_place b text h) (leaves_either b _ _ _ (leaves_fused text h) (leaves_either b _ _ _ (leaves_named text h)
         (leaves_either b _ _ _ (leaves_call_site text h) (leaves_either b _ _ _ (leaves_mapped b _ _ (leaves_text b (codes "?") text h)) (leaves_missing b _)))))

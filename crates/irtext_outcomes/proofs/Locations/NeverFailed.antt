@@ -26,12 +26,15 @@ pub record Fine {X : Type 0} (o : Outcome X) : Type 0 where
   pub spares : Spares NotFailed o
 
 module _ {X : Type 0} where
+  -- what is read is no cause
   pub fine_read : (x : X) (taken rest : Text) → Fine (Read x taken rest)
   fine_read x taken rest = record { spares = tt }
 
+  -- what is missing for such a cause
   pub fine_missing : (cause : Fault) → NotFailed cause → Fine {X = X} (Missing cause)
   fine_missing cause h = record { spares = h }
 
+  -- what is bad for such a cause
   pub fine_bad : (cause : Fault) (upto : Text) → NotFailed cause → Fine {X = X} (Bad cause upto)
   fine_bad cause upto h = record { spares = h }
 
@@ -40,12 +43,15 @@ pub fine_either : {X : Type 0} (test : Bool) (o p : Outcome X) → Fine o → Fi
 fine_either true o p h k = h
 fine_either false o p h k = k
 
+-- the same behind a text that was read
 pub fine_prefixed : {X : Type 0} (t : Text) (o : Outcome X) → Fine o → Fine (prefixed t o)
 fine_prefixed t o h = record { spares = spares-prefixed NotFailed t o h.spares }
 
+-- the same of one reading and then another
 pub fine_followed : {X Y : Type 0} (o : Outcome X) (k : X → Text → Outcome Y) → Fine o → ((x : X) (t : Text) → Fine (k x t)) → Fine (followed o k)
 fine_followed o k h g = record { spares = spares-followed NotFailed o k h.spares (λ x t. (g x t).spares) }
 
+-- the same of what is made of a reading
 pub fine_mapped : {X Y : Type 0} (f : X → Y) (o : Outcome X) → Fine o → Fine (mapped f o)
 fine_mapped f o h = record { spares = spares-mapped NotFailed f o h.spares }
 
@@ -53,9 +59,11 @@ fine_mapped f o h = record { spares = spares-mapped NotFailed f o h.spares }
 pub fine_text : (word text : Text) → Fine (text_at word text)
 fine_text word text = record { spares = spares-text NotFailed unexpected_fine word text }
 
+-- no fixed word's cause says that the stream had failed
 pub fine_spaced : (word text : Text) → Fine (spaced_at word text)
 fine_spaced word text = record { spares = spares-spaced NotFailed unexpected_fine word text }
 
+-- no identifier's does
 pub fine_identifier : (text : Text) → Fine (identifier_at text)
 fine_identifier text = record { spares = spares-word NotFailed unexpected_fine AnIdentifier text }
 
@@ -104,6 +112,7 @@ fine_units (d ∷ left) [] = fine_bad _ _ (unexpected_fine None (Word (codes "\"
 fine_units [] (c ∷ text) = fine_either (c == 34) (Read [] (c ∷ []) text) (unit_before (unit_at (c ∷ text)) (λ left. units_at left text)) (fine_read _ _ _) (fine_before (unit_at (c ∷ text)) (λ left. units_at left text) (fine_unit (c ∷ text)) (λ left. fine_units left text))
 fine_units (d ∷ left) (c ∷ text) = fine_units left text
 
+-- no quoted text's does
 pub fine_quoted : (text : Text) → Fine (quoted_at text)
 unfolding quoted_at
 fine_quoted text = fine_followed _ _ (fine_text (codes "\"") text) (λ _ t. fine_units [] t)
@@ -126,6 +135,7 @@ module _ {X : Type 0} (separator : ℕ) (item : Text → Outcome X) (items : (te
   fine_items (suc n) found text = fine_either (begins (the separator) text) _ _
       (fine_followed _ _ (fine_text (separator ∷ []) text) (λ _ t. fine_prefixed _ _ (fine_followed _ _ (fine_item found (after_space t)) (λ more v. fine_items n more v)))) (fine_read _ _ _)
 
+  -- no list's does, where no item's does
   pub fine_separated : (text : Text) → Fine (separated_at separator item text)
   fine_separated text = fine_or_empty _ text (fine_followed _ _ (fine_item [] text) (λ found t. fine_items (length t) found t))
 
@@ -147,6 +157,7 @@ of_fine text (Read x taken rest) h = fine_read _ _ _
 of_fine text (Missing cause) h = fine_missing cause (not_failed cause (first_of_text cause h.says))
 of_fine text (Bad cause upto) h = fine_bad cause upto (not_failed cause h.says.0)
 
+-- no attribute's does
 pub fine_attr : {A : Type 0} (reading : Text → Outcome A) → Sincere reading → (text : Text) → Fine (attr_at reading text)
 unfolding attr_at
 fine_attr reading s text = fine_either (leads (codes "builtin.given_names") text) _ _ (fine_mapped given_names _ (fine_names text))

@@ -16,6 +16,7 @@ module _ {X : Type 0} where
   pub leaves_up_to : (b c : ℕ) (o : Outcome X) → b ≤ c → Leaves b o → Leaves c o
   leaves_up_to b c o h k = record { by = λ x taken rest e. let j = k.by x taken rest e in omega (arith, h, j) }
 
+  -- what is read leaves no more than this
   pub leaves_read : (b : ℕ) (x : X) (taken rest : Text) → length rest ≤ b → Leaves b (Read x taken rest)
   leaves_read b x taken rest h = record { by = λ y t r e. let f : rest ≡ r = cc e in let j : length rest ≡ length r = ap length f in omega (arith, h, j) }
 
@@ -23,6 +24,7 @@ module _ {X : Type 0} where
   pub leaves_missing : (b : ℕ) (cause : Fault) → Leaves {X = X} b (Missing cause)
   leaves_missing b cause = record { by = λ x taken rest e. absurd (cc e) }
 
+  -- what is bad leaves nothing
   pub leaves_bad : (b : ℕ) (cause : Fault) (upto : Text) → Leaves {X = X} b (Bad cause upto)
   leaves_bad b cause upto = record { by = λ x taken rest e. absurd (cc e) }
 
@@ -31,6 +33,7 @@ module _ {X : Type 0} where
   leaves_either b true o p h k = h
   leaves_either b false o p h k = k
 
+  -- the same behind a text that was read
   pub leaves_prefixed : (b : ℕ) (front : Text) (o : Outcome X) → Leaves b o → Leaves b (prefixed front o)
   leaves_prefixed b front (Read x taken rest) h = leaves_read b x (front ++ taken) rest (h.by x taken rest refl)
   leaves_prefixed b front (Missing cause) h = leaves_bad b cause front
@@ -43,6 +46,7 @@ module _ {X Y : Type 0} where
   leaves_followed b (Missing cause) next h k = leaves_missing b cause
   leaves_followed b (Bad cause upto) next h k = leaves_bad b cause upto
 
+  -- the same of what is made of a reading
   pub leaves_mapped : (b : ℕ) (see : X → Y) (o : Outcome X) → Leaves b o → Leaves b (mapped see o)
   leaves_mapped b see (Read x taken rest) h = leaves_read b (see x) taken rest (h.by x taken rest refl)
   leaves_mapped b see (Missing cause) h = leaves_missing b cause
@@ -77,6 +81,7 @@ after_leaves test text = let j : length (front test text ++ after test text) ≡
 pub leaves_space : (b : ℕ) (text : Text) → length text ≤ b → Leaves b (space_at text)
 leaves_space b text h = let j = after_leaves is_whitespace text in leaves_read b tt (front is_whitespace text) (after is_whitespace text) (omega (arith, h, j))
 
+-- white space passed leaves no more than the text
 pub space_bound : (b : ℕ) (text : Text) → length text ≤ b → length (after_space text) ≤ b
 space_bound b text h = let j = after_leaves is_whitespace text in omega (arith, h, j)
 

@@ -54,6 +54,7 @@ module _ {A X Y : Type 0} {is_known : ℕ → Y → Bool} {see : List (List ℕ)
   pub refused_inside : {fault : ParseFault A} → ((depth : ℕ) → length old.rest ≤ suc depth → MustRead itself replaced (see paths) (outcome depth) old (Err fault) new) → MustReadInside is_known see outcome paths old (Err fault) new
   refused_inside f = record { inside = λ d s. record { known = tt; read = f d s } }
 
+  -- a reader that refuses at every bound that the text meets refuses
   pub refused_within : {fault : ParseFault A} → ((depth : ℕ) → length old.rest ≤ depth → MustRead itself replaced (see paths) (outcome depth) old (Err fault) new) → MustReadWithin is_known see outcome paths old (Err fault) new
   refused_within f = record { within = λ d s. record { known = tt; read = f d s } }
 
@@ -209,6 +210,7 @@ module _ {A : Type 0} (attr : Text → Outcome (AttrView A)) where
       pub enough : length mid.rest ≤ suc depth
       pub passed : Passed alone outcome (λ text. followed (text_at (codes ",") text) (λ u t. mapped (joined_rows (row_over paths found)) (followed (space_at t) (spaced_next depth)))) old mid
 
+    -- where a comma stands, the list goes on there
     pub at_comma : begins (the 44) mid.rest ≡ true → (depth : ℕ) → length old.rest ≤ depth → AtComma (in_front (row_over before first) depth)
     at_comma b depth small =
         let r = so_far.read depth small in
@@ -219,6 +221,7 @@ module _ {A : Type 0} (attr : Text → Outcome (AttrView A)) where
           passed = turned alone _ (comma_first (row_over paths found) d.0 mid.rest b) (subst (λ n. Passed alone (in_front (row_over before first) depth) (in_front (row_over paths found) n) old mid) d.1 r.2);
         }
 
+    -- behind the comma the next location is read
     pub behind_comma : {B : Type 0} {at new : StreamView} {outcome : Text → Outcome (WrittenRow A)} → AtComma outcome → MustRead {A = B} itself replaced (λ u. u) (text_at (codes ",")) mid (Ok tt) at
         → Takes itself replaced (front is_whitespace at.rest) (after is_whitespace at.rest) at new → Behind (row_over paths found) outcome old new
     behind_comma {at = at} {new = new} c h w =
@@ -260,10 +263,12 @@ module _ {A : Type 0} (attr : Text → Outcome (AttrView A)) where
     pub items : fuller.items ≡ found.items ++ (l ∷ [])
 
   module _ {before paths : List (List ℕ)} {found fuller : Vec (Location A) Global} {l : Location A} (p : IsPushed before paths found fuller l) where
+    -- the paths of a list with one more location are known
     pub all_known : known_row (length paths) fuller ≡ true
     all_known = subst (λ ls. row_known (length paths) (in_row (map location_view ls)) ≡ true) (sym p.items)
         (known_pushed (length paths) found.items l (row_stays_known before paths p.kept (in_row (map location_view found.items)) p.known) p.is_known)
 
+    -- a list with one more location, as its text says it
     pub all_over : row_over paths fuller ≡ joined_rows (row_over before found) (location (location_over paths l) no_location)
     all_over = ap (λ ls. row_sourced (path_of paths) (in_row (map location_view ls))) p.items ∙ (row_pushed paths found.items l
         ∙ ap (λ row. joined_rows row (location (location_over paths l) no_location)) (row_written_same before paths p.kept (in_row (map location_view found.items)) p.known))
@@ -302,6 +307,7 @@ module _ {A : Type 0} (attr : Text → Outcome (AttrView A)) where
   row_one depth text (Missing cause) h = absurd (true≢false h)
   row_one depth text (Bad cause upto) h = refl
 
+  -- where a location begins, the reader of a list has come to its first one
   pub row_begins : (depth : ℕ) (old : StreamView) → length old.rest ≤ depth → old.failed ≡ false → begins begins_location old.rest ≡ true
       → Passed alone (row_at (location_within attr depth) (more_within attr depth)) (λ t. followed (location_within attr depth t) (behind_one depth)) old old
   row_begins depth old small fine b =

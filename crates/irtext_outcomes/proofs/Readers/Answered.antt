@@ -99,10 +99,12 @@ module _ {A : Type 0} where
       let p : mid.passed ++ upto ≡ old.passed ++ (taken ++ upto) = ap (λ v. v.passed ++ upto) k.is ∙ append_assoc old.passed taken upto in
       record { because = h.because; place = subst (λ z. IsReported cause z fault.pos) p h.place }
 
+  -- a report behind what was taken is one of the text in front of it, where its causes are
   pub reports_behind : {old mid : StreamView} {fault : ParseFault A} (P Q : Fault → Text → Type 0) (taken rest : Text) → Takes itself replaced taken rest old mid → ((cause : Fault) (upto : Text) → P cause upto → Q cause (taken ++ upto)) → Reports P mid fault → Reports Q old fault
   reports_behind P Q taken rest k f (inl e) = inl e
   reports_behind P Q taken rest k f (inr h) = inr (h.0, taken ++ h.1, f h.0 h.1 h.2, reported_behind h.0 taken rest h.1 k h.3)
 
+  -- a report of some causes is one of more causes
   pub reports_as : {old : StreamView} {fault : ParseFault A} (P Q : Fault → Text → Type 0) → ((cause : Fault) (upto : Text) → P cause upto → Q cause upto) → Reports P old fault → Reports Q old fault
   reports_as P Q f (inl e) = inl e
   reports_as P Q f (inr h) = inr (h.0, h.1, f h.0 h.1 h.2, h.3)
@@ -112,6 +114,7 @@ module _ {A : Type 0} where
     pub cause : fault.cause ≡ first.cause
     pub at : (passed : Text) → IsAt first.pos.line first.pos.column passed → IsReported (fault_of first.cause) passed fault.pos
 
+  -- a fault is reported as it was found
   pub reports : {old : StreamView} {first fault : ParseFault A} (P : Fault → Text → Type 0) → ReportOf fault first → Faults P old first → Reports P old fault
   reports P k (inl e) = inl (ap fault_of k.cause ∙ e)
   reports {old = old} {fault = fault} P k (inr h) =

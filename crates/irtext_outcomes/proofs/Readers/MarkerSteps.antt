@@ -30,9 +30,11 @@ module _ {S : Type 0} (view : S → StreamView) (at : S → StreamView → S) wh
     pub so_far : starts_with word (view old).rest ≡ starts_with left (view now).rest
 
   module _ (view_at : (s : S) (v : StreamView) → view (at s v) ≡ v) (at_view : (s : S) → at s (view s) ≡ s) (at_at : (s : S) (v w : StreamView) → at (at s v) w ≡ at s w) where
+    -- nothing of the word was taken yet
     pub along_start : (word : Text) (old : S) → Along word old old [] word
     along_start word old = record { takes = takes_none view at view_at at_view at_at old; whole = refl; so_far = refl }
 
+    -- one more character of the word was taken
     pub along_more : (word : Text) (old now next : S) (taken left : Text) (c : ℕ) → Along word old now taken (c ∷ left) → begins (the c) (view now).rest ≡ true → next ≡ at now (advanced (view now)) → Along word old next (taken ++ (c ∷ [])) left
     along_more word old now next taken left c s e n =
         let f = begins_the c (view now).rest e in

@@ -20,21 +20,25 @@ Spares P (Missing cause) = P cause
 Spares P (Bad cause upto) = P cause
 
 module _ (P : Fault → Type 0) where
+  -- what never gives a cause does not behind a text that was read
   pub spares-prefixed : {X : Type 0} (t : Text) (o : Outcome X) → Spares P o → Spares P (prefixed t o)
   spares-prefixed t (Read x taken rest) h = tt
   spares-prefixed t (Missing cause) h = h
   spares-prefixed t (Bad cause upto) h = h
 
+  -- nor does one reading and then another, where neither does
   pub spares-followed : {X Y : Type 0} (o : Outcome X) (k : X → Text → Outcome Y) → Spares P o → ((x : X) (t : Text) → Spares P (k x t)) → Spares P (followed o k)
   spares-followed (Read x taken rest) k h g = spares-prefixed taken (k x rest) (g x rest)
   spares-followed (Missing cause) k h g = h
   spares-followed (Bad cause upto) k h g = h
 
+  -- nor does what is made of a reading
   pub spares-mapped : {X Y : Type 0} (g : X → Y) (o : Outcome X) → Spares P o → Spares P (mapped g o)
   spares-mapped g (Read x taken rest) h = tt
   spares-mapped g (Missing cause) h = h
   spares-mapped g (Bad cause upto) h = h
 
+  -- nor does a reading behind a lead
   pub spares-behind : {X : Type 0} (lead : Text) (o : Outcome X) → Spares P o → Spares P (behind lead o)
   spares-behind [] o h = h
   spares-behind (c ∷ lead) o h = spares-prefixed (c ∷ lead) o h
@@ -49,9 +53,11 @@ module _ (P : Fault → Type 0) where
           | false ↦ unexpected (Some d) (Word whole)
         ]
 
+    -- the reader of a fixed word never gives the cause
     pub spares-text : (word text : Text) → Spares P (text_at word text)
     spares-text word text = spares-spelled word word text
 
+    -- nor does that of an identifier
     pub spares-word : (demand : Demand) (text : Text) → Spares P (word_at demand text)
     unfolding word_at
     spares-word demand text =
@@ -60,6 +66,7 @@ module _ (P : Fault → Type 0) where
           | false ↦ unexpected (first_of text) demand
         ]
 
+    -- nor does that of an id
     pub spares-id : (text : Text) → Spares P (id_at text)
     unfolding id_at
     spares-id text =
@@ -67,13 +74,16 @@ module _ (P : Fault → Type 0) where
         spares-followed (text_at (codes ".") t) (λ dot u. mapped (id_with dialect) (identifier_at u)) (spares-text (codes ".") t) (λ dot u.
         spares-mapped (id_with dialect) (identifier_at u) (spares-word AnIdentifier u)))
 
+    -- nor does that of a symbol's name
     pub spares-symbol : (text : Text) → Spares P (symbol_at text)
     spares-symbol text = spares-followed (text_at (codes "@") text) (λ _ t. identifier_at t) (spares-text (codes "@") text) (λ _ t. spares-word AnIdentifier t)
 
+    -- nor does that of braces
     pub spares-braces : (text : Text) → Spares P (braces_at text)
     spares-braces text = spares-followed (text_at (codes "{") text) (λ _ t. followed (space_at t) (λ _ u. text_at (codes "}") u)) (spares-text (codes "{") text) (λ _ t.
         spares-followed (space_at t) (λ _ u. text_at (codes "}") u) tt (λ _ u. spares-text (codes "}") u))
 
+    -- nor does that of a word behind white space
     pub spares-spaced : (word text : Text) → Spares P (spaced_at word text)
     spares-spaced word text = spares-followed (space_at text) (λ _ t. followed (text_at word t) (λ _ u. space_at u)) tt (λ _ t. spares-followed (text_at word t) (λ _ u. space_at u) (spares-text word t) (λ _ u. tt))
 
@@ -115,9 +125,11 @@ module _ (P : Fault → Type 0) where
             | false ↦ spares-no_integer (sign_of text) (after_sign text)
           ]
 
+      -- nor does that of an index
       pub spares-index : (text : Text) → Spares P (index_at text)
       spares-index text = spares-followed (text_at (codes "!") text) (λ _ t. number_at t) (spares-text (codes "!") text) (λ _ t. spares-number t)
 
+      -- nor does that of a mark
       pub spares-mark : (text : Text) → Spares P (mark_at text)
       spares-mark text = elim (begins (the 33) text) as (λ b. Spares P (cond b (mapped Some (index_at text)) (Read None [] text))) [
         | true ↦ spares-mapped Some (index_at text) (spares-index text)
@@ -128,6 +140,7 @@ module _ (P : Fault → Type 0) where
       spares-labelled word text = spares-followed (text_at word text) (λ _ t. followed (spaced_at (codes ":") t) (λ _ u. integer_at u)) (spares-text word text) (λ _ t.
           spares-followed (spaced_at (codes ":") t) (λ _ u. integer_at u) (spares-spaced (codes ":") t) (λ _ u. spares-integer u))
 
+      -- nor does that of a line and a column
       pub spares-position : (text : Text) → Spares P (position_at text)
       spares-position text = spares-followed (labelled_at (codes "line") text) _ (spares-labelled (codes "line") text) (λ line t.
           spares-followed (spaced_at (codes ",") t) _ (spares-spaced (codes ",") t) (λ _ u. spares-mapped _ (labelled_at (codes "column") u) (spares-labelled (codes "column") u)))
@@ -142,6 +155,7 @@ module _ (P : Fault → Type 0) where
               | false ↦ tt
             ]
 
+        -- nor does that of what an entry gives
         pub spares-content : (text : Text) → Spares P (content_at attr text)
         spares-content text = spares-followed (spaced_at (codes "=") text) _ (spares-spaced (codes "=") text) (λ _ t. spares-followed (entry_location_at attr t) _ (spares-entry_location t) (λ l u.
             spares-followed (text_at (codes "[") u) _ (spares-text (codes "[") u) (λ _ v.
@@ -151,8 +165,10 @@ module _ (P : Fault → Type 0) where
 abbrev pub NotFailed : Fault → Type 0
 NotFailed cause = cause ≡ Failed → ⊥
 
+-- that something else was expected is another cause
 pub unexpected_fine : (found : Option ℕ) (demand : Demand) → NotFailed (Unexpected found demand)
 unexpected_fine found demand = λ e. absurd (cc)
 
+-- that a number is out of range is another cause
 pub range_fine : (text : Text) → NotFailed (NumberRange text)
 range_fine text = λ e. absurd (cc)

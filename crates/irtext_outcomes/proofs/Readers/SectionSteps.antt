@@ -118,6 +118,7 @@ module _ {A : Type 0} where
     all_stay_known [] h = tt
     all_stay_known (e ∷ es) h = (given_known e.1 h.0, all_stay_known es h.1)
 
+    -- entries say the same over more paths, where their own are known
     pub all_same : (es : List (ℕ × Option (Location A))) → AllKnown (length p) es → entries_over q es ≡ entries_over p es
     all_same [] h = refl
     all_same (e ∷ es) h = ap₂ (λ l xs. (e.0, l) ∷ xs) (given_same e.1 h.0) (all_same es h.1)

@@ -36,6 +36,7 @@ word_back n f w e = identifier_at-identifier n (n ++ f) f (identifier_begins n f
 word_no_question : (c : ℕ) → begins_word c ≡ true → the 63 c ≡ false
 word_no_question c e = grind (arith, nat_tests)
 
+-- where a word begins, no `?` stands
 pub no_question : (text : Text) → begins begins_word text ≡ true → begins (the 63) text ≡ false
 no_question [] e = refl
 no_question (c ∷ text) e = word_no_question c e
@@ -121,6 +122,7 @@ module _ (rest : Text) where
         ap (λ z. prefixed (codes "builtin.identifier") (prefixed spaces z)) (ap identifier_at (word_tight (n ++ rest) (identifier_begins n rest h)) ∙ word_back n rest h e),
       )
 
+-- what is found of a text was read of it
 pub read_there : {X : Type 0} (o : Outcome X) (x : X) (left : Text) → standing o ≡ found x left → (taken : Text) × (o ≡ Read x taken left)
 read_there (Read y t r) x left e =
     let p : y ≡ x = cc in

@@ -30,6 +30,7 @@ scalars_from : (ts : List Text) → Each AreScalars ts → AreScalars (joined_fr
 scalars_from [] h = refl
 scalars_from (t ∷ ts) h = scalars_more comma (t ++ joined_from comma ts) refl (scalars_more t (joined_from comma ts) h.0 (scalars_from ts h.1))
 
+-- texts of characters, joined by commas, are one
 pub scalars_joined : (ts : List Text) → Each AreScalars ts → AreScalars (joined comma ts)
 scalars_joined [] h = refl
 scalars_joined (t ∷ ts) h = scalars_more t (joined_from comma ts) h.0 (scalars_from ts h.1)
@@ -42,6 +43,7 @@ given : (n : Option Text) → IsGiven n → AreScalars (or_question n)
 given None h = refl
 given (Some n) h = scalars_word n h
 
+-- given names are texts of characters
 pub all_given : (ns : List (Option Text)) → Each IsGiven ns → Each AreScalars (map or_question ns)
 all_given [] h = tt
 all_given (n ∷ ns) h = (given n h.0, all_given ns h.1)

@@ -14,6 +14,7 @@ use irtext_base::base::{AttrObj, Identifier};
 use irtext_base::parsable::{CharStream, ParseResult, Place, TextStream};
 use irtext_base::result::Cause;
 use irtext_base::text::AttrText;
+use irtext_read::irfmt::demanded::{spaced_text_demanded, text_demanded};
 use irtext_read::irfmt::faults::{committed, refuse, refuse_at};
 use irtext_read::irfmt::parsers::{attr_parse, identifier_parse, list_parser, skip_white_space};
 

@@ -2,7 +2,7 @@ use Rattle.std.proofs.Common.{◌≡◌, ◌++◌, ◌∙◌, [], cond, sym, ap,
 use Rattle.std.proofs.lemmas.List.{append-nil}
 use Rattle.irtext_print.proofs.Printers.PieceTexts.{word_appended}
 use Rattle.irtext_print.proofs.ir.print.pieces.fmt_word.Goals as goal
-use Rattle.irtext_print.proofs.ir.print.pieces.fmt_word.Goals.{then-not-begins_hugging+in_ok-push_str, else-not-word_joins_left}
+use Rattle.irtext_print.proofs.ir.print.pieces.fmt_word.Goals.{then-not-word_joins_left+in_ok-push_str, else-not-word_joins_left}
 
 pub returns : goal.returns
 returns c =
