@@ -8,7 +8,7 @@ use Rattle.irtext_read.specs.AttrTexts.{attr_at}
 use Rattle.pliron_text.specs.LocationReading.{metadata_at}
 use Rattle.pliron_text.specs.LocationText.{space_at}
 use Rattle.pliron_text.proofs.Rooted.{alone}
-use Rattle.pliron_text.proofs.Steps.{starts, more, spaced, refuses_seen, last_seen}
+use Rattle.pliron_text.proofs.Steps.{starts, more, spaced, refuses, refuses_seen, last_seen}
 use Rattle.pliron_text.proofs.location.nested.metadata_read.Goals as goal
 
 -- what stands behind the attribute
@@ -18,6 +18,11 @@ behind a text = followed (space_at text) (λ _ t. mapped (λ _. Some a) (text_at
 -- an attribute where `<` stands
 abbrev between : {A : Type 0} → (Text → Outcome (AttrView A)) → Text → Outcome (Option (AttrView A))
 between attr text = followed (text_at (codes "<") text) (λ _ t. followed (space_at t) (λ _ u. followed (attr u) behind))
+
+pub returns-in_err-attr : goal.returns-in_err-attr
+returns-in_err-attr g c =
+    let p = err_from_is_err_and c.from_residual-in_err-attr.result c.from_residual-in_err-attr.ensures.1 in
+    rw (p.1, p.2) (refuses alone behind (spaced alone (λ _ t. followed (attr_at g.A.IrText.reading t) behind) (more alone _ (starts alone (metadata_at (attr_at g.A.IrText.reading)) (between (attr_at g.A.IrText.reading)) c.args.stream.now (sym c.has_failed.ensures ∙ c.if-has_failed.false) (rw (sym c.next_is.ensures ∙ c.if-not-next_is.false) refl)) c.in_ok-text_demanded.ensures) c.skip_white_space.ensures) c.in_err-attr.ensures)
 
 pub returns-in_err-text_demanded-2 : goal.returns-in_err-text_demanded-2
 returns-in_err-text_demanded-2 g c =
