@@ -75,19 +75,19 @@ module _ {S X Y V W A : Type 0} (l : Lens S) (g : X → V) (see : Y → X) (sees
 
 module _ {A : Type 0} (reading : Text → Outcome A) (text : Text) where
   -- where the word of given names leads, they are read
-  pub names_lead : leads (codes "builtin.given_names") text ≡ true → attr_at reading text ≡ mapped given_names (given_names_at text)
+  pub names_lead : true ≡ leads (codes "builtin.given_names") text → attr_at reading text ≡ mapped given_names (given_names_at text)
   unfolding attr_at
-  names_lead e = rw e refl
+  names_lead e = rw (← e) refl
 
   -- where the word of an identifier leads, that is read
-  pub ident_leads : leads (codes "builtin.given_names") text ≡ false → leads (codes "builtin.identifier") text ≡ true → attr_at reading text ≡ mapped ident (ident_at text)
+  pub ident_leads : false ≡ leads (codes "builtin.given_names") text → true ≡ leads (codes "builtin.identifier") text → attr_at reading text ≡ mapped ident (ident_at text)
   unfolding attr_at
-  ident_leads e d = rw (e, d) refl
+  ident_leads e d = rw (← e, ← d) refl
 
   -- and else the caller's own
-  pub own_leads : leads (codes "builtin.given_names") text ≡ false → leads (codes "builtin.identifier") text ≡ false → attr_at reading text ≡ mapped own (reading text)
+  pub own_leads : false ≡ leads (codes "builtin.given_names") text → false ≡ leads (codes "builtin.identifier") text → attr_at reading text ≡ mapped own (reading text)
   unfolding attr_at
-  own_leads e d = rw (e, d) refl
+  own_leads e d = rw (← e, ← d) refl
 
 module _ {S : Type 0} (l : Lens S) where
   -- the dotted word was passed
