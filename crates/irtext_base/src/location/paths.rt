@@ -29,7 +29,8 @@ impl Model for Paths {
     ghost view = { λ p. path_texts p.texts };
 }
 
-/// What has paths of files, over attributes A, as a context has.
+/// What has paths of files, over attributes A, as a context has. Calls that need no more of a context ask for this, so that they
+/// stand in the crate of their types; whoever writes the paths by it may take some away, and then their keys name nothing.
 pub trait HasPaths<A> {
     ghost use Rattle.irtext_base.specs.PathLends.{LendsPaths};
 
