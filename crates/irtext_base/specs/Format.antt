@@ -139,6 +139,10 @@ c5 ds = ascend 0 (region_places ds) && nat_lt (count is_regions ds) 2 && none_be
 abbrev pub given_names_key : Text
 given_names_key = codes "builtin_given_names"
 
+-- the key under which a section gives a block's label
+abbrev pub block_label_key : Text
+block_label_key = codes "builtin_block_label"
+
 -- the key of a symbol's name
 abbrev pub sym_name_key : Text
 sym_name_key = codes "builtin_sym_name"

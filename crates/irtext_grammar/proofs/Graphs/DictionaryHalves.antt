@@ -2,8 +2,8 @@
 -- that the names that were read may stand under the reserved key.
 use Rattle.std.proofs.Common.{◌≡◌, Bool, true, false, cond, not, ◌||◌, List, [], ◌∷◌, ◌++◌, map, filter, Option, Some, None, refl, sym, ap, ◌∙◌, ◌⊎◌, inl, inr, subst, true≢false, ◌&&◌, ap₂}
 use Rattle.irtext_base.specs.Text.{Text}
-use Rattle.irtext_base.specs.Format.{same_text, given_names_key}
-use Rattle.irtext_grammar.specs.Grammar.Tree.{block_label_key, Attribute, given_names, ident, own}
+use Rattle.irtext_base.specs.Format.{same_text, given_names_key, block_label_key}
+use Rattle.irtext_grammar.specs.Grammar.Tree.{Attribute, given_names, ident, own}
 use Rattle.irtext_grammar.specs.Graphs.Graph.{Printing, outlined, is_marked, lookup, label_entry}
 use Rattle.irtext_grammar.specs.Names.Acts.{may_hold, is_given, block_may_hold}
 use Rattle.irtext_grammar.specs.Graphs.Build.{put_all, read_names, with_content, labelled, but_label, label_among}

@@ -5,10 +5,6 @@ use Rattle.irtext_base.specs.Format as format
 use Rattle.irtext_base.specs.Format.{Id}
 use Rattle.irtext_grammar.specs.Grammar.Forest.{Root}
 
--- the key under which a section gives a block's label
-abbrev pub block_label_key : Text
-block_label_key = codes "builtin_block_label"
-
 -- a name, a key, a label or a mark's place, where it stands
 pub record Name (P : Type 0) : Type 0 where
   pub place : P

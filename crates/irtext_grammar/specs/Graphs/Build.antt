@@ -1,8 +1,7 @@
 -- For callers: the graph that a tree and its section build: the same forest, in which operands and successors are places in the tree.
 use Rattle.std.specs.Prelude.{ℕ, suc, Bool, cond, ◌==◌, List, [], ◌∷◌, ◌++◌, map, flat_map, Option, Some, None, option_and_then, option_map, filter, not, ⊤}
 use Rattle.irtext_base.specs.Text.{Text}
-use Rattle.irtext_base.specs.Format.{same_text, given_names_key, sym_name_key, Id}
-use Rattle.irtext_grammar.specs.Grammar.Tree.{block_label_key}
+use Rattle.irtext_base.specs.Format.{same_text, given_names_key, block_label_key, sym_name_key, Id}
 use Rattle.irtext_grammar.specs.Grammar.Forest.{Regions, no_regions, region, Blocks, no_blocks, block, Operations, no_operations, operation, Root}
 use Rattle.irtext_grammar.specs.Grammar.Tree as tree
 use Rattle.irtext_grammar.specs.Grammar.Tree.{Name, Mark, Attribute, given_names, ident, Piece, Part, Op, Head, Brace, Tree, parts_of, views, operand_names, successor_labels}

@@ -4,8 +4,7 @@ use Rattle.std.specs.Prelude.{ℕ, zero, suc, ◌+◌, Bool, true, false, cond, 
 use Rattle.irtext_base.specs.Text.{Text}
 use Rattle.irtext_grammar.specs.Grammar.Forest.{Regions, no_regions, region, Blocks, no_blocks, block, Operations, no_operations, operation, Root}
 use Rattle.irtext_base.specs.Format as format
-use Rattle.irtext_base.specs.Format.{Format, same_text, has, keys, operand_places, successor_places, is_header, sym_name_key, count, Id}
-use Rattle.irtext_grammar.specs.Grammar.Tree.{block_label_key}
+use Rattle.irtext_base.specs.Format.{Format, same_text, has, keys, operand_places, successor_places, is_header, block_label_key, sym_name_key, count, Id}
 use Rattle.irtext_grammar.specs.Grammar.Tree as tree
 use Rattle.irtext_grammar.specs.Grammar.Tree.{Name, Mark, Attribute, given_names, ident, own, Piece, Part, Body, Op, Head, Brace, shown, elided, Tree}
 use Rattle.irtext_grammar.specs.Spelling.PrintedNames.{value_name, block_name}

@@ -1,8 +1,7 @@
 -- For callers: what the reading of a tree and of its section does with names: an act for each, in reading order.
 use Rattle.std.specs.Prelude.{ℕ, suc, Bool, true, false, cond, not, ◌&&◌, ◌||◌, ◌==◌, List, [], ◌∷◌, ◌++◌, length, map, flat_map, Option, Some, None, is_some, option_map, option_to_list}
 use Rattle.irtext_base.specs.Text.{Text}
-use Rattle.irtext_base.specs.Format.{same_text, given_names_key, Id}
-use Rattle.irtext_grammar.specs.Grammar.Tree.{block_label_key}
+use Rattle.irtext_base.specs.Format.{same_text, given_names_key, block_label_key, Id}
 use Rattle.irtext_grammar.specs.Grammar.Forest.{Regions, no_regions, region, Blocks, no_blocks, block, Operations, no_operations, operation}
 use Rattle.irtext_grammar.specs.Grammar.Tree as tree
 use Rattle.irtext_grammar.specs.Grammar.Tree.{Name, Mark, Attribute, given_names, ident, Piece, Part, Body, custom, canonical, Op, Head, Brace, shown, elided, Tree, parts_of, views, in_order}
