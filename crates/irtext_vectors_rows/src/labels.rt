@@ -10,7 +10,7 @@ ghost use Rattle.irtext_vectors_rows.specs.Trees.{at, marked};
 ghost use Rattle.irtext_grammar.specs.Names.Acts.{failures_of};
 ghost use Rattle.irtext_grammar.specs.Graphs.Build.{build};
 ghost use Rattle.irtext_grammar.specs.Graphs.Closed.{Closed, Fit};
-ghost use Rattle.irtext_grammar.specs.Graphs.Fillable.{GraphKeepsKeys};
+ghost use Rattle.irtext_grammar.specs.Graphs.ReservedKeys.{GraphKeepsKeys};
 ghost use Rattle.irtext_grammar.specs.Grammar.Forest.{no_operations};
 ghost use Rattle.irtext_grammar.specs.Grammar.Section.{direct, of_once, reference};
 ghost use Rattle.irtext_grammar.specs.Graphs.Regained.{Named};
@@ -19,7 +19,7 @@ ghost use Rattle.irtext_grammar.specs.Graphs.Same.{SmallGraph, stood};
 ghost use Rattle.irtext_grammar.specs.Spelling.Section.{text};
 ghost use Rattle.irtext_grammar.specs.Graphs.StandsFor.{Distinct, StandsFor};
 ghost use Rattle.irtext_grammar.specs.Grammar.Tree.{ident, own};
-ghost use Rattle.irtext_grammar.specs.Graphs.Wordy.{Wordy};
+ghost use Rattle.irtext_grammar.specs.Graphs.Identifiers.{HasIdentifiers};
 ghost use Rattle.irtext_grammar.specs.Spelling.SectionEntries.{SmallSection};
 
 /// A labelled block is marked, also where its location is unknown and no attribute is outlined; one without a label is not.
@@ -67,7 +67,7 @@ pub fn refused_labels()
 
 /// A root that meets every premise of the law that names and labels come back, and stands for what its text builds.
 pub fn premises_of_labels()
-    ensures premises { Wordy a_and_b two_branches × Fit a_and_b isolated two_branches × SmallGraph a_and_b isolated two_branches × GraphKeepsKeys two_branches
+    ensures premises { HasIdentifiers a_and_b two_branches × Fit a_and_b isolated two_branches × SmallGraph a_and_b isolated two_branches × GraphKeepsKeys two_branches
         × GraphHeld up_to_bracket text_locations two_branches × Closed a_and_b isolated two_branches × SmallSection a_and_b two_branches × Named a_and_b two_branches }
     ensures stands { (failures_of {X = List ℕ} isolated branches_as_read [] ≡ []) × StandsFor (stood a_and_b isolated two_branches) (build {X = List ℕ} isolated (λ (place : ℕ). codes "first") [] branches_as_read) × Distinct a_and_b isolated two_branches }
 {}

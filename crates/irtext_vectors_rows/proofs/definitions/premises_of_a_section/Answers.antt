@@ -10,7 +10,7 @@ use Rattle.irtext_grammar.specs.Graphs.Closed.{Fit}
 use Rattle.irtext_grammar.specs.Graphs.ReservedKeys.{GraphKeepsKeys}
 use Rattle.irtext_grammar.specs.Graphs.RoundTrip.{GraphHeld, LocationReads}
 use Rattle.irtext_grammar.specs.Graphs.Same.{SmallGraph}
-use Rattle.irtext_grammar.specs.Graphs.Wordy.{Wordy}
+use Rattle.irtext_grammar.specs.Graphs.Identifiers.{HasIdentifiers}
 use Rattle.irtext_vectors_rows.specs.Demo.{isolated, plain_printing}
 use Rattle.irtext_vectors_rows.specs.Graphs.{on_line_one}
 use Rattle.irtext_vectors_rows.specs.Located.{note_on_line_one, text_locations, up_to_bracket}

@@ -3,7 +3,7 @@ use Rattle.std.proofs.Common.{arith}
 use Rattle.irtext_grammar.specs.Graphs.Closed.{Fit}
 use Rattle.irtext_grammar.specs.Graphs.ReservedKeys.{GraphKeepsKeys}
 use Rattle.irtext_grammar.specs.Graphs.Same.{SmallGraph}
-use Rattle.irtext_grammar.specs.Graphs.Wordy.{Wordy}
+use Rattle.irtext_grammar.specs.Graphs.Identifiers.{HasIdentifiers}
 use Rattle.irtext_vectors_rows.specs.Demo.{isolated, plain_printing}
 use Rattle.irtext_vectors_rows.specs.Graphs.{use_before_definition}
 use Rattle.irtext_vectors_rows.proofs.definitions.premises_of_the_round_trip.Goals as goal

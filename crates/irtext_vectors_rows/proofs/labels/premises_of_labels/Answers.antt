@@ -8,12 +8,12 @@ use Rattle.irtext_base.specs.Reading.{the}
 use Rattle.irtext_base.specs.Text.{begins, Text}
 use Rattle.irtext_base.specs.Format.{same_text}
 use Rattle.irtext_grammar.specs.Graphs.Closed.{Fit}
-use Rattle.irtext_grammar.specs.Graphs.Fillable.{GraphKeepsKeys}
-use Rattle.irtext_grammar.specs.Spelling.Fine.{IsWord}
+use Rattle.irtext_grammar.specs.Graphs.ReservedKeys.{GraphKeepsKeys}
+use Rattle.irtext_grammar.specs.Spelling.Spellable.{IsIdentifier}
 use Rattle.irtext_grammar.specs.Graphs.RoundTrip.{GraphHeld, LocationReads}
 use Rattle.irtext_grammar.specs.Graphs.Same.{SmallGraph}
 use Rattle.irtext_grammar.specs.Graphs.Regained.{Named}
-use Rattle.irtext_grammar.specs.Graphs.Wordy.{Wordy}
+use Rattle.irtext_grammar.specs.Graphs.Identifiers.{HasIdentifiers}
 use Rattle.irtext_vectors_rows.specs.Labels.Demo.{isolated}
 use Rattle.irtext_vectors_rows.specs.Located.{text_locations, up_to_bracket}
 use Rattle.irtext_vectors_rows.specs.Graphs.{two_branches, on_line_one}
@@ -65,14 +65,14 @@ small = (
 none_some : {X : Type 0} (x : X) → None ≡ Some x → ⊥
 none_some x e = cc
 
-word_of : (x n : Text) → Some x ≡ Some n → IsWord x → IsWord n
-word_of x n e h = let q : x ≡ n = cc in subst IsWord q h
+word_of : (x n : Text) → Some x ≡ Some n → IsIdentifier x → IsIdentifier n
+word_of x n e h = let q : x ≡ n = cc in subst IsIdentifier q h
 
-label_word : (b : Bool) (n : Text) → cond b (Some (codes "a")) (Some (codes "b")) ≡ Some n → IsWord n
+label_word : (b : Bool) (n : Text) → cond b (Some (codes "a")) (Some (codes "b")) ≡ Some n → IsIdentifier n
 label_word true n e = word_of (codes "a") n e refl
 label_word false n e = word_of (codes "b") n e refl
 
-wordy : Wordy a_and_b two_branches
+wordy : HasIdentifiers a_and_b two_branches
 wordy = record {
   given = λ v n e. absurd (none_some n e);
   label = λ b n e. label_word (same_text (b.0 ∷ []) (1 ∷ [])) n e;

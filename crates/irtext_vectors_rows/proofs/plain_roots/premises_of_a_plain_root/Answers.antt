@@ -1,6 +1,6 @@
 use Rattle.std.specs.Prelude.{◌≡◌, refl, [], ◌∷◌, codes, Some, None}
 use Rattle.irtext_base.specs.Format as format
-use Rattle.pliron_text.specs.Promises.PlainRoot.{GivesWords, PlainRoot}
+use Rattle.pliron_text.specs.Promises.PlainRoot.{GivesIdentifiers, PlainRoot}
 use Rattle.irtext_vectors_rows.specs.PlainRoots.{all_isolated, by_plain_formats, two_regions}
 use Rattle.irtext_vectors_rows.proofs.plain_roots.premises_of_a_plain_root.Goals as goal
 
