@@ -4,8 +4,9 @@ use Rattle.std.specs.Str.{bytes_eq}
 use Rattle.irtext_base.specs.Text.{Text}
 use Rattle.irtext_base.specs.Faults.{AnAttribute}
 use Rattle.irtext_base.specs.Quoted.{quoted}
-use Rattle.irtext_base.specs.Answers.{Outcome, mapped, followed}
+use Rattle.irtext_base.specs.Answers.{Outcome}
 use Rattle.irtext_read.specs.QuotedTexts.{quoted_at}
+use Rattle.irtext_read.specs.Infix.{◌▶◌, ◌⇒◌}
 use Rattle.irtext_types.specs.ScalarTexts.{ScalarText, scalar_text}
 use Rattle.irtext_types.specs.Words.{dotted_at, behind_space}
 use Rattle.irtext_types.specs.FunctionAttributes.{function_text, function_at}
@@ -29,18 +30,18 @@ attr_text (attr.Debug text) = codes "test.dbg " ++ quoted text.characters
 
 -- a quoted text, as an attribute holds it
 abbrev pub characters_at : Text → Outcome ScalarText
-characters_at text = mapped scalar_text (quoted_at text)
+characters_at = quoted_at ⇒ scalar_text
 
 -- what stands behind the word of an attribute
 abbrev pub attr_behind : AttrWord → Text → Outcome DemoAttr
-attr_behind word.Integer text = mapped attr.Integer (integer_attr_at text)
-attr_behind word.String text = mapped attr.String (behind_space characters_at text)
-attr_behind word.Function text = mapped attr.Function (function_at text)
-attr_behind word.Debug text = mapped attr.Debug (behind_space characters_at text)
+attr_behind word.Integer = integer_attr_at ⇒ attr.Integer
+attr_behind word.String = behind_space characters_at ⇒ attr.String
+attr_behind word.Function = function_at ⇒ attr.Function
+attr_behind word.Debug = behind_space characters_at ⇒ attr.Debug
 
 -- an attribute's word, and what stands behind it
 abbrev pub attr_at : Text → Outcome DemoAttr
-attr_at text = followed (dotted_at attr_word (codes "Unregistered attribute ") AnAttribute text) attr_behind
+attr_at = dotted_at attr_word (codes "Unregistered attribute ") AnAttribute ▶ attr_behind
 
 -- only notes are outlined, and printed once
 abbrev pub is_debug : DemoAttr → Bool

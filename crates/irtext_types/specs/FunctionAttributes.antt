@@ -1,8 +1,9 @@
 -- For callers: the texts of the types of functions.
 use Rattle.std.specs.Prelude.{List, ◌++◌, codes}
 use Rattle.irtext_base.specs.Text.{Text}
-use Rattle.irtext_base.specs.Answers.{Outcome, mapped, followed}
-use Rattle.irtext_read.specs.Tokens.{text_at}
+use Rattle.irtext_base.specs.Answers.{Outcome}
+use Rattle.irtext_read.specs.Tokens.{word}
+use Rattle.irtext_read.specs.Infix.{◌▷◌, ◌▶◌, ◌⇒◌}
 use Rattle.irtext_types.specs.Words.{behind_space}
 use Rattle.irtext_types.specs.TypeLists.{types_text, types_at}
 use Rattle.irtext_types.specs.declared.types.DemoType.{DemoType}
@@ -18,20 +19,20 @@ function_with inputs results = record { inputs = inputs; results = results }
 
 -- `>` behind what a function takes and gives
 abbrev pub end_at : List DemoType → List DemoType → Text → Outcome FunctionAttr
-end_at inputs results text = mapped (λ u. function_with inputs results) (behind_space (text_at (codes ">")) text)
+end_at inputs results = behind_space (word (codes ">")) ⇒ λ _. function_with inputs results
 
 -- what a function gives, and `>`
 abbrev pub results_at : List DemoType → Text → Outcome FunctionAttr
-results_at inputs text = followed (types_at text) (λ results text. end_at inputs results text)
+results_at inputs = types_at ▶ end_at inputs
 
 -- `->`, what a function gives, and `>`
 abbrev pub arrow_at : List DemoType → Text → Outcome FunctionAttr
-arrow_at inputs text = followed (behind_space (text_at (codes "->")) text) (λ u text. results_at inputs text)
+arrow_at inputs = behind_space (word (codes "->")) ▷ results_at inputs
 
 -- what a function takes, `->`, what it gives, and `>`
 abbrev pub inputs_at : Text → Outcome FunctionAttr
-inputs_at text = followed (types_at text) (λ inputs text. arrow_at inputs text)
+inputs_at = types_at ▶ arrow_at
 
 -- `<`, what a function takes, `->`, what it gives, and `>`
 abbrev pub function_at : Text → Outcome FunctionAttr
-function_at text = followed (behind_space (text_at (codes "<")) text) (λ u text. inputs_at text)
+function_at = behind_space (word (codes "<")) ▷ inputs_at

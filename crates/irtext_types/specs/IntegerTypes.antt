@@ -5,9 +5,10 @@ use Rattle.irtext_base.specs.Text.{Text, begins, front, after}
 use Rattle.irtext_base.specs.Reading.{the}
 use Rattle.irtext_base.specs.Stream.{first_of}
 use Rattle.irtext_base.specs.Faults.{AType, ADigit, Unexpected}
-use Rattle.irtext_base.specs.Answers.{Outcome, Missing, mapped, followed}
-use Rattle.irtext_read.specs.Tokens.{text_at, value_of}
+use Rattle.irtext_base.specs.Answers.{Outcome, Missing}
+use Rattle.irtext_read.specs.Tokens.{word, value_of}
 use Rattle.irtext_read.specs.Integers.{ranged}
+use Rattle.irtext_read.specs.Infix.{either, ◌▶◌, ◌⇒◌}
 use Rattle.irtext_types.specs.WidthOf.{width_of}
 use Rattle.irtext_types.specs.declared.width.Width.{Width}
 use Rattle.irtext_types.specs.declared.integer_type.Signedness.{Signedness}
@@ -26,8 +27,11 @@ integer_type_text t = signedness_text t.kind ++ decimal t.width.bits
 
 -- a sign's word
 abbrev pub signedness_at : Text → Outcome Signedness
-signedness_at text = cond (begins (the 115) text) (mapped (λ u. Signed) (text_at (codes "si") text)) (cond (begins (the 117) text) (mapped (λ u. Unsigned) (text_at (codes "ui") text))
-    (cond (begins (the 105) text) (mapped (λ u. Signless) (text_at (codes "i") text)) (Missing (Unexpected (first_of text) AType))))
+signedness_at =
+    either (begins (the 115)) (word (codes "si") ⇒ λ _. Signed)
+    (either (begins (the 117)) (word (codes "ui") ⇒ λ _. Unsigned)
+    (either (begins (the 105)) (word (codes "i") ⇒ λ _. Signless)
+    (λ text. Missing (Unexpected (first_of text) AType))))
 
 -- the width of a number that fits 64 bits or doesn't, where that is one
 abbrev pub width_if : Option ℕ → Option Width
@@ -44,4 +48,4 @@ integer_type_with kind width = record { kind = kind; width = width }
 
 -- a sign's word and a width, with nothing between
 abbrev pub integer_type_at : Text → Outcome IntegerType
-integer_type_at text = followed (signedness_at text) (λ kind text. mapped (integer_type_with kind) (width_at text))
+integer_type_at = signedness_at ▶ λ kind. width_at ⇒ integer_type_with kind

@@ -1,10 +1,11 @@
 -- For callers: the texts of lists of types between parentheses.
-use Rattle.std.specs.Prelude.{ℕ, zero, suc, cond, List, [], ◌∷◌, ◌++◌, codes, length}
+use Rattle.std.specs.Prelude.{ℕ, zero, suc, List, [], ◌∷◌, ◌++◌, codes, length}
 use Rattle.std.specs.Char.{is_whitespace}
 use Rattle.irtext_base.specs.Text.{Text, begins, front, after_space, begins_word}
 use Rattle.irtext_base.specs.Reading.{the}
-use Rattle.irtext_base.specs.Answers.{Outcome, Read, mapped, followed}
-use Rattle.irtext_read.specs.Tokens.{text_at}
+use Rattle.irtext_base.specs.Answers.{Outcome, Read}
+use Rattle.irtext_read.specs.Tokens.{word}
+use Rattle.irtext_read.specs.Infix.{nothing, either, ◌▷◌, ◌▶◌, ◌⇒◌}
 use Rattle.irtext_types.specs.Words.{behind_space}
 use Rattle.irtext_types.specs.Types.{type_text, type_at}
 use Rattle.irtext_types.specs.declared.types.DemoType.{DemoType}
@@ -29,25 +30,25 @@ with_type types t = types ++ t ∷ []
 
 -- a type with white space round it
 abbrev pub item_at : Text → Outcome DemoType
-item_at text = followed (behind_space type_at text) (λ t text. Read t (front is_whitespace text) (after_space text))
+item_at = behind_space type_at ▶ λ t text. Read t (front is_whitespace text) (after_space text)
 
 -- behind some types as many more as a comma comes in front of, up to a number of them
 abbrev pub more_types : ℕ → List DemoType → Text → Outcome (List DemoType)
 more_types zero types text = Read types [] text
-more_types (suc n) types text = cond (begins (the 44) text) (followed (text_at (codes ",") text) (λ u text. followed (item_at text) (λ t text. more_types n (with_type types t) text))) (Read types [] text)
+more_types (suc n) types text = either (begins (the 44)) (word (codes ",") ▷ item_at ▶ λ t. more_types n (with_type types t)) (nothing types) text
 
 -- no type, or types with commas between; there are no more than characters
 abbrev pub list_at : Text → Outcome (List DemoType)
-list_at text = cond (begins begins_word text) (followed (item_at text) (λ t text. more_types (length text) (with_type [] t) text)) (Read [] [] text)
+list_at = either (begins begins_word) (item_at ▶ λ t text. more_types (length text) (with_type [] t) text) (nothing [])
 
 -- `)` behind types
 abbrev pub closed_at : List DemoType → Text → Outcome (List DemoType)
-closed_at types text = mapped (λ u. types) (behind_space (text_at (codes ")")) text)
+closed_at types = behind_space (word (codes ")")) ⇒ λ _. types
 
 -- types with commas between, and `)`
 abbrev pub opened_at : Text → Outcome (List DemoType)
-opened_at text = followed (behind_space list_at text) (λ types text. closed_at types text)
+opened_at = behind_space list_at ▶ closed_at
 
 -- types in parentheses
 abbrev pub types_at : Text → Outcome (List DemoType)
-types_at text = followed (behind_space (text_at (codes "(")) text) (λ u text. opened_at text)
+types_at = behind_space (word (codes "(")) ▷ opened_at

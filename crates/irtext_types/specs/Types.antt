@@ -1,9 +1,10 @@
 -- For callers: the texts of the demo types.
-use Rattle.std.specs.Prelude.{cond, Option, Some, None, [], ◌++◌, codes}
+use Rattle.std.specs.Prelude.{cond, Option, Some, None, ◌++◌, codes}
 use Rattle.std.specs.Str.{bytes_eq}
 use Rattle.irtext_base.specs.Text.{Text}
 use Rattle.irtext_base.specs.Faults.{AType}
-use Rattle.irtext_base.specs.Answers.{Outcome, Read, mapped, followed}
+use Rattle.irtext_base.specs.Answers.{Outcome}
+use Rattle.irtext_read.specs.Infix.{nothing, ◌▶◌, ◌⇒◌}
 use Rattle.irtext_types.specs.Words.{dotted_at, behind_space}
 use Rattle.irtext_types.specs.IntegerTypes.{integer_type_text, integer_type_at}
 use Rattle.irtext_types.specs.declared.types.TypeWord.{TypeWord}
@@ -22,9 +23,9 @@ type_text Pointer = codes "test.ptr "
 
 -- what stands behind the word of a type
 abbrev pub type_behind : TypeWord → Text → Outcome DemoType
-type_behind word.Integer text = mapped Integer (behind_space integer_type_at text)
-type_behind word.Pointer text = Read Pointer [] text
+type_behind word.Integer = behind_space integer_type_at ⇒ Integer
+type_behind word.Pointer = nothing Pointer
 
 -- a type's word, and what stands behind it
 abbrev pub type_at : Text → Outcome DemoType
-type_at text = followed (dotted_at type_word (codes "Unregistered type ") AType text) type_behind
+type_at = dotted_at type_word (codes "Unregistered type ") AType ▶ type_behind
