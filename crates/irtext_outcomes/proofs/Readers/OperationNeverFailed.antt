@@ -23,8 +23,10 @@ use Rattle.irtext_outcomes.specs.Readers.Operations.{registered_behind, led_id_a
 use Rattle.irtext_outcomes.specs.Readers.Directives.{Pieces, no_pieces, allowed_entry, region_at, regions_after, attribute_at, entry_at, dictionary_at, piece_after, pieces_after, body_at}
 use Rattle.irtext_outcomes.specs.Readers.Marks.{unnoted, fresh_mark_at}
 use Rattle.irtext_grammar.specs.Grammar.Tree.{Attribute}
-use Rattle.irtext_outcomes.proofs.Locations.NeverFailed.{Fine, fine_read, fine_missing, fine_bad, fine_either, fine_prefixed, fine_followed, fine_mapped, fine_text, fine_spaced, fine_identifier, fine_separated, fine_attr}
-use Rattle.irtext_outcomes.proofs.Readers.NeverFailed.{Spares, NotFailed, unexpected_fine, range_fine, spares-behind, spares-id, spares-symbol, spares-braces, spares-mark}
+use Rattle.irtext_base.proofs.Sincere.{of_sincere}
+use Rattle.irtext_read.proofs.Honest.{seen, honest_word, honest_spaced, honest_name, honest_id, honest_symbol, honest_braces, honest_attr}
+use Rattle.irtext_outcomes.proofs.Readers.Honest.{honest_mark}
+use Rattle.irtext_outcomes.proofs.Readers.NeverFailed.{Spares, NotFailed, unexpected_fine, Fine, fine_honest, fine_read, fine_missing, fine_bad, fine_either, fine_prefixed, fine_behind, fine_followed, fine_mapped, fine_separated}
 
 -- the causes of operations
 dialect_fine : (name : Text) → NotFailed (UnregisteredDialect name)
@@ -49,7 +51,7 @@ fine_allowed (Missing cause) h = fine_missing cause h.spares
 fine_allowed (Bad cause upto) h = fine_bad cause upto h.spares
 
 fine_braces : (text : Text) → Fine (braces_at text)
-fine_braces text = record { spares = spares-braces NotFailed unexpected_fine text }
+fine_braces text = fine_honest honest_braces text
 
 fine_region : (iso : Bool) (text : Text) → Fine (region_at iso text)
 fine_region true text = fine_braces text
@@ -61,20 +63,20 @@ fine_regions iso (suc n) found text = fine_either (begins (the 123) text) _ _ (f
 
 module _ {A : Type 0} (reading : Text → Outcome A) (sincere : Sincere reading) where
   fine_attribute : (text : Text) → Fine (attribute_at (attr_at reading) text)
-  fine_attribute text = fine_mapped _ _ (fine_attr reading sincere text)
+  fine_attribute = fine_honest (seen _ (honest_attr (record { of = of_sincere reading sincere })))
 
   fine_entry : (text : Text) → Fine (entry_at (attr_at reading) text)
-  fine_entry text = fine_allowed _ (fine_followed _ _ (fine_identifier text) (λ key t. fine_followed _ _ (fine_spaced (codes ":") t) (λ _ u. fine_mapped _ _ (fine_attribute u))))
+  fine_entry text = fine_allowed _ (fine_followed _ _ (fine_honest (honest_name _) text) (λ key t. fine_followed _ _ (fine_honest (honest_spaced (codes ":")) t) (λ _ u. fine_mapped _ _ (fine_attribute u))))
 
   fine_dictionary : (text : Text) → Fine (dictionary_at (attr_at reading) text)
   unfolding dictionary_at
-  fine_dictionary text = fine_followed _ _ (fine_text (codes "[") text) (λ _ t. fine_prefixed _ _ (fine_followed _ _ (fine_separated 44 (entry_at (attr_at reading)) fine_entry (after_space t)) (λ es v. fine_mapped _ _ (fine_text (codes "]") v))))
+  fine_dictionary text = fine_followed _ _ (fine_honest (honest_word (codes "[")) text) (λ _ t. fine_prefixed _ _ (fine_followed _ _ (fine_separated 44 (entry_at (attr_at reading)) fine_entry (after_space t)) (λ es v. fine_mapped _ _ (fine_honest (honest_word (codes "]")) v))))
 
   fine_piece : (iso : Bool) (d : Directive) (found : Pieces A) (text : Text) → Fine (piece_after (attr_at reading) iso d found text)
-  fine_piece iso (format.word s) found text = fine_mapped _ _ (fine_text s text)
+  fine_piece iso (format.word s) found text = fine_mapped _ _ (fine_honest (honest_word s) text)
   fine_piece iso (format.attribute k) found text = fine_mapped _ _ (fine_allowed _ (fine_mapped _ _ (fine_attribute text)))
   fine_piece iso format.dictionary found text = fine_mapped _ _ (fine_dictionary text)
-  fine_piece iso format.header found text = fine_mapped _ _ (record { spares = spares-symbol NotFailed unexpected_fine text })
+  fine_piece iso format.header found text = fine_mapped _ _ (fine_honest honest_symbol text)
   fine_piece iso (format.region i) found text = fine_mapped _ _ (fine_region iso text)
   fine_piece iso format.regions found text = fine_mapped _ _ (fine_regions iso (length text) 0 text)
   fine_piece iso (format.operand i) found text = fine_bad _ _ (unexpected_fine (first_of text) AnOperation)
@@ -106,7 +108,7 @@ fine_registered dialects lead (Bad cause upto) h = fine_bad cause upto h.spares
 
 fine_led : (dialects : List (Text × Table)) (text : Text) → Fine (led_id_at dialects text)
 fine_led dialects text = fine_registered dialects (lead_of text) (behind (lead_of text) (id_at (behind_lead text)))
-    (record { spares = spares-behind NotFailed (lead_of text) (id_at (behind_lead text)) (spares-id NotFailed unexpected_fine (behind_lead text)) })
+    (fine_behind (lead_of text) _ (fine_honest honest_id (behind_lead text)))
 
 fine_unnoted : {X : Type 0} (marks : List (ℕ × X)) (o : Outcome (Option ℕ)) → Fine o → Fine (unnoted marks o)
 fine_unnoted marks (Read None taken rest) h = fine_read _ _ _
@@ -115,7 +117,7 @@ fine_unnoted marks (Missing cause) h = fine_missing cause h.spares
 fine_unnoted marks (Bad cause upto) h = fine_bad cause upto h.spares
 
 fine_mark : {X : Type 0} (marks : List (ℕ × X)) (text : Text) → Fine (fresh_mark_at marks text)
-fine_mark marks text = fine_unnoted marks (mark_at text) (record { spares = spares-mark NotFailed unexpected_fine range_fine text })
+fine_mark marks text = fine_unnoted marks (mark_at text) (fine_honest honest_mark text)
 
 -- no operation's cause says that the stream had failed
 pub operation_spares : {A X : Type 0} (reading : Text → Outcome A) → Sincere reading → (dialects : List (Text × Table)) (marks : List (ℕ × X)) (text : Text) → Spares NotFailed (operation_at dialects (attr_at reading) marks text)
