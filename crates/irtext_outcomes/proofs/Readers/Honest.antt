@@ -1,5 +1,5 @@
 -- Readers whose outcomes are of their texts: positions, marks, locations, and what a section's entries say.
-use Rattle.std.proofs.Common.{ℕ, zero, suc, Some, None, List, [], codes, length, refl, subst}
+use Rattle.std.proofs.Common.{ℕ, zero, suc, Some, None, [], codes, length, refl, subst}
 use Rattle.irtext_base.specs.Text.{Text}
 use Rattle.irtext_base.specs.Answers.{Outcome, Read, Missing, Bad, prefixed}
 use Rattle.irtext_base.specs.Locations.{AttrView, no_location, location}

@@ -1,5 +1,5 @@
 -- Outcomes whose cause does not say that the stream had failed, put together.
-use Rattle.std.proofs.Common.{ℕ, zero, suc, Bool, true, false, cond, Option, List, [], ◌∷◌, ◌++◌, length, codes}
+use Rattle.std.proofs.Common.{ℕ, zero, suc, Bool, true, false, cond, Option, List, [], ◌∷◌, length}
 use Rattle.irtext_base.specs.Text.{Text, begins, after_space}
 use Rattle.irtext_base.specs.Reading.{the}
 use Rattle.irtext_base.specs.Faults.{Fault, Unexpected, Demand}
