@@ -5,9 +5,10 @@ use Rattle.irtext_base.specs.Answers.{Outcome, Read, Missing, Bad, prefixed}
 use Rattle.irtext_base.specs.Locations.{AttrView, no_location, location}
 use Rattle.irtext_base.specs.Paths.{Written}
 use Rattle.irtext_base.proofs.Sincere.{Of, of_read, of_missing, of_prefixed}
-use Rattle.irtext_read.specs.Infix.{Reader, nothing}
+use Rattle.irtext_read.specs.Infix.{Reader, nothing, ◌▷◌, ◌▶◌, ◌⇒◌}
+use Rattle.irtext_read.specs.Tokens.{word}
 use Rattle.irtext_read.proofs.Honest.{Honest, ◌then◌, ◌so◌, seen, honest_either, honest_word, honest_space, honest_spaced, honest_integer, honest_index, honest_quoted}
-use Rattle.irtext_outcomes.specs.Readers.Positions.{labelled_at, position_at}
+use Rattle.irtext_outcomes.specs.Readers.Positions.{spaced_at, labelled_at, position_at}
 use Rattle.irtext_outcomes.specs.Readers.Parts.{mark_at}
 use Rattle.irtext_outcomes.specs.Readers.Locations.{WrittenRow, bytes_at, source_at, name_at, place_at, metadata_at, behind_location, row_of, row_at, more_at, fused_at, named_at, call_site_at, kind_at, location_within, more_within, location_at}
 use Rattle.irtext_outcomes.specs.Readers.Section.{entry_location_at, content_at}
@@ -34,10 +35,13 @@ pub honest_source : Honest source_at
 honest_source = honest_either _ (seen _ honest_bytes)
     (honest_either _ (seen _ (honest_word (codes "<in-memory>"))) (record { of = λ text. of_missing text _ refl }))
 
+-- what stands behind the word `name`, up to the location that it is for
+pub honest_title : Honest (spaced_at (codes ":") ▷ bytes_at ▶ λ name. spaced_at (codes ",") ▷ word (codes "loc") ▷ spaced_at (codes ":") ▷ word (codes "(") ⇒ λ _. name)
+honest_title = ◌then◌ (honest_spaced (codes ":")) (◌so◌ honest_bytes (λ name. ◌then◌ (honest_spaced (codes ","))
+    (◌then◌ (honest_word (codes "loc")) (◌then◌ (honest_spaced (codes ":")) (seen _ (honest_word (codes "(")))))))
+
 pub honest_name : Honest name_at
-honest_name = ◌then◌ (honest_word (codes "name")) (◌then◌ (honest_spaced (codes ":")) (◌so◌ honest_bytes (λ name.
-    ◌then◌ (honest_spaced (codes ",")) (◌then◌ (honest_word (codes "loc"))
-    (◌then◌ (honest_spaced (codes ":")) (seen _ (honest_word (codes "("))))))))
+honest_name = ◌then◌ (honest_word (codes "name")) honest_title
 
 pub honest_place : {A : Type 0} → Honest (place_at {A = A})
 honest_place = ◌so◌ honest_source (λ s. ◌then◌ (honest_spaced (codes ":")) (seen _ honest_position))
