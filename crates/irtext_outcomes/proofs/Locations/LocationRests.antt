@@ -1,17 +1,14 @@
 -- A location that is read leaves no more than its text, where no attribute does.
-use Rattle.std.proofs.Common.{ℕ, zero, suc, ◌≤◌, None, [], codes, length, refl}
+use Rattle.std.proofs.Common.{ℕ, ◌≤◌, [], length, refl}
 use Rattle.irtext_base.specs.Text.{Text}
 use Rattle.irtext_base.specs.Answers.{Outcome, Read, Missing, Bad}
-use Rattle.irtext_base.specs.Locations.{AttrView, no_location, location}
+use Rattle.irtext_base.specs.Locations.{AttrView, no_location}
 use Rattle.irtext_base.specs.Paths.{Written}
 use Rattle.irtext_read.specs.Infix.{Reader}
-use Rattle.irtext_read.specs.Tokens.{text_at}
-use Rattle.irtext_outcomes.specs.Readers.Positions.{space_at, spaced_at}
-use Rattle.irtext_read.proofs.Honest.{honest_word, honest_space, honest_spaced}
 use Rattle.irtext_outcomes.specs.Readers.RestLengths.{Leaves, LeavesNoMore}
-use Rattle.irtext_outcomes.specs.Readers.Locations.{WrittenRow, metadata_at, behind_location, row_of, row_at, more_at, fused_at, named_at, call_site_at, kind_at, location_within, more_within}
+use Rattle.irtext_outcomes.specs.Readers.Locations.{WrittenRow, metadata_at, behind_location, row_of, location_within, more_within}
 use Rattle.irtext_outcomes.proofs.Readers.Honest.{Keeps, keeps_metadata, keeps_within, keeps_more_within}
-use Rattle.irtext_outcomes.proofs.Locations.RestLengths.{Within, ◌then◌, ◌so◌, seen, within_either, within_honest, within_no_more, leaves_read, leaves_missing, leaves_bad, leaves_prefixed}
+use Rattle.irtext_outcomes.proofs.Locations.RestLengths.{Within, ◌so◌, seen, within_either, within_honest, within_no_more, leaves_read, leaves_bad, leaves_prefixed}
 
 module _ {b : ℕ} where
   module _ {A : Type 0} (inner : Reader (Written A)) (more : Reader (WrittenRow A)) where

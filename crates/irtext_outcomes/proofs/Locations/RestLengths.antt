@@ -1,5 +1,5 @@
 -- How much a reading leaves of its text, and that what follows it is seen on such texts alone.
-use Rattle.std.proofs.Common.{◌≡◌, ℕ, suc, ◌≤◌, Bool, true, false, cond, [], ◌∷◌, ◌++◌, length, refl, ap, length-append, arith}
+use Rattle.std.proofs.Common.{◌≡◌, ℕ, suc, ◌≤◌, Bool, true, false, cond, ◌∷◌, ◌++◌, length, refl, ap, length-append, arith}
 use Rattle.std.specs.Char.{is_whitespace}
 use Rattle.irtext_base.specs.Text.{Text, front, after, after_space}
 use Rattle.irtext_base.specs.Faults.{Fault}
