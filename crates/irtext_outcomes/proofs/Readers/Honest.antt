@@ -31,7 +31,8 @@ honest_labelled : (w : Text) → Honest (labelled_at w)
 honest_labelled w = ◌then◌ (honest_word w) (◌then◌ (honest_spaced (codes ":")) honest_integer)
 
 pub honest_position : Honest position_at
-honest_position = ◌so◌ (honest_labelled (codes "line")) (λ line. ◌then◌ (honest_spaced (codes ",")) (seen _ (honest_labelled (codes "column"))))
+honest_position = ◌so◌ (honest_labelled (codes "line")) (λ line.
+    ◌then◌ (honest_spaced (codes ",")) (seen _ (honest_labelled (codes "column"))))
 
 -- ---- the parts of locations
 pub honest_bytes : Honest bytes_at
@@ -42,7 +43,8 @@ honest_source = honest_either _ (seen _ honest_bytes)
     (honest_either _ (seen _ (honest_word (codes "<in-memory>"))) (honest_demand ASource))
 
 -- what stands behind the word `name`, up to the location that it is for
-pub honest_title : Honest (spaced_at (codes ":") ▷ bytes_at ▶ λ name. spaced_at (codes ",") ▷ word (codes "loc") ▷ spaced_at (codes ":") ▷ word (codes "(") ⇒ λ _. name)
+pub honest_title : Honest (spaced_at (codes ":") ▷ bytes_at ▶ λ name.
+    spaced_at (codes ",") ▷ word (codes "loc") ▷ spaced_at (codes ":") ▷ word (codes "(") ⇒ λ _. name)
 honest_title = ◌then◌ (honest_spaced (codes ":")) (◌so◌ honest_bytes (λ name. ◌then◌ (honest_spaced (codes ","))
     (◌then◌ (honest_word (codes "loc")) (◌then◌ (honest_spaced (codes ":")) (seen _ (honest_word (codes "(")))))))
 
