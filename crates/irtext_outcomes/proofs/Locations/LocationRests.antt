@@ -12,9 +12,10 @@ use Rattle.irtext_outcomes.proofs.Locations.RestLengths.{Within, ◌so◌, seen,
 
 module _ {b : ℕ} where
   module _ {A : Type 0} (inner : Reader (Written A)) (more : Reader (WrittenRow A)) where
-    leaves_row : ((l : Written A) → Within b (behind_location inner more l)) → (o : Outcome (Written A)) (text : Text)
-        → length text ≤ b → Leaves b o → Leaves b (row_of inner more o text)
-    leaves_row h (Read l taken rest) text i k = leaves_prefixed b taken _ ((h l).leaves rest (k.by l taken rest refl))
+    leaves_row : ((l : Written A) → Within b (behind_location inner more l)) → (o : Outcome (Written A))
+        → (text : Text) → length text ≤ b → Leaves b o → Leaves b (row_of inner more o text)
+    leaves_row h (Read l taken rest) text i k =
+        leaves_prefixed b taken _ ((h l).leaves rest (k.by l taken rest refl))
     leaves_row h (Missing cause) text i k = leaves_read b no_location [] text i
     leaves_row h (Bad cause upto) text i k = leaves_bad b cause upto
 
@@ -24,7 +25,9 @@ module _ {b : ℕ} where
     follows = ◌so◌;
     sees = seen;
     one_of = within_either;
-    row = λ inner more i h. record { leaves = λ text j. leaves_row inner more h (inner text) text j (i.leaves text j) };
+    row = λ inner more i h. record {
+      leaves = λ text j. leaves_row inner more h (inner text) text j (i.leaves text j);
+    };
   }
 
   module _ {A : Type 0} {attr : Reader (AttrView A)} (no_more : LeavesNoMore attr) where
@@ -40,5 +43,7 @@ module _ {b : ℕ} where
     within_more = keeps_more_within within_keeps (within_no_more no_more)
 
 -- a location, and those that follow one, leave no more than the text
-pub leaves_within : {A : Type 0} (attr : Text → Outcome (AttrView A)) (no_more : LeavesNoMore attr) (n b : ℕ) (text : Text) → length text ≤ b → Leaves b (location_within attr n text) × Leaves b (more_within attr n text)
-leaves_within attr no_more n b text h = ((within_location no_more n).leaves text h, (within_more no_more n).leaves text h)
+pub leaves_within : {A : Type 0} (attr : Text → Outcome (AttrView A)) (no_more : LeavesNoMore attr) (n b : ℕ) (text : Text)
+    → length text ≤ b → Leaves b (location_within attr n text) × Leaves b (more_within attr n text)
+leaves_within attr no_more n b text h =
+    ((within_location no_more n).leaves text h, (within_more no_more n).leaves text h)

@@ -20,7 +20,8 @@ pub honest_nothing : {X : Type 0} (x : X) → Honest (nothing x)
 honest_nothing x = record { of = λ text. of_read text x [] text refl }
 
 -- nothing at all, where this was demanded
-honest_demand : {X : Type 0} (demand : Demand) → Honest {X = X} (λ text. Missing (Unexpected (first_of text) demand))
+honest_demand : {X : Type 0} (demand : Demand)
+    → Honest {X = X} (λ text. Missing (Unexpected (first_of text) demand))
 honest_demand demand = record { of = λ text. of_missing text _ refl }
 
 -- ---- marks and positions
@@ -45,8 +46,9 @@ honest_source = honest_either _ (seen _ honest_bytes)
 -- what stands behind the word `name`, up to the location that it is for
 pub honest_title : Honest (spaced_at (codes ":") ▷ bytes_at ▶ λ name.
     spaced_at (codes ",") ▷ word (codes "loc") ▷ spaced_at (codes ":") ▷ word (codes "(") ⇒ λ _. name)
-honest_title = ◌then◌ (honest_spaced (codes ":")) (◌so◌ honest_bytes (λ name. ◌then◌ (honest_spaced (codes ","))
-    (◌then◌ (honest_word (codes "loc")) (◌then◌ (honest_spaced (codes ":")) (seen _ (honest_word (codes "(")))))))
+honest_title = ◌then◌ (honest_spaced (codes ":")) (◌so◌ honest_bytes (λ name.
+    ◌then◌ (honest_spaced (codes ",")) (◌then◌ (honest_word (codes "loc"))
+    (◌then◌ (honest_spaced (codes ":")) (seen _ (honest_word (codes "(")))))))
 
 pub honest_name : Honest name_at
 honest_name = ◌then◌ (honest_word (codes "name")) honest_title
@@ -55,14 +57,15 @@ pub honest_place : {A : Type 0} → Honest (place_at {A = A})
 honest_place = ◌so◌ honest_source (λ s. ◌then◌ (honest_spaced (codes ":")) (seen _ honest_position))
 
 -- ---- locations
--- a property of readers that putting readers together keeps, and that every reader has whose outcomes are of their texts
+-- a property of readers that stays where readers are put together, and that each has whose outcomes are of their texts
 pub record Keeps (P : (X : Type 0) → Reader X → Type 0) : Type 1 where
   pub honest : {X : Type 0} {f : Reader X} → Honest f → P X f
   pub follows : {X Y : Type 0} {f : Reader X} {k : X → Reader Y} → P X f → ((x : X) → P Y (k x)) → P Y (f ▶ k)
   pub sees : {X Y : Type 0} {f : Reader X} (see : X → Y) → P X f → P Y (f ⇒ see)
   pub one_of : {X : Type 0} {f g : Reader X} (test : Text → Bool) → P X f → P X g → P X (either test f g)
   pub row : {A : Type 0} (inner : Reader (Written A)) (more : Reader (WrittenRow A)) → P (Written A) inner
-      → ((l : Written A) → P (WrittenRow A) (behind_location inner more l)) → P (WrittenRow A) (row_at inner more)
+      → ((l : Written A) → P (WrittenRow A) (behind_location inner more l))
+      → P (WrittenRow A) (row_at inner more)
 
 module _ {P : (X : Type 0) → Reader X → Type 0} (k : Keeps P) where
   behind-word : {Y : Type 0} {g : Reader Y} (w : Text) → P _ g → P _ (word w ▷ g)
@@ -88,22 +91,27 @@ module _ {P : (X : Type 0) → Reader X → Type 0} (k : Keeps P) where
       keeps_behind l = behind-space (k.sees (location l) m)
 
       keeps_more : P _ (more_at inner more)
-      keeps_more = k.one_of _ (behind-word (codes ",") (behind-space (k.follows i keeps_behind))) (k.honest (honest_nothing no_location))
+      keeps_more = k.one_of _ (behind-word (codes ",") (behind-space (k.follows i keeps_behind)))
+          (k.honest (honest_nothing no_location))
 
       keeps_fused : P _ (fused_at inner more attr)
       keeps_fused = behind-word (codes "fused") (behind-space (k.follows keeps_metadata (λ a.
-          behind-word (codes "[") (behind-space (k.follows (k.row inner more i keeps_behind) (λ ls. at-word (codes "]") (fused a ls)))))))
+          behind-word (codes "[") (behind-space (k.follows (k.row inner more i keeps_behind) (λ ls.
+          at-word (codes "]") (fused a ls)))))))
 
       keeps_named : P _ (named_at inner more)
-      keeps_named = k.follows (k.honest honest_name) (λ name. k.follows i (λ l. at-word (codes ")") (named name l)))
+      keeps_named = k.follows (k.honest honest_name) (λ name.
+          k.follows i (λ l. at-word (codes ")") (named name l)))
 
       keeps_call_site : P _ (call_site_at inner more)
       keeps_call_site = behind-word (codes "callsite") (behind-spaced (codes "(") (k.follows i (λ callee.
-          behind-spaced (codes "at") (k.follows i (λ caller. k.sees (λ _. call_site callee caller) (k.honest (honest_spaced (codes ")"))))))))
+          behind-spaced (codes "at") (k.follows i (λ caller.
+          k.sees (λ _. call_site callee caller) (k.honest (honest_spaced (codes ")"))))))))
 
       keeps_kind : P _ (kind_at inner more attr)
       keeps_kind = k.one_of _ (k.honest honest_place) (k.one_of _ keeps_fused (k.one_of _ keeps_named
-          (k.one_of _ keeps_call_site (k.one_of _ (at-word (codes "?") unknown) (k.honest (honest_demand ALocation))))))
+          (k.one_of _ keeps_call_site (k.one_of _ (at-word (codes "?") unknown)
+          (k.honest (honest_demand ALocation))))))
 
     mutual
       -- the reader of locations has it, where that of attributes has it
@@ -116,9 +124,10 @@ module _ {P : (X : Type 0) → Reader X → Type 0} (k : Keeps P) where
       keeps_more_within (suc n) = keeps_more (keeps_within n) (keeps_more_within n)
 
 module _ {A : Type 0} (inner : Reader (Written A)) (more : Reader (WrittenRow A)) where
-  of_row : ((l : Written A) → Honest (behind_location inner more l)) → (o : Outcome (Written A)) (text : Text) → Of text o
-      → Of text (row_of inner more o text)
-  of_row h (Read l taken rest) text o = subst (λ z. Of z (prefixed taken (behind_location inner more l rest))) o.says
+  of_row : ((l : Written A) → Honest (behind_location inner more l)) → (o : Outcome (Written A)) (text : Text)
+      → Of text o → Of text (row_of inner more o text)
+  of_row h (Read l taken rest) text o =
+      subst (λ z. Of z (prefixed taken (behind_location inner more l rest))) o.says
       (of_prefixed taken rest (behind_location inner more l rest) ((h l).of rest))
   of_row h (Missing cause) text o = of_read text no_location [] text refl
   of_row h (Bad cause upto) text o = record { says = o.says }
@@ -138,8 +147,10 @@ module _ {A : Type 0} {attr : Reader (AttrView A)} (h : Honest attr) where
 
   -- ---- what an entry says
   honest_entry_location : Honest (entry_location_at attr)
-  honest_entry_location = honest_either _ (◌then◌ (honest_word (codes "@[")) (◌then◌ honest_space (◌so◌ honest_location (λ l.
-      ◌then◌ (honest_spaced (codes "]")) (◌then◌ (honest_word (codes ",")) (seen (λ _. Some l) honest_space))))))
+  honest_entry_location = honest_either _
+      (◌then◌ (honest_word (codes "@[")) (◌then◌ honest_space (◌so◌ honest_location (λ l.
+      ◌then◌ (honest_spaced (codes "]")) (◌then◌ (honest_word (codes ","))
+      (seen (λ _. Some l) honest_space))))))
       (honest_nothing None)
 
   pub honest_content : Honest (content_at attr)

@@ -53,7 +53,8 @@ module _ {X : Type 0} where
 
 module _ {X Y : Type 0} where
   -- the same of one reading and then another
-  pub fine_followed : (o : Outcome X) (k : X → Text → Outcome Y) → Fine o → ((x : X) (t : Text) → Fine (k x t)) → Fine (followed o k)
+  pub fine_followed : (o : Outcome X) (k : X → Text → Outcome Y)
+      → Fine o → ((x : X) (t : Text) → Fine (k x t)) → Fine (followed o k)
   fine_followed (Read x taken rest) k h g = fine_prefixed taken (k x rest) (g x rest)
   fine_followed (Missing cause) k h g = fine_missing cause h.spares
   fine_followed (Bad cause upto) k h g = fine_bad cause upto h.spares
@@ -70,15 +71,18 @@ fine_or_empty (Read xs taken rest) text h = fine_read _ _ _
 fine_or_empty (Missing cause) text h = fine_read _ _ _
 fine_or_empty (Bad cause upto) text h = h
 
-module _ {X : Type 0} (separator : ℕ) (item : Text → Outcome X) (items : (text : Text) → Fine (item text)) where
+module _ {X : Type 0} (separator : ℕ) (item : Text → Outcome X)
+    (items : (text : Text) → Fine (item text)) where
   fine_item : (found : List X) (text : Text) → Fine (item_after separator item found text)
   fine_item found text = fine_followed (item text) _ (items text) (λ x t. fine_read _ _ _)
 
   fine_items : (n : ℕ) (found : List X) (text : Text) → Fine (items_after separator item n found text)
   fine_items zero found text = fine_read _ _ _
   fine_items (suc n) found text = fine_either (begins (the separator) text) _ _
-      (fine_followed _ _ (fine_honest (honest_word (separator ∷ [])) text) (λ _ t. fine_prefixed _ _ (fine_followed _ _ (fine_item found (after_space t)) (λ more v. fine_items n more v)))) (fine_read _ _ _)
+      (fine_followed _ _ (fine_honest (honest_word (separator ∷ [])) text) (λ _ t.
+      fine_prefixed _ _ (fine_followed _ _ (fine_item found (after_space t)) (fine_items n)))) (fine_read _ _ _)
 
   -- no list's does, where no item's does
   pub fine_separated : (text : Text) → Fine (separated_at separator item text)
-  fine_separated text = fine_or_empty _ text (fine_followed _ _ (fine_item [] text) (λ found t. fine_items (length t) found t))
+  fine_separated text = fine_or_empty _ text
+      (fine_followed _ _ (fine_item [] text) (λ found t. fine_items (length t) found t))

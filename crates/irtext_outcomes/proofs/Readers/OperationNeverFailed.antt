@@ -4,7 +4,7 @@ use Rattle.std.specs.Map.{lookup}
 use Rattle.irtext_base.specs.Text.{Text, begins, after_space}
 use Rattle.irtext_base.specs.Reading.{the}
 use Rattle.irtext_base.specs.Stream.{first_of}
-use Rattle.irtext_base.specs.Faults.{UnregisteredDialect, UnregisteredOp, DuplicateIndex, ReservedKey, NotIsolated, AnOperation}
+use Rattle.irtext_base.specs.Faults.{UnregisteredOp, AnOperation}
 use Rattle.irtext_base.specs.Format as format
 use Rattle.irtext_base.specs.Format.{Id, Format, Directive}
 use Rattle.irtext_base.specs.Answers.{Outcome, Read, Missing, Bad}
@@ -17,7 +17,7 @@ use Rattle.irtext_read.specs.States.{same_index}
 use Rattle.irtext_read.specs.Tokens.{id_at}
 use Rattle.irtext_grammar.specs.Names.Acts.{may_hold}
 use Rattle.irtext_grammar.specs.Contexts.Formats.{op_id, format_of, isolated}
-use Rattle.irtext_outcomes.specs.Readers.Parts.{lead_of, behind_lead, behind, mark_at, braces_at}
+use Rattle.irtext_outcomes.specs.Readers.Parts.{lead_of, behind_lead, behind, mark_at}
 use Rattle.irtext_outcomes.specs.Promises.Operation.{operation_at}
 use Rattle.irtext_outcomes.specs.Readers.Operations.{registered_behind, led_id_at, body_of}
 use Rattle.irtext_outcomes.specs.Readers.Directives.{Pieces, no_pieces, allowed_entry, region_at, regions_after, attribute_at, entry_at, dictionary_at, piece_after, pieces_after, body_at}
@@ -41,7 +41,8 @@ fine_region false text = fine_bad _ _ (λ e. absurd (cc))
 fine_regions : (iso : Bool) (n found : ℕ) (text : Text) → Fine (regions_after iso n found text)
 fine_regions iso zero found text = fine_read _ _ _
 fine_regions iso (suc n) found text = fine_either (begins (the 123) text) _ _
-    (fine_followed _ _ (fine_region iso text) (λ _ t. fine_prefixed _ _ (fine_regions iso n (suc found) (after_space t)))) (fine_read _ _ _)
+    (fine_followed _ _ (fine_region iso text) (λ _ t.
+    fine_prefixed _ _ (fine_regions iso n (suc found) (after_space t)))) (fine_read _ _ _)
 
 module _ {A : Type 0} (reading : Text → Outcome A) (sincere : Sincere reading) where
   honest_attribute : Honest (attribute_at (attr_at reading))
@@ -49,12 +50,14 @@ module _ {A : Type 0} (reading : Text → Outcome A) (sincere : Sincere reading)
 
   fine_entry : (text : Text) → Fine (entry_at (attr_at reading) text)
   fine_entry text = fine_allowed _ (fine_honest
-      (◌so◌ (honest_name _) (λ key. ◌then◌ (honest_spaced (codes ":")) (seen (λ a. (key, a)) honest_attribute))) text)
+      (◌so◌ (honest_name _) (λ key.
+      ◌then◌ (honest_spaced (codes ":")) (seen (λ a. (key, a)) honest_attribute))) text)
 
   fine_dictionary : (text : Text) → Fine (dictionary_at (attr_at reading) text)
   unfolding dictionary_at
   fine_dictionary text = fine_followed _ _ (fine_honest (honest_word (codes "[")) text) (λ _ t. fine_prefixed _ _
-      (fine_followed _ _ (fine_separated 44 (entry_at (attr_at reading)) fine_entry (after_space t)) (λ es v. fine_mapped _ _ (fine_honest (honest_word (codes "]")) v))))
+      (fine_followed _ _ (fine_separated 44 (entry_at (attr_at reading)) fine_entry (after_space t)) (λ es v.
+      fine_mapped _ _ (fine_honest (honest_word (codes "]")) v))))
 
   fine_piece : (iso : Bool) (d : Directive) (found : Pieces A) (text : Text) → Fine (piece_after (attr_at reading) iso d found text)
   fine_piece iso (format.word s) found text = fine_mapped _ _ (fine_honest (honest_word s) text)
