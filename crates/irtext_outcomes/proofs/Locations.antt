@@ -1,7 +1,6 @@
 -- Locations are read back.
 pub mod Begins
 pub mod Rows
-pub mod NeverFailed
 pub mod Integers
 pub mod GivesBack
 pub mod RestLengths

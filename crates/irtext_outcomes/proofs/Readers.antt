@@ -1,6 +1,7 @@
 -- Steps of readers.
 pub mod NewPaths
 pub mod Steps
+pub mod Honest
 pub mod NeverFailed
 pub mod Leads
 pub mod PlainStream

@@ -17,8 +17,10 @@ use Rattle.irtext_outcomes.specs.Readers.Section.{known_index, entry_at, content
 use Rattle.irtext_base.specs.Own.{Sincere}
 use Rattle.irtext_outcomes.specs.Readers.Refusals.{Refusal, CommittedRefusal}
 use Rattle.irtext_outcomes.specs.Readers.Streams.{itself, replaced}
-use Rattle.irtext_outcomes.proofs.Readers.NeverFailed.{Spares, NotFailed, unexpected_fine, range_fine, spares-followed, spares-mapped, spares-index, spares-content, spares-spaced}
-use Rattle.irtext_outcomes.proofs.Locations.NeverFailed.{attr_spares, location_spares}
+use Rattle.irtext_base.proofs.Sincere.{of_sincere}
+use Rattle.irtext_read.proofs.Honest.{seen, never_failed, honest_index, honest_spaced, honest_attr}
+use Rattle.irtext_outcomes.proofs.Readers.Honest.{honest_content}
+use Rattle.irtext_outcomes.proofs.Readers.NeverFailed.{Spares, NotFailed, Fine, fine_honest, fine_missing, fine_bad, fine_either, fine_followed}
 use Rattle.irtext_outcomes.proofs.Readers.PlainStream.{alone}
 
 module _ (test : ℕ → Bool) where
@@ -53,10 +55,10 @@ module _ (test : ℕ → Bool) where
   pub unknown : {A : Type 0} {f : Text → Outcome ℕ} {old mid new : StreamView} {i : ℕ} {fault : ParseFault A} → test i ≡ false → MustRead {A = A} itself replaced (λ i. i) f old (Ok i) mid → UnknownAt i old mid fault new → MustRead itself replaced (λ (i : ℕ). i) (λ t. known_index test (f t)) old (Err fault) new
   unknown {f = f} {old = old} {mid = mid} {new = new} {i = i} {fault = fault} e h k = record { answers = unknown_read old.failed (f old.rest) i old mid new fault e h.answers k }
 
-known_spares : (test : ℕ → Bool) (o : Outcome ℕ) → Spares NotFailed o → Spares NotFailed (known_index test o)
-known_spares test (Read x t r) h = elim (test x) as (λ b. Spares NotFailed (cond b (Read x t r) (Bad (UnknownIndex x) []))) [ true ↦ tt | false ↦ (λ e. absurd (cc)) ]
-known_spares test (Missing cause) h = h
-known_spares test (Bad cause upto) h = h
+fine_known : (test : ℕ → Bool) (o : Outcome ℕ) → Fine o → Fine (known_index test o)
+fine_known test (Read i taken rest) h = fine_either (test i) _ _ h (fine_bad _ _ (λ e. absurd (cc)))
+fine_known test (Missing cause) h = fine_missing cause h.spares
+fine_known test (Bad cause upto) h = fine_bad cause upto h.spares
 
 module _ {A : Type 0} where
   demands_of : {X : Type 0} (b : Bool) (o : Outcome X) (old new : StreamView) (fault : ParseFault A) → old.failed ≡ b → Spares NotFailed o → Starves itself replaced old fault new ⊎ Refuses itself replaced (demanded (unless_failed b o)) old fault new → CommittedRefusal old fault new
@@ -156,12 +158,15 @@ entry_shorter attr test see old mid new e t r h k =
 
 -- no entry's cause says that the stream had failed
 pub entry_spares : {A : Type 0} (reading : Text → Outcome A) (test : ℕ → Bool) → Sincere reading → (text : Text) → Spares NotFailed (entry_at (attr_at reading) test text)
-entry_spares reading test k text = spares-followed NotFailed (known_index test (index_at text)) (λ i t. mapped (λ l. (i, l)) (content_at (attr_at reading) t)) (known_spares test (index_at text) (spares-index NotFailed unexpected_fine range_fine text))
-    (λ i t. spares-mapped NotFailed (λ l. (i, l)) (content_at (attr_at reading) t) (spares-content NotFailed unexpected_fine range_fine (attr_at reading) (location_spares (attr_at reading) (attr_spares reading k)) t))
+entry_spares reading test k text = whole.spares
+  where
+    whole : Fine (entry_at (attr_at reading) test text)
+    whole = fine_followed _ _ (fine_known test (index_at text) (fine_honest honest_index text))
+        (λ i. fine_honest (seen (λ l. (i, l)) (honest_content (honest_attr (record { of = of_sincere reading k })))))
 
 -- nor does that of the section's heading
 pub heading_spares : (text : Text) → Spares NotFailed (heading_at text)
-heading_spares text = spares-spaced NotFailed unexpected_fine (codes "outlined_attributes:") text
+heading_spares = never_failed (honest_spaced (codes "outlined_attributes:"))
 
 may_fine : {X : Type 0} (b : Bool) (o : Outcome X) (old new : StreamView) (x : X) → Gives itself replaced (unless_failed b o) old x new → new.failed ≡ old.failed
 may_fine true o old new x h = absurd h
