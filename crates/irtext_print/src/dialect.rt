@@ -3,9 +3,9 @@ ghost use Rattle.std.specs.Prelude.{◌≡◌, Some};
 
 use crate::printable::Printable;
 use crate::printable::state::State;
+use irtext_base::text::{AttrText, IrText};
 use irtext_context::base::Context;
 use irtext_context::dialect::Dialect;
-use irtext_base::text::{AttrText, IrText};
 use std::convert::AsStr;
 use std::fmt;
 

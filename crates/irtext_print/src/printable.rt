@@ -8,9 +8,9 @@ ghost use Rattle.std.specs.declared.string.String.{String};
 ghost use Rattle.std.specs.declared.alloc.Global.{Global};
 ghost use Rattle.irtext_context.specs.declared.base.context.Context.{Context};
 
-use irtext_context::base::Context;
 pub use irtext_base::printable::ListSeparator;
 use irtext_base::text::{AttrText, IrText};
+use irtext_context::base::Context;
 use std::fmt;
 
 pub(crate) mod attributes;
@@ -26,8 +26,8 @@ pub mod state;
 pub use displayable::{Disp, Displayable};
 pub use guards::{IndentGuard, RegionDepthGuard};
 pub use indented::{IndentedNl, indented_nl};
-pub use items::fmt_iter;
 pub use irtext_read::printable::fmt_quoted;
+pub use items::fmt_iter;
 pub use refusal::Refusal;
 pub use state::{RegionPrintDepthLimit, State};
 

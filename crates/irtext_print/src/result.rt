@@ -5,9 +5,9 @@ ghost use Rattle.irtext_print.specs.Errors.Located.{located_cause, located_error
 use crate::location::print::fmt_known;
 use crate::printable::Printable;
 use crate::printable::state::State;
-use irtext_context::base::Context;
 use irtext_base::result::{Cause, Error, Result};
 use irtext_base::text::{AttrText, IrText};
+use irtext_context::base::Context;
 use std::fmt;
 
 /// Appends an error's text behind its location, where that is known; an inner error is printed so too.

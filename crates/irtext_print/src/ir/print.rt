@@ -14,9 +14,9 @@ use crate::ir::print::concrete::fmt_concrete;
 use crate::location::print::fmt_known;
 use crate::printable::state::State;
 use crate::printable::{Printable, Refusal};
-use irtext_context::base::{Context, Operation, Ptr};
 use irtext_base::location::Location;
 use irtext_base::text::{AttrText, IrText};
+use irtext_context::base::{Context, Operation, Ptr};
 use std::fmt;
 
 pub mod concrete;

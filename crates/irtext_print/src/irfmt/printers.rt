@@ -5,8 +5,8 @@ ghost use Rattle.std.specs.Slice.Iter.{iter_rest};
 
 use crate::printable::ListSeparator;
 use crate::printable::state::State;
-use irtext_context::base::Context;
 use irtext_base::text::{AttrText, IrText};
+use irtext_context::base::Context;
 use std::fmt;
 
 pub mod closures;

@@ -11,13 +11,13 @@ ghost use Rattle.irtext_grammar.specs.Spelling.Spell.{joined, comma};
 
 use crate::printable::Printable;
 use crate::printable::attributes::fmt_attr;
-use irtext_read::printable::fmt_quoted;
 use crate::printable::state::State;
 use irtext_base::base::AttrObj;
-use irtext_context::base::Context;
 use irtext_base::location::{Location, Source};
 use irtext_base::parsable::SourcePosition;
 use irtext_base::text::{AttrText, IrText};
+use irtext_context::base::Context;
+use irtext_read::printable::fmt_quoted;
 use std::fmt;
 
 /// The path of a file that the context keeps.

@@ -8,8 +8,8 @@ ghost use Rattle.irtext_grammar.specs.Spelling.Spell.{joined, comma, or_question
 use crate::printable::Printable;
 use crate::printable::state::State;
 use irtext_base::base::{AttrObj, Identifier};
-use irtext_context::base::Context;
 use irtext_base::text::{AttrText, IrText};
+use irtext_context::base::Context;
 use std::fmt;
 
 /// Appends a given name, or `?` where there is none.

@@ -4,8 +4,8 @@ ghost use Rattle.irtext_print.specs.Printers.Appended.{fresh, text_of};
 
 use crate::printable::Printable;
 use crate::printable::state::{RegionPrintDepthLimit, State};
-use irtext_context::base::Context;
 use irtext_base::text::{AttrText, IrText};
+use irtext_context::base::Context;
 use std::alloc::Global;
 use std::fmt;
 

@@ -5,8 +5,8 @@ ghost use Rattle.irtext_grammar.specs.Spelling.Spell.{newline};
 
 use crate::printable::state::State;
 use crate::printable::{Printable, fmt_spaces};
-use irtext_context::base::Context;
 use irtext_base::text::{AttrText, IrText};
+use irtext_context::base::Context;
 use std::fmt;
 
 /// A newline and an indentation. Made by [`indented_nl`].

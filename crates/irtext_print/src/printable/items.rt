@@ -6,8 +6,8 @@ ghost use Rattle.irtext_print.specs.Printers.Items.{WritesItems, PrintsItem};
 
 use crate::printable::state::State;
 use crate::printable::{ListSeparator, Printable};
-use irtext_context::base::Context;
 use irtext_base::text::{AttrText, IrText};
+use irtext_context::base::Context;
 use std::fmt;
 
 /// Appends the texts of the items that an iterator gives, with a separator between each two. It fails where a separator or an

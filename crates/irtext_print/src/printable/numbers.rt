@@ -4,8 +4,8 @@ ghost use Rattle.std.specs.Fmt.{decimal, signed_decimal};
 
 use crate::printable::Printable;
 use crate::printable::state::State;
-use irtext_context::base::Context;
 use irtext_base::text::{AttrText, IrText};
+use irtext_context::base::Context;
 use std::fmt;
 
 impl<T: IrText<A>, A: AttrText, U> Printable<U, T, A> for usize {

@@ -5,11 +5,11 @@ ghost use Rattle.std.specs.String.{string_bytes};
 ghost use Rattle.irtext_read.specs.QuotedBytes.{quoted_bytes};
 ghost use Rattle.irtext_print.specs.Printers.Separator.{bool_text};
 
-use irtext_read::printable::fmt_quoted;
 use crate::printable::state::State;
 use crate::printable::{ListSeparator, Printable, fmt_indented_newline};
-use irtext_context::base::Context;
 use irtext_base::text::{AttrText, IrText};
+use irtext_context::base::Context;
+use irtext_read::printable::fmt_quoted;
 use std::fmt;
 
 impl<T: IrText<A>, A: AttrText, U, X: Printable<U, T, A>> Printable<U, T, A> for &X {

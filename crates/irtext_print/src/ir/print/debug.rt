@@ -11,8 +11,8 @@ ghost use Rattle.irtext_print.specs.declared.printable.refusal.Refusal.TheVarian
 use crate::ir::print::concrete::fmt_concrete;
 use crate::printable::Refusal;
 use crate::printable::state::{RegionPrintDepthLimit, State};
-use irtext_context::base::{Context, Operation, Ptr};
 use irtext_base::text::{AttrText, IrText};
+use irtext_context::base::{Context, Operation, Ptr};
 use std::fmt;
 
 /// Appends the concrete text of an operation, its regions elided.

@@ -8,7 +8,7 @@ ghost use Rattle.irtext_print.specs.Printers.PieceText.{outlining};
 ghost use Rattle.irtext_print.specs.Printers.PrintedOperation as printed;
 ghost use Rattle.irtext_grammar.specs.Contexts.Held.{entries_of};
 
-use crate::ir::print::pieces::{is_outlined, symbol_of, is_key_written};
+use crate::ir::print::pieces::{is_key_written, is_outlined, symbol_of};
 use irtext_base::base::AttributeDict;
 use irtext_base::format::Directive;
 use irtext_base::text::AttrText;

@@ -4,8 +4,8 @@ ghost use Rattle.irtext_print.specs.Printers.Calls.{FnWrites};
 
 use crate::printable::Printable;
 use crate::printable::state::State;
-use irtext_context::base::Context;
 use irtext_base::text::{AttrText, IrText};
+use irtext_context::base::Context;
 use std::fmt;
 
 /// Prints by its closure. Made by [`printable_from_fn`](crate::irfmt::printers::printable_from_fn).

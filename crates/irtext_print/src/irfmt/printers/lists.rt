@@ -7,8 +7,8 @@ ghost use Rattle.irtext_print.specs.Printers.Items.{WritesItems, PrintsItem, Clo
 
 use crate::printable::state::State;
 use crate::printable::{ListSeparator, Printable, fmt_iter};
-use irtext_context::base::Context;
 use irtext_base::text::{AttrText, IrText};
+use irtext_context::base::Context;
 use std::fmt;
 
 /// Prints the items that a clone of its iterator gives. Made by [`list_with_sep`](crate::irfmt::printers::list_with_sep) and [`iter_with_sep`](crate::irfmt::printers::iter_with_sep).

@@ -9,8 +9,8 @@ use crate::ir::print::pieces::symbol_of;
 use crate::ir::print::regions::fmt_region;
 use crate::printable::state::State;
 use crate::printable::{Printable, Refusal};
-use irtext_context::base::{Context, Operation, Ptr};
 use irtext_base::text::{AttrText, IrText};
+use irtext_context::base::{Context, Operation, Ptr};
 use std::fmt;
 
 /// Prints an operation's id and its symbol's name. Made by [`symb_op_header`].

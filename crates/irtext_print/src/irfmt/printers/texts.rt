@@ -5,8 +5,8 @@ ghost use Rattle.irtext_read.specs.QuotedBytes.{quoted_bytes};
 
 use crate::printable::state::State;
 use crate::printable::{Printable, fmt_quoted};
-use irtext_context::base::Context;
 use irtext_base::text::{AttrText, IrText};
+use irtext_context::base::Context;
 use std::fmt;
 
 /// Prints a text between quotation marks. Made by [`quoted`](crate::irfmt::printers::quoted).
