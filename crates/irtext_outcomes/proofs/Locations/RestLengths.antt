@@ -64,19 +64,26 @@ pub record Within {X : Type 0} (b : ℕ) (f : Reader X) : Type 0 where
 module _ {b : ℕ} where
   -- a reader whose outcomes are of their texts
   pub within_honest : {X : Type 0} {f : Reader X} → Honest f → Within b f
-  within_honest h = record { leaves = λ text i. record {
-    by = λ x taken rest e. let j = leaves_no_more h text x taken rest e in omega (arith, i, j) } }
+  within_honest h = record {
+    leaves = λ text i. record {
+      by = λ x taken rest e. let j = leaves_no_more h text x taken rest e in omega (arith, i, j);
+    };
+  }
 
   -- a reader that leaves no more than its text
   pub within_no_more : {X : Type 0} {f : Reader X} → LeavesNoMore f → Within b f
-  within_no_more h = record { leaves = λ text i. record {
-    by = λ x taken rest e. let j = (h.by text).by x taken rest e in omega (arith, i, j) } }
+  within_no_more h = record {
+    leaves = λ text i. record {
+      by = λ x taken rest e. let j = (h.by text).by x taken rest e in omega (arith, i, j);
+    };
+  }
 
   -- either of two readers
   pub within_either : {X : Type 0} {f g : Reader X} (test : Text → Bool)
       → Within b f → Within b g → Within b (either test f g)
   within_either test h k = record {
-    leaves = λ text i. leaves_either b (test text) _ _ (h.leaves text i) (k.leaves text i) }
+    leaves = λ text i. leaves_either b (test text) _ _ (h.leaves text i) (k.leaves text i);
+  }
 
   module _ {X Y : Type 0} where
     -- ---- each operator
