@@ -39,11 +39,11 @@ abbrev pub argument_definitions : {P T : Type 0} → Path → ℕ → List (Name
 argument_definitions p k [] = []
 argument_definitions p k (a ∷ rest) = define_value (word_of a.0) (argument p k) ∷ argument_definitions p (suc k) rest
 
--- a reserved key has given names
+-- the attribute is a list of given names
 abbrev pub is_given : {A : Type 0} → Attribute A → Bool
 is_given a = elim a [ given_names ns ↦ true | _ ↦ false ]
 
--- an entry under the reserved key has given names
+-- the attribute may stand under the key: under that of given names stand these alone
 abbrev pub may_hold : {A : Type 0} → Text → Attribute A → Bool
 may_hold k a = not (same_text k given_names_key) || is_given a
 
@@ -55,11 +55,11 @@ is_label a = elim a [ ident n ↦ true | _ ↦ false ]
 abbrev pub Rule : Type 0 → Type 0
 Rule A = Text → Attribute A → Bool
 
--- what may stand in a block's dictionary: no label
+-- what may stand under a key of a block's dictionary: nothing under that of a label
 abbrev pub block_may_hold : {A : Type 0} → Rule A
 block_may_hold k a = may_hold k a && not (same_text k block_label_key)
 
--- what may stand in a block's entry of a section: as label an identifier
+-- what may stand under a key of a block's entry in the section: under that of a label an identifier
 abbrev pub keeps_label_key : {A : Type 0} → Rule A
 keeps_label_key k a = may_hold k a && (not (same_text k block_label_key) || is_label a)
 
@@ -158,7 +158,7 @@ keeps_if rule k None = true
 keeps_if rule k (Some a) = rule k a
 
 module _ {P A X : Type 0} where
-  -- the later of two entries of one index
+  -- the attribute that a section writes once under this index; the last one, where there are several
   abbrev pub shared_attribute : ℕ → List (Entry P A X) → Option (Attribute A)
   shared_attribute i [] = None
   shared_attribute i (of_item m x items ∷ es) = shared_attribute i es

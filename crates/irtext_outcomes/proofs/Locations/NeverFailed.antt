@@ -21,20 +21,20 @@ use Rattle.irtext_base.specs.Own.{Sincere}
 use Rattle.irtext_base.proofs.Sincere.{Of, first_of_text, not_failed, of_sincere}
 use Rattle.irtext_outcomes.proofs.Readers.NeverFailed.{Spares, NotFailed, unexpected_fine, range_fine, spares-prefixed, spares-followed, spares-mapped, spares-text, spares-word, spares-spaced, spares-position}
 
--- the reading's cause does not say so
+-- if the outcome has a cause, that does not say that the stream had failed
 pub record Fine {X : Type 0} (o : Outcome X) : Type 0 where
   pub spares : Spares NotFailed o
 
 module _ {X : Type 0} where
-  -- what is read is no cause
+  -- what is read has no cause
   pub fine_read : (x : X) (taken rest : Text) → Fine (Read x taken rest)
   fine_read x taken rest = record { spares = tt }
 
-  -- what is missing for such a cause
+  -- what is missing, by a cause that does not say so
   pub fine_missing : (cause : Fault) → NotFailed cause → Fine {X = X} (Missing cause)
   fine_missing cause h = record { spares = h }
 
-  -- what is bad for such a cause
+  -- what is bad, by a cause that does not say so
   pub fine_bad : (cause : Fault) (upto : Text) → NotFailed cause → Fine {X = X} (Bad cause upto)
   fine_bad cause upto h = record { spares = h }
 
@@ -59,7 +59,7 @@ fine_mapped f o h = record { spares = spares-mapped NotFailed f o h.spares }
 pub fine_text : (word text : Text) → Fine (text_at word text)
 fine_text word text = record { spares = spares-text NotFailed unexpected_fine word text }
 
--- no fixed word's cause says that the stream had failed
+-- no cause of a word behind white space says that the stream had failed
 pub fine_spaced : (word text : Text) → Fine (spaced_at word text)
 fine_spaced word text = record { spares = spares-spaced NotFailed unexpected_fine word text }
 

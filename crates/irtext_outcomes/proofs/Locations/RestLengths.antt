@@ -16,7 +16,7 @@ module _ {X : Type 0} where
   pub leaves_up_to : (b c : ℕ) (o : Outcome X) → b ≤ c → Leaves b o → Leaves c o
   leaves_up_to b c o h k = record { by = λ x taken rest e. let j = k.by x taken rest e in omega (arith, h, j) }
 
-  -- what is read leaves no more than this
+  -- what is read leaves no more than a bound that its rest is within
   pub leaves_read : (b : ℕ) (x : X) (taken rest : Text) → length rest ≤ b → Leaves b (Read x taken rest)
   leaves_read b x taken rest h = record { by = λ y t r e. let f : rest ≡ r = cc e in let j : length rest ≡ length r = ap length f in omega (arith, h, j) }
 
@@ -24,7 +24,7 @@ module _ {X : Type 0} where
   pub leaves_missing : (b : ℕ) (cause : Fault) → Leaves {X = X} b (Missing cause)
   leaves_missing b cause = record { by = λ x taken rest e. absurd (cc e) }
 
-  -- what is bad leaves nothing
+  -- nor is anything left of what is bad
   pub leaves_bad : (b : ℕ) (cause : Fault) (upto : Text) → Leaves {X = X} b (Bad cause upto)
   leaves_bad b cause upto = record { by = λ x taken rest e. absurd (cc e) }
 
