@@ -125,7 +125,7 @@ module _ (P : Fault → Type 0) where
             | false ↦ spares-no_integer (sign_of text) (after_sign text)
           ]
 
-      -- nor does that of an index
+      -- the reader of an index never gives the cause
       pub spares-index : (text : Text) → Spares P (index_at text)
       spares-index text = spares-followed (text_at (codes "!") text) (λ _ t. number_at t) (spares-text (codes "!") text) (λ _ t. spares-number t)
 
