@@ -1,4 +1,5 @@
-//! The lowest crate of the text layer: causes of refusals, locations, the stream of a text, identifiers, attributes, and formats.
+//! What needs no context: the stream of a text, causes of refusals, locations and the paths of files, identifiers, attributes,
+//! formats as values, and the law of a caller's types and attributes.
 #![tactic(auto)]
 
 pub mod base;

@@ -1,4 +1,4 @@
-//! Locations of the operations in a context.
+//! Locations of the operations in a context, and how they are taken away.
 ghost use Rattle.std.specs.Prelude.{◌≡◌, ℕ, None, IsSome};
 ghost use Rattle.irtext_base.specs.declared.location.Location.{Unknown};
 ghost use Rattle.irtext_context.specs.Context.{operation, before, EditsOperation, KeepsOlder};

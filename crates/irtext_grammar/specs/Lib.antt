@@ -1,4 +1,4 @@
--- What the headline rests on, in reading order
+-- Texts and readings, then trees, names, graphs, what is written of them, and what a context holds, in reading order
 pub use Rattle.irtext_base.specs.Text
 pub use Rattle.irtext_base.specs.Reading
 pub use Rattle.irtext_base.specs.Format

@@ -1,4 +1,4 @@
--- Locations are read back.
+-- Locations: they are read back, a bound on their nesting changes nothing, and steps of their readers.
 pub mod Begins
 pub mod Rows
 pub mod Integers

@@ -1,4 +1,4 @@
--- What the headline rests on, in reading order
+-- What a caller is told of a root
 pub use Rattle.irtext_base.specs.Text
 pub use Rattle.irtext_base.specs.Reading
 pub use Rattle.irtext_base.specs.Format

@@ -1,4 +1,4 @@
--- What a caller is told of a root.
+-- What a caller is told of a root, of an operation in it, and of its section.
 pub mod Supported
 pub mod Root
 pub mod PrintedBack

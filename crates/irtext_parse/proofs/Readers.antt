@@ -1,2 +1,2 @@
--- Steps of readers.
+-- Steps of the readers of formats.
 pub mod PieceSteps

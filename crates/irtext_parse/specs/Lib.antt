@@ -1,4 +1,4 @@
--- What the headline rests on, in reading order
+-- Texts, readings, formats, and the law of the caller's types
 pub use Rattle.irtext_base.specs.Text
 pub use Rattle.irtext_base.specs.Reading
 pub use Rattle.irtext_base.specs.Format

@@ -1,2 +1,2 @@
--- What a text is to a reader, with cause and place of each fault, and what a reader changes.
+-- What was read of an operation, as the code holds it.
 pub mod PiecesOf

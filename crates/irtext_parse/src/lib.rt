@@ -1,4 +1,4 @@
-//! Reading: what is parsable, locations, the pieces of formats, the section of marked items, and operations.
+//! Reading: what is parsable, locations, what the directives of formats read, the section of marked items, and operations.
 #![tactic(auto)]
 
 pub mod dialect;

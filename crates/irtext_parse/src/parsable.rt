@@ -1,4 +1,4 @@
-//! The stream that is read, with the state of a reading, and the faults of readers.
+//! What is parsable: the trait. Streams, the state of a reading and the faults of readers are handed on from below.
 
 ghost use Rattle.std.specs.Prelude.{◌≡◌};
 ghost use Rattle.irtext_base.specs.Answers.{Starves};

@@ -1,4 +1,4 @@
-//! Printing: what is printable and under which state, stored printers, and the texts of locations, errors and operations.
+//! Printing: what is printable and under which state, stored printers, and the texts of locations, errors, dialects and operations.
 #![tactic(auto)]
 
 pub mod dialect;

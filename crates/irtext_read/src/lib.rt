@@ -1,4 +1,5 @@
-//! Readers over a stream: the tokens of the format, the state of a reading, and what composite readers are made of.
+//! Readers over a stream: tokens, lists, types and attributes; the state of a reading; and texts between quotation marks, as they
+//! are read and printed.
 #![tactic(auto)]
 
 pub mod irfmt;

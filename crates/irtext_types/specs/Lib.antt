@@ -1,4 +1,4 @@
--- What the headline rests on, in reading order
+-- What callers rest on, in reading order
 pub mod Widths
 pub mod WidthOf
 pub mod WidthLaws
@@ -19,7 +19,7 @@ pub mod SincereAttributes
 pub mod EqualTypes
 pub mod EqualAttributes
 pub mod DemoDialects
--- What functions promise one another
+-- What the laws of the texts are proved by
 pub mod IntegersBack
 pub mod TypeListsBack
 pub mod FunctionsBack

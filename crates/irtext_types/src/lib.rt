@@ -1,4 +1,5 @@
-//! The types and attributes of the demo dialects `builtin` and `test`, each with its text.
+//! The types and attributes of the demo dialects `builtin` and `test`, each with its text, and the
+//! operations of these dialects, each with its format.
 #![tactic(auto)]
 
 pub mod attributes;

@@ -1,5 +1,5 @@
--- What the headline rests on, in reading order: texts and readings, trees, names, graphs, what is written of them, what a context
--- holds, and what a caller is told.
+-- What the law that a printed root is read back rests on, in reading order: texts and readings, trees, names, graphs, what is
+-- written of them, what a context holds, and what a caller is told.
 pub use Rattle.irtext_base.specs.Text
 pub use Rattle.irtext_base.specs.Reading
 pub use Rattle.irtext_base.specs.Format

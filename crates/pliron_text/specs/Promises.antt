@@ -1,4 +1,4 @@
--- What a caller is told of a root.
+-- What a caller is told of a root, of an operation in it, and of its section.
 pub use Rattle.irtext_outcomes.specs.Promises.Supported
 pub use Rattle.irtext_outcomes.specs.Promises.Operation
 pub use Rattle.irtext_outcomes.specs.Promises.Section

@@ -1,4 +1,5 @@
-//! The text of IR: operations, blocks and regions are read from it and printed to it. Hands on what the lower crates offer.
+//! The text of IR, as a caller names it: what the crates below offer, the calls of operations that are about their text, the macros
+//! that make errors, and the laws.
 #![tactic(auto)]
 
 pub mod base;

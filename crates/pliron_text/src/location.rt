@@ -1,4 +1,4 @@
-//! Where operations and errors come from, and how that is read and printed.
+//! Where operations and errors come from.
 
 pub use irtext_base::location::{Location, PathKey, Source};
 pub use irtext_context::location::erase_locations;

@@ -1,4 +1,4 @@
-//! Why a call was refused, and how errors print themselves.
+//! Why a call was refused, and the macros that make errors.
 
 pub use irtext_base::result::{Cause, Error, ErrorKind, Expected, Result, StringError};
 

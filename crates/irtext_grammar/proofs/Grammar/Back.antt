@@ -257,7 +257,7 @@ module _ {P T A : Type 0} (L : Language P T A) (types : Lawful T L.types) (owns 
     joined_nothing [] = refl
     joined_nothing (t ∷ ts) = refl
 
-    -- what stands behind an operation's regions begins no region
+    -- the regions of an operation read back, before what begins no region
     pub back_regions : (n : ℕ) (rs : Inner) (f : Text) → BackRegions n rs → begins (the 123) (after_space f) ≡ false
         → Reaches (repeated (the 123) (reads.region_readings L rs)) (joined [] (spell.region_texts L width n rs) ++ f) f
     back_regions n rs f b e = reaches_from (ap (λ t. after_space (t ++ f)) (joined_nothing (spell.region_texts L width n rs))) (back_joined n rs f b e)

@@ -70,8 +70,9 @@ module _ {P T A : Type 0} (C : Printing T A) where
   pub written_as : (g : Graph T A) (t : Tree P T A) → bare t ≡ written C None g → MatchRoots WrittenOp WrittenBlock (λ x y. ⊤) g t
   written_as g t e = ((marks_in_regions C None g.regions, ap (λ z. z.own) e), written_regions 0 g.regions t.regions (ap (λ z. z.regions) e))
 
-  -- the formats of what is written of a graph that fits are accepted
+  -- ---- the formats of what is written
   module _ (isolated : Id → Bool) (L : Language P T A) (same : (i : Id) → L.format_of i ≡ C.format_of i) where
+    -- the format of an operation that fits it is accepted
     fits_accepted : (f : Option Format) (o : GraphOp T A) (n : ℕ) → FitsFormat C isolated f o n → (d : Format) → f ≡ Some d → Accepted d
     fits_accepted None o n x d e = absurd x
     fits_accepted (Some format.canonical) o n x d e = subst Accepted (some_inside format.canonical d e) refl

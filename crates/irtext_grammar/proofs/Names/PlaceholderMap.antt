@@ -191,7 +191,7 @@ module _ (g : Scope) (gs : List Scope) (b : List (User × Place)) (s : Names) (w
             (same_path _ _ (ap (λ z. (z ++ operands gs) ++ final b) (ap (λ h. shown (means g) g.facts ++ (u, h) ∷ []) (sym itself) ∙ sym (shown_more g x numbered same))));
       }
 
--- a use is followed
+-- the machine's step at a use says what the facts with that use say
 pub use_follows : (gs : List Scope) (b : List (User × Place)) (s : Names) (w : Word) (u : User) → Linked gs b s → Follows (outside (top (facts_in gs)) w) (onto (facts_in gs) (uses w.name u ∷ [])) b (use_name s w u)
 use_follows [] b s w u l = record { scopes = []; facts_are = refl; agrees = subst (λ z. Agrees (fail (NoActiveScope w.name) w.at) [] b (use_in s w u z)) (sym l.scopes_are) refl }
 use_follows (g ∷ gs) b s w u l = go (among w.name (names g.facts)) refl
@@ -304,7 +304,7 @@ module _ (g : Scope) (gs : List Scope) (b : List (User × Place)) (s : Names) (w
           ap (λ c. cond c (bound p) (hole (g.number n))) (ne_eqb (g.number n) (g.number w.name) (λ j. true≢false (sym (same_text_eq w.name n (sym (a.apart n w.name (record { there = k; open_yet = d }) here j))) ∙ i)))
           ∙ sym (ap (λ o. held_of o (g.number n)) (other_name n i ∙ d))
 
--- a definition is followed
+-- its step at a definition says what the facts with that definition say
 pub define_follows : (gs : List Scope) (b : List (User × Place)) (s : Names) (w : Word) (p : Place) → Linked gs b s → Follows (defined_before (top (facts_in gs)) w) (onto (facts_in gs) (defines w.name p ∷ [])) b (define_name s w p)
 define_follows [] b s w p l = record { scopes = []; facts_are = refl; agrees = subst (λ z. Agrees (fail (NoActiveScope w.name) w.at) [] b (define_in s w p z)) (sym l.scopes_are) refl }
 define_follows (g ∷ gs) b s w p l = go (lookup w.name g.facts) refl (among w.name (names g.facts)) refl
@@ -327,7 +327,7 @@ define_follows (g ∷ gs) b s w p l = go (lookup w.name g.facts) refl (among w.n
 pub empty_scope : ℕ → Scope
 empty_scope n = record { facts = []; number = λ m. 0; base = n }
 
--- a scope that is opened is followed
+-- its step into a scope puts an empty one over the others
 pub enter_follows : (gs : List Scope) (b : List (User × Place)) (s : Names) → Linked gs b s → Linked (empty_scope s.fresh ∷ gs) b (enter_scope s)
 unfolding empty_scope
 enter_follows gs b s l = record {
@@ -471,7 +471,7 @@ abbrev pub under_scopes : List Scope → List Scope
 under_scopes [] = []
 under_scopes (g ∷ gs) = gs
 
--- a scope that is closed is followed
+-- its step out of a scope fails at a name without a definition, and else binds what the scope's facts bind
 pub leave_follows : (gs : List Scope) (b : List (User × Place)) (s : Names) (a : ℕ) → Linked gs b s
     → Agrees (unresolved a (top_facts (facts_in gs)) (top_facts (facts_in gs))) (under_scopes gs) (b ++ bound_in (top_facts (facts_in gs)) (top_facts (facts_in gs))) (leave_scope s a)
 leave_follows [] b s a l = subst (λ z. Agrees [] [] (b ++ []) (leave_in s a z)) (sym l.scopes_are) (subst (λ z. Linked [] z s) (sym (append-nil b)) l)

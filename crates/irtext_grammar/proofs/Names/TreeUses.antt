@@ -177,18 +177,18 @@ labels_piece : {P T A : Type 0} (x : Piece P T A) → flat_map none (texts (valu
 labels_piece x = ap₂ ◌++◌ (flat_none (texts (values_in x))) (flat_one (texts (labels_in x)))
 
 module _ {P T A : Type 0} (isolated : Id → Bool) (Q : Text → Type 0) where
-  -- the same of the values that blocks use
+  -- what holds of each value that the script of blocks uses holds of each that the blocks use
   pub values_in_blocks : (p : Path) (k : ℕ) (bs : Blocks (Op P T A) (Head P T A) (Brace P)) → WholeBlocks bs → Both (Each Q (values_used (blocks_script isolated p k bs))) (Each Q (all_in_blocks isolated used_values (λ h. []) shared bs))
   values_in_blocks = in_blocks isolated one none values_in shared Unless values_used refl values_step values_piece Q (values_regions Q) (values_out Q)
 
-  -- the same of the values that a root uses
+  -- the same of the values of a root
   pub values_in_root : (t : Tree P T A) → WholeOperations (operation t.own t.regions no_operations) → Both (Each Q (values_used (tree_script isolated t done))) (Each Q (all_in_regions isolated used_values (λ h. []) shared (isolated t.own.id) t.regions ++ used_values t.own))
   values_in_root = in_root isolated one none values_in shared Unless values_used refl values_step values_piece Q (values_regions Q) (values_out Q)
 
-  -- the same of the labels that blocks name
+  -- what holds of each label that the script of blocks names holds of each that the blocks name
   pub labels_in_blocks : (p : Path) (k : ℕ) (bs : Blocks (Op P T A) (Head P T A) (Brace P)) → WholeBlocks bs → Both (Each Q (labels_used (blocks_script isolated p k bs))) (Each Q (all_in_blocks isolated used_labels (λ h. []) kept_inside bs))
   labels_in_blocks = in_blocks isolated none one labels_in kept_inside Never labels_used refl labels_step labels_piece Q (labels_regions Q) (labels_out Q)
 
-  -- the same of the labels that a root names
+  -- the same of the labels of a root
   pub labels_in_root : (t : Tree P T A) → WholeOperations (operation t.own t.regions no_operations) → Both (Each Q (labels_used (tree_script isolated t done))) (Each Q (all_in_regions isolated used_labels (λ h. []) kept_inside (isolated t.own.id) t.regions ++ used_labels t.own))
   labels_in_root = in_root isolated none one labels_in kept_inside Never labels_used refl labels_step labels_piece Q (labels_regions Q) (labels_out Q)

@@ -140,7 +140,7 @@ module _ {P T A X : Type 0} (L : Language P T A) (types : Lawful T L.types) (own
         located : (l t : Text) (x : X) (left : Text) → begins is_whitespace l ≡ false → begins is_whitespace t ≡ false → location_at (l ++ t) ≡ found x left → after_space left ≡ after_space t → Reaches (read.location L location_at x) (l ++ t) t
         located l t x left e g q s = record { left = left; reading = subst (λ z. location_at z ≡ found x left) (sym (tight l t e g)) q; same = s }
 
-    -- what is known of an item's entry
+    -- the location of an item's entry reads, and each of its pairs can be written and read back
     abbrev pub IsSpellableEntryOf : graph.Entry C → Type 0
     IsSpellableEntryOf e = LocationReads location_at K e.location × Each IsSpellablePair e.attributes
 

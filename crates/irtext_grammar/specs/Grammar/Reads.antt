@@ -122,7 +122,7 @@ module _ {P T A : Type 0} (L : Language P T A) where
   parts (tree.region i ∷ ps) (r ∷ rs) = white (r ▸ parts ps rs)
   parts (tree.regions ∷ ps) rs = white (repeated (the 123) rs ▸ parts ps [])
 
-  -- names and `=`, where a whole list and `=` stand; else nothing
+  -- names with `,` between, and `=`
   abbrev pub results : List (Name P) → Reading
   results ns = separated 44 no_word (map name ns) ▹ literal (codes "=")
 

@@ -102,7 +102,7 @@ with_content es None = es
 with_content es (Some c) = put_all es c.1
 
 module _ {P T A X : Type 0} (isolated : Id → Bool) (first : P → X) (all : List (Entry P A X)) where
-  -- v and l are the whole scopes round it
+  -- what is built of an operation's own, where v and l are the whole scopes round it
   abbrev pub built_op : List (Fact Text) → List (Fact Text) → Op P T A → BuiltOp T A X
   built_op v l o = record {
     id = o.id;

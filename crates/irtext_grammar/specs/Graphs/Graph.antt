@@ -158,7 +158,7 @@ module _ {T A : Type 0} (C : Printing T A) where
     marks_in_operations l no_operations = 0
     marks_in_operations l (operation o rs os) = marks_in_regions l rs + own_marks o.location (op_outlined o) + marks_in_operations l os
 
-  -- n marks stand before it; an operation's own comes after those of its regions
+  -- what is written of an operation's own, with n marks before it: those of its regions are among them
   abbrev pub tree_op : ℕ → GraphOp T A → Op ⊤ T A
   tree_op n o = record { place = tt; names = map (λ r. value r.0) o.results; id = o.id; body = body_of o (C.format_of o.id); mark = mark_at n o.location (op_outlined o) }
 
@@ -194,7 +194,7 @@ module _ {T A : Type 0} (C : Printing T A) where
   abbrev pub written : Limit → Graph T A → Tree ⊤ T A
   written l g = record { own = tree_op (marks_in_regions l g.regions) g.own; regions = tree_regions l 0 g.regions }
 
-  -- The marked items, in the order of their marks.
+  -- what the section gives of a marked item: its location, where it is known, and attributes
   pub record Entry : Type 0 where
     pub location : Option Text
     pub attributes : List (Text × Attribute A)
@@ -223,7 +223,7 @@ module _ {T A : Type 0} (C : Printing T A) where
   abbrev pub entries_of : Limit → Graph T A → List Entry
   entries_of l g = entries_of_regions l g.regions ++ own_entry g.own.location (op_outlined g.own)
 
-  -- The attributes that are written once, each at its first mention.
+  -- the caller's attribute, where it is one that is written once
   abbrev pub once : Attribute A → List A
   once (own a) = cond (C.own_once a) (a ∷ []) []
   once _ = []

@@ -14,7 +14,7 @@ module _ {P : Type 0} where
   abbrev pub word_of : Name P → Word Text P
   word_of n = record { name = n.text; at = n.place }
 
-  -- operands, from place k on; and so on
+  -- the names are used as operands, from place k on
   abbrev pub value_uses : Path → ℕ → List (Name P) → List (Act Text P)
   value_uses p k [] = []
   value_uses p k (n ∷ ns) = use_value (word_of n) (operand p k) ∷ value_uses p (suc k) ns
@@ -39,11 +39,11 @@ abbrev pub argument_definitions : {P T : Type 0} → Path → ℕ → List (Name
 argument_definitions p k [] = []
 argument_definitions p k (a ∷ rest) = define_value (word_of a.0) (argument p k) ∷ argument_definitions p (suc k) rest
 
--- a reserved key has given names
+-- the attribute is a list of given names
 abbrev pub is_given : {A : Type 0} → Attribute A → Bool
 is_given a = elim a [ given_names ns ↦ true | _ ↦ false ]
 
--- an entry under the reserved key has given names
+-- the attribute may stand under the key: under that of given names stand these alone
 abbrev pub may_hold : {A : Type 0} → Text → Attribute A → Bool
 may_hold k a = not (same_text k given_names_key) || is_given a
 
@@ -55,11 +55,11 @@ is_label a = elim a [ ident n ↦ true | _ ↦ false ]
 abbrev pub Rule : Type 0 → Type 0
 Rule A = Text → Attribute A → Bool
 
--- what may stand in a block's dictionary: no label
+-- what may stand under a key of a block's dictionary: nothing under that of a label
 abbrev pub block_may_hold : {A : Type 0} → Rule A
 block_may_hold k a = may_hold k a && not (same_text k block_label_key)
 
--- what may stand in a block's entry of a section: as label an identifier
+-- what may stand under a key of a block's entry in the section: under that of a label an identifier
 abbrev pub keeps_label_key : {A : Type 0} → Rule A
 keeps_label_key k a = may_hold k a && (not (same_text k block_label_key) || is_label a)
 
@@ -67,7 +67,7 @@ keeps_label_key k a = may_hold k a && (not (same_text k block_label_key) || is_l
 abbrev pub key_act : {P A : Type 0} → Rule A → Name P × Attribute A → Act Text P
 key_act rule e = claim (rule e.0.text e.1) (record { cause = ReservedKey e.0.text; at = Some e.0.place })
 
--- how many operands, and successors, have a directive of their own
+-- how many operands have a directive of their own
 abbrev pub singles : {P T A : Type 0} → List (Part P T A) → ℕ
 singles ps = length (views (λ p. elim p [ tree.operand i n ↦ n ∷ [] | _ ↦ [] ]) ps)
 
@@ -96,7 +96,7 @@ region_script iso (shown place) body then = within iso place body then
 region_script iso elided body then = then
 
 module _ {P T A : Type 0} where
-  -- k and l are the places of the first operand and successor of a list
+  -- what a piece does with names and keys, where k and l are the places of the first operand and successor of a list
   abbrev pub piece_acts : Path → ℕ → ℕ → Piece P T A → List (Act Text P)
   piece_acts p k l (tree.operand i n) = use_value (word_of n) (operand p i) ∷ []
   piece_acts p k l (tree.operands ns) = value_uses p k ns
@@ -113,12 +113,12 @@ module _ {P T A : Type 0} where
   parts_script p k l (tree.region i ∷ ps) (r ∷ rs) then = r (parts_script p k l ps rs then)
   parts_script p k l (tree.regions ∷ ps) rs then = all_of rs (parts_script p k l ps [] then)
 
-  -- names and result types agree in number; then the results are defined; then the mark
+  -- the end of an operation: names and result types agree in number; then the results are defined; then the mark
   abbrev pub closing_acts : Path → Op P T A → List (Act Text P)
   closing_acts p o = claim (length (result_types o.body) == length o.names) (record { cause = ResultCount (length (result_types o.body)) (length o.names); at = Some o.place })
       ∷ (result_definitions p 0 o.names ++ mark_acts o.mark)
 
-  -- the header is read whole before its names count
+  -- what a block's header does, once all of it was read: its keys, its arguments, its mark and its label
   abbrev pub header_acts : Path → Head P T A → List (Act Text P)
   header_acts p h = map (key_act block_may_hold) (entries_if h.attributes) ++ (argument_definitions p 0 h.arguments ++ (mark_acts h.mark ++ define_label (word_of h.label) (block_at p) ∷ []))
 
@@ -143,11 +143,13 @@ module _ {P T A : Type 0} where
       operations_script p i no_operations then = then
       operations_script p i (operation o rs os) then = operation_script (i ∷ p) o (region_scripts (i ∷ p) 0 (isolated o.id) rs) (operations_script p (suc i) os then)
 
-    -- a root's own path is the empty one
+    -- what a root does, and then; its own path is the empty one
     abbrev pub tree_script : Tree P T A → Script Text P → Script Text P
     tree_script t then = operation_script [] t.own (region_scripts [] 0 (isolated t.own.id) t.regions) then
 
 -- ---- the section
+
+-- an attribute that an entry writes out may stand under its key; a reference says nothing yet
 abbrev pub item_acts : {P A : Type 0} → Rule A → Name P × Item P A → List (Act Text P)
 item_acts rule (n, direct a) = key_act rule (n, a) ∷ []
 item_acts rule (n, reference m) = []
@@ -158,7 +160,7 @@ keeps_if rule k None = true
 keeps_if rule k (Some a) = rule k a
 
 module _ {P A X : Type 0} where
-  -- the later of two entries of one index
+  -- the attribute that a section writes once under this index; the last one, where there are several
   abbrev pub shared_attribute : ℕ → List (Entry P A X) → Option (Attribute A)
   shared_attribute i [] = None
   shared_attribute i (of_item m x items ∷ es) = shared_attribute i es

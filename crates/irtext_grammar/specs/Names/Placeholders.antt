@@ -176,7 +176,7 @@ pub record Resolved (bindings : List (User × Place)) (t : Tracker) : Type 0 whe
   pub no_scope_open : (t.values.scopes ≡ []) × (t.labels.scopes ≡ [])
   pub each : (u : User) (h : Held) → In (u, h) (t.values.slots ++ t.labels.slots) ↔ ((p : Place) × (h ≡ bound p) × In (u, p) bindings)
 
--- the first failure, or all resolved
+-- a reading ends with the first of these failures, or else without any and with all resolved
 abbrev pub AgreesWith : List Failure → List (User × Place) → Result Tracker Failure → Type 0
 AgreesWith [] b (Ok t) = Resolved b t
 AgreesWith [] b (Err f) = ⊥

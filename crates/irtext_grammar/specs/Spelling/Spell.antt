@@ -81,7 +81,7 @@ module _ {P T A : Type 0} (L : Language P T A) where
   piece (tree.header n) = codes "@" ++ n.text
   piece (tree.types ts) = joined comma (map L.types.written ts)
 
-  -- a space, but not before a word that hugs what stands before it
+  -- a space, but not before a word that joins what stands before it
   abbrev pub space : Piece P T A → Text
   space (tree.word s) = cond (begins joins_left s) [] (codes " ")
   space _ = codes " "

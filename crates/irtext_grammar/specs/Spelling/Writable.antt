@@ -24,7 +24,7 @@ has_region no_regions = false
 has_region (region brace bs rs) = true
 
 module _ {P T A : Type 0} (L : Language P T A) where
-  -- the body of an operation of this format, which reads uniquely
+  -- the body has the parts of this format, each as it is spelled, and a part for each region
   abbrev pub IsSpellableBody : Format → Body P T A → Regions (Op P T A) (Head P T A) (Brace P) → Type 0
   IsSpellableBody (format.custom directives) (tree.custom parts) rs = (c8 directives ≡ true) × (map directive parts ≡ map Some directives) × AreSpellable parts × Enough parts rs
   IsSpellableBody format.canonical (tree.canonical names labels entries operand_types result_types) rs = Each IsName names × Each IsName labels × Each IsSpellableEntry entries

@@ -29,7 +29,7 @@ use Rattle.irtext_outcomes.specs.Promises.Supported.{OperationRefused, SectionRe
 abbrev pub indices_of : {X : Type 0} → List (ℕ × X) → List ℕ
 indices_of marks = map (λ m. m.0) marks
 
--- the stream took some characters, and is as fine as it was
+-- the stream took some characters, and has failed exactly where it had
 pub record Moves (old new : StreamView) : Type 0 where
   pub taken : Text
   pub takes : Takes itself replaced taken new.rest old new

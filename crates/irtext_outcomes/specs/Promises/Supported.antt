@@ -65,7 +65,7 @@ pub record StopsAt {A : Type 0} (attr : Text → Outcome (AttrView A)) (marks : 
   pub more : begins (the 33) mid ≡ true
   pub unknown : entry_at attr (may_have marks before) mid ≡ Bad (UnknownIndex j) []
 
--- the section behind a module with this mark says this and leaves this: nothing stands there where there is no mark
+-- the section behind a root with this mark says this and leaves this: nothing stands there where there is no mark
 abbrev pub SectionStands : {A : Type 0} → (Text → Outcome (AttrView A)) → Option ℕ → List (ℕ × Option (Written A)) → Text → Text → Type 0
 SectionStands attr None [] text rest = rest ≡ text
 SectionStands attr None (e ∷ es) text rest = ⊥

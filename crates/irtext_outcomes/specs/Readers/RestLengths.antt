@@ -1,4 +1,4 @@
--- For callers: what bounds the nesting of a location that is read.
+-- For callers: how much of a text a reading leaves, which bounds the nesting of a location.
 use Rattle.std.specs.Prelude.{◌≡◌, ◌≤◌, ℕ, length}
 use Rattle.irtext_base.specs.Text.{Text}
 use Rattle.irtext_base.specs.Answers.{Outcome, Read}

@@ -28,7 +28,7 @@ abbrev pub spaced_if : Option Text → Text
 spaced_if None = []
 spaced_if (Some text) = spaced text
 
--- a fixed word, behind a space unless it hugs what stands before it
+-- a fixed word, behind a space unless it joins what stands before it
 abbrev pub word_text : Text → Text
 word_text s = cond (begins joins_left s) [] (codes " ") ++ s
 

@@ -139,7 +139,7 @@ module _ {T A U : Type 0} (L : Language ⊤ T A) (C : Printing T A) where
   printed ctx p s = cond (is_printed_in C (operation ctx p) && (length s.gathered == 0))
       (option_map (λ g. (encode_utf8_all (text L C g s.indent s.width (levels s.limit)), s)) (graph_of L.owns.written ctx p)) None
 
--- the directive is this one
+-- the directive is of this kind
 abbrev pub is_of_kind : SingleKind → Directive → Bool
 is_of_kind sole.Regions = is_regions
 is_of_kind sole.Dictionary = is_dictionary

@@ -1,4 +1,4 @@
-//! The printing state and its guards.
+//! The printing state: its layout, how deep regions are printed, what was gathered, and the caller's data.
 ghost use Rattle.std.specs.Prelude.{◌≡◌, ◌+◌, ◌-◌, ◌<◌, ◌≤◌, ◌^◌, [], OnOk, OnErr, IfOk, IfSome, OnSome, IfNone, Some, None, ◌∷◌, ◌++◌, IsOk, IsSome, length, ◌↔◌, ◌≢◌};
 ghost use Rattle.std.specs.Borrow.{sem, Lends, RestsIfErr, RestsIfNone};
 ghost use Rattle.irtext_print.specs.contracts.printable.state.State.{the_row};

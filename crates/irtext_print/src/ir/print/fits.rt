@@ -44,7 +44,7 @@ fn count_regions(directives: &[Directive]) -> usize
     directives.iter().filter(|d| writes_region(*d)).count()
 }
 
-/// The directives of which one can stand.
+/// The kinds of directives that stand once at most.
 #[derive(Clone, Copy)]
 enum SingleKind {
     Regions,

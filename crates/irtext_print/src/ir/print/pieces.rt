@@ -32,7 +32,7 @@ fn word_joins_left(word: &str) -> bool
     }
 }
 
-/// Appends a fixed word, behind a space unless it hugs what stands before it.
+/// Appends a fixed word, behind a space unless it joins what stands before it.
 pub(crate) fn fmt_word(word: &str, f: &mut String) -> fmt::Result
     ensures { OnOk result (string_bytes f.new ≡ string_bytes f.old ++ encode_utf8_all (pieces.word_text (chars word.now))) }
 {

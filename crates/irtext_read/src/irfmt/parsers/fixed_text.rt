@@ -1,4 +1,4 @@
-//! The readers of fixed texts and of a format's literals.
+//! The reader of fixed texts, a format's literals among them.
 ghost use Rattle.std.specs.Prelude.{◌≡◌, IfOk};
 ghost use Rattle.irtext_base.specs.Answers.{Answers, unless_failed};
 ghost use Rattle.irtext_base.specs.Faults.{Unexpected, Word, characters, demand_of};
