@@ -63,10 +63,10 @@ module _ {T A : Type 0} where
   abbrev pub graph_of : (A → Text) → ContextView T A → Ptr Operation → Option (Graph T A)
   graph_of written ctx p = option_and_then (λ op. elim op.result_types [ [] ↦ Some (graph_at op (known_text written ctx.paths op.loc)) | _ ∷ _ ↦ None ]) (operation ctx p)
 
--- the line and the column of a place in a stream's text, where a place is the number of characters from it to the end
+-- all of a stream's text: the characters passed, and those to come
 abbrev pub whole : StreamView → Text
 whole v = v.passed ++ v.rest
 
--- a position stands at that place
+-- a position is the line and the column of a place in a text, where a place is the number of characters from it to the end
 abbrev pub StandsAt : Text → ℕ → SourcePosition → Type 0
 StandsAt text place at = IsAt at.line at.column (take (length text - place) text)

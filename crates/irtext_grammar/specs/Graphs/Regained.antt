@@ -31,7 +31,7 @@ module _ {T A : Type 0} (C : Printing T A) where
   abbrev pub Named : Graph T A → Type 0
   Named g = OpNamed g.own × AllRegions OpNamed BlockNamed (λ r. ⊤) g.regions
 
--- dictionaries as maps
+-- two dictionaries are equal as maps
 abbrev pub EqualDictionary : {A : Type 0} → List (Text × Attribute A) → List (Text × Attribute A) → Type 0
 EqualDictionary es fs = (key : Text) → lookup key fs ≡ lookup key es
 

@@ -41,7 +41,7 @@ pub data Cause (N : Type 0) : Type 0 where
   UnknownIndex : ℕ → Cause N
   -- a reference has an index that no attribute written once has
   UnknownPrintOnce : ℕ → Cause N
-  -- the key is kept for given names, and has something else
+  -- the key is reserved, and the attribute may not stand under it there
   ReservedKey : Text → Cause N
 
 -- a refusal, with the place where it is reported, if it has one of its own

@@ -143,7 +143,7 @@ fine false (Read y t r) old new x h = ap (λ v. v.failed) h.1.is
 fine false (Missing cause) old new x h = absurd h
 fine false (Bad cause upto) old new x h = absurd h
 
--- what is read leaves the stream as fine as it was
+-- behind what is read the stream has failed exactly where it had
 pub reads_fine : {X Y A : Type 0} {see : Y → X} {f : Text → Outcome X} {old new : StreamView} {y : Y} → MustRead {A = A} itself replaced see f old (Ok y) new → new.failed ≡ old.failed
 reads_fine {see = see} {f = f} {old = old} {new = new} {y = y} h = fine old.failed (f old.rest) old new (see y) h.answers
 
@@ -169,6 +169,6 @@ may_fine false (Read y t r) old new x h = ap (λ v. v.failed) h.1.is
 may_fine false (Missing cause) old new x h = absurd h
 may_fine false (Bad cause upto) old new x h = absurd h
 
--- what is read leaves the stream as fine as it was
+-- behind what is read the stream has failed exactly where it had
 pub read_fine : {X Y A : Type 0} {see : Y → X} {f : Text → Outcome X} {old new : StreamView} {y : Y} → MayRead {A = A} itself replaced see f old (Ok y) new → new.failed ≡ old.failed
 read_fine {see = see} {f = f} {old = old} {new = new} {y = y} h = may_fine old.failed (f old.rest) old new (see y) h.answers
