@@ -21,6 +21,14 @@ module _ {S : Type 0} (view : S → StreamView) (at : S → StreamView → S) (v
   pub seen_after : (old mid : S) (t r : Text) → Takes view at t r old mid → view mid ≡ behind (view old) t r
   seen_after old mid t r k = ap view k.is ∙ view_at old (behind (view old) t r)
 
+  -- characters taken leave a stream that has not failed so
+  pub takes_fine : (old mid : S) (t r : Text) → Takes view at t r old mid → (view old).failed ≡ false → (view mid).failed ≡ false
+  takes_fine old mid t r k f = ap (λ v. v.failed) (seen_after old mid t r k) ∙ f
+
+  -- a stream that has not failed behind characters taken had not before
+  pub fine_before : (old mid : S) (t r : Text) → Takes view at t r old mid → (view mid).failed ≡ false → (view old).failed ≡ false
+  fine_before old mid t r k f = sym (ap (λ v. v.failed) (seen_after old mid t r k)) ∙ f
+
   -- a stream that stands in what follows stands in the whole text
   pub stands_after : (b : Bool) (old mid new : S) (t r : Text) → Takes view at t r old mid → Stands view at b mid new → Stands view at b old new
   stands_after b old mid new t r k s =
@@ -74,7 +82,7 @@ module _ {S : Type 0} (view : S → StreamView) (at : S → StreamView → S) (v
     starves_after old mid new t r fault k s = record {
       because = s.because;
       committed = s.committed;
-      fine = sym (ap (λ v. v.failed) (seen_after old mid t r k)) ∙ s.fine;
+      fine = fine_before old mid t r k s.fine;
       place = s.place;
       left = stands_after true old mid new t r k s.left;
     }
