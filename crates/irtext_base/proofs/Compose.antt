@@ -65,6 +65,10 @@ module _ {S : Type 0} (view : S → StreamView) (at : S → StreamView → S) (v
   passed_still : (mid new : S) → new ≡ at mid (after_failure (view mid)) → (view mid).passed ≡ (view new).passed
   passed_still mid new n = sym (ap (λ z. (view z).passed) n ∙ ap (λ v. v.passed) (view_at mid (after_failure (view mid))))
 
+  -- what a stream is in which only the text was changed
+  beside : (old new : S) (v : StreamView) → new ≡ at old v → new ≡ at old (view new)
+  beside old new v e = e ∙ ap (at old) (sym (ap view e ∙ view_at old v))
+
   -- a stream behind characters taken stands in the text
   pub takes_stands : (old mid : S) (t r : Text) → Takes view at t r old mid → Stands view at (view old).failed old mid
   takes_stands old mid t r k = record { seen = behind (view old) t r; is = k.is; fails = refl; same = append_assoc (view old).passed t r ∙ ap (λ z. (view old).passed ++ z) k.same }
@@ -123,6 +127,16 @@ module _ {S : Type 0} (view : S → StreamView) (at : S → StreamView → S) (v
     answers_after see (Bad cause upto) old mid new t r (Ok y) k h = absurd h
     answers_after see (Bad cause upto) old mid new t r (Err fault) k (inl s) = inl (starves_after old mid new t r fault k s)
     answers_after see (Bad cause upto) old mid new t r (Err fault) k (inr e) = inr (commits_after cause upto old mid new t r fault k e)
+
+    -- a reader changes nothing beside the text
+    pub answers_beside : (at_view : (s : S) → at s (view s) ≡ s) {X Y : Type 0} (see : Y → X) (o : Outcome X) (old new : S) (a : Result Y (ParseFault A)) → Answers view at see o old a new → new ≡ at old (view new)
+    answers_beside at_view see (Read x taken rest) old new (Ok y) h = beside old new (behind (view old) taken rest) h.1.is
+    answers_beside at_view see (Missing cause) old new (Ok y) h = absurd h
+    answers_beside at_view see (Bad cause upto) old new (Ok y) h = absurd h
+    answers_beside at_view see o old new (Err fault) (inl s) = beside old new s.left.seen s.left.is
+    answers_beside at_view see (Read x taken rest) old new (Err fault) (inr e) = absurd e
+    answers_beside at_view see (Missing cause) old new (Err fault) (inr e) = beside old new (view old) (e.left ∙ sym (at_view old))
+    answers_beside at_view see (Bad cause upto) old new (Err fault) (inr e) = beside old new e.left.seen e.left.is
 
     -- where the first of two readers refuses, both do
     pub refuses_first : {X Y V W : Type 0} (see : Y → X) (sees : W → V) (b : Bool) (o : Outcome X) (next : X → Text → Outcome V) (old new : S) (fault : ParseFault A) → Answers view at see (unless_failed b o) old (Err fault) new → Answers view at sees (unless_failed b (followed o next)) old (Err fault) new

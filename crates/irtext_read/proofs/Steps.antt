@@ -6,7 +6,7 @@ use Rattle.irtext_base.specs.Reading.{the}
 use Rattle.irtext_base.specs.Stream.{StreamView, advanced}
 use Rattle.irtext_base.specs.Answers.{Outcome, Read, Missing, Bad, Takes, Starves, StarvesHere, Refuses, Answers, Gives, DemandsOf, demanded, prefixed, mapped, followed, unless_failed}
 use Rattle.irtext_base.specs.declared.parsable.fault.ParseFault.{ParseFault}
-use Rattle.irtext_base.proofs.Compose.{takes_none, takes_fine, seen_after, takes_more, answers_after, answers_demanded, starves_after, starves_behind, refuses_first, refuses_mapped_demanded}
+use Rattle.irtext_base.proofs.Compose.{takes_none, takes_fine, seen_after, takes_more, answers_after, answers_demanded, starves_behind, refuses_first, refuses_mapped_demanded}
 use Rattle.irtext_read.specs.Tokens.{space_at, text_at}
 use Rattle.irtext_read.specs.MustRead.{MustRead, MayRead}
 use Rattle.irtext_read.proofs.Grammar.{text_at-literal}
@@ -199,13 +199,9 @@ module _ {S : Type 0} (l : Lens S) where
       let g : Gives l.view l.at (prefixed p.taken (mapped k (space_at (l.view mid).rest))) old (sees w) new = (e, takes_more l.view l.at l.view_at l.at_at old mid new p.taken (l.view mid).rest (front is_whitespace (l.view mid).rest) (after is_whitespace (l.view mid).rest) p.takes h) in
       record { answers = rw (p.fine, p.so_far) g }
 
-  -- memory is refused on the way
-  pub starved : {W V A : Type 0} {sees : W → V} {outcome next : Text → Outcome V} {old mid new : S} {fault : ParseFault A} → Passed outcome next old mid → Starves l.view l.at mid fault new → MustRead l.view l.at sees outcome old (Err fault) new
-  starved {old = old} {mid = mid} {new = new} {fault = fault} p h = record { answers = inl (starves_after l.view l.at l.view_at l.at_at old mid new p.taken (l.view mid).rest fault p.takes h) }
-
   -- memory is refused on the way, where the stream stands
-  pub starved_here : {W V A : Type 0} {sees : W → V} {outcome next : Text → Outcome V} {old mid new : S} {fault : ParseFault A} → Passed outcome next old mid → StarvesHere l.view l.at mid fault new → MustRead l.view l.at sees outcome old (Err fault) new
-  starved_here {old = old} {mid = mid} {new = new} {fault = fault} p h = record { answers = inl (starves_behind l.view l.at l.view_at l.at_at old mid new p.taken (l.view mid).rest fault p.fine p.takes h) }
+  pub starved : {W V A : Type 0} {sees : W → V} {outcome next : Text → Outcome V} {old mid new : S} {fault : ParseFault A} → Passed outcome next old mid → StarvesHere l.view l.at mid fault new → MustRead l.view l.at sees outcome old (Err fault) new
+  starved {old = old} {mid = mid} {new = new} {fault = fault} p h = record { answers = inl (starves_behind l.view l.at l.view_at l.at_at old mid new p.taken (l.view mid).rest fault p.fine p.takes h) }
 
   -- what is to be read is seen in another way
   pub onward : {V : Type 0} {outcome : Text → Outcome V} {old mid : S} (next last : Text → Outcome V) → next (l.view mid).rest ≡ last (l.view mid).rest → Passed outcome next old mid → Passed outcome last old mid
