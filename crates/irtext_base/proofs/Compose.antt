@@ -1,9 +1,9 @@
 -- One reader behind another, and a reader that is demanded.
-use Rattle.std.proofs.Common.{◌≡◌, Bool, true, false, Result, Ok, Err, [], ◌++◌, refl, ◌∙◌, ap, subst, append_assoc, append-nil, ◌⊎◌, inl, inr}
+use Rattle.std.proofs.Common.{◌≡◌, Bool, true, false, Result, Ok, Err, [], ◌++◌, refl, sym, ◌∙◌, ap, subst, append_assoc, append-nil, ◌⊎◌, inl, inr}
 use Rattle.irtext_base.specs.Text.{Text}
 use Rattle.irtext_base.specs.Stream.{StreamView, IsAt, behind, after_failure}
 use Rattle.irtext_base.specs.Faults.{Fault, Memory, fault_of}
-use Rattle.irtext_base.specs.Answers.{Outcome, Read, Missing, Bad, Takes, Stands, Starves, Commits, Demands, DemandsOf, Answers, Gives, Refuses, demanded, prefixed, mapped, followed, unless_failed}
+use Rattle.irtext_base.specs.Answers.{Outcome, Read, Missing, Bad, Takes, Stands, Starves, FailsBehind, StarvesHere, Commits, Demands, DemandsOf, Answers, Gives, Refuses, demanded, prefixed, mapped, followed, unless_failed}
 use Rattle.irtext_base.specs.declared.parsable.fault.ParseFault.{ParseFault}
 
 -- what follows characters taken is demanded already
@@ -13,9 +13,21 @@ demanded-prefixed t (Missing cause) = refl
 demanded-prefixed t (Bad cause upto) = refl
 
 module _ {S : Type 0} (view : S → StreamView) (at : S → StreamView → S) (view_at : (s : S) (v : StreamView) → view (at s v) ≡ v) (at_at : (s : S) (v w : StreamView) → at (at s v) w ≡ at s w) where
+  -- nothing is taken
+  pub takes_none : ((s : S) → at s (view s) ≡ s) → (s : S) → Takes view at [] (view s).rest s s
+  takes_none at_view s = record { is = sym (at_view s) ∙ ap (λ (p : Text). at s (let v : StreamView = record { passed = p; rest = (view s).rest; failed = (view s).failed } in v)) (sym (append-nil (view s).passed)); same = refl }
+
   -- what a stream is behind the characters taken
   pub seen_after : (old mid : S) (t r : Text) → Takes view at t r old mid → view mid ≡ behind (view old) t r
   seen_after old mid t r k = ap view k.is ∙ view_at old (behind (view old) t r)
+
+  -- characters taken leave a stream that has not failed so
+  pub takes_fine : (old mid : S) (t r : Text) → Takes view at t r old mid → (view old).failed ≡ false → (view mid).failed ≡ false
+  takes_fine old mid t r k f = ap (λ v. v.failed) (seen_after old mid t r k) ∙ f
+
+  -- a stream that has not failed behind characters taken had not before
+  pub fine_before : (old mid : S) (t r : Text) → Takes view at t r old mid → (view mid).failed ≡ false → (view old).failed ≡ false
+  fine_before old mid t r k f = sym (ap (λ v. v.failed) (seen_after old mid t r k)) ∙ f
 
   -- a stream that stands in what follows stands in the whole text
   pub stands_after : (b : Bool) (old mid new : S) (t r : Text) → Takes view at t r old mid → Stands view at b mid new → Stands view at b old new
@@ -49,6 +61,14 @@ module _ {S : Type 0} (view : S → StreamView) (at : S → StreamView → S) (v
         same = s.same;
       }
 
+  -- a stream that fails where it stands has passed no more
+  passed_still : (mid new : S) → new ≡ at mid (after_failure (view mid)) → (view mid).passed ≡ (view new).passed
+  passed_still mid new n = sym (ap (λ z. (view z).passed) n ∙ ap (λ v. v.passed) (view_at mid (after_failure (view mid))))
+
+  -- what a stream is in which only the text was changed
+  beside : (old new : S) (v : StreamView) → new ≡ at old v → new ≡ at old (view new)
+  beside old new v e = e ∙ ap (at old) (sym (ap view e ∙ view_at old v))
+
   -- a stream behind characters taken stands in the text
   pub takes_stands : (old mid : S) (t r : Text) → Takes view at t r old mid → Stands view at (view old).failed old mid
   takes_stands old mid t r k = record { seen = behind (view old) t r; is = k.is; fails = refl; same = append_assoc (view old).passed t r ∙ ap (λ z. (view old).passed ++ z) k.same }
@@ -63,7 +83,27 @@ module _ {S : Type 0} (view : S → StreamView) (at : S → StreamView → S) (v
   module _ {A : Type 0} where
     -- memory refused to what follows is memory refused
     pub starves_after : (old mid new : S) (t r : Text) (fault : ParseFault A) → Takes view at t r old mid → Starves view at mid fault new → Starves view at old fault new
-    starves_after old mid new t r fault k s = record { because = s.because; committed = s.committed; left = stands_after true old mid new t r k s.left }
+    starves_after old mid new t r fault k s = record {
+      because = s.because;
+      committed = s.committed;
+      fine = fine_before old mid t r k s.fine;
+      place = s.place;
+      left = stands_after true old mid new t r k s.left;
+    }
+
+    -- memory refused behind characters taken of a stream that had not failed
+    pub starves_behind : (old mid new : S) (t r : Text) (fault : ParseFault A) → (view old).failed ≡ false → Takes view at t r old mid → StarvesHere view at mid fault new → Starves view at old fault new
+    starves_behind old mid new t r fault f k s = record {
+      because = s.because;
+      committed = s.committed;
+      fine = f;
+      place = subst (IsAt fault.pos.line fault.pos.column) (passed_still mid new s.left) s.place;
+      left = stands_failed (view old).failed old mid new (takes_stands old mid t r k) s.left;
+    }
+
+    -- memory refused where a stream stands that had not failed
+    pub starves_here : (at_view : (s : S) → at s (view s) ≡ s) (old new : S) (fault : ParseFault A) → (view old).failed ≡ false → StarvesHere view at old fault new → Starves view at old fault new
+    starves_here at_view old new fault f s = starves_behind old old new [] (view old).rest fault f (takes_none at_view old) s
 
     -- a committed fault of what follows stands behind the characters taken
     pub commits_after : (cause : Fault) (upto : Text) (old mid new : S) (t r : Text) (fault : ParseFault A) → Takes view at t r old mid → Commits view at cause upto mid fault new → Commits view at cause (t ++ upto) old fault new
@@ -71,10 +111,10 @@ module _ {S : Type 0} (view : S → StreamView) (at : S → StreamView → S) (v
         let p : (view mid).passed ++ upto ≡ (view old).passed ++ (t ++ upto) = ap (λ v. v.passed ++ upto) (seen_after old mid t r k) ∙ append_assoc (view old).passed t upto in
         record { because = s.because; committed = s.committed; place = subst (IsAt fault.pos.line fault.pos.column) p s.place; left = stands_after true old mid new t r k s.left }
 
-    -- a fault at the place before the characters taken, or memory refused
-    pub refuses_before : (cause : Fault) (old mid new : S) (t r : Text) (fault : ParseFault A) → Takes view at t r old mid → fault.committed ≡ true → IsAt fault.pos.line fault.pos.column (view old).passed → new ≡ at mid (after_failure (view mid)) → (fault_of fault.cause ≡ Memory) ⊎ (fault_of fault.cause ≡ cause) → Starves view at old fault new ⊎ Commits view at cause [] old fault new
-    refuses_before cause old mid new t r fault k c p n (inl e) = inl (record { because = e; committed = c; left = stands_failed (view old).failed old mid new (takes_stands old mid t r k) n })
-    refuses_before cause old mid new t r fault k c p n (inr e) = inr (record { because = e; committed = c; place = rw append-nil p; left = stands_failed (view old).failed old mid new (takes_stands old mid t r k) n })
+    -- a fault at the place before the characters taken, or memory refused behind them
+    pub refuses_before : (cause : Fault) (old mid new : S) (t r : Text) (fault : ParseFault A) → (view old).failed ≡ false → Takes view at t r old mid → StarvesHere view at mid fault new ⊎ FailsBehind view at cause (view old).passed mid fault new → Starves view at old fault new ⊎ Commits view at cause [] old fault new
+    refuses_before cause old mid new t r fault f k (inl s) = inl (starves_behind old mid new t r fault f k s)
+    refuses_before cause old mid new t r fault f k (inr e) = inr (record { because = e.because; committed = e.committed; place = rw append-nil e.place; left = stands_failed (view old).failed old mid new (takes_stands old mid t r k) e.left })
 
     -- a demanded reader behind the characters taken
     pub answers_after : {X Y : Type 0} (see : Y → X) (o : Outcome X) (old mid new : S) (t r : Text) (a : Result Y (ParseFault A)) → Takes view at t r old mid → Answers view at see (demanded o) mid a new → Answers view at see (prefixed t o) old a new
@@ -87,6 +127,16 @@ module _ {S : Type 0} (view : S → StreamView) (at : S → StreamView → S) (v
     answers_after see (Bad cause upto) old mid new t r (Ok y) k h = absurd h
     answers_after see (Bad cause upto) old mid new t r (Err fault) k (inl s) = inl (starves_after old mid new t r fault k s)
     answers_after see (Bad cause upto) old mid new t r (Err fault) k (inr e) = inr (commits_after cause upto old mid new t r fault k e)
+
+    -- a reader changes nothing beside the text
+    pub answers_beside : (at_view : (s : S) → at s (view s) ≡ s) {X Y : Type 0} (see : Y → X) (o : Outcome X) (old new : S) (a : Result Y (ParseFault A)) → Answers view at see o old a new → new ≡ at old (view new)
+    answers_beside at_view see (Read x taken rest) old new (Ok y) h = beside old new (behind (view old) taken rest) h.1.is
+    answers_beside at_view see (Missing cause) old new (Ok y) h = absurd h
+    answers_beside at_view see (Bad cause upto) old new (Ok y) h = absurd h
+    answers_beside at_view see o old new (Err fault) (inl s) = beside old new s.left.seen s.left.is
+    answers_beside at_view see (Read x taken rest) old new (Err fault) (inr e) = absurd e
+    answers_beside at_view see (Missing cause) old new (Err fault) (inr e) = beside old new (view old) (e.left ∙ sym (at_view old))
+    answers_beside at_view see (Bad cause upto) old new (Err fault) (inr e) = beside old new e.left.seen e.left.is
 
     -- where the first of two readers refuses, both do
     pub refuses_first : {X Y V W : Type 0} (see : Y → X) (sees : W → V) (b : Bool) (o : Outcome X) (next : X → Text → Outcome V) (old new : S) (fault : ParseFault A) → Answers view at see (unless_failed b o) old (Err fault) new → Answers view at sees (unless_failed b (followed o next)) old (Err fault) new
@@ -117,7 +167,14 @@ module _ {S : Type 0} (view : S → StreamView) (at : S → StreamView → S) (v
     refuses_mapped g false (Bad cause upto) old new fault h = h
 
     demanded_is_failed : {X : Type 0} (o : Outcome X) (old mid new : S) (fault last : ParseFault A) → Starves view at old fault mid ⊎ Refuses view at o old fault mid → Demands view at fault mid last new → Starves view at old last new ⊎ Refuses view at (demanded o) old last new
-    demanded_is_failed o old mid new fault last (inl s) d = inl (record { because = ap fault_of d.cause ∙ s.because; committed = d.committed; left = stands_failed true old mid new s.left d.left })
+    demanded_is_failed o old mid new fault last (inl s) d =
+        inl (record {
+          because = ap fault_of d.cause ∙ s.because;
+          committed = d.committed;
+          fine = s.fine;
+          place = rw d.place (subst (IsAt fault.pos.line fault.pos.column) (passed_still mid new d.left) s.place);
+          left = stands_failed true old mid new s.left d.left;
+        })
     demanded_is_failed (Read x taken rest) old mid new fault last (inr e) d = absurd e
     demanded_is_failed (Missing cause) old mid new fault last (inr p) d =
         inr (record {

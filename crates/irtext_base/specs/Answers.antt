@@ -73,11 +73,24 @@ module _ {S : Type 0} (view : S → StreamView) (at : S → StreamView → S) wh
     pub takes : Takes taken rest old new
 
   module _ {A : Type 0} where
-    -- memory was refused
+    -- memory was refused on a stream that had not failed, where the stream stands now
     pub record Starves (old : S) (fault : ParseFault A) (new : S) : Type 0 where
       pub because : fault_of fault.cause ≡ Memory
       pub committed : fault.committed ≡ true
+      pub fine : (view old).failed ≡ false
+      pub place : IsAt fault.pos.line fault.pos.column (view new).passed
       pub left : Stands true old new
+
+    -- a committed fault behind the characters `passed`, and the stream fails where it stands
+    pub record FailsBehind (cause : Fault) (passed : Text) (old : S) (fault : ParseFault A) (new : S) : Type 0 where
+      pub because : fault_of fault.cause ≡ cause
+      pub committed : fault.committed ≡ true
+      pub place : IsAt fault.pos.line fault.pos.column passed
+      pub left : new ≡ at old (after_failure (view old))
+
+    -- memory was refused where the stream stands, and the stream fails there
+    abbrev pub StarvesHere : S → ParseFault A → S → Type 0
+    StarvesHere old fault new = FailsBehind Memory (view old).passed old fault new
 
     -- a committed fault at the place behind the characters `upto`
     pub record Commits (cause : Fault) (upto : Text) (old : S) (fault : ParseFault A) (new : S) : Type 0 where
@@ -115,6 +128,13 @@ module _ {S : Type 0} (view : S → StreamView) (at : S → StreamView → S) wh
     abbrev pub Answers : {X Y : Type 0} → (Y → X) → Outcome X → S → Result Y (ParseFault A) → S → Type 0
     Answers see o old (Ok y) new = Gives o old (see y) new
     Answers see o old (Err fault) new = Starves old fault new ⊎ Refuses o old fault new
+
+    -- where the outcome is a value it is read, so no memory is asked for
+    abbrev pub NeedsNoMemory : {X Y : Type 0} → Outcome X → Result Y (ParseFault A) → Type 0
+    NeedsNoMemory o (Ok y) = Unit {0}
+    NeedsNoMemory (Read x taken rest) (Err fault) = ⊥
+    NeedsNoMemory (Missing cause) (Err fault) = Unit {0}
+    NeedsNoMemory (Bad cause upto) (Err fault) = Unit {0}
 
     -- a fault that the relation allows of the text
     pub data Refused {X : Type 0} (R : Text → Outcome X → Type 0) (old : S) (fault : ParseFault A) (new : S) : Type 0 where

@@ -7,7 +7,7 @@ use Rattle.irtext_base.specs.Faults.{Fault, EmptyItem}
 use Rattle.irtext_base.specs.Answers.{Outcome, Read, Missing, Bad, Takes, Starves, Commits, Passes}
 use Rattle.irtext_base.specs.declared.parsable.fault.ParseFault.{ParseFault}
 use Rattle.irtext_base.proofs.Along.{front_after}
-use Rattle.irtext_base.proofs.Compose.{seen_after, takes_more, starves_after, commits_after}
+use Rattle.irtext_base.proofs.Compose.{takes_none, seen_after, takes_more, starves_after, starves_behind, commits_after}
 use Rattle.irtext_read.specs.Lists.{Items, missing, bad, empty, no_room, more, prepended, skipped, spaces}
 use Rattle.irtext_read.specs.ListTexts.{ItemsAt, none_more, one_bad, one_empty, one_more}
 
@@ -24,12 +24,9 @@ module _ {S X Y A : Type 0} (view : S → StreamView) (at : S → StreamView →
 
 module _ {S F X Y A : Type 0} (view : S → StreamView) (at : S → StreamView → S) (view_at : (s : S) (v : StreamView) → view (at s v) ≡ v) (at_view : (s : S) → at s (view s) ≡ s) (at_at : (s : S) (v w : StreamView) → at (at s v) w ≡ at s w)
     (calls : F → S → Result X (ParseFault A) → F → S → Type 0) (see : X → Y) (R : Text → Outcome Y → Type 0) where
-  pub unread : (s : S) → Takes view at [] (view s).rest s s
-  unread s = record { is = sym (at_view s) ∙ ap (λ (p : Text). at s (let v : StreamView = record { passed = p; rest = (view s).rest; failed = (view s).failed } in v)) (sym (append-nil (view s).passed)); same = refl }
-
   ended : (s t : S) (f : ParseFault A) → Each {A = A} view at see R s (Err f) t → f.committed ≡ false → All {A = A} view at see R s (Ok []) t
   ended s t f (inl e) u = absurd (let h : true ≡ false = sym e.committed ∙ u in cc)
-  ended s t f (inr (inl m)) u = ([], (view s).rest, none_more (view s).rest m.0 m.1, subst (λ z. Takes view at [] (view s).rest s z) (sym m.2.left) (unread s))
+  ended s t f (inr (inl m)) u = ([], (view s).rest, none_more (view s).rest m.0 m.1, subst (λ z. Takes view at [] (view s).rest s z) (sym m.2.left) (takes_none view at view_at at_at at_view s))
   ended s t f (inr (inr b)) u = absurd (let h : true ≡ false = sym b.3.committed ∙ u in cc)
 
   spoilt : (s t : S) (f : ParseFault A) → Each {A = A} view at see R s (Err f) t → f.committed ≡ true → All {A = A} view at see R s (Err f) t
@@ -93,7 +90,7 @@ module _ {S F X Y A : Type 0} (view : S → StreamView) (at : S → StreamView �
   items_met each _ _ _ _ n (bad f s fault g t called shut) = spoilt s t fault (each f s (Err fault) g t n called) shut
   items_met each _ _ _ _ n (empty f s x g t fault u called same commits) = emptied s t u x fault (each f s (Ok x) g t n called) same commits
   items_met each _ _ _ _ n (no_room f s x g t fault u called starves) =
-      let e = each f s (Ok x) g t n called in inl (starves_after view at view_at at_at s t u e.0 e.1 fault e.3 starves)
+      let e = each f s (Ok x) g t n called in inl (starves_behind view at view_at at_at s t u e.0 e.1 fault n e.3 starves)
   items_met each _ _ _ _ n (more f s x g t b r q u called less skips later same) =
       let e = each f s (Ok x) g t n called in
       let seen : view b ≡ skipped (view t) = ap view skips ∙ view_at t (skipped (view t)) in

@@ -7,11 +7,11 @@ use Rattle.irtext_base.specs.Stream.{first_of, advanced}
 use Rattle.irtext_base.specs.Answers.{Outcome, Read, Missing, Bad, Takes, Answers, Starves, Refuses, Gives, demanded, prefixed, followed, unless_failed}
 use Rattle.irtext_base.specs.declared.parsable.fault.ParseFault.{ParseFault}
 use Rattle.irtext_base.proofs.Along.{falls}
-use Rattle.irtext_base.proofs.Compose.{seen_after}
+use Rattle.irtext_base.proofs.Compose.{takes_none, seen_after}
 use Rattle.irtext_read.specs.Tokens.{space_at, text_at}
 use Rattle.irtext_read.specs.ListOutcomes.{item_after, items_after, or_empty, separated_at}
 use Rattle.irtext_read.specs.MustRead.{MustRead, MayRead}
-use Rattle.irtext_read.proofs.Spelling.{begins_the, takes_none}
+use Rattle.irtext_read.proofs.Spelling.{begins_the}
 use Rattle.irtext_read.proofs.Steps.{Lens, Passed, starts, onward, ends, begins_with, begun_by, last, fine_there}
 
 module _ {X : Type 0} (sep : ℕ) (item : Text → Outcome X) where
@@ -105,7 +105,7 @@ module _ {S X : Type 0} (l : Lens S) (k : List X → Text → Outcome (List X)) 
   missing_first b o s new fault e (inl h) = absurd (true≢false (sym h.committed ∙ e))
   missing_first true o s new fault e (inr h) = absurd (true≢false (sym h.committed ∙ e))
   missing_first false (Read y t r) s new fault e (inr h) = absurd h
-  missing_first false (Missing cause) s new fault e (inr h) = (refl, subst (λ z. Takes l.view l.at [] (l.view s).rest s z) (sym h.left) (takes_none l.view l.at l.view_at l.at_view l.at_at s))
+  missing_first false (Missing cause) s new fault e (inr h) = (refl, subst (λ z. Takes l.view l.at [] (l.view s).rest s z) (sym h.left) (takes_none l.view l.at l.view_at l.at_at l.at_view s))
   missing_first false (Bad cause upto) s new fault e (inr h) = absurd (true≢false (sym h.committed ∙ e))
 
   module _ {W Y A : Type 0} {see : Y → List X} {sees : W → List X} {f : Text → Outcome (List X)} where

@@ -6,7 +6,7 @@ use Rattle.std.specs.Char.{is_whitespace}
 use Rattle.irtext_base.specs.Text.{Text, begins}
 use Rattle.irtext_base.specs.Stream.{StreamView, advanced, advanced_by, after_failure}
 use Rattle.irtext_base.specs.Faults.{Fault}
-use Rattle.irtext_base.specs.Answers.{Stands, Starves, Commits, Passes}
+use Rattle.irtext_base.specs.Answers.{Stands, StarvesHere, Commits, Passes}
 use Rattle.irtext_base.specs.declared.parsable.fault.ParseFault.{ParseFault}
 use Rattle.irtext_base.proofs.Along.{front_after}
 use Rattle.irtext_read.specs.Lists.{Calls, AlwaysKeepsRules, KeepsRules, HandsOn, Insisted, Skips, Opens, Items, missing, bad, empty, no_room, more, SpacedItems, Tail, none, insisted, no_more_room, next, Separated, no_item, bad_item, no_first_room, an_item, Delimited, no_left, bad_inside, no_right, closed, Spaced, read, refused, refused_behind, listed, prepended, skipped, spaces}
@@ -76,8 +76,8 @@ module _ {S : Type 0} (view : S → StreamView) (at : S → StreamView → S) wh
       insisted_settles X true fault last s t u e k i = (i.committed, ap (λ z. (view z).failed) (i.already e) ∙ k.1 e)
       insisted_settles X false fault last s t u e k i = (i.committed, ap (λ z. (view z).failed) (i.failing e) ∙ ap (λ w. w.failed) (view_at t (after_failure (view t))))
 
-      starves_settles : (s t : S) (fault : ParseFault A) (u : S) → Starves view at t fault u → (fault.committed ≡ true) × ((view u).failed ≡ true)
-      starves_settles s t fault u k = (k.committed, stands_failed t u k.left)
+      starves_settles : (s t : S) (fault : ParseFault A) (u : S) → StarvesHere view at t fault u → (fault.committed ≡ true) × ((view u).failed ≡ true)
+      starves_settles s t fault u k = (k.committed, ap (λ z. (view z).failed) k.left ∙ ap (λ w. w.failed) (view_at t (after_failure (view t))))
 
       commits_settles : (cause : Fault) (upto : Text) (t : S) (fault : ParseFault A) (u : S) → Commits view at cause upto t fault u → (fault.committed ≡ true) × ((view u).failed ≡ true)
       commits_settles cause upto t fault u k = (k.committed, stands_failed t u k.left)

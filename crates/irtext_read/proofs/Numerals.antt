@@ -8,11 +8,11 @@ use Rattle.std.specs.Str.{encode_utf8_all}
 use Rattle.std.specs.Str.Parse.{digits_value}
 use Rattle.irtext_base.specs.Text.{Text, begins, front, after}
 use Rattle.irtext_base.specs.Reading.{the}
-use Rattle.irtext_base.specs.Stream.{StreamView, IsAt, first_of, after_failure}
-use Rattle.irtext_base.specs.Faults.{Fault, Memory, NumberRange, Unexpected, Word, AHexadecimalDigit, fault_of}
-use Rattle.irtext_base.specs.Answers.{Outcome, Read, Missing, Bad, Takes, Starves, Commits, Refuses, Gives, unless_failed, prefixed, followed}
+use Rattle.irtext_base.specs.Stream.{StreamView, first_of}
+use Rattle.irtext_base.specs.Faults.{Fault, NumberRange, Unexpected, Word, AHexadecimalDigit}
+use Rattle.irtext_base.specs.Answers.{Outcome, Read, Missing, Bad, Takes, Starves, StarvesHere, FailsBehind, Refuses, Gives, unless_failed, prefixed, followed}
 use Rattle.irtext_base.specs.declared.parsable.fault.ParseFault.{ParseFault}
-use Rattle.irtext_base.proofs.Compose.{seen_after, takes_more, starves_after, refuses_before}
+use Rattle.irtext_base.proofs.Compose.{seen_after, takes_more, starves_behind, refuses_before}
 use Rattle.irtext_read.specs.Tokens.{sign_of, after_sign, fitting, text_at, spelled_at}
 use Rattle.irtext_read.specs.Integers.{within, within_of, signed_integer, hexadecimal_integer, signed_text, sign_text, no_digit_behind, sign_at, before_hexadecimal, hexadecimal_mark_at, ranged, numeral_at}
 use Rattle.irtext_read.proofs.Numbers.{encodes-sign}
@@ -176,15 +176,15 @@ module _ {S : Type 0} (view : S → StreamView) (at : S → StreamView → S) wh
 
       -- the number doesn't fit
       pub number_refused : {X A : Type 0} (make : L → Text → Option X) (last : S) (fault : ParseFault A) → make lead (front digit (view mid).rest) ≡ None → encode_utf8_all l.taken ≡ l.taken → ((text : Text) → encode_utf8_all (front digit text) ≡ front digit text)
-          → (fault_of fault.cause ≡ Memory) ⊎ (fault_of fault.cause ≡ NumberRange (encode_utf8_all number_text)) → fault.committed ≡ true → IsAt fault.pos.line fault.pos.column (view old).passed → last ≡ at new (after_failure (view new))
+          → (view old).failed ≡ failed → StarvesHere view at new fault last ⊎ FailsBehind view at (NumberRange (encode_utf8_all number_text)) (view old).passed new fault last
           → Starves view at old fault last ⊎ Refuses view at (unless_failed failed (numeral_at digit make o)) old fault last
-      number_refused make last fault e a b f c p n =
-          let f' : (fault_of fault.cause ≡ Memory) ⊎ (fault_of fault.cause ≡ NumberRange number_text) = subst (λ z. (fault_of fault.cause ≡ Memory) ⊎ (fault_of fault.cause ≡ NumberRange z)) (number_encodes a b) f in
-          rw (number_outcome make None e) (refuses_before view at view_at at_at (NumberRange number_text) old new last number_text (after digit l.rest) fault number_taken c p n f')
+      number_refused make last fault e a b f h =
+          let k = subst (λ z. StarvesHere view at new fault last ⊎ FailsBehind view at (NumberRange z) (view old).passed new fault last) (number_encodes a b) h in
+          rw (number_outcome make None e) (refuses_before view at view_at at_at (NumberRange number_text) old new last number_text (after digit l.rest) fault (f ∙ l.not_failed) number_taken k)
 
       -- memory was refused behind the number
-      pub number_starves : {A : Type 0} (last : S) (fault : ParseFault A) → Commits view at Memory [] new fault last → Starves view at old fault last
-      number_starves last fault h = starves_after view at view_at at_at old new last number_text (after digit l.rest) fault number_taken (record { because = h.because; committed = h.committed; left = h.left })
+      pub number_starves : {A : Type 0} (last : S) (fault : ParseFault A) → (view old).failed ≡ failed → StarvesHere view at new fault last → Starves view at old fault last
+      number_starves last fault f h = starves_behind view at view_at at_at old new last number_text (after digit l.rest) fault (f ∙ l.not_failed) number_taken h
 
     -- the text of a number is read
     pub text_read : (text : Text) (failed : Bool) (sign : Text) (old mid new : S) (l : Led failed (sign_at text) sign old mid) (d : Takes view at (front is_ascii_digit (view mid).rest) (after is_ascii_digit (view mid).rest) mid new) (bytes : List ℕ)

@@ -6,13 +6,13 @@ use Rattle.std.specs.Str.{encode_utf8_all}
 use Rattle.irtext_base.specs.Text.{Text, begins, front, after}
 use Rattle.irtext_base.specs.Reading.{the}
 use Rattle.irtext_base.specs.Stream.{StreamView, IsAt, first_of, advanced, advanced_by, after_failure}
-use Rattle.irtext_base.specs.Faults.{Fault, Memory, Word, Unexpected, AHexadecimalDigit, AnEscapedCharacter, BadEscape, BadUnicodeEscape, fault_of}
-use Rattle.irtext_base.specs.Answers.{Outcome, Read, Missing, Bad, Takes, Starves, Commits, Answers, Gives, Refuses, demanded, prefixed, mapped, followed, unless_failed}
+use Rattle.irtext_base.specs.Faults.{Fault, Word, Unexpected, AHexadecimalDigit, AnEscapedCharacter, BadEscape, BadUnicodeEscape, fault_of}
+use Rattle.irtext_base.specs.Answers.{Outcome, Read, Missing, Bad, Takes, Starves, StarvesHere, FailsBehind, Commits, Answers, Gives, Refuses, demanded, prefixed, mapped, followed, unless_failed}
 use Rattle.irtext_base.specs.declared.parsable.fault.ParseFault.{ParseFault}
 use Rattle.irtext_base.proofs.Bytes.{first_some}
-use Rattle.irtext_base.proofs.Compose.{seen_after, takes_more, starves_after, commits_after, refuses_before, answers_after}
+use Rattle.irtext_base.proofs.Compose.{takes_none, takes_fine, seen_after, takes_more, starves_after, starves_behind, commits_after, refuses_before, answers_after}
 use Rattle.irtext_read.specs.QuotedTexts.{is_plain, escape_of, character_of, closed, braced, unicode_at, unit_at, units_at}
-use Rattle.irtext_read.proofs.Spelling.{begins_the, takes_none, takes_next}
+use Rattle.irtext_read.proofs.Spelling.{begins_the, takes_next}
 use Rattle.irtext_read.specs.Digits.{value_in}
 use Rattle.irtext_read.proofs.QuotedNumbers.{encodes-front_hexdigits, named_some, named_none}
 use Rattle.irtext_read.proofs.QuotedUnits.{unit_takes, never_missing, whole, whole_nil, whole_run, whole_unit, whole_bad, unit_unescaped, unit_unknown, unit_unicode, unicode_unopened, braced_none, braced_some, closed_open}
@@ -57,6 +57,10 @@ module _ {S : Type 0} (view : S → StreamView) (at : S → StreamView → S) wh
     rest_after : (old mid : S) (t r : Text) → Takes view at t r old mid → (view mid).rest ≡ r
     rest_after old mid t r k = ap (λ v. v.rest) (seen_after view at view_at at_at old mid t r k)
 
+    -- the stream has not failed there
+    pub within_fine : (start now : S) (cs taken : Text) → (view start).failed ≡ false → Within start now cs taken → (view now).failed ≡ false
+    within_fine start now cs taken f w = takes_fine view at view_at at_at start now taken (view now).rest w.takes f
+
     -- a run of characters that stand for themselves
     within_run : (start now next : S) (cs taken : Text) → Within start now cs taken → Takes view at (front is_plain (view now).rest) (after is_plain (view now).rest) now next → Within start next (cs ++ front is_plain (view now).rest) (taken ++ front is_plain (view now).rest)
     within_run start now next cs taken w k =
@@ -68,7 +72,7 @@ module _ {S : Type 0} (view : S → StreamView) (at : S → StreamView → S) wh
 
     -- the run that begins the text
     pub within_first : (start next : S) → Takes view at (front is_plain (view start).rest) (after is_plain (view start).rest) start next → Within start next (front is_plain (view start).rest) (front is_plain (view start).rest)
-    within_first start next k = within_run start start next [] [] (record { takes = takes_none view at view_at at_view at_at start; so_far = whole_nil (units_at [] (view start).rest) }) k
+    within_first start next k = within_run start start next [] [] (record { takes = takes_none view at view_at at_at at_view start; so_far = whole_nil (units_at [] (view start).rest) }) k
 
     -- a unit
     pub within_unit : (start now mid : S) (cs taken : Text) (c : ℕ) → Within start now cs taken → begins (the 34) (view now).rest ≡ false → Gives view at (unit_at (view now).rest) now c mid → (t : Text) × Within start mid (cs ++ (c ∷ [])) (taken ++ t)
@@ -171,8 +175,8 @@ module _ {S : Type 0} (view : S → StreamView) (at : S → StreamView → S) wh
 
       -- a unit that is bad at its beginning, or memory refused
       pub refused_before : (before mid new : S) (t r : Text) (cause : Fault) (fault : ParseFault A) → Takes view at t r before mid → unit_at (view before).rest ≡ Bad cause [] →
-          (fault_of fault.cause ≡ Memory) ⊎ (fault_of fault.cause ≡ cause) → fault.committed ≡ true → IsAt fault.pos.line fault.pos.column (view before).passed → new ≡ at mid (after_failure (view mid)) → Starves view at before fault new ⊎ Refuses view at (unit_at (view before).rest) before fault new
-      refused_before before mid new t r cause fault k u f c p n = rw u (refuses_before view at view_at at_at cause before mid new t r fault k c p n f)
+          (view before).failed ≡ false → StarvesHere view at mid fault new ⊎ FailsBehind view at cause (view before).passed mid fault new → Starves view at before fault new ⊎ Refuses view at (unit_at (view before).rest) before fault new
+      refused_before before mid new t r cause fault k u f h = rw u (refuses_before view at view_at at_at cause before mid new t r fault f k h)
 
       -- an escape that ends with its backslash
       pub unescaped : (old mid last new : S) (a : ℕ) (fault : ParseFault A) → a ≡ 92 → Some a ≡ first_of (view old).rest → mid ≡ at old (advanced (view old)) → None ≡ first_of (view mid).rest → last ≡ at mid (advanced (view mid)) →
@@ -189,27 +193,27 @@ module _ {S : Type 0} (view : S → StreamView) (at : S → StreamView → S) wh
 
       -- a character behind a backslash that stands for none
       pub unknown_escape : (old mid last new : S) (a b : ℕ) (fault : ParseFault A) → a ≡ 92 → Some a ≡ first_of (view old).rest → mid ≡ at old (advanced (view old)) → Some b ≡ first_of (view mid).rest → last ≡ at mid (advanced (view mid)) → (b ≡ 117 → ⊥) → None ≡ escape_of b →
-          fault_of fault.cause ≡ BadEscape b → fault.committed ≡ true → IsAt fault.pos.line fault.pos.column (view old).passed → new ≡ at last (after_failure (view last)) → Starves view at old fault new ⊎ Refuses view at (unit_at (view old).rest) old fault new
-      unknown_escape old mid last new a b fault p e m f n q h g c l w =
+          (view old).failed ≡ false → FailsBehind view at (BadEscape b) (view old).passed last fault new → Starves view at old fault new ⊎ Refuses view at (unit_at (view old).rest) old fault new
+      unknown_escape old mid last new a b fault p e m f n q h g l =
           let k = two_taken old mid last a b p e m f n in
-          refused_before old last new (92 ∷ b ∷ []) (view last).rest (BadEscape b) fault k (unit_unknown (view old).rest (view last).rest b k.same q h) (inr g) c l w
+          refused_before old last new (92 ∷ b ∷ []) (view last).rest (BadEscape b) fault k (unit_unknown (view old).rest (view last).rest b k.same q h) g (inr l)
 
       -- digits that name no character
       pub unnamed : (before opens now new : S) (fault : ParseFault A) → let digits = front is_ascii_hexdigit (view opens).rest in Counted before now digits → begins (the 125) (view now).rest ≡ true → character_of (value_in 16 digits) ≡ None →
-          (fault_of fault.cause ≡ Memory) ⊎ (fault_of fault.cause ≡ BadUnicodeEscape (encode_utf8_all digits)) → fault.committed ≡ true → IsAt fault.pos.line fault.pos.column (view before).passed → new ≡ at now (after_failure (view now)) → Starves view at before fault new ⊎ Refuses view at (unit_at (view before).rest) before fault new
-      unnamed before opens now new fault h q e f c p n =
+          (view before).failed ≡ false → StarvesHere view at now fault new ⊎ FailsBehind view at (BadUnicodeEscape (encode_utf8_all digits)) (view before).passed now fault new → Starves view at before fault new ⊎ Refuses view at (unit_at (view before).rest) before fault new
+      unnamed before opens now new fault h q e f k =
           let digits = front is_ascii_hexdigit (view opens).rest in
           let m = begins_the 125 (view now).rest q in
           let u : unit_at (view before).rest ≡ Bad (BadUnicodeEscape digits) [] = h.unit ∙ (ap (closed digits) m.1 ∙ named_none digits m.0 e) in
           let b : encode_utf8_all digits ≡ digits = encodes-front_hexdigits (view opens).rest in
-          refused_before before now new (codes "\\u{" ++ digits) (view now).rest (BadUnicodeEscape digits) fault h.takes u (rw b at f) c p n
+          refused_before before now new (codes "\\u{" ++ digits) (view now).rest (BadUnicodeEscape digits) fault h.takes u f (subst (λ z. StarvesHere view at now fault new ⊎ FailsBehind view at (BadUnicodeEscape z) (view before).passed now fault new) b k)
 
       -- memory was refused behind what was read
       pub starved_within : (start now new : S) (cs taken : Text) (fault : ParseFault A) → Within start now cs taken → Starves view at now fault new → Starves view at start fault new
       starved_within start now new cs taken fault w s = starves_after view at view_at at_at start now new taken (view now).rest fault w.takes s
 
-      pub memory_starves : (now new : S) (fault : ParseFault A) → Commits view at Memory [] now fault new → Starves view at now fault new
-      memory_starves now new fault c = record { because = c.because; committed = c.committed; left = c.left }
+      pub starved_here : (start now new : S) (cs taken : Text) (fault : ParseFault A) → (view start).failed ≡ false → Within start now cs taken → StarvesHere view at now fault new → Starves view at start fault new
+      starved_here start now new cs taken fault f w s = starves_behind view at view_at at_at start now new taken (view now).rest fault f w.takes s
 
       bad_by : (u : Outcome ℕ) (text : Text) (old new : S) (f : ParseFault A) → unit_at text ≡ u → Refuses view at u old f new → (cause : Fault) × (upto : Text) × (u ≡ Bad cause upto) × Commits view at cause upto old f new
       bad_by (Read x t r) text old new f n g = absurd g

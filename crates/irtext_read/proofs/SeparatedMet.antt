@@ -2,15 +2,15 @@
 use Rattle.std.proofs.Common.{◌≡◌, ℕ, true, false, Result, Ok, Err, List, [], ◌∷◌, ◌++◌, map, refl, sym, ◌∙◌, ap, append-nil, ◌⊎◌, inl, inr, subst}
 use Rattle.std.specs.Char.{is_whitespace}
 use Rattle.irtext_base.specs.Text.{Text, after_space}
-use Rattle.irtext_base.specs.Stream.{StreamView, behind, after_failure}
+use Rattle.irtext_base.specs.Stream.{StreamView, IsAt, behind, after_failure}
 use Rattle.irtext_base.specs.Faults.{Fault, fault_of}
 use Rattle.irtext_base.specs.Answers.{Outcome, Read, Missing, Bad, Takes, Stands, Starves, Commits, Passes}
 use Rattle.irtext_base.specs.declared.parsable.fault.ParseFault.{ParseFault}
 use Rattle.irtext_base.proofs.Along.{front_after}
-use Rattle.irtext_base.proofs.Compose.{seen_after, takes_more, starves_after, commits_after}
+use Rattle.irtext_base.proofs.Compose.{takes_none, seen_after, takes_more, starves_after, starves_behind, commits_after}
 use Rattle.irtext_read.specs.Lists.{Tail, none, insisted, no_more_room, next, Separated, no_item, bad_item, no_first_room, an_item, Insisted, Opens, prepended, spaces, Skips}
 use Rattle.irtext_read.specs.ListTexts.{item_before, TailAt, ended, none_behind, bad_behind, one_behind, SeparatedAt, none_first, bad_first, one_first}
-use Rattle.irtext_read.proofs.ItemsMet.{Each, unread, settled}
+use Rattle.irtext_read.proofs.ItemsMet.{Each, settled}
 use Rattle.irtext_read.proofs.Spelling.{begins_the, takes_next}
 
 module _ {S X Y A : Type 0} (view : S → StreamView) (at : S → StreamView → S) (see : X → Y) (Q : Text → Outcome (List Y) → Type 0) where
@@ -43,7 +43,7 @@ module _ {S F X Y A : Type 0} (view : S → StreamView) (at : S → StreamView �
       (f.0, f.1, takes_more view at view_at at_at s o.mid b (sep ∷ []) f.0 (spaces f.0) (after_space f.0) k w)
 
   starves_insisted : (s t : S) (fault last : ParseFault A) (u : S) → Starves view at s fault t → Insisted view at fault t last u → Starves view at s last u
-  starves_insisted s t fault last u k i = record { because = ap fault_of i.cause ∙ k.because; committed = i.committed; left = subst (λ z. Stands view at true s z) (sym (i.already k.committed)) k.left }
+  starves_insisted s t fault last u k i = record { because = ap fault_of i.cause ∙ k.because; committed = i.committed; fine = k.fine; place = rw i.place (subst (λ z. IsAt fault.pos.line fault.pos.column (view z).passed) (sym (i.already k.committed)) k.place); left = subst (λ z. Stands view at true s z) (sym (i.already k.committed)) k.left }
 
   commits_insisted : (c : Fault) (upto : Text) (s t : S) (fault last : ParseFault A) (u : S) → Commits view at c upto s fault t → Insisted view at fault t last u → Commits view at c upto s last u
   commits_insisted c upto s t fault last u k i = record {
@@ -87,7 +87,7 @@ module _ {S F X Y A : Type 0} (view : S → StreamView) (at : S → StreamView �
 
   module _ (each : (f : F) (s : S) (r : Result X (ParseFault A)) (g : F) (t : S) → (view s).failed ≡ false → calls f s r g t → Each {A = A} view at see R s r t) where
     tail_met : (sep : ℕ) (f : F) (s : S) (r : Result (List X) (ParseFault A)) (u : S) → (view s).failed ≡ false → Tail view at calls sep f s r u → Whole {A = A} view at see (TailAt R sep) s r u
-    tail_met sep _ _ _ _ n (none f s stops) = ([], (view s).rest, ended (view s).rest stops, unread view at view_at at_view at_at calls see R s)
+    tail_met sep _ _ _ _ n (none f s stops) = ([], (view s).rest, ended (view s).rest stops, takes_none view at view_at at_at at_view s)
     tail_met sep _ _ _ _ n (insisted f s b fault last g t u opens called must) =
         let k = opens_take sep s b opens in
         let m : (view b).failed ≡ false = ap (λ v. v.failed) (seen_after view at view_at at_at s b (sep ∷ spaces k.0) (after_space k.0) k.2) ∙ n in
@@ -96,7 +96,7 @@ module _ {S F X Y A : Type 0} (view : S → StreamView) (at : S → StreamView �
         let k = opens_take sep s b opens in
         let m : (view b).failed ≡ false = ap (λ v. v.failed) (seen_after view at view_at at_at s b (sep ∷ spaces k.0) (after_space k.0) k.2) ∙ n in
         let e = each f b (Ok x) g t m called in
-        inl (starves_after view at view_at at_at s b u (sep ∷ spaces k.0) (after_space k.0) fault k.2 (starves_after view at view_at at_at b t u e.0 e.1 fault e.3 starves))
+        inl (starves_after view at view_at at_at s b u (sep ∷ spaces k.0) (after_space k.0) fault k.2 (starves_behind view at view_at at_at b t u e.0 e.1 fault m e.3 starves))
     tail_met sep _ _ _ _ n (next f s b x g t d r q u opens called skips later same) =
         let k = opens_take sep s b opens in
         let vb = seen_after view at view_at at_at s b (sep ∷ spaces k.0) (after_space k.0) k.2 in
@@ -118,7 +118,7 @@ module _ {S F X Y A : Type 0} (view : S → StreamView) (at : S → StreamView �
 
     none_read : (sep : ℕ) (s t : S) (fault : ParseFault A) → Each {A = A} view at see R s (Err fault) t → fault.committed ≡ false → Whole {A = A} view at see (SeparatedAt R sep) s (Ok []) t
     none_read sep s t fault (inl st) c = absurd (let h : true ≡ false = sym st.committed ∙ c in cc)
-    none_read sep s t fault (inr (inl m)) c = ([], (view s).rest, none_first (view s).rest m.0 m.1, subst (λ z. Takes view at [] (view s).rest s z) (sym m.2.left) (unread view at view_at at_view at_at calls see R s))
+    none_read sep s t fault (inr (inl m)) c = ([], (view s).rest, none_first (view s).rest m.0 m.1, subst (λ z. Takes view at [] (view s).rest s z) (sym m.2.left) (takes_none view at view_at at_at at_view s))
     none_read sep s t fault (inr (inr d)) c = absurd (let h : true ≡ false = sym d.3.committed ∙ c in cc)
 
     -- a list with a separator, on a stream that has not failed, answers what the relation of lists says of the text
@@ -126,7 +126,7 @@ module _ {S F X Y A : Type 0} (view : S → StreamView) (at : S → StreamView �
     separated_met sep _ _ _ _ n (no_item f s fault g t called free) = none_read sep s t fault (each f s (Err fault) g t n called) free
     separated_met sep _ _ _ _ n (bad_item f s fault g t called shut) = first_refused sep s t fault (each f s (Err fault) g t n called) shut
     separated_met sep _ _ _ _ n (no_first_room f s x g t fault u called starves) =
-        let e = each f s (Ok x) g t n called in inl (starves_after view at view_at at_at s t u e.0 e.1 fault e.3 starves)
+        let e = each f s (Ok x) g t n called in inl (starves_behind view at view_at at_at s t u e.0 e.1 fault n e.3 starves)
     separated_met sep _ _ _ _ n (an_item f s x g t b q u called skips later) =
         let e = settled view at view_at at_view at_at calls see R s t x (each f s (Ok x) g t n called) in
         let all = takes_more view at view_at at_at s t b e.0 (view t).rest (spaces (view t).rest) (after_space (view t).rest) e.2 (skips_take t b skips) in

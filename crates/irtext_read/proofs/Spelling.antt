@@ -4,9 +4,9 @@ use Rattle.irtext_base.specs.Text.{Text, begins}
 use Rattle.irtext_base.specs.Reading.{the}
 use Rattle.irtext_base.specs.Stream.{StreamView, first_of, advanced, advanced_by, behind}
 use Rattle.irtext_base.specs.Faults.{Unexpected, Word}
-use Rattle.irtext_base.specs.Answers.{Outcome, Read, Missing, Bad, Takes, Passes, Starves, Gives, Refuses, prefixed}
+use Rattle.irtext_base.specs.Answers.{Outcome, Read, Missing, Bad, Takes, Passes, Starves, StarvesHere, Gives, Refuses, prefixed}
 use Rattle.irtext_base.specs.declared.parsable.fault.ParseFault.{ParseFault}
-use Rattle.irtext_base.proofs.Compose.{answers_after, starves_after, seen_after, takes_more}
+use Rattle.irtext_base.proofs.Compose.{answers_after, starves_behind, takes_none, seen_after, takes_more}
 use Rattle.std.proofs.lemmas.Bool.Decides.{nat_tests}
 use Rattle.irtext_read.specs.Spelled.{begun_by, Spelling, Differs, Misses}
 use Rattle.irtext_read.specs.Tokens.{spelled_at, text_at}
@@ -36,10 +36,6 @@ the-same c = grind (arith, nat_tests)
 
 module _ {S : Type 0} (view : S → StreamView) (at : S → StreamView → S) where
   module _ (view_at : (s : S) (v : StreamView) → view (at s v) ≡ v) (at_view : (s : S) → at s (view s) ≡ s) (at_at : (s : S) (v w : StreamView) → at (at s v) w ≡ at s w) where
-    -- no character is taken yet
-    pub takes_none : (s : S) → Takes view at [] (view s).rest s s
-    takes_none s = record { is = sym (at_view s) ∙ ap (λ (p : Text). at s (let v : StreamView = record { passed = p; rest = (view s).rest; failed = (view s).failed } in v)) (sym (append-nil (view s).passed)); same = refl }
-
     -- where none is taken, the stream is as it was
     pub takes_none_is : (old now : S) (rest : Text) → Takes view at [] rest old now → now ≡ old
     takes_none_is old now rest k =
@@ -52,7 +48,7 @@ module _ {S : Type 0} (view : S → StreamView) (at : S → StreamView → S) wh
         record { is = n ∙ ap (λ z. at now (advanced_by (view now).passed z (view now).failed)) e; same = sym e }
 
     pub spelling_start : (word : Text) (old : S) → Spelling view at word old old false [] word
-    spelling_start word old = record { takes = takes_none old; untaken = λ e. refl; so_far = refl }
+    spelling_start word old = record { takes = takes_none view at view_at at_at at_view old; untaken = λ e. refl; so_far = refl }
 
     begun_more : {X : Type 0} (begun : Bool) (taken : Text) (c : ℕ) (o : Outcome X) → (begun ≡ false → taken ≡ []) → begun_by begun taken (prefixed (c ∷ []) o) ≡ prefixed (taken ++ (c ∷ [])) o
     begun_more true taken c o u = prefixed-prefixed taken (c ∷ []) o
@@ -90,5 +86,5 @@ module _ {S : Type 0} (view : S → StreamView) (at : S → StreamView → S) wh
           rw q (inr (subst (λ z. Passes view at (Unexpected (first_of (view now).rest) (Word word)) z fault new) n m))
 
       -- memory is refused behind the characters taken
-      pub spelling_starved : (word : Text) (old now new : S) (begun : Bool) (fault : ParseFault A) → Differs view at word old begun now → Starves view at now fault new → Starves view at old fault new
-      spelling_starved word old now new begun fault h s = starves_after view at view_at at_at old now new h.taken (view now).rest fault h.spelling.takes s
+      pub spelling_starved : (word : Text) (old now new : S) (begun : Bool) (fault : ParseFault A) → (view old).failed ≡ false → Differs view at word old begun now → StarvesHere view at now fault new → Starves view at old fault new
+      spelling_starved word old now new begun fault f h s = starves_behind view at view_at at_at old now new h.taken (view now).rest fault f h.spelling.takes s

@@ -4,9 +4,9 @@ use Rattle.std.specs.Char.{is_whitespace}
 use Rattle.irtext_base.specs.Text.{Text, begins, front, after}
 use Rattle.irtext_base.specs.Reading.{the}
 use Rattle.irtext_base.specs.Stream.{StreamView, advanced}
-use Rattle.irtext_base.specs.Answers.{Outcome, Read, Missing, Bad, Takes, Starves, Refuses, Answers, Gives, DemandsOf, demanded, prefixed, mapped, followed, unless_failed}
+use Rattle.irtext_base.specs.Answers.{Outcome, Read, Missing, Bad, Takes, Starves, StarvesHere, Refuses, Answers, Gives, DemandsOf, demanded, prefixed, mapped, followed, unless_failed}
 use Rattle.irtext_base.specs.declared.parsable.fault.ParseFault.{ParseFault}
-use Rattle.irtext_base.proofs.Compose.{seen_after, takes_more, answers_after, answers_demanded, starves_after, refuses_first, refuses_mapped_demanded}
+use Rattle.irtext_base.proofs.Compose.{takes_none, takes_fine, seen_after, takes_more, answers_after, answers_demanded, starves_behind, refuses_first, refuses_mapped_demanded}
 use Rattle.irtext_read.specs.Tokens.{space_at, text_at}
 use Rattle.irtext_read.specs.MustRead.{MustRead, MayRead}
 use Rattle.irtext_read.proofs.Grammar.{text_at-literal}
@@ -82,13 +82,9 @@ module _ {S : Type 0} (l : Lens S) where
   not_failed true o old mid x h = absurd h
   not_failed false o old mid x h = refl
 
-  -- nothing is taken yet
-  takes_none : (s : S) → Takes l.view l.at [] (l.view s).rest s s
-  takes_none s = record { is = sym (l.at_view s) ∙ ap (λ (p : Text). l.at s (let v : StreamView = record { passed = p; rest = (l.view s).rest; failed = (l.view s).failed } in v)) (sym (append-nil (l.view s).passed)); same = refl }
-
   -- the reader has not begun
   pub starts : {V : Type 0} (outcome next : Text → Outcome V) (old : S) → (l.view old).failed ≡ false → outcome (l.view old).rest ≡ next (l.view old).rest → Passed outcome next old old
-  starts outcome next old f e = record { fine = f; taken = []; takes = takes_none old; so_far = ap demanded e ∙ sym (prefixed-none (next (l.view old).rest)) }
+  starts outcome next old f e = record { fine = f; taken = []; takes = takes_none l.view l.at l.view_at l.at_at l.at_view old; so_far = ap demanded e ∙ sym (prefixed-none (next (l.view old).rest)) }
 
   passed : {X V : Type 0} (outcome : Text → Outcome V) (o : Outcome X) (b : Bool) (k : X → Text → Outcome V) (old mid new : S) (taken : Text) (x : X) → (l.view old).failed ≡ false → Takes l.view l.at taken (l.view mid).rest old mid → demanded (outcome (l.view old).rest) ≡ prefixed taken (followed o k) → Gives l.view l.at (demanded (unless_failed b o)) mid x new → Passed outcome (k x) old new
   passed outcome o true k old mid new taken x f t e h = absurd h
@@ -123,7 +119,7 @@ module _ {S : Type 0} (l : Lens S) where
   -- the last thing answers for all
   pub last : {V Y A : Type 0} {see : Y → V} {f outcome : Text → Outcome V} {old mid new : S} {r : Result Y (ParseFault A)} → Passed outcome f old mid → MustRead l.view l.at see f mid r new → MustRead l.view l.at see outcome old r new
   last {see = see} {f = f} {outcome = outcome} {old = old} {mid = mid} {new = new} {r = r} p h =
-      let v : (l.view mid).failed ≡ false = ap (λ w. w.failed) (seen_after l.view l.at l.view_at l.at_at old mid p.taken (l.view mid).rest p.takes) ∙ p.fine in
+      let v : (l.view mid).failed ≡ false = takes_fine l.view l.at l.view_at l.at_at old mid p.taken (l.view mid).rest p.takes p.fine in
       let a : Answers l.view l.at see (demanded (f (l.view mid).rest)) mid r new = rw v at h.answers in
       record { answers = rw (p.fine, p.so_far) (answers_after l.view l.at l.view_at l.at_at see (f (l.view mid).rest) old mid new p.taken (l.view mid).rest r p.takes a) }
 
@@ -136,7 +132,7 @@ module _ {S : Type 0} (l : Lens S) where
   -- one thing more is refused
   pub refuses : {X Y W V A : Type 0} {see : Y → X} {sees : W → V} {f : Text → Outcome X} {outcome : Text → Outcome V} {old mid new : S} {fault : ParseFault A} (k : X → Text → Outcome V) → Passed outcome (λ t. followed (f t) k) old mid → MustRead l.view l.at see f mid (Err fault) new → MustRead l.view l.at sees outcome old (Err fault) new
   refuses {see = see} {sees = sees} {f = f} {outcome = outcome} {old = old} {mid = mid} {new = new} {fault = fault} k p h =
-      let v : (l.view mid).failed ≡ false = ap (λ w. w.failed) (seen_after l.view l.at l.view_at l.at_at old mid p.taken (l.view mid).rest p.takes) ∙ p.fine in
+      let v : (l.view mid).failed ≡ false = takes_fine l.view l.at l.view_at l.at_at old mid p.taken (l.view mid).rest p.takes p.fine in
       let a : Answers l.view l.at see (demanded (f (l.view mid).rest)) mid (Err fault) new = rw v at h.answers in
       let b : Answers l.view l.at sees (demanded (followed (f (l.view mid).rest) k)) mid (Err fault) new = refused (f (l.view mid).rest) k mid fault new a in
       record { answers = rw (p.fine, p.so_far) (answers_after l.view l.at l.view_at l.at_at sees (followed (f (l.view mid).rest) k) old mid new p.taken (l.view mid).rest (Err fault) p.takes b) }
@@ -203,9 +199,9 @@ module _ {S : Type 0} (l : Lens S) where
       let g : Gives l.view l.at (prefixed p.taken (mapped k (space_at (l.view mid).rest))) old (sees w) new = (e, takes_more l.view l.at l.view_at l.at_at old mid new p.taken (l.view mid).rest (front is_whitespace (l.view mid).rest) (after is_whitespace (l.view mid).rest) p.takes h) in
       record { answers = rw (p.fine, p.so_far) g }
 
-  -- memory is refused on the way
-  pub starved : {W V A : Type 0} {sees : W → V} {outcome next : Text → Outcome V} {old mid new : S} {fault : ParseFault A} → Passed outcome next old mid → Starves l.view l.at mid fault new → MustRead l.view l.at sees outcome old (Err fault) new
-  starved {old = old} {mid = mid} {new = new} {fault = fault} p h = record { answers = inl (starves_after l.view l.at l.view_at l.at_at old mid new p.taken (l.view mid).rest fault p.takes h) }
+  -- memory is refused on the way, where the stream stands
+  pub starved : {W V A : Type 0} {sees : W → V} {outcome next : Text → Outcome V} {old mid new : S} {fault : ParseFault A} → Passed outcome next old mid → StarvesHere l.view l.at mid fault new → MustRead l.view l.at sees outcome old (Err fault) new
+  starved {old = old} {mid = mid} {new = new} {fault = fault} p h = record { answers = inl (starves_behind l.view l.at l.view_at l.at_at old mid new p.taken (l.view mid).rest fault p.fine p.takes h) }
 
   -- what is to be read is seen in another way
   pub onward : {V : Type 0} {outcome : Text → Outcome V} {old mid : S} (next last : Text → Outcome V) → next (l.view mid).rest ≡ last (l.view mid).rest → Passed outcome next old mid → Passed outcome last old mid
@@ -239,7 +235,7 @@ module _ {S : Type 0} (l : Lens S) where
 
   -- the stream has not failed there
   pub fine_there : {V : Type 0} {outcome next : Text → Outcome V} {old mid : S} → Passed outcome next old mid → (l.view mid).failed ≡ false
-  fine_there {old = old} {mid = mid} p = ap (λ w. w.failed) (seen_after l.view l.at l.view_at l.at_at old mid p.taken (l.view mid).rest p.takes) ∙ p.fine
+  fine_there {old = old} {mid = mid} p = takes_fine l.view l.at l.view_at l.at_at old mid p.taken (l.view mid).rest p.takes p.fine
 
 -- a text's stream alone
 abbrev pub alone : Lens StreamView

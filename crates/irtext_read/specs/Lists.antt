@@ -7,7 +7,7 @@ use Rattle.irtext_base.specs.Text.{Text, begins, front, after_space}
 use Rattle.irtext_base.specs.Reading.{the}
 use Rattle.irtext_base.specs.Stream.{StreamView, first_of, advanced, behind, after_failure}
 use Rattle.irtext_base.specs.Faults.{Failed, EmptyItem, BadSeparator, Unexpected, Word}
-use Rattle.irtext_base.specs.Answers.{Starves, Commits, Passes}
+use Rattle.irtext_base.specs.Answers.{StarvesHere, Commits, Passes}
 use Rattle.irtext_base.specs.declared.parsable.fault.ParseFault.{ParseFault}
 use Rattle.irtext_base.specs.declared.printable.ListSeparator.{ListSeparator}
 use Rattle.irtext_base.specs.declared.printable.ListSeparator.TheVariants as separator
@@ -92,7 +92,7 @@ module _ {S : Type 0} (view : S → StreamView) (at : S → StreamView → S) wh
       missing : (f : F) (s : S) (fault : ParseFault A) (g : F) (t : S) → calls f s (Err fault) g t → fault.committed ≡ false → Items f s (Ok []) t
       bad : (f : F) (s : S) (fault : ParseFault A) (g : F) (t : S) → calls f s (Err fault) g t → fault.committed ≡ true → Items f s (Err fault) t
       empty : (f : F) (s : S) (x : X) (g : F) (t : S) (fault : ParseFault A) (u : S) → calls f s (Ok x) g t → (view t).rest ≡ (view s).rest → Commits view at EmptyItem [] t fault u → Items f s (Err fault) u
-      no_room : (f : F) (s : S) (x : X) (g : F) (t : S) (fault : ParseFault A) (u : S) → calls f s (Ok x) g t → Starves view at t fault u → Items f s (Err fault) u
+      no_room : (f : F) (s : S) (x : X) (g : F) (t : S) (fault : ParseFault A) (u : S) → calls f s (Ok x) g t → StarvesHere view at t fault u → Items f s (Err fault) u
       more : (f : F) (s : S) (x : X) (g : F) (t b : S) (r q : Result (List X) (ParseFault A)) (u : S) → calls f s (Ok x) g t → length (view t).rest < length (view s).rest → Skips t b
           → Items g b r u → q ≡ prepended (x ∷ []) r → Items f s q u
 
@@ -106,7 +106,7 @@ module _ {S : Type 0} (view : S → StreamView) (at : S → StreamView → S) wh
     pub data Tail (sep : ℕ) : F → S → Result (List X) (ParseFault A) → S → Type 0 where
       none : (f : F) (s : S) → begins (the sep) (view s).rest ≡ false → Tail sep f s (Ok []) s
       insisted : (f : F) (s b : S) (fault last : ParseFault A) (g : F) (t u : S) → Opens sep s b → calls f b (Err fault) g t → Insisted fault t last u → Tail sep f s (Err last) u
-      no_more_room : (f : F) (s b : S) (x : X) (g : F) (t : S) (fault : ParseFault A) (u : S) → Opens sep s b → calls f b (Ok x) g t → Starves view at t fault u → Tail sep f s (Err fault) u
+      no_more_room : (f : F) (s b : S) (x : X) (g : F) (t : S) (fault : ParseFault A) (u : S) → Opens sep s b → calls f b (Ok x) g t → StarvesHere view at t fault u → Tail sep f s (Err fault) u
       next : (f : F) (s b : S) (x : X) (g : F) (t d : S) (r q : Result (List X) (ParseFault A)) (u : S) → Opens sep s b → calls f b (Ok x) g t → Skips t d
           → Tail sep g d r u → q ≡ prepended (x ∷ []) r → Tail sep f s q u
 
@@ -118,7 +118,7 @@ module _ {S : Type 0} (view : S → StreamView) (at : S → StreamView → S) wh
     pub data Separated (sep : ℕ) : F → S → Result (List X) (ParseFault A) → S → Type 0 where
       no_item : (f : F) (s : S) (fault : ParseFault A) (g : F) (t : S) → calls f s (Err fault) g t → fault.committed ≡ false → Separated sep f s (Ok []) t
       bad_item : (f : F) (s : S) (fault : ParseFault A) (g : F) (t : S) → calls f s (Err fault) g t → fault.committed ≡ true → Separated sep f s (Err fault) t
-      no_first_room : (f : F) (s : S) (x : X) (g : F) (t : S) (fault : ParseFault A) (u : S) → calls f s (Ok x) g t → Starves view at t fault u → Separated sep f s (Err fault) u
+      no_first_room : (f : F) (s : S) (x : X) (g : F) (t : S) (fault : ParseFault A) (u : S) → calls f s (Ok x) g t → StarvesHere view at t fault u → Separated sep f s (Err fault) u
       an_item : (f : F) (s : S) (x : X) (g : F) (t b : S) (q : Result (List X) (ParseFault A)) (u : S) → calls f s (Ok x) g t → Skips t b → TailAfter sep (x ∷ []) g b q u → Separated sep f s q u
 
     -- A character, white space, the list of items with a separator, and a character.

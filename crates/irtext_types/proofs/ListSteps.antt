@@ -4,10 +4,10 @@ use Rattle.std.specs.Char.{is_whitespace}
 use Rattle.irtext_base.specs.Text.{Text, begins, front, after_space}
 use Rattle.irtext_base.specs.Reading.{the}
 use Rattle.irtext_base.specs.Stream.{StreamView, advanced, behind}
-use Rattle.irtext_base.specs.Answers.{Outcome, Read, Missing, Bad, Takes, Starves, Refuses, Gives, demanded, mapped, followed, unless_failed}
+use Rattle.irtext_base.specs.Answers.{Outcome, Read, Missing, Bad, Takes, Starves, StarvesHere, Refuses, Gives, demanded, mapped, followed, unless_failed}
 use Rattle.irtext_base.specs.declared.parsable.fault.ParseFault.{ParseFault}
-use Rattle.irtext_base.proofs.Compose.{answers_after, seen_after, takes_more, starves_after}
-use Rattle.irtext_read.proofs.Spelling.{begins_the, takes_none, takes_next}
+use Rattle.irtext_base.proofs.Compose.{takes_none, answers_after, seen_after, takes_more, starves_behind}
+use Rattle.irtext_read.proofs.Spelling.{begins_the, takes_next}
 use Rattle.irtext_read.specs.Tokens.{text_at}
 use Rattle.irtext_types.specs.Words.{behind_space}
 use Rattle.irtext_types.specs.Types.{type_at}
@@ -30,11 +30,11 @@ item_given false (Missing cause) old mid new y h k = absurd h
 item_given false (Bad cause upto) old mid new y h k = absurd h
 
 -- memory refused behind what was read
-pub item_starves : {A : Type 0} (b : Bool) (o : Outcome DemoType) (old mid new : StreamView) (y : DemoType) (fault : ParseFault A) → Gives (λ s. s) (λ s v. v) (unless_failed b o) old y mid → Starves (λ s. s) (λ s v. v) mid fault new → Starves (λ s. s) (λ s v. v) old fault new
-item_starves true o old mid new y fault h s = absurd h
-item_starves false (Read x t r) old mid new y fault h s = starves_after (λ s. s) (λ s v. v) (λ s v. refl) (λ s v w. refl) old mid new t r fault h.1 s
-item_starves false (Missing cause) old mid new y fault h s = absurd h
-item_starves false (Bad cause upto) old mid new y fault h s = absurd h
+pub item_starves : {A : Type 0} (b : Bool) (o : Outcome DemoType) (old mid new : StreamView) (y : DemoType) (fault : ParseFault A) → old.failed ≡ b → Gives (λ s. s) (λ s v. v) (unless_failed b o) old y mid → StarvesHere (λ s. s) (λ s v. v) mid fault new → Starves (λ s. s) (λ s v. v) old fault new
+item_starves true o old mid new y fault e h s = absurd h
+item_starves false (Read x t r) old mid new y fault e h s = starves_behind (λ s. s) (λ s v. v) (λ s v. refl) (λ s v w. refl) old mid new t r fault e h.1 s
+item_starves false (Missing cause) old mid new y fault e h s = absurd h
+item_starves false (Bad cause upto) old mid new y fault e h s = absurd h
 
 -- a stream that was read from hasn't failed
 pub given_whole : {X : Type 0} (o : Outcome X) (old new : StreamView) (b : Bool) (y : X) → old.failed ≡ b → Gives (λ s. s) (λ s v. v) (unless_failed b o) old y new → new.failed ≡ false
@@ -141,7 +141,7 @@ module _ {A : Type 0} where
 
   -- no comma comes
   pub ahead_ends : (first : List DemoType) (old : StreamView) (types : List DemoType) (now : StreamView) → Ahead A first old types now → begins (the 44) now.rest ≡ false → Says {A = A} {X = List DemoType} {Y = List DemoType} (λ t. t) (more_types (length old.rest) first old.rest) old (Ok types) now
-  ahead_ends first old types now h e = h.joins (Ok types) now (subst (λ o. Says {A = A} {X = List DemoType} {Y = List DemoType} (λ t. t) o now (Ok types) now) (sym (more_ends h.fuel types now.rest e)) (refl, takes_none (λ s. s) (λ s v. v) (λ s v. refl) (λ s. refl) (λ s v w. refl) now))
+  ahead_ends first old types now h e = h.joins (Ok types) now (subst (λ o. Says {A = A} {X = List DemoType} {Y = List DemoType} (λ t. t) o now (Ok types) now) (sym (more_ends h.fuel types now.rest e)) (refl, takes_none (λ s. s) (λ s v. v) (λ s v. refl) (λ s v w. refl) (λ s. refl) now))
 
   -- a comma, and an item that is refused
   pub ahead_stops : (first : List DemoType) (old : StreamView) (types : List DemoType) (now mid new : StreamView) (fault : ParseFault A) → Ahead A first old types now → begins (the 44) now.rest ≡ true → mid ≡ advanced now

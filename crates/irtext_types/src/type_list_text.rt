@@ -11,7 +11,7 @@ use crate::words::text_behind;
 use irtext_base::parsable::{CharStream, ParseResult, TextStream};
 use irtext_base::result::Cause;
 use irtext_base::text::IrText;
-use irtext_read::irfmt::faults::{begins, committed, next_is, refuse};
+use irtext_read::irfmt::faults::{begins, committed, next_is, out_of_memory, refuse};
 use irtext_read::irfmt::parsers::{Class, skip_white_space};
 use std::fmt;
 
@@ -37,7 +37,7 @@ fn item_parse<A>(stream: &mut TextStream, types: &mut TypeList) -> ParseResult<(
                 skip_white_space(stream);
                 Ok(())
             }
-            Err(_) => Err(refuse(stream, Cause::Memory)),
+            Err(_) => Err(out_of_memory(stream)),
         },
         Err(fault) => Err(fault),
     }

@@ -1,13 +1,15 @@
 //! The words of types and attributes: dotted words, which they begin with, and fixed texts behind white space.
 ghost use Rattle.std.specs.Prelude.{◌≡◌, ◌⊎◌, ◌++◌, ℕ, List, Option};
-ghost use Rattle.irtext_base.specs.Answers.{Answers, unless_failed};
-ghost use Rattle.irtext_base.specs.Faults.{characters, demand_of, fault_of, Memory, OwnText};
+ghost use Rattle.std.specs.Str.{encode_utf8_all};
+ghost use Rattle.irtext_base.specs.Answers.{Answers, StarvesHere, FailsBehind, unless_failed};
+ghost use Rattle.irtext_base.specs.Faults.{characters, demand_of, OwnText};
+ghost use Rattle.irtext_base.specs.Places.{StandsBehind};
 ghost use Rattle.irtext_read.specs.Tokens.{text_at};
 ghost use Rattle.irtext_types.specs.Words.{behind_space, dotted_at};
 
-use irtext_base::parsable::{CharStream, ParseResult, TextStream};
+use irtext_base::parsable::{CharStream, ParseFault, ParseResult, Place, TextStream};
 use irtext_base::result::{Cause, Expected};
-use irtext_read::irfmt::faults::{begins, committed, refuse, refuse_at, unexpected};
+use irtext_read::irfmt::faults::{begins, committed, out_of_memory, refuse, refuse_at, unexpected};
 use irtext_read::irfmt::parsers::{Class, skip_class, skip_white_space, text_parse};
 
 /// The words that texts of one kind begin with.
@@ -20,13 +22,17 @@ pub trait DottedWord: Copy {
         ensures { result ≡ word text.now };
 }
 
-/// The cause of a word that is none: what it is not, and the word.
-fn unregistered<A>(stream: &TextStream, refusal: &str, word: &str) -> Cause<A>
-    ensures { (fault_of result ≡ Memory) ⊎ (fault_of result ≡ OwnText (refusal.now ++ word.now)) }
+/// The fault of a word since a place, which is none, at that place: what it is not, and the word. Where there is no memory for this
+/// text, that is the fault, where the stream stands. It leaves the stream failed.
+fn unregistered<A>(stream: &mut TextStream, place: Place, refusal: &str) -> ParseFault<A>
+    requires { (passed taken : List ℕ) × (passed ++ taken ≡ stream.old.passed) × StandsBehind place passed }
+    ensures { (passed taken : List ℕ) → passed ++ taken ≡ stream.old.passed → StandsBehind place passed →
+        StarvesHere (λ s. s) (λ s v. v) stream.old result stream.new ⊎ FailsBehind (λ s. s) (λ s v. v) (OwnText (refusal.now ++ encode_utf8_all taken)) passed stream.old result stream.new }
 {
+    let word = stream.text_since(place);
     match format!(in stream.allocator(); "{refusal}{word}") {
-        Ok(text) => Cause::OwnText(text),
-        Err(_) => Cause::Memory,
+        Ok(text) => refuse_at(stream, place, Cause::OwnText(text)),
+        Err(_) => out_of_memory(stream),
     }
 }
 
@@ -50,8 +56,7 @@ pub fn dotted_parse<W: DottedWord, A>(
     if let Some(word) = W::of(found) {
         return Ok(word);
     }
-    let cause = unregistered(stream, refusal, found);
-    Err(refuse_at(stream, place, cause))
+    Err(unregistered(stream, place, refusal))
 }
 
 /// Reads a fixed text behind white space, where it must stand.

@@ -1,9 +1,9 @@
 -- Indices of entries that may stand, and those that may not.
-use Rattle.std.proofs.Common.{◌≡◌, ℕ, ◌<◌, Bool, true, false, cond, Ok, Err, [], ◌∷◌, length, length-append, Option, Some, codes, refl, sym, ◌∙◌, ap, subst, ◌⊎◌, inl, inr, arith}
+use Rattle.std.proofs.Common.{◌≡◌, append-nil, ℕ, ◌<◌, Bool, true, false, cond, Ok, Err, [], ◌∷◌, length, length-append, Option, Some, codes, refl, sym, ◌∙◌, ap, subst, ◌⊎◌, inl, inr, arith}
 use Rattle.irtext_base.specs.Text.{Text}
 use Rattle.irtext_base.specs.Stream.{StreamView, IsAt, after_failure}
 use Rattle.irtext_base.specs.Faults.{UnknownIndex, Unexpected, Word, fault_of}
-use Rattle.irtext_base.specs.Answers.{Outcome, Read, Missing, Bad, Takes, Starves, Refuses, Gives, demanded, prefixed, mapped, followed, unless_failed}
+use Rattle.irtext_base.specs.Answers.{Outcome, Read, Missing, Bad, Takes, Starves, StarvesHere, Refuses, Gives, demanded, prefixed, mapped, followed, unless_failed}
 use Rattle.irtext_base.specs.declared.parsable.fault.ParseFault.{ParseFault}
 use Rattle.irtext_base.specs.Reading.{the}
 use Rattle.irtext_base.specs.Locations.{AttrView}
@@ -11,7 +11,7 @@ use Rattle.irtext_base.specs.Paths.{Written}
 use Rattle.irtext_read.specs.AttrTexts.{attr_at}
 use Rattle.irtext_read.specs.Tokens.{text_at, number_at}
 use Rattle.irtext_outcomes.specs.Readers.Parts.{index_at}
-use Rattle.irtext_base.proofs.Compose.{refuses_before}
+use Rattle.irtext_base.proofs.Compose.{takes_stands, stands_failed}
 use Rattle.irtext_read.specs.MustRead.{MustRead, MayRead}
 use Rattle.irtext_outcomes.specs.Readers.Section.{known_index, entry_at, content_at, heading_at}
 use Rattle.irtext_base.specs.Own.{Sincere}
@@ -47,7 +47,7 @@ module _ (test : ℕ → Bool) where
   unknown_read false (Read x t r) i old mid new fault e h k =
       let d : test x ≡ false = subst (λ x. test x ≡ false) h.0 e in
       let c : fault_of fault.cause ≡ UnknownIndex x = k.because ∙ ap UnknownIndex h.0 in
-      rw d (refuses_before itself replaced alone.view_at alone.at_at (UnknownIndex x) old mid new t r fault h.1 k.committed k.place k.left (inr c))
+      rw d (inr (record { because = c; committed = k.committed; place = rw append-nil k.place; left = stands_failed itself replaced alone.view_at alone.at_at old.failed old mid new (takes_stands itself replaced alone.view_at alone.at_at old mid t r h.1) k.left }))
   unknown_read false (Missing cause) i old mid new fault e h k = absurd h
   unknown_read false (Bad cause upto) i old mid new fault e h k = absurd h
 
@@ -92,8 +92,8 @@ module _ {A : Type 0} where
   reported_refusal same kept h = record { committed = λ e. h.committed (sym kept ∙ e); uncommitted = λ e. h.uncommitted (sym kept ∙ e); failed = λ e. h.failed (sym (ap fault_of same) ∙ e) }
 
   -- memory is refused where something must be read
-  pub demands_memory : {old new : StreamView} {fault : ParseFault A} → Starves itself replaced old fault new → CommittedRefusal old fault new
-  demands_memory h = record { committed = h.committed; fails = ap (λ v. v.failed) h.left.is ∙ h.left.fails; failed = λ f. absurd (cc (h.because)) }
+  pub demands_memory : {old new : StreamView} {fault : ParseFault A} → StarvesHere itself replaced old fault new → CommittedRefusal old fault new
+  demands_memory h = record { committed = h.committed; fails = ap (λ v. v.failed) h.left; failed = λ f. absurd (cc (h.because)) }
 
   -- a refusal behind what was read
   pub demands_behind : {old mid new : StreamView} {fault : ParseFault A} → mid.failed ≡ old.failed → CommittedRefusal mid fault new → CommittedRefusal old fault new

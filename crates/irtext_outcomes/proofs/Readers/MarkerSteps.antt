@@ -7,7 +7,8 @@ use Rattle.irtext_base.specs.Reading.{the}
 use Rattle.irtext_base.specs.Stream.{StreamView, advanced, behind}
 use Rattle.irtext_base.specs.Answers.{Takes, Stands}
 use Rattle.irtext_base.proofs.Compose.{seen_after, stands_after, takes_more, takes_stands}
-use Rattle.irtext_read.proofs.Spelling.{begins_the, takes_none, takes_next}
+use Rattle.irtext_read.proofs.Spelling.{begins_the, takes_next}
+use Rattle.irtext_base.proofs.Compose.{takes_none}
 use Rattle.irtext_outcomes.specs.Readers.Marker.{starts_with, TakesWord}
 
 the-same : (c : ℕ) → the c c ≡ true
@@ -32,7 +33,7 @@ module _ {S : Type 0} (view : S → StreamView) (at : S → StreamView → S) wh
   module _ (view_at : (s : S) (v : StreamView) → view (at s v) ≡ v) (at_view : (s : S) → at s (view s) ≡ s) (at_at : (s : S) (v w : StreamView) → at (at s v) w ≡ at s w) where
     -- nothing of the word was taken yet
     pub along_start : (word : Text) (old : S) → Along word old old [] word
-    along_start word old = record { takes = takes_none view at view_at at_view at_at old; whole = refl; so_far = refl }
+    along_start word old = record { takes = takes_none view at view_at at_at at_view old; whole = refl; so_far = refl }
 
     -- one more character of the word was taken
     pub along_more : (word : Text) (old now next : S) (taken left : Text) (c : ℕ) → Along word old now taken (c ∷ left) → begins (the c) (view now).rest ≡ true → next ≡ at now (advanced (view now)) → Along word old next (taken ++ (c ∷ [])) left

@@ -5,7 +5,7 @@ use Rattle.std.specs.declared.alloc.AllocError.{AllocError}
 use Rattle.std.specs.Char.{is_whitespace}
 use Rattle.irtext_base.specs.Text.{Text, front, after}
 use Rattle.irtext_base.specs.Stream.{StreamView}
-use Rattle.irtext_base.specs.Answers.{Outcome, Starves, Takes}
+use Rattle.irtext_base.specs.Answers.{Outcome, StarvesHere, Takes}
 use Rattle.irtext_context.specs.Context.{ContextView, with_paths}
 use Rattle.irtext_base.specs.Paths.{KeepsPaths, Written, path_of, are_known, row_known, written_with}
 use Rattle.irtext_base.specs.Locations.{LocationView, LocationsOf, no_location, location, location_view, in_row, row_sourced}
@@ -49,12 +49,12 @@ module _ {A : Type 0} where
   AnswersMade (Ok l) old (Ok k) new = (k ≡ l) × (new ≡ old)
   AnswersMade (Ok l) old (Err fault) new = ⊥
   AnswersMade (Err e) old (Ok k) new = ⊥
-  AnswersMade (Err e) old (Err fault) new = Starves itself replaced old fault new
+  AnswersMade (Err e) old (Err fault) new = StarvesHere itself replaced old fault new
 
   -- a location that looks so was made, or memory was refused for it
   abbrev pub Makes : LocationView A → StreamView → Result (Location A) (ParseFault A) → StreamView → Type 0
   Makes view old (Ok l) new = (location_view l ≡ view) × (new ≡ old)
-  Makes view old (Err fault) new = Starves itself replaced old fault new
+  Makes view old (Err fault) new = StarvesHere itself replaced old fault new
 
   -- whether the paths of locations in a row are among so many
   abbrev pub known_row : ℕ → Vec (Location A) Global → Bool
@@ -73,4 +73,4 @@ module _ {A : Type 0} where
   -- a location came to stand last in a row, and the white space behind it was passed, or memory was refused for it
   abbrev pub PushesRow : Vec (Location A) Global → Location A → StreamView → Vec (Location A) Global → Result Unit (ParseFault A) → StreamView → Type 0
   PushesRow found l old more (Ok done) new = (more.items ≡ found.items ++ (l ∷ [])) × Takes itself replaced (front is_whitespace old.rest) (after is_whitespace old.rest) old new
-  PushesRow found l old more (Err fault) new = Starves itself replaced old fault new
+  PushesRow found l old more (Err fault) new = StarvesHere itself replaced old fault new

@@ -5,7 +5,7 @@ ghost use Rattle.irtext_base.specs.Reading.{the};
 ghost use Rattle.irtext_base.specs.Stream.{IsAt, first_of, after_failure};
 ghost use Rattle.irtext_base.specs.Places.{StandsBehind};
 ghost use Rattle.irtext_base.specs.Faults.{fault_of, demand_of, Unexpected};
-ghost use Rattle.irtext_base.specs.Answers.{Commits, Passes, Demands, DemandsOf};
+ghost use Rattle.irtext_base.specs.Answers.{StarvesHere, Commits, Passes, Demands, DemandsOf};
 ghost use Rattle.irtext_read.specs.Tokens.{has};
 
 use crate::irfmt::parsers::Class;
@@ -55,6 +55,14 @@ pub fn refuse_at<S: CharStream, A>(stream: &mut S, place: Place, cause: Cause<A>
         cause,
         committed: true,
     }
+}
+
+/// The fault of want of memory where the stream stands, which leaves the stream failed.
+pub fn out_of_memory<S: CharStream, A>(stream: &mut S) -> ParseFault<A>
+    ensures { StarvesHere S.view S.at stream.old result stream.new }
+{
+    let place = stream.position();
+    refuse_at(stream, place, Cause::Memory)
 }
 
 /// An uncommitted fault of this cause where the stream stands.

@@ -82,11 +82,8 @@ fn ident<S: CharStream, A>(stream: &mut S) -> ParseResult<Identifier, A>
     identifier_demanded(stream)
 }
 
-/// Reads an attribute: behind the word `builtin.given_names` names or `?` with `,` between them in brackets, behind the word
-/// `builtin.identifier` an identifier, with white space between all tokens; and else an attribute of the caller by its own reader, whose
-/// faults are the answer. Behind one of the two words each fault is committed, and leaves the stream failed. Nothing but the text is
-/// read, and nothing beside it changes.
-pub fn attr_parse<S: OwnStream, A: AttrText>(stream: &mut S) -> ParseResult<AttrObj<A>, A>
+/// Reads an attribute by what its beginning leads to.
+fn led_parse<S: OwnStream, A: AttrText>(stream: &mut S) -> ParseResult<AttrObj<A>, A>
     ensures { MayRead S.CharStream.view S.CharStream.at attr_view (attr_at A.IrText.reading) stream.old result stream.new }
 {
     if stream.has_failed() {
@@ -97,6 +94,17 @@ pub fn attr_parse<S: OwnStream, A: AttrText>(stream: &mut S) -> ParseResult<Attr
         Lead::Ident => Ok(AttrObj::Ident(ident(stream)?)),
         Lead::Own => Ok(AttrObj::Own(stream.read_own()?)),
     }
+}
+
+/// Reads an attribute: behind the word `builtin.given_names` names or `?` with `,` between them in brackets, behind the word
+/// `builtin.identifier` an identifier, with white space between all tokens; and else an attribute of the caller by its own reader, whose
+/// faults are the answer. Behind one of the two words each fault is committed, and leaves the stream failed. Nothing but the text is
+/// read, and nothing beside it changes.
+pub fn attr_parse<S: OwnStream, A: AttrText>(stream: &mut S) -> ParseResult<AttrObj<A>, A>
+    ensures read { MayRead S.CharStream.view S.CharStream.at attr_view (attr_at A.IrText.reading) stream.old result stream.new }
+    ensures beside { stream.new ≡ S.CharStream.at stream.old (S.CharStream.view stream.new) }
+{
+    led_parse(stream)
 }
 
 /// Reads a type by its own reader, whose faults are the answer. Nothing but the stream changes.

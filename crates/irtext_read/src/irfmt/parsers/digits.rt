@@ -3,13 +3,12 @@ ghost use Rattle.std.specs.Prelude.{◌≡◌, ℕ, List, ◌++◌, ◌⊎◌, t
 ghost use Rattle.std.specs.Char.{digit_value};
 ghost use Rattle.std.specs.Str.{encode_utf8_all};
 ghost use Rattle.irtext_base.specs.Text.{front, after};
-ghost use Rattle.irtext_base.specs.Stream.{IsAt, after_failure};
 ghost use Rattle.irtext_base.specs.Places.{StandsBehind};
-ghost use Rattle.irtext_base.specs.Faults.{fault_of, Memory, NumberRange};
-ghost use Rattle.irtext_base.specs.Answers.{Takes};
+ghost use Rattle.irtext_base.specs.Faults.{NumberRange};
+ghost use Rattle.irtext_base.specs.Answers.{Takes, StarvesHere, FailsBehind};
 ghost use Rattle.irtext_read.specs.Digits.{base, is_digit_in, appended, value_in};
 
-use crate::irfmt::faults::refuse_at;
+use crate::irfmt::faults::{out_of_memory, refuse_at};
 use crate::irfmt::parsers::class::Class;
 use irtext_base::parsable::{CharStream, ParseFault, Place};
 use irtext_base::result::Cause;
@@ -72,18 +71,15 @@ pub fn take_digits<S: CharStream>(stream: &mut S, radix: Radix) -> Option<u64>
     number
 }
 
-/// The fault of a number that doesn't fit and began at this place, which leaves the stream failed.
+/// The fault of a number that doesn't fit, at the place where it began. Where there is no memory for its text, that is the fault, where
+/// the stream stands. It leaves the stream failed.
 pub fn out_of_range<S: CharStream, A>(stream: &mut S, place: Place) -> ParseFault<A>
     requires { (passed taken : List ℕ) × (passed ++ taken ≡ (S.view stream.old).passed) × StandsBehind place passed }
-    ensures cause { (passed taken : List ℕ) → passed ++ taken ≡ (S.view stream.old).passed → StandsBehind place passed →
-        (fault_of result.cause ≡ Memory) ⊎ (fault_of result.cause ≡ NumberRange (encode_utf8_all taken)) }
-    ensures committed { result.committed ≡ true }
-    ensures at { (passed : List ℕ) → StandsBehind place passed → IsAt result.pos.line result.pos.column passed }
-    ensures left { stream.new ≡ S.at stream.old (after_failure (S.view stream.old)) }
+    ensures { (passed taken : List ℕ) → passed ++ taken ≡ (S.view stream.old).passed → StandsBehind place passed →
+        StarvesHere S.view S.at stream.old result stream.new ⊎ FailsBehind S.view S.at (NumberRange (encode_utf8_all taken)) passed stream.old result stream.new }
 {
-    let cause = match String::from_str(stream.allocator(), stream.text_since(place)) {
-        Ok(text) => Cause::NumberRange(text),
-        Err(_) => Cause::Memory,
-    };
-    refuse_at(stream, place, cause)
+    match String::from_str(stream.allocator(), stream.text_since(place)) {
+        Ok(text) => refuse_at(stream, place, Cause::NumberRange(text)),
+        Err(_) => out_of_memory(stream),
+    }
 }

@@ -6,7 +6,7 @@ ghost use Rattle.irtext_base.specs.Stream.{first_of};
 ghost use Rattle.irtext_read.specs.Spelled.{Spells, Misses};
 ghost use Rattle.irtext_read.specs.Tokens.{text_at};
 
-use crate::irfmt::faults::{commit, next_is, refuse, unexpected};
+use crate::irfmt::faults::{commit, next_is, out_of_memory, refuse, unexpected};
 use irtext_base::parsable::{CharStream, ParseFault, ParseResult};
 use irtext_base::result::{Cause, Expected, Token};
 use std::alloc::{AllocError, Global};
@@ -64,6 +64,6 @@ pub fn text_parse<S: CharStream, A>(stream: &mut S, text: &str) -> ParseResult<(
     };
     match held(stream.allocator(), text) {
         Ok(expected) => Err(missing(stream, begun, expected)),
-        Err(_) => Err(refuse(stream, Cause::Memory)),
+        Err(_) => Err(out_of_memory(stream)),
     }
 }

@@ -3,7 +3,7 @@ ghost use Rattle.irtext_base.specs.Answers.{Answers, unless_failed};
 ghost use Rattle.irtext_base.specs.Faults.{demand_of};
 ghost use Rattle.irtext_read.specs.Tokens.{word_at, identifier_at};
 
-use crate::irfmt::faults::{begins, refuse, unexpected};
+use crate::irfmt::faults::{begins, out_of_memory, refuse, unexpected};
 use crate::irfmt::parsers::class::{Class, skip_class};
 use irtext_base::base::Identifier;
 use irtext_base::parsable::{CharStream, ParseResult};
@@ -27,7 +27,7 @@ pub fn word_parse<S: CharStream, A>(
     skip_class(stream, Class::Word);
     match Identifier::from_word(stream.allocator(), stream.text_since(place)) {
         Ok(name) => Ok(name),
-        Err(_) => Err(refuse(stream, Cause::Memory)),
+        Err(_) => Err(out_of_memory(stream)),
     }
 }
 

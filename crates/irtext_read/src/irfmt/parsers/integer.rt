@@ -6,7 +6,7 @@ ghost use Rattle.irtext_base.specs.Answers.{Answers, Takes, unless_failed};
 ghost use Rattle.irtext_read.specs.Tokens.{sign_of, after_sign};
 ghost use Rattle.irtext_read.specs.Integers.{within_of, sign_text, sign_at, int_at, number_text_at};
 
-use crate::irfmt::faults::{begins, commit, refuse, unexpected};
+use crate::irfmt::faults::{begins, commit, out_of_memory, refuse, unexpected};
 use crate::irfmt::parsers::class::{Class, skip_class};
 use crate::irfmt::parsers::digits::{Radix, out_of_range, take_digits};
 use crate::irfmt::parsers::from_str_radix::FromStrRadix;
@@ -79,6 +79,6 @@ pub fn number_as_string_parse<S: CharStream, A>(stream: &mut S) -> ParseResult<S
     skip_class(stream, Class::Digit);
     match String::from_str(stream.allocator(), stream.text_since(place)) {
         Ok(text) => Ok(text),
-        Err(_) => Err(refuse(stream, Cause::Memory)),
+        Err(_) => Err(out_of_memory(stream)),
     }
 }

@@ -6,7 +6,9 @@ ghost use Rattle.irtext_base.specs.Text.{Text};
 ghost use Rattle.irtext_base.specs.Places.{StandsBehind};
 ghost use Rattle.irtext_read.specs.Lists.{AlwaysKeepsRules, Calls, KeepsRules, UnlessFailed, Items, SpacedItems, Separated, TailAfter, Delimited, WithSeparator, Spaced, character_of, listed};
 
-use crate::irfmt::faults::{begins, commit, commit_unexpected, next_is, pass, refuse, unexpected};
+use crate::irfmt::faults::{
+    begins, commit, commit_unexpected, next_is, out_of_memory, pass, refuse, unexpected,
+};
 use crate::irfmt::parsers::class::{Class, skip_white_space};
 use irtext_base::parsable::{CharStream, ParseFault, ParseResult, Place};
 use irtext_base::printable::ListSeparator;
@@ -51,7 +53,7 @@ where
                     return Err(refuse(stream, Cause::EmptyItem));
                 }
                 if found.push(x).is_err() {
-                    return Err(refuse(stream, Cause::Memory));
+                    return Err(out_of_memory(stream));
                 }
                 skip_white_space(stream);
             }
@@ -83,7 +85,7 @@ where
         match item(stream) {
             Ok(x) => {
                 if found.push(x).is_err() {
-                    return Err(refuse(stream, Cause::Memory));
+                    return Err(out_of_memory(stream));
                 }
             }
             Err(fault) => return Err(commit(stream, fault)),
@@ -108,7 +110,7 @@ where
     match item(stream) {
         Ok(x) => {
             if found.push(x).is_err() {
-                return Err(refuse(stream, Cause::Memory));
+                return Err(out_of_memory(stream));
             }
         }
         Err(fault) => {

@@ -1,14 +1,14 @@
 //! The reader of quoted texts.
-ghost use Rattle.std.specs.Prelude.{◌≡◌, ℕ, List, [], ◌++◌, ◌⊎◌, true, codes, IfOk, MatchResult, string_bytes};
+ghost use Rattle.std.specs.Prelude.{◌≡◌, ℕ, List, [], ◌++◌, ◌⊎◌, false, codes, IfOk, MatchResult, string_bytes};
 ghost use Rattle.std.specs.Str.{encode_utf8_all};
 ghost use Rattle.irtext_base.specs.Text.{front, after, begins};
-ghost use Rattle.irtext_base.specs.Stream.{IsAt, first_of, after_failure};
+ghost use Rattle.irtext_base.specs.Stream.{first_of};
 ghost use Rattle.irtext_base.specs.Places.{StandsBehind};
-ghost use Rattle.irtext_base.specs.Faults.{fault_of, demand_of, Memory, Unexpected, BadUnicodeEscape};
-ghost use Rattle.irtext_base.specs.Answers.{Answers, Takes, Starves, Commits, mapped, demanded, unless_failed};
+ghost use Rattle.irtext_base.specs.Faults.{demand_of, Unexpected, BadUnicodeEscape};
+ghost use Rattle.irtext_base.specs.Answers.{Answers, Takes, Starves, StarvesHere, FailsBehind, Commits, mapped, demanded, unless_failed};
 ghost use Rattle.irtext_read.specs.QuotedTexts.{is_plain, escape_of, character_of, unit_at, units_at, quoted_at};
 
-use crate::irfmt::faults::{begins, commit_unexpected, next_is, refuse, refuse_at};
+use crate::irfmt::faults::{begins, commit_unexpected, next_is, out_of_memory, refuse_at};
 use crate::irfmt::parsers::class::Class;
 use crate::irfmt::parsers::digits::{Radix, take_digits};
 use crate::irfmt::parsers::fixed_text::text_parse;
@@ -37,6 +37,7 @@ fn skip_plain<S: CharStream>(stream: &mut S)
 
 /// Appends characters that stand for themselves to the text, as far as they go. Only memory can be refused.
 fn append_plain<S: CharStream, A>(stream: &mut S, text: &mut String) -> ParseResult<(), A>
+    requires { (S.view stream.old).failed ≡ false }
     ensures value { IfOk result (λ _. string_bytes text.new ≡ string_bytes text.old ++ encode_utf8_all (front is_plain (S.view stream.old).rest)) }
     ensures stream { MatchResult result
         (λ _. Takes S.view S.at (front is_plain (S.view stream.old).rest) (after is_plain (S.view stream.old).rest) stream.old stream.new)
@@ -46,7 +47,7 @@ fn append_plain<S: CharStream, A>(stream: &mut S, text: &mut String) -> ParseRes
     skip_plain(stream);
     match text.push_str(stream.text_since(place)) {
         Ok(()) => Ok(()),
-        Err(_) => Err(refuse(stream, Cause::Memory)),
+        Err(_) => Err(out_of_memory(stream)),
     }
 }
 
@@ -61,25 +62,23 @@ fn character(number: Option<u64>) -> Option<char>
     char::from_u32(number as u32)
 }
 
-/// The fault of hexadecimal digits since a place, which name no character, at the escape's own place. It leaves the stream failed.
+/// The fault of hexadecimal digits since a place, which name no character, at the escape's own place. Where there is no memory for the
+/// digits, that is the fault, where the stream stands. It leaves the stream failed.
 fn no_character<S: CharStream, A>(stream: &mut S, escape: Place, digits: Place) -> ParseFault<A>
     requires { (passed taken : List ℕ) × (passed ++ taken ≡ (S.view stream.old).passed) × StandsBehind digits passed }
-    ensures cause { (passed taken : List ℕ) → passed ++ taken ≡ (S.view stream.old).passed → StandsBehind digits passed →
-        (fault_of result.cause ≡ Memory) ⊎ (fault_of result.cause ≡ BadUnicodeEscape (encode_utf8_all taken)) }
-    ensures committed { result.committed ≡ true }
-    ensures at { (passed : List ℕ) → StandsBehind escape passed → IsAt result.pos.line result.pos.column passed }
-    ensures left { stream.new ≡ S.at stream.old (after_failure (S.view stream.old)) }
+    ensures { (before passed taken : List ℕ) → StandsBehind escape before → passed ++ taken ≡ (S.view stream.old).passed → StandsBehind digits passed →
+        StarvesHere S.view S.at stream.old result stream.new ⊎ FailsBehind S.view S.at (BadUnicodeEscape (encode_utf8_all taken)) before stream.old result stream.new }
 {
-    let cause = match String::from_str(stream.allocator(), stream.text_since(digits)) {
-        Ok(text) => Cause::BadUnicodeEscape(text),
-        Err(_) => Cause::Memory,
-    };
-    refuse_at(stream, escape, cause)
+    match String::from_str(stream.allocator(), stream.text_since(digits)) {
+        Ok(text) => refuse_at(stream, escape, Cause::BadUnicodeEscape(text)),
+        Err(_) => out_of_memory(stream),
+    }
 }
 
 /// Reads the braces and the digits of an escape by number, whose backslash stands at the place. What it answers is what the escape is
 /// from its backslash on.
 fn unicode_parse<S: CharStream, A>(stream: &mut S, escape: Place) -> ParseResult<char, A>
+    requires { (S.view stream.old).failed ≡ false }
     ensures { (before : S) → Takes S.view S.at (codes "\\u") (S.view stream.old).rest before stream.old → StandsBehind escape (S.view before).passed →
         Answers S.view S.at (λ c. c) (unit_at (S.view before).rest) before result stream.new }
 {
@@ -121,6 +120,7 @@ fn escaped(c: char) -> Option<char>
 /// Reads one unit: an escape, or a character as it stands.
 #[tactic(auto, unfolding(crate::specs::QuotedTexts::unit_at))]
 fn unit_parse<S: CharStream, A>(stream: &mut S) -> ParseResult<char, A>
+    requires { (S.view stream.old).failed ≡ false }
     ensures { Answers S.view S.at (λ c. c) (unit_at (S.view stream.old).rest) stream.old result stream.new }
 {
     let place = stream.position();
@@ -144,6 +144,7 @@ fn unit_parse<S: CharStream, A>(stream: &mut S) -> ParseResult<char, A>
 
 /// Reads units up to the first quotation mark that stands outside of a unit, and that mark.
 fn units_parse<S: CharStream, A>(stream: &mut S) -> ParseResult<String, A>
+    requires { (S.view stream.old).failed ≡ false }
     ensures { Answers S.view S.at (λ s. string_bytes s) (mapped encode_utf8_all (demanded (units_at [] (S.view stream.old).rest))) stream.old result stream.new }
 {
     let mut text = String::new(stream.allocator());
@@ -151,7 +152,7 @@ fn units_parse<S: CharStream, A>(stream: &mut S) -> ParseResult<String, A>
     while !next_is(stream, '"') {
         let c = unit_parse(stream)?;
         if text.push(c).is_err() {
-            return Err(refuse(stream, Cause::Memory));
+            return Err(out_of_memory(stream));
         }
         append_plain(stream, &mut text)?;
     }

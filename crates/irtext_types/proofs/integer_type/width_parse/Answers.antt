@@ -1,8 +1,8 @@
-use Rattle.std.proofs.Common.{◌≡◌, Bool, true, false, None, sym, ◌∙◌, ap, refl, []}
+use Rattle.std.proofs.Common.{◌≡◌, ◌⊎◌, subst, Bool, true, false, None, sym, ◌∙◌, ap, refl, []}
 use Rattle.std.specs.Char.{is_ascii_digit}
 use Rattle.irtext_base.specs.Text.{Text, begins, front, after}
 use Rattle.irtext_base.specs.Faults.{NumberRange}
-use Rattle.irtext_base.specs.Answers.{Bad, unless_failed}
+use Rattle.irtext_base.specs.Answers.{StarvesHere, FailsBehind, Bad, unless_failed}
 use Rattle.irtext_base.proofs.Compose.{refuses_before, seen_after}
 use Rattle.irtext_read.proofs.Words.{encodes-front_digits}
 use Rattle.irtext_read.specs.Tokens.{value_of}
@@ -22,6 +22,8 @@ returns-in-None g c =
     let same = sym (ap (λ v. v.passed) (seen_after (λ s. s) (λ s v. v) (λ s v. refl) (λ s v w. refl) old mid taken (after is_ascii_digit old.rest) k)) in
     let r = c.out_of_range.ensures in
     let o = out old.rest old.failed (sym c.has_failed.ensures ∙ c.if-has_failed.false) (sym c.begins.ensures ∙ c.if-not-begins.false) (ap width_if (sym c.take_digits-number.ensures.value) ∙ (sym c.width_if.ensures ∙ c.in-None.is)) in
-    let cause = rw (encodes-front_digits old.rest) at (r.cause old.passed taken same c.position-place.ensures) in
-    let q = refuses_before (λ s. s) (λ s v. v) (λ s v. refl) (λ s v w. refl) (NumberRange taken) old mid c.out_of_range.new.stream taken (after is_ascii_digit old.rest) c.out_of_range.result k r.committed (r.at old.passed c.position-place.ensures) r.left cause in
+    let end = c.out_of_range.new.stream in
+    let fault = c.out_of_range.result in
+    let cause = subst (λ z. StarvesHere (λ s. s) (λ s v. v) mid fault end ⊎ FailsBehind (λ s. s) (λ s v. v) (NumberRange z) old.passed mid fault end) (encodes-front_digits old.rest) (r old.passed taken same c.position-place.ensures) in
+    let q = refuses_before (λ s. s) (λ s v. v) (λ s v. refl) (λ s v w. refl) (NumberRange taken) old mid end taken (after is_ascii_digit old.rest) fault (sym c.has_failed.ensures ∙ c.if-has_failed.false) k cause in
     rw o q

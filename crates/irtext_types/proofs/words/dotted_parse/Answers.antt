@@ -1,9 +1,9 @@
 use Rattle.std.proofs.Common.{◌≡◌, ◌∙◌, ◌++◌, [], ℕ, ◌<◌, Bool, Option, Some, None, subst, true, false, refl, sym, ap, arith, ◌⊎◌}
 use Rattle.std.proofs.lemmas.Bool.Decides.{nat_tests}
 use Rattle.irtext_base.specs.Text.{Text, begins, front, after, begins_word}
-use Rattle.irtext_base.specs.Answers.{Gives, Read, Bad, unless_failed}
-use Rattle.irtext_base.specs.Faults.{Demand, demand_of, fault_of, OwnText, Memory}
-use Rattle.irtext_base.proofs.Compose.{refuses_before}
+use Rattle.irtext_base.specs.Answers.{Gives, StarvesHere, FailsBehind, Read, Bad, unless_failed}
+use Rattle.irtext_base.specs.Faults.{Demand, demand_of, OwnText}
+use Rattle.irtext_base.proofs.Compose.{refuses_before, seen_after}
 use Rattle.irtext_read.proofs.Words.{encodes-front, taken_since}
 use Rattle.irtext_types.specs.Words.{in_dotted, dotted_at}
 use Rattle.irtext_types.proofs.words.dotted_parse.Goals as goal
@@ -40,6 +40,16 @@ returns g c =
     let w = taken_since (λ s. s) (λ s v. v) (λ s v. refl) (λ s v w. refl) old c.skip_class.new.stream c.position-place.result c.text_since-found.result.now (front in_dotted text) (after in_dotted text) c.skip_class.ensures c.position-place.ensures c.text_since-found.ensures in
     let e = w ∙ encodes-front in_dotted in_dotted_ascii text in
     let q : word (front in_dotted text) ≡ None = ap word (sym e) ∙ (sym c.of.ensures ∙ c.in_default.is) in
-    let cause : (fault_of c.refuse_at.result.cause ≡ Memory) ⊎ (fault_of c.refuse_at.result.cause ≡ OwnText (c.args.refusal.now ++ front in_dotted text)) = rw (c.refuse_at.ensures.cause, ← e) c.unregistered-cause.ensures in
+    let mid = c.skip_class.new.stream in
+    let same = sym (ap (λ v. v.passed) (seen_after (λ s. s) (λ s v. v) (λ s v. refl) (λ s v w. refl) old mid (front in_dotted text) (after in_dotted text) c.skip_class.ensures)) in
+    let end = c.unregistered.new.stream in
+    let fault = c.unregistered.result in
+    let cause = subst (λ z. StarvesHere (λ s. s) (λ s v. v) mid fault end ⊎ FailsBehind (λ s. s) (λ s v. v) (OwnText (c.args.refusal.now ++ z)) old.passed mid fault end) (encodes-front in_dotted in_dotted_ascii text) (c.unregistered.ensures old.passed (front in_dotted text) same c.position-place.ensures) in
     rw (word_refused word c.args.refusal.now (demand_of c.args.expected) text old.failed f b q)
-    (refuses_before (λ s. s) (λ s v. v) (λ s v. refl) (λ s v w. refl) (OwnText (c.args.refusal.now ++ front in_dotted text)) old c.skip_class.new.stream c.refuse_at.new.stream (front in_dotted text) (after in_dotted text) c.refuse_at.result c.skip_class.ensures c.refuse_at.ensures.committed (c.refuse_at.ensures.at _ c.position-place.ensures) c.refuse_at.ensures.left cause)
+    (refuses_before (λ s. s) (λ s v. v) (λ s v. refl) (λ s v w. refl) (OwnText (c.args.refusal.now ++ front in_dotted text)) old mid end (front in_dotted text) (after in_dotted text) fault f c.skip_class.ensures cause)
+
+pub unregistered-requires : goal.unregistered-requires
+unregistered-requires g c =
+    let old = c.args.stream.now in
+    let same = sym (ap (λ v. v.passed) (seen_after (λ s. s) (λ s v. v) (λ s v. refl) (λ s v w. refl) old c.skip_class.new.stream (front in_dotted old.rest) (after in_dotted old.rest) c.skip_class.ensures)) in
+    (old.passed, front in_dotted old.rest, same, c.position-place.ensures)

@@ -23,5 +23,4 @@ returns-in-Err g c =
     let fine = sym c.has_failed.ensures ∙ c.if-has_failed.false in
     let word = characters c.args.text.now in
     let h = c.in-Some.ensures word (encodes-characters c.args.text.now c.utf8.text) in
-    let r = c.refuse-in-Err.ensures in
-    rw fine (inl (spelling_starved g.S.CharStream.view g.S.CharStream.at m.view_at m.at_view m.at_at word c.args.stream.now c.spell.new.stream c.refuse-in-Err.new.stream c.in-Some.begun c.refuse-in-Err.result h (record { because = r.because; committed = r.committed; left = r.left })))
+    rw fine (inl (spelling_starved g.S.CharStream.view g.S.CharStream.at m.view_at m.at_view m.at_at word c.args.stream.now c.spell.new.stream c.out_of_memory.new.stream c.in-Some.begun c.out_of_memory.result fine h c.out_of_memory.ensures))

@@ -1,4 +1,4 @@
-use Rattle.std.proofs.Common.{◌∙◌, ap, sym, Some, None}
+use Rattle.std.proofs.Common.{◌∙◌, ap, sym, refl, Some, None}
 use Rattle.std.proofs.lemmas.Result.{err_from_is_err_and}
 use Rattle.std.specs.Char.{is_ascii_digit}
 use Rattle.std.specs.Option.{option_map}
@@ -66,4 +66,4 @@ returns-in-None g c =
     let text = number_text view at m.view_at m.at_at is_ascii_digit (view old).failed o sign old mid new l d in
     let passed = number_passed view at m.view_at m.at_at is_ascii_digit (view old).failed o sign old mid new l d in
     number_refused view at m.view_at m.at_at is_ascii_digit (view old).failed o sign old mid new l d (signed_integer n.below) c.out_of_range.new.stream c.out_of_range.result made
-    (sign_at-encodes (view old).rest sign l.taken l.rest l.is) encodes-front_digits (r.cause (view old).passed text passed c.position-place.ensures) r.committed (r.at (view old).passed c.position-place.ensures) r.left
+    (sign_at-encodes (view old).rest sign l.taken l.rest l.is) encodes-front_digits refl (r (view old).passed text passed c.position-place.ensures)

@@ -1,4 +1,4 @@
-use Rattle.std.proofs.Common.{◌∙◌, inl, string_bytes}
+use Rattle.std.proofs.Common.{◌∙◌, inl, refl, string_bytes}
 use Rattle.std.proofs.lemmas.Result.{err_from_is_err_and}
 use Rattle.std.specs.Char.{is_ascii_digit}
 use Rattle.irtext_read.specs.Integers.{sign_text, sign_at, signed_text, number_text_at}
@@ -57,5 +57,5 @@ returns-in-Err g c =
     let o = sign_at (view old).rest in
     let l = led view at (view old).failed o sign old mid c.in_ok-sign_parse.ensures in
     let d = c.skip_class.ensures in
-    let r = c.refuse.ensures in
-    inl (number_starves view at m.view_at m.at_at is_ascii_digit (view old).failed o sign old mid new l d c.refuse.new.stream c.refuse.result r)
+    let r = c.out_of_memory.ensures in
+    inl (number_starves view at m.view_at m.at_at is_ascii_digit (view old).failed o sign old mid new l d c.out_of_memory.new.stream c.out_of_memory.result refl r)

@@ -20,8 +20,7 @@ returns-then-is_still_at g c =
 pub returns-then-is_err : goal.returns-then-is_err
 returns-then-is_err g c =
     let called : Calls (λ r. r) g.F.FnMut c.loop-x.item c.loop-x.stream (Ok c.in-Ok.x) c.item.new.self c.item.new.arg2 = called_at c.in-Ok.ensures refl in
-    let f = c.refuse-then-is_err.ensures in
-    c.loop-x.invariant.1 _ _ (no_room _ _ _ _ _ _ _ called (record { because = f.because; committed = f.committed; left = f.left }))
+    c.loop-x.invariant.1 _ _ (no_room _ _ _ _ _ _ _ called c.out_of_memory.ensures)
 
 pub returns-then-fault : goal.returns-then-fault
 returns-then-fault g c =

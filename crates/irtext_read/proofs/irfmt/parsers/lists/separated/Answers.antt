@@ -6,8 +6,7 @@ use Rattle.irtext_read.proofs.irfmt.parsers.lists.separated.Goals as goal
 pub returns-then-is_err : goal.returns-then-is_err
 returns-then-is_err g c =
     let called : Calls (λ r. r) g.F.FnMut c.args.item c.args.stream.now (Ok c.in-Ok.x) c.item.new.self c.item.new.arg2 = called_at c.in-Ok.ensures refl in
-    let f = c.refuse.ensures in
-    no_first_room _ _ _ _ _ _ _ called (record { because = f.because; committed = f.committed; left = f.left })
+    no_first_room _ _ _ _ _ _ _ called c.out_of_memory.ensures
 
 pub returns-then-fault : goal.returns-then-fault
 returns-then-fault g c =

@@ -7,8 +7,7 @@ pub returns-then-is_err : goal.returns-then-is_err
 returns-then-is_err g c =
     let called : Calls (λ r. r) g.F.FnMut c.loop-sep.item c.skip_white_space.new.stream (Ok c.in-Ok.x) c.item.new.self c.item.new.arg2 = called_at c.in-Ok.ensures refl in
     let opens : Opens g.S.CharStream.view g.S.CharStream.at c.args.sep c.loop-sep.stream c.skip_white_space.new.stream = record { mid = c.take.new.self; begins_so = sym c.loop-sep-test.ensures; taken = c.take.ensures.after; skips = c.skip_white_space.ensures.is } in
-    let f = c.refuse.ensures in
-    c.loop-sep.invariant.1 _ _ (_, no_more_room _ _ _ _ _ _ _ _ opens called (record { because = f.because; committed = f.committed; left = f.left }), refl)
+    c.loop-sep.invariant.1 _ _ (_, no_more_room _ _ _ _ _ _ _ _ opens called c.out_of_memory.ensures, refl)
 
 pub returns-in-Err : goal.returns-in-Err
 returns-in-Err g c =

@@ -1,7 +1,7 @@
-use Rattle.std.proofs.Common.{◌∙◌, sym, ap}
+use Rattle.std.proofs.Common.{◌∙◌, sym, ap, codes}
 use Rattle.std.specs.Char.{is_ascii_hexdigit}
 use Rattle.irtext_base.specs.Text.{front, after}
-use Rattle.irtext_base.proofs.Compose.{seen_after}
+use Rattle.irtext_base.proofs.Compose.{seen_after, fine_before}
 use Rattle.irtext_read.specs.QuotedTexts.{character_of}
 use Rattle.irtext_read.proofs.QuotedSteps.{Opened, opened, counted, unopened, uncounted, unclosed, unnamed, braces_closed}
 use Rattle.irtext_read.proofs.irfmt.parsers.quoted.unicode_parse.Goals as goal
@@ -41,11 +41,10 @@ returns-in_default g c = λ before k p.
     let digits = front is_ascii_hexdigit (view opens).rest in
     let o : Opened view at m.view_at m.at_view m.at_at before opens = opened view at m.view_at m.at_view m.at_at before c.args.stream.now opens k (sym c.next_is.ensures ∙ c.if-not-next_is.false) c.take.ensures.after in
     let h = counted view at m.view_at m.at_view m.at_at before opens now o (sym c.begins.ensures ∙ c.if-not-begins.false) c.take_digits-number.ensures.takes in
-    let r = c.no_character.ensures in
     let e = sym (ap character_of c.take_digits-number.ensures.value) ∙ (sym c.character.ensures ∙ c.in_default.is) in
     let s = sym (ap (λ v. v.passed) (seen_after view at m.view_at m.at_at opens now digits (after is_ascii_hexdigit (view opens).rest) c.take_digits-number.ensures.takes)) in
     unnamed view at m.view_at m.at_view m.at_at before opens now c.no_character.new.stream c.no_character.result h (sym c.next_is-2.ensures ∙ c.if-not-next_is-2.false) e
-    (r.cause (view opens).passed digits s c.position-digits.ensures) r.committed (r.at (view before).passed p) r.left
+    (fine_before view at m.view_at m.at_at before c.args.stream.now (codes "\\u") (view c.args.stream.now).rest k c.requires) (c.no_character.ensures (view before).passed (view opens).passed digits p s c.position-digits.ensures)
 
 pub returns : goal.returns
 returns g c = λ before k p.

@@ -1,6 +1,7 @@
 use Rattle.std.proofs.Common.{◌∙◌, sym, ap, subst, ◌∷◌, []}
 use Rattle.irtext_base.specs.Answers.{Takes}
 use Rattle.irtext_base.specs.Faults.{fault_of}
+use Rattle.irtext_base.proofs.Compose.{takes_fine}
 use Rattle.irtext_read.proofs.QuotedSteps.{two_taken, unescaped, unknown_escape}
 use Rattle.irtext_read.proofs.irfmt.parsers.quoted.unit_parse.Goals as goal
 
@@ -9,6 +10,16 @@ returns-in_default-take g c =
     let m = g.met.S.CharStream in
     unescaped g.S.CharStream.view g.S.CharStream.at m.view_at m.at_view m.at_at c.args.stream.now c.take.new.self c.take-2.new.self c.commit_unexpected-in_default-take.new.stream c.in-Some.c c.commit_unexpected-in_default-take.result
     c.if-c-ne92.false c.in-Some.ensures.value c.take.ensures.after (sym c.in_default-take.is ∙ c.take-2.ensures.value) c.take-2.ensures.after c.commit_unexpected-in_default-take.ensures
+
+pub unicode_parse-requires : goal.unicode_parse-requires
+unicode_parse-requires g c =
+    let view = g.S.CharStream.view in
+    let at = g.S.CharStream.at in
+    let m = g.met.S.CharStream in
+    let old = c.args.stream.now in
+    let last = c.take-2.new.self in
+    let k = two_taken view at m.view_at m.at_view m.at_at old c.take.new.self last c.in-Some.c c.in-Some-take.c c.if-c-ne92.false c.in-Some.ensures.value c.take.ensures.after c.in-Some-take.ensures.value c.take-2.ensures.after in
+    takes_fine view at m.view_at m.at_at old last (92 ∷ c.in-Some-take.c ∷ []) (view last).rest k c.requires
 
 pub returns-then-c-eq117 : goal.returns-then-c-eq117
 returns-then-c-eq117 g c =
@@ -25,4 +36,4 @@ returns-in-None g c =
     let m = g.met.S.CharStream in
     let r = c.refuse_at.ensures in
     unknown_escape g.S.CharStream.view g.S.CharStream.at m.view_at m.at_view m.at_at c.args.stream.now c.take.new.self c.take-2.new.self c.refuse_at.new.stream c.in-Some.c c.in-Some-take.c c.refuse_at.result
-    c.if-c-ne92.false c.in-Some.ensures.value c.take.ensures.after c.in-Some-take.ensures.value c.take-2.ensures.after c.if-c-eq117.false c.in-None.ensures (ap fault_of r.cause) r.committed (r.at (g.S.CharStream.view c.args.stream.now).passed c.position-place.ensures) r.left
+    c.if-c-ne92.false c.in-Some.ensures.value c.take.ensures.after c.in-Some-take.ensures.value c.take-2.ensures.after c.if-c-eq117.false c.in-None.ensures c.requires (record { because = ap fault_of r.cause; committed = r.committed; place = r.at (g.S.CharStream.view c.args.stream.now).passed c.position-place.ensures; left = r.left })

@@ -4,7 +4,7 @@ use Rattle.std.specs.Str.{encode_utf8_all}
 use Rattle.std.proofs.lemmas.Result.{err_from_is_err_and}
 use Rattle.irtext_base.specs.Text.{front}
 use Rattle.irtext_read.specs.QuotedTexts.{is_plain}
-use Rattle.irtext_read.proofs.QuotedSteps.{within_first, within_unit, within_more, encodes-unit, falls_by, closes, starved_within, memory_starves, spoiled}
+use Rattle.irtext_read.proofs.QuotedSteps.{within_first, within_unit, within_more, encodes-unit, falls_by, closes, starved_within, starved_here, within_fine, spoiled}
 use Rattle.irtext_read.proofs.irfmt.parsers.quoted.units_parse.Goals as goal
 
 pub loop-stream-init : goal.loop-stream-init
@@ -14,6 +14,18 @@ loop-stream-init g c =
     let run = front is_plain (view c.args.stream.now).rest in
     let e = c.in_ok-append_plain.ensures in
     (run, run, e.value ∙ ap (λ z. z ++ encode_utf8_all run) c.new-text.ensures.bytes, within_first view g.S.CharStream.at m.view_at m.at_view m.at_at c.args.stream.now c.append_plain.new.stream e.stream)
+
+pub unit_parse-requires : goal.unit_parse-requires
+unit_parse-requires g c =
+    let m = g.met.S.CharStream in
+    within_fine g.S.CharStream.view g.S.CharStream.at m.view_at m.at_view m.at_at _ _ _ _ c.requires c.loop-stream.invariant.3
+
+pub append_plain-requires-in-loop-stream : goal.append_plain-requires-in-loop-stream
+append_plain-requires-in-loop-stream g c =
+    let m = g.met.S.CharStream in
+    let h = c.loop-stream.invariant in
+    let n = within_unit g.S.CharStream.view g.S.CharStream.at m.view_at m.at_view m.at_at _ _ _ _ _ _ h.3 (sym c.next_is.ensures ∙ c.loop-stream-test.true) c.in_ok-c.ensures in
+    within_fine g.S.CharStream.view g.S.CharStream.at m.view_at m.at_view m.at_at _ _ _ _ c.requires n.1
 
 pub returns-in_err-c : goal.returns-in_err-c
 returns-in_err-c g c =
@@ -27,7 +39,7 @@ returns-then-is_err g c =
     let m = g.met.S.CharStream in
     let h = c.loop-stream.invariant in
     let n = within_unit g.S.CharStream.view g.S.CharStream.at m.view_at m.at_view m.at_at _ _ _ _ _ _ h.3 (sym c.next_is.ensures ∙ c.loop-stream-test.true) c.in_ok-c.ensures in
-    inl (starved_within g.S.CharStream.view g.S.CharStream.at m.view_at m.at_view m.at_at _ _ _ _ _ _ n.1 (memory_starves g.S.CharStream.view g.S.CharStream.at m.view_at m.at_view m.at_at _ _ _ c.refuse.ensures))
+    inl (starved_here g.S.CharStream.view g.S.CharStream.at m.view_at m.at_view m.at_at _ _ _ _ _ _ c.requires n.1 c.out_of_memory.ensures)
 
 pub returns-in_err-append_plain-2 : goal.returns-in_err-append_plain-2
 returns-in_err-append_plain-2 g c =
