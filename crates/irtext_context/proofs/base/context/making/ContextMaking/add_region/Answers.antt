@@ -3,7 +3,7 @@ use Rattle.irtext_context.specs.Context.{operation_of}
 use Rattle.irtext_context.proofs.Arenas.{older_inserted, older_later, older_same}
 use Rattle.irtext_context.proofs.Stores.{stands_seen}
 use Rattle.irtext_context.proofs.Contexts.{context_same, adds_seen, adds-keeps, same-keeps}
-use Rattle.irtext_context.proofs.base.context.Context.add_region.Goals as goal
+use Rattle.irtext_context.proofs.base.context.making.ContextMaking.add_region.Goals as goal
 
 on_err : {X E P : Type 0} (r : Result X E) → P → OnErr r P
 on_err (Ok x) p = tt
