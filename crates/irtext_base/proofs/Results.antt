@@ -2,11 +2,17 @@
 use Rattle.std.proofs.Common.{Result, Ok, Err}
 use Rattle.std.specs.Prelude.{OnOk, OnErr}
 
--- the same fact behind an answer
+-- a fact stands behind an answer that is Ok
 pub at_ok : {X E P : Type 0} (r : Result X E) → P → OnOk r P
 at_ok (Ok x) p = p
 at_ok (Err e) p = tt
 
+-- a fact stands behind an answer that is Err
 pub at_err : {X E P : Type 0} (r : Result X E) → P → OnErr r P
 at_err (Ok x) p = tt
 at_err (Err e) p = p
+
+-- a fact that follows from what is said of either answer
+pub either_way : {X E P Q R : Type 0} (r : Result X E) → (P → R) → (Q → R) → OnOk r P → OnErr r Q → R
+either_way (Ok x) f g p q = f p
+either_way (Err e) f g p q = g q

@@ -8,6 +8,8 @@ use Rattle.irtext_base.specs.declared.result.ErrorKind.TheVariants.{InvalidInput
 use Rattle.irtext_base.specs.declared.result.Expected.{Expected}
 use Rattle.irtext_base.specs.declared.result.Expected.TheVariants as expected
 use Rattle.irtext_base.specs.declared.result.Cause.{Cause, Memory, StreamFailed, Unexpected, NumberRange, BadEscape, BadUnicodeEscape, EmptyItem, BadSeparator, UnregisteredDialect, UnregisteredOp, ResultCount, NoActiveScope, UnresolvedReference, ParserNameTracker, DuplicateIndex, UnknownIndex, UnknownPrintOnce, ReservedKey, OwnText, FormatFault, Text, Fmt, Nested', Parse', WrongDialect}
+use Rattle.irtext_base.specs.declared.base.attributes.Refusal.{Refusal}
+use Rattle.irtext_base.specs.declared.base.attributes.Refusal.TheVariants as refusal
 use Rattle.irtext_base.specs.declared.format.FormatFault as format_fault
 use Rattle.irtext_base.specs.declared.format.FormatFault.TheVariants as condition
 use Rattle.irtext_base.specs.declared.parsable.names.UnresolvedReference as reference
@@ -15,6 +17,11 @@ use Rattle.irtext_base.specs.declared.parsable.names.ParserNameTrackerError as t
 use Rattle.irtext_base.specs.declared.parsable.names.ParserNameTrackerError.TheVariants as tracked
 use Rattle.irtext_base.specs.declared.result.Error.{Error}
 use Rattle.irtext_base.specs.declared.parsable.position.SourcePosition.{SourcePosition}
+
+-- what a dictionary refuses, as a cause
+abbrev pub cause_of : {A : Type 0} → Refusal → Cause A
+cause_of (refusal.ReservedKey key) = ReservedKey key
+cause_of refusal.Memory = Memory
 
 -- the text of an operation's id
 abbrev pub id_text : OpId → List ℕ

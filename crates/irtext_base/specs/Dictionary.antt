@@ -1,5 +1,5 @@
 -- What a contract sees of a dictionary: its entries in order. One key is kept beside the map that holds the others.
-use Rattle.std.specs.Prelude.{◌≡◌, ℕ, zero, suc, ◌≤◌, Bool, true, false, not, ◌&&◌, List, [], ◌∷◌, length, Option, Some, None}
+use Rattle.std.specs.Prelude.{◌≡◌, IsTrue, ℕ, zero, suc, ◌≤◌, Bool, true, false, not, ◌&&◌, List, [], ◌∷◌, length, Option, Some, None}
 use Rattle.std.specs.Str.{bytes_eq}
 use Rattle.std.specs.declared.boxed.Box.{Box}
 use Rattle.indexmap.specs.IndexMap.{IndexMap}
@@ -8,6 +8,8 @@ use Rattle.irtext_base.specs.Format.{given_names_key}
 use Rattle.irtext_base.specs.declared.base.attributes.AttrObj.{AttrObj}
 use Rattle.irtext_base.specs.declared.base.attributes.AttrObj.TheVariants.{GivenNames, Ident, Own}
 use Rattle.irtext_base.specs.declared.base.attributes.Given.{Given}
+use Rattle.irtext_base.specs.declared.base.attributes.Refusal.{Refusal}
+use Rattle.irtext_base.specs.declared.base.attributes.Refusal.TheVariants.{Memory, ReservedKey}
 
 -- a list with one more item, before the one at the index, or last where there is none
 abbrev pub spliced : {X : Type 0} → ℕ → X → List X → List X
@@ -42,6 +44,11 @@ module _ {A : Type 0} where
   -- the key is that of the given names, and the attribute is something else
   abbrev pub is_reserved_for : Text → AttrObj A → Bool
   is_reserved_for key attr = bytes_eq given_names_key key && not (are_given_names attr)
+
+  -- why the attribute is refused under the key: the key is that of the given names and the attribute is something else, or the key is another one and memory is refused
+  abbrev pub RefusesEntry : Text → AttrObj A → Refusal → Type 0
+  RefusesEntry key attr (ReservedKey refused) = (refused ≡ key) × IsTrue (is_reserved_for key attr)
+  RefusesEntry key attr Memory = bytes_eq given_names_key key ≡ false
 
   -- all entries, with the given names at their place among the others
   abbrev pub whole : Option (Given A) → List (Text × AttrObj A) → List (Text × AttrObj A)

@@ -101,3 +101,7 @@ fault_of _ = NoReader
 -- why the bytes of a text are refused as an identifier: want of memory where they are one, else the first character that it can't have there, or the end
 abbrev pub name_refused : List ℕ → Fault
 name_refused bytes = cond (is_identifier bytes) Memory (Unexpected (stranger (chars bytes)) AnIdentifier)
+
+-- why the bytes of two texts are refused as the id of an operation: as the dialect's the first is none, or else the second is none, or else for want of memory
+abbrev pub id_refused : List ℕ → List ℕ → Fault
+id_refused dialect name = cond (is_identifier dialect) (name_refused name) (name_refused dialect)

@@ -3,5 +3,5 @@
 pub mod attributes;
 pub mod identifier;
 
-pub use attributes::{AttrObj, AttributeDict, Refusal};
+pub use attributes::{AttrObj, AttributeDict, GIVEN_NAMES_KEY, Refusal, SYM_NAME_KEY};
 pub use identifier::{Identifier, OpId};

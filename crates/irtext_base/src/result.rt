@@ -1,13 +1,14 @@
 //! Why a call was refused: kinds, causes and errors, with their texts.
 ghost use Rattle.std.specs.Prelude.{◌≡◌, Some, MatchResult, string_bytes};
-ghost use Rattle.irtext_base.specs.Causes.{kind_text, expected_text, found_text, cause_text, error_text};
+ghost use Rattle.irtext_base.specs.Causes.{kind_text, expected_text, found_text, cause_text, error_text, cause_of};
+ghost use Rattle.irtext_base.specs.Locations.{out_of_memory};
 ghost use Rattle.irtext_base.specs.declared.result.Cause.{Memory, Fmt};
 ghost use Rattle.irtext_base.specs.declared.result.ErrorKind.TheVariants.{InvalidArgument};
 ghost use Rattle.irtext_base.specs.declared.location.Location.{Unknown};
 
-use crate::base::{Identifier, OpId};
+use crate::base::{Identifier, OpId, Refusal};
 use crate::format::FormatFault;
-use crate::location::Location;
+use crate::location::{Location, out_of_memory};
 use crate::parsable::{ParserNameTrackerError, SourcePosition, UnresolvedReference};
 use arrayvec::ArrayString;
 use std::alloc::{AllocError, AllocFailed};
@@ -295,6 +296,39 @@ impl<A> From<AllocError> for Cause<A> {
 
     fn from(_: AllocError) -> Cause<A> {
         Cause::Memory
+    }
+}
+
+impl<A> From<Refusal> for Cause<A> {
+    ghost from_gives = { λ refusal cause. cause ≡ cause_of refusal };
+
+    fn from(refusal: Refusal) -> Cause<A> {
+        match refusal {
+            Refusal::ReservedKey(key) => Cause::ReservedKey(key),
+            Refusal::Memory => Cause::Memory,
+        }
+    }
+}
+
+/// Memory that was refused, as an error of kind invalid argument without a location.
+impl<A> From<AllocError> for Error<A> {
+    ghost from_gives = { λ _ error. error ≡ out_of_memory };
+
+    fn from(_: AllocError) -> Error<A> {
+        out_of_memory()
+    }
+}
+
+/// What a dictionary refuses, as an error of kind invalid argument without a location.
+impl<A> From<Refusal> for Error<A> {
+    ghost from_gives = { λ refusal error. error ≡ record { kind = InvalidArgument; err = cause_of refusal; loc = Unknown } };
+
+    fn from(refusal: Refusal) -> Error<A> {
+        Error {
+            kind: ErrorKind::InvalidArgument,
+            err: Cause::from(refusal),
+            loc: Location::Unknown,
+        }
     }
 }
 

@@ -1,6 +1,8 @@
 -- What a caller sees of a context: the operations and regions in it, under their pointers, how many objects were made, the paths of files, and the dialects.
 use Rattle.std.specs.Prelude.{◌≡◌, ◌≢◌, ◌≤◌, ◌+◌, ◌++◌, ◌∷◌, ◌==◌, if◌then◌else◌, ℕ, Bool, List, [], length, Option, Some, None, map, slice_get, is_some, count_by, unwrap_or}
 use Rattle.std.specs.Option.{option_map}
+use Rattle.std.specs.Str.{bytes_eq}
+use Rattle.indexmap.specs.IndexMap.{insert_entry}
 use Rattle.irtext_base.specs.Text.{Text}
 use Rattle.irtext_base.specs.Paths.{KeepsPaths}
 use Rattle.irtext_context.specs.Dialects.{Table}
@@ -48,6 +50,10 @@ pub record ContextView (T A : Type 0) : Type 0 where
 -- an operation with one more region, its last
 abbrev pub with_region : {T A : Type 0} → Ptr Region → OperationView T A → OperationView T A
 with_region r op = record op { regions = op.regions ++ r ∷ [] }
+
+-- an operation with an attribute under a key, in place of the one that is there, or else last
+abbrev pub with_attribute : {T A : Type 0} → Text → AttrObj A → OperationView T A → OperationView T A
+with_attribute key attr op = record op { attributes = insert_entry bytes_eq op.attributes key attr }
 
 module _ {X Y : Type 0} (see : X → Y) where
   -- an object, with its content as `see` shows it

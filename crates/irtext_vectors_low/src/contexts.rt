@@ -3,6 +3,7 @@ use crate::helpers::{Ctx, named};
 use irtext_base::base::{AttrObj, AttributeDict, Identifier, OpId, Refusal};
 use irtext_base::location::Location;
 use irtext_base::result::Result as Answer;
+use irtext_context::base::context::making::Making;
 use irtext_context::base::{Context, Operation, Ptr};
 use irtext_types::DemoAttr;
 use std::alloc::Global;
@@ -54,7 +55,7 @@ fn put(
 ) -> &'static str {
     match dictionary.insert(key, attr) {
         Ok(()) => "kept",
-        Err(Refusal::ReservedKey) => "reserved",
+        Err(Refusal::ReservedKey(_)) => "reserved",
         Err(_) => "refused",
     }
 }

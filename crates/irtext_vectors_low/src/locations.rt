@@ -3,6 +3,7 @@ use crate::helpers::{Ctx, named};
 use irtext_base::base::{AttrObj, AttributeDict, OpId};
 use irtext_base::location::{Location, Source};
 use irtext_base::parsable::SourcePosition;
+use irtext_context::base::context::making::Making;
 use irtext_context::base::{Context, Operation, Ptr};
 use irtext_context::location::erase_locations;
 use irtext_types::DemoAttr;

@@ -1,5 +1,5 @@
 //! Attributes, and the dictionaries that hold them under keys.
-ghost use Rattle.std.specs.Prelude.{◌≡◌, ◌≢◌, ◌<◌, [], false, Some, IfErr, OnOk, OnErr, IfSome, IsTrue, option_copied, length, slice_get, position};
+ghost use Rattle.std.specs.Prelude.{◌≡◌, ◌≢◌, ◌<◌, [], false, Some, IfErr, OnOk, OnErr, IfSome, option_copied, length, slice_get, position};
 ghost use Rattle.std.specs.Map.{lookup, keys_of};
 ghost use Rattle.std.specs.Map.Iter.{deref_pair};
 ghost use Rattle.std.specs.Option.{option_map};
@@ -7,9 +7,9 @@ ghost use Rattle.std.specs.Str.{bytes_eq};
 ghost use Rattle.std.specs.Iterator.{YieldsFirstBy, item_count};
 ghost use Rattle.indexmap.specs.IndexMap.{insert_entry, shift_remove_entry};
 ghost use Rattle.irtext_base.specs.Format.{given_names_key};
-ghost use Rattle.irtext_base.specs.Dictionary.{are_given_names, placed, moved_up, entries_of, is_reserved_for};
+ghost use Rattle.irtext_base.specs.Dictionary.{are_given_names, placed, moved_up, entries_of, is_reserved_for, RefusesEntry};
 ghost use Rattle.irtext_base.specs.Entries.{entries_left};
-ghost use Rattle.irtext_base.specs.declared.base.attributes.Refusal.TheVariants.{Memory, ReservedKey};
+ghost use Rattle.irtext_base.specs.declared.base.attributes.Refusal.TheVariants.{Memory};
 
 mod copy;
 
@@ -18,11 +18,17 @@ use indexmap::IndexMap;
 use std::alloc::Global;
 use std::marker::Model;
 
+/// The key of a symbol's name.
+pub const SYM_NAME_KEY: &'static str = "builtin_sym_name";
+
+/// The key of the names that results and arguments were given.
+pub const GIVEN_NAMES_KEY: &'static str = "builtin_given_names";
+
 /// Why a dictionary refuses an entry.
-#[derive(Clone, Copy, PartialEq, Eq, Debug)]
+#[derive(PartialEq, Eq, Debug, Drop)]
 pub enum Refusal {
-    /// The key `builtin_given_names` takes `AttrObj::GivenNames` alone.
-    ReservedKey,
+    /// This key, `builtin_given_names`, takes `AttrObj::GivenNames` alone.
+    ReservedKey(Identifier),
     /// Memory was refused.
     Memory,
 }
@@ -69,7 +75,7 @@ impl<A> Model for AttributeDict<A> {
 fn is_reserved_text(key: &str) -> bool
     ensures { result ≡ bytes_eq given_names_key key.now }
 {
-    "builtin_given_names" == key
+    GIVEN_NAMES_KEY == key
 }
 
 fn is_reserved(key: &Identifier) -> bool
@@ -228,19 +234,19 @@ impl<A: Drop> AttributeDict<A> {
     }
 
     /// Puts an attribute under a key, in place of the one that is there, or else last. A refusal changes nothing: by
-    /// `ReservedKey` where the key is `builtin_given_names` and the attribute isn't `GivenNames`, else for memory.
+    /// `ReservedKey` with the key where it is `builtin_given_names` and the attribute isn't `GivenNames`, else for memory. Given names
+    /// under their key take none, and are not refused.
     pub fn insert(&mut self, key: Identifier, attr: AttrObj<A>) -> Result<(), Refusal>
         ensures entries { OnOk result (self.new ≡ insert_entry bytes_eq self.old key attr) }
         ensures allowed { OnOk result (is_reserved_for key attr ≡ false) }
         ensures err { OnErr result (self.new ≡ self.old) }
-        ensures reserved { IfErr result (λ e. e ≡ ReservedKey → IsTrue (is_reserved_for key attr)) }
-        ensures memory { IfErr result (λ e. e ≡ Memory → is_reserved_for key attr ≡ false) }
+        ensures refused { IfErr result (RefusesEntry key attr) }
     {
         if !is_reserved(&key) {
             return put_other(&mut self.others, self.alloc, key, attr);
         }
         if let AttrObj::Own(_) | AttrObj::Ident(_) = &attr {
-            return Err(Refusal::ReservedKey);
+            return Err(Refusal::ReservedKey(key));
         }
         let at = len_other(&self.others);
         put_given(&mut self.given, at, key, attr);

@@ -1,5 +1,5 @@
 //! Identifiers, and the ids of operations.
-ghost use Rattle.std.specs.Prelude.{◌≡◌, ℕ, not, find, IfOk, IfErr, IsTrue, nat_eq, refl, Some, OnOk, OnErr};
+ghost use Rattle.std.specs.Prelude.{◌≡◌, ℕ, false, not, find, IfOk, IfErr, IsTrue, nat_eq, refl, Some, OnOk, OnErr};
 ghost use Rattle.std.specs.Ordering.{nat_cmp};
 ghost use Rattle.std.specs.List.{list_all};
 ghost use Rattle.std.specs.Cmp.{on_equiv, on_total, on_po, on_per, partial_equiv_from_equiv};
@@ -8,7 +8,7 @@ ghost use Rattle.std.specs.Cmp.Rules.{hashing};
 ghost use Rattle.std.specs.Hash as fed;
 ghost use Rattle.std.specs.Str.{bytes_eq, chars};
 ghost use Rattle.std.proofs.Common.{rules, ap};
-ghost use Rattle.irtext_base.specs.Faults.{fault_of, name_refused};
+ghost use Rattle.irtext_base.specs.Faults.{fault_of, name_refused, id_refused};
 ghost use Rattle.irtext_base.specs.Text.{begins_word, in_word, is_identifier, stranger};
 ghost use Rattle.irtext_base.specs.declared.location.Location.{Unknown};
 
@@ -22,7 +22,8 @@ use std::hash::{Hash, Hasher};
 use std::marker::Model;
 use std::rc::RcStr;
 
-/// A name: a letter or `_`, then letters, digits and `_`, all ASCII. A clone takes no memory.
+/// A name: a letter or `_`, then letters, digits and `_`, all ASCII. A clone shares the text and takes no memory: it is refused only
+/// where the counter of those that share it is full.
 #[derive(Drop)]
 pub struct Identifier {
     text: RcStr,
@@ -114,6 +115,18 @@ fn invalid<A>(cause: Cause<A>) -> Error<A>
     }
 }
 
+/// The error that a text is no identifier.
+fn no_identifier<A>(text: &str) -> Error<A>
+    requires { is_identifier text.now ≡ false }
+    ensures refused { fault_of result.err ≡ name_refused text.now }
+    ensures kind { (result.kind ≡ ErrorKind.InvalidArgument) × (result.loc ≡ Unknown) }
+{
+    invalid(Cause::Unexpected {
+        found: stranger(text),
+        expected: Expected::Identifier,
+    })
+}
+
 impl Identifier {
     /// The identifier of a text. Where the text isn't one it answers `Unexpected`, with the first character that an identifier
     /// can't have there, or the end; else, where memory was refused, `Memory`. The error is of kind invalid argument without a
@@ -125,10 +138,7 @@ impl Identifier {
         ensures kind { IfErr result (λ e. (e.kind ≡ ErrorKind.InvalidArgument) × (e.loc ≡ Unknown)) }
     {
         if !is_identifier(text) {
-            return Err(invalid(Cause::Unexpected {
-                found: stranger(text),
-                expected: Expected::Identifier,
-            }));
+            return Err(no_identifier(text));
         }
         match Identifier::from_word(alloc, text) {
             Ok(name) => Ok(name),
@@ -242,6 +252,25 @@ impl Equivalent<Identifier> for &str {
 pub struct OpId {
     pub dialect: Identifier,
     pub name: Identifier,
+}
+
+impl OpId {
+    /// The id of these two texts. Where one of them is no identifier it answers `Unexpected` of the first that isn't, as
+    /// `Identifier::try_new` does; else, where memory was refused, `Memory`. The error is of kind invalid argument without a location.
+    pub fn try_new<A>(alloc: Global, dialect: &str, name: &str) -> crate::result::Result<OpId, A>
+        ensures dialect { IfOk result (λ id. id.dialect ≡ dialect.now) }
+        ensures name { IfOk result (λ id. id.name ≡ name.now) }
+        ensures fits { OnOk result (IsTrue (is_identifier dialect.now) × IsTrue (is_identifier name.now)) }
+        ensures refused { IfErr result (λ e. fault_of e.err ≡ id_refused dialect.now name.now) }
+        ensures kind { IfErr result (λ e. (e.kind ≡ ErrorKind.InvalidArgument) × (e.loc ≡ Unknown)) }
+    {
+        if is_identifier(dialect) && !is_identifier(name) {
+            return Err(no_identifier(name));
+        }
+        let dialect = Identifier::try_new(alloc, dialect)?;
+        let name = Identifier::try_new(alloc, name)?;
+        Ok(OpId { dialect, name })
+    }
 }
 
 impl fmt::Display for OpId {

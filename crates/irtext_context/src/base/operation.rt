@@ -1,14 +1,15 @@
 //! Operations.
-ghost use Rattle.std.specs.Prelude.{◌≡◌, ◌<◌, ◌≤◌, ℕ, Some, None, IsSome, OnOk, option_map, length, slice_get};
+ghost use Rattle.std.specs.Prelude.{◌≡◌, ◌<◌, ◌≤◌, ℕ, Some, None, false, IsSome, IfErr, OnOk, OnErr, option_map, length, slice_get};
+ghost use Rattle.irtext_base.specs.Dictionary.{is_reserved_for, RefusesEntry};
 ghost use Rattle.irtext_context.specs.Arena as arena;
 ghost use Rattle.irtext_context.specs.Room.{HasRoom};
-ghost use Rattle.irtext_context.specs.Context.{store_of, operation_of, with_region, Edits, operation, regions_in, before, EditsOperation, KeepsOlder};
+ghost use Rattle.irtext_context.specs.Context.{store_of, operation_of, with_region, with_attribute, Edits, operation, regions_in, before, EditsOperation, KeepsOlder};
 
 mod make;
 
 use crate::base::arena::Arena;
 use crate::base::{Context, Ptr, Region};
-use irtext_base::base::{AttributeDict, OpId};
+use irtext_base::base::{AttrObj, AttributeDict, Identifier, OpId, Refusal};
 use irtext_base::location::Location;
 use irtext_base::text::{AttrText, IrText};
 pub use make::add_regions;
@@ -58,6 +59,24 @@ pub(crate) fn push_region<T: Drop, A: Drop>(
     }
 }
 
+/// Puts an attribute under a key of an operation. A refusal changes nothing.
+fn put_attribute<T: Drop, A: Drop>(
+    operations: &mut Arena<OperationData<T, A>>,
+    op: Ptr<Operation>,
+    key: Identifier,
+    attr: AttrObj<A>,
+) -> Result<(), Refusal>
+    requires { IsSome (arena.get operations.old op) }
+    ensures edits { OnOk result (Edits (store_of operation_of operations.old) (store_of operation_of operations.new) op (with_attribute key attr)) }
+    ensures allowed { OnOk result (is_reserved_for key attr ≡ false) }
+    ensures same { OnErr result (store_of operation_of operations.new ≡ store_of operation_of operations.old) }
+    ensures refused { IfErr result (RefusesEntry key attr) }
+    ensures few { arena.HasFew operations.old → arena.HasFew operations.new }
+    ensures age { (mark : ℕ) → arena.AreOlder mark operations.old → arena.AreOlder mark operations.new }
+{
+    operations.content_mut(op).attributes.insert(key, attr)
+}
+
 impl Ptr<Operation> {
     /// The operation's id.
     pub fn get_opid<'c, T: IrText<A>, A: AttrText>(self, ctx: &'c Context<T, A>) -> &'c OpId
@@ -93,6 +112,24 @@ impl Ptr<Operation> {
         ensures kept { (mark : ℕ) → before mark ctx.old.operations self ≡ None → KeepsOlder mark ctx.old ctx.new }
     {
         ctx.operations.content_mut(self).loc = loc;
+    }
+
+    /// Puts an attribute under a key of the operation, as `AttributeDict::insert` does, and changes nothing else. A refusal changes
+    /// nothing: by `ReservedKey` with the key where it is `builtin_given_names` and the attribute isn't `GivenNames`, else for memory.
+    pub fn set_attribute<T: IrText<A>, A: AttrText>(
+        self,
+        ctx: &mut Context<T, A>,
+        key: Identifier,
+        attr: AttrObj<A>,
+    ) -> Result<(), Refusal>
+        requires { IsSome (operation ctx.old self) }
+        ensures edits { OnOk result (EditsOperation ctx.old ctx.new self (with_attribute key attr)) }
+        ensures allowed { OnOk result (is_reserved_for key attr ≡ false) }
+        ensures err { OnErr result (ctx.new ≡ ctx.old) }
+        ensures refused { IfErr result (RefusesEntry key attr) }
+        ensures kept { (mark : ℕ) → before mark ctx.old.operations self ≡ None → KeepsOlder mark ctx.old ctx.new }
+    {
+        put_attribute(&mut ctx.operations, self, key, attr)
     }
 
     /// How many regions the operation has.

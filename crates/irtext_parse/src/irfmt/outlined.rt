@@ -26,6 +26,7 @@ use irtext_read::irfmt::demanded::{index_demanded, spaced_text_demanded, text_de
 use irtext_read::irfmt::faults::{next_is, refuse, refuse_at};
 use irtext_read::irfmt::parsers::skip_white_space;
 use irtext_read::parsable::StateStream;
+use irtext_read::parsable::state::Noting;
 
 /// What the entries of a section say, by the index of their marks: a location, where they give one.
 type Entries<A> = IndexMap<usize, Option<Location<A>>>;

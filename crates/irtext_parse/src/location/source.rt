@@ -15,6 +15,7 @@ use irtext_base::location::{Location, Source};
 use irtext_base::parsable::{CharStream, ParseResult, SourcePosition, TextStream};
 use irtext_base::result::{Cause, Expected};
 use irtext_base::text::{AttrText, IrText};
+use irtext_context::base::context::making::Making;
 use irtext_context::base::Context;
 use irtext_read::irfmt::demanded::{spaced_text_demanded, text_demanded};
 use irtext_read::irfmt::faults::{commit, committed, next_is, refuse, unexpected};

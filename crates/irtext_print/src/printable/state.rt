@@ -101,7 +101,7 @@ impl<U> State<U> {
     }
 
     /// Notes an operation, and answers its index, from 0. Refused memory changes nothing.
-    pub fn gather(&mut self, item: Ptr<Operation>) -> Result<usize, AllocError>
+    pub(crate) fn gather(&mut self, item: Ptr<Operation>) -> Result<usize, AllocError>
         ensures ok { OnOk result (self.new ≡ with_gathered (self.old) (gathered_of self.old ++ item ∷ [])) }
         ensures err { OnErr result (self.new ≡ self.old) }
         ensures place { IfOk result (λ n. n ≡ length (gathered_of self.old)) }

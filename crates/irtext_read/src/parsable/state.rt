@@ -45,8 +45,49 @@ impl<'c, T: IrText<A>, A: AttrText, U> State<'c, T, A, U> {
         }
     }
 
+    /// The operation that carries a mark of this index, where one is noted.
+    pub fn marked(&self, index: usize) -> Option<Ptr<Operation>>
+        ensures { result ≡ lookup (same_index index) (marks_of self.now) }
+    {
+        self.marks.get(&index).copied()
+    }
+
+    /// Whether a mark is noted.
+    pub fn has_marks(&self) -> bool
+        ensures { IsTrue result ↔ (marks_of self.now ≡ [] → ⊥) }
+    {
+        !self.marks.is_empty()
+    }
+}
+
+/// What notes the marks of operations, as the state of a reading does: for the readers of operations and of the section behind them. Callers
+/// of the text layer are not handed it.
+pub trait Noting {
+    ghost use Rattle.irtext_context.specs.declared.base.arena.Ptr.{Ptr};
+    ghost use Rattle.irtext_context.specs.declared.base.operation.Operation.{Operation};
+
+    // the marks that are noted, each with its operation
+    ghost noted: { Self → List (ℕ × Ptr Operation) };
+
     /// Notes the mark of an operation; false, and nothing is noted, where the index is noted already.
-    pub fn mark(&mut self, index: usize, op: Ptr<Operation>) -> Result<bool, AllocError>
+    fn mark(&mut self, index: usize, op: Ptr<Operation>) -> Result<bool, AllocError>
+        ensures marks { IfOk result (λ noting. Marks index op noting (noted self.old) (noted self.new)) }
+        ensures err { OnErr result (noted self.new ≡ noted self.old) };
+
+    /// How many marks are noted.
+    fn num_marks(&self) -> usize
+        ensures { result ≡ length (noted self.now) };
+
+    /// Forgets all marks but the first ones.
+    fn truncate_marks(&mut self, len: usize)
+        ensures marks { noted self.new ≡ take len (noted self.old) };
+}
+
+/// Nothing but the marks changes.
+impl<'c, T: IrText<A>, A: AttrText, U> Noting for State<'c, T, A, U> {
+    ghost noted = { λ s. marks_of s };
+
+    fn mark(&mut self, index: usize, op: Ptr<Operation>) -> Result<bool, AllocError>
         ensures lent { self.new.ctx.ghost_name ≡ self.old.ctx.ghost_name }
         ensures ctx { self.new.ctx.now ≡ self.old.ctx.now }
         ensures src { self.new.src ≡ self.old.src }
@@ -63,29 +104,11 @@ impl<'c, T: IrText<A>, A: AttrText, U> State<'c, T, A, U> {
         }
     }
 
-    /// The operation that carries a mark of this index, where one is noted.
-    pub fn marked(&self, index: usize) -> Option<Ptr<Operation>>
-        ensures { result ≡ lookup (same_index index) (marks_of self.now) }
-    {
-        self.marks.get(&index).copied()
-    }
-
-    /// Whether a mark is noted.
-    pub fn has_marks(&self) -> bool
-        ensures { IsTrue result ↔ (marks_of self.now ≡ [] → ⊥) }
-    {
-        !self.marks.is_empty()
-    }
-
-    /// How many marks are noted.
-    pub fn num_marks(&self) -> usize
-        ensures { result ≡ length (marks_of self.now) }
-    {
+    fn num_marks(&self) -> usize {
         self.marks.len()
     }
 
-    /// Forgets all marks but the first ones.
-    pub fn truncate_marks(&mut self, len: usize)
+    fn truncate_marks(&mut self, len: usize)
         ensures lent { self.new.ctx.ghost_name ≡ self.old.ctx.ghost_name }
         ensures ctx { self.new.ctx.now ≡ self.old.ctx.now }
         ensures src { self.new.src ≡ self.old.src }

@@ -1,14 +1,13 @@
 //! The paths of files that a context keeps.
-ghost use Rattle.std.specs.Prelude.{◌≡◌, ◌<◌, Some, IfOk, OnOk, OnErr, length, slice_get, refl};
+ghost use Rattle.std.specs.Prelude.{◌≡◌, ◌<◌, Some, length, slice_get, refl};
 ghost use Rattle.irtext_base.specs.Locations.{location_view};
-ghost use Rattle.irtext_base.specs.Paths.{path_index, with_path, MayBeRefused, are_known};
+ghost use Rattle.irtext_base.specs.Paths.{are_known};
 ghost use Rattle.irtext_context.specs.Context.{with_paths};
 
 use crate::base::Context;
 use irtext_base::location::paths::{HasPaths, Paths};
 use irtext_base::location::{Location, PathKey};
 use irtext_base::text::{AttrText, IrText};
-use std::alloc::AllocError;
 
 impl<T, A> HasPaths<A> for Context<T, A> {
     ghost paths = { λ c. c.paths };
@@ -29,17 +28,6 @@ impl<T, A> HasPaths<A> for Context<T, A> {
 }
 
 impl<T: IrText<A>, A: AttrText> Context<T, A> {
-    /// The key of a path, which the context keeps from then on: a path that it keeps already has the key that it had, and takes no
-    /// memory. Where memory is refused, or the path's index takes more than 32 bits, nothing changes.
-    pub fn keep_path(&mut self, path: &str) -> Result<PathKey, AllocError>
-        ensures key { IfOk result (λ key. key.index ≡ path_index self.old.paths path.now) }
-        ensures kept { OnOk result (self.new ≡ record self.old { paths = with_path self.old.paths path.now }) }
-        ensures err { OnErr result (self.new ≡ self.old) }
-        ensures known { OnErr result (MayBeRefused self.old.paths path.now) }
-    {
-        self.paths.keep(path)
-    }
-
     /// How many paths the context keeps.
     pub fn num_paths(&self) -> usize
         ensures { result ≡ length self.now.paths }

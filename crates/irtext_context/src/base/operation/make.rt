@@ -5,6 +5,7 @@ ghost use Rattle.irtext_context.specs.DialectTable.{registered};
 ghost use Rattle.irtext_context.specs.Made.{IsUnregistered, AddsRegions, MakesWithRegions, SameObjects};
 ghost use Rattle.irtext_base.specs.declared.location.Location.{Unknown};
 
+use crate::base::context::making::Making;
 use crate::base::{Context, Operation, Ptr};
 use crate::dialect::invalid;
 use irtext_base::base::{AttributeDict, OpId};

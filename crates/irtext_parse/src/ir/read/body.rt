@@ -20,6 +20,7 @@ use irtext_base::base::OpId;
 use irtext_base::location::Location;
 use irtext_base::parsable::{CharStream, ParseResult, TextStream};
 use irtext_base::text::{AttrText, IrText};
+use irtext_context::base::context::making::Making;
 use irtext_context::base::operation::add_regions;
 use irtext_context::base::{Context, Operation, Ptr};
 use irtext_read::parsable::StateStream;

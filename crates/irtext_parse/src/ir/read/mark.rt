@@ -14,6 +14,7 @@ use irtext_context::base::{Operation, Ptr};
 use irtext_read::irfmt::demanded::index_demanded;
 use irtext_read::irfmt::faults::{next_is, refuse, refuse_at};
 use irtext_read::parsable::StateStream;
+use irtext_read::parsable::state::Noting;
 use std::alloc::AllocError;
 
 /// A mark's index, where a mark stands.

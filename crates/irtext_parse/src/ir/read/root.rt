@@ -16,8 +16,10 @@ use crate::irfmt::outlined::section_parse;
 use irtext_base::parsable::{ParseFault, ParseResult, ParserNameTrackerError, SourcePosition};
 use irtext_base::result::Cause;
 use irtext_base::text::{AttrText, IrText};
+use irtext_context::base::context::making::Making;
 use irtext_context::base::{Operation, Ptr};
 use irtext_read::parsable::StateStream;
+use irtext_read::parsable::state::Noting;
 
 /// Whether a fault's place is that of what stands round it.
 fn is_unplaced<A>(cause: &Cause<A>) -> bool

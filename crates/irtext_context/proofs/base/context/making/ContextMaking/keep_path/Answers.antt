@@ -1,7 +1,7 @@
 use Rattle.std.proofs.Common.{◌∙◌, ap}
 use Rattle.std.proofs.lemmas.Result.{on_ok_weaker, on_err_weaker}
 use Rattle.irtext_context.specs.Context.{context_of}
-use Rattle.irtext_context.proofs.base.context.Context.keep_path.Goals as goal
+use Rattle.irtext_context.proofs.base.context.making.ContextMaking.keep_path.Goals as goal
 
 pub returns-clause-key : goal.returns-clause-key
 returns-clause-key g c = rw (← c.self.view_is) c.keep.ensures.key

@@ -1,6 +1,6 @@
 use Rattle.irtext_context.proofs.Arenas.{older_vacated}
 use Rattle.irtext_context.proofs.Contexts.{rolls_back_seen, rolls_back-keeps}
-use Rattle.irtext_context.proofs.base.context.Context.roll_back.Goals as goal
+use Rattle.irtext_context.proofs.base.context.making.ContextMaking.roll_back.Goals as goal
 
 pub invariant_of-self : goal.invariant_of-self
 invariant_of-self g c =

@@ -1,13 +1,10 @@
-use Rattle.std.proofs.Common.{◌+◌, ◌∙◌, refl, arith, Result, Ok, Err, OnErr}
+use Rattle.std.proofs.Common.{◌+◌, ◌∙◌, refl, arith}
+use Rattle.irtext_base.proofs.Results.{at_err}
 use Rattle.irtext_context.specs.Context.{operation_of}
 use Rattle.irtext_context.proofs.Arenas.{older_inserted, older_later, older_same}
 use Rattle.irtext_context.proofs.Stores.{stands_seen}
 use Rattle.irtext_context.proofs.Contexts.{context_same, adds_seen, adds-keeps, same-keeps}
-use Rattle.irtext_context.proofs.base.context.Context.add_region.Goals as goal
-
-on_err : {X E P : Type 0} (r : Result X E) → P → OnErr r P
-on_err (Ok x) p = tt
-on_err (Err e) p = p
+use Rattle.irtext_context.proofs.base.context.making.ContextMaking.add_region.Goals as goal
 
 pub reserve_region-requires : goal.reserve_region-requires
 reserve_region-requires g c = stands_seen operation_of c.self.inside.operations c.args.op (rw (← c.self.view_is) at c.requires)
@@ -32,7 +29,7 @@ pub returns-in_err-r-clause-err : goal.returns-in_err-r-clause-err
 returns-in_err-r-clause-err g c =
     let i = c.self.inside in
     let f = c.in_err-r.ensures in
-    on_err c.from_residual-in_err-r.result
+    at_err c.from_residual-in_err-r.result
     (context_same i.made i.operations c.reserve_region.new.operations i.regions c.insert.new.self c.reserve_region.ensures.same f.err f.err_free i.paths i.dialects.entries ∙ c.self.view_is)
 
 pub returns-in_err-r-clause-kept : goal.returns-in_err-r-clause-kept

@@ -3,7 +3,7 @@ use Rattle.irtext_context.specs.Context.{operation_of}
 use Rattle.irtext_context.proofs.Arenas.{older_inserted, older_later, older_same}
 use Rattle.irtext_context.proofs.Stores.{store_same}
 use Rattle.irtext_context.proofs.Contexts.{context_same, makes_seen, makes-keeps, same-keeps}
-use Rattle.irtext_context.proofs.base.context.Context.make_operation.Goals as goal
+use Rattle.irtext_context.proofs.base.context.making.ContextMaking.make_operation.Goals as goal
 
 pub invariant_of-self : goal.invariant_of-self
 invariant_of-self g c =

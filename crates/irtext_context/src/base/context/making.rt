@@ -1,0 +1,113 @@
+//! How a context's objects are made and given back, and its paths kept: calls for the crates above, which know when they are safe. Callers of the text
+//! layer are not handed the trait, so that no operation of theirs comes to hold a region that is gone.
+ghost use Rattle.std.specs.Prelude.{◌≡◌, ◌≤◌, ℕ, [], None, IsSome, IfOk, OnOk, OnErr};
+ghost use Rattle.irtext_base.specs.Paths.{path_index, with_path, MayBeRefused};
+ghost use Rattle.irtext_context.specs.Context.{operation, before, KeepsOlder, AllOlder, RollsBack, MakesOperation, AddsRegion};
+
+use crate::base::operation::{OperationData, push_region, reserve_region};
+use crate::base::region::RegionData;
+use crate::base::{Context, Operation, Ptr, Region};
+use irtext_base::base::{AttributeDict, OpId};
+use irtext_base::location::{Location, PathKey};
+use irtext_base::text::{AttrText, IrText};
+use std::alloc::AllocError;
+
+/// What makes objects, and gives them back, as a context does.
+pub trait Making<T: IrText<A>, A: AttrText> {
+    ghost use Rattle.irtext_context.specs.Context.{ContextView};
+
+    // the context that is changed
+    ghost seen: { Self → ContextView T A };
+
+    /// How many objects were made, those that are gone among them. Each that stands was made before as many.
+    fn made(&self) -> u64
+        ensures made { result ≡ (seen self.now).made }
+        ensures older { AllOlder result (seen self.now) };
+
+    /// Makes an operation without results and regions. Where memory is refused, or a counter is full, nothing changes.
+    fn make_operation(
+        &mut self,
+        id: OpId,
+        attributes: AttributeDict<A>,
+        loc: Location<A>,
+    ) -> Result<Ptr<Operation>, AllocError>
+        ensures made { IfOk result (λ p. MakesOperation (seen self.old) (seen self.new) p (record { id = id; result_types = []; attributes = attributes; loc = loc; regions = [] })) }
+        ensures err { OnErr result (seen self.new ≡ seen self.old) }
+        ensures kept { (mark : ℕ) → mark ≤ (seen self.old).made → KeepsOlder mark (seen self.old) (seen self.new) };
+
+    /// Makes an empty region, the last of an operation. Where memory is refused, or a counter is full, nothing changes.
+    fn add_region(&mut self, op: Ptr<Operation>) -> Result<Ptr<Region>, AllocError>
+        requires { IsSome (operation (seen self.old) op) }
+        ensures added { IfOk result (λ r. AddsRegion (seen self.old) (seen self.new) op r) }
+        ensures err { OnErr result (seen self.new ≡ seen self.old) }
+        ensures kept { (mark : ℕ) → mark ≤ (seen self.old).made → before mark (seen self.old).operations op ≡ None → KeepsOlder mark (seen self.old) (seen self.new) };
+
+    /// Takes every object out that is no older than the mark, where `made` gave the mark. Paths and dialects stay. It takes no memory.
+    fn roll_back(&mut self, mark: u64)
+        ensures back { RollsBack mark (seen self.old) (seen self.new) }
+        ensures kept { (m : ℕ) → m ≤ mark → KeepsOlder m (seen self.old) (seen self.new) };
+
+    /// The key of a path, which the context keeps from then on: a path that it keeps already has the key that it had, and takes no
+    /// memory. Where memory is refused, or the path's index takes more than 32 bits, nothing changes.
+    fn keep_path(&mut self, path: &str) -> Result<PathKey, AllocError>
+        ensures key { IfOk result (λ key. key.index ≡ path_index (seen self.old).paths path.now) }
+        ensures kept { OnOk result (seen self.new ≡ record (seen self.old) { paths = with_path (seen self.old).paths path.now }) }
+        ensures err { OnErr result (seen self.new ≡ seen self.old) }
+        ensures known { OnErr result (MayBeRefused (seen self.old).paths path.now) };
+}
+
+impl<T: IrText<A>, A: AttrText> Making<T, A> for Context<T, A> {
+    ghost seen = { λ c. c };
+
+    fn made(&self) -> u64 {
+        self.made
+    }
+
+    fn make_operation(
+        &mut self,
+        id: OpId,
+        attributes: AttributeDict<A>,
+        loc: Location<A>,
+    ) -> Result<Ptr<Operation>, AllocError>
+        ensures made { IfOk result (λ p. MakesOperation self.old self.new p (record { id = id; result_types = []; attributes = attributes; loc = loc; regions = [] })) }
+        ensures err { OnErr result (self.new ≡ self.old) }
+        ensures kept { (mark : ℕ) → mark ≤ self.old.made → KeepsOlder mark self.old self.new }
+    {
+        let made = self.made;
+        if made == u64::MAX {
+            return Err(AllocError);
+        }
+        let alloc = self.alloc;
+        let operation = OperationData {
+            id,
+            result_types: Vec::new(alloc),
+            attributes,
+            loc,
+            regions: Vec::new(alloc),
+        };
+        let p = self.operations.insert(made, operation)?;
+        self.made = made + 1;
+        Ok(p)
+    }
+
+    fn add_region(&mut self, op: Ptr<Operation>) -> Result<Ptr<Region>, AllocError> {
+        let made = self.made;
+        if made == u64::MAX {
+            return Err(AllocError);
+        }
+        reserve_region(&mut self.operations, op)?;
+        let r = self.regions.insert(made, RegionData { parent: op })?;
+        push_region(&mut self.operations, op, r);
+        self.made = made + 1;
+        Ok(r)
+    }
+
+    fn roll_back(&mut self, mark: u64) {
+        self.operations.vacate_since(mark);
+        self.regions.vacate_since(mark);
+    }
+
+    fn keep_path(&mut self, path: &str) -> Result<PathKey, AllocError> {
+        self.paths.keep(path)
+    }
+}
