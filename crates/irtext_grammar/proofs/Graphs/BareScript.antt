@@ -60,12 +60,7 @@ any_script (does a k) = (any_act a, any_script k)
   where
     any_act : {P : Type 0} (a : Act Text P) → AllAct (λ n. ⊤) a
     any_act (script.use_value w u) = tt
-    any_act (script.use_label w u) = tt
-    any_act (script.define_value w u) = tt
-    any_act (script.define_label w u) = tt
-    any_act (script.mark i p) = tt
-    any_act (script.entry i p) = tt
-    any_act (script.claim b x) = tt
+    any_act _ = tt
 any_script (within iso p body k) = (any_script body, any_script k)
 
 module _ {P : Type 0} where
@@ -139,108 +134,38 @@ nothing_left F (x ∷ xs) e = cc
 module _ {P T A : Type 0} where
   bare_operand : (ps : List (Part P T A)) → views (λ (p : Piece ⊤ T A). elim p [ tree.operand i n ↦ (i, n) ∷ [] | _ ↦ [] ]) (map bare_part ps) ≡ map (second bare_name) (views (λ (p : Piece P T A). elim p [ tree.operand i n ↦ (i, n) ∷ [] | _ ↦ [] ]) ps)
   bare_operand [] = refl
-  bare_operand (tree.region i ∷ ps) = bare_operand ps
-  bare_operand (tree.regions ∷ ps) = bare_operand ps
-  bare_operand (tree.piece (tree.word s) ∷ ps) = bare_operand ps
   bare_operand (tree.piece (tree.operand i n) ∷ ps) = ap (λ z. (i, bare_name n) ∷ z) (bare_operand ps)
-  bare_operand (tree.piece (tree.operands ns) ∷ ps) = bare_operand ps
-  bare_operand (tree.piece (tree.successor i n) ∷ ps) = bare_operand ps
-  bare_operand (tree.piece (tree.successors ns) ∷ ps) = bare_operand ps
-  bare_operand (tree.piece (tree.attribute k a) ∷ ps) = bare_operand ps
-  bare_operand (tree.piece (tree.dictionary es) ∷ ps) = bare_operand ps
-  bare_operand (tree.piece (tree.result_type i x) ∷ ps) = bare_operand ps
-  bare_operand (tree.piece (tree.header n) ∷ ps) = bare_operand ps
-  bare_operand (tree.piece (tree.types ts) ∷ ps) = bare_operand ps
+  bare_operand (_ ∷ ps) = bare_operand ps
 
   bare_successor : (ps : List (Part P T A)) → views (λ (p : Piece ⊤ T A). elim p [ tree.successor i n ↦ (i, n) ∷ [] | _ ↦ [] ]) (map bare_part ps) ≡ map (second bare_name) (views (λ (p : Piece P T A). elim p [ tree.successor i n ↦ (i, n) ∷ [] | _ ↦ [] ]) ps)
   bare_successor [] = refl
-  bare_successor (tree.region i ∷ ps) = bare_successor ps
-  bare_successor (tree.regions ∷ ps) = bare_successor ps
-  bare_successor (tree.piece (tree.word s) ∷ ps) = bare_successor ps
-  bare_successor (tree.piece (tree.operand i n) ∷ ps) = bare_successor ps
-  bare_successor (tree.piece (tree.operands ns) ∷ ps) = bare_successor ps
   bare_successor (tree.piece (tree.successor i n) ∷ ps) = ap (λ z. (i, bare_name n) ∷ z) (bare_successor ps)
-  bare_successor (tree.piece (tree.successors ns) ∷ ps) = bare_successor ps
-  bare_successor (tree.piece (tree.attribute k a) ∷ ps) = bare_successor ps
-  bare_successor (tree.piece (tree.dictionary es) ∷ ps) = bare_successor ps
-  bare_successor (tree.piece (tree.result_type i x) ∷ ps) = bare_successor ps
-  bare_successor (tree.piece (tree.header n) ∷ ps) = bare_successor ps
-  bare_successor (tree.piece (tree.types ts) ∷ ps) = bare_successor ps
+  bare_successor (_ ∷ ps) = bare_successor ps
 
   bare_operands : (ps : List (Part P T A)) → views (λ (p : Piece ⊤ T A). elim p [ tree.operands ns ↦ ns | _ ↦ [] ]) (map bare_part ps) ≡ map bare_name (views (λ (p : Piece P T A). elim p [ tree.operands ns ↦ ns | _ ↦ [] ]) ps)
   bare_operands [] = refl
-  bare_operands (tree.region i ∷ ps) = bare_operands ps
-  bare_operands (tree.regions ∷ ps) = bare_operands ps
-  bare_operands (tree.piece (tree.word s) ∷ ps) = bare_operands ps
-  bare_operands (tree.piece (tree.operand i n) ∷ ps) = bare_operands ps
   bare_operands (tree.piece (tree.operands ns) ∷ ps) = ap (λ z. map bare_name ns ++ z) (bare_operands ps) ∙ mapped_both bare_name ns _
-  bare_operands (tree.piece (tree.successor i n) ∷ ps) = bare_operands ps
-  bare_operands (tree.piece (tree.successors ns) ∷ ps) = bare_operands ps
-  bare_operands (tree.piece (tree.attribute k a) ∷ ps) = bare_operands ps
-  bare_operands (tree.piece (tree.dictionary es) ∷ ps) = bare_operands ps
-  bare_operands (tree.piece (tree.result_type i x) ∷ ps) = bare_operands ps
-  bare_operands (tree.piece (tree.header n) ∷ ps) = bare_operands ps
-  bare_operands (tree.piece (tree.types ts) ∷ ps) = bare_operands ps
+  bare_operands (_ ∷ ps) = bare_operands ps
 
   bare_successors : (ps : List (Part P T A)) → views (λ (p : Piece ⊤ T A). elim p [ tree.successors ns ↦ ns | _ ↦ [] ]) (map bare_part ps) ≡ map bare_name (views (λ (p : Piece P T A). elim p [ tree.successors ns ↦ ns | _ ↦ [] ]) ps)
   bare_successors [] = refl
-  bare_successors (tree.region i ∷ ps) = bare_successors ps
-  bare_successors (tree.regions ∷ ps) = bare_successors ps
-  bare_successors (tree.piece (tree.word s) ∷ ps) = bare_successors ps
-  bare_successors (tree.piece (tree.operand i n) ∷ ps) = bare_successors ps
-  bare_successors (tree.piece (tree.operands ns) ∷ ps) = bare_successors ps
-  bare_successors (tree.piece (tree.successor i n) ∷ ps) = bare_successors ps
   bare_successors (tree.piece (tree.successors ns) ∷ ps) = ap (λ z. map bare_name ns ++ z) (bare_successors ps) ∙ mapped_both bare_name ns _
-  bare_successors (tree.piece (tree.attribute k a) ∷ ps) = bare_successors ps
-  bare_successors (tree.piece (tree.dictionary es) ∷ ps) = bare_successors ps
-  bare_successors (tree.piece (tree.result_type i x) ∷ ps) = bare_successors ps
-  bare_successors (tree.piece (tree.header n) ∷ ps) = bare_successors ps
-  bare_successors (tree.piece (tree.types ts) ∷ ps) = bare_successors ps
+  bare_successors (_ ∷ ps) = bare_successors ps
 
   bare_types : (ps : List (Part P T A)) → views {X = ℕ × T} (λ (p : Piece ⊤ T A). elim p [ tree.result_type i x ↦ (i, x) ∷ [] | _ ↦ [] ]) (map bare_part ps) ≡ views {X = ℕ × T} (λ (p : Piece P T A). elim p [ tree.result_type i x ↦ (i, x) ∷ [] | _ ↦ [] ]) ps
   bare_types [] = refl
-  bare_types (tree.region i ∷ ps) = bare_types ps
-  bare_types (tree.regions ∷ ps) = bare_types ps
-  bare_types (tree.piece (tree.word s) ∷ ps) = bare_types ps
-  bare_types (tree.piece (tree.operand i n) ∷ ps) = bare_types ps
-  bare_types (tree.piece (tree.operands ns) ∷ ps) = bare_types ps
-  bare_types (tree.piece (tree.successor i n) ∷ ps) = bare_types ps
-  bare_types (tree.piece (tree.successors ns) ∷ ps) = bare_types ps
-  bare_types (tree.piece (tree.attribute k a) ∷ ps) = bare_types ps
-  bare_types (tree.piece (tree.dictionary es) ∷ ps) = bare_types ps
   bare_types (tree.piece (tree.result_type i x) ∷ ps) = ap (λ z. (i, x) ∷ z) (bare_types ps)
-  bare_types (tree.piece (tree.header n) ∷ ps) = bare_types ps
-  bare_types (tree.piece (tree.types ts) ∷ ps) = bare_types ps
+  bare_types (_ ∷ ps) = bare_types ps
 
   bare_singles : (ps : List (Part P T A)) → views (λ (p : Piece ⊤ T A). elim p [ tree.operand i n ↦ n ∷ [] | _ ↦ [] ]) (map bare_part ps) ≡ map bare_name (views (λ (p : Piece P T A). elim p [ tree.operand i n ↦ n ∷ [] | _ ↦ [] ]) ps)
   bare_singles [] = refl
-  bare_singles (tree.region i ∷ ps) = bare_singles ps
-  bare_singles (tree.regions ∷ ps) = bare_singles ps
-  bare_singles (tree.piece (tree.word s) ∷ ps) = bare_singles ps
   bare_singles (tree.piece (tree.operand i n) ∷ ps) = ap (λ z. bare_name n ∷ z) (bare_singles ps)
-  bare_singles (tree.piece (tree.operands ns) ∷ ps) = bare_singles ps
-  bare_singles (tree.piece (tree.successor i n) ∷ ps) = bare_singles ps
-  bare_singles (tree.piece (tree.successors ns) ∷ ps) = bare_singles ps
-  bare_singles (tree.piece (tree.attribute k a) ∷ ps) = bare_singles ps
-  bare_singles (tree.piece (tree.dictionary es) ∷ ps) = bare_singles ps
-  bare_singles (tree.piece (tree.result_type i x) ∷ ps) = bare_singles ps
-  bare_singles (tree.piece (tree.header n) ∷ ps) = bare_singles ps
-  bare_singles (tree.piece (tree.types ts) ∷ ps) = bare_singles ps
+  bare_singles (_ ∷ ps) = bare_singles ps
 
   bare_single_labels : (ps : List (Part P T A)) → views (λ (p : Piece ⊤ T A). elim p [ tree.successor i n ↦ n ∷ [] | _ ↦ [] ]) (map bare_part ps) ≡ map bare_name (views (λ (p : Piece P T A). elim p [ tree.successor i n ↦ n ∷ [] | _ ↦ [] ]) ps)
   bare_single_labels [] = refl
-  bare_single_labels (tree.region i ∷ ps) = bare_single_labels ps
-  bare_single_labels (tree.regions ∷ ps) = bare_single_labels ps
-  bare_single_labels (tree.piece (tree.word s) ∷ ps) = bare_single_labels ps
-  bare_single_labels (tree.piece (tree.operand i n) ∷ ps) = bare_single_labels ps
-  bare_single_labels (tree.piece (tree.operands ns) ∷ ps) = bare_single_labels ps
   bare_single_labels (tree.piece (tree.successor i n) ∷ ps) = ap (λ z. bare_name n ∷ z) (bare_single_labels ps)
-  bare_single_labels (tree.piece (tree.successors ns) ∷ ps) = bare_single_labels ps
-  bare_single_labels (tree.piece (tree.attribute k a) ∷ ps) = bare_single_labels ps
-  bare_single_labels (tree.piece (tree.dictionary es) ∷ ps) = bare_single_labels ps
-  bare_single_labels (tree.piece (tree.result_type i x) ∷ ps) = bare_single_labels ps
-  bare_single_labels (tree.piece (tree.header n) ∷ ps) = bare_single_labels ps
-  bare_single_labels (tree.piece (tree.types ts) ∷ ps) = bare_single_labels ps
+  bare_single_labels (_ ∷ ps) = bare_single_labels ps
 
   -- the parts of a body without its places
   pub bare_parts : (b : Body P T A) → parts_of (bare_body b) ≡ map bare_part (parts_of b)
@@ -270,16 +195,10 @@ module _ {P T A : Type 0} where
 
   -- ---- scripts
   bare_piece_acts : (p : Path) (k l : ℕ) (x : Piece P T A) → piece_acts p k l (bare_piece x) ≡ map B (piece_acts p k l x)
-  bare_piece_acts p k l (tree.word s) = refl
-  bare_piece_acts p k l (tree.operand i n) = refl
   bare_piece_acts p k l (tree.operands ns) = bare_value_uses p k ns
-  bare_piece_acts p k l (tree.successor i n) = refl
   bare_piece_acts p k l (tree.successors ns) = bare_label_uses p l ns
-  bare_piece_acts p k l (tree.attribute key a) = refl
   bare_piece_acts p k l (tree.dictionary es) = bare_keys may_hold es
-  bare_piece_acts p k l (tree.result_type i x) = refl
-  bare_piece_acts p k l (tree.header n) = refl
-  bare_piece_acts p k l (tree.types ts) = refl
+  bare_piece_acts p k l _ = refl
 
   bare_parts_script : (p : Path) (k l : ℕ) (ps : List (Part P T A)) (rs : List (Script Text P → Script Text P)) (ss : List (Script Text ⊤ → Script Text ⊤)) (x : Script Text P) → BareAll rs ss
       → E (parts_script p k l ps rs x) ≡ parts_script p k l (map bare_part ps) ss (E x)

@@ -196,11 +196,6 @@ kept_front rule (x ∷ xs) ys h = let r = kept_front rule xs ys h.1 in ((h.0, r.
 module _ {P T A : Type 0} where
   parts_inline : (ps : List (Part P T A)) → has same_text given_names_key (flat_map key_of_part ps) ≡ false → KeysKept may_hold (views entries_in ps) → KeepsKeys (views stored ps)
   parts_inline [] h k = refl
-  parts_inline (tree.piece (tree.word s) ∷ ps) h k = parts_inline ps h k
-  parts_inline (tree.piece (tree.operand i n) ∷ ps) h k = parts_inline ps h k
-  parts_inline (tree.piece (tree.operands ns) ∷ ps) h k = parts_inline ps h k
-  parts_inline (tree.piece (tree.successor i n) ∷ ps) h k = parts_inline ps h k
-  parts_inline (tree.piece (tree.successors ns) ∷ ps) h k = parts_inline ps h k
   parts_inline (tree.piece (tree.attribute key None) ∷ ps) h k = parts_inline ps (neither (same_text given_names_key key) _ h).1 k
   parts_inline (tree.piece (tree.attribute key (Some a)) ∷ ps) h k =
       let q = neither (same_text given_names_key key) _ h in
@@ -208,11 +203,7 @@ module _ {P T A : Type 0} where
   parts_inline (tree.piece (tree.dictionary es) ∷ ps) h k =
       let r = kept_front may_hold es (views entries_in ps) k in
       keeps_both may_hold (map plain_entry es) (views stored ps) (plain_keeps may_hold es r.0) (parts_inline ps h r.1)
-  parts_inline (tree.piece (tree.result_type i t) ∷ ps) h k = parts_inline ps h k
-  parts_inline (tree.piece (tree.header n) ∷ ps) h k = parts_inline ps h k
-  parts_inline (tree.piece (tree.types ts) ∷ ps) h k = parts_inline ps h k
-  parts_inline (tree.region i ∷ ps) h k = parts_inline ps h k
-  parts_inline (tree.regions ∷ ps) h k = parts_inline ps h k
+  parts_inline (_ ∷ ps) h k = parts_inline ps h k
 
   no_names_key : (f : Format) (b : Body P T A) → Accepted f → IsOf f b → has same_text given_names_key (flat_map key_of_part (parts_of b)) ≡ false
   no_names_key (format.custom ds) (tree.custom ps) a i =
@@ -369,39 +360,21 @@ module _ {P T A : Type 0} where
 
   none_used : (ps : List (Part P T A)) → views (λ p. elim p [ tree.operand i n ↦ n ∷ [] | tree.operands ns ↦ ns | _ ↦ [] ]) ps ≡ [] → (single_operands ps ≡ []) × (more_operands ps ≡ [])
   none_used [] e = (refl, refl)
-  none_used (tree.piece (tree.word s) ∷ ps) e = none_used ps e
   none_used (tree.piece (tree.operand i n) ∷ ps) e = absurd (unequal n _ e)
   none_used (tree.piece (tree.operands ns) ∷ ps) e =
       let b = both_empty ns _ e in
       let r = none_used ps b.1 in
       (r.0, ap₂ ◌++◌ b.0 r.1)
-  none_used (tree.piece (tree.successor i n) ∷ ps) e = none_used ps e
-  none_used (tree.piece (tree.successors ns) ∷ ps) e = none_used ps e
-  none_used (tree.piece (tree.attribute k a) ∷ ps) e = none_used ps e
-  none_used (tree.piece (tree.dictionary es) ∷ ps) e = none_used ps e
-  none_used (tree.piece (tree.result_type i t) ∷ ps) e = none_used ps e
-  none_used (tree.piece (tree.header n) ∷ ps) e = none_used ps e
-  none_used (tree.piece (tree.types ts) ∷ ps) e = none_used ps e
-  none_used (tree.region i ∷ ps) e = none_used ps e
-  none_used (tree.regions ∷ ps) e = none_used ps e
+  none_used (_ ∷ ps) e = none_used ps e
 
   none_branched : (ps : List (Part P T A)) → views (λ p. elim p [ tree.successor i n ↦ n ∷ [] | tree.successors ns ↦ ns | _ ↦ [] ]) ps ≡ [] → (single_successors ps ≡ []) × (more_successors ps ≡ [])
   none_branched [] e = (refl, refl)
-  none_branched (tree.piece (tree.word s) ∷ ps) e = none_branched ps e
-  none_branched (tree.piece (tree.operand i n) ∷ ps) e = none_branched ps e
-  none_branched (tree.piece (tree.operands ns) ∷ ps) e = none_branched ps e
   none_branched (tree.piece (tree.successor i n) ∷ ps) e = absurd (unequal n _ e)
   none_branched (tree.piece (tree.successors ns) ∷ ps) e =
       let b = both_empty ns _ e in
       let r = none_branched ps b.1 in
       (r.0, ap₂ ◌++◌ b.0 r.1)
-  none_branched (tree.piece (tree.attribute k a) ∷ ps) e = none_branched ps e
-  none_branched (tree.piece (tree.dictionary es) ∷ ps) e = none_branched ps e
-  none_branched (tree.piece (tree.result_type i t) ∷ ps) e = none_branched ps e
-  none_branched (tree.piece (tree.header n) ∷ ps) e = none_branched ps e
-  none_branched (tree.piece (tree.types ts) ∷ ps) e = none_branched ps e
-  none_branched (tree.region i ∷ ps) e = none_branched ps e
-  none_branched (tree.regions ∷ ps) e = none_branched ps e
+  none_branched (_ ∷ ps) e = none_branched ps e
 
   no_operand_names : (o : Op P T A) → views (λ p. elim p [ tree.operand i n ↦ n ∷ [] | tree.operands ns ↦ ns | _ ↦ [] ]) (parts_of o.body) ≡ [] → operand_names o ≡ []
   no_operand_names o e = let q = none_used (parts_of o.body) e in ap₂ (λ (a : List (ℕ × Name P)) (b : List (Name P)). in_order a ++ b) q.0 q.1

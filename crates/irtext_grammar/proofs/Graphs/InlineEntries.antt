@@ -135,11 +135,8 @@ module _ {T A : Type 0} (C : Printing T A) (isolated : Id → Bool) (o : GraphOp
 
   module _ (ds : List Directive) where
     part_own : (e : Directive) → Each Own (held (part_of C ds o e))
-    part_own (format.word s) = tt
     part_own (format.operand i) = subst (Each Own) (sym (nothing_held (λ v. tree.operand i (value C v)) (λ y. refl) (slice_get o.operands i))) tt
-    part_own format.operands = tt
     part_own (format.successor i) = subst (Each Own) (sym (nothing_held (λ v. tree.successor i (target C v)) (λ y. refl) (slice_get o.successors i))) tt
-    part_own format.successors = tt
     part_own (format.attribute key) = go (lookup key o.attributes) refl
       where
         one : (a : Attribute A) → lookup key o.attributes ≡ Some a → (b : Bool) → outlined C a ≡ b → Each Own (stored {P = ⊤} {T = T} (tree.attribute key (cond b None (Some a))))
@@ -152,8 +149,6 @@ module _ {T A : Type 0} (C : Printing T A) (isolated : Id → Bool) (o : GraphOp
     part_own format.dictionary =
         subst (Each Own) (sym (plainly C (filter (λ e. not (has same_text e.0 (written_keys C ds))) (inline C o.attributes)))) (each_kept Own (λ e. not (has same_text e.0 (written_keys C ds))) (inline C o.attributes) inline_own)
     part_own (format.result_type i) = subst (Each Own) (sym (nothing_held (λ (r : ℕ × T). tree.result_type i r.1) (λ y. refl) (slice_get o.results i))) tt
-    part_own (format.region i) = tt
-    part_own format.regions = tt
     part_own format.header = go (lookup sym_name_key o.attributes) refl
       where
         go : (x : Option (Attribute A)) → lookup sym_name_key o.attributes ≡ x
@@ -162,6 +157,7 @@ module _ {T A : Type 0} (C : Printing T A) (isolated : Id → Bool) (o : GraphOp
         go (Some (given_names ns)) e = tt
         go (Some (ident n)) e = ((e, refl), tt)
         go (Some (own x)) e = tt
+    part_own _ = tt
 
     parts_own : (rest : List Directive) → Each Own (views stored (filter_map (part_of C ds o) rest))
     parts_own [] = tt

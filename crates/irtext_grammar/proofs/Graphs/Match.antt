@@ -77,18 +77,14 @@ module _ {T A : Type 0} (C : Printing T A) (isolated : Id → Bool) where
   directives_small : (ds : List Directive) (p : Path) (o : GraphOp T A) (rest : List Directive) (ss : List (Script Thing ⊤ → Script Thing ⊤)) (g : Script Thing ⊤) → SmallOp C isolated o → SmallAll ss → AllScript Small g
       → AllScript Small (directives_script ds p o rest ss g)
   directives_small ds p o [] ss g e s a = a
-  directives_small ds p o (format.word w ∷ rest) ss g e s a = directives_small ds p o rest ss g e s a
   directives_small ds p o (format.operand i ∷ rest) ss g e s a = use_small p i (slice_get o.operands i) _ (each_at _ o.operands i e.operands) (directives_small ds p o rest ss g e s a)
   directives_small ds p o (format.operands ∷ rest) ss g e s a = uses_small p _ _ _ (each_drop _ (length (operand_places ds)) o.operands e.operands) (directives_small ds p o rest ss g e s a)
   directives_small ds p o (format.successor i ∷ rest) ss g e s a = use_block_small p i (slice_get o.successors i) _ (each_at _ o.successors i e.successors) (directives_small ds p o rest ss g e s a)
   directives_small ds p o (format.successors ∷ rest) ss g e s a = blocks_small p _ _ _ (each_drop _ (length (successor_places ds)) o.successors e.successors) (directives_small ds p o rest ss g e s a)
-  directives_small ds p o (format.attribute k ∷ rest) ss g e s a = directives_small ds p o rest ss g e s a
-  directives_small ds p o (format.dictionary ∷ rest) ss g e s a = directives_small ds p o rest ss g e s a
-  directives_small ds p o (format.result_type i ∷ rest) ss g e s a = directives_small ds p o rest ss g e s a
   directives_small ds p o (format.region i ∷ rest) [] g e s a = directives_small ds p o rest [] g e s a
   directives_small ds p o (format.region i ∷ rest) (r ∷ ss) g e s a = s.0 _ (directives_small ds p o rest ss g e s.1 a)
   directives_small ds p o (format.regions ∷ rest) ss g e s a = all_small ss _ s (directives_small ds p o rest [] g e tt a)
-  directives_small ds p o (format.header ∷ rest) ss g e s a = directives_small ds p o rest ss g e s a
+  directives_small ds p o (_ ∷ rest) ss g e s a = directives_small ds p o rest ss g e s a
 
   body_small : (f : Option Format) (p : Path) (o : GraphOp T A) (ss : List (Script Thing ⊤ → Script Thing ⊤)) (g : Script Thing ⊤) → SmallOp C isolated o → SmallAll ss → AllScript Small g → AllScript Small (body_script f p o ss g)
   body_small None p o ss g e s a = uses_small p 0 o.operands _ e.operands (blocks_small p 0 o.successors _ e.successors (all_small ss g s a))

@@ -93,11 +93,7 @@ module _ (v l : List (Fact Text)) where
   nothing_both [] ys e f = f
   nothing_both (script.use_value w u ∷ xs) ys e f = cc
   nothing_both (script.use_label w u ∷ xs) ys e f = cc
-  nothing_both (script.define_value w q ∷ xs) ys e f = nothing_both xs ys e f
-  nothing_both (script.define_label w q ∷ xs) ys e f = nothing_both xs ys e f
-  nothing_both (script.mark i q ∷ xs) ys e f = nothing_both xs ys e f
-  nothing_both (script.entry i q ∷ xs) ys e f = nothing_both xs ys e f
-  nothing_both (script.claim b q ∷ xs) ys e f = nothing_both xs ys e f
+  nothing_both (_ ∷ xs) ys e f = nothing_both xs ys e f
 
   results_mean_nothing : {P : Type 0} (p : Path) (k : ℕ) (ns : List (Name P)) → M_acts (result_definitions p k ns) ≡ []
   results_mean_nothing p k [] = refl
@@ -146,16 +142,10 @@ module _ (v l : List (Fact Text)) where
       parts_meant ps = views (λ x. M_acts (piece_acts p k m x)) ps
 
       piece_meant : (x : Piece P T A) → M_acts (piece_acts p k m x) ≡ own_value x ++ (more_values x ++ (own_label x ++ more_labels x))
-      piece_meant (tree.operand i n) = refl
       piece_meant (tree.operands ns) = values_meant p k ns ∙ sym (append-nil (numbered (operand p) k (map look ns)))
-      piece_meant (tree.successor i n) = refl
       piece_meant (tree.successors ns) = labels_meant p m ns
       piece_meant (tree.dictionary es) = keys_mean_nothing may_hold es
-      piece_meant (tree.word s) = refl
-      piece_meant (tree.attribute key a) = refl
-      piece_meant (tree.result_type i x) = refl
-      piece_meant (tree.header n) = refl
-      piece_meant (tree.types xs) = refl
+      piece_meant _ = refl
 
       apart : (ps : List (Part P T A)) → Same (parts_meant ps) (views own_value ps ++ (views more_values ps ++ (views own_label ps ++ views more_labels ps)))
       apart [] = same_refl []

@@ -61,7 +61,6 @@ module _ {T A : Type 0} (C : Printing T A) where
   operand_singles : (ds : List Directive) (o : GraphOp T A) (rest : List Directive) → Fits C ds o rest
       → (firsts (views (λ p. elim p [ tree.operand i n ↦ (i, n) ∷ [] | _ ↦ [] ]) (filter_map (part_of C ds o) rest)) ≡ operand_places rest) × AllFrom (map (value C) o.operands) (views (λ p. elim p [ tree.operand i n ↦ (i, n) ∷ [] | _ ↦ [] ]) (filter_map (part_of C ds o) rest))
   operand_singles ds o [] f = (refl, tt)
-  operand_singles ds o (format.word s ∷ rest) f = operand_singles ds o rest f.1
   operand_singles ds o (format.operand i ∷ rest) f = go (slice_get o.operands i) refl f.0 (operand_singles ds o rest f.1)
     where
       go : (x : Option ℕ) → slice_get o.operands i ≡ x → (let r : Option (Part ⊤ T A) = option_map (λ v. tree.piece (tree.operand i (value C v))) x in is_some r) ≡ true
@@ -70,37 +69,27 @@ module _ {T A : Type 0} (C : Printing T A) where
           × AllFrom (map (value C) o.operands) (views (λ p. elim p [ tree.operand i n ↦ (i, n) ∷ [] | _ ↦ [] ]) (cons_option (option_map (λ v. tree.piece (tree.operand i (value C v))) x) (filter_map (part_of C ds o) rest)))
       go None e s h = absurd (true≢false (sym s))
       go (Some v) e s h = (ap (λ z. i ∷ z) h.0, (got_map (value C) o.operands i v e, h.1))
-  operand_singles ds o (format.operands ∷ rest) f = operand_singles ds o rest f.1
   operand_singles ds o (format.successor i ∷ rest) f = subst (λ es. (firsts es ≡ operand_places rest) × AllFrom (map (value C) o.operands) es) (sym (skip (λ p. elim p [ tree.operand i n ↦ (i, n) ∷ [] | _ ↦ [] ]) (λ b. tree.successor i (target C b)) (λ x. refl) (slice_get o.successors i) (filter_map (part_of C ds o) rest))) (operand_singles ds o rest f.1)
-  operand_singles ds o (format.successors ∷ rest) f = operand_singles ds o rest f.1
   operand_singles ds o (format.attribute key ∷ rest) f = subst (λ es. (firsts es ≡ operand_places rest) × AllFrom (map (value C) o.operands) es) (sym (skip (λ p. elim p [ tree.operand i n ↦ (i, n) ∷ [] | _ ↦ [] ]) (λ a. tree.attribute key (cond (outlined C a) None (Some a))) (λ x. refl) (lookup key o.attributes) (filter_map (part_of C ds o) rest))) (operand_singles ds o rest f.1)
-  operand_singles ds o (format.dictionary ∷ rest) f = operand_singles ds o rest f.1
   operand_singles ds o (format.result_type i ∷ rest) f = subst (λ es. (firsts es ≡ operand_places rest) × AllFrom (map (value C) o.operands) es) (sym (skip (λ p. elim p [ tree.operand i n ↦ (i, n) ∷ [] | _ ↦ [] ]) (λ r. tree.result_type i r.1) (λ x. refl) (slice_get o.results i) (filter_map (part_of C ds o) rest))) (operand_singles ds o rest f.1)
-  operand_singles ds o (format.region i ∷ rest) f = operand_singles ds o rest f.1
-  operand_singles ds o (format.regions ∷ rest) f = operand_singles ds o rest f.1
   operand_singles ds o (format.header ∷ rest) f = subst (λ es. (firsts es ≡ operand_places rest) × AllFrom (map (value C) o.operands) es) (sym (skip_header (λ p. elim p [ tree.operand i n ↦ (i, n) ∷ [] | _ ↦ [] ]) (λ n. refl) (lookup sym_name_key o.attributes) (filter_map (part_of C ds o) rest))) (operand_singles ds o rest f.1)
+  operand_singles ds o (_ ∷ rest) f = operand_singles ds o rest f.1
 
   operand_lists : (ds : List Directive) (o : GraphOp T A) (rest : List Directive) → views (λ p. elim p [ tree.operands ns ↦ ns | _ ↦ [] ]) (filter_map (part_of C ds o) rest) ≡ times (count is_operands rest) (map (value C) (drop (length (operand_places ds)) o.operands))
   operand_lists ds o [] = refl
-  operand_lists ds o (format.word s ∷ rest) = operand_lists ds o rest
   operand_lists ds o (format.operand i ∷ rest) = skip (λ p. elim p [ tree.operands ns ↦ ns | _ ↦ [] ]) (λ v. tree.operand i (value C v)) (λ x. refl) (slice_get o.operands i) (filter_map (part_of C ds o) rest) ∙ operand_lists ds o rest
   operand_lists ds o (format.operands ∷ rest) = ap (λ z. map (value C) (drop (length (operand_places ds)) o.operands) ++ z) (operand_lists ds o rest)
   operand_lists ds o (format.successor i ∷ rest) = skip (λ p. elim p [ tree.operands ns ↦ ns | _ ↦ [] ]) (λ b. tree.successor i (target C b)) (λ x. refl) (slice_get o.successors i) (filter_map (part_of C ds o) rest) ∙ operand_lists ds o rest
-  operand_lists ds o (format.successors ∷ rest) = operand_lists ds o rest
   operand_lists ds o (format.attribute key ∷ rest) = skip (λ p. elim p [ tree.operands ns ↦ ns | _ ↦ [] ]) (λ a. tree.attribute key (cond (outlined C a) None (Some a))) (λ x. refl) (lookup key o.attributes) (filter_map (part_of C ds o) rest) ∙ operand_lists ds o rest
-  operand_lists ds o (format.dictionary ∷ rest) = operand_lists ds o rest
   operand_lists ds o (format.result_type i ∷ rest) = skip (λ p. elim p [ tree.operands ns ↦ ns | _ ↦ [] ]) (λ r. tree.result_type i r.1) (λ x. refl) (slice_get o.results i) (filter_map (part_of C ds o) rest) ∙ operand_lists ds o rest
-  operand_lists ds o (format.region i ∷ rest) = operand_lists ds o rest
-  operand_lists ds o (format.regions ∷ rest) = operand_lists ds o rest
   operand_lists ds o (format.header ∷ rest) = skip_header (λ p. elim p [ tree.operands ns ↦ ns | _ ↦ [] ]) (λ n. refl) (lookup sym_name_key o.attributes) (filter_map (part_of C ds o) rest) ∙ operand_lists ds o rest
+  operand_lists ds o (_ ∷ rest) = operand_lists ds o rest
 
   -- successor
   successor_singles : (ds : List Directive) (o : GraphOp T A) (rest : List Directive) → Fits C ds o rest
       → (firsts (views (λ p. elim p [ tree.successor i n ↦ (i, n) ∷ [] | _ ↦ [] ]) (filter_map (part_of C ds o) rest)) ≡ successor_places rest) × AllFrom (map (target C) o.successors) (views (λ p. elim p [ tree.successor i n ↦ (i, n) ∷ [] | _ ↦ [] ]) (filter_map (part_of C ds o) rest))
   successor_singles ds o [] f = (refl, tt)
-  successor_singles ds o (format.word s ∷ rest) f = successor_singles ds o rest f.1
   successor_singles ds o (format.operand i ∷ rest) f = subst (λ es. (firsts es ≡ successor_places rest) × AllFrom (map (target C) o.successors) es) (sym (skip (λ p. elim p [ tree.successor i n ↦ (i, n) ∷ [] | _ ↦ [] ]) (λ v. tree.operand i (value C v)) (λ x. refl) (slice_get o.operands i) (filter_map (part_of C ds o) rest))) (successor_singles ds o rest f.1)
-  successor_singles ds o (format.operands ∷ rest) f = successor_singles ds o rest f.1
   successor_singles ds o (format.successor i ∷ rest) f = go (slice_get o.successors i) refl f.0 (successor_singles ds o rest f.1)
     where
       go : (x : Option (ℕ × ℕ)) → slice_get o.successors i ≡ x → (let r : Option (Part ⊤ T A) = option_map (λ v. tree.piece (tree.successor i (target C v))) x in is_some r) ≡ true
@@ -109,39 +98,28 @@ module _ {T A : Type 0} (C : Printing T A) where
           × AllFrom (map (target C) o.successors) (views (λ p. elim p [ tree.successor i n ↦ (i, n) ∷ [] | _ ↦ [] ]) (cons_option (option_map (λ v. tree.piece (tree.successor i (target C v))) x) (filter_map (part_of C ds o) rest)))
       go None e s h = absurd (true≢false (sym s))
       go (Some v) e s h = (ap (λ z. i ∷ z) h.0, (got_map (target C) o.successors i v e, h.1))
-  successor_singles ds o (format.successors ∷ rest) f = successor_singles ds o rest f.1
   successor_singles ds o (format.attribute key ∷ rest) f = subst (λ es. (firsts es ≡ successor_places rest) × AllFrom (map (target C) o.successors) es) (sym (skip (λ p. elim p [ tree.successor i n ↦ (i, n) ∷ [] | _ ↦ [] ]) (λ a. tree.attribute key (cond (outlined C a) None (Some a))) (λ x. refl) (lookup key o.attributes) (filter_map (part_of C ds o) rest))) (successor_singles ds o rest f.1)
-  successor_singles ds o (format.dictionary ∷ rest) f = successor_singles ds o rest f.1
   successor_singles ds o (format.result_type i ∷ rest) f = subst (λ es. (firsts es ≡ successor_places rest) × AllFrom (map (target C) o.successors) es) (sym (skip (λ p. elim p [ tree.successor i n ↦ (i, n) ∷ [] | _ ↦ [] ]) (λ r. tree.result_type i r.1) (λ x. refl) (slice_get o.results i) (filter_map (part_of C ds o) rest))) (successor_singles ds o rest f.1)
-  successor_singles ds o (format.region i ∷ rest) f = successor_singles ds o rest f.1
-  successor_singles ds o (format.regions ∷ rest) f = successor_singles ds o rest f.1
   successor_singles ds o (format.header ∷ rest) f = subst (λ es. (firsts es ≡ successor_places rest) × AllFrom (map (target C) o.successors) es) (sym (skip_header (λ p. elim p [ tree.successor i n ↦ (i, n) ∷ [] | _ ↦ [] ]) (λ n. refl) (lookup sym_name_key o.attributes) (filter_map (part_of C ds o) rest))) (successor_singles ds o rest f.1)
+  successor_singles ds o (_ ∷ rest) f = successor_singles ds o rest f.1
 
   successor_lists : (ds : List Directive) (o : GraphOp T A) (rest : List Directive) → views (λ p. elim p [ tree.successors ns ↦ ns | _ ↦ [] ]) (filter_map (part_of C ds o) rest) ≡ times (count is_successors rest) (map (target C) (drop (length (successor_places ds)) o.successors))
   successor_lists ds o [] = refl
-  successor_lists ds o (format.word s ∷ rest) = successor_lists ds o rest
   successor_lists ds o (format.operand i ∷ rest) = skip (λ p. elim p [ tree.successors ns ↦ ns | _ ↦ [] ]) (λ v. tree.operand i (value C v)) (λ x. refl) (slice_get o.operands i) (filter_map (part_of C ds o) rest) ∙ successor_lists ds o rest
-  successor_lists ds o (format.operands ∷ rest) = successor_lists ds o rest
   successor_lists ds o (format.successor i ∷ rest) = skip (λ p. elim p [ tree.successors ns ↦ ns | _ ↦ [] ]) (λ b. tree.successor i (target C b)) (λ x. refl) (slice_get o.successors i) (filter_map (part_of C ds o) rest) ∙ successor_lists ds o rest
   successor_lists ds o (format.successors ∷ rest) = ap (λ z. map (target C) (drop (length (successor_places ds)) o.successors) ++ z) (successor_lists ds o rest)
   successor_lists ds o (format.attribute key ∷ rest) = skip (λ p. elim p [ tree.successors ns ↦ ns | _ ↦ [] ]) (λ a. tree.attribute key (cond (outlined C a) None (Some a))) (λ x. refl) (lookup key o.attributes) (filter_map (part_of C ds o) rest) ∙ successor_lists ds o rest
-  successor_lists ds o (format.dictionary ∷ rest) = successor_lists ds o rest
   successor_lists ds o (format.result_type i ∷ rest) = skip (λ p. elim p [ tree.successors ns ↦ ns | _ ↦ [] ]) (λ r. tree.result_type i r.1) (λ x. refl) (slice_get o.results i) (filter_map (part_of C ds o) rest) ∙ successor_lists ds o rest
-  successor_lists ds o (format.region i ∷ rest) = successor_lists ds o rest
-  successor_lists ds o (format.regions ∷ rest) = successor_lists ds o rest
   successor_lists ds o (format.header ∷ rest) = skip_header (λ p. elim p [ tree.successors ns ↦ ns | _ ↦ [] ]) (λ n. refl) (lookup sym_name_key o.attributes) (filter_map (part_of C ds o) rest) ∙ successor_lists ds o rest
+  successor_lists ds o (_ ∷ rest) = successor_lists ds o rest
 
   -- result
   result_singles : (ds : List Directive) (o : GraphOp T A) (rest : List Directive) → Fits C ds o rest
       → (firsts (views (λ p. elim p [ tree.result_type i x ↦ (i, x) ∷ [] | _ ↦ [] ]) (filter_map (part_of C ds o) rest)) ≡ type_places rest) × AllFrom (map (λ (r : ℕ × T). r.1) o.results) (views (λ p. elim p [ tree.result_type i x ↦ (i, x) ∷ [] | _ ↦ [] ]) (filter_map (part_of C ds o) rest))
   result_singles ds o [] f = (refl, tt)
-  result_singles ds o (format.word s ∷ rest) f = result_singles ds o rest f.1
   result_singles ds o (format.operand i ∷ rest) f = subst (λ es. (firsts es ≡ type_places rest) × AllFrom (map (λ (r : ℕ × T). r.1) o.results) es) (sym (skip (λ p. elim p [ tree.result_type i x ↦ (i, x) ∷ [] | _ ↦ [] ]) (λ v. tree.operand i (value C v)) (λ x. refl) (slice_get o.operands i) (filter_map (part_of C ds o) rest))) (result_singles ds o rest f.1)
-  result_singles ds o (format.operands ∷ rest) f = result_singles ds o rest f.1
   result_singles ds o (format.successor i ∷ rest) f = subst (λ es. (firsts es ≡ type_places rest) × AllFrom (map (λ (r : ℕ × T). r.1) o.results) es) (sym (skip (λ p. elim p [ tree.result_type i x ↦ (i, x) ∷ [] | _ ↦ [] ]) (λ b. tree.successor i (target C b)) (λ x. refl) (slice_get o.successors i) (filter_map (part_of C ds o) rest))) (result_singles ds o rest f.1)
-  result_singles ds o (format.successors ∷ rest) f = result_singles ds o rest f.1
   result_singles ds o (format.attribute key ∷ rest) f = subst (λ es. (firsts es ≡ type_places rest) × AllFrom (map (λ (r : ℕ × T). r.1) o.results) es) (sym (skip (λ p. elim p [ tree.result_type i x ↦ (i, x) ∷ [] | _ ↦ [] ]) (λ a. tree.attribute key (cond (outlined C a) None (Some a))) (λ x. refl) (lookup key o.attributes) (filter_map (part_of C ds o) rest))) (result_singles ds o rest f.1)
-  result_singles ds o (format.dictionary ∷ rest) f = result_singles ds o rest f.1
   result_singles ds o (format.result_type i ∷ rest) f = go (slice_get o.results i) refl f.0 (result_singles ds o rest f.1)
     where
       go : (x : Option (ℕ × T)) → slice_get o.results i ≡ x → (let r : Option (Part ⊤ T A) = option_map (λ v. tree.piece (tree.result_type i v.1)) x in is_some r) ≡ true
@@ -150,9 +128,8 @@ module _ {T A : Type 0} (C : Printing T A) where
           × AllFrom (map (λ (r : ℕ × T). r.1) o.results) (views (λ p. elim p [ tree.result_type i x ↦ (i, x) ∷ [] | _ ↦ [] ]) (cons_option (option_map (λ v. tree.piece (tree.result_type i v.1)) x) (filter_map (part_of C ds o) rest)))
       go None e s h = absurd (true≢false (sym s))
       go (Some v) e s h = (ap (λ z. i ∷ z) h.0, (got_map (λ r. r.1) o.results i v e, h.1))
-  result_singles ds o (format.region i ∷ rest) f = result_singles ds o rest f.1
-  result_singles ds o (format.regions ∷ rest) f = result_singles ds o rest f.1
   result_singles ds o (format.header ∷ rest) f = subst (λ es. (firsts es ≡ type_places rest) × AllFrom (map (λ (r : ℕ × T). r.1) o.results) es) (sym (skip_header (λ p. elim p [ tree.result_type i x ↦ (i, x) ∷ [] | _ ↦ [] ]) (λ n. refl) (lookup sym_name_key o.attributes) (filter_map (part_of C ds o) rest))) (result_singles ds o rest f.1)
+  result_singles ds o (_ ∷ rest) f = result_singles ds o rest f.1
 
   -- the front of a list and the rest of it, where there is a list directive; else the front is all of it
   front_and_rest : {X Y : Type 0} (F : X → Y) (K lists : ℕ) (xs : List X) → nat_lt lists 2 ≡ true → cond (lists == 0) (length xs == K) (not (nat_lt (length xs) K)) ≡ true

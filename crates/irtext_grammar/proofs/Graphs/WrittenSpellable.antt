@@ -118,15 +118,7 @@ room_none : (rest : List Directive) → list_all (λ d. not (elim d [ format.reg
 room_none [] e c = refl
 room_none (format.region i ∷ rest) e c = absurd (true≢false (sym e))
 room_none (format.regions ∷ rest) e c = absurd (omega arith)
-room_none (format.word x ∷ rest) e c = room_none rest e c
-room_none (format.operand i ∷ rest) e c = room_none rest e c
-room_none (format.operands ∷ rest) e c = room_none rest e c
-room_none (format.successor i ∷ rest) e c = room_none rest e c
-room_none (format.successors ∷ rest) e c = room_none rest e c
-room_none (format.attribute k ∷ rest) e c = room_none rest e c
-room_none (format.dictionary ∷ rest) e c = room_none rest e c
-room_none (format.result_type i ∷ rest) e c = room_none rest e c
-room_none (format.header ∷ rest) e c = room_none rest e c
+room_none (_ ∷ rest) e c = room_none rest e c
 
 -- regions that fit have a place or a list each
 pub room : (rest : List Directive) (n : ℕ) → Fitted (length (region_places rest)) (count is_regions rest) n ≡ true → nat_lt (count is_regions rest) 2 ≡ true
@@ -135,15 +127,7 @@ room [] n e f b = same_character n 0 e
 room (format.region i ∷ rest) zero e f b = fitted_none (length (region_places rest)) (count is_regions rest == 0) e
 room (format.region i ∷ rest) (suc n) e f b = room rest n (fitted_less (length (region_places rest)) n (count is_regions rest == 0) e) f b
 room (format.regions ∷ rest) n e f b = room_none rest (and_left _ _ b) (one_at_most (count is_regions rest) f)
-room (format.word x ∷ rest) n e f b = room rest n e f b
-room (format.operand i ∷ rest) n e f b = room rest n e f b
-room (format.operands ∷ rest) n e f b = room rest n e f b
-room (format.successor i ∷ rest) n e f b = room rest n e f b
-room (format.successors ∷ rest) n e f b = room rest n e f b
-room (format.attribute k ∷ rest) n e f b = room rest n e f b
-room (format.dictionary ∷ rest) n e f b = room rest n e f b
-room (format.result_type i ∷ rest) n e f b = room rest n e f b
-room (format.header ∷ rest) n e f b = room rest n e f b
+room (_ ∷ rest) n e f b = room rest n e f b
 
 module _ {T A : Type 0} (C : Printing T A) (isolated : Id → Bool) (given : (v : ℕ) (n : Text) → C.given v ≡ Some n → IsIdentifier n) (label : (b : ℕ × ℕ) (n : Text) → C.label b ≡ Some n → IsIdentifier n) where
   abbrev SmallNumber : ℕ → Type 0

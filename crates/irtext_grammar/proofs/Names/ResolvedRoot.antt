@@ -6,7 +6,7 @@ use Rattle.irtext_grammar.specs.Spelling.Spellable.{Each}
 use Rattle.irtext_grammar.specs.Grammar.Forest.{Regions, no_regions, region, no_operations, operation}
 use Rattle.irtext_grammar.specs.Grammar.Tree.{Name, Op, Head, Brace, Tree}
 use Rattle.irtext_grammar.specs.Grammar.Section.{Entry}
-use Rattle.irtext_grammar.specs.Names.Script.{use_value, use_label, define_value, define_label, mark, entry, claim, Script, done, does, within, does_all, follow}
+use Rattle.irtext_grammar.specs.Names.Script.{entry, Script, done, does, within, does_all, follow}
 use Rattle.irtext_grammar.specs.Names.Scopes.{Fact, uses, defines, Facts, nothing, ◌⊕◌, Scopes, and_then, ◌⊳◌, fact_of, inside, no_scope, outward, facts, act_failures, not_isolated, left_open, failures}
 use Rattle.irtext_grammar.specs.Spelling.Writable.{has_region}
 use Rattle.irtext_grammar.specs.Names.Acts.{section_acts, tree_script, root_script, failures_of, region_scripts, rule_of}
@@ -52,14 +52,9 @@ module _ {P : Type 0} where
   no_entries : (x : Script Text P) → Entryless x → (facts same_text x).entries ≡ []
   no_entries done n = refl
   no_entries (does (entry i p) k) n = absurd n
-  no_entries (does (use_value w u) k) n = no_entries k n
-  no_entries (does (use_label w u) k) n = no_entries k n
-  no_entries (does (define_value w p) k) n = no_entries k n
-  no_entries (does (define_label w p) k) n = no_entries k n
-  no_entries (does (mark i p) k) n = no_entries k n
-  no_entries (does (claim b x) k) n = no_entries k n
   no_entries (within true p body k) n = append_empty (facts same_text body).entries (facts same_text k).entries (no_entries body n.0) (no_entries k n.1)
   no_entries (within false p body k) n = append_empty (facts same_text body).entries (facts same_text k).entries (no_entries body n.0) (no_entries k n.1)
+  no_entries (does _ k) n = no_entries k n
 
 -- ---- nothing outside
 is_empty : {X : Type 0} (x : X) (xs : List X) → x ∷ xs ≡ [] → ⊥

@@ -36,13 +36,7 @@ module _ {T A X : Type 0} (view : Piece ℕ T A → List X) (word : (s : Text) �
   unseen (tree.attribute k (Some a)) e = attribute k a
   unseen (tree.dictionary es) e = dictionary es
   unseen (tree.header n) e = header n
-  unseen (tree.attribute k None) e = absurd (true≢false (sym e))
-  unseen (tree.operand i n) e = absurd (true≢false (sym e))
-  unseen (tree.operands ns) e = absurd (true≢false (sym e))
-  unseen (tree.successor i n) e = absurd (true≢false (sym e))
-  unseen (tree.successors ns) e = absurd (true≢false (sym e))
-  unseen (tree.result_type i x) e = absurd (true≢false (sym e))
-  unseen (tree.types xs) e = absurd (true≢false (sym e))
+  unseen _ e = absurd (true≢false (sym e))
 
   -- a view that sees none of the kinds that are read so far sees nothing
   nothing_seen : (ps : List (Part ℕ T A)) → list_all is_read ps ≡ true → views view ps ≡ []
