@@ -36,17 +36,8 @@ use Rattle.irtext_grammar.proofs.Graphs.Links.{all_there}
 -- ---- what is stored, places aside
 module _ {P T A : Type 0} where
   stored_bare : (x : Piece P T A) → stored (bare_piece x) ≡ stored x
-  stored_bare (tree.attribute k None) = refl
-  stored_bare (tree.attribute k (Some a)) = refl
   stored_bare (tree.dictionary es) = mapped_twice bare_entry plain_entry es
-  stored_bare (tree.word s) = refl
-  stored_bare (tree.operand i n) = refl
-  stored_bare (tree.operands ns) = refl
-  stored_bare (tree.successor i n) = refl
-  stored_bare (tree.successors ns) = refl
-  stored_bare (tree.result_type i x) = refl
-  stored_bare (tree.header n) = refl
-  stored_bare (tree.types xs) = refl
+  stored_bare _ = refl
 
   parts_stored : (ps : List (Part P T A)) → views stored (map bare_part ps) ≡ views stored ps
   parts_stored [] = refl

@@ -21,6 +21,7 @@ use Rattle.irtext_grammar.proofs.Names.Plainly.{unmarked, facts_plain}
 use Rattle.irtext_grammar.proofs.Names.Injective.{names_agree}
 use Rattle.irtext_grammar.proofs.Graphs.WrittenScript.{blocks_like}
 use Rattle.irtext_grammar.proofs.Graphs.Views.{names_back}
+use Rattle.irtext_grammar.proofs.Lists.Each.{each_drop, OfOption, each_at}
 
 -- ---- the numbers of a script are those of its graph
 uses_small : (p : Path) (k : ℕ) (vs : List ℕ) (g : Script Thing ⊤) → Each (λ v. v < 2 ^ 64) vs → AllScript Small g → AllScript Small (does_all (uses_of_values p k vs) g)
@@ -38,24 +39,6 @@ results_small p k (r ∷ rs) g e a = (e.0, results_small p (suc k) rs g e.1 a)
 arguments_small : {T : Type 0} (p : Path) (k : ℕ) (rs : List (ℕ × T)) (g : Script Thing ⊤) → Each (λ (r : ℕ × T). r.0 < 2 ^ 64) rs → AllScript Small g → AllScript Small (does_all (defined_arguments p k rs) g)
 arguments_small p k [] g e a = a
 arguments_small p k (r ∷ rs) g e a = (e.0, arguments_small p (suc k) rs g e.1 a)
-
--- what holds of each holds of each behind the first ones
-pub each_drop : {X : Type 0} (Q : X → Type 0) (n : ℕ) (xs : List X) → Each Q xs → Each Q (drop n xs)
-each_drop Q zero xs e = e
-each_drop Q (suc n) [] e = tt
-each_drop Q (suc n) (x ∷ xs) e = each_drop Q n xs e.1
-
--- it holds of what is there, if something is
-abbrev pub OfOption : {X : Type 0} → (X → Type 0) → Option X → Type 0
-OfOption Q None = ⊤
-OfOption Q (Some x) = Q x
-
--- what holds of each holds at a place
-pub each_at : {X : Type 0} (Q : X → Type 0) (xs : List X) (i : ℕ) → Each Q xs → OfOption Q (slice_get xs i)
-each_at Q [] zero e = tt
-each_at Q [] (suc i) e = tt
-each_at Q (x ∷ xs) zero e = e.0
-each_at Q (x ∷ xs) (suc i) e = each_at Q xs i e.1
 
 use_small : (p : Path) (i : ℕ) (x : Option ℕ) (g : Script Thing ⊤) → OfOption (λ v. v < 2 ^ 64) x → AllScript Small g → AllScript Small (does_all (use_if p i x) g)
 use_small p i None g e a = a

@@ -19,10 +19,10 @@ use Rattle.irtext_grammar.specs.Graphs.Same.{stood_op, stood_regions, stood_bloc
 use Rattle.irtext_grammar.specs.Graphs.StandsFor.{made, Distinct, StandsForOp, StandsForBlock, StandsFor}
 use Rattle.irtext_grammar.specs.Spelling.Writable.{has_region}
 use Rattle.irtext_grammar.proofs.Lists.Fresh.{distinct_fresh}
-use Rattle.irtext_grammar.proofs.Names.UsesMean.{meant, Means, each_both}
+use Rattle.irtext_grammar.proofs.Names.UsesMean.{meant, Means}
 use Rattle.irtext_grammar.proofs.Names.Definite.{Names, OnlyRegions, outer_clean}
 use Rattle.irtext_grammar.proofs.Graphs.FitsFormat.{and_left, and_right}
-use Rattle.irtext_grammar.proofs.Graphs.Match.{OfOption, each_at, each_drop}
+use Rattle.irtext_grammar.proofs.Lists.Each.{each_both, each_drop, OfOption, each_at}
 
 unequal : {X : Type 0} (x : X) (xs : List X) → x ∷ xs ≡ [] → ⊥
 unequal x xs e = cc

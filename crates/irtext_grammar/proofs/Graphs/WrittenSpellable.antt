@@ -22,6 +22,7 @@ use Rattle.irtext_grammar.proofs.Lists.SameText.{same_character}
 use Rattle.irtext_base.proofs.Numbers.{digit_in_word}
 use Rattle.irtext_grammar.proofs.Names.Injective.{digits_all}
 use Rattle.irtext_grammar.proofs.Graphs.FitsFormat.{meets, and_left, and_right, has_directives}
+use Rattle.irtext_grammar.proofs.Lists.Each.{each_filter, each_drop, OfOption, each_at}
 
 both : (a b : Bool) → a ≡ true → b ≡ true → (a && b) ≡ true
 both true b e f = f
@@ -54,30 +55,6 @@ block_word (Some x) b w h k = word_then x (codes "_" ++ (codes "block" ++ (decim
 each_map : {X Y : Type 0} (Q : X → Type 0) (R : Y → Type 0) (F : X → Y) → ((x : X) → Q x → R (F x)) → (xs : List X) → Each Q xs → Each R (map F xs)
 each_map Q R F h [] e = tt
 each_map Q R F h (x ∷ xs) e = (h x e.0, each_map Q R F h xs e.1)
-
--- what holds of each holds of those that pass a test
-pub each_filter : {X : Type 0} (Q : X → Type 0) (test : X → Bool) (xs : List X) → Each Q xs → Each Q (filter test xs)
-each_filter Q test [] e = tt
-each_filter Q test (x ∷ xs) e = go (test x) (each_filter Q test xs e.1)
-  where
-    go : (b : Bool) → Each Q (filter test xs) → Each Q (cond b (x ∷ filter test xs) (filter test xs))
-    go true k = (e.0, k)
-    go false k = k
-
-each_drop : {X : Type 0} (Q : X → Type 0) (n : ℕ) (xs : List X) → Each Q xs → Each Q (drop n xs)
-each_drop Q zero xs e = e
-each_drop Q (suc n) [] e = tt
-each_drop Q (suc n) (x ∷ xs) e = each_drop Q n xs e.1
-
-abbrev OfOption : {X : Type 0} → (X → Type 0) → Option X → Type 0
-OfOption Q None = ⊤
-OfOption Q (Some x) = Q x
-
-each_at : {X : Type 0} (Q : X → Type 0) (xs : List X) (i : ℕ) → Each Q xs → OfOption Q (slice_get xs i)
-each_at Q [] zero e = tt
-each_at Q [] (suc i) e = tt
-each_at Q (x ∷ xs) zero e = e.0
-each_at Q (x ∷ xs) (suc i) e = each_at Q xs i e.1
 
 looked_fine : {A : Type 0} (key : Text) (es : List (Text × Attribute A)) → Each EntryHasIdentifiers es → OfOption IsSpellableAttribute (lookup key es)
 looked_fine key [] e = tt

@@ -9,7 +9,7 @@ use Rattle.irtext_grammar.specs.Names.Script.{Path, block_at, Act, use_value, us
 use Rattle.irtext_grammar.specs.Names.Acts.{value_uses, label_uses, result_definitions, argument_definitions, mark_acts, key_act, piece_acts, closing_acts, header_acts, entries_if, Rule, may_hold, block_may_hold, marked_as}
 use Rattle.irtext_grammar.specs.Names.Resolves.{texts, KeysKept, CountsAgree, HeadKeysKept}
 use Rattle.irtext_grammar.proofs.Names.ResolvedSection.{flat_both}
-use Rattle.irtext_grammar.proofs.Names.ResolvedScript.{each_both, each_left}
+use Rattle.irtext_grammar.proofs.Lists.Each.{each_both, each_left}
 
 -- the values that a piece names, and the blocks
 abbrev pub values_in : {P T A : Type 0} → Piece P T A → List (Name P)

@@ -14,13 +14,14 @@ use Rattle.irtext_grammar.specs.Names.Resolves.{texts, all_in_regions, all_in_bl
 use Rattle.irtext_grammar.proofs.Names.Plainly.{both_empty, append_empty}
 use Rattle.irtext_grammar.proofs.Names.Following.{operation_follow, regions_follow}
 use Rattle.irtext_grammar.proofs.Lists.Fresh.{fresh_distinct, distinct_fresh}
-use Rattle.irtext_grammar.proofs.Names.ResolvedScript.{defined, used, Entryless, Good, good_of, of_good, each_right}
+use Rattle.irtext_grammar.proofs.Names.ResolvedScript.{defined, used, Entryless, Good, good_of, of_good}
 use Rattle.irtext_grammar.proofs.Names.ResolvedSection.{section_resolves, resolves_section, same_number_symmetric}
 use Rattle.irtext_grammar.proofs.Names.InScripts.{WholeOperations}
 use Rattle.irtext_grammar.proofs.Names.TreeLists as lists
 use Rattle.irtext_grammar.proofs.Names.TreeUses as uses
 use Rattle.irtext_grammar.proofs.Names.TreeScopes.{root_scopes}
 use Rattle.irtext_grammar.proofs.Names.TreeClaims.{root_claims, root_entryless, root_outer}
+use Rattle.irtext_grammar.proofs.Lists.Each.{each_right}
 
 -- ---- one script and then another
 and_then_both : (o : Option (List (Fact Text))) (fs gs : List (Fact Text)) → and_then (and_then o fs) gs ≡ and_then o (fs ++ gs)

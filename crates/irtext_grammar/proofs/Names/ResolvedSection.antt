@@ -14,7 +14,8 @@ use Rattle.irtext_grammar.specs.Names.Acts.{item_acts, entry_acts, reference_act
 use Rattle.irtext_grammar.specs.Names.Resolves.{items, indices, is_known, is_kept, SectionResolves, EntryKept}
 use Rattle.irtext_grammar.proofs.Names.Plainly.{both_empty, append_empty}
 use Rattle.irtext_grammar.proofs.Lists.Fresh.{Fresh, fresh_distinct, distinct_fresh, both, is_not, not_is}
-use Rattle.irtext_grammar.proofs.Names.ResolvedScript.{among_has, each_both, each_left, each_right, if_nothing, nothing_if}
+use Rattle.irtext_grammar.proofs.Names.ResolvedScript.{among_has, if_nothing, nothing_if}
+use Rattle.irtext_grammar.proofs.Lists.Each.{each_both, each_left, each_right}
 
 -- the test of numbers goes both ways
 pub same_number_symmetric : (m n : ℕ) → (m == n) ≡ (n == m)

@@ -11,10 +11,11 @@ use Rattle.irtext_grammar.specs.Names.Script.{Path, Act, entry, claim, Script, d
 use Rattle.irtext_grammar.specs.Names.Acts.{piece_acts, closing_acts, header_acts, blocks_script, tree_script, may_hold}
 use Rattle.irtext_grammar.specs.Names.Resolves.{KeysKept, CountsAgree, OpKeysKept, HeadKeysKept}
 use Rattle.irtext_grammar.specs.Spelling.Writable.{has_region}
-use Rattle.irtext_grammar.proofs.Names.ResolvedScript.{Claims, Entryless, OuterIsolated, each_both, each_left, each_right}
+use Rattle.irtext_grammar.proofs.Names.ResolvedScript.{Claims, Entryless, OuterIsolated}
 use Rattle.irtext_grammar.proofs.Names.ActsOfTrees.{entries_in, Holds, NoEntry, piece_holds, holds_piece, piece_no_entry, closing_holds, closing_no_entry, header_holds, holds_header, header_no_entry}
 use Rattle.irtext_grammar.proofs.Names.InScripts as scripts
 use Rattle.irtext_grammar.proofs.Names.InScripts.{Both, both_then, WholeRegions, WholeBlocks, WholeOperations}
+use Rattle.irtext_grammar.proofs.Lists.Each.{each_both, each_left, each_right}
 
 -- ---- acts
 claims_acts : {P : Type 0} (acts : List (Act Text P)) (k : Script Text P) → Both (Claims (does_all acts k)) (Each Holds acts × Claims k)

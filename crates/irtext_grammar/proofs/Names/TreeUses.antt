@@ -11,11 +11,12 @@ use Rattle.irtext_grammar.specs.Names.Script.{Path, Act, use_value, Script, done
 use Rattle.irtext_grammar.specs.Names.Scopes.{facts}
 use Rattle.irtext_grammar.specs.Names.Acts.{piece_acts, closing_acts, header_acts, blocks_script, tree_script, marked_as}
 use Rattle.irtext_grammar.specs.Names.Resolves.{texts, all_in_regions, all_in_blocks, all_in_operations, shared, kept_inside, used_values, used_labels}
-use Rattle.irtext_grammar.proofs.Names.ResolvedScript.{used, each_both, each_left, each_right}
+use Rattle.irtext_grammar.proofs.Names.ResolvedScript.{used}
 use Rattle.irtext_grammar.proofs.Names.ActsOfTrees.{act_of, values_in, labels_in, piece_gives, closing_gives, header_gives}
 use Rattle.irtext_grammar.proofs.Names.InScripts as scripts
 use Rattle.irtext_grammar.proofs.Names.InScripts.{Both, both_then, WholeRegions, WholeBlocks, WholeOperations}
 use Rattle.irtext_grammar.proofs.Names.TreeLists.{flat_one, flat_none, used_both, none, one, acts_add}
+use Rattle.irtext_grammar.proofs.Lists.Each.{each_both, each_left, each_right}
 
 texts_both : {P : Type 0} (ms ns : List (Name P)) → texts (ms ++ ns) ≡ texts ms ++ texts ns
 texts_both [] ns = refl
