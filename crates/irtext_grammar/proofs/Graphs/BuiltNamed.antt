@@ -358,23 +358,22 @@ module _ {P T A : Type 0} where
   abbrev more_successors : List (Part P T A) → List (Name P)
   more_successors = views (λ p. elim p [ tree.successors ns ↦ ns | _ ↦ [] ])
 
+  -- where a view of pieces is empty, two others are that are empty at each piece at which it is
+  none_seen : {X Y Z : Type 0} (view : Piece P T A → List X) (single : Piece P T A → List Y) (more : Piece P T A → List Z) → ((x : Piece P T A) → view x ≡ [] → (single x ≡ []) × (more x ≡ []))
+      → (ps : List (Part P T A)) → views view ps ≡ [] → (views single ps ≡ []) × (views more ps ≡ [])
+  none_seen view single more h [] e = (refl, refl)
+  none_seen view single more h (tree.piece x ∷ ps) e =
+      let b = both_empty (view x) (views view ps) e in
+      let f = h x b.0 in
+      let r = none_seen view single more h ps b.1 in
+      (ap₂ ◌++◌ f.0 r.0, ap₂ ◌++◌ f.1 r.1)
+  none_seen view single more h (_ ∷ ps) e = none_seen view single more h ps e
+
   none_used : (ps : List (Part P T A)) → views (λ p. elim p [ tree.operand i n ↦ n ∷ [] | tree.operands ns ↦ ns | _ ↦ [] ]) ps ≡ [] → (single_operands ps ≡ []) × (more_operands ps ≡ [])
-  none_used [] e = (refl, refl)
-  none_used (tree.piece (tree.operand i n) ∷ ps) e = absurd (unequal n _ e)
-  none_used (tree.piece (tree.operands ns) ∷ ps) e =
-      let b = both_empty ns _ e in
-      let r = none_used ps b.1 in
-      (r.0, ap₂ ◌++◌ b.0 r.1)
-  none_used (_ ∷ ps) e = none_used ps e
+  none_used = none_seen _ _ _ (elim [ tree.operand i n ↦ λ e. absurd (unequal n _ e) | tree.operands ns ↦ λ e. (refl, e) | _ ↦ λ e. (refl, refl) ])
 
   none_branched : (ps : List (Part P T A)) → views (λ p. elim p [ tree.successor i n ↦ n ∷ [] | tree.successors ns ↦ ns | _ ↦ [] ]) ps ≡ [] → (single_successors ps ≡ []) × (more_successors ps ≡ [])
-  none_branched [] e = (refl, refl)
-  none_branched (tree.piece (tree.successor i n) ∷ ps) e = absurd (unequal n _ e)
-  none_branched (tree.piece (tree.successors ns) ∷ ps) e =
-      let b = both_empty ns _ e in
-      let r = none_branched ps b.1 in
-      (r.0, ap₂ ◌++◌ b.0 r.1)
-  none_branched (_ ∷ ps) e = none_branched ps e
+  none_branched = none_seen _ _ _ (elim [ tree.successor i n ↦ λ e. absurd (unequal n _ e) | tree.successors ns ↦ λ e. (refl, e) | _ ↦ λ e. (refl, refl) ])
 
   no_operand_names : (o : Op P T A) → views (λ p. elim p [ tree.operand i n ↦ n ∷ [] | tree.operands ns ↦ ns | _ ↦ [] ]) (parts_of o.body) ≡ [] → operand_names o ≡ []
   no_operand_names o e = let q = none_used (parts_of o.body) e in ap₂ (λ (a : List (ℕ × Name P)) (b : List (Name P)). in_order a ++ b) q.0 q.1

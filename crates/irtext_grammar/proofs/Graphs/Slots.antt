@@ -155,25 +155,20 @@ module _ (v l : List (Fact Text)) where
       apart (tree.region i ∷ ps) = apart ps
       apart (tree.regions ∷ ps) = apart ps
 
-    singles_chosen : (ps : List (Part P T A)) → singles ps ≡ length (chosen single_operand ps)
-    singles_chosen [] = refl
-    singles_chosen (tree.piece x ∷ ps) = go x (singles_chosen ps)
+    -- as many names are seen as are chosen
+    seen_chosen : {Y : Type 0} (view : Piece P T A → List (Name P)) (sel : Piece P T A → Option Y) (f : Y → Name P) → ((x : Piece P T A) → view x ≡ spread_if (λ e. f e ∷ []) (sel x)) → (ps : List (Part P T A))
+        → length (views view ps) ≡ length (chosen sel ps)
+    seen_chosen view sel f h ps = ap length (views_chosen view sel (λ e. f e ∷ []) h ps) ∙ each_one (chosen sel ps)
       where
-        go : (x : Piece P T A) → singles ps ≡ length (chosen single_operand ps) → singles (tree.piece x ∷ ps) ≡ length (chosen single_operand (tree.piece x ∷ ps))
-        go (tree.operand i n) e = ap suc e
-        go _ e = e
-    singles_chosen (tree.region i ∷ ps) = singles_chosen ps
-    singles_chosen (tree.regions ∷ ps) = singles_chosen ps
+        each_one : (es : List _) → length (flat_map (λ e. f e ∷ []) es) ≡ length es
+        each_one [] = refl
+        each_one (e ∷ es) = ap suc (each_one es)
+
+    singles_chosen : (ps : List (Part P T A)) → singles ps ≡ length (chosen single_operand ps)
+    singles_chosen = seen_chosen _ single_operand (λ e. e.1) (elim [ tree.operand i n ↦ refl | _ ↦ refl ])
 
     labels_chosen : (ps : List (Part P T A)) → single_labels ps ≡ length (chosen single_successor ps)
-    labels_chosen [] = refl
-    labels_chosen (tree.piece x ∷ ps) = go x (labels_chosen ps)
-      where
-        go : (x : Piece P T A) → single_labels ps ≡ length (chosen single_successor ps) → single_labels (tree.piece x ∷ ps) ≡ length (chosen single_successor (tree.piece x ∷ ps))
-        go (tree.successor i n) e = ap suc e
-        go _ e = e
-    labels_chosen (tree.region i ∷ ps) = labels_chosen ps
-    labels_chosen (tree.regions ∷ ps) = labels_chosen ps
+    labels_chosen = seen_chosen _ single_successor (λ e. e.1) (elim [ tree.successor i n ↦ refl | _ ↦ refl ])
 
     own_operands : (x : Piece P T A) → elim x [ tree.operand i n ↦ (i, n) ∷ [] | _ ↦ [] ] ≡ spread_if (λ e. e ∷ []) (single_operand x)
     own_operands (tree.operand i n) = refl

@@ -145,33 +145,28 @@ module _ {T A : Type 0} (C : Printing T A) where
       many : (n : ℕ) → nat_lt (suc (suc n)) 2 ≡ true → ⊥
       many n e = grind (arith, nat_tests)
 
-  module _ (isolated : Id → Bool) (ds : List Directive) (o : GraphOp T A) (n : ℕ) (m : Meets ds) (f : FitsCustom C isolated ds o n) where
-    at_most : (K lists : ℕ) (k : ℕ) (b : Bool) → cond b (k == K) (not (nat_lt k K)) ≡ true → K ≤ k
-    at_most K lists k b e = no_less K lists k b e
+  -- items at the places of single directives, and the rest of them where there is a list directive, are all in order
+  singles_and_list : {X Y : Type 0} (F : X → Y) (xs : List X) (places : List ℕ) (lists : ℕ) (es : List (ℕ × Y)) (ls : List Y) → are_places places ≡ true → nat_lt lists 2 ≡ true
+      → cond (lists == 0) (length xs == length places) (not (nat_lt (length xs) (length places))) ≡ true → (firsts es ≡ places) × AllFrom (map F xs) es → ls ≡ times lists (map F (drop (length places) xs)) → in_order es ++ ls ≡ map F xs
+  singles_and_list F xs places lists es ls p few e s l =
+      let k : length es ≡ length places = sym (firsts_length es) ∙ ap length s.0 in
+      let low = no_less (length places) 0 (length xs) (lists == 0) e in
+      let q = length_mapped F xs in
+      ap₂ ◌++◌ (in_order_front (map F xs) es (subst (λ z. are_places z ≡ true) (sym s.0) p) s.1 (omega arith) ∙ ap (λ z. take z (map F xs)) k) l
+      ∙ front_and_rest F (length places) lists xs few e
 
+  module _ (isolated : Id → Bool) (ds : List Directive) (o : GraphOp T A) (n : ℕ) (m : Meets ds) (f : FitsCustom C isolated ds o n) where
     -- the operands that are written are the operation's, in order
     pub operands_back : in_order (views (λ p. elim p [ tree.operand i n ↦ (i, n) ∷ [] | _ ↦ [] ]) (filter_map (part_of C ds o) ds)) ++ views (λ p. elim p [ tree.operands ns ↦ ns | _ ↦ [] ]) (filter_map (part_of C ds o) ds) ≡ map (value C) o.operands
     operands_back =
-        let es = views (λ p. elim p [ tree.operand i n ↦ (i, n) ∷ [] | _ ↦ [] ]) (filter_map (part_of C ds o) ds) in
-        let s = operand_singles ds o ds (asked C ds o ds (custom_asks C isolated ds o n m f)) in
-        let places = and_left (are_places (operand_places ds)) (nat_lt (count is_operands ds) 2) m.second in
-        let k : length es ≡ length (operand_places ds) = sym (firsts_length es) ∙ ap length s.0 in
-        let low = at_most (length (operand_places ds)) 0 (length o.operands) (count is_operands ds == 0) f.operands in
-        let l = length_mapped (value C) o.operands in
-        ap₂ ◌++◌ (in_order_front (map (value C) o.operands) es (subst (λ z. are_places z ≡ true) (sym s.0) places) s.1 (omega arith) ∙ ap (λ z. take z (map (value C) o.operands)) k) (operand_lists ds o ds)
-        ∙ front_and_rest (value C) (length (operand_places ds)) (count is_operands ds) o.operands (and_right (are_places (operand_places ds)) (nat_lt (count is_operands ds) 2) m.second) f.operands
+        singles_and_list (value C) o.operands (operand_places ds) (count is_operands ds) _ _ (and_left (are_places (operand_places ds)) (nat_lt (count is_operands ds) 2) m.second) (and_right (are_places (operand_places ds)) (nat_lt (count is_operands ds) 2) m.second)
+        f.operands (operand_singles ds o ds (asked C ds o ds (custom_asks C isolated ds o n m f))) (operand_lists ds o ds)
 
     -- the successors that are written are the operation's, in order
     pub successors_back : in_order (views (λ p. elim p [ tree.successor i n ↦ (i, n) ∷ [] | _ ↦ [] ]) (filter_map (part_of C ds o) ds)) ++ views (λ p. elim p [ tree.successors ns ↦ ns | _ ↦ [] ]) (filter_map (part_of C ds o) ds) ≡ map (target C) o.successors
     successors_back =
-        let es = views (λ p. elim p [ tree.successor i n ↦ (i, n) ∷ [] | _ ↦ [] ]) (filter_map (part_of C ds o) ds) in
-        let s = successor_singles ds o ds (asked C ds o ds (custom_asks C isolated ds o n m f)) in
-        let places = and_left (are_places (successor_places ds)) (nat_lt (count is_successors ds) 2) m.third in
-        let k : length es ≡ length (successor_places ds) = sym (firsts_length es) ∙ ap length s.0 in
-        let low = at_most (length (successor_places ds)) 0 (length o.successors) (count is_successors ds == 0) f.successors in
-        let l = length_mapped (target C) o.successors in
-        ap₂ ◌++◌ (in_order_front (map (target C) o.successors) es (subst (λ z. are_places z ≡ true) (sym s.0) places) s.1 (omega arith) ∙ ap (λ z. take z (map (target C) o.successors)) k) (successor_lists ds o ds)
-        ∙ front_and_rest (target C) (length (successor_places ds)) (count is_successors ds) o.successors (and_right (are_places (successor_places ds)) (nat_lt (count is_successors ds) 2) m.third) f.successors
+        singles_and_list (target C) o.successors (successor_places ds) (count is_successors ds) _ _ (and_left (are_places (successor_places ds)) (nat_lt (count is_successors ds) 2) m.third) (and_right (are_places (successor_places ds)) (nat_lt (count is_successors ds) 2) m.third)
+        f.successors (successor_singles ds o ds (asked C ds o ds (custom_asks C isolated ds o n m f))) (successor_lists ds o ds)
 
     -- the result types that are written are the operation's, in order
     pub results_back : in_order (views (λ p. elim p [ tree.result_type i x ↦ (i, x) ∷ [] | _ ↦ [] ]) (filter_map (part_of C ds o) ds)) ≡ map (λ (r : ℕ × T). r.1) o.results

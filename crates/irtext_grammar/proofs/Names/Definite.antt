@@ -110,6 +110,17 @@ module _ {N : Type 0} (eq : N → N → Bool) (symmetric : (x y : N) → eq x y 
     known_resolved a v (uses n u ∷ fs) h = append_empty (cond (is_some (lookup eq n v)) [] (fail (UnresolvedReference n) a)) (unresolved eq a v fs) (ap (λ b. cond b [] (fail (UnresolvedReference n) a)) h.0) (known_resolved a v fs h.1)
     known_resolved a v (defines n p ∷ fs) h = known_resolved a v fs h.1
 
+    -- an isolated region is clean where its script is, since it knows all that it uses
+    region_clean : (s : Scopes N) (p : P) (body k : Script N P) → Names body → Each (Means eq) (meant eq (facts eq body).values (facts eq body).labels body) → failures eq (inside true s) body ≡ [] → failures eq (s ⊳ outward eq true (facts eq body)) k ≡ []
+        → failures eq s (within true p body k) ≡ []
+    region_clean s p body k h m first rest =
+        let F = facts eq body in
+        let q = known F.values F.labels body h m in
+        append_empty (failures eq (inside true s) body ++ left_open eq p true F) (failures eq (s ⊳ outward eq true F) k)
+        (append_empty (failures eq (inside true s) body) (left_open eq p true F) first
+        (append_empty (unresolved eq p F.values F.values) (unresolved eq p F.labels F.labels) (known_resolved p F.values F.values q.0) (known_resolved p F.labels F.labels q.1)))
+        rest
+
     -- in open scopes
     clean : (ns : List N) (a b : List (Fact N)) (ms es : List ℕ) (v l : List (Fact N)) (x : Script N P) → Names x → Each (Means eq) (meant eq v l x) → Covers ns a → Covers ns b → Fresh eq ns (made x) → failures eq (at a b ms es) x ≡ []
     clean ns a b ms es v l done h m ca cb f = refl
@@ -127,13 +138,9 @@ module _ {N : Type 0} (eq : N → N → Bool) (symmetric : (x y : N) → eq x y 
     clean ns a b ms es v l (does (entry i p) k) h m ca cb f = absurd h.0
     clean ns a b ms es v l (does (claim c x) k) h m ca cb f = absurd h.0
     clean ns a b ms es v l (within true p body k) h m ca cb f =
-        let s = at a b ms es in
         let F = facts eq body in
         let inner = each_left (Means eq) (meant eq F.values F.labels body) (meant eq v l k) m in
-        let q = known F.values F.labels body h.0 inner in
-        append_empty (failures eq (inside true s) body ++ left_open eq p true F) (failures eq (s ⊳ outward eq true F) k)
-        (append_empty (failures eq (inside true s) body) (left_open eq p true F) (clean ns [] [] ms es F.values F.labels body h.0 inner (λ n e. refl) (λ n e. refl) (fresh_left eq ns (made body) (made k) f))
-        (append_empty (unresolved eq p F.values F.values) (unresolved eq p F.labels F.labels) (known_resolved p F.values F.values q.0) (known_resolved p F.labels F.labels q.1)))
+        region_clean (at a b ms es) p body k h.0 inner (clean ns [] [] ms es F.values F.labels body h.0 inner (λ n e. refl) (λ n e. refl) (fresh_left eq ns (made body) (made k) f))
         (clean (ns ++ made body) (a ++ []) (b ++ []) (ms ++ F.marks) (es ++ F.entries) v l k h.1 (each_right (Means eq) (meant eq F.values F.labels body) (meant eq v l k) m)
         (covers_more ns (made body) a ca) (covers_more ns (made body) b cb) (fresh_right eq ns (made body) (made k) f))
     clean ns a b ms es v l (within false p body k) h m ca cb f =
@@ -153,11 +160,8 @@ module _ {N : Type 0} (eq : N → N → Bool) (symmetric : (x y : N) → eq x y 
     outer_clean ns ms es v l (does a k) o h m f = absurd o
     outer_clean ns ms es v l (within false p body k) o h m f = absurd (true≢false (sym o.0))
     outer_clean ns ms es v l (within true p body k) o h m f =
-        let s : Scopes N = record { values = None; labels = None; marks = ms; entries = es } in
         let F = facts eq body in
         let inner = each_left (Means eq) (meant eq F.values F.labels body) (meant eq v l k) m in
-        let q = known F.values F.labels body h.0 inner in
-        append_empty (failures eq (inside true s) body ++ left_open eq p true F) (failures eq (s ⊳ outward eq true F) k)
-        (append_empty (failures eq (inside true s) body) (left_open eq p true F) (clean ns [] [] ms es F.values F.labels body h.0 inner (λ n e. refl) (λ n e. refl) (fresh_left eq ns (made body) (made k) f))
-        (append_empty (unresolved eq p F.values F.values) (unresolved eq p F.labels F.labels) (known_resolved p F.values F.values q.0) (known_resolved p F.labels F.labels q.1)))
+        region_clean (record { values = None; labels = None; marks = ms; entries = es }) p body k h.0 inner
+        (clean ns [] [] ms es F.values F.labels body h.0 inner (λ n e. refl) (λ n e. refl) (fresh_left eq ns (made body) (made k) f))
         (outer_clean (ns ++ made body) (ms ++ F.marks) (es ++ F.entries) v l k o.1 h.1 (each_right (Means eq) (meant eq F.values F.labels body) (meant eq v l k) m) (fresh_right eq ns (made body) (made k) f))
