@@ -57,79 +57,70 @@ module _ {T A : Type 0} where
   skip_header view h (Some (own x)) qs = refl
 
 module _ {T A : Type 0} (C : Printing T A) where
-  -- operand
-  operand_singles : (ds : List Directive) (o : GraphOp T A) (rest : List Directive) → Fits C ds o rest
-      → (firsts (views (λ p. elim p [ tree.operand i n ↦ (i, n) ∷ [] | _ ↦ [] ]) (filter_map (part_of C ds o) rest)) ≡ operand_places rest) × AllFrom (map (value C) o.operands) (views (λ p. elim p [ tree.operand i n ↦ (i, n) ∷ [] | _ ↦ [] ]) (filter_map (part_of C ds o) rest))
-  operand_singles ds o [] f = (refl, tt)
-  operand_singles ds o (format.operand i ∷ rest) f = go (slice_get o.operands i) refl f.0 (operand_singles ds o rest f.1)
+  -- a view sees nothing of what stands where a directive stands
+  abbrev Blind : {X : Type 0} → (Piece ⊤ T A → List X) → Directive → Type 0
+  Blind view (format.word s) = (x : ⊤) → view (tree.word s) ≡ []
+  Blind view (format.operand i) = (n : Name ⊤) → view (tree.operand i n) ≡ []
+  Blind view format.operands = (ns : List (Name ⊤)) → view (tree.operands ns) ≡ []
+  Blind view (format.successor i) = (n : Name ⊤) → view (tree.successor i n) ≡ []
+  Blind view format.successors = (ns : List (Name ⊤)) → view (tree.successors ns) ≡ []
+  Blind view (format.attribute k) = (a : Option (Attribute A)) → view (tree.attribute k a) ≡ []
+  Blind view format.dictionary = (es : List (Name ⊤ × Attribute A)) → view (tree.dictionary es) ≡ []
+  Blind view (format.result_type i) = (x : T) → view (tree.result_type i x) ≡ []
+  Blind view format.header = (n : Name ⊤) → view (tree.header n) ≡ []
+  Blind view _ = (x : ⊤) → x ≡ x
+
+  -- such a directive's part adds nothing to the view
+  unseen : {X : Type 0} (view : Piece ⊤ T A → List X) (ds : List Directive) (o : GraphOp T A) (d : Directive) → Blind view d → (qs : List (Part ⊤ T A)) → views view (cons_option (part_of C ds o d) qs) ≡ views view qs
+  unseen view ds o (format.word s) b qs = ap (λ z. z ++ views view qs) (b tt)
+  unseen view ds o (format.operand i) b qs = skip view (λ v. tree.operand i (value C v)) (λ v. b (value C v)) (slice_get o.operands i) qs
+  unseen view ds o format.operands b qs = ap (λ z. z ++ views view qs) (b _)
+  unseen view ds o (format.successor i) b qs = skip view (λ c. tree.successor i (target C c)) (λ c. b (target C c)) (slice_get o.successors i) qs
+  unseen view ds o format.successors b qs = ap (λ z. z ++ views view qs) (b _)
+  unseen view ds o (format.attribute k) b qs = skip view (λ a. tree.attribute k (cond (outlined C a) None (Some a))) (λ a. b (cond (outlined C a) None (Some a))) (lookup k o.attributes) qs
+  unseen view ds o format.dictionary b qs = ap (λ z. z ++ views view qs) (b _)
+  unseen view ds o (format.result_type i) b qs = skip view (λ r. tree.result_type i r.1) (λ r. b r.1) (slice_get o.results i) qs
+  unseen view ds o format.header b qs = skip_header view b (lookup sym_name_key o.attributes) qs
+  unseen view ds o _ b qs = refl
+
+  -- an item that a directive places, in front of those that other directives place
+  placed : {X Y : Type 0} (F : X → Y) (G : Y → Piece ⊤ T A) (view : Piece ⊤ T A → List (ℕ × Y)) (xs : List X) (i : ℕ) → ((x : X) → view (G (F x)) ≡ (i, F x) ∷ []) → (ks : List ℕ) (qs : List (Part ⊤ T A))
+      → (let r : Option (Part ⊤ T A) = option_map (λ x. tree.piece (G (F x))) (slice_get xs i) in is_some r) ≡ true → (firsts (views view qs) ≡ ks) × AllFrom (map F xs) (views view qs)
+      → (let all = views view (cons_option (option_map (λ x. tree.piece (G (F x))) (slice_get xs i)) qs) in (firsts all ≡ i ∷ ks) × AllFrom (map F xs) all)
+  placed F G view xs i sees ks qs s h = go (slice_get xs i) refl s
     where
-      go : (x : Option ℕ) → slice_get o.operands i ≡ x → (let r : Option (Part ⊤ T A) = option_map (λ v. tree.piece (tree.operand i (value C v))) x in is_some r) ≡ true
-          → (firsts (views (λ p. elim p [ tree.operand i n ↦ (i, n) ∷ [] | _ ↦ [] ]) (filter_map (part_of C ds o) rest)) ≡ operand_places rest) × AllFrom (map (value C) o.operands) (views (λ p. elim p [ tree.operand i n ↦ (i, n) ∷ [] | _ ↦ [] ]) (filter_map (part_of C ds o) rest))
-          → (firsts (views (λ p. elim p [ tree.operand i n ↦ (i, n) ∷ [] | _ ↦ [] ]) (cons_option (option_map (λ v. tree.piece (tree.operand i (value C v))) x) (filter_map (part_of C ds o) rest))) ≡ operand_places (format.operand i ∷ rest))
-          × AllFrom (map (value C) o.operands) (views (λ p. elim p [ tree.operand i n ↦ (i, n) ∷ [] | _ ↦ [] ]) (cons_option (option_map (λ v. tree.piece (tree.operand i (value C v))) x) (filter_map (part_of C ds o) rest)))
-      go None e s h = absurd (true≢false (sym s))
-      go (Some v) e s h = (ap (λ z. i ∷ z) h.0, (got_map (value C) o.operands i v e, h.1))
-  operand_singles ds o (format.successor i ∷ rest) f = subst (λ es. (firsts es ≡ operand_places rest) × AllFrom (map (value C) o.operands) es) (sym (skip (λ p. elim p [ tree.operand i n ↦ (i, n) ∷ [] | _ ↦ [] ]) (λ b. tree.successor i (target C b)) (λ x. refl) (slice_get o.successors i) (filter_map (part_of C ds o) rest))) (operand_singles ds o rest f.1)
-  operand_singles ds o (format.attribute key ∷ rest) f = subst (λ es. (firsts es ≡ operand_places rest) × AllFrom (map (value C) o.operands) es) (sym (skip (λ p. elim p [ tree.operand i n ↦ (i, n) ∷ [] | _ ↦ [] ]) (λ a. tree.attribute key (cond (outlined C a) None (Some a))) (λ x. refl) (lookup key o.attributes) (filter_map (part_of C ds o) rest))) (operand_singles ds o rest f.1)
-  operand_singles ds o (format.result_type i ∷ rest) f = subst (λ es. (firsts es ≡ operand_places rest) × AllFrom (map (value C) o.operands) es) (sym (skip (λ p. elim p [ tree.operand i n ↦ (i, n) ∷ [] | _ ↦ [] ]) (λ r. tree.result_type i r.1) (λ x. refl) (slice_get o.results i) (filter_map (part_of C ds o) rest))) (operand_singles ds o rest f.1)
-  operand_singles ds o (format.header ∷ rest) f = subst (λ es. (firsts es ≡ operand_places rest) × AllFrom (map (value C) o.operands) es) (sym (skip_header (λ p. elim p [ tree.operand i n ↦ (i, n) ∷ [] | _ ↦ [] ]) (λ n. refl) (lookup sym_name_key o.attributes) (filter_map (part_of C ds o) rest))) (operand_singles ds o rest f.1)
-  operand_singles ds o (_ ∷ rest) f = operand_singles ds o rest f.1
+      go : (x : Option _) → slice_get xs i ≡ x → (let r : Option (Part ⊤ T A) = option_map (λ x. tree.piece (G (F x))) x in is_some r) ≡ true
+          → (let all = views view (cons_option (option_map (λ x. tree.piece (G (F x))) x) qs) in (firsts all ≡ i ∷ ks) × AllFrom (map F xs) all)
+      go None e s = absurd (true≢false (sym s))
+      go (Some x) e s = subst (λ es. (firsts (es ++ views view qs) ≡ i ∷ ks) × AllFrom (map F xs) (es ++ views view qs)) (sym (sees x)) (ap (λ z. i ∷ z) h.0, (got_map F xs i x e, h.1))
+
+  operand_singles : (ds : List Directive) (o : GraphOp T A) (rest : List Directive) → Fits C ds o rest
+      → (let es : List (ℕ × Name ⊤) = views (λ p. elim p [ tree.operand i n ↦ (i, n) ∷ [] | _ ↦ [] ]) (filter_map (part_of C ds o) rest) in (firsts es ≡ operand_places rest) × AllFrom (map (value C) o.operands) es)
+  operand_singles ds o [] f = (refl, tt)
+  operand_singles ds o (format.operand i ∷ rest) f = placed (value C) (tree.operand i) (λ p. elim p [ tree.operand i n ↦ (i, n) ∷ [] | _ ↦ [] ]) o.operands i (λ x. refl) (operand_places rest) (filter_map (part_of C ds o) rest) f.0 (operand_singles ds o rest f.1)
+  operand_singles ds o (d ∷ rest) f = subst (λ es. (firsts es ≡ operand_places rest) × AllFrom (map (value C) o.operands) es) (sym (unseen (λ p. elim p [ tree.operand i n ↦ (i, n) ∷ [] | _ ↦ [] ]) ds o d (λ x. refl) (filter_map (part_of C ds o) rest))) (operand_singles ds o rest f.1)
+
+  result_singles : (ds : List Directive) (o : GraphOp T A) (rest : List Directive) → Fits C ds o rest
+      → (let es : List (ℕ × T) = views (λ p. elim p [ tree.result_type i x ↦ (i, x) ∷ [] | _ ↦ [] ]) (filter_map (part_of C ds o) rest) in (firsts es ≡ type_places rest) × AllFrom (map (λ (r : ℕ × T). r.1) o.results) es)
+  result_singles ds o [] f = (refl, tt)
+  result_singles ds o (format.result_type i ∷ rest) f = placed (λ (r : ℕ × T). r.1) (tree.result_type i) (λ p. elim p [ tree.result_type i x ↦ (i, x) ∷ [] | _ ↦ [] ]) o.results i (λ x. refl) (type_places rest) (filter_map (part_of C ds o) rest) f.0 (result_singles ds o rest f.1)
+  result_singles ds o (d ∷ rest) f = subst (λ es. (firsts es ≡ type_places rest) × AllFrom (map (λ (r : ℕ × T). r.1) o.results) es) (sym (unseen (λ p. elim p [ tree.result_type i x ↦ (i, x) ∷ [] | _ ↦ [] ]) ds o d (λ x. refl) (filter_map (part_of C ds o) rest))) (result_singles ds o rest f.1)
+
+  successor_singles : (ds : List Directive) (o : GraphOp T A) (rest : List Directive) → Fits C ds o rest
+      → (let es : List (ℕ × Name ⊤) = views (λ p. elim p [ tree.successor i n ↦ (i, n) ∷ [] | _ ↦ [] ]) (filter_map (part_of C ds o) rest) in (firsts es ≡ successor_places rest) × AllFrom (map (target C) o.successors) es)
+  successor_singles ds o [] f = (refl, tt)
+  successor_singles ds o (format.successor i ∷ rest) f = placed (target C) (tree.successor i) (λ p. elim p [ tree.successor i n ↦ (i, n) ∷ [] | _ ↦ [] ]) o.successors i (λ x. refl) (successor_places rest) (filter_map (part_of C ds o) rest) f.0 (successor_singles ds o rest f.1)
+  successor_singles ds o (d ∷ rest) f = subst (λ es. (firsts es ≡ successor_places rest) × AllFrom (map (target C) o.successors) es) (sym (unseen (λ p. elim p [ tree.successor i n ↦ (i, n) ∷ [] | _ ↦ [] ]) ds o d (λ x. refl) (filter_map (part_of C ds o) rest))) (successor_singles ds o rest f.1)
 
   operand_lists : (ds : List Directive) (o : GraphOp T A) (rest : List Directive) → views (λ p. elim p [ tree.operands ns ↦ ns | _ ↦ [] ]) (filter_map (part_of C ds o) rest) ≡ times (count is_operands rest) (map (value C) (drop (length (operand_places ds)) o.operands))
   operand_lists ds o [] = refl
-  operand_lists ds o (format.operand i ∷ rest) = skip (λ p. elim p [ tree.operands ns ↦ ns | _ ↦ [] ]) (λ v. tree.operand i (value C v)) (λ x. refl) (slice_get o.operands i) (filter_map (part_of C ds o) rest) ∙ operand_lists ds o rest
   operand_lists ds o (format.operands ∷ rest) = ap (λ z. map (value C) (drop (length (operand_places ds)) o.operands) ++ z) (operand_lists ds o rest)
-  operand_lists ds o (format.successor i ∷ rest) = skip (λ p. elim p [ tree.operands ns ↦ ns | _ ↦ [] ]) (λ b. tree.successor i (target C b)) (λ x. refl) (slice_get o.successors i) (filter_map (part_of C ds o) rest) ∙ operand_lists ds o rest
-  operand_lists ds o (format.attribute key ∷ rest) = skip (λ p. elim p [ tree.operands ns ↦ ns | _ ↦ [] ]) (λ a. tree.attribute key (cond (outlined C a) None (Some a))) (λ x. refl) (lookup key o.attributes) (filter_map (part_of C ds o) rest) ∙ operand_lists ds o rest
-  operand_lists ds o (format.result_type i ∷ rest) = skip (λ p. elim p [ tree.operands ns ↦ ns | _ ↦ [] ]) (λ r. tree.result_type i r.1) (λ x. refl) (slice_get o.results i) (filter_map (part_of C ds o) rest) ∙ operand_lists ds o rest
-  operand_lists ds o (format.header ∷ rest) = skip_header (λ p. elim p [ tree.operands ns ↦ ns | _ ↦ [] ]) (λ n. refl) (lookup sym_name_key o.attributes) (filter_map (part_of C ds o) rest) ∙ operand_lists ds o rest
-  operand_lists ds o (_ ∷ rest) = operand_lists ds o rest
-
-  -- successor
-  successor_singles : (ds : List Directive) (o : GraphOp T A) (rest : List Directive) → Fits C ds o rest
-      → (firsts (views (λ p. elim p [ tree.successor i n ↦ (i, n) ∷ [] | _ ↦ [] ]) (filter_map (part_of C ds o) rest)) ≡ successor_places rest) × AllFrom (map (target C) o.successors) (views (λ p. elim p [ tree.successor i n ↦ (i, n) ∷ [] | _ ↦ [] ]) (filter_map (part_of C ds o) rest))
-  successor_singles ds o [] f = (refl, tt)
-  successor_singles ds o (format.operand i ∷ rest) f = subst (λ es. (firsts es ≡ successor_places rest) × AllFrom (map (target C) o.successors) es) (sym (skip (λ p. elim p [ tree.successor i n ↦ (i, n) ∷ [] | _ ↦ [] ]) (λ v. tree.operand i (value C v)) (λ x. refl) (slice_get o.operands i) (filter_map (part_of C ds o) rest))) (successor_singles ds o rest f.1)
-  successor_singles ds o (format.successor i ∷ rest) f = go (slice_get o.successors i) refl f.0 (successor_singles ds o rest f.1)
-    where
-      go : (x : Option (ℕ × ℕ)) → slice_get o.successors i ≡ x → (let r : Option (Part ⊤ T A) = option_map (λ v. tree.piece (tree.successor i (target C v))) x in is_some r) ≡ true
-          → (firsts (views (λ p. elim p [ tree.successor i n ↦ (i, n) ∷ [] | _ ↦ [] ]) (filter_map (part_of C ds o) rest)) ≡ successor_places rest) × AllFrom (map (target C) o.successors) (views (λ p. elim p [ tree.successor i n ↦ (i, n) ∷ [] | _ ↦ [] ]) (filter_map (part_of C ds o) rest))
-          → (firsts (views (λ p. elim p [ tree.successor i n ↦ (i, n) ∷ [] | _ ↦ [] ]) (cons_option (option_map (λ v. tree.piece (tree.successor i (target C v))) x) (filter_map (part_of C ds o) rest))) ≡ successor_places (format.successor i ∷ rest))
-          × AllFrom (map (target C) o.successors) (views (λ p. elim p [ tree.successor i n ↦ (i, n) ∷ [] | _ ↦ [] ]) (cons_option (option_map (λ v. tree.piece (tree.successor i (target C v))) x) (filter_map (part_of C ds o) rest)))
-      go None e s h = absurd (true≢false (sym s))
-      go (Some v) e s h = (ap (λ z. i ∷ z) h.0, (got_map (target C) o.successors i v e, h.1))
-  successor_singles ds o (format.attribute key ∷ rest) f = subst (λ es. (firsts es ≡ successor_places rest) × AllFrom (map (target C) o.successors) es) (sym (skip (λ p. elim p [ tree.successor i n ↦ (i, n) ∷ [] | _ ↦ [] ]) (λ a. tree.attribute key (cond (outlined C a) None (Some a))) (λ x. refl) (lookup key o.attributes) (filter_map (part_of C ds o) rest))) (successor_singles ds o rest f.1)
-  successor_singles ds o (format.result_type i ∷ rest) f = subst (λ es. (firsts es ≡ successor_places rest) × AllFrom (map (target C) o.successors) es) (sym (skip (λ p. elim p [ tree.successor i n ↦ (i, n) ∷ [] | _ ↦ [] ]) (λ r. tree.result_type i r.1) (λ x. refl) (slice_get o.results i) (filter_map (part_of C ds o) rest))) (successor_singles ds o rest f.1)
-  successor_singles ds o (format.header ∷ rest) f = subst (λ es. (firsts es ≡ successor_places rest) × AllFrom (map (target C) o.successors) es) (sym (skip_header (λ p. elim p [ tree.successor i n ↦ (i, n) ∷ [] | _ ↦ [] ]) (λ n. refl) (lookup sym_name_key o.attributes) (filter_map (part_of C ds o) rest))) (successor_singles ds o rest f.1)
-  successor_singles ds o (_ ∷ rest) f = successor_singles ds o rest f.1
+  operand_lists ds o (d ∷ rest) = unseen (λ p. elim p [ tree.operands ns ↦ ns | _ ↦ [] ]) ds o d (λ x. refl) (filter_map (part_of C ds o) rest) ∙ operand_lists ds o rest
 
   successor_lists : (ds : List Directive) (o : GraphOp T A) (rest : List Directive) → views (λ p. elim p [ tree.successors ns ↦ ns | _ ↦ [] ]) (filter_map (part_of C ds o) rest) ≡ times (count is_successors rest) (map (target C) (drop (length (successor_places ds)) o.successors))
   successor_lists ds o [] = refl
-  successor_lists ds o (format.operand i ∷ rest) = skip (λ p. elim p [ tree.successors ns ↦ ns | _ ↦ [] ]) (λ v. tree.operand i (value C v)) (λ x. refl) (slice_get o.operands i) (filter_map (part_of C ds o) rest) ∙ successor_lists ds o rest
-  successor_lists ds o (format.successor i ∷ rest) = skip (λ p. elim p [ tree.successors ns ↦ ns | _ ↦ [] ]) (λ b. tree.successor i (target C b)) (λ x. refl) (slice_get o.successors i) (filter_map (part_of C ds o) rest) ∙ successor_lists ds o rest
   successor_lists ds o (format.successors ∷ rest) = ap (λ z. map (target C) (drop (length (successor_places ds)) o.successors) ++ z) (successor_lists ds o rest)
-  successor_lists ds o (format.attribute key ∷ rest) = skip (λ p. elim p [ tree.successors ns ↦ ns | _ ↦ [] ]) (λ a. tree.attribute key (cond (outlined C a) None (Some a))) (λ x. refl) (lookup key o.attributes) (filter_map (part_of C ds o) rest) ∙ successor_lists ds o rest
-  successor_lists ds o (format.result_type i ∷ rest) = skip (λ p. elim p [ tree.successors ns ↦ ns | _ ↦ [] ]) (λ r. tree.result_type i r.1) (λ x. refl) (slice_get o.results i) (filter_map (part_of C ds o) rest) ∙ successor_lists ds o rest
-  successor_lists ds o (format.header ∷ rest) = skip_header (λ p. elim p [ tree.successors ns ↦ ns | _ ↦ [] ]) (λ n. refl) (lookup sym_name_key o.attributes) (filter_map (part_of C ds o) rest) ∙ successor_lists ds o rest
-  successor_lists ds o (_ ∷ rest) = successor_lists ds o rest
-
-  -- result
-  result_singles : (ds : List Directive) (o : GraphOp T A) (rest : List Directive) → Fits C ds o rest
-      → (firsts (views (λ p. elim p [ tree.result_type i x ↦ (i, x) ∷ [] | _ ↦ [] ]) (filter_map (part_of C ds o) rest)) ≡ type_places rest) × AllFrom (map (λ (r : ℕ × T). r.1) o.results) (views (λ p. elim p [ tree.result_type i x ↦ (i, x) ∷ [] | _ ↦ [] ]) (filter_map (part_of C ds o) rest))
-  result_singles ds o [] f = (refl, tt)
-  result_singles ds o (format.operand i ∷ rest) f = subst (λ es. (firsts es ≡ type_places rest) × AllFrom (map (λ (r : ℕ × T). r.1) o.results) es) (sym (skip (λ p. elim p [ tree.result_type i x ↦ (i, x) ∷ [] | _ ↦ [] ]) (λ v. tree.operand i (value C v)) (λ x. refl) (slice_get o.operands i) (filter_map (part_of C ds o) rest))) (result_singles ds o rest f.1)
-  result_singles ds o (format.successor i ∷ rest) f = subst (λ es. (firsts es ≡ type_places rest) × AllFrom (map (λ (r : ℕ × T). r.1) o.results) es) (sym (skip (λ p. elim p [ tree.result_type i x ↦ (i, x) ∷ [] | _ ↦ [] ]) (λ b. tree.successor i (target C b)) (λ x. refl) (slice_get o.successors i) (filter_map (part_of C ds o) rest))) (result_singles ds o rest f.1)
-  result_singles ds o (format.attribute key ∷ rest) f = subst (λ es. (firsts es ≡ type_places rest) × AllFrom (map (λ (r : ℕ × T). r.1) o.results) es) (sym (skip (λ p. elim p [ tree.result_type i x ↦ (i, x) ∷ [] | _ ↦ [] ]) (λ a. tree.attribute key (cond (outlined C a) None (Some a))) (λ x. refl) (lookup key o.attributes) (filter_map (part_of C ds o) rest))) (result_singles ds o rest f.1)
-  result_singles ds o (format.result_type i ∷ rest) f = go (slice_get o.results i) refl f.0 (result_singles ds o rest f.1)
-    where
-      go : (x : Option (ℕ × T)) → slice_get o.results i ≡ x → (let r : Option (Part ⊤ T A) = option_map (λ v. tree.piece (tree.result_type i v.1)) x in is_some r) ≡ true
-          → (firsts (views (λ p. elim p [ tree.result_type i x ↦ (i, x) ∷ [] | _ ↦ [] ]) (filter_map (part_of C ds o) rest)) ≡ type_places rest) × AllFrom (map (λ (r : ℕ × T). r.1) o.results) (views (λ p. elim p [ tree.result_type i x ↦ (i, x) ∷ [] | _ ↦ [] ]) (filter_map (part_of C ds o) rest))
-          → (firsts (views (λ p. elim p [ tree.result_type i x ↦ (i, x) ∷ [] | _ ↦ [] ]) (cons_option (option_map (λ v. tree.piece (tree.result_type i v.1)) x) (filter_map (part_of C ds o) rest))) ≡ type_places (format.result_type i ∷ rest))
-          × AllFrom (map (λ (r : ℕ × T). r.1) o.results) (views (λ p. elim p [ tree.result_type i x ↦ (i, x) ∷ [] | _ ↦ [] ]) (cons_option (option_map (λ v. tree.piece (tree.result_type i v.1)) x) (filter_map (part_of C ds o) rest)))
-      go None e s h = absurd (true≢false (sym s))
-      go (Some v) e s h = (ap (λ z. i ∷ z) h.0, (got_map (λ r. r.1) o.results i v e, h.1))
-  result_singles ds o (format.header ∷ rest) f = subst (λ es. (firsts es ≡ type_places rest) × AllFrom (map (λ (r : ℕ × T). r.1) o.results) es) (sym (skip_header (λ p. elim p [ tree.result_type i x ↦ (i, x) ∷ [] | _ ↦ [] ]) (λ n. refl) (lookup sym_name_key o.attributes) (filter_map (part_of C ds o) rest))) (result_singles ds o rest f.1)
-  result_singles ds o (_ ∷ rest) f = result_singles ds o rest f.1
+  successor_lists ds o (d ∷ rest) = unseen (λ p. elim p [ tree.successors ns ↦ ns | _ ↦ [] ]) ds o d (λ x. refl) (filter_map (part_of C ds o) rest) ∙ successor_lists ds o rest
 
   -- the front of a list and the rest of it, where there is a list directive; else the front is all of it
   front_and_rest : {X Y : Type 0} (F : X → Y) (K lists : ℕ) (xs : List X) → nat_lt lists 2 ≡ true → cond (lists == 0) (length xs == K) (not (nat_lt (length xs) K)) ≡ true
