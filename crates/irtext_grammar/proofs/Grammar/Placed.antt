@@ -11,6 +11,7 @@ use Rattle.irtext_grammar.specs.Grammar.Tree.{Name, Mark, Attribute, Piece, Part
 use Rattle.irtext_base.specs.Own.{Language}
 use Rattle.irtext_grammar.specs.Grammar.Bare.{bare_name, bare_mark, bare_entry, bare_piece, bare_argument, bare_part, bare_op, bare_head, bare_brace, bare_regions, bare_blocks, bare_operations, bare}
 use Rattle.irtext_grammar.specs.Grammar.Reads as reads
+use Rattle.irtext_grammar.proofs.Grammar.Nested.{EachRegion, EachBlock, EachOperation, all_regions}
 
 -- a value that reads so, whose bare value is the one given
 abbrev pub Placed : {X Y : Type 0} → (X → Reading) → (X → Y) → Y → Text → Text → Type 0
@@ -108,10 +109,12 @@ module _ {P T A : Type 0} (L : Language P T A) (spot : Text → P) (at_spot : (t
   abbrev Bare : Type 0
   Bare = Regions (Op ⊤ T A) (Head ⊤ T A) (Brace ⊤)
 
+  abbrev PlacesRegion : Brace ⊤ → Blocks (Op ⊤ T A) (Head ⊤ T A) (Brace ⊤) → Type 0
+  PlacesRegion brace bs = (t u : Text) → reads.region_read B brace (reads.block_readings B bs) t u →
+      (brace' : Brace P) × (bs' : Blocks (Op P T A) (Head P T A) (Brace P)) × reads.region_read L brace' (reads.block_readings L bs') t u × (bare_brace brace' ≡ brace) × (bare_blocks bs' ≡ bs)
+
   abbrev PlacesRegions : Bare → Type 0
-  PlacesRegions no_regions = ⊤
-  PlacesRegions (region brace bs rs) = ((t u : Text) → reads.region_read B brace (reads.block_readings B bs) t u →
-      (brace' : Brace P) × (bs' : Blocks (Op P T A) (Head P T A) (Brace P)) × reads.region_read L brace' (reads.block_readings L bs') t u × (bare_brace brace' ≡ brace) × (bare_blocks bs' ≡ bs)) × PlacesRegions rs
+  PlacesRegions rs = EachRegion PlacesRegion rs
 
   places_repeated : (rs : Bare) (t u : Text) → PlacesRegions rs → repeated (the 123) (reads.region_readings B rs) t u
       → (rs' : Inner) × repeated (the 123) (reads.region_readings L rs') t u × (bare_regions rs' ≡ rs)
@@ -207,15 +210,8 @@ module _ {P T A : Type 0} (L : Language P T A) (spot : Text → P) (at_spot : (t
   abbrev BareSteps : Type 0
   BareSteps = Operations (Op ⊤ T A) (Head ⊤ T A) (Brace ⊤)
 
-  abbrev Leaves : Type 0
-  Leaves = Blocks (Op P T A) (Head P T A) (Brace P)
-
-  abbrev BareLeaves : Type 0
-  BareLeaves = Blocks (Op ⊤ T A) (Head ⊤ T A) (Brace ⊤)
-
   abbrev PlacesOperations : BareSteps → Type 0
-  PlacesOperations no_operations = ⊤
-  PlacesOperations (operation o rs os) = PlacesOperation o rs × PlacesOperations os
+  PlacesOperations os = EachOperation PlacesOperation os
 
   places_steps_more : (os : BareSteps) (t u : Text) → PlacesOperations os → more 59 (reads.operation_readings B os) t u → (os' : Steps) × more 59 (reads.operation_readings L os') t u × (bare_operations os' ≡ os)
   places_steps_more no_operations t u s a = (no_operations, a, refl)
@@ -250,9 +246,14 @@ module _ {P T A : Type 0} (L : Language P T A) (spot : Text → P) (at_spot : (t
         o'.2,
       )
 
+  abbrev Leaves : Type 0
+  Leaves = Blocks (Op P T A) (Head P T A) (Brace P)
+
+  abbrev BareLeaves : Type 0
+  BareLeaves = Blocks (Op ⊤ T A) (Head ⊤ T A) (Brace ⊤)
+
   abbrev PlacesBlocks : BareLeaves → Type 0
-  PlacesBlocks no_blocks = ⊤
-  PlacesBlocks (block h os bs) = PlacesBlock h os × PlacesBlocks bs
+  PlacesBlocks bs = EachBlock PlacesBlock bs
 
   places_leaves : (bs : BareLeaves) (t u : Text) → PlacesBlocks bs → repeated (the 94) (reads.block_readings B bs) t u → (bs' : Leaves) × repeated (the 94) (reads.block_readings L bs') t u × (bare_blocks bs' ≡ bs)
   places_leaves no_blocks t u s a = (no_blocks, a, refl)
@@ -267,21 +268,8 @@ module _ {P T A : Type 0} (L : Language P T A) (spot : Text → P) (at_spot : (t
   places_region elided (block h os bs) s t u a = absurd a
   places_region (shown p) bs s t u (at, (m, o, (k, a, c))) = let r = places_leaves bs (after_space m) k s a in (shown (spot t), r.0, (at_spot t, (m, o, (k, r.1, c))), refl, r.2)
 
-  mutual
-    all_regions : (rs : Bare) → PlacesRegions rs
-    all_regions no_regions = tt
-    all_regions (region brace bs rs) = (λ t u a. places_region brace bs (all_blocks bs) t u a, all_regions rs)
-
-    all_blocks : (bs : BareLeaves) → PlacesBlocks bs
-    all_blocks no_blocks = tt
-    all_blocks (block h os bs) = (places_block h os (all_steps os), all_blocks bs)
-
-    all_steps : (os : BareSteps) → PlacesOperations os
-    all_steps no_operations = tt
-    all_steps (operation o rs os) = (places_operation o rs (all_regions rs), all_steps os)
-
   -- a tree without places that a text reads as has places with which the text reads as it
   pub placed : (t : Tree ⊤ T A) (text rest : Text) → reads.reads B t text rest → (t' : Tree P T A) × reads.reads L t' text rest × (bare t' ≡ t)
   placed t text rest a =
-      let r = places_operation t.own t.regions (all_regions t.regions) text rest a in
+      let r = places_operation t.own t.regions (all_regions PlacesRegion PlacesBlock PlacesOperation places_region places_block places_operation t.regions) text rest a in
       (record { own = r.0; regions = r.1 }, r.2, λ i. record { own = r.3 i; regions = r.4 i })

@@ -240,8 +240,7 @@ module _ {P T A X : Type 0} (C : Printing T A) (isolated : Id → Bool) (first :
       (head : (b : GraphBlock T A) (h : Head P T A) → StandsForBlock (stood_block C isolated b) (built_head isolated first es h) → HeadKeysKept h → Marked (marked_as h.mark) → OfB b) where
     mutual
       regions_of : (v : List (Fact Thing)) (w : List (Fact Text)) (p q : Path) (j k : ℕ) (iso yet : Bool) (rs : Regions (GraphOp T A) (GraphBlock T A) ⊤) (ts : Regions (Op P T A) (Head P T A) (Brace P))
-          → MatchRegions StandsForOp StandsForBlock (λ r s. ⊤) (stood_regions C isolated v p j iso rs) (built_regions isolated first es w q k yet ts)
-          → AllRegions CountsAgree (λ h. ⊤) (λ r. ⊤) ts → AllRegions OpKeysKept HeadKeysKept (λ r. ⊤) ts → FormedRegions ts → Marked (block_marks_in_regions ts) → AllRegions OfO OfB (λ r. ⊤) rs
+          → MatchRegions StandsForOp StandsForBlock (λ r s. ⊤) (stood_regions C isolated v p j iso rs) (built_regions isolated first es w q k yet ts) → AllRegions CountsAgree (λ h. ⊤) (λ r. ⊤) ts → AllRegions OpKeysKept HeadKeysKept (λ r. ⊤) ts → FormedRegions ts → Marked (block_marks_in_regions ts) → AllRegions OfO OfB (λ r. ⊤) rs
       regions_of v w p q j k iso yet no_regions ts s c e f m = tt
       regions_of v w p q j k iso yet (region r bs rs) no_regions s c e f m = absurd s
       regions_of v w p q j k iso yet (region r bs rs) (region elided cs ts) s c e f m = absurd f
@@ -252,8 +251,7 @@ module _ {P T A X : Type 0} (C : Printing T A) (isolated : Id → Bool) (first :
       )
 
       blocks_of : (v l : List (Fact Thing)) (w u : List (Fact Text)) (p q : Path) (j k : ℕ) (bs : Blocks (GraphOp T A) (GraphBlock T A) ⊤) (cs : Blocks (Op P T A) (Head P T A) (Brace P))
-          → MatchBlocks StandsForOp StandsForBlock (λ r s. ⊤) (stood_blocks C isolated v l p j bs) (built_blocks isolated first es w u q k cs)
-          → AllBlocks CountsAgree (λ h. ⊤) (λ r. ⊤) cs → AllBlocks OpKeysKept HeadKeysKept (λ r. ⊤) cs → FormedBlocks cs → Marked (block_marks_in_blocks cs) → AllBlocks OfO OfB (λ r. ⊤) bs
+          → MatchBlocks StandsForOp StandsForBlock (λ r s. ⊤) (stood_blocks C isolated v l p j bs) (built_blocks isolated first es w u q k cs) → AllBlocks CountsAgree (λ h. ⊤) (λ r. ⊤) cs → AllBlocks OpKeysKept HeadKeysKept (λ r. ⊤) cs → FormedBlocks cs → Marked (block_marks_in_blocks cs) → AllBlocks OfO OfB (λ r. ⊤) bs
       blocks_of v l w u p q j k no_blocks cs s c e f m = tt
       blocks_of v l w u p q j k (block b os bs) no_blocks s c e f m = absurd s
       blocks_of v l w u p q j k (block b os bs) (block h xs cs) s c e f m =
@@ -266,16 +264,15 @@ module _ {P T A X : Type 0} (C : Printing T A) (isolated : Id → Bool) (first :
           )
 
       operations_of : (v l : List (Fact Thing)) (w u : List (Fact Text)) (p q : Path) (j k : ℕ) (os : Operations (GraphOp T A) (GraphBlock T A) ⊤) (xs : Operations (Op P T A) (Head P T A) (Brace P))
-          → MatchOperations StandsForOp StandsForBlock (λ r s. ⊤) (stood_operations C isolated v l p j os) (built_operations isolated first es w u q k xs)
-          → AllOperations CountsAgree (λ h. ⊤) (λ r. ⊤) xs → AllOperations OpKeysKept HeadKeysKept (λ r. ⊤) xs → FormedOperations xs → Marked (block_marks_in_operations xs) → AllOperations OfO OfB (λ r. ⊤) os
+          → MatchOperations StandsForOp StandsForBlock (λ r s. ⊤) (stood_operations C isolated v l p j os) (built_operations isolated first es w u q k xs) → AllOperations CountsAgree (λ h. ⊤) (λ r. ⊤) xs → AllOperations OpKeysKept HeadKeysKept (λ r. ⊤) xs → FormedOperations xs → Marked (block_marks_in_operations xs) → AllOperations OfO OfB (λ r. ⊤) os
       operations_of v l w u p q j k no_operations xs s c e f m = tt
       operations_of v l w u p q j k (operation o rs os) no_operations s c e f m = absurd s
       operations_of v l w u p q j k (operation o rs os) (operation x ts xs) s c e f m =
           let ms = block_marks_in_regions ts in
           let ns = block_marks_in_operations xs in (
-            op o x ts v l w u s.0 c.0 e.0 f.0,
-            regions_of v w (j ∷ p) (k ∷ q) 0 0 (isolated o.id) (isolated x.id) rs ts s.1 c.1 e.1 f.1 (λ i g. m i (among_left i ms ns g)),
-            operations_of v l w u p q (suc j) (suc k) os xs s.2 c.2 e.2 f.2 (λ i g. m i (among_right i ms ns g)),
+            op o x ts v l w u s.0 c.0 e.0 f.0.0,
+            regions_of v w (j ∷ p) (k ∷ q) 0 0 (isolated o.id) (isolated x.id) rs ts s.1 c.1 e.1 f.0.1 (λ i g. m i (among_left i ms ns g)),
+            operations_of v l w u p q (suc j) (suc k) os xs s.2 c.2 e.2 f.1 (λ i g. m i (among_right i ms ns g)),
           )
 
   op_named : (o : GraphOp T A) (x : Op P T A) (rs : Regions (Op P T A) (Head P T A) (Brace P)) (v l : List (Fact Thing)) (w m : List (Fact Text)) → StandsForOp (stood_op C isolated v l o) (built_op isolated first es w m x)
