@@ -84,23 +84,25 @@ listed st t d ms ns ms' ns' m n =
     tied st (after st (record nothing { marks = ms; entries = ns })) t (record t { marks = ms'; entries = ns' }) d d.values d.labels (d.values_are ∙ sym (onto-nothing st.values)) (d.labels_are ∙ sym (onto-nothing st.labels)) m n (sym (append-nil st.bound))
     d.values_linked d.labels_linked
 
+-- an act on values that adds one fact
+value_act : (st : State) (t : Tracker) (d : Tied st t) (f : Fact) (wrong : List (List Fact) → List Failure) (r : Result Names Failure) → Follows (wrong (facts_in d.values)) (onto (facts_in d.values) (f ∷ [])) d.of_values r
+    → Follow (outcome (wrong st.values) (after st (record nothing { values = f ∷ [] }))) (with_values t r)
+value_act st t d f wrong r h =
+    value_call st (after st (record nothing { values = f ∷ [] })) t d (wrong st.values) r (subst (λ z. Follows (wrong z) (onto z (f ∷ [])) d.of_values r) d.values_are h)
+    (sym (onto-nothing st.labels)) (sym (append-nil st.marks)) (sym (append-nil st.entries)) (sym (append-nil st.bound))
+
+-- an act on labels that adds one fact
+label_act : (st : State) (t : Tracker) (d : Tied st t) (f : Fact) (wrong : List (List Fact) → List Failure) (r : Result Names Failure) → Follows (wrong (facts_in d.labels)) (onto (facts_in d.labels) (f ∷ [])) d.of_labels r
+    → Follow (outcome (wrong st.labels) (after st (record nothing { labels = f ∷ [] }))) (with_labels t r)
+label_act st t d f wrong r h =
+    label_call st (after st (record nothing { labels = f ∷ [] })) t d (wrong st.labels) r (subst (λ z. Follows (wrong z) (onto z (f ∷ [])) d.of_labels r) d.labels_are h)
+    (sym (onto-nothing st.values)) (sym (append-nil st.marks)) (sym (append-nil st.entries)) (sym (append-nil st.bound))
+
 act_follows : (st : State) (t : Tracker) (x : Act) → Tied st t → Follow (step st (act x)) (do_act t x)
-act_follows st t (use_value w u) d =
-    value_call st (after st (fact_of (use_value w u))) t d (outside (top st.values) w) (use_name t.values w u)
-    (subst (λ z. Follows (outside (top z) w) (onto z (uses w.name u ∷ [])) d.of_values (use_name t.values w u)) d.values_are (use_follows d.values d.of_values t.values w u d.values_linked))
-    (sym (onto-nothing st.labels)) (sym (append-nil st.marks)) (sym (append-nil st.entries)) (sym (append-nil st.bound))
-act_follows st t (use_label w u) d =
-    label_call st (after st (fact_of (use_label w u))) t d (outside (top st.labels) w) (use_name t.labels w u)
-    (subst (λ z. Follows (outside (top z) w) (onto z (uses w.name u ∷ [])) d.of_labels (use_name t.labels w u)) d.labels_are (use_follows d.labels d.of_labels t.labels w u d.labels_linked))
-    (sym (onto-nothing st.values)) (sym (append-nil st.marks)) (sym (append-nil st.entries)) (sym (append-nil st.bound))
-act_follows st t (define_value w p) d =
-    value_call st (after st (fact_of (define_value w p))) t d (defined_before (top st.values) w) (define_name t.values w p)
-    (subst (λ z. Follows (defined_before (top z) w) (onto z (defines w.name p ∷ [])) d.of_values (define_name t.values w p)) d.values_are (define_follows d.values d.of_values t.values w p d.values_linked))
-    (sym (onto-nothing st.labels)) (sym (append-nil st.marks)) (sym (append-nil st.entries)) (sym (append-nil st.bound))
-act_follows st t (define_label w p) d =
-    label_call st (after st (fact_of (define_label w p))) t d (defined_before (top st.labels) w) (define_name t.labels w p)
-    (subst (λ z. Follows (defined_before (top z) w) (onto z (defines w.name p ∷ [])) d.of_labels (define_name t.labels w p)) d.labels_are (define_follows d.labels d.of_labels t.labels w p d.labels_linked))
-    (sym (onto-nothing st.values)) (sym (append-nil st.marks)) (sym (append-nil st.entries)) (sym (append-nil st.bound))
+act_follows st t (use_value w u) d = value_act st t d (uses w.name u) (λ z. outside (top z) w) (use_name t.values w u) (use_follows d.values d.of_values t.values w u d.values_linked)
+act_follows st t (use_label w u) d = label_act st t d (uses w.name u) (λ z. outside (top z) w) (use_name t.labels w u) (use_follows d.labels d.of_labels t.labels w u d.labels_linked)
+act_follows st t (define_value w p) d = value_act st t d (defines w.name p) (λ z. defined_before (top z) w) (define_name t.values w p) (define_follows d.values d.of_values t.values w p d.values_linked)
+act_follows st t (define_label w p) d = label_act st t d (defines w.name p) (λ z. defined_before (top z) w) (define_name t.labels w p) (define_follows d.labels d.of_labels t.labels w p d.labels_linked)
 act_follows st t (claim b x) d = go b
   where
     go : (c : Bool) → Follow (outcome (cond c [] (x ∷ [])) (after st nothing)) (cond c (Ok t) (Err x))

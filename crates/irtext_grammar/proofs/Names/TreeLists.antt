@@ -91,20 +91,16 @@ module _ {P : Type 0} where
   values_regions false place body then = defined_both (facts same_text body).values (facts same_text then).values
 
   labels_step : (a : Act Text P) (k : Script Text P) → labels_defined (does a k) ≡ act_of none none none one none a ++ labels_defined k
-  labels_step (use_value w u) k = refl
-  labels_step _ k = refl
+  labels_step = elim [ use_value w u ↦ λ k. refl | _ ↦ λ k. refl ]
 
   labels_regions : (iso : Bool) (place : P) (body then : Script Text P) → labels_defined (within iso place body then) ≡ kept_inside iso (labels_defined body) ++ labels_defined then
-  labels_regions true place body then = refl
-  labels_regions false place body then = refl
+  labels_regions = elim [ true ↦ λ place body then. refl | false ↦ λ place body then. refl ]
 
   marks_step : (a : Act Text P) (k : Script Text P) → marks_in (does a k) ≡ act_of none none none none one a ++ marks_in k
-  marks_step (use_value w u) k = refl
-  marks_step _ k = refl
+  marks_step = elim [ use_value w u ↦ λ k. refl | _ ↦ λ k. refl ]
 
   marks_regions : (iso : Bool) (place : P) (body then : Script Text P) → marks_in (within iso place body then) ≡ everywhere iso (marks_in body) ++ marks_in then
-  marks_regions true place body then = refl
-  marks_regions false place body then = refl
+  marks_regions = elim [ true ↦ λ place body then. refl | false ↦ λ place body then. refl ]
 
 values_op : {P T A : Type 0} (o : Op P T A) → flat_map one (texts o.names) ++ flat_map none (marked_as o.mark) ≡ texts o.names
 values_op o = ap₂ ◌++◌ (flat_one (texts o.names)) (flat_none (marked_as o.mark)) ∙ append-nil (texts o.names)
