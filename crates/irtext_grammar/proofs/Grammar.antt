@@ -1,4 +1,5 @@
 -- A text has one tree, and what is spelled is read back.
+pub mod Nested
 pub mod Unique
 pub mod Sequences
 pub mod Follows

@@ -1,6 +1,7 @@
 -- Lists, texts, numbers and dictionaries.
 pub mod SameText
 pub mod Lists
+pub mod Each
 pub mod Sets
 pub mod InOrder
 pub mod Fresh

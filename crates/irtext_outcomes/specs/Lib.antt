@@ -1,13 +1,3 @@
--- What a caller is told of a root
-pub use Rattle.irtext_base.specs.Text
-pub use Rattle.irtext_base.specs.Reading
-pub use Rattle.irtext_base.specs.Format
-pub use Rattle.irtext_base.specs.Own
+-- What a caller is told of a root, and what a text reads as, over the texts, faults and streams of the base
 pub mod Promises
--- What functions promise one another
-pub use Rattle.irtext_base.specs.Causes
-pub use Rattle.irtext_base.specs.Faults
-pub use Rattle.irtext_base.specs.Stream
-pub use Rattle.irtext_base.specs.Places
-pub use Rattle.irtext_base.specs.Answers
 pub mod Readers

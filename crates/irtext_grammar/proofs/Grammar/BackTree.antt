@@ -282,23 +282,25 @@ module _ {P T A : Type 0} (L : Language P T A) (types : Lawful T L.types) (owns 
       let j = joined_from (gap k) (spell.block_texts L width m bs) in
       record { ends = inr refl; one = subst (λ t. OneOf (codes "}^") t) (sym (ap after_space (append_assoc (newline k) (x ++ j) (shut n f)) ∙ newline_white k ((x ++ j) ++ shut n f))) (inr refl) }
 
-  back_leaves_more : (n k m : ℕ) (bs : Leaves) (f : Text) → BackBlocks m bs
+  -- a block in front of blocks that are read back
+  back_leaf : (n k m : ℕ) (h : Head P T A) (os : Operations (Op P T A) (Head P T A) (Brace P)) (bs : Leaves) (f : Text) → BackBlocks m (block h os bs)
       → Reaches (repeated (the 94) (reads.block_readings L bs)) (joined_from (gap k) (spell.block_texts L width m bs) ++ shut n f) (shut n f)
+      → Reaches (repeated (the 94) (reads.block_readings L (block h os bs))) (joined (gap k) (spell.block_texts L width m (block h os bs)) ++ shut n f) (shut n f)
+  back_leaf n k m h os bs f b r =
+      let x = spell.block_text L width m h (spell.operation_texts L width (m + width) os) in
+      let j = joined_from (gap k) (spell.block_texts L width m bs) in
+      let first : Reaches (repeated (the 94) (reads.block_readings L (block h os bs))) (x ++ (j ++ shut n f)) (shut n f) = reaches_then (b.0 (j ++ shut n f) (behind_blocks n k m bs f)) r in
+      reaches_from (ap after_space (append_assoc x j (shut n f))) first
+
+  back_leaves_more : (n k m : ℕ) (bs : Leaves) (f : Text) → BackBlocks m bs → Reaches (repeated (the 94) (reads.block_readings L bs)) (joined_from (gap k) (spell.block_texts L width m bs) ++ shut n f) (shut n f)
   back_leaves_more n k m no_blocks f b = reaches_ends (the 94) (shut n f) (ap (begins (the 94)) (newline_white n (125 ∷ f)))
   back_leaves_more n k m (block h os bs) f b =
-      let x = spell.block_text L width m h (spell.operation_texts L width (m + width) os) in
-      let j = joined_from (gap k) (spell.block_texts L width m bs) in
-      let r : Reaches (repeated (the 94) (reads.block_readings L (block h os bs))) (x ++ (j ++ shut n f)) (shut n f) = reaches_then (b.0 (j ++ shut n f) (behind_blocks n k m bs f)) (back_leaves_more n k m bs f b.1) in
-      reaches_from (ap after_space (append_assoc (newline k) (x ++ j) (shut n f)) ∙ newline_white k ((x ++ j) ++ shut n f) ∙ ap after_space (append_assoc x j (shut n f))) r
+      let all = joined (gap k) (spell.block_texts L width m (block h os bs)) in
+      reaches_from (ap after_space (append_assoc (newline k) all (shut n f)) ∙ newline_white k (all ++ shut n f)) (back_leaf n k m h os bs f b (back_leaves_more n k m bs f b.1))
 
-  back_leaves : (n k m : ℕ) (bs : Leaves) (f : Text) → BackBlocks m bs
-      → Reaches (repeated (the 94) (reads.block_readings L bs)) (joined (gap k) (spell.block_texts L width m bs) ++ shut n f) (shut n f)
-  back_leaves n k m no_blocks f b = reaches_ends (the 94) (shut n f) (ap (begins (the 94)) (newline_white n (125 ∷ f)))
-  back_leaves n k m (block h os bs) f b =
-      let x = spell.block_text L width m h (spell.operation_texts L width (m + width) os) in
-      let j = joined_from (gap k) (spell.block_texts L width m bs) in
-      let r : Reaches (repeated (the 94) (reads.block_readings L (block h os bs))) (x ++ (j ++ shut n f)) (shut n f) = reaches_then (b.0 (j ++ shut n f) (behind_blocks n k m bs f)) (back_leaves_more n k m bs f b.1) in
-      reaches_from (ap after_space (append_assoc x j (shut n f))) r
+  back_leaves : (n k m : ℕ) (bs : Leaves) (f : Text) → BackBlocks m bs → Reaches (repeated (the 94) (reads.block_readings L bs)) (joined (gap k) (spell.block_texts L width m bs) ++ shut n f) (shut n f)
+  back_leaves n k m no_blocks f b = back_leaves_more n k m no_blocks f b
+  back_leaves n k m (block h os bs) f b = back_leaf n k m h os bs f b (back_leaves_more n k m bs f b.1)
 
   regroup_region : (i k j n f : Text) → (i ++ (codes "{" ++ (k ++ (j ++ (n ++ codes "}"))))) ++ f ≡ i ++ (123 ∷ (k ++ (j ++ (n ++ (125 ∷ f)))))
   regroup_region i k j n f = simp append_assoc

@@ -9,6 +9,7 @@ use Rattle.irtext_grammar.specs.Grammar.Tree.{Part, Op, Head, Brace, shown, elid
 use Rattle.irtext_grammar.specs.Grammar.Bare.{bare_brace, bare_regions, bare_blocks, bare_operations, bare}
 use Rattle.irtext_grammar.specs.Grammar.Marked.{IsShown, AllShown}
 use Rattle.irtext_grammar.specs.Grammar.Reads as reads
+use Rattle.irtext_grammar.proofs.Grammar.Nested.{EachRegion, EachBlock, EachOperation, all_regions}
 
 abbrev ShownRegions : {P T A : Type 0} → Regions (Op P T A) (Head P T A) (Brace P) → Type 0
 ShownRegions rs = AllRegions (λ o. ⊤) (λ h. ⊤) IsShown rs
@@ -36,20 +37,23 @@ module _ {P T A : Type 0} (L : Language P T A) (never_out : (t u : Text) → L.l
   abbrev M : Language P T A
   M = lenient L
 
+  abbrev LenientRegion : Brace P → Leaves → Type 0
+  LenientRegion brace bs = (t u : Text) → reads.region_read L brace (reads.block_readings L bs) t u → reads.region_read M brace (reads.block_readings M bs) t u × IsShown brace × ShownBlocks bs
+
+  abbrev LenientBlock : Head P T A → Steps → Type 0
+  LenientBlock h os = (t u : Text) → reads.block_read L h (reads.operation_readings L os) t u → reads.block_read M h (reads.operation_readings M os) t u × ShownOperations os
+
+  abbrev LenientOperation : Op P T A → Inner → Type 0
+  LenientOperation o rs = (t u : Text) → reads.operation_read L o (reads.region_readings L rs) t u → reads.operation_read M o (reads.region_readings M rs) t u × ShownRegions rs
+
   abbrev LenientRegions : Inner → Type 0
-  LenientRegions no_regions = ⊤
-  LenientRegions (region brace bs rs) =
-      ((t u : Text) → reads.region_read L brace (reads.block_readings L bs) t u → reads.region_read M brace (reads.block_readings M bs) t u × IsShown brace × ShownBlocks bs) × LenientRegions rs
+  LenientRegions rs = EachRegion LenientRegion rs
 
   abbrev LenientBlocks : Leaves → Type 0
-  LenientBlocks no_blocks = ⊤
-  LenientBlocks (block h os bs) =
-      ((t u : Text) → reads.block_read L h (reads.operation_readings L os) t u → reads.block_read M h (reads.operation_readings M os) t u × ShownOperations os) × LenientBlocks bs
+  LenientBlocks bs = EachBlock LenientBlock bs
 
   abbrev LenientOperations : Steps → Type 0
-  LenientOperations no_operations = ⊤
-  LenientOperations (operation o rs os) =
-      ((t u : Text) → reads.operation_read L o (reads.region_readings L rs) t u → reads.operation_read M o (reads.region_readings M rs) t u × ShownRegions rs) × LenientOperations os
+  LenientOperations os = EachOperation LenientOperation os
 
   lenient_repeated : (rs : Inner) (t u : Text) → LenientRegions rs → repeated (the 123) (reads.region_readings L rs) t u → repeated (the 123) (reads.region_readings M rs) t u × ShownRegions rs
   lenient_repeated no_regions t u s a = (a, tt)
@@ -104,22 +108,9 @@ module _ {P T A : Type 0} (L : Language P T A) (never_out : (t u : Text) → L.l
   lenient_region elided (block h os bs) s t u a = absurd a
   lenient_region (shown p) bs s t u (at, (m, o, (k, a, c))) = let r = lenient_leaves bs (after_space m) k s a in ((at, (m, o, (k, r.0, c))), tt, r.1)
 
-  mutual
-    all_regions : (rs : Inner) → LenientRegions rs
-    all_regions no_regions = tt
-    all_regions (region brace bs rs) = (lenient_region brace bs (all_blocks bs), all_regions rs)
-
-    all_blocks : (bs : Leaves) → LenientBlocks bs
-    all_blocks no_blocks = tt
-    all_blocks (block h os bs) = (lenient_block h os (all_steps os), all_blocks bs)
-
-    all_steps : (os : Steps) → LenientOperations os
-    all_steps no_operations = tt
-    all_steps (operation o rs os) = (lenient_operation o rs (all_regions rs), all_steps os)
-
   -- what reads in the text's own language reads in the lenient one, with every region shown
   pub lenient_reads : (t : Tree P T A) (text rest : Text) → reads.reads L t text rest → reads.reads M t text rest × AllShown t
-  lenient_reads t text rest a = lenient_operation t.own t.regions (all_regions t.regions) text rest a
+  lenient_reads t text rest a = lenient_operation t.own t.regions (all_regions LenientRegion LenientBlock LenientOperation lenient_region lenient_block lenient_operation t.regions) text rest a
 
 -- a bare tree has the same regions
 bare_shown : {P : Type 0} (brace : Brace P) → IsShown brace → IsShown (bare_brace brace)

@@ -9,6 +9,7 @@ use Rattle.irtext_base.specs.Own.{Language}
 use Rattle.irtext_grammar.specs.Grammar.Forest.{Regions, no_regions, region, Blocks, no_blocks, block, Operations, no_operations, operation, AllRegions, AllBlocks, AllOperations}
 use Rattle.irtext_grammar.specs.Grammar.Tree.{Op, Head, Brace, shown, elided, Tree, IsOf, parts_of}
 use Rattle.irtext_grammar.specs.Spelling.Spellable.{Enough}
+use Rattle.irtext_grammar.proofs.Grammar.Nested.{ShownWith, BlocksWith, OperationsWith}
 use Rattle.irtext_grammar.proofs.Grammar.ListReadings.{AllUsed, repeated_used, parts_used, block_used}
 use Rattle.irtext_grammar.specs.Grammar.Reads.{operation_read, region_readings, block_readings, operation_readings, reads}
 
@@ -20,22 +21,17 @@ module _ {P T A : Type 0} where
     pub is_of : IsOf format o.body
     pub enough : Enough (parts_of o.body) rs
 
-  abbrev mutual
-    -- each operation inside is so formed, and no region is elided
-    pub FormedRegions : Regions (Op P T A) (Head P T A) (Brace P) → Type 0
-    FormedRegions no_regions = ⊤
-    FormedRegions (region (shown place) bs rs) = FormedBlocks bs × FormedRegions rs
-    FormedRegions (region elided bs rs) = ⊥
+  -- each operation inside is so formed, and no region is elided
+  abbrev pub FormedRegions : Regions (Op P T A) (Head P T A) (Brace P) → Type 0
+  FormedRegions rs = ShownWith FormedOp rs
 
-    -- the same of blocks
-    pub FormedBlocks : Blocks (Op P T A) (Head P T A) (Brace P) → Type 0
-    FormedBlocks no_blocks = ⊤
-    FormedBlocks (block h os bs) = FormedOperations os × FormedBlocks bs
+  -- the same of blocks
+  abbrev pub FormedBlocks : Blocks (Op P T A) (Head P T A) (Brace P) → Type 0
+  FormedBlocks bs = BlocksWith FormedOp bs
 
-    -- the same of operations
-    pub FormedOperations : Operations (Op P T A) (Head P T A) (Brace P) → Type 0
-    FormedOperations no_operations = ⊤
-    FormedOperations (operation o rs os) = FormedOp o rs × FormedRegions rs × FormedOperations os
+  -- the same of operations
+  abbrev pub FormedOperations : Operations (Op P T A) (Head P T A) (Brace P) → Type 0
+  FormedOperations os = OperationsWith FormedOp os
 
   -- each operation of a tree is so formed
   abbrev pub Formed : Tree P T A → Type 0
@@ -75,7 +71,7 @@ module _ {P T A : Type 0} (L : Language P T A) where
       operations_read no_operations a h = tt
       operations_read (operation o rs os) a h =
           let r = op_read o rs h.0.0 h.0.1 a.0 h.0.2 in
-          (r.0, regions_read rs a.1 r.1, operations_read os a.2 h.1)
+          ((r.0, regions_read rs a.1 r.1), operations_read os a.2 h.1)
 
   -- the known formats of a tree's operations are accepted
   abbrev pub AllAccepted : Tree P T A → Type 0

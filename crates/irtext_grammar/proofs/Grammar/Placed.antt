@@ -11,6 +11,7 @@ use Rattle.irtext_grammar.specs.Grammar.Tree.{Name, Mark, Attribute, Piece, Part
 use Rattle.irtext_base.specs.Own.{Language}
 use Rattle.irtext_grammar.specs.Grammar.Bare.{bare_name, bare_mark, bare_entry, bare_piece, bare_argument, bare_part, bare_op, bare_head, bare_brace, bare_regions, bare_blocks, bare_operations, bare}
 use Rattle.irtext_grammar.specs.Grammar.Reads as reads
+use Rattle.irtext_grammar.proofs.Grammar.Nested.{EachRegion, EachBlock, EachOperation, all_regions}
 
 -- a value that reads so, whose bare value is the one given
 abbrev pub Placed : {X Y : Type 0} → (X → Reading) → (X → Y) → Y → Text → Text → Type 0
@@ -102,31 +103,36 @@ module _ {P T A : Type 0} (L : Language P T A) (spot : Text → P) (at_spot : (t
   places_results ns t u (inr (e, q, no_list)) = ([], inr (refl, q, λ others left a. no_list (map bare_name others) left (forget_results others t left a)), sym e)
 
   -- parts, over regions of which each has places
-  abbrev Inner : Type 0
-  Inner = Regions (Op P T A) (Head P T A) (Brace P)
+  abbrev Inner : Type 0 → Type 0
+  Inner Q = Regions (Op Q T A) (Head Q T A) (Brace Q)
 
-  abbrev Bare : Type 0
-  Bare = Regions (Op ⊤ T A) (Head ⊤ T A) (Brace ⊤)
+  abbrev Leaves : Type 0 → Type 0
+  Leaves Q = Blocks (Op Q T A) (Head Q T A) (Brace Q)
 
-  abbrev PlacesRegions : Bare → Type 0
-  PlacesRegions no_regions = ⊤
-  PlacesRegions (region brace bs rs) = ((t u : Text) → reads.region_read B brace (reads.block_readings B bs) t u →
-      (brace' : Brace P) × (bs' : Blocks (Op P T A) (Head P T A) (Brace P)) × reads.region_read L brace' (reads.block_readings L bs') t u × (bare_brace brace' ≡ brace) × (bare_blocks bs' ≡ bs)) × PlacesRegions rs
+  abbrev Steps : Type 0 → Type 0
+  Steps Q = Operations (Op Q T A) (Head Q T A) (Brace Q)
 
-  places_repeated : (rs : Bare) (t u : Text) → PlacesRegions rs → repeated (the 123) (reads.region_readings B rs) t u
-      → (rs' : Inner) × repeated (the 123) (reads.region_readings L rs') t u × (bare_regions rs' ≡ rs)
+  abbrev PlacesRegion : Brace ⊤ → Blocks (Op ⊤ T A) (Head ⊤ T A) (Brace ⊤) → Type 0
+  PlacesRegion brace bs = (t u : Text) → reads.region_read B brace (reads.block_readings B bs) t u →
+      (brace' : Brace P) × (bs' : Blocks (Op P T A) (Head P T A) (Brace P)) × reads.region_read L brace' (reads.block_readings L bs') t u × (bare_brace brace' ≡ brace) × (bare_blocks bs' ≡ bs)
+
+  abbrev PlacesRegions : Inner ⊤ → Type 0
+  PlacesRegions rs = EachRegion PlacesRegion rs
+
+  places_repeated : (rs : Inner ⊤) (t u : Text) → PlacesRegions rs → repeated (the 123) (reads.region_readings B rs) t u
+      → (rs' : Inner P) × repeated (the 123) (reads.region_readings L rs') t u × (bare_regions rs' ≡ rs)
   places_repeated no_regions t u s a = (no_regions, a, refl)
   places_repeated (region brace bs rs) t u s (m, a, b) =
       let r = s.0 t m a in
       let k = places_repeated rs (after_space m) u s.1 b in
       (region r.0 r.1 k.0, (m, r.2, k.1), λ i. region (r.3 i) (r.4 i) (k.2 i))
 
-  no_bare : (rs : Inner) → bare_regions rs ≡ no_regions → rs ≡ no_regions
+  no_bare : (rs : Inner P) → bare_regions rs ≡ no_regions → rs ≡ no_regions
   no_bare no_regions e = refl
   no_bare (region r bs rs) e = absurd (cc e)
 
-  places_parts : (ps : List (Part ⊤ T A)) (rs : Bare) (t u : Text) → PlacesRegions rs → reads.parts B ps (reads.region_readings B rs) t u
-      → (ps' : List (Part P T A)) × (rs' : Inner) × reads.parts L ps' (reads.region_readings L rs') t u × (map bare_part ps' ≡ ps) × (bare_regions rs' ≡ rs)
+  places_parts : (ps : List (Part ⊤ T A)) (rs : Inner ⊤) (t u : Text) → PlacesRegions rs → reads.parts B ps (reads.region_readings B rs) t u
+      → (ps' : List (Part P T A)) × (rs' : Inner P) × reads.parts L ps' (reads.region_readings L rs') t u × (map bare_part ps' ≡ ps) × (bare_regions rs' ≡ rs)
   places_parts [] no_regions t u s a = ([], no_regions, a, refl, refl)
   places_parts [] (region brace bs rs) t u s a = absurd a
   places_parts (tree.piece p ∷ ps) rs t u s (m, a, b) =
@@ -153,15 +159,15 @@ module _ {P T A : Type 0} (L : Language P T A) (spot : Text → P) (at_spot : (t
   bare_directive (tree.region i ∷ ps) = ap (λ x. Some (format.region i) ∷ x) (bare_directive ps)
   bare_directive (tree.regions ∷ ps) = ap (λ x. Some format.regions ∷ x) (bare_directive ps)
 
-  abbrev PlacesOperation : Op ⊤ T A → Bare → Type 0
+  abbrev PlacesOperation : Op ⊤ T A → Inner ⊤ → Type 0
   PlacesOperation o rs = (t u : Text) → reads.operation_read B o (reads.region_readings B rs) t u
-      → (o' : Op P T A) × (rs' : Inner) × reads.operation_read L o' (reads.region_readings L rs') t u × (bare_op o' ≡ o) × (bare_regions rs' ≡ rs)
+      → (o' : Op P T A) × (rs' : Inner P) × reads.operation_read L o' (reads.region_readings L rs') t u × (bare_op o' ≡ o) × (bare_regions rs' ≡ rs)
 
   is_custom : (f : Format) (ps : List (Part ⊤ T A)) (ps' : List (Part P T A)) → tree.IsOf f (tree.custom ps) → map bare_part ps' ≡ ps → tree.IsOf f (tree.custom ps')
   is_custom format.canonical ps ps' h e = h
   is_custom (format.custom ds) ps ps' h e = sym (bare_directive ps') ∙ ap (map directive) e ∙ h
 
-  places_custom : (place : ⊤) (names : List (Name ⊤)) (id : Id) (ps : List (Part ⊤ T A)) (mark : Option (Mark ⊤)) (rs : Bare) → PlacesRegions rs
+  places_custom : (place : ⊤) (names : List (Name ⊤)) (id : Id) (ps : List (Part ⊤ T A)) (mark : Option (Mark ⊤)) (rs : Inner ⊤) → PlacesRegions rs
       → PlacesOperation (record { place = place; names = names; id = id; body = tree.custom ps; mark = mark }) rs
   places_custom place names id ps mark rs s t u (at, ((f, fx, is), (m, a, (k, b, (n, c, d))))) =
       let r = places_results names (after_space t) m a in
@@ -174,7 +180,7 @@ module _ {P T A : Type 0} (L : Language P T A) (spot : Text → P) (at_spot : (t
         p.4,
       )
 
-  places_canonical : (place : ⊤) (names : List (Name ⊤)) (id : Id) (ns ls : List (Name ⊤)) (es : List (Name ⊤ × Attribute A)) (xs ys : List T) (mark : Option (Mark ⊤)) (rs : Bare) → PlacesRegions rs
+  places_canonical : (place : ⊤) (names : List (Name ⊤)) (id : Id) (ns ls : List (Name ⊤)) (es : List (Name ⊤ × Attribute A)) (xs ys : List T) (mark : Option (Mark ⊤)) (rs : Inner ⊤) → PlacesRegions rs
       → PlacesOperation (record { place = place; names = names; id = id; body = tree.canonical ns ls es xs ys; mark = mark }) rs
   places_canonical place names id ns ls es xs ys mark rs s t u (at, ((f, fx, is), (m, a, (k, b, (n, (m1, a1, (m2, a2, (m3, a3, (m4, a4, (m5, a5, (m6, a6, (m7, a7, (m8, a8, (m9, a9, (m10, a10, (m11, a11, (m12, a12, (m13, a13, (m14, a14, (m15, a15, (m16, a16, (m17, a17, (m18, a18, e)))))))))))))))))), d))))) =
       let r = places_results names (after_space t) m a in
@@ -194,49 +200,36 @@ module _ {P T A : Type 0} (L : Language P T A) (spot : Text → P) (at_spot : (t
       is_canonical format.canonical h _ _ _ = h
       is_canonical (format.custom ds) h _ _ _ = absurd h
 
-  places_body : (place : ⊤) (names : List (Name ⊤)) (id : Id) (body : Body ⊤ T A) (mark : Option (Mark ⊤)) (rs : Bare) → PlacesRegions rs → PlacesOperation (record { place = place; names = names; id = id; body = body; mark = mark }) rs
+  places_body : (place : ⊤) (names : List (Name ⊤)) (id : Id) (body : Body ⊤ T A) (mark : Option (Mark ⊤)) (rs : Inner ⊤) → PlacesRegions rs → PlacesOperation (record { place = place; names = names; id = id; body = body; mark = mark }) rs
   places_body place names id (tree.custom ps) mark rs s = places_custom place names id ps mark rs s
   places_body place names id (tree.canonical ns ls es xs ys) mark rs s = places_canonical place names id ns ls es xs ys mark rs s
 
-  places_operation : (o : Op ⊤ T A) (rs : Bare) → PlacesRegions rs → PlacesOperation o rs
+  places_operation : (o : Op ⊤ T A) (rs : Inner ⊤) → PlacesRegions rs → PlacesOperation o rs
   places_operation o rs s = places_body o.place o.names o.id o.body o.mark rs s
 
-  abbrev Steps : Type 0
-  Steps = Operations (Op P T A) (Head P T A) (Brace P)
+  abbrev PlacesOperations : Steps ⊤ → Type 0
+  PlacesOperations os = EachOperation PlacesOperation os
 
-  abbrev BareSteps : Type 0
-  BareSteps = Operations (Op ⊤ T A) (Head ⊤ T A) (Brace ⊤)
-
-  abbrev Leaves : Type 0
-  Leaves = Blocks (Op P T A) (Head P T A) (Brace P)
-
-  abbrev BareLeaves : Type 0
-  BareLeaves = Blocks (Op ⊤ T A) (Head ⊤ T A) (Brace ⊤)
-
-  abbrev PlacesOperations : BareSteps → Type 0
-  PlacesOperations no_operations = ⊤
-  PlacesOperations (operation o rs os) = PlacesOperation o rs × PlacesOperations os
-
-  places_steps_more : (os : BareSteps) (t u : Text) → PlacesOperations os → more 59 (reads.operation_readings B os) t u → (os' : Steps) × more 59 (reads.operation_readings L os') t u × (bare_operations os' ≡ os)
+  places_steps_more : (os : Steps ⊤) (t u : Text) → PlacesOperations os → more 59 (reads.operation_readings B os) t u → (os' : Steps P) × more 59 (reads.operation_readings L os') t u × (bare_operations os' ≡ os)
   places_steps_more no_operations t u s a = (no_operations, a, refl)
   places_steps_more (operation o rs os) t u s (m, l, (k, a, b)) =
       let r = s.0 (after_space m) k a in
       let q = places_steps_more os (after_space k) u s.1 b in
       (operation r.0 r.1 q.0, (m, l, (k, r.2, q.1)), λ i. operation (r.3 i) (r.4 i) (q.2 i))
 
-  places_steps : (os : BareSteps) (t u : Text) → PlacesOperations os → separated 59 reads.no_operation (reads.operation_readings B os) t u
-      → (os' : Steps) × separated 59 reads.no_operation (reads.operation_readings L os') t u × (bare_operations os' ≡ os)
+  places_steps : (os : Steps ⊤) (t u : Text) → PlacesOperations os → separated 59 reads.no_operation (reads.operation_readings B os) t u
+      → (os' : Steps P) × separated 59 reads.no_operation (reads.operation_readings L os') t u × (bare_operations os' ≡ os)
   places_steps no_operations t u s a = (no_operations, a, refl)
   places_steps (operation o rs os) t u s (m, a, b) =
       let r = s.0 t m a in
       let q = places_steps_more os (after_space m) u s.1 b in
       (operation r.0 r.1 q.0, (m, r.2, q.1), λ i. operation (r.3 i) (r.4 i) (q.2 i))
 
-  abbrev PlacesBlock : Head ⊤ T A → BareSteps → Type 0
+  abbrev PlacesBlock : Head ⊤ T A → Steps ⊤ → Type 0
   PlacesBlock h os = (t u : Text) → reads.block_read B h (reads.operation_readings B os) t u
-      → (h' : Head P T A) × (os' : Steps) × reads.block_read L h' (reads.operation_readings L os') t u × (bare_head h' ≡ h) × (bare_operations os' ≡ os)
+      → (h' : Head P T A) × (os' : Steps P) × reads.block_read L h' (reads.operation_readings L os') t u × (bare_head h' ≡ h) × (bare_operations os' ≡ os)
 
-  places_block : (h : Head ⊤ T A) (os : BareSteps) → PlacesOperations os → PlacesBlock h os
+  places_block : (h : Head ⊤ T A) (os : Steps ⊤) → PlacesOperations os → PlacesBlock h os
   places_block h os s t u (m1, l, (m2, p, (m3, a, (m4, q, (m5, d, (m6, k, (m7, c, o))))))) =
       let l' = places_label h.label t m1 l in
       let a' = places_list (reads.argument L) bare_argument (reads.argument B) places_argument 44 reads.no_word h.arguments (after_space m2) m3 a in
@@ -250,38 +243,24 @@ module _ {P T A : Type 0} (L : Language P T A) (spot : Text → P) (at_spot : (t
         o'.2,
       )
 
-  abbrev PlacesBlocks : BareLeaves → Type 0
-  PlacesBlocks no_blocks = ⊤
-  PlacesBlocks (block h os bs) = PlacesBlock h os × PlacesBlocks bs
+  abbrev PlacesBlocks : Leaves ⊤ → Type 0
+  PlacesBlocks bs = EachBlock PlacesBlock bs
 
-  places_leaves : (bs : BareLeaves) (t u : Text) → PlacesBlocks bs → repeated (the 94) (reads.block_readings B bs) t u → (bs' : Leaves) × repeated (the 94) (reads.block_readings L bs') t u × (bare_blocks bs' ≡ bs)
+  places_leaves : (bs : Leaves ⊤) (t u : Text) → PlacesBlocks bs → repeated (the 94) (reads.block_readings B bs) t u → (bs' : Leaves P) × repeated (the 94) (reads.block_readings L bs') t u × (bare_blocks bs' ≡ bs)
   places_leaves no_blocks t u s a = (no_blocks, a, refl)
   places_leaves (block h os bs) t u s (m, a, b) =
       let r = s.0 t m a in
       let q = places_leaves bs (after_space m) u s.1 b in
       (block r.0 r.1 q.0, (m, r.2, q.1), λ i. block (r.3 i) (r.4 i) (q.2 i))
 
-  places_region : (brace : Brace ⊤) (bs : BareLeaves) → PlacesBlocks bs → (t u : Text) → reads.region_read B brace (reads.block_readings B bs) t u
-      → (brace' : Brace P) × (bs' : Leaves) × reads.region_read L brace' (reads.block_readings L bs') t u × (bare_brace brace' ≡ brace) × (bare_blocks bs' ≡ bs)
+  places_region : (brace : Brace ⊤) (bs : Leaves ⊤) → PlacesBlocks bs → (t u : Text) → reads.region_read B brace (reads.block_readings B bs) t u
+      → (brace' : Brace P) × (bs' : Leaves P) × reads.region_read L brace' (reads.block_readings L bs') t u × (bare_brace brace' ≡ brace) × (bare_blocks bs' ≡ bs)
   places_region elided no_blocks s t u a = (elided, no_blocks, a, refl, refl)
   places_region elided (block h os bs) s t u a = absurd a
   places_region (shown p) bs s t u (at, (m, o, (k, a, c))) = let r = places_leaves bs (after_space m) k s a in (shown (spot t), r.0, (at_spot t, (m, o, (k, r.1, c))), refl, r.2)
 
-  mutual
-    all_regions : (rs : Bare) → PlacesRegions rs
-    all_regions no_regions = tt
-    all_regions (region brace bs rs) = (λ t u a. places_region brace bs (all_blocks bs) t u a, all_regions rs)
-
-    all_blocks : (bs : BareLeaves) → PlacesBlocks bs
-    all_blocks no_blocks = tt
-    all_blocks (block h os bs) = (places_block h os (all_steps os), all_blocks bs)
-
-    all_steps : (os : BareSteps) → PlacesOperations os
-    all_steps no_operations = tt
-    all_steps (operation o rs os) = (places_operation o rs (all_regions rs), all_steps os)
-
   -- a tree without places that a text reads as has places with which the text reads as it
   pub placed : (t : Tree ⊤ T A) (text rest : Text) → reads.reads B t text rest → (t' : Tree P T A) × reads.reads L t' text rest × (bare t' ≡ t)
   placed t text rest a =
-      let r = places_operation t.own t.regions (all_regions t.regions) text rest a in
+      let r = places_operation t.own t.regions (all_regions PlacesRegion PlacesBlock PlacesOperation places_region places_block places_operation t.regions) text rest a in
       (record { own = r.0; regions = r.1 }, r.2, λ i. record { own = r.3 i; regions = r.4 i })

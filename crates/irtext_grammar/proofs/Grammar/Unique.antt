@@ -11,6 +11,7 @@ use Rattle.irtext_grammar.specs.Grammar.Tree as tree
 use Rattle.irtext_grammar.specs.Grammar.Tree.{Name, Mark, Attribute, given_names, ident, own, Piece, Part, Op, Head, Brace, shown, elided, Tree, IsOf, parts_of, directive, directive_of_piece}
 use Rattle.irtext_base.specs.Own.{Language, found, missing, Lawful}
 use Rattle.irtext_grammar.specs.Grammar.Reads as reads
+use Rattle.irtext_grammar.proofs.Grammar.Nested.{EachRegion, EachBlock, EachOperation, all_regions}
 
 -- Two readings of one text leave one rest, and C holds.
 abbrev pub Agree : Type 0 → Reading → Reading → Type 0
@@ -233,10 +234,12 @@ module _ {P T A : Type 0} (L : Language P T A) (types : Lawful T L.types) (owns 
   Inner = Regions (Op P T A) (Head P T A) (Brace P)
 
   -- of each region: it reads so at most once
+  abbrev SureRegion : Brace P → Blocks (Op P T A) (Head P T A) (Brace P) → Type 0
+  SureRegion brace bs = (brace' : Brace P) (bs' : Blocks (Op P T A) (Head P T A) (Brace P)) →
+      Agree ((brace ≡ brace') × (bs ≡ bs')) (reads.region_read L brace (reads.block_readings L bs)) (reads.region_read L brace' (reads.block_readings L bs'))
+
   abbrev SureRegions : Inner → Type 0
-  SureRegions no_regions = ⊤
-  SureRegions (region brace bs rs) = ((brace' : Brace P) (bs' : Blocks (Op P T A) (Head P T A) (Brace P)) →
-      Agree ((brace ≡ brace') × (bs ≡ bs')) (reads.region_read L brace (reads.block_readings L bs)) (reads.region_read L brace' (reads.block_readings L bs'))) × SureRegions rs
+  SureRegions rs = EachRegion SureRegion rs
 
   brace_begins : (brace : Brace P) (rs : List Reading) (t u : Text) → reads.region_read L brace rs t u → begins (the 123) t ≡ false → ⊥
   brace_begins elided [] t u a e = clash (the 123) 123 t (codes "..}" ++ u) e (only t u a) refl
@@ -294,15 +297,17 @@ module _ {P T A : Type 0} (L : Language P T A) (types : Lawful T L.types) (owns 
   abbrev Steps : Type 0
   Steps = Operations (Op P T A) (Head P T A) (Brace P)
 
+  abbrev SureBlock : Head P T A → Steps → Type 0
+  SureBlock h os = (h' : Head P T A) (os' : Steps) → Agree ((h ≡ h') × (os ≡ os')) (reads.block_read L h (reads.operation_readings L os)) (reads.block_read L h' (reads.operation_readings L os'))
+
+  abbrev SureOperation : Op P T A → Inner → Type 0
+  SureOperation o rs = (o' : Op P T A) (rs' : Inner) → Agree ((o ≡ o') × (rs ≡ rs')) (reads.operation_read L o (reads.region_readings L rs)) (reads.operation_read L o' (reads.region_readings L rs'))
+
   abbrev SureBlocks : Leaves → Type 0
-  SureBlocks no_blocks = ⊤
-  SureBlocks (block h os bs) = ((h' : Head P T A) (os' : Steps) →
-      Agree ((h ≡ h') × (os ≡ os')) (reads.block_read L h (reads.operation_readings L os)) (reads.block_read L h' (reads.operation_readings L os'))) × SureBlocks bs
+  SureBlocks bs = EachBlock SureBlock bs
 
   abbrev SureOperations : Steps → Type 0
-  SureOperations no_operations = ⊤
-  SureOperations (operation o rs os) = ((o' : Op P T A) (rs' : Inner) →
-      Agree ((o ≡ o') × (rs ≡ rs')) (reads.operation_read L o (reads.region_readings L rs)) (reads.operation_read L o' (reads.region_readings L rs'))) × SureOperations os
+  SureOperations os = EachOperation SureOperation os
 
   -- regions
   block_begins : (h : Head P T A) (rs : List Reading) (t u : Text) → reads.block_read L h rs t u → begins (the 94) t ≡ false → ⊥
@@ -423,19 +428,9 @@ module _ {P T A : Type 0} (L : Language P T A) (types : Lawful T L.types) (owns 
       agree_then (sure_separated (reads.argument L) sure_argument 44 refl reads.no_word argument_begins h.arguments h'.arguments) λ _. agree_then (one_literal (codes ")")) λ _.
       agree_then (sure_dictionary_if h.attributes h'.attributes) λ _. agree_then (sure_mark_if h.mark h'.mark) λ _. agree_then (one_literal (codes ":")) λ _. all_operations os os' s)
 
-  mutual
-    all_regions : (rs : Inner) → SureRegions rs
-    all_regions no_regions = tt
-    all_regions (region brace bs rs) = (λ brace' cs. sure_region bs (all_blocks bs) brace brace' cs, all_regions rs)
-
-    all_blocks : (bs : Leaves) → SureBlocks bs
-    all_blocks no_blocks = tt
-    all_blocks (block h os bs) = (λ h' os'. sure_block os (all_steps os) h h' os', all_blocks bs)
-
-    all_steps : (os : Steps) → SureOperations os
-    all_steps no_operations = tt
-    all_steps (operation o rs os) = (λ o' ss. sure_operation rs (all_regions rs) o o' ss, all_steps os)
+  all_sure : (rs : Inner) → SureRegions rs
+  all_sure = all_regions SureRegion SureBlock SureOperation (λ brace bs s brace' cs. sure_region bs s brace brace' cs) (λ h os s h' os'. sure_block os s h h' os') (λ o rs s o' ss. sure_operation rs s o o' ss)
 
   -- A text reads as one tree at most, and leaves one rest.
   pub one_tree : (x y : Tree P T A) (t u v : Text) → reads.reads L x t u → reads.reads L y t v → (x ≡ y) × (u ≡ v)
-  one_tree x y t u v a b = agree_map (λ p. λ i. record { own = p.0 i; regions = p.1 i }) (sure_operation x.regions (all_regions x.regions) x.own y.own y.regions) t u v a b
+  one_tree x y t u v a b = agree_map (λ p. λ i. record { own = p.0 i; regions = p.1 i }) (sure_operation x.regions (all_sure x.regions) x.own y.own y.regions) t u v a b

@@ -60,12 +60,7 @@ any_script (does a k) = (any_act a, any_script k)
   where
     any_act : {P : Type 0} (a : Act Text P) → AllAct (λ n. ⊤) a
     any_act (script.use_value w u) = tt
-    any_act (script.use_label w u) = tt
-    any_act (script.define_value w u) = tt
-    any_act (script.define_label w u) = tt
-    any_act (script.mark i p) = tt
-    any_act (script.entry i p) = tt
-    any_act (script.claim b x) = tt
+    any_act _ = tt
 any_script (within iso p body k) = (any_script body, any_script k)
 
 module _ {P : Type 0} where
@@ -137,110 +132,22 @@ nothing_left F [] e = refl
 nothing_left F (x ∷ xs) e = cc
 
 module _ {P T A : Type 0} where
-  bare_operand : (ps : List (Part P T A)) → views (λ (p : Piece ⊤ T A). elim p [ tree.operand i n ↦ (i, n) ∷ [] | _ ↦ [] ]) (map bare_part ps) ≡ map (second bare_name) (views (λ (p : Piece P T A). elim p [ tree.operand i n ↦ (i, n) ∷ [] | _ ↦ [] ]) ps)
-  bare_operand [] = refl
-  bare_operand (tree.region i ∷ ps) = bare_operand ps
-  bare_operand (tree.regions ∷ ps) = bare_operand ps
-  bare_operand (tree.piece (tree.word s) ∷ ps) = bare_operand ps
-  bare_operand (tree.piece (tree.operand i n) ∷ ps) = ap (λ z. (i, bare_name n) ∷ z) (bare_operand ps)
-  bare_operand (tree.piece (tree.operands ns) ∷ ps) = bare_operand ps
-  bare_operand (tree.piece (tree.successor i n) ∷ ps) = bare_operand ps
-  bare_operand (tree.piece (tree.successors ns) ∷ ps) = bare_operand ps
-  bare_operand (tree.piece (tree.attribute k a) ∷ ps) = bare_operand ps
-  bare_operand (tree.piece (tree.dictionary es) ∷ ps) = bare_operand ps
-  bare_operand (tree.piece (tree.result_type i x) ∷ ps) = bare_operand ps
-  bare_operand (tree.piece (tree.header n) ∷ ps) = bare_operand ps
-  bare_operand (tree.piece (tree.types ts) ∷ ps) = bare_operand ps
-
-  bare_successor : (ps : List (Part P T A)) → views (λ (p : Piece ⊤ T A). elim p [ tree.successor i n ↦ (i, n) ∷ [] | _ ↦ [] ]) (map bare_part ps) ≡ map (second bare_name) (views (λ (p : Piece P T A). elim p [ tree.successor i n ↦ (i, n) ∷ [] | _ ↦ [] ]) ps)
-  bare_successor [] = refl
-  bare_successor (tree.region i ∷ ps) = bare_successor ps
-  bare_successor (tree.regions ∷ ps) = bare_successor ps
-  bare_successor (tree.piece (tree.word s) ∷ ps) = bare_successor ps
-  bare_successor (tree.piece (tree.operand i n) ∷ ps) = bare_successor ps
-  bare_successor (tree.piece (tree.operands ns) ∷ ps) = bare_successor ps
-  bare_successor (tree.piece (tree.successor i n) ∷ ps) = ap (λ z. (i, bare_name n) ∷ z) (bare_successor ps)
-  bare_successor (tree.piece (tree.successors ns) ∷ ps) = bare_successor ps
-  bare_successor (tree.piece (tree.attribute k a) ∷ ps) = bare_successor ps
-  bare_successor (tree.piece (tree.dictionary es) ∷ ps) = bare_successor ps
-  bare_successor (tree.piece (tree.result_type i x) ∷ ps) = bare_successor ps
-  bare_successor (tree.piece (tree.header n) ∷ ps) = bare_successor ps
-  bare_successor (tree.piece (tree.types ts) ∷ ps) = bare_successor ps
-
-  bare_operands : (ps : List (Part P T A)) → views (λ (p : Piece ⊤ T A). elim p [ tree.operands ns ↦ ns | _ ↦ [] ]) (map bare_part ps) ≡ map bare_name (views (λ (p : Piece P T A). elim p [ tree.operands ns ↦ ns | _ ↦ [] ]) ps)
-  bare_operands [] = refl
-  bare_operands (tree.region i ∷ ps) = bare_operands ps
-  bare_operands (tree.regions ∷ ps) = bare_operands ps
-  bare_operands (tree.piece (tree.word s) ∷ ps) = bare_operands ps
-  bare_operands (tree.piece (tree.operand i n) ∷ ps) = bare_operands ps
-  bare_operands (tree.piece (tree.operands ns) ∷ ps) = ap (λ z. map bare_name ns ++ z) (bare_operands ps) ∙ mapped_both bare_name ns _
-  bare_operands (tree.piece (tree.successor i n) ∷ ps) = bare_operands ps
-  bare_operands (tree.piece (tree.successors ns) ∷ ps) = bare_operands ps
-  bare_operands (tree.piece (tree.attribute k a) ∷ ps) = bare_operands ps
-  bare_operands (tree.piece (tree.dictionary es) ∷ ps) = bare_operands ps
-  bare_operands (tree.piece (tree.result_type i x) ∷ ps) = bare_operands ps
-  bare_operands (tree.piece (tree.header n) ∷ ps) = bare_operands ps
-  bare_operands (tree.piece (tree.types ts) ∷ ps) = bare_operands ps
-
-  bare_successors : (ps : List (Part P T A)) → views (λ (p : Piece ⊤ T A). elim p [ tree.successors ns ↦ ns | _ ↦ [] ]) (map bare_part ps) ≡ map bare_name (views (λ (p : Piece P T A). elim p [ tree.successors ns ↦ ns | _ ↦ [] ]) ps)
-  bare_successors [] = refl
-  bare_successors (tree.region i ∷ ps) = bare_successors ps
-  bare_successors (tree.regions ∷ ps) = bare_successors ps
-  bare_successors (tree.piece (tree.word s) ∷ ps) = bare_successors ps
-  bare_successors (tree.piece (tree.operand i n) ∷ ps) = bare_successors ps
-  bare_successors (tree.piece (tree.operands ns) ∷ ps) = bare_successors ps
-  bare_successors (tree.piece (tree.successor i n) ∷ ps) = bare_successors ps
-  bare_successors (tree.piece (tree.successors ns) ∷ ps) = ap (λ z. map bare_name ns ++ z) (bare_successors ps) ∙ mapped_both bare_name ns _
-  bare_successors (tree.piece (tree.attribute k a) ∷ ps) = bare_successors ps
-  bare_successors (tree.piece (tree.dictionary es) ∷ ps) = bare_successors ps
-  bare_successors (tree.piece (tree.result_type i x) ∷ ps) = bare_successors ps
-  bare_successors (tree.piece (tree.header n) ∷ ps) = bare_successors ps
-  bare_successors (tree.piece (tree.types ts) ∷ ps) = bare_successors ps
+  -- a view of parts without their places is the view of the parts, where it is so of each piece
+  views_bare : {X Y : Type 0} (F : Piece ⊤ T A → List Y) (G : Piece P T A → List X) (h : X → Y) → ((x : Piece P T A) → F (bare_piece x) ≡ map h (G x)) → (ps : List (Part P T A)) → views F (map bare_part ps) ≡ map h (views G ps)
+  views_bare F G h same [] = refl
+  views_bare F G h same (tree.piece x ∷ ps) = ap₂ ◌++◌ (same x) (views_bare F G h same ps) ∙ mapped_both h (G x) (views G ps)
+  views_bare F G h same (_ ∷ ps) = views_bare F G h same ps
 
   bare_types : (ps : List (Part P T A)) → views {X = ℕ × T} (λ (p : Piece ⊤ T A). elim p [ tree.result_type i x ↦ (i, x) ∷ [] | _ ↦ [] ]) (map bare_part ps) ≡ views {X = ℕ × T} (λ (p : Piece P T A). elim p [ tree.result_type i x ↦ (i, x) ∷ [] | _ ↦ [] ]) ps
   bare_types [] = refl
-  bare_types (tree.region i ∷ ps) = bare_types ps
-  bare_types (tree.regions ∷ ps) = bare_types ps
-  bare_types (tree.piece (tree.word s) ∷ ps) = bare_types ps
-  bare_types (tree.piece (tree.operand i n) ∷ ps) = bare_types ps
-  bare_types (tree.piece (tree.operands ns) ∷ ps) = bare_types ps
-  bare_types (tree.piece (tree.successor i n) ∷ ps) = bare_types ps
-  bare_types (tree.piece (tree.successors ns) ∷ ps) = bare_types ps
-  bare_types (tree.piece (tree.attribute k a) ∷ ps) = bare_types ps
-  bare_types (tree.piece (tree.dictionary es) ∷ ps) = bare_types ps
   bare_types (tree.piece (tree.result_type i x) ∷ ps) = ap (λ z. (i, x) ∷ z) (bare_types ps)
-  bare_types (tree.piece (tree.header n) ∷ ps) = bare_types ps
-  bare_types (tree.piece (tree.types ts) ∷ ps) = bare_types ps
+  bare_types (_ ∷ ps) = bare_types ps
 
-  bare_singles : (ps : List (Part P T A)) → views (λ (p : Piece ⊤ T A). elim p [ tree.operand i n ↦ n ∷ [] | _ ↦ [] ]) (map bare_part ps) ≡ map bare_name (views (λ (p : Piece P T A). elim p [ tree.operand i n ↦ n ∷ [] | _ ↦ [] ]) ps)
-  bare_singles [] = refl
-  bare_singles (tree.region i ∷ ps) = bare_singles ps
-  bare_singles (tree.regions ∷ ps) = bare_singles ps
-  bare_singles (tree.piece (tree.word s) ∷ ps) = bare_singles ps
-  bare_singles (tree.piece (tree.operand i n) ∷ ps) = ap (λ z. bare_name n ∷ z) (bare_singles ps)
-  bare_singles (tree.piece (tree.operands ns) ∷ ps) = bare_singles ps
-  bare_singles (tree.piece (tree.successor i n) ∷ ps) = bare_singles ps
-  bare_singles (tree.piece (tree.successors ns) ∷ ps) = bare_singles ps
-  bare_singles (tree.piece (tree.attribute k a) ∷ ps) = bare_singles ps
-  bare_singles (tree.piece (tree.dictionary es) ∷ ps) = bare_singles ps
-  bare_singles (tree.piece (tree.result_type i x) ∷ ps) = bare_singles ps
-  bare_singles (tree.piece (tree.header n) ∷ ps) = bare_singles ps
-  bare_singles (tree.piece (tree.types ts) ∷ ps) = bare_singles ps
+  bare_singles : (ps : List (Part P T A)) → singles (map bare_part ps) ≡ singles ps
+  bare_singles ps = ap length (views_bare (λ p. elim p [ tree.operand i n ↦ n ∷ [] | _ ↦ [] ]) (λ p. elim p [ tree.operand i n ↦ n ∷ [] | _ ↦ [] ]) bare_name (elim [ tree.operand i n ↦ refl | _ ↦ refl ]) ps) ∙ mapped_length bare_name _
 
-  bare_single_labels : (ps : List (Part P T A)) → views (λ (p : Piece ⊤ T A). elim p [ tree.successor i n ↦ n ∷ [] | _ ↦ [] ]) (map bare_part ps) ≡ map bare_name (views (λ (p : Piece P T A). elim p [ tree.successor i n ↦ n ∷ [] | _ ↦ [] ]) ps)
-  bare_single_labels [] = refl
-  bare_single_labels (tree.region i ∷ ps) = bare_single_labels ps
-  bare_single_labels (tree.regions ∷ ps) = bare_single_labels ps
-  bare_single_labels (tree.piece (tree.word s) ∷ ps) = bare_single_labels ps
-  bare_single_labels (tree.piece (tree.operand i n) ∷ ps) = bare_single_labels ps
-  bare_single_labels (tree.piece (tree.operands ns) ∷ ps) = bare_single_labels ps
-  bare_single_labels (tree.piece (tree.successor i n) ∷ ps) = ap (λ z. bare_name n ∷ z) (bare_single_labels ps)
-  bare_single_labels (tree.piece (tree.successors ns) ∷ ps) = bare_single_labels ps
-  bare_single_labels (tree.piece (tree.attribute k a) ∷ ps) = bare_single_labels ps
-  bare_single_labels (tree.piece (tree.dictionary es) ∷ ps) = bare_single_labels ps
-  bare_single_labels (tree.piece (tree.result_type i x) ∷ ps) = bare_single_labels ps
-  bare_single_labels (tree.piece (tree.header n) ∷ ps) = bare_single_labels ps
-  bare_single_labels (tree.piece (tree.types ts) ∷ ps) = bare_single_labels ps
+  bare_single_labels : (ps : List (Part P T A)) → single_labels (map bare_part ps) ≡ single_labels ps
+  bare_single_labels ps = ap length (views_bare (λ p. elim p [ tree.successor i n ↦ n ∷ [] | _ ↦ [] ]) (λ p. elim p [ tree.successor i n ↦ n ∷ [] | _ ↦ [] ]) bare_name (elim [ tree.successor i n ↦ refl | _ ↦ refl ]) ps) ∙ mapped_length bare_name _
 
   -- the parts of a body without its places
   pub bare_parts : (b : Body P T A) → parts_of (bare_body b) ≡ map bare_part (parts_of b)
@@ -252,34 +159,28 @@ module _ {P T A : Type 0} where
   bare_result_types (custom ps) = ap in_order (bare_types ps)
   bare_result_types (canonical ns ls es xs ys) = refl
 
+  -- names of one kind, single ones in order and then lists of them, are the same without their places
+  names_bare : (one : Piece P T A → List (ℕ × Name P)) (bare_one : Piece ⊤ T A → List (ℕ × Name ⊤)) (more : Piece P T A → List (Name P)) (bare_more : Piece ⊤ T A → List (Name ⊤))
+      → ((x : Piece P T A) → bare_one (bare_piece x) ≡ map (second bare_name) (one x)) → ((x : Piece P T A) → bare_more (bare_piece x) ≡ map bare_name (more x)) → (b : Body P T A)
+      → in_order (views bare_one (parts_of (bare_body b))) ++ views bare_more (parts_of (bare_body b)) ≡ map bare_name (in_order (views one (parts_of b)) ++ views more (parts_of b))
+  names_bare one bare_one more bare_more e f b =
+      ap (λ ps. in_order (views bare_one ps) ++ views bare_more ps) (bare_parts b)
+      ∙ (ap₂ ◌++◌ (ap in_order (views_bare bare_one one (second bare_name) e (parts_of b)) ∙ in_order_mapped bare_name (views one (parts_of b))) (views_bare bare_more more bare_name f (parts_of b)) ∙ mapped_both bare_name (in_order (views one (parts_of b))) (views more (parts_of b)))
+
   -- an operation has the same operands without its places
   pub bare_operand_names : (o : Op P T A) → operand_names (bare_op o) ≡ map bare_name (operand_names o)
-  bare_operand_names o =
-      let single : List (ℕ × Name P) = views (λ p. elim p [ tree.operand i n ↦ (i, n) ∷ [] | _ ↦ [] ]) (parts_of o.body) in
-      let list : List (Name P) = views (λ p. elim p [ tree.operands ns ↦ ns | _ ↦ [] ]) (parts_of o.body) in
-      ap (λ ps. in_order (views (λ p. elim p [ tree.operand i n ↦ (i, n) ∷ [] | _ ↦ [] ]) ps) ++ views (λ p. elim p [ tree.operands ns ↦ ns | _ ↦ [] ]) ps) (bare_parts o.body)
-      ∙ (ap₂ ◌++◌ (ap in_order (bare_operand (parts_of o.body)) ∙ in_order_mapped bare_name single) (bare_operands (parts_of o.body)) ∙ mapped_both bare_name (in_order single) list)
+  bare_operand_names o = names_bare _ _ _ _ (elim [ tree.operand i n ↦ refl | _ ↦ refl ]) (elim [ tree.operands ns ↦ refl | _ ↦ refl ]) o.body
 
   -- an operation has the same successors without its places
   pub bare_successor_labels : (o : Op P T A) → successor_labels (bare_op o) ≡ map bare_name (successor_labels o)
-  bare_successor_labels o =
-      let single : List (ℕ × Name P) = views (λ p. elim p [ tree.successor i n ↦ (i, n) ∷ [] | _ ↦ [] ]) (parts_of o.body) in
-      let list : List (Name P) = views (λ p. elim p [ tree.successors ns ↦ ns | _ ↦ [] ]) (parts_of o.body) in
-      ap (λ ps. in_order (views (λ p. elim p [ tree.successor i n ↦ (i, n) ∷ [] | _ ↦ [] ]) ps) ++ views (λ p. elim p [ tree.successors ns ↦ ns | _ ↦ [] ]) ps) (bare_parts o.body)
-      ∙ (ap₂ ◌++◌ (ap in_order (bare_successor (parts_of o.body)) ∙ in_order_mapped bare_name single) (bare_successors (parts_of o.body)) ∙ mapped_both bare_name (in_order single) list)
+  bare_successor_labels o = names_bare _ _ _ _ (elim [ tree.successor i n ↦ refl | _ ↦ refl ]) (elim [ tree.successors ns ↦ refl | _ ↦ refl ]) o.body
 
   -- ---- scripts
   bare_piece_acts : (p : Path) (k l : ℕ) (x : Piece P T A) → piece_acts p k l (bare_piece x) ≡ map B (piece_acts p k l x)
-  bare_piece_acts p k l (tree.word s) = refl
-  bare_piece_acts p k l (tree.operand i n) = refl
   bare_piece_acts p k l (tree.operands ns) = bare_value_uses p k ns
-  bare_piece_acts p k l (tree.successor i n) = refl
   bare_piece_acts p k l (tree.successors ns) = bare_label_uses p l ns
-  bare_piece_acts p k l (tree.attribute key a) = refl
   bare_piece_acts p k l (tree.dictionary es) = bare_keys may_hold es
-  bare_piece_acts p k l (tree.result_type i x) = refl
-  bare_piece_acts p k l (tree.header n) = refl
-  bare_piece_acts p k l (tree.types ts) = refl
+  bare_piece_acts p k l _ = refl
 
   bare_parts_script : (p : Path) (k l : ℕ) (ps : List (Part P T A)) (rs : List (Script Text P → Script Text P)) (ss : List (Script Text ⊤ → Script Text ⊤)) (x : Script Text P) → BareAll rs ss
       → E (parts_script p k l ps rs x) ≡ parts_script p k l (map bare_part ps) ss (E x)
@@ -314,7 +215,7 @@ module _ {P T A : Type 0} where
       let ps = parts_of o.body in
       bare_parts_script p (singles ps) (single_labels ps) ps rs ss (does_all (closing_acts p o) x) h
       ∙ (ap₂ (λ i j. parts_script p i j (map bare_part ps) ss (E (does_all (closing_acts p o) x)))
-      (sym (ap length (bare_singles ps) ∙ mapped_length bare_name _)) (sym (ap length (bare_single_labels ps) ∙ mapped_length bare_name _))
+      (sym (bare_singles ps)) (sym (bare_single_labels ps))
       ∙ (ap (λ z. parts_script p (singles (map bare_part ps)) (single_labels (map bare_part ps)) (map bare_part ps) ss z) (does_bare (closing_acts p o) x ∙ ap (λ z. does_all z (E x)) (sym (bare_closing p o)))
       ∙ ap (λ qs. parts_script p (singles qs) (single_labels qs) qs ss (does_all (closing_acts p (bare_op o)) (E x))) (sym (bare_parts o.body))))
 

@@ -99,8 +99,8 @@ module _ {P T A X : Type 0} (isolated : Id → Bool) (first : P → X) (es : Lis
         let held = Held v l (i ∷ p) (isolated o.id) 0 rs in
         let later = operation_slots p (suc i) (built_operations isolated first es v l p (suc i) os) in
         let rest = operations_script isolated p (suc i) os x in
-        same_then (op_walk v l (i ∷ p) o rs rest f.0 (regions_walk v l (i ∷ p) 0 (isolated o.id) rs f.1))
-        (same_then (same_under own (same_under held (operations_walk v l p (suc i) os x f.2)))
+        same_then (op_walk v l (i ∷ p) o rs rest f.0.0 (regions_walk v l (i ∷ p) 0 (isolated o.id) rs f.0.1))
+        (same_then (same_under own (same_under held (operations_walk v l p (suc i) os x f.1)))
         (same_path _ _ (sym (append_assoc own held (later ++ meant same_text v l x)) ∙ sym (append_assoc (own ++ held) later (meant same_text v l x)))))
 
   -- what the whole tree means, before whatever is done then

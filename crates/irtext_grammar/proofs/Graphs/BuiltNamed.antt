@@ -196,11 +196,6 @@ kept_front rule (x ∷ xs) ys h = let r = kept_front rule xs ys h.1 in ((h.0, r.
 module _ {P T A : Type 0} where
   parts_inline : (ps : List (Part P T A)) → has same_text given_names_key (flat_map key_of_part ps) ≡ false → KeysKept may_hold (views entries_in ps) → KeepsKeys (views stored ps)
   parts_inline [] h k = refl
-  parts_inline (tree.piece (tree.word s) ∷ ps) h k = parts_inline ps h k
-  parts_inline (tree.piece (tree.operand i n) ∷ ps) h k = parts_inline ps h k
-  parts_inline (tree.piece (tree.operands ns) ∷ ps) h k = parts_inline ps h k
-  parts_inline (tree.piece (tree.successor i n) ∷ ps) h k = parts_inline ps h k
-  parts_inline (tree.piece (tree.successors ns) ∷ ps) h k = parts_inline ps h k
   parts_inline (tree.piece (tree.attribute key None) ∷ ps) h k = parts_inline ps (neither (same_text given_names_key key) _ h).1 k
   parts_inline (tree.piece (tree.attribute key (Some a)) ∷ ps) h k =
       let q = neither (same_text given_names_key key) _ h in
@@ -208,11 +203,7 @@ module _ {P T A : Type 0} where
   parts_inline (tree.piece (tree.dictionary es) ∷ ps) h k =
       let r = kept_front may_hold es (views entries_in ps) k in
       keeps_both may_hold (map plain_entry es) (views stored ps) (plain_keeps may_hold es r.0) (parts_inline ps h r.1)
-  parts_inline (tree.piece (tree.result_type i t) ∷ ps) h k = parts_inline ps h k
-  parts_inline (tree.piece (tree.header n) ∷ ps) h k = parts_inline ps h k
-  parts_inline (tree.piece (tree.types ts) ∷ ps) h k = parts_inline ps h k
-  parts_inline (tree.region i ∷ ps) h k = parts_inline ps h k
-  parts_inline (tree.regions ∷ ps) h k = parts_inline ps h k
+  parts_inline (_ ∷ ps) h k = parts_inline ps h k
 
   no_names_key : (f : Format) (b : Body P T A) → Accepted f → IsOf f b → has same_text given_names_key (flat_map key_of_part (parts_of b)) ≡ false
   no_names_key (format.custom ds) (tree.custom ps) a i =
@@ -249,8 +240,7 @@ module _ {P T A X : Type 0} (C : Printing T A) (isolated : Id → Bool) (first :
       (head : (b : GraphBlock T A) (h : Head P T A) → StandsForBlock (stood_block C isolated b) (built_head isolated first es h) → HeadKeysKept h → Marked (marked_as h.mark) → OfB b) where
     mutual
       regions_of : (v : List (Fact Thing)) (w : List (Fact Text)) (p q : Path) (j k : ℕ) (iso yet : Bool) (rs : Regions (GraphOp T A) (GraphBlock T A) ⊤) (ts : Regions (Op P T A) (Head P T A) (Brace P))
-          → MatchRegions StandsForOp StandsForBlock (λ r s. ⊤) (stood_regions C isolated v p j iso rs) (built_regions isolated first es w q k yet ts)
-          → AllRegions CountsAgree (λ h. ⊤) (λ r. ⊤) ts → AllRegions OpKeysKept HeadKeysKept (λ r. ⊤) ts → FormedRegions ts → Marked (block_marks_in_regions ts) → AllRegions OfO OfB (λ r. ⊤) rs
+          → MatchRegions StandsForOp StandsForBlock (λ r s. ⊤) (stood_regions C isolated v p j iso rs) (built_regions isolated first es w q k yet ts) → AllRegions CountsAgree (λ h. ⊤) (λ r. ⊤) ts → AllRegions OpKeysKept HeadKeysKept (λ r. ⊤) ts → FormedRegions ts → Marked (block_marks_in_regions ts) → AllRegions OfO OfB (λ r. ⊤) rs
       regions_of v w p q j k iso yet no_regions ts s c e f m = tt
       regions_of v w p q j k iso yet (region r bs rs) no_regions s c e f m = absurd s
       regions_of v w p q j k iso yet (region r bs rs) (region elided cs ts) s c e f m = absurd f
@@ -261,8 +251,7 @@ module _ {P T A X : Type 0} (C : Printing T A) (isolated : Id → Bool) (first :
       )
 
       blocks_of : (v l : List (Fact Thing)) (w u : List (Fact Text)) (p q : Path) (j k : ℕ) (bs : Blocks (GraphOp T A) (GraphBlock T A) ⊤) (cs : Blocks (Op P T A) (Head P T A) (Brace P))
-          → MatchBlocks StandsForOp StandsForBlock (λ r s. ⊤) (stood_blocks C isolated v l p j bs) (built_blocks isolated first es w u q k cs)
-          → AllBlocks CountsAgree (λ h. ⊤) (λ r. ⊤) cs → AllBlocks OpKeysKept HeadKeysKept (λ r. ⊤) cs → FormedBlocks cs → Marked (block_marks_in_blocks cs) → AllBlocks OfO OfB (λ r. ⊤) bs
+          → MatchBlocks StandsForOp StandsForBlock (λ r s. ⊤) (stood_blocks C isolated v l p j bs) (built_blocks isolated first es w u q k cs) → AllBlocks CountsAgree (λ h. ⊤) (λ r. ⊤) cs → AllBlocks OpKeysKept HeadKeysKept (λ r. ⊤) cs → FormedBlocks cs → Marked (block_marks_in_blocks cs) → AllBlocks OfO OfB (λ r. ⊤) bs
       blocks_of v l w u p q j k no_blocks cs s c e f m = tt
       blocks_of v l w u p q j k (block b os bs) no_blocks s c e f m = absurd s
       blocks_of v l w u p q j k (block b os bs) (block h xs cs) s c e f m =
@@ -275,16 +264,15 @@ module _ {P T A X : Type 0} (C : Printing T A) (isolated : Id → Bool) (first :
           )
 
       operations_of : (v l : List (Fact Thing)) (w u : List (Fact Text)) (p q : Path) (j k : ℕ) (os : Operations (GraphOp T A) (GraphBlock T A) ⊤) (xs : Operations (Op P T A) (Head P T A) (Brace P))
-          → MatchOperations StandsForOp StandsForBlock (λ r s. ⊤) (stood_operations C isolated v l p j os) (built_operations isolated first es w u q k xs)
-          → AllOperations CountsAgree (λ h. ⊤) (λ r. ⊤) xs → AllOperations OpKeysKept HeadKeysKept (λ r. ⊤) xs → FormedOperations xs → Marked (block_marks_in_operations xs) → AllOperations OfO OfB (λ r. ⊤) os
+          → MatchOperations StandsForOp StandsForBlock (λ r s. ⊤) (stood_operations C isolated v l p j os) (built_operations isolated first es w u q k xs) → AllOperations CountsAgree (λ h. ⊤) (λ r. ⊤) xs → AllOperations OpKeysKept HeadKeysKept (λ r. ⊤) xs → FormedOperations xs → Marked (block_marks_in_operations xs) → AllOperations OfO OfB (λ r. ⊤) os
       operations_of v l w u p q j k no_operations xs s c e f m = tt
       operations_of v l w u p q j k (operation o rs os) no_operations s c e f m = absurd s
       operations_of v l w u p q j k (operation o rs os) (operation x ts xs) s c e f m =
           let ms = block_marks_in_regions ts in
           let ns = block_marks_in_operations xs in (
-            op o x ts v l w u s.0 c.0 e.0 f.0,
-            regions_of v w (j ∷ p) (k ∷ q) 0 0 (isolated o.id) (isolated x.id) rs ts s.1 c.1 e.1 f.1 (λ i g. m i (among_left i ms ns g)),
-            operations_of v l w u p q (suc j) (suc k) os xs s.2 c.2 e.2 f.2 (λ i g. m i (among_right i ms ns g)),
+            op o x ts v l w u s.0 c.0 e.0 f.0.0,
+            regions_of v w (j ∷ p) (k ∷ q) 0 0 (isolated o.id) (isolated x.id) rs ts s.1 c.1 e.1 f.0.1 (λ i g. m i (among_left i ms ns g)),
+            operations_of v l w u p q (suc j) (suc k) os xs s.2 c.2 e.2 f.1 (λ i g. m i (among_right i ms ns g)),
           )
 
   op_named : (o : GraphOp T A) (x : Op P T A) (rs : Regions (Op P T A) (Head P T A) (Brace P)) (v l : List (Fact Thing)) (w m : List (Fact Text)) → StandsForOp (stood_op C isolated v l o) (built_op isolated first es w m x)
@@ -367,41 +355,22 @@ module _ {P T A : Type 0} where
   abbrev more_successors : List (Part P T A) → List (Name P)
   more_successors = views (λ p. elim p [ tree.successors ns ↦ ns | _ ↦ [] ])
 
+  -- where a view of pieces is empty, two others are that are empty at each piece at which it is
+  none_seen : {X Y Z : Type 0} (view : Piece P T A → List X) (single : Piece P T A → List Y) (more : Piece P T A → List Z) → ((x : Piece P T A) → view x ≡ [] → (single x ≡ []) × (more x ≡ []))
+      → (ps : List (Part P T A)) → views view ps ≡ [] → (views single ps ≡ []) × (views more ps ≡ [])
+  none_seen view single more h [] e = (refl, refl)
+  none_seen view single more h (tree.piece x ∷ ps) e =
+      let b = both_empty (view x) (views view ps) e in
+      let f = h x b.0 in
+      let r = none_seen view single more h ps b.1 in
+      (ap₂ ◌++◌ f.0 r.0, ap₂ ◌++◌ f.1 r.1)
+  none_seen view single more h (_ ∷ ps) e = none_seen view single more h ps e
+
   none_used : (ps : List (Part P T A)) → views (λ p. elim p [ tree.operand i n ↦ n ∷ [] | tree.operands ns ↦ ns | _ ↦ [] ]) ps ≡ [] → (single_operands ps ≡ []) × (more_operands ps ≡ [])
-  none_used [] e = (refl, refl)
-  none_used (tree.piece (tree.word s) ∷ ps) e = none_used ps e
-  none_used (tree.piece (tree.operand i n) ∷ ps) e = absurd (unequal n _ e)
-  none_used (tree.piece (tree.operands ns) ∷ ps) e =
-      let b = both_empty ns _ e in
-      let r = none_used ps b.1 in
-      (r.0, ap₂ ◌++◌ b.0 r.1)
-  none_used (tree.piece (tree.successor i n) ∷ ps) e = none_used ps e
-  none_used (tree.piece (tree.successors ns) ∷ ps) e = none_used ps e
-  none_used (tree.piece (tree.attribute k a) ∷ ps) e = none_used ps e
-  none_used (tree.piece (tree.dictionary es) ∷ ps) e = none_used ps e
-  none_used (tree.piece (tree.result_type i t) ∷ ps) e = none_used ps e
-  none_used (tree.piece (tree.header n) ∷ ps) e = none_used ps e
-  none_used (tree.piece (tree.types ts) ∷ ps) e = none_used ps e
-  none_used (tree.region i ∷ ps) e = none_used ps e
-  none_used (tree.regions ∷ ps) e = none_used ps e
+  none_used = none_seen _ _ _ (elim [ tree.operand i n ↦ λ e. absurd (unequal n _ e) | tree.operands ns ↦ λ e. (refl, e) | _ ↦ λ e. (refl, refl) ])
 
   none_branched : (ps : List (Part P T A)) → views (λ p. elim p [ tree.successor i n ↦ n ∷ [] | tree.successors ns ↦ ns | _ ↦ [] ]) ps ≡ [] → (single_successors ps ≡ []) × (more_successors ps ≡ [])
-  none_branched [] e = (refl, refl)
-  none_branched (tree.piece (tree.word s) ∷ ps) e = none_branched ps e
-  none_branched (tree.piece (tree.operand i n) ∷ ps) e = none_branched ps e
-  none_branched (tree.piece (tree.operands ns) ∷ ps) e = none_branched ps e
-  none_branched (tree.piece (tree.successor i n) ∷ ps) e = absurd (unequal n _ e)
-  none_branched (tree.piece (tree.successors ns) ∷ ps) e =
-      let b = both_empty ns _ e in
-      let r = none_branched ps b.1 in
-      (r.0, ap₂ ◌++◌ b.0 r.1)
-  none_branched (tree.piece (tree.attribute k a) ∷ ps) e = none_branched ps e
-  none_branched (tree.piece (tree.dictionary es) ∷ ps) e = none_branched ps e
-  none_branched (tree.piece (tree.result_type i t) ∷ ps) e = none_branched ps e
-  none_branched (tree.piece (tree.header n) ∷ ps) e = none_branched ps e
-  none_branched (tree.piece (tree.types ts) ∷ ps) e = none_branched ps e
-  none_branched (tree.region i ∷ ps) e = none_branched ps e
-  none_branched (tree.regions ∷ ps) e = none_branched ps e
+  none_branched = none_seen _ _ _ (elim [ tree.successor i n ↦ λ e. absurd (unequal n _ e) | tree.successors ns ↦ λ e. (refl, e) | _ ↦ λ e. (refl, refl) ])
 
   no_operand_names : (o : Op P T A) → views (λ p. elim p [ tree.operand i n ↦ n ∷ [] | tree.operands ns ↦ ns | _ ↦ [] ]) (parts_of o.body) ≡ [] → operand_names o ≡ []
   no_operand_names o e = let q = none_used (parts_of o.body) e in ap₂ (λ (a : List (ℕ × Name P)) (b : List (Name P)). in_order a ++ b) q.0 q.1

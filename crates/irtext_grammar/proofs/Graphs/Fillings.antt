@@ -36,17 +36,8 @@ use Rattle.irtext_grammar.proofs.Graphs.Links.{all_there}
 -- ---- what is stored, places aside
 module _ {P T A : Type 0} where
   stored_bare : (x : Piece P T A) → stored (bare_piece x) ≡ stored x
-  stored_bare (tree.attribute k None) = refl
-  stored_bare (tree.attribute k (Some a)) = refl
   stored_bare (tree.dictionary es) = mapped_twice bare_entry plain_entry es
-  stored_bare (tree.word s) = refl
-  stored_bare (tree.operand i n) = refl
-  stored_bare (tree.operands ns) = refl
-  stored_bare (tree.successor i n) = refl
-  stored_bare (tree.successors ns) = refl
-  stored_bare (tree.result_type i x) = refl
-  stored_bare (tree.header n) = refl
-  stored_bare (tree.types xs) = refl
+  stored_bare _ = refl
 
   parts_stored : (ps : List (Part P T A)) → views stored (map bare_part ps) ≡ views stored ps
   parts_stored [] = refl
@@ -185,34 +176,25 @@ module _ {P T A X : Type 0} (C : Printing T A) (isolated : Id → Bool) (K : Loc
 
   mutual
     regions_same : (a : Regions (GraphOp T A) (GraphBlock T A) ⊤) (r : Regions (Op P T A) (Head P T A) (Brace P)) (w : List (Fact Thing)) (v : List (Fact Text)) (q : Path) (j : ℕ) (iso also : Bool)
-        → FitRegions C isolated a → AllRegions OpKeepsKeys BlockKeepsKeys (λ r. ⊤) a → AllRegions Differ BlockDiffer (λ r. ⊤) a → MatchRegions (WrittenOp C) (WrittenBlock C) (λ x y. ⊤) a r → MatchRegions Says BlockSays (λ x y. ⊤) a r
-        → MatchRegions SameShape SameBlockShape (λ x y. ⊤) (stood_regions C isolated w q j iso a) (built_regions isolated first es v q j also r) → AllRegions OpLinked (λ b. ⊤) (λ r. ⊤) (built_regions isolated first es v q j also r)
-        → MatchRegions (SameOp K) (SameBlock K) (λ x y. ⊤) (stood_regions C isolated w q j iso a) (built_regions isolated first es v q j also r)
+        → FitRegions C isolated a → AllRegions OpKeepsKeys BlockKeepsKeys (λ r. ⊤) a → AllRegions Differ BlockDiffer (λ r. ⊤) a → MatchRegions (WrittenOp C) (WrittenBlock C) (λ x y. ⊤) a r → MatchRegions Says BlockSays (λ x y. ⊤) a r → MatchRegions SameShape SameBlockShape (λ x y. ⊤) (stood_regions C isolated w q j iso a) (built_regions isolated first es v q j also r) → AllRegions OpLinked (λ b. ⊤) (λ r. ⊤) (built_regions isolated first es v q j also r) → MatchRegions (SameOp K) (SameBlock K) (λ x y. ⊤) (stood_regions C isolated w q j iso a) (built_regions isolated first es v q j also r)
     regions_same no_regions no_regions w v q j iso also f k d r s h t = tt
-    regions_same no_regions (region b bs rs) w v q j iso also f k d r s h t = absurd r
-    regions_same (region c cs ss) no_regions w v q j iso also f k d r s h t = absurd r
     regions_same (region c cs ss) (region b bs rs) w v q j iso also f k d r s h t =
         (tt, blocks_same cs bs _ _ _ _ (j ∷ q) 0 f.0 k.1 d.1 r.1 s.1 h.1 t.1, regions_same ss rs w v q (suc j) iso also f.1 k.2 d.2 r.2 s.2 h.2 t.2)
+    regions_same _ _ w v q j iso also f k d r s h t = absurd r
 
     blocks_same : (a : Blocks (GraphOp T A) (GraphBlock T A) ⊤) (r : Blocks (Op P T A) (Head P T A) (Brace P)) (w m : List (Fact Thing)) (v l : List (Fact Text)) (q : Path) (i : ℕ)
-        → FitBlocks C isolated a → AllBlocks OpKeepsKeys BlockKeepsKeys (λ r. ⊤) a → AllBlocks Differ BlockDiffer (λ r. ⊤) a → MatchBlocks (WrittenOp C) (WrittenBlock C) (λ x y. ⊤) a r → MatchBlocks Says BlockSays (λ x y. ⊤) a r
-        → MatchBlocks SameShape SameBlockShape (λ x y. ⊤) (stood_blocks C isolated w m q i a) (built_blocks isolated first es v l q i r) → AllBlocks OpLinked (λ b. ⊤) (λ r. ⊤) (built_blocks isolated first es v l q i r)
-        → MatchBlocks (SameOp K) (SameBlock K) (λ x y. ⊤) (stood_blocks C isolated w m q i a) (built_blocks isolated first es v l q i r)
+        → FitBlocks C isolated a → AllBlocks OpKeepsKeys BlockKeepsKeys (λ r. ⊤) a → AllBlocks Differ BlockDiffer (λ r. ⊤) a → MatchBlocks (WrittenOp C) (WrittenBlock C) (λ x y. ⊤) a r → MatchBlocks Says BlockSays (λ x y. ⊤) a r → MatchBlocks SameShape SameBlockShape (λ x y. ⊤) (stood_blocks C isolated w m q i a) (built_blocks isolated first es v l q i r) → AllBlocks OpLinked (λ b. ⊤) (λ r. ⊤) (built_blocks isolated first es v l q i r) → MatchBlocks (SameOp K) (SameBlock K) (λ x y. ⊤) (stood_blocks C isolated w m q i a) (built_blocks isolated first es v l q i r)
     blocks_same no_blocks no_blocks w m v l q i f k d r s h t = tt
-    blocks_same no_blocks (block g os bs) w m v l q i f k d r s h t = absurd r
-    blocks_same (block c cs ds) no_blocks w m v l q i f k d r s h t = absurd r
     blocks_same (block c cs ds) (block g os bs) w m v l q i f k d r s h t =
         (block_same c g k.0 d.0 r.0 (says_of C K es c.location (block_outlined C c) _ s.0) h.0, operations_same cs os w m v l (i ∷ q) 0 f.0 k.1 d.1 r.1 s.1 h.1 t.1, blocks_same ds bs w m v l q (suc i) f.1 k.2 d.2 r.2 s.2 h.2 t.2)
+    blocks_same _ _ w m v l q i f k d r s h t = absurd r
 
     operations_same : (a : Operations (GraphOp T A) (GraphBlock T A) ⊤) (r : Operations (Op P T A) (Head P T A) (Brace P)) (w m : List (Fact Thing)) (v l : List (Fact Text)) (q : Path) (i : ℕ)
-        → FitOperations C isolated a → AllOperations OpKeepsKeys BlockKeepsKeys (λ r. ⊤) a → AllOperations Differ BlockDiffer (λ r. ⊤) a → MatchOperations (WrittenOp C) (WrittenBlock C) (λ x y. ⊤) a r → MatchOperations Says BlockSays (λ x y. ⊤) a r
-        → MatchOperations SameShape SameBlockShape (λ x y. ⊤) (stood_operations C isolated w m q i a) (built_operations isolated first es v l q i r) → AllOperations OpLinked (λ b. ⊤) (λ r. ⊤) (built_operations isolated first es v l q i r)
-        → MatchOperations (SameOp K) (SameBlock K) (λ x y. ⊤) (stood_operations C isolated w m q i a) (built_operations isolated first es v l q i r)
+        → FitOperations C isolated a → AllOperations OpKeepsKeys BlockKeepsKeys (λ r. ⊤) a → AllOperations Differ BlockDiffer (λ r. ⊤) a → MatchOperations (WrittenOp C) (WrittenBlock C) (λ x y. ⊤) a r → MatchOperations Says BlockSays (λ x y. ⊤) a r → MatchOperations SameShape SameBlockShape (λ x y. ⊤) (stood_operations C isolated w m q i a) (built_operations isolated first es v l q i r) → AllOperations OpLinked (λ b. ⊤) (λ r. ⊤) (built_operations isolated first es v l q i r) → MatchOperations (SameOp K) (SameBlock K) (λ x y. ⊤) (stood_operations C isolated w m q i a) (built_operations isolated first es v l q i r)
     operations_same no_operations no_operations w m v l q i f k d r s h t = tt
-    operations_same no_operations (operation o rs os) w m v l q i f k d r s h t = absurd r
-    operations_same (operation c cs ds) no_operations w m v l q i f k d r s h t = absurd r
     operations_same (operation c cs ds) (operation o rs os) w m v l q i f k d r s h t =
         (op_same w m v l c o (length (regions_list cs)) f.0 k.0 d.0 r.0 (says_of C K es c.location (op_outlined C c) _ s.0) h.0 t.0, regions_same cs rs w v (i ∷ q) 0 _ _ f.1 k.1 d.1 r.1 s.1 h.1 t.1, operations_same ds os w m v l q (suc i) f.2 k.2 d.2 r.2 s.2 h.2 t.2)
+    operations_same _ _ w m v l q i f k d r s h t = absurd r
 
   -- what is built of a tree that is written of a graph is equal to the graph up to fillings
   pub fillings : (g : Graph T A) (t : Tree P T A) (x : Script Text P) → Fit C isolated g → SmallGraph C isolated g → GraphKeepsKeys g → GraphKeysDiffer g → bare t ≡ written C None g → Formed t

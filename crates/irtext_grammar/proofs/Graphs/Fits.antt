@@ -18,16 +18,10 @@ module _ {T A : Type 0} (C : Printing T A) where
   mapped d f h (Some x) = h x
 
   shaped : (ds : List format.Directive) (o : GraphOp T A) (d : format.Directive) → Shaped d (part_of C ds o d)
-  shaped ds o (format.word s) = refl
   shaped ds o (format.operand i) = mapped (format.operand i) _ (λ x. refl) (slice_get o.operands i)
-  shaped ds o format.operands = refl
   shaped ds o (format.successor i) = mapped (format.successor i) _ (λ x. refl) (slice_get o.successors i)
-  shaped ds o format.successors = refl
   shaped ds o (format.attribute k) = mapped (format.attribute k) _ (λ x. refl) (lookup k o.attributes)
-  shaped ds o format.dictionary = refl
   shaped ds o (format.result_type i) = mapped (format.result_type i) _ (λ x. refl) (slice_get o.results i)
-  shaped ds o (format.region i) = refl
-  shaped ds o format.regions = refl
   shaped ds o format.header = headed (lookup sym_name_key o.attributes)
     where
       headed : (a : Option (Attribute A)) → Shaped format.header (option_and_then (λ a. elim a [ ident n ↦ Some (tree.piece (tree.header (record { place = tt; text = n }))) | _ ↦ None ]) a)
@@ -35,6 +29,7 @@ module _ {T A : Type 0} (C : Printing T A) where
       headed (Some (given_names ns)) = tt
       headed (Some (ident n)) = refl
       headed (Some (own x)) = tt
+  shaped ds o _ = refl
 
   -- each of the directives finds its part in the operation
   abbrev pub Fits : List format.Directive → GraphOp T A → List format.Directive → Type 0

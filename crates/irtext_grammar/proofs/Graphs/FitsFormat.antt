@@ -95,30 +95,12 @@ Symbolic b (_ ∷ rest) = Symbolic b rest
 symbolic : (b : Bool) (rest : List Directive) → b ≡ true → Symbolic b rest
 symbolic b [] e = tt
 symbolic b (format.header ∷ rest) e = (e, symbolic b rest e)
-symbolic b (format.word s ∷ rest) e = symbolic b rest e
-symbolic b (format.operand i ∷ rest) e = symbolic b rest e
-symbolic b (format.operands ∷ rest) e = symbolic b rest e
-symbolic b (format.successor i ∷ rest) e = symbolic b rest e
-symbolic b (format.successors ∷ rest) e = symbolic b rest e
-symbolic b (format.attribute k ∷ rest) e = symbolic b rest e
-symbolic b (format.dictionary ∷ rest) e = symbolic b rest e
-symbolic b (format.result_type i ∷ rest) e = symbolic b rest e
-symbolic b (format.region i ∷ rest) e = symbolic b rest e
-symbolic b (format.regions ∷ rest) e = symbolic b rest e
+symbolic b (_ ∷ rest) e = symbolic b rest e
 
 none_header : (b : Bool) (rest : List Directive) → count is_header rest ≡ 0 → Symbolic b rest
 none_header b [] e = tt
 none_header b (format.header ∷ rest) e = absurd (omega arith)
-none_header b (format.word s ∷ rest) e = none_header b rest e
-none_header b (format.operand i ∷ rest) e = none_header b rest e
-none_header b (format.operands ∷ rest) e = none_header b rest e
-none_header b (format.successor i ∷ rest) e = none_header b rest e
-none_header b (format.successors ∷ rest) e = none_header b rest e
-none_header b (format.attribute k ∷ rest) e = none_header b rest e
-none_header b (format.dictionary ∷ rest) e = none_header b rest e
-none_header b (format.result_type i ∷ rest) e = none_header b rest e
-none_header b (format.region i ∷ rest) e = none_header b rest e
-none_header b (format.regions ∷ rest) e = none_header b rest e
+none_header b (_ ∷ rest) e = none_header b rest e
 
 zero_count : (n : ℕ) → (n == 0) ≡ true → n ≡ 0
 zero_count n e = grind (arith, nat_tests)
@@ -145,60 +127,22 @@ weigh_successor (Some d) = elim d [ format.successor i ↦ true | _ ↦ false ]
 operands_weigh : (ds : List Directive) → total weigh_operand (map Some ds) ≡ length (operand_places ds)
 operands_weigh [] = refl
 operands_weigh (format.operand i ∷ ds) = ap suc (operands_weigh ds)
-operands_weigh (format.word s ∷ ds) = operands_weigh ds
-operands_weigh (format.operands ∷ ds) = operands_weigh ds
-operands_weigh (format.successor i ∷ ds) = operands_weigh ds
-operands_weigh (format.successors ∷ ds) = operands_weigh ds
-operands_weigh (format.attribute k ∷ ds) = operands_weigh ds
-operands_weigh (format.dictionary ∷ ds) = operands_weigh ds
-operands_weigh (format.result_type i ∷ ds) = operands_weigh ds
-operands_weigh (format.region i ∷ ds) = operands_weigh ds
-operands_weigh (format.regions ∷ ds) = operands_weigh ds
-operands_weigh (format.header ∷ ds) = operands_weigh ds
+operands_weigh (_ ∷ ds) = operands_weigh ds
 
 successors_weigh : (ds : List Directive) → total weigh_successor (map Some ds) ≡ length (successor_places ds)
 successors_weigh [] = refl
 successors_weigh (format.successor i ∷ ds) = ap suc (successors_weigh ds)
-successors_weigh (format.word s ∷ ds) = successors_weigh ds
-successors_weigh (format.operand i ∷ ds) = successors_weigh ds
-successors_weigh (format.operands ∷ ds) = successors_weigh ds
-successors_weigh (format.successors ∷ ds) = successors_weigh ds
-successors_weigh (format.attribute k ∷ ds) = successors_weigh ds
-successors_weigh (format.dictionary ∷ ds) = successors_weigh ds
-successors_weigh (format.result_type i ∷ ds) = successors_weigh ds
-successors_weigh (format.region i ∷ ds) = successors_weigh ds
-successors_weigh (format.regions ∷ ds) = successors_weigh ds
-successors_weigh (format.header ∷ ds) = successors_weigh ds
+successors_weigh (_ ∷ ds) = successors_weigh ds
 
 singles_weigh : {P T A : Type 0} (ps : List (Part P T A)) → singles ps ≡ total weigh_operand (map directive ps)
 singles_weigh [] = refl
-singles_weigh (tree.region i ∷ ps) = singles_weigh ps
-singles_weigh (tree.regions ∷ ps) = singles_weigh ps
 singles_weigh (tree.piece (tree.operand i n) ∷ ps) = ap suc (singles_weigh ps)
-singles_weigh (tree.piece (tree.word s) ∷ ps) = singles_weigh ps
-singles_weigh (tree.piece (tree.operands ns) ∷ ps) = singles_weigh ps
-singles_weigh (tree.piece (tree.successor i n) ∷ ps) = singles_weigh ps
-singles_weigh (tree.piece (tree.successors ns) ∷ ps) = singles_weigh ps
-singles_weigh (tree.piece (tree.attribute k a) ∷ ps) = singles_weigh ps
-singles_weigh (tree.piece (tree.dictionary es) ∷ ps) = singles_weigh ps
-singles_weigh (tree.piece (tree.result_type i x) ∷ ps) = singles_weigh ps
-singles_weigh (tree.piece (tree.header n) ∷ ps) = singles_weigh ps
-singles_weigh (tree.piece (tree.types ts) ∷ ps) = singles_weigh ps
+singles_weigh (_ ∷ ps) = singles_weigh ps
 
 labels_weigh : {P T A : Type 0} (ps : List (Part P T A)) → single_labels ps ≡ total weigh_successor (map directive ps)
 labels_weigh [] = refl
-labels_weigh (tree.region i ∷ ps) = labels_weigh ps
-labels_weigh (tree.regions ∷ ps) = labels_weigh ps
 labels_weigh (tree.piece (tree.successor i n) ∷ ps) = ap suc (labels_weigh ps)
-labels_weigh (tree.piece (tree.word s) ∷ ps) = labels_weigh ps
-labels_weigh (tree.piece (tree.operand i n) ∷ ps) = labels_weigh ps
-labels_weigh (tree.piece (tree.operands ns) ∷ ps) = labels_weigh ps
-labels_weigh (tree.piece (tree.successors ns) ∷ ps) = labels_weigh ps
-labels_weigh (tree.piece (tree.attribute k a) ∷ ps) = labels_weigh ps
-labels_weigh (tree.piece (tree.dictionary es) ∷ ps) = labels_weigh ps
-labels_weigh (tree.piece (tree.result_type i x) ∷ ps) = labels_weigh ps
-labels_weigh (tree.piece (tree.header n) ∷ ps) = labels_weigh ps
-labels_weigh (tree.piece (tree.types ts) ∷ ps) = labels_weigh ps
+labels_weigh (_ ∷ ps) = labels_weigh ps
 
 module _ {T A : Type 0} (C : Printing T A) where
   abbrev symbol_there : GraphOp T A → Bool

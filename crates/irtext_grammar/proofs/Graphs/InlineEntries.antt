@@ -14,11 +14,11 @@ use Rattle.irtext_grammar.specs.Graphs.Closed.{FitsCustom, FitsFormat}
 use Rattle.irtext_grammar.specs.Names.Placeholders.{In}
 use Rattle.irtext_grammar.specs.Graphs.RoundTrip.{KeysDiffer}
 use Rattle.irtext_grammar.proofs.Lists.Lists.{or_else}
-use Rattle.irtext_grammar.proofs.Names.UsesMean.{each_both}
 use Rattle.irtext_grammar.proofs.Lists.SameText.{same_text_refl, same_text_true}
 use Rattle.irtext_grammar.proofs.Lists.Dictionaries.{last_of, last_both, some_else, some_first, Picks, picks_filter}
 use Rattle.irtext_grammar.proofs.Graphs.DictionaryHalves.{inlined}
 use Rattle.irtext_grammar.proofs.Lists.Numbering.{some_inside}
+use Rattle.irtext_grammar.proofs.Lists.Each.{each_both, each_filter}
 
 -- ---- where something is in a list
 has_in : (key : Text) (ks : List Text) → has same_text key ks ≡ true → In key ks
@@ -88,14 +88,6 @@ pub plainly : {T A : Type 0} (C : Printing T A) (es : List (Text × Attribute A)
 plainly C [] = refl
 plainly C (e ∷ es) = ap (λ z. e ∷ z) (plainly C es)
 
-each_kept : {X : Type 0} (Q : X → Type 0) (test : X → Bool) (xs : List X) → Each Q xs → Each Q (filter test xs)
-each_kept Q test [] h = tt
-each_kept Q test (x ∷ xs) h = go (test x) (each_kept Q test xs h.1)
-  where
-    go : (b : Bool) → Each Q (filter test xs) → Each Q (cond b (x ∷ filter test xs) (filter test xs))
-    go true r = (h.0, r)
-    go false r = r
-
 -- entries of other keys do not matter
 last_kept : {V : Type 0} (key : Text) (test : Text → Bool) (es : List (Text × V)) → test key ≡ true → is_some (last_of key es) ≡ true → is_some (last_of key (filter (λ e. test e.0) es)) ≡ true
 last_kept key test [] t h = h
@@ -135,11 +127,8 @@ module _ {T A : Type 0} (C : Printing T A) (isolated : Id → Bool) (o : GraphOp
 
   module _ (ds : List Directive) where
     part_own : (e : Directive) → Each Own (held (part_of C ds o e))
-    part_own (format.word s) = tt
     part_own (format.operand i) = subst (Each Own) (sym (nothing_held (λ v. tree.operand i (value C v)) (λ y. refl) (slice_get o.operands i))) tt
-    part_own format.operands = tt
     part_own (format.successor i) = subst (Each Own) (sym (nothing_held (λ v. tree.successor i (target C v)) (λ y. refl) (slice_get o.successors i))) tt
-    part_own format.successors = tt
     part_own (format.attribute key) = go (lookup key o.attributes) refl
       where
         one : (a : Attribute A) → lookup key o.attributes ≡ Some a → (b : Bool) → outlined C a ≡ b → Each Own (stored {P = ⊤} {T = T} (tree.attribute key (cond b None (Some a))))
@@ -150,10 +139,8 @@ module _ {T A : Type 0} (C : Printing T A) (isolated : Id → Bool) (o : GraphOp
         go None e = tt
         go (Some a) e = one a e (outlined C a) refl
     part_own format.dictionary =
-        subst (Each Own) (sym (plainly C (filter (λ e. not (has same_text e.0 (written_keys C ds))) (inline C o.attributes)))) (each_kept Own (λ e. not (has same_text e.0 (written_keys C ds))) (inline C o.attributes) inline_own)
+        subst (Each Own) (sym (plainly C (filter (λ e. not (has same_text e.0 (written_keys C ds))) (inline C o.attributes)))) (each_filter Own (λ e. not (has same_text e.0 (written_keys C ds))) (inline C o.attributes) inline_own)
     part_own (format.result_type i) = subst (Each Own) (sym (nothing_held (λ (r : ℕ × T). tree.result_type i r.1) (λ y. refl) (slice_get o.results i))) tt
-    part_own (format.region i) = tt
-    part_own format.regions = tt
     part_own format.header = go (lookup sym_name_key o.attributes) refl
       where
         go : (x : Option (Attribute A)) → lookup sym_name_key o.attributes ≡ x
@@ -162,6 +149,7 @@ module _ {T A : Type 0} (C : Printing T A) (isolated : Id → Bool) (o : GraphOp
         go (Some (given_names ns)) e = tt
         go (Some (ident n)) e = ((e, refl), tt)
         go (Some (own x)) e = tt
+    part_own _ = tt
 
     parts_own : (rest : List Directive) → Each Own (views stored (filter_map (part_of C ds o) rest))
     parts_own [] = tt

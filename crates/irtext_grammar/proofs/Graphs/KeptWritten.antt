@@ -153,16 +153,11 @@ module _ {T A : Type 0} (C : Printing T A) where
   mapped_keeps F h (Some y) = h y
 
   part_keeps : (ds : List Directive) (o : GraphOp T A) → OpKeepsKeys o → (d : Directive) → OptionKeeps (part_of C ds o d)
-  part_keeps ds o h (format.word s) = tt
   part_keeps ds o h (format.operand i) = mapped_keeps _ (λ y. tt) (slice_get o.operands i)
-  part_keeps ds o h format.operands = tt
   part_keeps ds o h (format.successor i) = mapped_keeps _ (λ y. tt) (slice_get o.successors i)
-  part_keeps ds o h format.successors = tt
   part_keeps ds o h (format.attribute k) = mapped_keeps _ (λ y. tt) (lookup k o.attributes)
   part_keeps ds o h format.dictionary = entries_keep may_hold _ (keeps_filter may_hold _ (inline C o.attributes) (keeps_filter may_hold _ o.attributes h))
   part_keeps ds o h (format.result_type i) = mapped_keeps _ (λ y. tt) (slice_get o.results i)
-  part_keeps ds o h (format.region i) = tt
-  part_keeps ds o h format.regions = tt
   part_keeps ds o h format.header = go (lookup sym_name_key o.attributes)
     where
       go : (x : Option (Attribute A)) → OptionKeeps (option_and_then (λ a. elim a [ ident n ↦ Some (tree.piece (tree.header (record { place = tt; text = n }))) | _ ↦ None ]) x)
@@ -170,6 +165,7 @@ module _ {T A : Type 0} (C : Printing T A) where
       go (Some (given_names ns)) = tt
       go (Some (ident n)) = tt
       go (Some (own x)) = tt
+  part_keeps ds o h _ = tt
 
   parts_keep : (ds : List Directive) (o : GraphOp T A) → OpKeepsKeys o → (rest : List Directive) → PartsKeep (filter_map (part_of C ds o) rest)
   parts_keep ds o h [] = tt
@@ -185,16 +181,12 @@ module _ {T A : Type 0} (C : Printing T A) where
   body_keeps o h (Some (format.custom ds)) = parts_keep ds o h ds
 
   piece_good : (p : Path) (k l : ℕ) (x : Piece ⊤ T A) → PartKeeps (tree.piece x) → GoodActs (piece_acts p k l x)
-  piece_good p k l (tree.word s) h = tt
   piece_good p k l (tree.operand i n) h = (named_act _ refl refl, tt)
   piece_good p k l (tree.operands ns) h = values_good p k ns
   piece_good p k l (tree.successor i n) h = (named_act _ refl refl, tt)
   piece_good p k l (tree.successors ns) h = labels_good p l ns
-  piece_good p k l (tree.attribute key a) h = tt
   piece_good p k l (tree.dictionary es) h = keys_good may_hold es h
-  piece_good p k l (tree.result_type i x) h = tt
-  piece_good p k l (tree.header n) h = tt
-  piece_good p k l (tree.types ts) h = tt
+  piece_good p k l _ h = tt
 
   -- region by region, the marks numbered on from n to e
   abbrev GoodRegions : ℕ → ℕ → ℕ → List (Script Text ⊤ → Script Text ⊤) → Type 0

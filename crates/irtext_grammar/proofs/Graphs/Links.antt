@@ -16,11 +16,12 @@ use Rattle.irtext_grammar.specs.Graphs.Build.{BuiltOp, BuiltBlock, Built, build}
 use Rattle.irtext_grammar.specs.Graphs.Links.{OpLinked, Linked, links_from, op_links, region_links, block_links, operation_links, links}
 use Rattle.irtext_grammar.specs.Names.Placeholders.{In}
 use Rattle.irtext_grammar.proofs.Lists.Sets.{Same, same_path, same_then, in_left}
-use Rattle.irtext_grammar.proofs.Names.UsesMean.{each_front, each_rest, each_in, in_each, in_link, in_both, acts_meant, meant, meant_all, bound_meant, all_mean}
+use Rattle.irtext_grammar.proofs.Names.UsesMean.{each_in, in_each, in_link, in_both, acts_meant, meant, meant_all, bound_meant, all_mean}
 use Rattle.irtext_grammar.proofs.Lists.Numbering.{numbered}
 use Rattle.irtext_grammar.proofs.Graphs.Slots.{op_slots, region_slots, block_slots, operation_slots, slots, nothing_both}
 use Rattle.irtext_grammar.proofs.Graphs.Bindings.{tree_walk}
 use Rattle.irtext_grammar.proofs.Grammar.PartsOfFormats.{Formed}
+use Rattle.irtext_grammar.proofs.Lists.Each.{each_left, each_right}
 
 -- the links have what the slots have
 abbrev LinksAs : User → Place → List (User × Place) → List (User × Option Place) → Type 0
@@ -61,20 +62,20 @@ means_there u k (x ∷ xs) h = ap (λ b. b && list_all is_some xs) h.0 ∙ means
 module _ {T A X : Type 0} where
   op_holds : (p : Path) (o : BuiltOp T A X) → Each Means (op_slots p o) → OpLinked o
   op_holds p o h = (
-    means_there (operand p) 0 o.operands (each_front Means (numbered (operand p) 0 o.operands) (numbered (successor p) 0 o.successors) h),
-    means_there (successor p) 0 o.successors (each_rest Means (numbered (operand p) 0 o.operands) (numbered (successor p) 0 o.successors) h),
+    means_there (operand p) 0 o.operands (each_left Means (numbered (operand p) 0 o.operands) (numbered (successor p) 0 o.successors) h),
+    means_there (successor p) 0 o.successors (each_right Means (numbered (operand p) 0 o.operands) (numbered (successor p) 0 o.successors) h),
   )
 
   mutual
     regions_hold : (p : Path) (j : ℕ) (rs : Regions (BuiltOp T A X) (BuiltBlock T A X) ⊤) → Each Means (region_slots p j rs) → AllRegions OpLinked (λ b. ⊤) (λ r. ⊤) rs
     regions_hold p j no_regions h = tt
     regions_hold p j (region r bs rs) h =
-        (tt, blocks_hold (j ∷ p) 0 bs (each_front Means (block_slots (j ∷ p) 0 bs) (region_slots p (suc j) rs) h), regions_hold p (suc j) rs (each_rest Means (block_slots (j ∷ p) 0 bs) (region_slots p (suc j) rs) h))
+        (tt, blocks_hold (j ∷ p) 0 bs (each_left Means (block_slots (j ∷ p) 0 bs) (region_slots p (suc j) rs) h), regions_hold p (suc j) rs (each_right Means (block_slots (j ∷ p) 0 bs) (region_slots p (suc j) rs) h))
 
     blocks_hold : (p : Path) (k : ℕ) (bs : Blocks (BuiltOp T A X) (BuiltBlock T A X) ⊤) → Each Means (block_slots p k bs) → AllBlocks OpLinked (λ b. ⊤) (λ r. ⊤) bs
     blocks_hold p k no_blocks h = tt
     blocks_hold p k (block g os bs) h =
-        (tt, operations_hold (k ∷ p) 0 os (each_front Means (operation_slots (k ∷ p) 0 os) (block_slots p (suc k) bs) h), blocks_hold p (suc k) bs (each_rest Means (operation_slots (k ∷ p) 0 os) (block_slots p (suc k) bs) h))
+        (tt, operations_hold (k ∷ p) 0 os (each_left Means (operation_slots (k ∷ p) 0 os) (block_slots p (suc k) bs) h), blocks_hold p (suc k) bs (each_right Means (operation_slots (k ∷ p) 0 os) (block_slots p (suc k) bs) h))
 
     operations_hold : (p : Path) (i : ℕ) (os : Operations (BuiltOp T A X) (BuiltBlock T A X) ⊤) → Each Means (operation_slots p i os) → AllOperations OpLinked (λ b. ⊤) (λ r. ⊤) os
     operations_hold p i no_operations h = tt
@@ -82,11 +83,11 @@ module _ {T A X : Type 0} where
         let own = op_slots (i ∷ p) o in
         let inner = region_slots (i ∷ p) 0 rs in
         let later = operation_slots p (suc i) os in
-        let now = each_front Means (own ++ inner) later h in
-        (op_holds (i ∷ p) o (each_front Means own inner now), regions_hold (i ∷ p) 0 rs (each_rest Means own inner now), operations_hold p (suc i) os (each_rest Means (own ++ inner) later h))
+        let now = each_left Means (own ++ inner) later h in
+        (op_holds (i ∷ p) o (each_left Means own inner now), regions_hold (i ∷ p) 0 rs (each_right Means own inner now), operations_hold p (suc i) os (each_right Means (own ++ inner) later h))
 
   each_holds : (b : Built T A X) → Each Means (slots b) → Linked b
-  each_holds b h = (op_holds [] b.own (each_front Means (op_slots [] b.own) (region_slots [] 0 b.regions) h), regions_hold [] 0 b.regions (each_rest Means (op_slots [] b.own) (region_slots [] 0 b.regions) h))
+  each_holds b h = (op_holds [] b.own (each_left Means (op_slots [] b.own) (region_slots [] 0 b.regions) h), regions_hold [] 0 b.regions (each_right Means (op_slots [] b.own) (region_slots [] 0 b.regions) h))
 
 -- ---- a section says nothing to operands and successors
 module _ (v l : List (Fact Text)) where

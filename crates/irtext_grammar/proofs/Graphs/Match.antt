@@ -21,6 +21,7 @@ use Rattle.irtext_grammar.proofs.Names.Plainly.{unmarked, facts_plain}
 use Rattle.irtext_grammar.proofs.Names.Injective.{names_agree}
 use Rattle.irtext_grammar.proofs.Graphs.WrittenScript.{blocks_like}
 use Rattle.irtext_grammar.proofs.Graphs.Views.{names_back}
+use Rattle.irtext_grammar.proofs.Lists.Each.{each_drop, OfOption, each_at}
 
 -- ---- the numbers of a script are those of its graph
 uses_small : (p : Path) (k : ℕ) (vs : List ℕ) (g : Script Thing ⊤) → Each (λ v. v < 2 ^ 64) vs → AllScript Small g → AllScript Small (does_all (uses_of_values p k vs) g)
@@ -38,24 +39,6 @@ results_small p k (r ∷ rs) g e a = (e.0, results_small p (suc k) rs g e.1 a)
 arguments_small : {T : Type 0} (p : Path) (k : ℕ) (rs : List (ℕ × T)) (g : Script Thing ⊤) → Each (λ (r : ℕ × T). r.0 < 2 ^ 64) rs → AllScript Small g → AllScript Small (does_all (defined_arguments p k rs) g)
 arguments_small p k [] g e a = a
 arguments_small p k (r ∷ rs) g e a = (e.0, arguments_small p (suc k) rs g e.1 a)
-
--- what holds of each holds of each behind the first ones
-pub each_drop : {X : Type 0} (Q : X → Type 0) (n : ℕ) (xs : List X) → Each Q xs → Each Q (drop n xs)
-each_drop Q zero xs e = e
-each_drop Q (suc n) [] e = tt
-each_drop Q (suc n) (x ∷ xs) e = each_drop Q n xs e.1
-
--- it holds of what is there, if something is
-abbrev pub OfOption : {X : Type 0} → (X → Type 0) → Option X → Type 0
-OfOption Q None = ⊤
-OfOption Q (Some x) = Q x
-
--- what holds of each holds at a place
-pub each_at : {X : Type 0} (Q : X → Type 0) (xs : List X) (i : ℕ) → Each Q xs → OfOption Q (slice_get xs i)
-each_at Q [] zero e = tt
-each_at Q [] (suc i) e = tt
-each_at Q (x ∷ xs) zero e = e.0
-each_at Q (x ∷ xs) (suc i) e = each_at Q xs i e.1
 
 use_small : (p : Path) (i : ℕ) (x : Option ℕ) (g : Script Thing ⊤) → OfOption (λ v. v < 2 ^ 64) x → AllScript Small g → AllScript Small (does_all (use_if p i x) g)
 use_small p i None g e a = a
@@ -77,18 +60,14 @@ module _ {T A : Type 0} (C : Printing T A) (isolated : Id → Bool) where
   directives_small : (ds : List Directive) (p : Path) (o : GraphOp T A) (rest : List Directive) (ss : List (Script Thing ⊤ → Script Thing ⊤)) (g : Script Thing ⊤) → SmallOp C isolated o → SmallAll ss → AllScript Small g
       → AllScript Small (directives_script ds p o rest ss g)
   directives_small ds p o [] ss g e s a = a
-  directives_small ds p o (format.word w ∷ rest) ss g e s a = directives_small ds p o rest ss g e s a
   directives_small ds p o (format.operand i ∷ rest) ss g e s a = use_small p i (slice_get o.operands i) _ (each_at _ o.operands i e.operands) (directives_small ds p o rest ss g e s a)
   directives_small ds p o (format.operands ∷ rest) ss g e s a = uses_small p _ _ _ (each_drop _ (length (operand_places ds)) o.operands e.operands) (directives_small ds p o rest ss g e s a)
   directives_small ds p o (format.successor i ∷ rest) ss g e s a = use_block_small p i (slice_get o.successors i) _ (each_at _ o.successors i e.successors) (directives_small ds p o rest ss g e s a)
   directives_small ds p o (format.successors ∷ rest) ss g e s a = blocks_small p _ _ _ (each_drop _ (length (successor_places ds)) o.successors e.successors) (directives_small ds p o rest ss g e s a)
-  directives_small ds p o (format.attribute k ∷ rest) ss g e s a = directives_small ds p o rest ss g e s a
-  directives_small ds p o (format.dictionary ∷ rest) ss g e s a = directives_small ds p o rest ss g e s a
-  directives_small ds p o (format.result_type i ∷ rest) ss g e s a = directives_small ds p o rest ss g e s a
   directives_small ds p o (format.region i ∷ rest) [] g e s a = directives_small ds p o rest [] g e s a
   directives_small ds p o (format.region i ∷ rest) (r ∷ ss) g e s a = s.0 _ (directives_small ds p o rest ss g e s.1 a)
   directives_small ds p o (format.regions ∷ rest) ss g e s a = all_small ss _ s (directives_small ds p o rest [] g e tt a)
-  directives_small ds p o (format.header ∷ rest) ss g e s a = directives_small ds p o rest ss g e s a
+  directives_small ds p o (_ ∷ rest) ss g e s a = directives_small ds p o rest ss g e s a
 
   body_small : (f : Option Format) (p : Path) (o : GraphOp T A) (ss : List (Script Thing ⊤ → Script Thing ⊤)) (g : Script Thing ⊤) → SmallOp C isolated o → SmallAll ss → AllScript Small g → AllScript Small (body_script f p o ss g)
   body_small None p o ss g e s a = uses_small p 0 o.operands _ e.operands (blocks_small p 0 o.successors _ e.successors (all_small ss g s a))

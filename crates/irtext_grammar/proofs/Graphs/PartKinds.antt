@@ -94,22 +94,6 @@ module _ {P T A : Type 0} where
         → ((i : ℕ) → dsel (format.region i) ≡ None) → dsel format.regions ≡ None → map h (chosen sel ps) ≡ filter_map dsel ds
     chosen_are sel dsel h agree one all = chosen_directives sel dsel h agree one all ps ∙ (ap (filter_map (option_and_then dsel)) e ∙ listed dsel ds)
 
-    operands_agree : (x : Piece P T A) → option_map (λ (e : ℕ × Name P). e.0) (single_operand x) ≡ option_and_then (λ d. elim d [ format.operand i ↦ Some i | _ ↦ None ]) (directive_of_piece x)
-    operands_agree (tree.operand i n) = refl
-    operands_agree _ = refl
-
-    operand_lists_agree : (x : Piece P T A) → option_map (λ (ns : List (Name P)). tt) (operand_list x) ≡ option_and_then (passing is_operands) (directive_of_piece x)
-    operand_lists_agree (tree.operands ns) = refl
-    operand_lists_agree _ = refl
-
-    successors_agree : (x : Piece P T A) → option_map (λ (e : ℕ × Name P). e.0) (single_successor x) ≡ option_and_then (λ d. elim d [ format.successor i ↦ Some i | _ ↦ None ]) (directive_of_piece x)
-    successors_agree (tree.successor i n) = refl
-    successors_agree _ = refl
-
-    successor_lists_agree : (x : Piece P T A) → option_map (λ (ns : List (Name P)). tt) (successor_list x) ≡ option_and_then (passing is_successors) (directive_of_piece x)
-    successor_lists_agree (tree.successors ns) = refl
-    successor_lists_agree _ = refl
-
     few : {Y : Type 0} (sel : Piece P T A → Option Y) (test : Directive → Bool) (h : Y → ⊤) → map h (chosen sel ps) ≡ filter_map (passing test) ds → nat_lt (count test ds) 2 ≡ true → length (chosen sel ps) < 2
     few sel test h k l = subst (λ n. n < 2) (sym (sym (length-map (chosen sel ps) h) ∙ (ap length k ∙ counted test ds))) (below (count test ds) 2 l)
 
@@ -117,10 +101,10 @@ module _ {P T A : Type 0} where
     custom_numbered a =
         let m = meets ds a in
         record {
-          operands = subst (λ ks. are_places ks ≡ true) (sym (sym (firsts_mapped (chosen single_operand ps)) ∙ chosen_are single_operand _ (λ e. e.0) operands_agree (λ i. refl) refl)) (and_left (are_places (operand_places ds)) (nat_lt (count is_operands ds) 2) m.second);
-          operand_lists = few operand_list is_operands (λ ns. tt) (chosen_are operand_list (passing is_operands) (λ ns. tt) operand_lists_agree (λ i. refl) refl) (and_right (are_places (operand_places ds)) (nat_lt (count is_operands ds) 2) m.second);
-          successors = subst (λ ks. are_places ks ≡ true) (sym (sym (firsts_mapped (chosen single_successor ps)) ∙ chosen_are single_successor _ (λ e. e.0) successors_agree (λ i. refl) refl)) (and_left (are_places (successor_places ds)) (nat_lt (count is_successors ds) 2) m.third);
-          successor_lists = few successor_list is_successors (λ ns. tt) (chosen_are successor_list (passing is_successors) (λ ns. tt) successor_lists_agree (λ i. refl) refl) (and_right (are_places (successor_places ds)) (nat_lt (count is_successors ds) 2) m.third);
+          operands = subst (λ ks. are_places ks ≡ true) (sym (sym (firsts_mapped (chosen single_operand ps)) ∙ chosen_are single_operand _ (λ e. e.0) (elim [ tree.operand i n ↦ refl | _ ↦ refl ]) (λ i. refl) refl)) (and_left (are_places (operand_places ds)) (nat_lt (count is_operands ds) 2) m.second);
+          operand_lists = few operand_list is_operands (λ ns. tt) (chosen_are operand_list (passing is_operands) (λ ns. tt) (elim [ tree.operands ns ↦ refl | _ ↦ refl ]) (λ i. refl) refl) (and_right (are_places (operand_places ds)) (nat_lt (count is_operands ds) 2) m.second);
+          successors = subst (λ ks. are_places ks ≡ true) (sym (sym (firsts_mapped (chosen single_successor ps)) ∙ chosen_are single_successor _ (λ e. e.0) (elim [ tree.successor i n ↦ refl | _ ↦ refl ]) (λ i. refl) refl)) (and_left (are_places (successor_places ds)) (nat_lt (count is_successors ds) 2) m.third);
+          successor_lists = few successor_list is_successors (λ ns. tt) (chosen_are successor_list (passing is_successors) (λ ns. tt) (elim [ tree.successors ns ↦ refl | _ ↦ refl ]) (λ i. refl) refl) (and_right (are_places (successor_places ds)) (nat_lt (count is_successors ds) 2) m.third);
         }
 
   -- of a body that an accepted format reads

@@ -93,11 +93,7 @@ module _ (v l : List (Fact Text)) where
   nothing_both [] ys e f = f
   nothing_both (script.use_value w u ∷ xs) ys e f = cc
   nothing_both (script.use_label w u ∷ xs) ys e f = cc
-  nothing_both (script.define_value w q ∷ xs) ys e f = nothing_both xs ys e f
-  nothing_both (script.define_label w q ∷ xs) ys e f = nothing_both xs ys e f
-  nothing_both (script.mark i q ∷ xs) ys e f = nothing_both xs ys e f
-  nothing_both (script.entry i q ∷ xs) ys e f = nothing_both xs ys e f
-  nothing_both (script.claim b q ∷ xs) ys e f = nothing_both xs ys e f
+  nothing_both (_ ∷ xs) ys e f = nothing_both xs ys e f
 
   results_mean_nothing : {P : Type 0} (p : Path) (k : ℕ) (ns : List (Name P)) → M_acts (result_definitions p k ns) ≡ []
   results_mean_nothing p k [] = refl
@@ -146,16 +142,10 @@ module _ (v l : List (Fact Text)) where
       parts_meant ps = views (λ x. M_acts (piece_acts p k m x)) ps
 
       piece_meant : (x : Piece P T A) → M_acts (piece_acts p k m x) ≡ own_value x ++ (more_values x ++ (own_label x ++ more_labels x))
-      piece_meant (tree.operand i n) = refl
       piece_meant (tree.operands ns) = values_meant p k ns ∙ sym (append-nil (numbered (operand p) k (map look ns)))
-      piece_meant (tree.successor i n) = refl
       piece_meant (tree.successors ns) = labels_meant p m ns
       piece_meant (tree.dictionary es) = keys_mean_nothing may_hold es
-      piece_meant (tree.word s) = refl
-      piece_meant (tree.attribute key a) = refl
-      piece_meant (tree.result_type i x) = refl
-      piece_meant (tree.header n) = refl
-      piece_meant (tree.types xs) = refl
+      piece_meant _ = refl
 
       apart : (ps : List (Part P T A)) → Same (parts_meant ps) (views own_value ps ++ (views more_values ps ++ (views own_label ps ++ views more_labels ps)))
       apart [] = same_refl []
@@ -165,25 +155,20 @@ module _ (v l : List (Fact Text)) where
       apart (tree.region i ∷ ps) = apart ps
       apart (tree.regions ∷ ps) = apart ps
 
-    singles_chosen : (ps : List (Part P T A)) → singles ps ≡ length (chosen single_operand ps)
-    singles_chosen [] = refl
-    singles_chosen (tree.piece x ∷ ps) = go x (singles_chosen ps)
+    -- as many names are seen as are chosen
+    seen_chosen : {Y : Type 0} (view : Piece P T A → List (Name P)) (sel : Piece P T A → Option Y) (f : Y → Name P) → ((x : Piece P T A) → view x ≡ spread_if (λ e. f e ∷ []) (sel x)) → (ps : List (Part P T A))
+        → length (views view ps) ≡ length (chosen sel ps)
+    seen_chosen view sel f h ps = ap length (views_chosen view sel (λ e. f e ∷ []) h ps) ∙ each_one (chosen sel ps)
       where
-        go : (x : Piece P T A) → singles ps ≡ length (chosen single_operand ps) → singles (tree.piece x ∷ ps) ≡ length (chosen single_operand (tree.piece x ∷ ps))
-        go (tree.operand i n) e = ap suc e
-        go _ e = e
-    singles_chosen (tree.region i ∷ ps) = singles_chosen ps
-    singles_chosen (tree.regions ∷ ps) = singles_chosen ps
+        each_one : (es : List _) → length (flat_map (λ e. f e ∷ []) es) ≡ length es
+        each_one [] = refl
+        each_one (e ∷ es) = ap suc (each_one es)
+
+    singles_chosen : (ps : List (Part P T A)) → singles ps ≡ length (chosen single_operand ps)
+    singles_chosen = seen_chosen _ single_operand (λ e. e.1) (elim [ tree.operand i n ↦ refl | _ ↦ refl ])
 
     labels_chosen : (ps : List (Part P T A)) → single_labels ps ≡ length (chosen single_successor ps)
-    labels_chosen [] = refl
-    labels_chosen (tree.piece x ∷ ps) = go x (labels_chosen ps)
-      where
-        go : (x : Piece P T A) → single_labels ps ≡ length (chosen single_successor ps) → single_labels (tree.piece x ∷ ps) ≡ length (chosen single_successor (tree.piece x ∷ ps))
-        go (tree.successor i n) e = ap suc e
-        go _ e = e
-    labels_chosen (tree.region i ∷ ps) = labels_chosen ps
-    labels_chosen (tree.regions ∷ ps) = labels_chosen ps
+    labels_chosen = seen_chosen _ single_successor (λ e. e.1) (elim [ tree.successor i n ↦ refl | _ ↦ refl ])
 
     own_operands : (x : Piece P T A) → elim x [ tree.operand i n ↦ (i, n) ∷ [] | _ ↦ [] ] ≡ spread_if (λ e. e ∷ []) (single_operand x)
     own_operands (tree.operand i n) = refl

@@ -19,10 +19,10 @@ use Rattle.irtext_grammar.specs.Graphs.Same.{stood_op, stood_regions, stood_bloc
 use Rattle.irtext_grammar.specs.Graphs.StandsFor.{made, Distinct, StandsForOp, StandsForBlock, StandsFor}
 use Rattle.irtext_grammar.specs.Spelling.Writable.{has_region}
 use Rattle.irtext_grammar.proofs.Lists.Fresh.{distinct_fresh}
-use Rattle.irtext_grammar.proofs.Names.UsesMean.{meant, Means, each_both}
+use Rattle.irtext_grammar.proofs.Names.UsesMean.{meant, Means}
 use Rattle.irtext_grammar.proofs.Names.Definite.{Names, OnlyRegions, outer_clean}
 use Rattle.irtext_grammar.proofs.Graphs.FitsFormat.{and_left, and_right}
-use Rattle.irtext_grammar.proofs.Graphs.Match.{OfOption, each_at, each_drop}
+use Rattle.irtext_grammar.proofs.Lists.Each.{each_both, each_drop, OfOption, each_at}
 
 unequal : {X : Type 0} (x : X) (xs : List X) → x ∷ xs ≡ [] → ⊥
 unequal x xs e = cc
@@ -93,18 +93,14 @@ module _ {T A : Type 0} (C : Printing T A) (isolated : Id → Bool) where
   module _ (v l : List (Fact Thing)) (ds : List Directive) (p : Path) (o : GraphOp T A) (e : Each (HasValue v l) o.operands) (f : Each (HasBlock v l) o.successors) where
     directives_sound : (rest : List Directive) (ss : List (Script Thing ⊤ → Script Thing ⊤)) (g : Script Thing ⊤) → SoundAll v ss → Sound v l g → Sound v l (directives_script ds p o rest ss g)
     directives_sound [] ss g s a = a
-    directives_sound (format.word w ∷ rest) ss g s a = directives_sound rest ss g s a
     directives_sound (format.operand i ∷ rest) ss g s a = use_sound v l p i (slice_get o.operands i) _ (each_at _ o.operands i e) (directives_sound rest ss g s a)
     directives_sound (format.operands ∷ rest) ss g s a = uses_sound v l p _ _ _ (each_drop _ (length (operand_places ds)) o.operands e) (directives_sound rest ss g s a)
     directives_sound (format.successor i ∷ rest) ss g s a = use_block_sound v l p i (slice_get o.successors i) _ (each_at _ o.successors i f) (directives_sound rest ss g s a)
     directives_sound (format.successors ∷ rest) ss g s a = blocks_sound v l p _ _ _ (each_drop _ (length (successor_places ds)) o.successors f) (directives_sound rest ss g s a)
-    directives_sound (format.attribute k ∷ rest) ss g s a = directives_sound rest ss g s a
-    directives_sound (format.dictionary ∷ rest) ss g s a = directives_sound rest ss g s a
-    directives_sound (format.result_type i ∷ rest) ss g s a = directives_sound rest ss g s a
     directives_sound (format.region i ∷ rest) [] g s a = directives_sound rest [] g s a
     directives_sound (format.region i ∷ rest) (r ∷ ss) g s a = s.0 l _ (directives_sound rest ss g s.1 a)
     directives_sound (format.regions ∷ rest) ss g s a = all_sound v l ss _ s (directives_sound rest [] g tt a)
-    directives_sound (format.header ∷ rest) ss g s a = directives_sound rest ss g s a
+    directives_sound (_ ∷ rest) ss g s a = directives_sound rest ss g s a
 
   body_sound : (v l : List (Fact Thing)) (f : Option Format) (p : Path) (o : GraphOp T A) (ss : List (Script Thing ⊤ → Script Thing ⊤)) (g : Script Thing ⊤) → Each (HasValue v l) o.operands → Each (HasBlock v l) o.successors
       → SoundAll v ss → Sound v l g → Sound v l (body_script f p o ss g)
@@ -185,20 +181,16 @@ module _ {T A : Type 0} (C : Printing T A) (isolated : Id → Bool) where
   module _ (p : Path) (o : GraphOp T A) (e : o.operands ≡ []) (f : o.successors ≡ []) where
     directives_only : (ds rest : List Directive) (ss : List (Script Thing ⊤ → Script Thing ⊤)) (g : Script Thing ⊤) → OnlyAll ss → OnlyRegions g → OnlyRegions (directives_script ds p o rest ss g)
     directives_only ds [] ss g s a = a
-    directives_only ds (format.word w ∷ rest) ss g s a = directives_only ds rest ss g s a
     directives_only ds (format.operand i ∷ rest) ss g s a = subst (λ z. OnlyRegions (does_all z (directives_script ds p o rest ss g))) (sym (no_use p i o.operands e)) (directives_only ds rest ss g s a)
     directives_only ds (format.operands ∷ rest) ss g s a =
         subst (λ z. OnlyRegions (does_all (uses_of_values p (length (operand_places ds)) z) (directives_script ds p o rest ss g))) (sym (dropped (length (operand_places ds)) o.operands e)) (directives_only ds rest ss g s a)
     directives_only ds (format.successor i ∷ rest) ss g s a = subst (λ z. OnlyRegions (does_all z (directives_script ds p o rest ss g))) (sym (no_block_use p i o.successors f)) (directives_only ds rest ss g s a)
     directives_only ds (format.successors ∷ rest) ss g s a =
         subst (λ z. OnlyRegions (does_all (uses_of_blocks p (length (successor_places ds)) z) (directives_script ds p o rest ss g))) (sym (dropped (length (successor_places ds)) o.successors f)) (directives_only ds rest ss g s a)
-    directives_only ds (format.attribute k ∷ rest) ss g s a = directives_only ds rest ss g s a
-    directives_only ds (format.dictionary ∷ rest) ss g s a = directives_only ds rest ss g s a
-    directives_only ds (format.result_type i ∷ rest) ss g s a = directives_only ds rest ss g s a
     directives_only ds (format.region i ∷ rest) [] g s a = directives_only ds rest [] g s a
     directives_only ds (format.region i ∷ rest) (r ∷ ss) g s a = s.0 _ (directives_only ds rest ss g s.1 a)
     directives_only ds (format.regions ∷ rest) ss g s a = all_only ss _ s (directives_only ds rest [] g tt a)
-    directives_only ds (format.header ∷ rest) ss g s a = directives_only ds rest ss g s a
+    directives_only ds (_ ∷ rest) ss g s a = directives_only ds rest ss g s a
 
     all_uses_only : (ss : List (Script Thing ⊤ → Script Thing ⊤)) (g : Script Thing ⊤) → OnlyAll ss → OnlyRegions g → OnlyRegions (does_all (uses_of_values p 0 o.operands) (does_all (uses_of_blocks p 0 o.successors) (all_of ss g)))
     all_uses_only ss g s a =

@@ -57,102 +57,70 @@ module _ {T A : Type 0} where
   skip_header view h (Some (own x)) qs = refl
 
 module _ {T A : Type 0} (C : Printing T A) where
-  -- operand
-  operand_singles : (ds : List Directive) (o : GraphOp T A) (rest : List Directive) → Fits C ds o rest
-      → (firsts (views (λ p. elim p [ tree.operand i n ↦ (i, n) ∷ [] | _ ↦ [] ]) (filter_map (part_of C ds o) rest)) ≡ operand_places rest) × AllFrom (map (value C) o.operands) (views (λ p. elim p [ tree.operand i n ↦ (i, n) ∷ [] | _ ↦ [] ]) (filter_map (part_of C ds o) rest))
-  operand_singles ds o [] f = (refl, tt)
-  operand_singles ds o (format.word s ∷ rest) f = operand_singles ds o rest f.1
-  operand_singles ds o (format.operand i ∷ rest) f = go (slice_get o.operands i) refl f.0 (operand_singles ds o rest f.1)
+  -- a view sees nothing of what stands where a directive stands
+  abbrev Blind : {X : Type 0} → (Piece ⊤ T A → List X) → Directive → Type 0
+  Blind view (format.word s) = (x : ⊤) → view (tree.word s) ≡ []
+  Blind view (format.operand i) = (n : Name ⊤) → view (tree.operand i n) ≡ []
+  Blind view format.operands = (ns : List (Name ⊤)) → view (tree.operands ns) ≡ []
+  Blind view (format.successor i) = (n : Name ⊤) → view (tree.successor i n) ≡ []
+  Blind view format.successors = (ns : List (Name ⊤)) → view (tree.successors ns) ≡ []
+  Blind view (format.attribute k) = (a : Option (Attribute A)) → view (tree.attribute k a) ≡ []
+  Blind view format.dictionary = (es : List (Name ⊤ × Attribute A)) → view (tree.dictionary es) ≡ []
+  Blind view (format.result_type i) = (x : T) → view (tree.result_type i x) ≡ []
+  Blind view format.header = (n : Name ⊤) → view (tree.header n) ≡ []
+  Blind view _ = (x : ⊤) → x ≡ x
+
+  -- such a directive's part adds nothing to the view
+  unseen : {X : Type 0} (view : Piece ⊤ T A → List X) (ds : List Directive) (o : GraphOp T A) (d : Directive) → Blind view d → (qs : List (Part ⊤ T A)) → views view (cons_option (part_of C ds o d) qs) ≡ views view qs
+  unseen view ds o (format.word s) b qs = ap (λ z. z ++ views view qs) (b tt)
+  unseen view ds o (format.operand i) b qs = skip view (λ v. tree.operand i (value C v)) (λ v. b (value C v)) (slice_get o.operands i) qs
+  unseen view ds o format.operands b qs = ap (λ z. z ++ views view qs) (b _)
+  unseen view ds o (format.successor i) b qs = skip view (λ c. tree.successor i (target C c)) (λ c. b (target C c)) (slice_get o.successors i) qs
+  unseen view ds o format.successors b qs = ap (λ z. z ++ views view qs) (b _)
+  unseen view ds o (format.attribute k) b qs = skip view (λ a. tree.attribute k (cond (outlined C a) None (Some a))) (λ a. b (cond (outlined C a) None (Some a))) (lookup k o.attributes) qs
+  unseen view ds o format.dictionary b qs = ap (λ z. z ++ views view qs) (b _)
+  unseen view ds o (format.result_type i) b qs = skip view (λ r. tree.result_type i r.1) (λ r. b r.1) (slice_get o.results i) qs
+  unseen view ds o format.header b qs = skip_header view b (lookup sym_name_key o.attributes) qs
+  unseen view ds o _ b qs = refl
+
+  -- an item that a directive places, in front of those that other directives place
+  placed : {X Y : Type 0} (F : X → Y) (G : Y → Piece ⊤ T A) (view : Piece ⊤ T A → List (ℕ × Y)) (xs : List X) (i : ℕ) → ((x : X) → view (G (F x)) ≡ (i, F x) ∷ []) → (ks : List ℕ) (qs : List (Part ⊤ T A))
+      → (let r : Option (Part ⊤ T A) = option_map (λ x. tree.piece (G (F x))) (slice_get xs i) in is_some r) ≡ true → (firsts (views view qs) ≡ ks) × AllFrom (map F xs) (views view qs)
+      → (let all = views view (cons_option (option_map (λ x. tree.piece (G (F x))) (slice_get xs i)) qs) in (firsts all ≡ i ∷ ks) × AllFrom (map F xs) all)
+  placed F G view xs i sees ks qs s h = go (slice_get xs i) refl s
     where
-      go : (x : Option ℕ) → slice_get o.operands i ≡ x → (let r : Option (Part ⊤ T A) = option_map (λ v. tree.piece (tree.operand i (value C v))) x in is_some r) ≡ true
-          → (firsts (views (λ p. elim p [ tree.operand i n ↦ (i, n) ∷ [] | _ ↦ [] ]) (filter_map (part_of C ds o) rest)) ≡ operand_places rest) × AllFrom (map (value C) o.operands) (views (λ p. elim p [ tree.operand i n ↦ (i, n) ∷ [] | _ ↦ [] ]) (filter_map (part_of C ds o) rest))
-          → (firsts (views (λ p. elim p [ tree.operand i n ↦ (i, n) ∷ [] | _ ↦ [] ]) (cons_option (option_map (λ v. tree.piece (tree.operand i (value C v))) x) (filter_map (part_of C ds o) rest))) ≡ operand_places (format.operand i ∷ rest))
-          × AllFrom (map (value C) o.operands) (views (λ p. elim p [ tree.operand i n ↦ (i, n) ∷ [] | _ ↦ [] ]) (cons_option (option_map (λ v. tree.piece (tree.operand i (value C v))) x) (filter_map (part_of C ds o) rest)))
-      go None e s h = absurd (true≢false (sym s))
-      go (Some v) e s h = (ap (λ z. i ∷ z) h.0, (got_map (value C) o.operands i v e, h.1))
-  operand_singles ds o (format.operands ∷ rest) f = operand_singles ds o rest f.1
-  operand_singles ds o (format.successor i ∷ rest) f = subst (λ es. (firsts es ≡ operand_places rest) × AllFrom (map (value C) o.operands) es) (sym (skip (λ p. elim p [ tree.operand i n ↦ (i, n) ∷ [] | _ ↦ [] ]) (λ b. tree.successor i (target C b)) (λ x. refl) (slice_get o.successors i) (filter_map (part_of C ds o) rest))) (operand_singles ds o rest f.1)
-  operand_singles ds o (format.successors ∷ rest) f = operand_singles ds o rest f.1
-  operand_singles ds o (format.attribute key ∷ rest) f = subst (λ es. (firsts es ≡ operand_places rest) × AllFrom (map (value C) o.operands) es) (sym (skip (λ p. elim p [ tree.operand i n ↦ (i, n) ∷ [] | _ ↦ [] ]) (λ a. tree.attribute key (cond (outlined C a) None (Some a))) (λ x. refl) (lookup key o.attributes) (filter_map (part_of C ds o) rest))) (operand_singles ds o rest f.1)
-  operand_singles ds o (format.dictionary ∷ rest) f = operand_singles ds o rest f.1
-  operand_singles ds o (format.result_type i ∷ rest) f = subst (λ es. (firsts es ≡ operand_places rest) × AllFrom (map (value C) o.operands) es) (sym (skip (λ p. elim p [ tree.operand i n ↦ (i, n) ∷ [] | _ ↦ [] ]) (λ r. tree.result_type i r.1) (λ x. refl) (slice_get o.results i) (filter_map (part_of C ds o) rest))) (operand_singles ds o rest f.1)
-  operand_singles ds o (format.region i ∷ rest) f = operand_singles ds o rest f.1
-  operand_singles ds o (format.regions ∷ rest) f = operand_singles ds o rest f.1
-  operand_singles ds o (format.header ∷ rest) f = subst (λ es. (firsts es ≡ operand_places rest) × AllFrom (map (value C) o.operands) es) (sym (skip_header (λ p. elim p [ tree.operand i n ↦ (i, n) ∷ [] | _ ↦ [] ]) (λ n. refl) (lookup sym_name_key o.attributes) (filter_map (part_of C ds o) rest))) (operand_singles ds o rest f.1)
+      go : (x : Option _) → slice_get xs i ≡ x → (let r : Option (Part ⊤ T A) = option_map (λ x. tree.piece (G (F x))) x in is_some r) ≡ true
+          → (let all = views view (cons_option (option_map (λ x. tree.piece (G (F x))) x) qs) in (firsts all ≡ i ∷ ks) × AllFrom (map F xs) all)
+      go None e s = absurd (true≢false (sym s))
+      go (Some x) e s = subst (λ es. (firsts (es ++ views view qs) ≡ i ∷ ks) × AllFrom (map F xs) (es ++ views view qs)) (sym (sees x)) (ap (λ z. i ∷ z) h.0, (got_map F xs i x e, h.1))
+
+  operand_singles : (ds : List Directive) (o : GraphOp T A) (rest : List Directive) → Fits C ds o rest
+      → (let es : List (ℕ × Name ⊤) = views (λ p. elim p [ tree.operand i n ↦ (i, n) ∷ [] | _ ↦ [] ]) (filter_map (part_of C ds o) rest) in (firsts es ≡ operand_places rest) × AllFrom (map (value C) o.operands) es)
+  operand_singles ds o [] f = (refl, tt)
+  operand_singles ds o (format.operand i ∷ rest) f = placed (value C) (tree.operand i) (λ p. elim p [ tree.operand i n ↦ (i, n) ∷ [] | _ ↦ [] ]) o.operands i (λ x. refl) (operand_places rest) (filter_map (part_of C ds o) rest) f.0 (operand_singles ds o rest f.1)
+  operand_singles ds o (d ∷ rest) f = subst (λ es. (firsts es ≡ operand_places rest) × AllFrom (map (value C) o.operands) es) (sym (unseen (λ p. elim p [ tree.operand i n ↦ (i, n) ∷ [] | _ ↦ [] ]) ds o d (λ x. refl) (filter_map (part_of C ds o) rest))) (operand_singles ds o rest f.1)
+
+  result_singles : (ds : List Directive) (o : GraphOp T A) (rest : List Directive) → Fits C ds o rest
+      → (let es : List (ℕ × T) = views (λ p. elim p [ tree.result_type i x ↦ (i, x) ∷ [] | _ ↦ [] ]) (filter_map (part_of C ds o) rest) in (firsts es ≡ type_places rest) × AllFrom (map (λ (r : ℕ × T). r.1) o.results) es)
+  result_singles ds o [] f = (refl, tt)
+  result_singles ds o (format.result_type i ∷ rest) f = placed (λ (r : ℕ × T). r.1) (tree.result_type i) (λ p. elim p [ tree.result_type i x ↦ (i, x) ∷ [] | _ ↦ [] ]) o.results i (λ x. refl) (type_places rest) (filter_map (part_of C ds o) rest) f.0 (result_singles ds o rest f.1)
+  result_singles ds o (d ∷ rest) f = subst (λ es. (firsts es ≡ type_places rest) × AllFrom (map (λ (r : ℕ × T). r.1) o.results) es) (sym (unseen (λ p. elim p [ tree.result_type i x ↦ (i, x) ∷ [] | _ ↦ [] ]) ds o d (λ x. refl) (filter_map (part_of C ds o) rest))) (result_singles ds o rest f.1)
+
+  successor_singles : (ds : List Directive) (o : GraphOp T A) (rest : List Directive) → Fits C ds o rest
+      → (let es : List (ℕ × Name ⊤) = views (λ p. elim p [ tree.successor i n ↦ (i, n) ∷ [] | _ ↦ [] ]) (filter_map (part_of C ds o) rest) in (firsts es ≡ successor_places rest) × AllFrom (map (target C) o.successors) es)
+  successor_singles ds o [] f = (refl, tt)
+  successor_singles ds o (format.successor i ∷ rest) f = placed (target C) (tree.successor i) (λ p. elim p [ tree.successor i n ↦ (i, n) ∷ [] | _ ↦ [] ]) o.successors i (λ x. refl) (successor_places rest) (filter_map (part_of C ds o) rest) f.0 (successor_singles ds o rest f.1)
+  successor_singles ds o (d ∷ rest) f = subst (λ es. (firsts es ≡ successor_places rest) × AllFrom (map (target C) o.successors) es) (sym (unseen (λ p. elim p [ tree.successor i n ↦ (i, n) ∷ [] | _ ↦ [] ]) ds o d (λ x. refl) (filter_map (part_of C ds o) rest))) (successor_singles ds o rest f.1)
 
   operand_lists : (ds : List Directive) (o : GraphOp T A) (rest : List Directive) → views (λ p. elim p [ tree.operands ns ↦ ns | _ ↦ [] ]) (filter_map (part_of C ds o) rest) ≡ times (count is_operands rest) (map (value C) (drop (length (operand_places ds)) o.operands))
   operand_lists ds o [] = refl
-  operand_lists ds o (format.word s ∷ rest) = operand_lists ds o rest
-  operand_lists ds o (format.operand i ∷ rest) = skip (λ p. elim p [ tree.operands ns ↦ ns | _ ↦ [] ]) (λ v. tree.operand i (value C v)) (λ x. refl) (slice_get o.operands i) (filter_map (part_of C ds o) rest) ∙ operand_lists ds o rest
   operand_lists ds o (format.operands ∷ rest) = ap (λ z. map (value C) (drop (length (operand_places ds)) o.operands) ++ z) (operand_lists ds o rest)
-  operand_lists ds o (format.successor i ∷ rest) = skip (λ p. elim p [ tree.operands ns ↦ ns | _ ↦ [] ]) (λ b. tree.successor i (target C b)) (λ x. refl) (slice_get o.successors i) (filter_map (part_of C ds o) rest) ∙ operand_lists ds o rest
-  operand_lists ds o (format.successors ∷ rest) = operand_lists ds o rest
-  operand_lists ds o (format.attribute key ∷ rest) = skip (λ p. elim p [ tree.operands ns ↦ ns | _ ↦ [] ]) (λ a. tree.attribute key (cond (outlined C a) None (Some a))) (λ x. refl) (lookup key o.attributes) (filter_map (part_of C ds o) rest) ∙ operand_lists ds o rest
-  operand_lists ds o (format.dictionary ∷ rest) = operand_lists ds o rest
-  operand_lists ds o (format.result_type i ∷ rest) = skip (λ p. elim p [ tree.operands ns ↦ ns | _ ↦ [] ]) (λ r. tree.result_type i r.1) (λ x. refl) (slice_get o.results i) (filter_map (part_of C ds o) rest) ∙ operand_lists ds o rest
-  operand_lists ds o (format.region i ∷ rest) = operand_lists ds o rest
-  operand_lists ds o (format.regions ∷ rest) = operand_lists ds o rest
-  operand_lists ds o (format.header ∷ rest) = skip_header (λ p. elim p [ tree.operands ns ↦ ns | _ ↦ [] ]) (λ n. refl) (lookup sym_name_key o.attributes) (filter_map (part_of C ds o) rest) ∙ operand_lists ds o rest
-
-  -- successor
-  successor_singles : (ds : List Directive) (o : GraphOp T A) (rest : List Directive) → Fits C ds o rest
-      → (firsts (views (λ p. elim p [ tree.successor i n ↦ (i, n) ∷ [] | _ ↦ [] ]) (filter_map (part_of C ds o) rest)) ≡ successor_places rest) × AllFrom (map (target C) o.successors) (views (λ p. elim p [ tree.successor i n ↦ (i, n) ∷ [] | _ ↦ [] ]) (filter_map (part_of C ds o) rest))
-  successor_singles ds o [] f = (refl, tt)
-  successor_singles ds o (format.word s ∷ rest) f = successor_singles ds o rest f.1
-  successor_singles ds o (format.operand i ∷ rest) f = subst (λ es. (firsts es ≡ successor_places rest) × AllFrom (map (target C) o.successors) es) (sym (skip (λ p. elim p [ tree.successor i n ↦ (i, n) ∷ [] | _ ↦ [] ]) (λ v. tree.operand i (value C v)) (λ x. refl) (slice_get o.operands i) (filter_map (part_of C ds o) rest))) (successor_singles ds o rest f.1)
-  successor_singles ds o (format.operands ∷ rest) f = successor_singles ds o rest f.1
-  successor_singles ds o (format.successor i ∷ rest) f = go (slice_get o.successors i) refl f.0 (successor_singles ds o rest f.1)
-    where
-      go : (x : Option (ℕ × ℕ)) → slice_get o.successors i ≡ x → (let r : Option (Part ⊤ T A) = option_map (λ v. tree.piece (tree.successor i (target C v))) x in is_some r) ≡ true
-          → (firsts (views (λ p. elim p [ tree.successor i n ↦ (i, n) ∷ [] | _ ↦ [] ]) (filter_map (part_of C ds o) rest)) ≡ successor_places rest) × AllFrom (map (target C) o.successors) (views (λ p. elim p [ tree.successor i n ↦ (i, n) ∷ [] | _ ↦ [] ]) (filter_map (part_of C ds o) rest))
-          → (firsts (views (λ p. elim p [ tree.successor i n ↦ (i, n) ∷ [] | _ ↦ [] ]) (cons_option (option_map (λ v. tree.piece (tree.successor i (target C v))) x) (filter_map (part_of C ds o) rest))) ≡ successor_places (format.successor i ∷ rest))
-          × AllFrom (map (target C) o.successors) (views (λ p. elim p [ tree.successor i n ↦ (i, n) ∷ [] | _ ↦ [] ]) (cons_option (option_map (λ v. tree.piece (tree.successor i (target C v))) x) (filter_map (part_of C ds o) rest)))
-      go None e s h = absurd (true≢false (sym s))
-      go (Some v) e s h = (ap (λ z. i ∷ z) h.0, (got_map (target C) o.successors i v e, h.1))
-  successor_singles ds o (format.successors ∷ rest) f = successor_singles ds o rest f.1
-  successor_singles ds o (format.attribute key ∷ rest) f = subst (λ es. (firsts es ≡ successor_places rest) × AllFrom (map (target C) o.successors) es) (sym (skip (λ p. elim p [ tree.successor i n ↦ (i, n) ∷ [] | _ ↦ [] ]) (λ a. tree.attribute key (cond (outlined C a) None (Some a))) (λ x. refl) (lookup key o.attributes) (filter_map (part_of C ds o) rest))) (successor_singles ds o rest f.1)
-  successor_singles ds o (format.dictionary ∷ rest) f = successor_singles ds o rest f.1
-  successor_singles ds o (format.result_type i ∷ rest) f = subst (λ es. (firsts es ≡ successor_places rest) × AllFrom (map (target C) o.successors) es) (sym (skip (λ p. elim p [ tree.successor i n ↦ (i, n) ∷ [] | _ ↦ [] ]) (λ r. tree.result_type i r.1) (λ x. refl) (slice_get o.results i) (filter_map (part_of C ds o) rest))) (successor_singles ds o rest f.1)
-  successor_singles ds o (format.region i ∷ rest) f = successor_singles ds o rest f.1
-  successor_singles ds o (format.regions ∷ rest) f = successor_singles ds o rest f.1
-  successor_singles ds o (format.header ∷ rest) f = subst (λ es. (firsts es ≡ successor_places rest) × AllFrom (map (target C) o.successors) es) (sym (skip_header (λ p. elim p [ tree.successor i n ↦ (i, n) ∷ [] | _ ↦ [] ]) (λ n. refl) (lookup sym_name_key o.attributes) (filter_map (part_of C ds o) rest))) (successor_singles ds o rest f.1)
+  operand_lists ds o (d ∷ rest) = unseen (λ p. elim p [ tree.operands ns ↦ ns | _ ↦ [] ]) ds o d (λ x. refl) (filter_map (part_of C ds o) rest) ∙ operand_lists ds o rest
 
   successor_lists : (ds : List Directive) (o : GraphOp T A) (rest : List Directive) → views (λ p. elim p [ tree.successors ns ↦ ns | _ ↦ [] ]) (filter_map (part_of C ds o) rest) ≡ times (count is_successors rest) (map (target C) (drop (length (successor_places ds)) o.successors))
   successor_lists ds o [] = refl
-  successor_lists ds o (format.word s ∷ rest) = successor_lists ds o rest
-  successor_lists ds o (format.operand i ∷ rest) = skip (λ p. elim p [ tree.successors ns ↦ ns | _ ↦ [] ]) (λ v. tree.operand i (value C v)) (λ x. refl) (slice_get o.operands i) (filter_map (part_of C ds o) rest) ∙ successor_lists ds o rest
-  successor_lists ds o (format.operands ∷ rest) = successor_lists ds o rest
-  successor_lists ds o (format.successor i ∷ rest) = skip (λ p. elim p [ tree.successors ns ↦ ns | _ ↦ [] ]) (λ b. tree.successor i (target C b)) (λ x. refl) (slice_get o.successors i) (filter_map (part_of C ds o) rest) ∙ successor_lists ds o rest
   successor_lists ds o (format.successors ∷ rest) = ap (λ z. map (target C) (drop (length (successor_places ds)) o.successors) ++ z) (successor_lists ds o rest)
-  successor_lists ds o (format.attribute key ∷ rest) = skip (λ p. elim p [ tree.successors ns ↦ ns | _ ↦ [] ]) (λ a. tree.attribute key (cond (outlined C a) None (Some a))) (λ x. refl) (lookup key o.attributes) (filter_map (part_of C ds o) rest) ∙ successor_lists ds o rest
-  successor_lists ds o (format.dictionary ∷ rest) = successor_lists ds o rest
-  successor_lists ds o (format.result_type i ∷ rest) = skip (λ p. elim p [ tree.successors ns ↦ ns | _ ↦ [] ]) (λ r. tree.result_type i r.1) (λ x. refl) (slice_get o.results i) (filter_map (part_of C ds o) rest) ∙ successor_lists ds o rest
-  successor_lists ds o (format.region i ∷ rest) = successor_lists ds o rest
-  successor_lists ds o (format.regions ∷ rest) = successor_lists ds o rest
-  successor_lists ds o (format.header ∷ rest) = skip_header (λ p. elim p [ tree.successors ns ↦ ns | _ ↦ [] ]) (λ n. refl) (lookup sym_name_key o.attributes) (filter_map (part_of C ds o) rest) ∙ successor_lists ds o rest
-
-  -- result
-  result_singles : (ds : List Directive) (o : GraphOp T A) (rest : List Directive) → Fits C ds o rest
-      → (firsts (views (λ p. elim p [ tree.result_type i x ↦ (i, x) ∷ [] | _ ↦ [] ]) (filter_map (part_of C ds o) rest)) ≡ type_places rest) × AllFrom (map (λ (r : ℕ × T). r.1) o.results) (views (λ p. elim p [ tree.result_type i x ↦ (i, x) ∷ [] | _ ↦ [] ]) (filter_map (part_of C ds o) rest))
-  result_singles ds o [] f = (refl, tt)
-  result_singles ds o (format.word s ∷ rest) f = result_singles ds o rest f.1
-  result_singles ds o (format.operand i ∷ rest) f = subst (λ es. (firsts es ≡ type_places rest) × AllFrom (map (λ (r : ℕ × T). r.1) o.results) es) (sym (skip (λ p. elim p [ tree.result_type i x ↦ (i, x) ∷ [] | _ ↦ [] ]) (λ v. tree.operand i (value C v)) (λ x. refl) (slice_get o.operands i) (filter_map (part_of C ds o) rest))) (result_singles ds o rest f.1)
-  result_singles ds o (format.operands ∷ rest) f = result_singles ds o rest f.1
-  result_singles ds o (format.successor i ∷ rest) f = subst (λ es. (firsts es ≡ type_places rest) × AllFrom (map (λ (r : ℕ × T). r.1) o.results) es) (sym (skip (λ p. elim p [ tree.result_type i x ↦ (i, x) ∷ [] | _ ↦ [] ]) (λ b. tree.successor i (target C b)) (λ x. refl) (slice_get o.successors i) (filter_map (part_of C ds o) rest))) (result_singles ds o rest f.1)
-  result_singles ds o (format.successors ∷ rest) f = result_singles ds o rest f.1
-  result_singles ds o (format.attribute key ∷ rest) f = subst (λ es. (firsts es ≡ type_places rest) × AllFrom (map (λ (r : ℕ × T). r.1) o.results) es) (sym (skip (λ p. elim p [ tree.result_type i x ↦ (i, x) ∷ [] | _ ↦ [] ]) (λ a. tree.attribute key (cond (outlined C a) None (Some a))) (λ x. refl) (lookup key o.attributes) (filter_map (part_of C ds o) rest))) (result_singles ds o rest f.1)
-  result_singles ds o (format.dictionary ∷ rest) f = result_singles ds o rest f.1
-  result_singles ds o (format.result_type i ∷ rest) f = go (slice_get o.results i) refl f.0 (result_singles ds o rest f.1)
-    where
-      go : (x : Option (ℕ × T)) → slice_get o.results i ≡ x → (let r : Option (Part ⊤ T A) = option_map (λ v. tree.piece (tree.result_type i v.1)) x in is_some r) ≡ true
-          → (firsts (views (λ p. elim p [ tree.result_type i x ↦ (i, x) ∷ [] | _ ↦ [] ]) (filter_map (part_of C ds o) rest)) ≡ type_places rest) × AllFrom (map (λ (r : ℕ × T). r.1) o.results) (views (λ p. elim p [ tree.result_type i x ↦ (i, x) ∷ [] | _ ↦ [] ]) (filter_map (part_of C ds o) rest))
-          → (firsts (views (λ p. elim p [ tree.result_type i x ↦ (i, x) ∷ [] | _ ↦ [] ]) (cons_option (option_map (λ v. tree.piece (tree.result_type i v.1)) x) (filter_map (part_of C ds o) rest))) ≡ type_places (format.result_type i ∷ rest))
-          × AllFrom (map (λ (r : ℕ × T). r.1) o.results) (views (λ p. elim p [ tree.result_type i x ↦ (i, x) ∷ [] | _ ↦ [] ]) (cons_option (option_map (λ v. tree.piece (tree.result_type i v.1)) x) (filter_map (part_of C ds o) rest)))
-      go None e s h = absurd (true≢false (sym s))
-      go (Some v) e s h = (ap (λ z. i ∷ z) h.0, (got_map (λ r. r.1) o.results i v e, h.1))
-  result_singles ds o (format.region i ∷ rest) f = result_singles ds o rest f.1
-  result_singles ds o (format.regions ∷ rest) f = result_singles ds o rest f.1
-  result_singles ds o (format.header ∷ rest) f = subst (λ es. (firsts es ≡ type_places rest) × AllFrom (map (λ (r : ℕ × T). r.1) o.results) es) (sym (skip_header (λ p. elim p [ tree.result_type i x ↦ (i, x) ∷ [] | _ ↦ [] ]) (λ n. refl) (lookup sym_name_key o.attributes) (filter_map (part_of C ds o) rest))) (result_singles ds o rest f.1)
+  successor_lists ds o (d ∷ rest) = unseen (λ p. elim p [ tree.successors ns ↦ ns | _ ↦ [] ]) ds o d (λ x. refl) (filter_map (part_of C ds o) rest) ∙ successor_lists ds o rest
 
   -- the front of a list and the rest of it, where there is a list directive; else the front is all of it
   front_and_rest : {X Y : Type 0} (F : X → Y) (K lists : ℕ) (xs : List X) → nat_lt lists 2 ≡ true → cond (lists == 0) (length xs == K) (not (nat_lt (length xs) K)) ≡ true
@@ -168,33 +136,28 @@ module _ {T A : Type 0} (C : Printing T A) where
       many : (n : ℕ) → nat_lt (suc (suc n)) 2 ≡ true → ⊥
       many n e = grind (arith, nat_tests)
 
-  module _ (isolated : Id → Bool) (ds : List Directive) (o : GraphOp T A) (n : ℕ) (m : Meets ds) (f : FitsCustom C isolated ds o n) where
-    at_most : (K lists : ℕ) (k : ℕ) (b : Bool) → cond b (k == K) (not (nat_lt k K)) ≡ true → K ≤ k
-    at_most K lists k b e = no_less K lists k b e
+  -- items at the places of single directives, and the rest of them where there is a list directive, are all in order
+  singles_and_list : {X Y : Type 0} (F : X → Y) (xs : List X) (places : List ℕ) (lists : ℕ) (es : List (ℕ × Y)) (ls : List Y) → are_places places ≡ true → nat_lt lists 2 ≡ true
+      → cond (lists == 0) (length xs == length places) (not (nat_lt (length xs) (length places))) ≡ true → (firsts es ≡ places) × AllFrom (map F xs) es → ls ≡ times lists (map F (drop (length places) xs)) → in_order es ++ ls ≡ map F xs
+  singles_and_list F xs places lists es ls p few e s l =
+      let k : length es ≡ length places = sym (firsts_length es) ∙ ap length s.0 in
+      let low = no_less (length places) 0 (length xs) (lists == 0) e in
+      let q = length_mapped F xs in
+      ap₂ ◌++◌ (in_order_front (map F xs) es (subst (λ z. are_places z ≡ true) (sym s.0) p) s.1 (omega arith) ∙ ap (λ z. take z (map F xs)) k) l
+      ∙ front_and_rest F (length places) lists xs few e
 
+  module _ (isolated : Id → Bool) (ds : List Directive) (o : GraphOp T A) (n : ℕ) (m : Meets ds) (f : FitsCustom C isolated ds o n) where
     -- the operands that are written are the operation's, in order
     pub operands_back : in_order (views (λ p. elim p [ tree.operand i n ↦ (i, n) ∷ [] | _ ↦ [] ]) (filter_map (part_of C ds o) ds)) ++ views (λ p. elim p [ tree.operands ns ↦ ns | _ ↦ [] ]) (filter_map (part_of C ds o) ds) ≡ map (value C) o.operands
     operands_back =
-        let es = views (λ p. elim p [ tree.operand i n ↦ (i, n) ∷ [] | _ ↦ [] ]) (filter_map (part_of C ds o) ds) in
-        let s = operand_singles ds o ds (asked C ds o ds (custom_asks C isolated ds o n m f)) in
-        let places = and_left (are_places (operand_places ds)) (nat_lt (count is_operands ds) 2) m.second in
-        let k : length es ≡ length (operand_places ds) = sym (firsts_length es) ∙ ap length s.0 in
-        let low = at_most (length (operand_places ds)) 0 (length o.operands) (count is_operands ds == 0) f.operands in
-        let l = length_mapped (value C) o.operands in
-        ap₂ ◌++◌ (in_order_front (map (value C) o.operands) es (subst (λ z. are_places z ≡ true) (sym s.0) places) s.1 (omega arith) ∙ ap (λ z. take z (map (value C) o.operands)) k) (operand_lists ds o ds)
-        ∙ front_and_rest (value C) (length (operand_places ds)) (count is_operands ds) o.operands (and_right (are_places (operand_places ds)) (nat_lt (count is_operands ds) 2) m.second) f.operands
+        singles_and_list (value C) o.operands (operand_places ds) (count is_operands ds) _ _ (and_left (are_places (operand_places ds)) (nat_lt (count is_operands ds) 2) m.second) (and_right (are_places (operand_places ds)) (nat_lt (count is_operands ds) 2) m.second)
+        f.operands (operand_singles ds o ds (asked C ds o ds (custom_asks C isolated ds o n m f))) (operand_lists ds o ds)
 
     -- the successors that are written are the operation's, in order
     pub successors_back : in_order (views (λ p. elim p [ tree.successor i n ↦ (i, n) ∷ [] | _ ↦ [] ]) (filter_map (part_of C ds o) ds)) ++ views (λ p. elim p [ tree.successors ns ↦ ns | _ ↦ [] ]) (filter_map (part_of C ds o) ds) ≡ map (target C) o.successors
     successors_back =
-        let es = views (λ p. elim p [ tree.successor i n ↦ (i, n) ∷ [] | _ ↦ [] ]) (filter_map (part_of C ds o) ds) in
-        let s = successor_singles ds o ds (asked C ds o ds (custom_asks C isolated ds o n m f)) in
-        let places = and_left (are_places (successor_places ds)) (nat_lt (count is_successors ds) 2) m.third in
-        let k : length es ≡ length (successor_places ds) = sym (firsts_length es) ∙ ap length s.0 in
-        let low = at_most (length (successor_places ds)) 0 (length o.successors) (count is_successors ds == 0) f.successors in
-        let l = length_mapped (target C) o.successors in
-        ap₂ ◌++◌ (in_order_front (map (target C) o.successors) es (subst (λ z. are_places z ≡ true) (sym s.0) places) s.1 (omega arith) ∙ ap (λ z. take z (map (target C) o.successors)) k) (successor_lists ds o ds)
-        ∙ front_and_rest (target C) (length (successor_places ds)) (count is_successors ds) o.successors (and_right (are_places (successor_places ds)) (nat_lt (count is_successors ds) 2) m.third) f.successors
+        singles_and_list (target C) o.successors (successor_places ds) (count is_successors ds) _ _ (and_left (are_places (successor_places ds)) (nat_lt (count is_successors ds) 2) m.third) (and_right (are_places (successor_places ds)) (nat_lt (count is_successors ds) 2) m.third)
+        f.successors (successor_singles ds o ds (asked C ds o ds (custom_asks C isolated ds o n m f))) (successor_lists ds o ds)
 
     -- the result types that are written are the operation's, in order
     pub results_back : in_order (views (λ p. elim p [ tree.result_type i x ↦ (i, x) ∷ [] | _ ↦ [] ]) (filter_map (part_of C ds o) ds)) ≡ map (λ (r : ℕ × T). r.1) o.results

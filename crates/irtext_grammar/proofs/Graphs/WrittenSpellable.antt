@@ -22,6 +22,7 @@ use Rattle.irtext_grammar.proofs.Lists.SameText.{same_character}
 use Rattle.irtext_base.proofs.Numbers.{digit_in_word}
 use Rattle.irtext_grammar.proofs.Names.Injective.{digits_all}
 use Rattle.irtext_grammar.proofs.Graphs.FitsFormat.{meets, and_left, and_right, has_directives}
+use Rattle.irtext_grammar.proofs.Lists.Each.{each_filter, each_drop, OfOption, each_at}
 
 both : (a b : Bool) → a ≡ true → b ≡ true → (a && b) ≡ true
 both true b e f = f
@@ -54,30 +55,6 @@ block_word (Some x) b w h k = word_then x (codes "_" ++ (codes "block" ++ (decim
 each_map : {X Y : Type 0} (Q : X → Type 0) (R : Y → Type 0) (F : X → Y) → ((x : X) → Q x → R (F x)) → (xs : List X) → Each Q xs → Each R (map F xs)
 each_map Q R F h [] e = tt
 each_map Q R F h (x ∷ xs) e = (h x e.0, each_map Q R F h xs e.1)
-
--- what holds of each holds of those that pass a test
-pub each_filter : {X : Type 0} (Q : X → Type 0) (test : X → Bool) (xs : List X) → Each Q xs → Each Q (filter test xs)
-each_filter Q test [] e = tt
-each_filter Q test (x ∷ xs) e = go (test x) (each_filter Q test xs e.1)
-  where
-    go : (b : Bool) → Each Q (filter test xs) → Each Q (cond b (x ∷ filter test xs) (filter test xs))
-    go true k = (e.0, k)
-    go false k = k
-
-each_drop : {X : Type 0} (Q : X → Type 0) (n : ℕ) (xs : List X) → Each Q xs → Each Q (drop n xs)
-each_drop Q zero xs e = e
-each_drop Q (suc n) [] e = tt
-each_drop Q (suc n) (x ∷ xs) e = each_drop Q n xs e.1
-
-abbrev OfOption : {X : Type 0} → (X → Type 0) → Option X → Type 0
-OfOption Q None = ⊤
-OfOption Q (Some x) = Q x
-
-each_at : {X : Type 0} (Q : X → Type 0) (xs : List X) (i : ℕ) → Each Q xs → OfOption Q (slice_get xs i)
-each_at Q [] zero e = tt
-each_at Q [] (suc i) e = tt
-each_at Q (x ∷ xs) zero e = e.0
-each_at Q (x ∷ xs) (suc i) e = each_at Q xs i e.1
 
 looked_fine : {A : Type 0} (key : Text) (es : List (Text × Attribute A)) → Each EntryHasIdentifiers es → OfOption IsSpellableAttribute (lookup key es)
 looked_fine key [] e = tt
@@ -118,15 +95,7 @@ room_none : (rest : List Directive) → list_all (λ d. not (elim d [ format.reg
 room_none [] e c = refl
 room_none (format.region i ∷ rest) e c = absurd (true≢false (sym e))
 room_none (format.regions ∷ rest) e c = absurd (omega arith)
-room_none (format.word x ∷ rest) e c = room_none rest e c
-room_none (format.operand i ∷ rest) e c = room_none rest e c
-room_none (format.operands ∷ rest) e c = room_none rest e c
-room_none (format.successor i ∷ rest) e c = room_none rest e c
-room_none (format.successors ∷ rest) e c = room_none rest e c
-room_none (format.attribute k ∷ rest) e c = room_none rest e c
-room_none (format.dictionary ∷ rest) e c = room_none rest e c
-room_none (format.result_type i ∷ rest) e c = room_none rest e c
-room_none (format.header ∷ rest) e c = room_none rest e c
+room_none (_ ∷ rest) e c = room_none rest e c
 
 -- regions that fit have a place or a list each
 pub room : (rest : List Directive) (n : ℕ) → Fitted (length (region_places rest)) (count is_regions rest) n ≡ true → nat_lt (count is_regions rest) 2 ≡ true
@@ -135,15 +104,7 @@ room [] n e f b = same_character n 0 e
 room (format.region i ∷ rest) zero e f b = fitted_none (length (region_places rest)) (count is_regions rest == 0) e
 room (format.region i ∷ rest) (suc n) e f b = room rest n (fitted_less (length (region_places rest)) n (count is_regions rest == 0) e) f b
 room (format.regions ∷ rest) n e f b = room_none rest (and_left _ _ b) (one_at_most (count is_regions rest) f)
-room (format.word x ∷ rest) n e f b = room rest n e f b
-room (format.operand i ∷ rest) n e f b = room rest n e f b
-room (format.operands ∷ rest) n e f b = room rest n e f b
-room (format.successor i ∷ rest) n e f b = room rest n e f b
-room (format.successors ∷ rest) n e f b = room rest n e f b
-room (format.attribute k ∷ rest) n e f b = room rest n e f b
-room (format.dictionary ∷ rest) n e f b = room rest n e f b
-room (format.result_type i ∷ rest) n e f b = room rest n e f b
-room (format.header ∷ rest) n e f b = room rest n e f b
+room (_ ∷ rest) n e f b = room rest n e f b
 
 module _ {T A : Type 0} (C : Printing T A) (isolated : Id → Bool) (given : (v : ℕ) (n : Text) → C.given v ≡ Some n → IsIdentifier n) (label : (b : ℕ × ℕ) (n : Text) → C.label b ≡ Some n → IsIdentifier n) where
   abbrev SmallNumber : ℕ → Type 0

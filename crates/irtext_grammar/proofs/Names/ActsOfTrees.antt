@@ -9,7 +9,7 @@ use Rattle.irtext_grammar.specs.Names.Script.{Path, block_at, Act, use_value, us
 use Rattle.irtext_grammar.specs.Names.Acts.{value_uses, label_uses, result_definitions, argument_definitions, mark_acts, key_act, piece_acts, closing_acts, header_acts, entries_if, Rule, may_hold, block_may_hold, marked_as}
 use Rattle.irtext_grammar.specs.Names.Resolves.{texts, KeysKept, CountsAgree, HeadKeysKept}
 use Rattle.irtext_grammar.proofs.Names.ResolvedSection.{flat_both}
-use Rattle.irtext_grammar.proofs.Names.ResolvedScript.{each_both, each_left}
+use Rattle.irtext_grammar.proofs.Lists.Each.{each_both, each_left}
 
 -- the values that a piece names, and the blocks
 abbrev pub values_in : {P T A : Type 0} → Piece P T A → List (Name P)
@@ -64,14 +64,9 @@ module _ {X : Type 0} (uv ul dv dl : Text → List X) (mk : ℕ → List X) wher
     pub piece_gives : (p : Path) (k l : ℕ) (x : Piece P T A) → flat_map act_of (piece_acts p k l x) ≡ flat_map uv (texts (values_in x)) ++ flat_map ul (texts (labels_in x))
     piece_gives p k l (tree.operand i n) = sym (append-nil (uv n.text ++ []))
     piece_gives p k l (tree.operands ns) = flat_values p k ns ∙ sym (append-nil (flat_map uv (texts ns)))
-    piece_gives p k l (tree.successor i n) = refl
     piece_gives p k l (tree.successors ns) = flat_labels p l ns
     piece_gives p k l (tree.dictionary es) = flat_keys may_hold es
-    piece_gives p k l (tree.word s) = refl
-    piece_gives p k l (tree.attribute key a) = refl
-    piece_gives p k l (tree.result_type i t) = refl
-    piece_gives p k l (tree.header n) = refl
-    piece_gives p k l (tree.types ts) = refl
+    piece_gives p k l _ = refl
 
     -- what the acts at an operation's end give: its results, and its mark
     pub closing_gives : (p : Path) (o : Op P T A) → flat_map act_of (closing_acts p o) ≡ flat_map dv (texts o.names) ++ flat_map mk (marked_as o.mark)
@@ -147,24 +142,12 @@ module _ {P T A : Type 0} where
   piece_holds p k l (tree.successor i n) h = (tt, tt)
   piece_holds p k l (tree.successors ns) h = easy_holds (label_uses p l ns) (easy_labels p l ns)
   piece_holds p k l (tree.dictionary es) h = keys_hold may_hold es h
-  piece_holds p k l (tree.word s) h = tt
-  piece_holds p k l (tree.attribute key a) h = tt
-  piece_holds p k l (tree.result_type i t) h = tt
-  piece_holds p k l (tree.header n) h = tt
-  piece_holds p k l (tree.types ts) h = tt
+  piece_holds p k l _ h = tt
 
   -- the keys of a piece may stand where its claims hold
   pub holds_piece : (p : Path) (k l : ℕ) (x : Piece P T A) → Each Holds (piece_acts p k l x) → KeysKept may_hold (entries_in x)
   holds_piece p k l (tree.dictionary es) h = hold_keys may_hold es h
-  holds_piece p k l (tree.operand i n) h = tt
-  holds_piece p k l (tree.operands ns) h = tt
-  holds_piece p k l (tree.successor i n) h = tt
-  holds_piece p k l (tree.successors ns) h = tt
-  holds_piece p k l (tree.word s) h = tt
-  holds_piece p k l (tree.attribute key a) h = tt
-  holds_piece p k l (tree.result_type i t) h = tt
-  holds_piece p k l (tree.header n) h = tt
-  holds_piece p k l (tree.types ts) h = tt
+  holds_piece p k l _ h = tt
 
   -- no act of a piece is an entry
   pub piece_no_entry : (p : Path) (k l : ℕ) (x : Piece P T A) → Each NoEntry (piece_acts p k l x)
@@ -173,11 +156,7 @@ module _ {P T A : Type 0} where
   piece_no_entry p k l (tree.successor i n) = (tt, tt)
   piece_no_entry p k l (tree.successors ns) = easy_no_entry (label_uses p l ns) (easy_labels p l ns)
   piece_no_entry p k l (tree.dictionary es) = keys_no_entry may_hold es
-  piece_no_entry p k l (tree.word s) = tt
-  piece_no_entry p k l (tree.attribute key a) = tt
-  piece_no_entry p k l (tree.result_type i t) = tt
-  piece_no_entry p k l (tree.header n) = tt
-  piece_no_entry p k l (tree.types ts) = tt
+  piece_no_entry p k l _ = tt
 
   closing_rest : (p : Path) (o : Op P T A) → Each Easy (result_definitions p 0 o.names ++ mark_acts o.mark)
   closing_rest p o = each_both Easy (result_definitions p 0 o.names) (mark_acts o.mark) (easy_results p 0 o.names) (easy_mark o.mark)

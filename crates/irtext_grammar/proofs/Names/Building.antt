@@ -1,7 +1,7 @@
 -- What each use means in the order of the script is what the scopes bind as they end.
 use Rattle.std.proofs.Common.{◌≡◌, Bool, true, false, cond, List, [], ◌∷◌, ◌++◌, refl, sym, ap, ◌∙◌, append_assoc, append-nil}
 use Rattle.irtext_base.specs.Format.{same_text}
-use Rattle.irtext_grammar.specs.Names.Script.{Place, User, use_value, use_label, define_value, define_label, mark, entry, claim, done, does, within}
+use Rattle.irtext_grammar.specs.Names.Script.{Place, User, use_value, use_label, done, does, within}
 use Rattle.irtext_grammar.specs.Names.Scopes as scopes
 use Rattle.irtext_grammar.specs.Names.Scopes.{uses, defines, link, nothing, ◌⊕◌, fact_of, bound_by}
 use Rattle.irtext_grammar.specs.Names.TextScopes.{Fact, Facts, Act, Script, lookup, bound_in, outward, facts}
@@ -47,11 +47,7 @@ none v l = record { so = same_refl [] }
 act_spread : (v l : List Fact) (a : Act) → Spreads (bound_by same_text v l a) v l (fact_of a)
 act_spread v l (use_value w u) = record { so = same_path _ _ (sym (append-nil (link u (lookup w.name v))) ∙ sym (append-nil (link u (lookup w.name v) ++ []))) }
 act_spread v l (use_label w u) = record { so = same_path _ _ (sym (append-nil (link u (lookup w.name l))) ∙ sym (append-nil (link u (lookup w.name l) ++ []))) }
-act_spread v l (define_value w p) = record { so = same_refl [] }
-act_spread v l (define_label w p) = record { so = same_refl [] }
-act_spread v l (mark i p) = record { so = same_refl [] }
-act_spread v l (entry i p) = record { so = same_refl [] }
-act_spread v l (claim b x) = record { so = same_refl [] }
+act_spread v l _ = record { so = same_refl [] }
 
 region_spread : (xs : List (User × Place)) (v : List Fact) (iso : Bool) (f : Facts) → Spreads xs (cond iso f.values v) f.labels f → (l : List Fact) → Spreads xs v l (outward iso f)
 region_spread xs v true f p l = record {

@@ -8,7 +8,8 @@ use Rattle.irtext_grammar.specs.Names.Scopes.{fail, Fact, uses, defines, Scopes,
 use Rattle.irtext_grammar.specs.Graphs.StandsFor.{made}
 use Rattle.irtext_grammar.proofs.Names.Plainly.{append_empty}
 use Rattle.irtext_grammar.proofs.Lists.Fresh.{Fresh, fresh_left, fresh_right, has_both, neither_left, neither_right}
-use Rattle.irtext_grammar.proofs.Names.UsesMean.{meant, Means, Known, each_both, each_front, each_rest}
+use Rattle.irtext_grammar.proofs.Names.UsesMean.{meant, Means, Known}
+use Rattle.irtext_grammar.proofs.Lists.Each.{each_both, each_left, each_right}
 
 -- an act of names alone
 abbrev pub Naming : {N P : Type 0} → Act N P → Type 0
@@ -98,16 +99,27 @@ module _ {N : Type 0} (eq : N → N → Bool) (symmetric : (x y : N) → eq x y 
     known v l (does (mark i p) k) h m = absurd h.0
     known v l (does (entry i p) k) h m = absurd h.0
     known v l (does (claim b x) k) h m = absurd h.0
-    known v l (within true p body k) h m = known v l k h.1 (each_rest (Means eq) (meant eq (facts eq body).values (facts eq body).labels body) (meant eq v l k) m)
+    known v l (within true p body k) h m = known v l k h.1 (each_right (Means eq) (meant eq (facts eq body).values (facts eq body).labels body) (meant eq v l k) m)
     known v l (within false p body k) h m =
-        let r = known v l k h.1 (each_rest (Means eq) (meant eq v (facts eq body).labels body) (meant eq v l k) m) in
-        let b = known v (facts eq body).labels body h.0 (each_front (Means eq) (meant eq v (facts eq body).labels body) (meant eq v l k) m) in
+        let r = known v l k h.1 (each_right (Means eq) (meant eq v (facts eq body).labels body) (meant eq v l k) m) in
+        let b = known v (facts eq body).labels body h.0 (each_left (Means eq) (meant eq v (facts eq body).labels body) (meant eq v l k) m) in
         (each_both (Known eq v) (facts eq body).values (facts eq k).values b.0 r.0, r.1)
 
     known_resolved : (a : P) (v fs : List (Fact N)) → Each (Known eq v) fs → unresolved eq a v fs ≡ []
     known_resolved a v [] h = refl
     known_resolved a v (uses n u ∷ fs) h = append_empty (cond (is_some (lookup eq n v)) [] (fail (UnresolvedReference n) a)) (unresolved eq a v fs) (ap (λ b. cond b [] (fail (UnresolvedReference n) a)) h.0) (known_resolved a v fs h.1)
     known_resolved a v (defines n p ∷ fs) h = known_resolved a v fs h.1
+
+    -- an isolated region is clean where its script is, since it knows all that it uses
+    region_clean : (s : Scopes N) (p : P) (body k : Script N P) → Names body → Each (Means eq) (meant eq (facts eq body).values (facts eq body).labels body) → failures eq (inside true s) body ≡ [] → failures eq (s ⊳ outward eq true (facts eq body)) k ≡ []
+        → failures eq s (within true p body k) ≡ []
+    region_clean s p body k h m first rest =
+        let F = facts eq body in
+        let q = known F.values F.labels body h m in
+        append_empty (failures eq (inside true s) body ++ left_open eq p true F) (failures eq (s ⊳ outward eq true F) k)
+        (append_empty (failures eq (inside true s) body) (left_open eq p true F) first
+        (append_empty (unresolved eq p F.values F.values) (unresolved eq p F.labels F.labels) (known_resolved p F.values F.values q.0) (known_resolved p F.labels F.labels q.1)))
+        rest
 
     -- in open scopes
     clean : (ns : List N) (a b : List (Fact N)) (ms es : List ℕ) (v l : List (Fact N)) (x : Script N P) → Names x → Each (Means eq) (meant eq v l x) → Covers ns a → Covers ns b → Fresh eq ns (made x) → failures eq (at a b ms es) x ≡ []
@@ -126,23 +138,19 @@ module _ {N : Type 0} (eq : N → N → Bool) (symmetric : (x y : N) → eq x y 
     clean ns a b ms es v l (does (entry i p) k) h m ca cb f = absurd h.0
     clean ns a b ms es v l (does (claim c x) k) h m ca cb f = absurd h.0
     clean ns a b ms es v l (within true p body k) h m ca cb f =
-        let s = at a b ms es in
         let F = facts eq body in
-        let inner = each_front (Means eq) (meant eq F.values F.labels body) (meant eq v l k) m in
-        let q = known F.values F.labels body h.0 inner in
-        append_empty (failures eq (inside true s) body ++ left_open eq p true F) (failures eq (s ⊳ outward eq true F) k)
-        (append_empty (failures eq (inside true s) body) (left_open eq p true F) (clean ns [] [] ms es F.values F.labels body h.0 inner (λ n e. refl) (λ n e. refl) (fresh_left eq ns (made body) (made k) f))
-        (append_empty (unresolved eq p F.values F.values) (unresolved eq p F.labels F.labels) (known_resolved p F.values F.values q.0) (known_resolved p F.labels F.labels q.1)))
-        (clean (ns ++ made body) (a ++ []) (b ++ []) (ms ++ F.marks) (es ++ F.entries) v l k h.1 (each_rest (Means eq) (meant eq F.values F.labels body) (meant eq v l k) m)
+        let inner = each_left (Means eq) (meant eq F.values F.labels body) (meant eq v l k) m in
+        region_clean (at a b ms es) p body k h.0 inner (clean ns [] [] ms es F.values F.labels body h.0 inner (λ n e. refl) (λ n e. refl) (fresh_left eq ns (made body) (made k) f))
+        (clean (ns ++ made body) (a ++ []) (b ++ []) (ms ++ F.marks) (es ++ F.entries) v l k h.1 (each_right (Means eq) (meant eq F.values F.labels body) (meant eq v l k) m)
         (covers_more ns (made body) a ca) (covers_more ns (made body) b cb) (fresh_right eq ns (made body) (made k) f))
     clean ns a b ms es v l (within false p body k) h m ca cb f =
         let s = at a b ms es in
         let F = facts eq body in
-        let inner = each_front (Means eq) (meant eq v F.labels body) (meant eq v l k) m in
+        let inner = each_left (Means eq) (meant eq v F.labels body) (meant eq v l k) m in
         let q = known v F.labels body h.0 inner in
         append_empty (failures eq (inside false s) body ++ left_open eq p false F) (failures eq (s ⊳ outward eq false F) k)
         (append_empty (failures eq (inside false s) body) (left_open eq p false F) (clean ns a [] ms es v F.labels body h.0 inner ca (λ n e. refl) (fresh_left eq ns (made body) (made k) f)) (known_resolved p F.labels F.labels q.1))
-        (clean (ns ++ made body) (a ++ F.values) (b ++ []) (ms ++ F.marks) (es ++ F.entries) v l k h.1 (each_rest (Means eq) (meant eq v F.labels body) (meant eq v l k) m)
+        (clean (ns ++ made body) (a ++ F.values) (b ++ []) (ms ++ F.marks) (es ++ F.entries) v l k h.1 (each_right (Means eq) (meant eq v F.labels body) (meant eq v l k) m)
         (covers_both ns (made body) a F.values ca (made_covers body h.0).0) (covers_more ns (made body) b cb) (fresh_right eq ns (made body) (made k) f))
 
     -- outside of every region
@@ -152,11 +160,8 @@ module _ {N : Type 0} (eq : N → N → Bool) (symmetric : (x y : N) → eq x y 
     outer_clean ns ms es v l (does a k) o h m f = absurd o
     outer_clean ns ms es v l (within false p body k) o h m f = absurd (true≢false (sym o.0))
     outer_clean ns ms es v l (within true p body k) o h m f =
-        let s : Scopes N = record { values = None; labels = None; marks = ms; entries = es } in
         let F = facts eq body in
-        let inner = each_front (Means eq) (meant eq F.values F.labels body) (meant eq v l k) m in
-        let q = known F.values F.labels body h.0 inner in
-        append_empty (failures eq (inside true s) body ++ left_open eq p true F) (failures eq (s ⊳ outward eq true F) k)
-        (append_empty (failures eq (inside true s) body) (left_open eq p true F) (clean ns [] [] ms es F.values F.labels body h.0 inner (λ n e. refl) (λ n e. refl) (fresh_left eq ns (made body) (made k) f))
-        (append_empty (unresolved eq p F.values F.values) (unresolved eq p F.labels F.labels) (known_resolved p F.values F.values q.0) (known_resolved p F.labels F.labels q.1)))
-        (outer_clean (ns ++ made body) (ms ++ F.marks) (es ++ F.entries) v l k o.1 h.1 (each_rest (Means eq) (meant eq F.values F.labels body) (meant eq v l k) m) (fresh_right eq ns (made body) (made k) f))
+        let inner = each_left (Means eq) (meant eq F.values F.labels body) (meant eq v l k) m in
+        region_clean (record { values = None; labels = None; marks = ms; entries = es }) p body k h.0 inner
+        (clean ns [] [] ms es F.values F.labels body h.0 inner (λ n e. refl) (λ n e. refl) (fresh_left eq ns (made body) (made k) f))
+        (outer_clean (ns ++ made body) (ms ++ F.marks) (es ++ F.entries) v l k o.1 h.1 (each_right (Means eq) (meant eq F.values F.labels body) (meant eq v l k) m) (fresh_right eq ns (made body) (made k) f))

@@ -10,6 +10,7 @@ use Rattle.irtext_grammar.specs.Grammar.Tree.{Piece, Part, Op, Head, Brace, show
 use Rattle.irtext_grammar.specs.Names.Script.{Path, Script, done, within, does_all}
 use Rattle.irtext_grammar.specs.Names.Acts.{piece_acts, parts_script, closing_acts, header_acts, operation_script, region_script, region_scripts, blocks_script, operations_script, singles, single_labels, all_of}
 use Rattle.irtext_grammar.specs.Names.Resolves.{all_in_regions, all_in_blocks, all_in_operations}
+use Rattle.irtext_grammar.proofs.Grammar.Nested.{ShownWith, BlocksWith, OperationsWith}
 
 -- the one holds exactly where the other does
 pub record Both (A B : Type 0) : Type 0 where
@@ -22,22 +23,17 @@ both_then a b = record { to = λ x. b.to (a.to x); from = λ x. a.from (b.from x
 
 -- each region is shown, and the parts of each operation have a place for each of its regions
 module _ {P T A : Type 0} where
-  abbrev mutual
-    -- each operation in the regions has a place for each of its regions
-    pub WholeRegions : Regions (Op P T A) (Head P T A) (Brace P) → Type 0
-    WholeRegions no_regions = ⊤
-    WholeRegions (region (shown place) bs rs) = WholeBlocks bs × WholeRegions rs
-    WholeRegions (region elided bs rs) = ⊥
+  -- each operation in the regions has a place for each of its regions
+  abbrev pub WholeRegions : Regions (Op P T A) (Head P T A) (Brace P) → Type 0
+  WholeRegions rs = ShownWith (λ o rs. Enough (parts_of o.body) rs) rs
 
-    -- each operation in the blocks has
-    pub WholeBlocks : Blocks (Op P T A) (Head P T A) (Brace P) → Type 0
-    WholeBlocks no_blocks = ⊤
-    WholeBlocks (block h os bs) = WholeOperations os × WholeBlocks bs
+  -- each operation in the blocks has
+  abbrev pub WholeBlocks : Blocks (Op P T A) (Head P T A) (Brace P) → Type 0
+  WholeBlocks bs = BlocksWith (λ o rs. Enough (parts_of o.body) rs) bs
 
-    -- each of the operations has
-    pub WholeOperations : Operations (Op P T A) (Head P T A) (Brace P) → Type 0
-    WholeOperations no_operations = ⊤
-    WholeOperations (operation o rs os) = (Enough (parts_of o.body) rs × WholeRegions rs) × WholeOperations os
+  -- each of the operations has
+  abbrev pub WholeOperations : Operations (Op P T A) (Head P T A) (Brace P) → Type 0
+  WholeOperations os = OperationsWith (λ o rs. Enough (parts_of o.body) rs) os
 
 -- ---- lists
 module _ {P T A X : Type 0} (isolated : Id → Bool) (of_op : Op P T A → List X) (of_head : Head P T A → List X) (outward : Bool → List X → List X) (L : Script Text P → List X)

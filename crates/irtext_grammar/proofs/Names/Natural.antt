@@ -72,12 +72,7 @@ scopes_then_as f s x = λ i. record { values = then_as f s.values x.values i; la
 
 fact_of_as : {N P M Q : Type 0} (f : N → M) (h : P → Q) (a : Act N P) → fact_of (act_as f h a) ≡ facts_as f (fact_of a)
 fact_of_as f h (use_value w u) = refl
-fact_of_as f h (use_label w u) = refl
-fact_of_as f h (define_value w p) = refl
-fact_of_as f h (define_label w p) = refl
-fact_of_as f h (mark i p) = refl
-fact_of_as f h (entry i p) = refl
-fact_of_as f h (claim b x) = refl
+fact_of_as f h _ = refl
 
 inside_as : {N M : Type 0} (f : N → M) (iso : Bool) (s : Scopes N) → scopes_as f (inside iso s) ≡ inside iso (scopes_as f s)
 inside_as f true s = refl

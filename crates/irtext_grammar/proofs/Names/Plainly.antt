@@ -60,18 +60,6 @@ module _ {N P : Type 0} (eq : N → N → Bool) where
   -- a script is not refused where it is not refused without marks, entries and claims, and those hold
   pub no_failure : (s : Scopes N) (x : Script N P) → failures eq (unmarked_scopes s) (plain x) ≡ [] → Kept eq s x → failures eq s x ≡ []
   no_failure s done e h = refl
-  no_failure s (does (use_value w u) k) e h =
-      let b = both_empty (act_failures eq s (use_value w u)) (failures eq (unmarked_scopes (s ⊳ fact_of (use_value w u))) (plain k)) e in
-      append_empty (act_failures eq s (use_value w u)) (failures eq (s ⊳ fact_of (use_value w u)) k) b.0 (no_failure (s ⊳ fact_of (use_value w u)) k b.1 h.1)
-  no_failure s (does (use_label w u) k) e h =
-      let b = both_empty (act_failures eq s (use_label w u)) (failures eq (unmarked_scopes (s ⊳ fact_of (use_label w u))) (plain k)) e in
-      append_empty (act_failures eq s (use_label w u)) (failures eq (s ⊳ fact_of (use_label w u)) k) b.0 (no_failure (s ⊳ fact_of (use_label w u)) k b.1 h.1)
-  no_failure s (does (define_value w p) k) e h =
-      let b = both_empty (act_failures eq s (define_value w p)) (failures eq (unmarked_scopes (s ⊳ fact_of (define_value w p))) (plain k)) e in
-      append_empty (act_failures eq s (define_value w p)) (failures eq (s ⊳ fact_of (define_value w p)) k) b.0 (no_failure (s ⊳ fact_of (define_value w p)) k b.1 h.1)
-  no_failure s (does (define_label w p) k) e h =
-      let b = both_empty (act_failures eq s (define_label w p)) (failures eq (unmarked_scopes (s ⊳ fact_of (define_label w p))) (plain k)) e in
-      append_empty (act_failures eq s (define_label w p)) (failures eq (s ⊳ fact_of (define_label w p)) k) b.0 (no_failure (s ⊳ fact_of (define_label w p)) k b.1 h.1)
   no_failure s (does (mark i p) k) e h =
       append_empty (act_failures eq s (mark i p)) (failures eq (s ⊳ fact_of (mark i p)) k) (h.0 refl) (no_failure (s ⊳ fact_of (mark i p)) k (subst (λ z. failures eq z (plain k) ≡ []) (unmarked_nothing s) e) h.1)
   no_failure s (does (entry i p) k) e h =
@@ -92,3 +80,6 @@ module _ {N P : Type 0} (eq : N → N → Bool) where
       (sym (left_unmarked p iso (facts eq body)) ∙ (ap (left_open eq p iso) (sym (facts_plain body)) ∙ c.1))))
       (no_failure (s ⊳ outward eq iso (facts eq body)) k
       (subst (λ z. failures eq (u ⊳ z) (plain k) ≡ []) (ap (outward eq iso) (facts_plain body) ∙ outward_unmarked eq iso (facts eq body)) a.1) h.1)
+  no_failure s (does a k) e h =
+      let b = both_empty (act_failures eq s a) (failures eq (unmarked_scopes (s ⊳ fact_of a)) (plain k)) e in
+      append_empty (act_failures eq s a) (failures eq (s ⊳ fact_of a) k) b.0 (no_failure (s ⊳ fact_of a) k b.1 h.1)

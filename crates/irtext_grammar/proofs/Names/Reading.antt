@@ -43,99 +43,76 @@ onto-nothing : (gs : List (List Fact)) → onto gs [] ≡ gs
 onto-nothing [] = refl
 onto-nothing (h ∷ gs) = ap (λ x. x ∷ gs) (append-nil h)
 
+-- scopes over the same places are tied to a state whose facts and lists are theirs
+tied : (st st' : State) (t t' : Tracker) (d : Tied st t) (vs ls : List Scope) → facts_in vs ≡ st'.values → facts_in ls ≡ st'.labels → t'.marks ≡ st'.marks → t'.entries ≡ st'.entries → st.bound ≡ st'.bound
+    → Linked vs d.of_values t'.values → Linked ls d.of_labels t'.labels → Tied st' t'
+tied st st' t t' d vs ls v l m n b x y = record {
+  values = vs;
+  labels = ls;
+  of_values = d.of_values;
+  of_labels = d.of_labels;
+  values_are = v;
+  labels_are = l;
+  marks_are = m;
+  entries_are = n;
+  bound_are = subst (λ z. Same z (d.of_values ++ d.of_labels)) b d.bound_are;
+  values_linked = x;
+  labels_linked = y;
+}
+
 -- a call on values
 value_call : (st st' : State) (t : Tracker) (d : Tied st t) (U : List Failure) (r : Result Names Failure)
     → Follows U st'.values d.of_values r → st.labels ≡ st'.labels → st.marks ≡ st'.marks → st.entries ≡ st'.entries → st.bound ≡ st'.bound → Follow (outcome U st') (with_values t r)
-value_call st st' t d [] (Ok s) f e m n b = record {
-  values = f.scopes;
-  labels = d.labels;
-  of_values = d.of_values;
-  of_labels = d.of_labels;
-  values_are = f.facts_are;
-  labels_are = d.labels_are ∙ e;
-  marks_are = d.marks_are ∙ m;
-  entries_are = d.entries_are ∙ n;
-  bound_are = subst (λ z. Same z (d.of_values ++ d.of_labels)) b d.bound_are;
-  values_linked = f.agrees;
-  labels_linked = d.labels_linked;
-}
+value_call st st' t d [] (Ok s) f e m n b =
+    tied st st' t (record t { values = s }) d f.scopes d.labels f.facts_are (d.labels_are ∙ e) (d.marks_are ∙ m) (d.entries_are ∙ n) b f.agrees d.labels_linked
 value_call st st' t d [] (Err x) f e m n b = f.agrees
 value_call st st' t d (x ∷ U) (Ok s) f e m n b = f.agrees
 value_call st st' t d (x ∷ U) (Err y) f e m n b = f.agrees
 
+-- a call on labels
 label_call : (st st' : State) (t : Tracker) (d : Tied st t) (U : List Failure) (r : Result Names Failure)
     → Follows U st'.labels d.of_labels r → st.values ≡ st'.values → st.marks ≡ st'.marks → st.entries ≡ st'.entries → st.bound ≡ st'.bound → Follow (outcome U st') (with_labels t r)
-label_call st st' t d [] (Ok s) f e m n b = record {
-  values = d.values;
-  labels = f.scopes;
-  of_values = d.of_values;
-  of_labels = d.of_labels;
-  values_are = d.values_are ∙ e;
-  labels_are = f.facts_are;
-  marks_are = d.marks_are ∙ m;
-  entries_are = d.entries_are ∙ n;
-  bound_are = subst (λ z. Same z (d.of_values ++ d.of_labels)) b d.bound_are;
-  values_linked = d.values_linked;
-  labels_linked = f.agrees;
-}
+label_call st st' t d [] (Ok s) f e m n b =
+    tied st st' t (record t { labels = s }) d d.values f.scopes (d.values_are ∙ e) f.facts_are (d.marks_are ∙ m) (d.entries_are ∙ n) b d.values_linked f.agrees
 label_call st st' t d [] (Err x) f e m n b = f.agrees
 label_call st st' t d (x ∷ U) (Ok s) f e m n b = f.agrees
 label_call st st' t d (x ∷ U) (Err y) f e m n b = f.agrees
 
-unchanged : (st : State) (t : Tracker) → Tied st t → Tied (after st nothing) t
-unchanged st t d = record {
-  values = d.values;
-  labels = d.labels;
-  of_values = d.of_values;
-  of_labels = d.of_labels;
-  values_are = d.values_are ∙ sym (onto-nothing st.values);
-  labels_are = d.labels_are ∙ sym (onto-nothing st.labels);
-  marks_are = d.marks_are ∙ sym (append-nil st.marks);
-  entries_are = d.entries_are ∙ sym (append-nil st.entries);
-  bound_are = subst (λ z. Same z (d.of_values ++ d.of_labels)) (sym (append-nil st.bound)) d.bound_are;
-  values_linked = d.values_linked;
-  labels_linked = d.labels_linked;
-}
+-- an act that mentions no name adds to the marks or the entries alone
+listed : (st : State) (t : Tracker) (d : Tied st t) (ms ns ms' ns' : List ℕ) → ms' ≡ st.marks ++ ms → ns' ≡ st.entries ++ ns → Tied (after st (record nothing { marks = ms; entries = ns })) (record t { marks = ms'; entries = ns' })
+listed st t d ms ns ms' ns' m n =
+    tied st (after st (record nothing { marks = ms; entries = ns })) t (record t { marks = ms'; entries = ns' }) d d.values d.labels (d.values_are ∙ sym (onto-nothing st.values)) (d.labels_are ∙ sym (onto-nothing st.labels)) m n (sym (append-nil st.bound))
+    d.values_linked d.labels_linked
+
+-- an act on values that adds one fact
+value_act : (st : State) (t : Tracker) (d : Tied st t) (f : Fact) (wrong : List (List Fact) → List Failure) (r : Result Names Failure) → Follows (wrong (facts_in d.values)) (onto (facts_in d.values) (f ∷ [])) d.of_values r
+    → Follow (outcome (wrong st.values) (after st (record nothing { values = f ∷ [] }))) (with_values t r)
+value_act st t d f wrong r h =
+    value_call st (after st (record nothing { values = f ∷ [] })) t d (wrong st.values) r (subst (λ z. Follows (wrong z) (onto z (f ∷ [])) d.of_values r) d.values_are h)
+    (sym (onto-nothing st.labels)) (sym (append-nil st.marks)) (sym (append-nil st.entries)) (sym (append-nil st.bound))
+
+-- an act on labels that adds one fact
+label_act : (st : State) (t : Tracker) (d : Tied st t) (f : Fact) (wrong : List (List Fact) → List Failure) (r : Result Names Failure) → Follows (wrong (facts_in d.labels)) (onto (facts_in d.labels) (f ∷ [])) d.of_labels r
+    → Follow (outcome (wrong st.labels) (after st (record nothing { labels = f ∷ [] }))) (with_labels t r)
+label_act st t d f wrong r h =
+    label_call st (after st (record nothing { labels = f ∷ [] })) t d (wrong st.labels) r (subst (λ z. Follows (wrong z) (onto z (f ∷ [])) d.of_labels r) d.labels_are h)
+    (sym (onto-nothing st.values)) (sym (append-nil st.marks)) (sym (append-nil st.entries)) (sym (append-nil st.bound))
 
 act_follows : (st : State) (t : Tracker) (x : Act) → Tied st t → Follow (step st (act x)) (do_act t x)
-act_follows st t (use_value w u) d =
-    value_call st (after st (fact_of (use_value w u))) t d (outside (top st.values) w) (use_name t.values w u)
-    (subst (λ z. Follows (outside (top z) w) (onto z (uses w.name u ∷ [])) d.of_values (use_name t.values w u)) d.values_are (use_follows d.values d.of_values t.values w u d.values_linked))
-    (sym (onto-nothing st.labels)) (sym (append-nil st.marks)) (sym (append-nil st.entries)) (sym (append-nil st.bound))
-act_follows st t (use_label w u) d =
-    label_call st (after st (fact_of (use_label w u))) t d (outside (top st.labels) w) (use_name t.labels w u)
-    (subst (λ z. Follows (outside (top z) w) (onto z (uses w.name u ∷ [])) d.of_labels (use_name t.labels w u)) d.labels_are (use_follows d.labels d.of_labels t.labels w u d.labels_linked))
-    (sym (onto-nothing st.values)) (sym (append-nil st.marks)) (sym (append-nil st.entries)) (sym (append-nil st.bound))
-act_follows st t (define_value w p) d =
-    value_call st (after st (fact_of (define_value w p))) t d (defined_before (top st.values) w) (define_name t.values w p)
-    (subst (λ z. Follows (defined_before (top z) w) (onto z (defines w.name p ∷ [])) d.of_values (define_name t.values w p)) d.values_are (define_follows d.values d.of_values t.values w p d.values_linked))
-    (sym (onto-nothing st.labels)) (sym (append-nil st.marks)) (sym (append-nil st.entries)) (sym (append-nil st.bound))
-act_follows st t (define_label w p) d =
-    label_call st (after st (fact_of (define_label w p))) t d (defined_before (top st.labels) w) (define_name t.labels w p)
-    (subst (λ z. Follows (defined_before (top z) w) (onto z (defines w.name p ∷ [])) d.of_labels (define_name t.labels w p)) d.labels_are (define_follows d.labels d.of_labels t.labels w p d.labels_linked))
-    (sym (onto-nothing st.values)) (sym (append-nil st.marks)) (sym (append-nil st.entries)) (sym (append-nil st.bound))
+act_follows st t (use_value w u) d = value_act st t d (uses w.name u) (λ z. outside (top z) w) (use_name t.values w u) (use_follows d.values d.of_values t.values w u d.values_linked)
+act_follows st t (use_label w u) d = label_act st t d (uses w.name u) (λ z. outside (top z) w) (use_name t.labels w u) (use_follows d.labels d.of_labels t.labels w u d.labels_linked)
+act_follows st t (define_value w p) d = value_act st t d (defines w.name p) (λ z. defined_before (top z) w) (define_name t.values w p) (define_follows d.values d.of_values t.values w p d.values_linked)
+act_follows st t (define_label w p) d = label_act st t d (defines w.name p) (λ z. defined_before (top z) w) (define_name t.labels w p) (define_follows d.labels d.of_labels t.labels w p d.labels_linked)
 act_follows st t (claim b x) d = go b
   where
     go : (c : Bool) → Follow (outcome (cond c [] (x ∷ [])) (after st nothing)) (cond c (Ok t) (Err x))
-    go true = unchanged st t d
+    go true = listed st t d [] [] t.marks t.entries (d.marks_are ∙ sym (append-nil st.marks)) (d.entries_are ∙ sym (append-nil st.entries))
     go false = refl
 act_follows st t (mark n p) d = subst (λ ms. Follow (outcome (cond (is_among n st.marks) (one_failure (DuplicateIndex n) p) []) (after st (fact_of (mark n p)))) (cond (is_among n ms) (refused (DuplicateIndex n) (Some p)) (Ok (record t { marks = t.marks ++ n ∷ [] })))) (sym d.marks_are) (go (is_among n st.marks))
   where
     go : (c : Bool) → Follow (outcome (cond c (one_failure (DuplicateIndex n) p) []) (after st (fact_of (mark n p)))) (cond c (refused (DuplicateIndex n) (Some p)) (Ok (record t { marks = t.marks ++ n ∷ [] })))
     go true = refl
-    go false = record {
-      values = d.values;
-      labels = d.labels;
-      of_values = d.of_values;
-      of_labels = d.of_labels;
-      values_are = d.values_are ∙ sym (onto-nothing st.values);
-      labels_are = d.labels_are ∙ sym (onto-nothing st.labels);
-      marks_are = ap (λ z. z ++ n ∷ []) d.marks_are;
-      entries_are = d.entries_are ∙ sym (append-nil st.entries);
-      bound_are = subst (λ z. Same z (d.of_values ++ d.of_labels)) (sym (append-nil st.bound)) d.bound_are;
-      values_linked = d.values_linked;
-      labels_linked = d.labels_linked;
-    }
+    go false = listed st t d (n ∷ []) [] (t.marks ++ n ∷ []) t.entries (ap (λ z. z ++ n ∷ []) d.marks_are) (d.entries_are ∙ sym (append-nil st.entries))
 act_follows st t (entry n p) d =
     subst (λ ms. Follow (outcome (cond (is_among n st.marks && not (is_among n st.entries)) [] (one_failure (UnknownIndex n) p)) (after st (fact_of (entry n p)))) (cond (is_among n ms && not (is_among n t.entries)) (Ok (record t { entries = t.entries ++ n ∷ [] })) (refused (UnknownIndex n) (Some p)))) (sym d.marks_are)
     (subst (λ es. Follow (outcome (cond (is_among n st.marks && not (is_among n st.entries)) [] (one_failure (UnknownIndex n) p)) (after st (fact_of (entry n p)))) (cond (is_among n st.marks && not (is_among n es)) (Ok (record t { entries = t.entries ++ n ∷ [] })) (refused (UnknownIndex n) (Some p)))) (sym d.entries_are)
@@ -143,49 +120,22 @@ act_follows st t (entry n p) d =
   where
     go : (c : Bool) → Follow (outcome (cond c [] (one_failure (UnknownIndex n) p)) (after st (fact_of (entry n p)))) (cond c (Ok (record t { entries = t.entries ++ n ∷ [] })) (refused (UnknownIndex n) (Some p)))
     go false = refl
-    go true = record {
-      values = d.values;
-      labels = d.labels;
-      of_values = d.of_values;
-      of_labels = d.of_labels;
-      values_are = d.values_are ∙ sym (onto-nothing st.values);
-      labels_are = d.labels_are ∙ sym (onto-nothing st.labels);
-      marks_are = d.marks_are ∙ sym (append-nil st.marks);
-      entries_are = ap (λ z. z ++ n ∷ []) d.entries_are;
-      bound_are = subst (λ z. Same z (d.of_values ++ d.of_labels)) (sym (append-nil st.bound)) d.bound_are;
-      values_linked = d.values_linked;
-      labels_linked = d.labels_linked;
-    }
+    go true = listed st t d [] (n ∷ []) t.marks (t.entries ++ n ∷ []) (d.marks_are ∙ sym (append-nil st.marks)) (ap (λ z. z ++ n ∷ []) d.entries_are)
+
+-- a scope more of no facts
+more_scope : (fresh : ℕ) (gs : List Scope) (fs : List (List Fact)) → facts_in gs ≡ fs → facts_in (empty_scope fresh ∷ gs) ≡ [] ∷ fs
+more_scope fresh gs fs e = ap (λ z. z ∷ facts_in gs) (empty-facts fresh) ∙ ap (λ z. [] ∷ z) e
 
 entered_shared : (st : State) (t : Tracker) → Tied st t → Tied (entered false st) (record t { labels = enter_scope t.labels })
-entered_shared st t d = record {
-  values = d.values;
-  labels = empty_scope t.labels.fresh ∷ d.labels;
-  of_values = d.of_values;
-  of_labels = d.of_labels;
-  values_are = d.values_are;
-  labels_are = ap (λ z. z ∷ facts_in d.labels) (empty-facts t.labels.fresh) ∙ ap (λ z. [] ∷ z) d.labels_are;
-  marks_are = d.marks_are;
-  entries_are = d.entries_are;
-  bound_are = d.bound_are;
-  values_linked = d.values_linked;
-  labels_linked = enter_follows d.labels d.of_labels t.labels d.labels_linked;
-}
+entered_shared st t d =
+    tied st (entered false st) t (record t { labels = enter_scope t.labels }) d d.values (empty_scope t.labels.fresh ∷ d.labels) d.values_are (more_scope t.labels.fresh d.labels st.labels d.labels_are) d.marks_are d.entries_are refl
+    d.values_linked (enter_follows d.labels d.of_labels t.labels d.labels_linked)
 
 enter_event : (st : State) (t : Tracker) (iso : Bool) → Tied st t → Follow (step st (enter iso)) (do_event t (enter iso))
-enter_event st t true d = record {
-  values = empty_scope t.values.fresh ∷ d.values;
-  labels = empty_scope t.labels.fresh ∷ d.labels;
-  of_values = d.of_values;
-  of_labels = d.of_labels;
-  values_are = ap (λ z. z ∷ facts_in d.values) (empty-facts t.values.fresh) ∙ ap (λ z. [] ∷ z) d.values_are;
-  labels_are = ap (λ z. z ∷ facts_in d.labels) (empty-facts t.labels.fresh) ∙ ap (λ z. [] ∷ z) d.labels_are;
-  marks_are = d.marks_are;
-  entries_are = d.entries_are;
-  bound_are = d.bound_are;
-  values_linked = enter_follows d.values d.of_values t.values d.values_linked;
-  labels_linked = enter_follows d.labels d.of_labels t.labels d.labels_linked;
-}
+enter_event st t true d =
+    tied st (entered true st) t (record t { values = enter_scope t.values; labels = enter_scope t.labels }) d (empty_scope t.values.fresh ∷ d.values) (empty_scope t.labels.fresh ∷ d.labels)
+    (more_scope t.values.fresh d.values st.values d.values_are) (more_scope t.labels.fresh d.labels st.labels d.labels_are) d.marks_are d.entries_are refl
+    (enter_follows d.values d.of_values t.values d.values_linked) (enter_follows d.labels d.of_labels t.labels d.labels_linked)
 enter_event st t false d = go d.values d.values_are d.values_linked.scopes_are
   where
     T' : Tracker
@@ -226,19 +176,8 @@ leave_event st t true a d =
     go [] (Ok s) f W q h e = subst (λ z. Follow (outcome W (left true st)) (with_labels (record t { values = s }) z)) e (last W q h)
       where
         last : (W : List Failure) (q : Result Names Failure) → Agrees W (under_scopes d.labels) (d.of_labels ++ bound_in L L) q → Follow (outcome W (left true st)) (with_labels (record t { values = s }) q)
-        last [] (Ok k) h = record {
-          values = under_scopes d.values;
-          labels = under_scopes d.labels;
-          of_values = d.of_values ++ bound_in V V;
-          of_labels = d.of_labels ++ bound_in L L;
-          values_are = under-facts d.values ∙ ap outer_scopes d.values_are;
-          labels_are = under-facts d.labels ∙ ap outer_scopes d.labels_are;
-          marks_are = d.marks_are;
-          entries_are = d.entries_are;
-          bound_are = mixed st.bound d.of_values d.of_labels (bound_in V V) (bound_in L L) d.bound_are;
-          values_linked = f;
-          labels_linked = h;
-        }
+        last [] (Ok k) h =
+            record { values = under_scopes d.values; labels = under_scopes d.labels; of_values = d.of_values ++ bound_in V V; of_labels = d.of_labels ++ bound_in L L; values_are = under-facts d.values ∙ ap outer_scopes d.values_are; labels_are = under-facts d.labels ∙ ap outer_scopes d.labels_are; marks_are = d.marks_are; entries_are = d.entries_are; bound_are = mixed st.bound d.of_values d.of_labels (bound_in V V) (bound_in L L) d.bound_are; values_linked = f; labels_linked = h }
         last [] (Err y) h = h
         last (x ∷ W) (Ok k) h = h
         last (x ∷ W) (Err y) h = h
@@ -252,19 +191,8 @@ leave_event st t false a d =
     L = top_facts st.labels
 
     go : (W : List Failure) (q : Result Names Failure) → Agrees W (under_scopes d.labels) (d.of_labels ++ bound_in L L) q → Follow (outcome W (left false st)) (with_labels t q)
-    go [] (Ok k) h = record {
-      values = d.values;
-      labels = under_scopes d.labels;
-      of_values = d.of_values;
-      of_labels = d.of_labels ++ bound_in L L;
-      values_are = d.values_are;
-      labels_are = under-facts d.labels ∙ ap outer_scopes d.labels_are;
-      marks_are = d.marks_are;
-      entries_are = d.entries_are;
-      bound_are = mixed_right st.bound d.of_values d.of_labels (bound_in L L) d.bound_are;
-      values_linked = d.values_linked;
-      labels_linked = h;
-    }
+    go [] (Ok k) h =
+        record { values = d.values; labels = under_scopes d.labels; of_values = d.of_values; of_labels = d.of_labels ++ bound_in L L; values_are = d.values_are; labels_are = under-facts d.labels ∙ ap outer_scopes d.labels_are; marks_are = d.marks_are; entries_are = d.entries_are; bound_are = mixed_right st.bound d.of_values d.of_labels (bound_in L L) d.bound_are; values_linked = d.values_linked; labels_linked = h }
     go [] (Err y) h = h
     go (x ∷ W) (Ok k) h = h
     go (x ∷ W) (Err y) h = h

@@ -6,60 +6,31 @@ use Rattle.irtext_grammar.specs.Spelling.Spellable.{Each}
 use Rattle.irtext_grammar.specs.Grammar.Forest.{Regions, no_regions, region, no_operations, operation}
 use Rattle.irtext_grammar.specs.Grammar.Tree.{Name, Op, Head, Brace, Tree}
 use Rattle.irtext_grammar.specs.Grammar.Section.{Entry}
-use Rattle.irtext_grammar.specs.Names.Script.{use_value, use_label, define_value, define_label, mark, entry, claim, Script, done, does, within, does_all, follow}
+use Rattle.irtext_grammar.specs.Names.Script.{entry, Script, done, does, within, does_all, follow}
 use Rattle.irtext_grammar.specs.Names.Scopes.{Fact, uses, defines, Facts, nothing, ◌⊕◌, Scopes, and_then, ◌⊳◌, fact_of, inside, no_scope, outward, facts, act_failures, not_isolated, left_open, failures}
 use Rattle.irtext_grammar.specs.Spelling.Writable.{has_region}
 use Rattle.irtext_grammar.specs.Names.Acts.{section_acts, tree_script, root_script, failures_of, region_scripts, rule_of}
 use Rattle.irtext_grammar.specs.Names.Resolves.{texts, all_in_regions, all_in_blocks, shared, kept_inside, used_values, used_labels, marks_of, scopes_of, DefinesOnce, DefinesUsed, Resolves}
 use Rattle.irtext_grammar.proofs.Names.Plainly.{both_empty, append_empty}
+use Rattle.irtext_grammar.proofs.Names.Followed.{failures_follow}
 use Rattle.irtext_grammar.proofs.Names.Following.{operation_follow, regions_follow}
 use Rattle.irtext_grammar.proofs.Lists.Fresh.{fresh_distinct, distinct_fresh}
-use Rattle.irtext_grammar.proofs.Names.ResolvedScript.{defined, used, Entryless, Good, good_of, of_good, each_right}
+use Rattle.irtext_grammar.proofs.Names.ResolvedScript.{defined, used, Entryless, Good, good_of, of_good}
 use Rattle.irtext_grammar.proofs.Names.ResolvedSection.{section_resolves, resolves_section, same_number_symmetric}
 use Rattle.irtext_grammar.proofs.Names.InScripts.{WholeOperations}
 use Rattle.irtext_grammar.proofs.Names.TreeLists as lists
 use Rattle.irtext_grammar.proofs.Names.TreeUses as uses
 use Rattle.irtext_grammar.proofs.Names.TreeScopes.{root_scopes}
 use Rattle.irtext_grammar.proofs.Names.TreeClaims.{root_claims, root_entryless, root_outer}
-
--- ---- one script and then another
-and_then_both : (o : Option (List (Fact Text))) (fs gs : List (Fact Text)) → and_then (and_then o fs) gs ≡ and_then o (fs ++ gs)
-and_then_both None fs gs = refl
-and_then_both (Some before) fs gs = ap Some (append_assoc before fs gs)
-
-and_nothing : (o : Option (List (Fact Text))) → and_then o [] ≡ o
-and_nothing None = refl
-and_nothing (Some fs) = ap Some (append-nil fs)
-
-scopes_both : (s : Scopes Text) (f g : Facts Text) → (s ⊳ f) ⊳ g ≡ s ⊳ (f ⊕ g)
-scopes_both s f g = λ i. record { values = and_then_both s.values f.values g.values i; labels = and_then_both s.labels f.labels g.labels i; marks = append_assoc s.marks f.marks g.marks i; entries = append_assoc s.entries f.entries g.entries i }
-
-scopes_nothing : (s : Scopes Text) → s ⊳ nothing ≡ s
-scopes_nothing s = λ i. record { values = and_nothing s.values i; labels = and_nothing s.labels i; marks = append-nil s.marks i; entries = append-nil s.entries i }
+use Rattle.irtext_grammar.proofs.Lists.Each.{each_right}
 
 module _ {P : Type 0} where
-  failures_follow : (s : Scopes Text) (x y : Script Text P) → failures same_text s (follow x y) ≡ failures same_text s x ++ failures same_text (s ⊳ facts same_text x) y
-  failures_follow s done y = ap (λ z. failures same_text z y) (sym (scopes_nothing s))
-  failures_follow s (does a k) y =
-      ap (λ z. act_failures same_text s a ++ z) (failures_follow (s ⊳ fact_of a) k y ∙ ap (λ z. failures same_text (s ⊳ fact_of a) k ++ failures same_text z y) (scopes_both s (fact_of a) (facts same_text k)))
-      ∙ sym (append_assoc (act_failures same_text s a) (failures same_text (s ⊳ fact_of a) k) (failures same_text (s ⊳ facts same_text (does a k)) y))
-  failures_follow s (within iso p body k) y =
-      let f = outward same_text iso (facts same_text body) in
-      let first = not_isolated iso s.values ++ (failures same_text (inside iso s) body ++ left_open same_text p iso (facts same_text body)) in
-      ap (λ z. first ++ z) (failures_follow (s ⊳ f) k y ∙ ap (λ z. failures same_text (s ⊳ f) k ++ failures same_text z y) (scopes_both s f (facts same_text k)))
-      ∙ sym (append_assoc first (failures same_text (s ⊳ f) k) (failures same_text (s ⊳ facts same_text (within iso p body k)) y))
-
   no_entries : (x : Script Text P) → Entryless x → (facts same_text x).entries ≡ []
   no_entries done n = refl
   no_entries (does (entry i p) k) n = absurd n
-  no_entries (does (use_value w u) k) n = no_entries k n
-  no_entries (does (use_label w u) k) n = no_entries k n
-  no_entries (does (define_value w p) k) n = no_entries k n
-  no_entries (does (define_label w p) k) n = no_entries k n
-  no_entries (does (mark i p) k) n = no_entries k n
-  no_entries (does (claim b x) k) n = no_entries k n
   no_entries (within true p body k) n = append_empty (facts same_text body).entries (facts same_text k).entries (no_entries body n.0) (no_entries k n.1)
   no_entries (within false p body k) n = append_empty (facts same_text body).entries (facts same_text k).entries (no_entries body n.0) (no_entries k n.1)
+  no_entries (does _ k) n = no_entries k n
 
 -- ---- nothing outside
 is_empty : {X : Type 0} (x : X) (xs : List X) → x ∷ xs ≡ [] → ⊥
@@ -113,7 +84,7 @@ module _ {P T A X : Type 0} (isolated : Id → Bool) (t : Tree P T A) (es : List
   root_parts = operation_follow [] t.own (region_scripts isolated [] 0 (isolated t.own.id) t.regions) done (does_all (section_acts (rule_of t) es) done) (regions_follow isolated [] 0 (isolated t.own.id) t.regions)
 
   parts_failures : failures_of isolated t es ≡ failures same_text no_scope x ++ failures same_text (no_scope ⊳ facts same_text x) (does_all (section_acts (rule_of t) es) done)
-  parts_failures = ap (failures same_text no_scope) root_parts ∙ failures_follow no_scope x (does_all (section_acts (rule_of t) es) done)
+  parts_failures = ap (failures same_text no_scope) root_parts ∙ failures_follow same_text no_scope x (does_all (section_acts (rule_of t) es) done)
 
   marks_are : (facts same_text x).marks ≡ marks_of isolated t
   marks_are = lists.marks_in_root isolated t w

@@ -10,6 +10,7 @@ use Rattle.irtext_grammar.specs.Names.Scopes.{fail, Fact, uses, defines, Facts, 
 use Rattle.irtext_grammar.proofs.Lists.SameText.{same_text_true, same_text_eq, other_text}
 use Rattle.irtext_grammar.proofs.Names.Plainly.{both_empty, append_empty}
 use Rattle.irtext_grammar.proofs.Lists.Fresh.{Fresh, fresh_join, fresh_left, fresh_right, fresh_distinct, distinct_fresh}
+use Rattle.irtext_grammar.proofs.Lists.Each.{each_both, each_left, each_right}
 
 -- ---- names in scopes
 -- the names that a scope defines, in reading order
@@ -129,21 +130,6 @@ among_has n (m ∷ ms) = go (nat_eq m n) (n == m) (turned m n) (among_has n ms)
     go : (a b : Bool) → a ≡ b → is_among n ms ≡ has ◌==◌ n ms → cond a true (is_among n ms) ≡ (b || has ◌==◌ n ms)
     go true b e h = ap (λ b. b || has ◌==◌ n ms) e
     go false b e h = h ∙ ap (λ b. b || has ◌==◌ n ms) e
-
--- what holds of the members of two lists holds of those of both joined
-pub each_both : {X : Type 0} (Q : X → Type 0) (xs ys : List X) → Each Q xs → Each Q ys → Each Q (xs ++ ys)
-each_both Q [] ys a b = b
-each_both Q (x ∷ xs) ys a b = (a.0, each_both Q xs ys a.1 b)
-
--- what holds of the members of two lists joined holds of those of the first
-pub each_left : {X : Type 0} (Q : X → Type 0) (xs ys : List X) → Each Q (xs ++ ys) → Each Q xs
-each_left Q [] ys a = tt
-each_left Q (x ∷ xs) ys a = (a.0, each_left Q xs ys a.1)
-
--- and of those of the second
-pub each_right : {X : Type 0} (Q : X → Type 0) (xs ys : List X) → Each Q (xs ++ ys) → Each Q ys
-each_right Q [] ys a = a
-each_right Q (x ∷ xs) ys a = each_right Q xs ys a.1
 
 none_before : (o : Option (List (Fact Text))) (fs : List (Fact Text)) → and_then o fs ≡ None → o ≡ None
 none_before None fs e = refl

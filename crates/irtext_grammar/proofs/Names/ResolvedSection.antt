@@ -8,13 +8,14 @@ use Rattle.irtext_base.proofs.Characters.{and_left, and_right}
 use Rattle.irtext_grammar.specs.Spelling.Spellable.{Each}
 use Rattle.irtext_grammar.specs.Grammar.Tree.{Name}
 use Rattle.irtext_grammar.specs.Grammar.Section.{Item, direct, reference, Entry, of_item, of_once}
-use Rattle.irtext_grammar.specs.Names.Script.{Act, use_value, use_label, define_value, define_label, mark, entry, claim, done, does_all}
+use Rattle.irtext_grammar.specs.Names.Script.{Act, entry, claim, done, does_all}
 use Rattle.irtext_grammar.specs.Names.Scopes.{Scopes, ◌⊳◌, fact_of, is_among, act_failures, failures}
 use Rattle.irtext_grammar.specs.Names.Acts.{item_acts, entry_acts, reference_acts, late_acts, section_acts, Rule}
 use Rattle.irtext_grammar.specs.Names.Resolves.{items, indices, is_known, is_kept, SectionResolves, EntryKept}
 use Rattle.irtext_grammar.proofs.Names.Plainly.{both_empty, append_empty}
 use Rattle.irtext_grammar.proofs.Lists.Fresh.{Fresh, fresh_distinct, distinct_fresh, both, is_not, not_is}
-use Rattle.irtext_grammar.proofs.Names.ResolvedScript.{among_has, each_both, each_left, each_right, if_nothing, nothing_if}
+use Rattle.irtext_grammar.proofs.Names.ResolvedScript.{among_has, if_nothing, nothing_if}
+use Rattle.irtext_grammar.proofs.Lists.Each.{each_both, each_left, each_right}
 
 -- the test of numbers goes both ways
 pub same_number_symmetric : (m n : ℕ) → (m == n) ≡ (n == m)
@@ -53,11 +54,7 @@ module _ {P : Type 0} where
       let b = both_empty (act_failures same_text s (claim t x)) (failures same_text (s ⊳ fact_of (claim t x)) (does_all acts done)) e in
       let r = right_of (s ⊳ fact_of (claim t x)) ms ns (append-nil s.marks ∙ em) (append-nil s.entries ∙ en) acts q.1 b.1 in
       ((if_nothing t x b.0, r.0), r.1, r.2)
-  right_of s ms ns em en (use_value w u ∷ acts) q e = absurd q.0
-  right_of s ms ns em en (use_label w u ∷ acts) q e = absurd q.0
-  right_of s ms ns em en (define_value w p ∷ acts) q e = absurd q.0
-  right_of s ms ns em en (define_label w p ∷ acts) q e = absurd q.0
-  right_of s ms ns em en (mark i p ∷ acts) q e = absurd q.0
+  right_of s ms ns em en (_ ∷ acts) q e = absurd q.0
 
   of_right : (s : Scopes Text) (ms ns : List ℕ) → s.marks ≡ ms → s.entries ≡ ns → (acts : List (Act Text P)) → Each Quiet acts → Right ms ns acts → failures same_text s (does_all acts done) ≡ []
   of_right s ms ns em en [] q r = refl
@@ -68,11 +65,7 @@ module _ {P : Type 0} where
   of_right s ms ns em en (claim t x ∷ acts) q r =
       append_empty (act_failures same_text s (claim t x)) (failures same_text (s ⊳ fact_of (claim t x)) (does_all acts done)) (nothing_if t x r.0.0)
       (of_right (s ⊳ fact_of (claim t x)) ms ns (append-nil s.marks ∙ em) (append-nil s.entries ∙ en) acts q.1 (r.0.1, r.1, r.2))
-  of_right s ms ns em en (use_value w u ∷ acts) q r = absurd q.0
-  of_right s ms ns em en (use_label w u ∷ acts) q r = absurd q.0
-  of_right s ms ns em en (define_value w p ∷ acts) q r = absurd q.0
-  of_right s ms ns em en (define_label w p ∷ acts) q r = absurd q.0
-  of_right s ms ns em en (mark i p ∷ acts) q r = absurd q.0
+  of_right s ms ns em en (_ ∷ acts) q r = absurd q.0
 
 -- what is gathered of two lists joined
 pub flat_both : {X Y : Type 0} (f : X → List Y) (xs ys : List X) → flat_map f (xs ++ ys) ≡ flat_map f xs ++ flat_map f ys

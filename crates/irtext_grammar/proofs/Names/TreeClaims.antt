@@ -7,35 +7,26 @@ use Rattle.irtext_grammar.specs.Spelling.Spellable.{Each}
 use Rattle.irtext_grammar.specs.Grammar.Forest.{Regions, no_regions, region, Blocks, no_blocks, block, Operations, no_operations, operation, AllRegions, AllBlocks, AllOperations}
 use Rattle.irtext_grammar.specs.Grammar.Tree as tree
 use Rattle.irtext_grammar.specs.Grammar.Tree.{Name, Attribute, Piece, Part, Op, Head, Brace, Tree, parts_of, views}
-use Rattle.irtext_grammar.specs.Names.Script.{Path, Act, use_value, use_label, define_value, define_label, mark, entry, claim, Script, done, within, does_all}
+use Rattle.irtext_grammar.specs.Names.Script.{Path, Act, entry, claim, Script, done, within, does_all}
 use Rattle.irtext_grammar.specs.Names.Acts.{piece_acts, closing_acts, header_acts, blocks_script, tree_script, may_hold}
 use Rattle.irtext_grammar.specs.Names.Resolves.{KeysKept, CountsAgree, OpKeysKept, HeadKeysKept}
 use Rattle.irtext_grammar.specs.Spelling.Writable.{has_region}
-use Rattle.irtext_grammar.proofs.Names.ResolvedScript.{Claims, Entryless, OuterIsolated, each_both, each_left, each_right}
+use Rattle.irtext_grammar.proofs.Names.ResolvedScript.{Claims, Entryless, OuterIsolated}
 use Rattle.irtext_grammar.proofs.Names.ActsOfTrees.{entries_in, Holds, NoEntry, piece_holds, holds_piece, piece_no_entry, closing_holds, closing_no_entry, header_holds, holds_header, header_no_entry}
 use Rattle.irtext_grammar.proofs.Names.InScripts as scripts
 use Rattle.irtext_grammar.proofs.Names.InScripts.{Both, both_then, WholeRegions, WholeBlocks, WholeOperations}
+use Rattle.irtext_grammar.proofs.Lists.Each.{each_both, each_left, each_right}
 
 -- ---- acts
 claims_acts : {P : Type 0} (acts : List (Act Text P)) (k : Script Text P) → Both (Claims (does_all acts k)) (Each Holds acts × Claims k)
 claims_acts [] k = record { to = λ d. (tt, d); from = λ d. d.1 }
 claims_acts (claim b x ∷ acts) k = let r = claims_acts acts k in record { to = λ d. let u = r.to d.1 in ((d.0, u.0), u.1); from = λ d. (d.0.0, r.from (d.0.1, d.1)) }
-claims_acts (use_value w u ∷ acts) k = let r = claims_acts acts k in record { to = λ d. let u = r.to d in ((tt, u.0), u.1); from = λ d. r.from (d.0.1, d.1) }
-claims_acts (use_label w u ∷ acts) k = let r = claims_acts acts k in record { to = λ d. let u = r.to d in ((tt, u.0), u.1); from = λ d. r.from (d.0.1, d.1) }
-claims_acts (define_value w p ∷ acts) k = let r = claims_acts acts k in record { to = λ d. let u = r.to d in ((tt, u.0), u.1); from = λ d. r.from (d.0.1, d.1) }
-claims_acts (define_label w p ∷ acts) k = let r = claims_acts acts k in record { to = λ d. let u = r.to d in ((tt, u.0), u.1); from = λ d. r.from (d.0.1, d.1) }
-claims_acts (mark i p ∷ acts) k = let r = claims_acts acts k in record { to = λ d. let u = r.to d in ((tt, u.0), u.1); from = λ d. r.from (d.0.1, d.1) }
-claims_acts (entry i p ∷ acts) k = let r = claims_acts acts k in record { to = λ d. let u = r.to d in ((tt, u.0), u.1); from = λ d. r.from (d.0.1, d.1) }
+claims_acts (_ ∷ acts) k = let r = claims_acts acts k in record { to = λ d. let u = r.to d in ((tt, u.0), u.1); from = λ d. r.from (d.0.1, d.1) }
 
 none_acts : {P : Type 0} (acts : List (Act Text P)) (k : Script Text P) → Each NoEntry acts → Both (Entryless (does_all acts k)) (⊤ × Entryless k)
 none_acts [] k e = record { to = λ d. (tt, d); from = λ d. d.1 }
 none_acts (entry i p ∷ acts) k e = absurd e.0
-none_acts (use_value w u ∷ acts) k e = none_acts acts k e.1
-none_acts (use_label w u ∷ acts) k e = none_acts acts k e.1
-none_acts (define_value w p ∷ acts) k e = none_acts acts k e.1
-none_acts (define_label w p ∷ acts) k e = none_acts acts k e.1
-none_acts (mark i p ∷ acts) k e = none_acts acts k e.1
-none_acts (claim b x ∷ acts) k e = none_acts acts k e.1
+none_acts (_ ∷ acts) k e = none_acts acts k e.1
 
 same_outer : {P : Type 0} (acts : List (Act Text P)) (k : Script Text P) → Both (OuterIsolated (does_all acts k)) (⊤ × OuterIsolated k)
 same_outer [] k = record { to = λ d. (tt, d); from = λ d. d.1 }

@@ -5,7 +5,7 @@ use Rattle.irtext_base.specs.Text.{Text}
 use Rattle.irtext_base.specs.Format.{Id, same_text}
 use Rattle.irtext_grammar.specs.Grammar.Forest.{Blocks, no_operations, operation}
 use Rattle.irtext_grammar.specs.Grammar.Tree.{Piece, Op, Head, Brace, Tree}
-use Rattle.irtext_grammar.specs.Names.Script.{Path, Act, use_value, use_label, define_value, define_label, mark, entry, claim, Script, done, does, within, does_all}
+use Rattle.irtext_grammar.specs.Names.Script.{Path, Act, use_value, Script, done, does, within, does_all}
 use Rattle.irtext_grammar.specs.Names.Scopes.{Fact, uses, defines, facts}
 use Rattle.irtext_grammar.specs.Names.Acts.{piece_acts, closing_acts, header_acts, blocks_script, tree_script, marked_as}
 use Rattle.irtext_grammar.specs.Names.Resolves.{texts, all_in_regions, all_in_blocks, shared, kept_inside, everywhere}
@@ -84,42 +84,23 @@ marks_in x = (facts same_text x).marks
 module _ {P : Type 0} where
   values_step : (a : Act Text P) (k : Script Text P) → values_defined (does a k) ≡ act_of none none one none none a ++ values_defined k
   values_step (use_value w u) k = refl
-  values_step (use_label w u) k = refl
-  values_step (define_value w p) k = refl
-  values_step (define_label w p) k = refl
-  values_step (mark i p) k = refl
-  values_step (entry i p) k = refl
-  values_step (claim b x) k = refl
+  values_step _ k = refl
 
   values_regions : (iso : Bool) (place : P) (body then : Script Text P) → values_defined (within iso place body then) ≡ shared iso (values_defined body) ++ values_defined then
   values_regions true place body then = refl
   values_regions false place body then = defined_both (facts same_text body).values (facts same_text then).values
 
   labels_step : (a : Act Text P) (k : Script Text P) → labels_defined (does a k) ≡ act_of none none none one none a ++ labels_defined k
-  labels_step (use_value w u) k = refl
-  labels_step (use_label w u) k = refl
-  labels_step (define_value w p) k = refl
-  labels_step (define_label w p) k = refl
-  labels_step (mark i p) k = refl
-  labels_step (entry i p) k = refl
-  labels_step (claim b x) k = refl
+  labels_step = elim [ use_value w u ↦ λ k. refl | _ ↦ λ k. refl ]
 
   labels_regions : (iso : Bool) (place : P) (body then : Script Text P) → labels_defined (within iso place body then) ≡ kept_inside iso (labels_defined body) ++ labels_defined then
-  labels_regions true place body then = refl
-  labels_regions false place body then = refl
+  labels_regions = elim [ true ↦ λ place body then. refl | false ↦ λ place body then. refl ]
 
   marks_step : (a : Act Text P) (k : Script Text P) → marks_in (does a k) ≡ act_of none none none none one a ++ marks_in k
-  marks_step (use_value w u) k = refl
-  marks_step (use_label w u) k = refl
-  marks_step (define_value w p) k = refl
-  marks_step (define_label w p) k = refl
-  marks_step (mark i p) k = refl
-  marks_step (entry i p) k = refl
-  marks_step (claim b x) k = refl
+  marks_step = elim [ use_value w u ↦ λ k. refl | _ ↦ λ k. refl ]
 
   marks_regions : (iso : Bool) (place : P) (body then : Script Text P) → marks_in (within iso place body then) ≡ everywhere iso (marks_in body) ++ marks_in then
-  marks_regions true place body then = refl
-  marks_regions false place body then = refl
+  marks_regions = elim [ true ↦ λ place body then. refl | false ↦ λ place body then. refl ]
 
 values_op : {P T A : Type 0} (o : Op P T A) → flat_map one (texts o.names) ++ flat_map none (marked_as o.mark) ≡ texts o.names
 values_op o = ap₂ ◌++◌ (flat_one (texts o.names)) (flat_none (marked_as o.mark)) ∙ append-nil (texts o.names)

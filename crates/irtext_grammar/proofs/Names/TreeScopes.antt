@@ -12,11 +12,12 @@ use Rattle.irtext_grammar.specs.Names.Scopes.{Fact, facts}
 use Rattle.irtext_grammar.specs.Names.Acts.{piece_acts, closing_acts, header_acts, blocks_script, tree_script}
 use Rattle.irtext_grammar.specs.Names.Resolves.{Scope, DefinesOnce, DefinesUsed, values_of, labels_of, scopes_in_regions, scopes_in_blocks, scopes_in_operations}
 use Rattle.irtext_grammar.proofs.Names.ResolvedScript as script
-use Rattle.irtext_grammar.proofs.Names.ResolvedScript.{defined, used, scopes, Claims, Entryless, OuterIsolated, each_both, each_left, each_right}
+use Rattle.irtext_grammar.proofs.Names.ResolvedScript.{defined, used, scopes, Claims, Entryless, OuterIsolated}
 use Rattle.irtext_grammar.proofs.Names.InScripts as scripts
 use Rattle.irtext_grammar.proofs.Names.InScripts.{Both, both_then, WholeRegions, WholeBlocks, WholeOperations}
 use Rattle.irtext_grammar.proofs.Names.TreeLists as lists
 use Rattle.irtext_grammar.proofs.Names.TreeUses as uses
+use Rattle.irtext_grammar.proofs.Lists.Each.{each_both, each_left, each_right}
 
 each_two : {X : Type 0} (Q : X → Type 0) (xs ys : List X) {C E : Type 0} → Both C (Each Q xs) → Both E (Each Q ys) → Both (C × E) (Each Q (xs ++ ys))
 each_two Q xs ys c e = record { to = λ d. each_both Q xs ys (c.to d.0) (e.to d.1); from = λ d. (c.from (each_left Q xs ys d), e.from (each_right Q xs ys d)) }

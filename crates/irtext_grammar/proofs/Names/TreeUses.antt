@@ -7,15 +7,16 @@ use Rattle.irtext_grammar.specs.Spelling.Spellable.{Each}
 use Rattle.irtext_grammar.specs.Grammar.Forest.{Regions, no_regions, region, Blocks, no_blocks, block, Operations, no_operations, operation}
 use Rattle.irtext_grammar.specs.Grammar.Tree as tree
 use Rattle.irtext_grammar.specs.Grammar.Tree.{Name, Piece, Part, Op, Head, Brace, Tree, parts_of, views}
-use Rattle.irtext_grammar.specs.Names.Script.{Path, Act, use_value, use_label, define_value, define_label, mark, entry, claim, Script, done, does, within, does_all}
+use Rattle.irtext_grammar.specs.Names.Script.{Path, Act, use_value, Script, done, does, within, does_all}
 use Rattle.irtext_grammar.specs.Names.Scopes.{facts}
 use Rattle.irtext_grammar.specs.Names.Acts.{piece_acts, closing_acts, header_acts, blocks_script, tree_script, marked_as}
 use Rattle.irtext_grammar.specs.Names.Resolves.{texts, all_in_regions, all_in_blocks, all_in_operations, shared, kept_inside, used_values, used_labels}
-use Rattle.irtext_grammar.proofs.Names.ResolvedScript.{used, each_both, each_left, each_right}
+use Rattle.irtext_grammar.proofs.Names.ResolvedScript.{used}
 use Rattle.irtext_grammar.proofs.Names.ActsOfTrees.{act_of, values_in, labels_in, piece_gives, closing_gives, header_gives}
 use Rattle.irtext_grammar.proofs.Names.InScripts as scripts
 use Rattle.irtext_grammar.proofs.Names.InScripts.{Both, both_then, WholeRegions, WholeBlocks, WholeOperations}
 use Rattle.irtext_grammar.proofs.Names.TreeLists.{flat_one, flat_none, used_both, none, one, acts_add}
+use Rattle.irtext_grammar.proofs.Lists.Each.{each_both, each_left, each_right}
 
 texts_both : {P : Type 0} (ms ns : List (Name P)) → texts (ms ++ ns) ≡ texts ms ++ texts ns
 texts_both [] ns = refl
@@ -133,21 +134,11 @@ module _ {P : Type 0} where
 
   values_step : (a : Act Text P) (k : Script Text P) → values_used (does a k) ≡ act_of one none none none none a ++ values_used k
   values_step (use_value w u) k = refl
-  values_step (use_label w u) k = refl
-  values_step (define_value w p) k = refl
-  values_step (define_label w p) k = refl
-  values_step (mark i p) k = refl
-  values_step (entry i p) k = refl
-  values_step (claim b x) k = refl
+  values_step _ k = refl
 
   labels_step : (a : Act Text P) (k : Script Text P) → labels_used (does a k) ≡ act_of none one none none none a ++ labels_used k
   labels_step (use_value w u) k = refl
-  labels_step (use_label w u) k = refl
-  labels_step (define_value w p) k = refl
-  labels_step (define_label w p) k = refl
-  labels_step (mark i p) k = refl
-  labels_step (entry i p) k = refl
-  labels_step (claim b x) k = refl
+  labels_step _ k = refl
 
   module _ (Q : Text → Type 0) where
     values_regions : (iso : Bool) (place : P) (body then : Script Text P) (D : Type 0) → Both (Each Q (values_used body)) D → Both (Each Q (values_used (within iso place body then))) (Unless iso D × Each Q (values_used then))

@@ -8,21 +8,7 @@ use Rattle.irtext_grammar.specs.Names.Placeholders.{In}
 use Rattle.irtext_grammar.proofs.Lists.Sets.{in_left, in_right, in_split}
 use Rattle.std.proofs.lemmas.List.{append_assoc}
 use Rattle.irtext_grammar.proofs.Names.Plainly.{both_empty}
-
--- what holds of each member of a list
-pub each_both : {A : Type 0} (Q : A → Type 0) (xs ys : List A) → Each Q xs → Each Q ys → Each Q (xs ++ ys)
-each_both Q [] ys h k = k
-each_both Q (x ∷ xs) ys h k = (h.0, each_both Q xs ys h.1 k)
-
--- what holds of the members of two lists joined holds of those of the first
-pub each_front : {A : Type 0} (Q : A → Type 0) (xs ys : List A) → Each Q (xs ++ ys) → Each Q xs
-each_front Q [] ys h = tt
-each_front Q (x ∷ xs) ys h = (h.0, each_front Q xs ys h.1)
-
--- and of those of the second
-pub each_rest : {A : Type 0} (Q : A → Type 0) (xs ys : List A) → Each Q (xs ++ ys) → Each Q ys
-each_rest Q [] ys h = h
-each_rest Q (x ∷ xs) ys h = each_rest Q xs ys h.1
+use Rattle.irtext_grammar.proofs.Lists.Each.{each_both, each_left, each_right}
 
 -- what holds of each holds of a member
 pub each_in : {A : Type 0} (Q : A → Type 0) (xs : List A) → Each Q xs → (x : A) → In x xs → Q x
@@ -115,11 +101,11 @@ module _ {N : Type 0} (eq : N → N → Bool) where
 
   scoped_then : (o : Option (List (Fact N))) (v fs gs hs : List (Fact N)) → Scoped o v (fs ++ gs) → Scoped (and_then o hs) v gs
   scoped_then None v fs gs hs h = tt
-  scoped_then (Some xs) v fs gs hs h = each_rest (Known v) fs gs h
+  scoped_then (Some xs) v fs gs hs h = each_right (Known v) fs gs h
 
   scoped_front : (o : Option (List (Fact N))) (v fs gs : List (Fact N)) → Scoped o v (fs ++ gs) → Scoped o v fs
   scoped_front None v fs gs h = tt
-  scoped_front (Some xs) v fs gs h = each_front (Known v) fs gs h
+  scoped_front (Some xs) v fs gs h = each_left (Known v) fs gs h
 
   no_failures : {A : Type 0} (x : A) (xs : List A) → x ∷ xs ≡ [] → ⊥
   no_failures x xs e = cc

@@ -33,11 +33,12 @@ use Rattle.irtext_grammar.proofs.Sections.Content.{length_entries}
 use Rattle.irtext_grammar.proofs.Sections.Kept.{section_clean}
 use Rattle.irtext_grammar.proofs.Sections.EntryRules.{entries_ruled}
 use Rattle.irtext_grammar.proofs.Sections.Once.{Mention, Mentions, place_below, each_shared}
-use Rattle.irtext_grammar.proofs.Graphs.WrittenSpellable.{each_filter, written_fine}
+use Rattle.irtext_grammar.proofs.Graphs.WrittenSpellable.{written_fine}
 use Rattle.irtext_grammar.proofs.Grammar.BackTree as back
 use Rattle.irtext_grammar.proofs.Sections.BehindRoot.{section_behind}
 use Rattle.irtext_grammar.proofs.Grammar.Placed as placed
 use Rattle.irtext_grammar.proofs.RoundTrips.RootBack.{AreSpellableItems, RootRead, TreeRead, root_behind}
+use Rattle.irtext_grammar.proofs.Lists.Each.{each_filter}
 
 from_zero : (a b : ℕ) → 0 + a ≡ b → a ≡ b
 from_zero a b e = omega arith

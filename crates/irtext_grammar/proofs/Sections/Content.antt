@@ -45,6 +45,9 @@ each_stands : {X : Type 0} (Q : X → Type 0) (before after : List X) (x : X) �
 each_stands Q [] after x h = h.0
 each_stands Q (y ∷ before) after x h = each_stands Q before after x h.1
 
+length_three : {X : Type 0} (xs ys zs : List X) → length (xs ++ (ys ++ zs)) ≡ length xs + (length ys + length zs)
+length_three xs ys zs = omega (arith, length-both xs (ys ++ zs), length-both ys zs)
+
 -- the entries of a graph are as many as its marks
 module _ {T A : Type 0} (C : Printing T A) where
   -- an item has as many entries as marks
@@ -67,23 +70,13 @@ module _ {T A : Type 0} (C : Printing T A) where
     pub blocks_length : (l : Limit) (bs : Blocks (GraphOp T A) (GraphBlock T A) ⊤) → length (entries_of_blocks C l bs) ≡ marks_in_blocks C l bs
     blocks_length l no_blocks = refl
     blocks_length l (block h os bs) =
-        let x = own_length h.location (block_outlined C h) in
-        let y = operations_length l os in
-        let z = blocks_length l bs in
-        let e = length-both (own_entry C h.location (block_outlined C h)) (entries_of_operations C l os ++ entries_of_blocks C l bs) in
-        let f = length-both (entries_of_operations C l os) (entries_of_blocks C l bs) in
-        omega arith
+        omega (arith, length_three (own_entry C h.location (block_outlined C h)) (entries_of_operations C l os) (entries_of_blocks C l bs), own_length h.location (block_outlined C h), operations_length l os, blocks_length l bs)
 
     -- operations have as many entries as marks
     pub operations_length : (l : Limit) (os : Operations (GraphOp T A) (GraphBlock T A) ⊤) → length (entries_of_operations C l os) ≡ marks_in_operations C l os
     operations_length l no_operations = refl
     operations_length l (operation o rs os) =
-        let x = own_length o.location (op_outlined C o) in
-        let y = regions_length l rs in
-        let z = operations_length l os in
-        let e = length-both (entries_of_regions C l rs) (own_entry C o.location (op_outlined C o) ++ entries_of_operations C l os) in
-        let f = length-both (own_entry C o.location (op_outlined C o)) (entries_of_operations C l os) in
-        omega arith
+        omega (arith, length_three (entries_of_regions C l rs) (own_entry C o.location (op_outlined C o)) (entries_of_operations C l os), own_length o.location (op_outlined C o), regions_length l rs, operations_length l os)
 
   -- a graph has as many entries as marks
   pub length_entries : (l : Limit) (g : Graph T A) → length (entries_of C l g) ≡ marks_in_regions C l g.regions + own_marks C g.own.location (op_outlined C g.own)

@@ -110,16 +110,12 @@ within_numbered m n k iso body x b f =
 
 module _ {T A : Type 0} where
   piece_silent : (p : Path) (k l : ℕ) (x : Piece ⊤ T A) → AllSilent (piece_acts p k l x)
-  piece_silent p k l (tree.word s) = tt
   piece_silent p k l (tree.operand i n) = (record { marks = refl; entries = refl }, tt)
   piece_silent p k l (tree.operands ns) = values_silent p k ns
   piece_silent p k l (tree.successor i n) = (record { marks = refl; entries = refl }, tt)
   piece_silent p k l (tree.successors ns) = labels_silent p l ns
-  piece_silent p k l (tree.attribute key a) = tt
   piece_silent p k l (tree.dictionary es) = keys_silent may_hold es
-  piece_silent p k l (tree.result_type i x) = tt
-  piece_silent p k l (tree.header n) = tt
-  piece_silent p k l (tree.types ts) = tt
+  piece_silent p k l _ = tt
 
   parts_numbered : (m n e : ℕ) (p : Path) (k l : ℕ) (ps : List (Part ⊤ T A)) (rs : List (Script Text ⊤ → Script Text ⊤)) (x : Script Text ⊤) → EnoughFor ps rs → NumberedRegions n e rs → Numbered m e x → Numbered m n (parts_script p k l ps rs x)
   parts_numbered m n e p k l [] [] x h g f = numbered_from g f

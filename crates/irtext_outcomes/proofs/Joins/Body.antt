@@ -56,15 +56,7 @@ none_counted : (ds : List Directive) → nat_lt (count is_regions ds) 1 ≡ true
 none_counted [] c e = refl
 none_counted (format.region i ∷ ds) c e = absurd (true≢false (sym e))
 none_counted (format.regions ∷ ds) c e = absurd (not_less (count is_regions ds) c)
-none_counted (format.word s ∷ ds) c e = none_counted ds c e
-none_counted (format.operand i ∷ ds) c e = none_counted ds c e
-none_counted (format.operands ∷ ds) c e = none_counted ds c e
-none_counted (format.successor i ∷ ds) c e = none_counted ds c e
-none_counted (format.successors ∷ ds) c e = none_counted ds c e
-none_counted (format.attribute k ∷ ds) c e = none_counted ds c e
-none_counted (format.dictionary ∷ ds) c e = none_counted ds c e
-none_counted (format.result_type i ∷ ds) c e = none_counted ds c e
-none_counted (format.header ∷ ds) c e = none_counted ds c e
+none_counted (_ ∷ ds) c e = none_counted ds c e
 
 orderly : (ds : List Directive) → not (has same_text given_names_key (keys ds)) ≡ true → nat_lt (count is_regions ds) 2 ≡ true → none_behind is_regions is_region ds ≡ true → Orderly ds
 orderly [] k c n = tt
@@ -75,15 +67,7 @@ orderly (format.regions ∷ ds) k c n =
     let all = and_left (list_all (λ e. not (is_region e)) ds) (none_behind is_regions is_region ds) n in
     let others = and_right (list_all (λ e. not (is_region e)) ds) (none_behind is_regions is_region ds) n in
     (none_counted ds (less (count is_regions ds) c) all, orderly ds k (fewer (count is_regions ds) c) others)
-orderly (format.word s ∷ ds) k c n = (tt, orderly ds k c n)
-orderly (format.operand i ∷ ds) k c n = (tt, orderly ds k c n)
-orderly (format.operands ∷ ds) k c n = (tt, orderly ds k c n)
-orderly (format.successor i ∷ ds) k c n = (tt, orderly ds k c n)
-orderly (format.successors ∷ ds) k c n = (tt, orderly ds k c n)
-orderly (format.dictionary ∷ ds) k c n = (tt, orderly ds k c n)
-orderly (format.result_type i ∷ ds) k c n = (tt, orderly ds k c n)
-orderly (format.region i ∷ ds) k c n = (tt, orderly ds k c n)
-orderly (format.header ∷ ds) k c n = (tt, orderly ds k c n)
+orderly (_ ∷ ds) k c n = (tt, orderly ds k c n)
 
 -- what an accepted format's directives keep to
 pub accepted_orderly : (ds : List Directive) → Accepted (format.custom ds) → Orderly ds

@@ -212,22 +212,27 @@ module _ {X Y : Type 0} (sep : ℕ) (i : Items X Y) where
     all_fine : list_all i.allowed items ≡ true → (taken : Text) → o ≡ Read (found ++ map i.see items) taken rest → ListFound found items text rest o
     one_stops : Stop items text o → ListFound found items text rest o
 
-  -- the same stop, where what stops so is bad in the same way
-  pub stop_as : (items : List X) (text : Text) (o p : Outcome (List Y)) → ((cause : Fault) (upto : Text) → o ≡ Bad cause upto → p ≡ Bad cause upto) → Stop items text o → Stop items text p
-  stop_as items text o p f k = record {
-    before = k.before;
+  -- a stop with other items in front of it, and more characters
+  stop_behind : {items : List X} (whole : List X) (before : List X) (front mid text : Text) (o p : Outcome (List Y)) (k : Stop items mid p) → whole ≡ before ++ (k.first ∷ k.behind) → list_all i.allowed before ≡ true → front ++ mid ≡ text
+      → ((cause : Fault) (upto : Text) → p ≡ Bad cause upto → o ≡ Bad cause (front ++ upto)) → Stop whole text o
+  stop_behind whole before front mid text o p k w a s f = record {
+    before = before;
     first = k.first;
     behind = k.behind;
-    whole = k.whole;
-    fine = k.fine;
+    whole = w;
+    fine = a;
     refused = k.refused;
-    upto = k.upto;
+    upto = front ++ k.upto;
     stop = k.stop;
     left = k.left;
-    splits = k.splits;
+    splits = append_assoc front k.upto k.stop ∙ (ap (λ t. front ++ t) k.splits ∙ s);
     read = k.read;
     is = f (i.wrong k.first) k.upto k.is;
   }
+
+  -- the same stop, where what stops so is bad in the same way
+  pub stop_as : (items : List X) (text : Text) (o p : Outcome (List Y)) → ((cause : Fault) (upto : Text) → o ≡ Bad cause upto → p ≡ Bad cause upto) → Stop items text o → Stop items text p
+  stop_as items text o p f k = stop_behind items k.before [] text text p o k k.whole k.fine refl f
 
   -- an item that is not allowed stands first
   stops_first : (x : X) (items : List X) (text left : Text) (o : Outcome (List Y)) → i.reading x text left → i.allowed x ≡ false → o ≡ Bad (i.wrong x) [] → Stop (x ∷ items) text o
@@ -238,38 +243,13 @@ module _ {X Y : Type 0} (sep : ℕ) (i : Items X Y) where
       → ListFound (found ++ (i.see x ∷ [])) items mid rest p → ListFound found (x ∷ items) text rest o
   later x found items front mid text rest o p f s e (all_fine g taken h) =
       all_fine (ap₂ ◌&&◌ f g) (front ++ taken) (e ∙ (ap (prefixed front) h ∙ ap (λ ys. Read ys (front ++ taken) rest) (append_assoc found (i.see x ∷ []) (map i.see items))))
-  later x found items front mid text rest o p f s e (one_stops k) = one_stops (record {
-    before = x ∷ k.before;
-    first = k.first;
-    behind = k.behind;
-    whole = ap (λ items. x ∷ items) k.whole;
-    fine = ap₂ ◌&&◌ f k.fine;
-    refused = k.refused;
-    upto = front ++ k.upto;
-    stop = k.stop;
-    left = k.left;
-    splits = append_assoc front k.upto k.stop ∙ (ap (λ t. front ++ t) k.splits ∙ s);
-    read = k.read;
-    is = e ∙ ap (prefixed front) k.is;
-  })
+  later x found items front mid text rest o p f s e (one_stops k) =
+      one_stops (stop_behind (x ∷ items) (x ∷ k.before) front mid text o p k (ap (λ items. x ∷ items) k.whole) (ap₂ ◌&&◌ f k.fine) s (λ cause upto b. e ∙ ap (prefixed front) b))
 
   -- characters more in front
   pub moved : (found : List Y) (items : List X) (front mid text rest : Text) (o p : Outcome (List Y)) → front ++ mid ≡ text → o ≡ prefixed front p → ListFound found items mid rest p → ListFound found items text rest o
   moved found items front mid text rest o p s e (all_fine g taken h) = all_fine g (front ++ taken) (e ∙ ap (prefixed front) h)
-  moved found items front mid text rest o p s e (one_stops k) = one_stops (record {
-    before = k.before;
-    first = k.first;
-    behind = k.behind;
-    whole = k.whole;
-    fine = k.fine;
-    refused = k.refused;
-    upto = front ++ k.upto;
-    stop = k.stop;
-    left = k.left;
-    splits = append_assoc front k.upto k.stop ∙ (ap (λ t. front ++ t) k.splits ∙ s);
-    read = k.read;
-    is = e ∙ ap (prefixed front) k.is;
-  })
+  moved found items front mid text rest o p s e (one_stops k) = one_stops (stop_behind items k.before front mid text o p k k.whole k.fine s (λ cause upto b. e ∙ ap (prefixed front) b))
 
   -- an item and what stands behind it, by the reader of the rest
   item_found : (x : X) (found : List Y) (items : List X) (text mid rest : Text) (next : List Y → Text → Outcome (List Y)) → i.reading x text mid

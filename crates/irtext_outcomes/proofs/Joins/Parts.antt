@@ -17,7 +17,7 @@ use Rattle.irtext_outcomes.specs.Readers.Directives.{Pieces, with_entries, with_
 use Rattle.irtext_grammar.specs.Grammar.Reads as reads
 use Rattle.irtext_outcomes.specs.Promises.Supported.{HaveNoBlocks}
 use Rattle.irtext_grammar.specs.Grammar.Tree as tree
-use Rattle.irtext_grammar.specs.Grammar.Tree.{Name, Part, shown, directive, views}
+use Rattle.irtext_grammar.specs.Grammar.Tree.{Piece, Name, Part, shown, directive, views}
 use Rattle.irtext_outcomes.proofs.Joins.Answers.{followed_read, mapped_read, Splits}
 use Rattle.irtext_outcomes.proofs.Joins.Dictionary.{keyed_read, dictionary_read}
 use Rattle.irtext_outcomes.proofs.Joins.Pieces.{space_read, symbol_read, braces_read, regions_read}
@@ -46,59 +46,33 @@ module _ {T A : Type 0} (reading : Text → Outcome A) (types : Texts T) (owns :
     pub read : (ps : List (Part ℕ T A)) (rest : Text) → reads.parts l ps (reads.region_readings l left) mid rest → reads.parts l (part ∷ ps) (reads.region_readings l regions) text rest
     pub none : is_any_region d ≡ false → regions ≡ left
 
+  -- of a piece that is no region's
+  own_piece : (iso : Bool) (d : Directive) (found next : Pieces A) (text mid : Text) (left : TreeRegions T A) (x : Piece ℕ T A) → HaveNoBlocks left → directive (tree.piece x) ≡ Some d → is_read (tree.piece x) ≡ true
+      → Step isolated iso found next (tree.piece x) left left → reads.piece l x (after_space text) mid → PieceRead iso d found next text mid left
+  own_piece iso d found next text mid left x free is form step read =
+      record { part = tree.piece x; regions = left; is = is; form = form; blocks = free; step = step; read = λ ps rest r. (mid, read, r); none = λ f. refl }
+
   piece_read : (iso : Bool) (d : Directive) (found next : Pieces A) (text taken mid : Text) (left : TreeRegions T A) → HaveNoBlocks left → EndsThere d left
       → piece_after (attr_at reading) iso d found (after_space text) ≡ Read next taken mid → PieceRead iso d found next text mid left
   piece_read iso (format.word s) found next text taken mid left free ends e =
       let m = mapped_read (λ _. found) (text_at s (after_space text)) next taken mid e in
-      record {
-        part = tree.piece (tree.word s);
-        regions = left;
-        is = refl;
-        form = refl;
-        blocks = free;
-        step = subst (λ z. Step isolated iso found z (tree.piece (tree.word s)) left left) m.2 (step_word isolated iso found s left);
-        read = λ ps rest r. (mid, text_read s (after_space text) taken mid m.1, r);
-        none = λ f. refl;
-      }
+      own_piece iso _ found next text mid left (tree.word s) free refl refl (subst (λ z. Step isolated iso found z (tree.piece (tree.word s)) left left) m.2 (step_word isolated iso found s left))
+      (text_read s (after_space text) taken mid m.1)
   piece_read iso (format.attribute k) found next text taken mid left free ends e =
       let m = mapped_read (λ e. with_entries found (e ∷ [])) (keyed_at (attr_at reading) k (after_space text)) next taken mid e in
       let a = keyed_read reading types owns formats same k m.0 (after_space text) taken mid m.1 in
-      record {
-        part = tree.piece (tree.attribute k (Some a.0));
-        regions = left;
-        is = refl;
-        form = refl;
-        blocks = free;
-        step = subst (λ z. Step isolated iso found z (tree.piece (tree.attribute k (Some a.0))) left left) (ap (λ e. with_entries found (e ∷ [])) a.2 ∙ m.2) (step_attribute isolated iso found k a.0 left);
-        read = λ ps rest r. (mid, a.1, r);
-        none = λ f. refl;
-      }
+      own_piece iso _ found next text mid left (tree.attribute k (Some a.0)) free refl refl (subst (λ z. Step isolated iso found z (tree.piece (tree.attribute k (Some a.0))) left left) (ap (λ e. with_entries found (e ∷ [])) a.2 ∙ m.2) (step_attribute isolated iso found k a.0 left))
+      (a.1)
   piece_read iso format.dictionary found next text taken mid left free ends e =
       let m = mapped_read (with_entries found) (dictionary_at (attr_at reading) (after_space text)) next taken mid e in
       let a = dictionary_read reading types owns formats same h m.0 (after_space text) taken mid m.1 in
-      record {
-        part = tree.piece (tree.dictionary a.entries);
-        regions = left;
-        is = refl;
-        form = refl;
-        blocks = free;
-        step = subst (λ z. Step isolated iso found z (tree.piece (tree.dictionary a.entries)) left left) (ap (with_entries found) a.whole ∙ m.2) (step_dictionary isolated iso found a.entries left a.fine);
-        read = λ ps rest r. (mid, a.read, r);
-        none = λ f. refl;
-      }
+      own_piece iso _ found next text mid left (tree.dictionary a.entries) free refl refl (subst (λ z. Step isolated iso found z (tree.piece (tree.dictionary a.entries)) left left) (ap (with_entries found) a.whole ∙ m.2) (step_dictionary isolated iso found a.entries left a.fine))
+      (a.read)
   piece_read iso format.header found next text taken mid left free ends e =
       let m = mapped_read (λ name. with_entries found ((format.sym_name_key, tree.ident name) ∷ [])) (symbol_at (after_space text)) next taken mid e in
       let n : Name ℕ = record { place = length (after_space text); text = m.0 } in
-      record {
-        part = tree.piece (tree.header n);
-        regions = left;
-        is = refl;
-        form = refl;
-        blocks = free;
-        step = subst (λ z. Step isolated iso found z (tree.piece (tree.header n)) left left) m.2 (step_header isolated iso found n left);
-        read = λ ps rest r. (mid, (refl, symbol_read (after_space text) m.0 taken mid m.1), r);
-        none = λ f. refl;
-      }
+      own_piece iso _ found next text mid left (tree.header n) free refl refl (subst (λ z. Step isolated iso found z (tree.piece (tree.header n)) left left) m.2 (step_header isolated iso found n left))
+      ((refl, symbol_read (after_space text) m.0 taken mid m.1))
   piece_read true (format.region i) found next text taken mid left free ends e =
       let m = mapped_read (λ _. with_regions found 1) (braces_at (after_space text)) next taken mid e in
       record {

@@ -137,13 +137,7 @@ module _ {T A : Type 0} (reading : Text → Outcome A) (types : Texts T) (owns :
   piece_found iso d ds found tree.regions ps rs text rest o e form free (mid, r, behind) =
       let is : format.regions ≡ d = cc e in
       subst (λ d. PieceFound iso d found tree.regions ps rs text rest) is (regions_piece iso found ps rs text mid rest free r behind)
-  piece_found iso d ds found (tree.piece (tree.attribute k None)) ps rs text rest o e form free r = absurd (true≢false (sym form))
-  piece_found iso d ds found (tree.piece (tree.operand i n)) ps rs text rest o e form free r = absurd (true≢false (sym form))
-  piece_found iso d ds found (tree.piece (tree.operands ns)) ps rs text rest o e form free r = absurd (true≢false (sym form))
-  piece_found iso d ds found (tree.piece (tree.successor i n)) ps rs text rest o e form free r = absurd (true≢false (sym form))
-  piece_found iso d ds found (tree.piece (tree.successors ns)) ps rs text rest o e form free r = absurd (true≢false (sym form))
-  piece_found iso d ds found (tree.piece (tree.result_type i t)) ps rs text rest o e form free r = absurd (true≢false (sym form))
-  piece_found iso d ds found (tree.piece (tree.types ts)) ps rs text rest o e form free r = absurd (true≢false (sym form))
+  piece_found iso d ds found _ ps rs text rest o e form free r = absurd (true≢false (sym form))
 
   -- ---- all of them
   -- the parts are read, and nothing is wrong with them; or the reader stops at what is wrong first

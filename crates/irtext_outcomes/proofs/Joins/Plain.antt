@@ -29,53 +29,45 @@ and_both : (a b : Bool) → (a && b) ≡ true → (a ≡ true) × (b ≡ true)
 and_both true b e = (refl, e)
 and_both false b e = absurd (true≢false (sym e))
 
-module _ {T A X : Type 0} (view : Piece ℕ T A → List X) (word : (s : Text) → view (tree.word s) ≡ []) (attribute : (k : Text) (a : Attribute A) → view (tree.attribute k (Some a)) ≡ [])
-    (dictionary : (es : List (Name ℕ × Attribute A)) → view (tree.dictionary es) ≡ []) (header : (n : Name ℕ) → view (tree.header n) ≡ []) where
-  unseen : (p : Piece ℕ T A) → is_read (tree.piece p) ≡ true → view p ≡ []
-  unseen (tree.word s) e = word s
-  unseen (tree.attribute k (Some a)) e = attribute k a
-  unseen (tree.dictionary es) e = dictionary es
-  unseen (tree.header n) e = header n
-  unseen (tree.attribute k None) e = absurd (true≢false (sym e))
-  unseen (tree.operand i n) e = absurd (true≢false (sym e))
-  unseen (tree.operands ns) e = absurd (true≢false (sym e))
-  unseen (tree.successor i n) e = absurd (true≢false (sym e))
-  unseen (tree.successors ns) e = absurd (true≢false (sym e))
-  unseen (tree.result_type i x) e = absurd (true≢false (sym e))
-  unseen (tree.types xs) e = absurd (true≢false (sym e))
+-- a view that sees none of the kinds of pieces that are read so far
+record Blind {T A X : Type 0} (view : Piece ℕ T A → List X) : Type 0 where
+  word : (s : Text) → view (tree.word s) ≡ []
+  attribute : (k : Text) (a : Attribute A) → view (tree.attribute k (Some a)) ≡ []
+  dictionary : (es : List (Name ℕ × Attribute A)) → view (tree.dictionary es) ≡ []
+  header : (n : Name ℕ) → view (tree.header n) ≡ []
 
-  -- a view that sees none of the kinds that are read so far sees nothing
+module _ {T A X : Type 0} (view : Piece ℕ T A → List X) (b : Blind view) where
+  unseen : (p : Piece ℕ T A) → is_read (tree.piece p) ≡ true → view p ≡ []
+  unseen (tree.word s) e = b.word s
+  unseen (tree.attribute k (Some a)) e = b.attribute k a
+  unseen (tree.dictionary es) e = b.dictionary es
+  unseen (tree.header n) e = b.header n
+  unseen _ e = absurd (true≢false (sym e))
+
+  -- sees nothing
   nothing_seen : (ps : List (Part ℕ T A)) → list_all is_read ps ≡ true → views view ps ≡ []
   nothing_seen [] e = refl
-  nothing_seen (tree.piece p ∷ ps) e = let b = and_both (is_read (tree.piece p)) (list_all is_read ps) e in ap₂ ◌++◌ (unseen p b.0) (nothing_seen ps b.1)
-  nothing_seen (tree.region i ∷ ps) e = nothing_seen ps e
-  nothing_seen (tree.regions ∷ ps) e = nothing_seen ps e
+  nothing_seen (tree.piece p ∷ ps) e = let r = and_both (is_read (tree.piece p)) (list_all is_read ps) e in ap₂ ◌++◌ (unseen p r.0) (nothing_seen ps r.1)
+  nothing_seen (_ ∷ ps) e = nothing_seen ps e
 
 module _ {T A : Type 0} where
-  -- a body of these kinds has no types of results
+  -- a body of these kinds has none of the names that two such views see
+  no_names : {X : Type 0} (one : Piece ℕ T A → List (ℕ × X)) (more : Piece ℕ T A → List X) → Blind one → Blind more → (b : Body ℕ T A) → IsRead b → in_order (views one (parts_of b)) ++ views more (parts_of b) ≡ []
+  no_names one more f g (tree.custom ps) e = ap₂ ◌++◌ (ap in_order (nothing_seen one f ps e)) (nothing_seen more g ps e)
+  no_names one more f g (tree.canonical ns ls es xs ys) e = absurd e
+
+  -- no types of results
   no_types : (b : Body ℕ T A) → IsRead b → result_types b ≡ []
-  no_types (tree.custom ps) e = ap in_order (nothing_seen (λ p. elim p [ tree.result_type i x ↦ (i, x) ∷ [] | _ ↦ [] ]) (λ s. refl) (λ k a. refl) (λ es. refl) (λ n. refl) ps e)
+  no_types (tree.custom ps) e = ap in_order (nothing_seen (λ p. elim p [ tree.result_type i x ↦ (i, x) ∷ [] | _ ↦ [] ]) (record { word = λ s. refl; attribute = λ k a. refl; dictionary = λ es. refl; header = λ n. refl }) ps e)
   no_types (tree.canonical ns ls es xs ys) e = absurd e
 
-  -- and no operands
+  -- no operands
   no_operands : (o : Op ℕ T A) → IsRead o.body → operand_names o ≡ []
-  no_operands o e = go o.body e
-    where
-      go : (b : Body ℕ T A) → IsRead b
-          → (in_order (views (λ p. elim p [ tree.operand i n ↦ (i, n) ∷ [] | _ ↦ [] ]) (parts_of b)) ++ views (λ p. elim p [ tree.operands ns ↦ ns | _ ↦ [] ]) (parts_of b)) ≡ []
-      go (tree.custom ps) e = ap₂ ◌++◌ (ap in_order (nothing_seen (λ p. elim p [ tree.operand i n ↦ (i, n) ∷ [] | _ ↦ [] ]) (λ s. refl) (λ k a. refl) (λ es. refl) (λ n. refl) ps e))
-          (nothing_seen (λ p. elim p [ tree.operands ns ↦ ns | _ ↦ [] ]) (λ s. refl) (λ k a. refl) (λ es. refl) (λ n. refl) ps e)
-      go (tree.canonical ns ls es xs ys) e = absurd e
+  no_operands o = no_names _ _ (record { word = λ s. refl; attribute = λ k a. refl; dictionary = λ es. refl; header = λ n. refl }) (record { word = λ s. refl; attribute = λ k a. refl; dictionary = λ es. refl; header = λ n. refl }) o.body
 
   -- and no successors
   no_successors : (o : Op ℕ T A) → IsRead o.body → successor_labels o ≡ []
-  no_successors o e = go o.body e
-    where
-      go : (b : Body ℕ T A) → IsRead b
-          → (in_order (views (λ p. elim p [ tree.successor i n ↦ (i, n) ∷ [] | _ ↦ [] ]) (parts_of b)) ++ views (λ p. elim p [ tree.successors ns ↦ ns | _ ↦ [] ]) (parts_of b)) ≡ []
-      go (tree.custom ps) e = ap₂ ◌++◌ (ap in_order (nothing_seen (λ p. elim p [ tree.successor i n ↦ (i, n) ∷ [] | _ ↦ [] ]) (λ s. refl) (λ k a. refl) (λ es. refl) (λ n. refl) ps e))
-          (nothing_seen (λ p. elim p [ tree.successors ns ↦ ns | _ ↦ [] ]) (λ s. refl) (λ k a. refl) (λ es. refl) (λ n. refl) ps e)
-      go (tree.canonical ns ls es xs ys) e = absurd e
+  no_successors o = no_names _ _ (record { word = λ s. refl; attribute = λ k a. refl; dictionary = λ es. refl; header = λ n. refl }) (record { word = λ s. refl; attribute = λ k a. refl; dictionary = λ es. refl; header = λ n. refl }) o.body
 
   -- no item of regions without blocks has a mark
   none_marked : (rs : Regions (Op ℕ T A) (Head ℕ T A) (Brace ℕ)) → HaveNoBlocks rs → regions_marked rs ≡ false

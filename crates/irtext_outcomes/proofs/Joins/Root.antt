@@ -18,7 +18,7 @@ use Rattle.irtext_grammar.specs.Grammar.Section as reading
 use Rattle.irtext_grammar.specs.Grammar.Section.{Entry, of_item, of_once, section}
 use Rattle.irtext_grammar.specs.Grammar.Marked.{section_if, reads_root}
 use Rattle.irtext_grammar.specs.Names.Script.{Failure, does_all, done}
-use Rattle.irtext_grammar.specs.Names.Acts.{singles, single_labels, closing_acts, section_acts, failures_of, may_hold, rule_of}
+use Rattle.irtext_grammar.specs.Names.Acts.{singles, single_labels, closing_acts, section_acts, failures_of, rule_of}
 use Rattle.irtext_grammar.specs.Graphs.Build.{build, with_content, content, located}
 use Rattle.irtext_grammar.specs.Contexts.Formats.{isolated, IsAccepted}
 use Rattle.irtext_outcomes.specs.Readers.Operations.{ReadOp, root_at}

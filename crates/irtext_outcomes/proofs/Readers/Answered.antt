@@ -49,6 +49,12 @@ answered {see = see} {f = f} {old = old} {new = new} {y = y} h = demanded_there 
 pub may_answered : {X Y A : Type 0} {see : Y → X} {f : Text → Outcome X} {old new : StreamView} {y : Y} → MayRead {A = A} itself replaced see f old (Ok y) new → Answered (f old.rest) old (see y) new
 may_answered {see = see} {f = f} {old = old} {new = new} {y = y} h = may_there old.failed (f old.rest) old new (see y) refl h.answers
 
+-- where a cause is found that is allowed with the characters up to it, it is found as another that is allowed
+found_as : {E : Type 0} (P Q At Then : Fault → Text → Type 0) (g : Text → Text) → ((cause : Fault) (upto : Text) → P cause upto → Q cause (g upto)) → ((cause : Fault) (upto : Text) → At cause upto → Then cause (g upto))
+    → E ⊎ ((cause : Fault) × (upto : Text) × P cause upto × At cause upto) → E ⊎ ((cause : Fault) × (upto : Text) × Q cause upto × Then cause upto)
+found_as P Q At Then g f move (inl e) = inl e
+found_as P Q At Then g f move (inr h) = inr (h.0, g h.1, f h.0 h.1 h.2, move h.0 h.1 h.3)
+
 module _ {A : Type 0} where
   -- a fault where the text begins
   at_beginning : (cause : Fault) (old : StreamView) (fault : ParseFault A) → fault_of fault.cause ≡ cause → IsAt fault.pos.line fault.pos.column old.passed → FaultAt cause [] old fault
@@ -84,13 +90,11 @@ module _ {A : Type 0} where
 
   -- what is allowed behind what was taken, as the whole allows it
   pub faults_behind : {old mid : StreamView} {fault : ParseFault A} (P Q : Fault → Text → Type 0) (taken rest : Text) → Takes itself replaced taken rest old mid → ((cause : Fault) (upto : Text) → P cause upto → Q cause (taken ++ upto)) → Faults P mid fault → Faults Q old fault
-  faults_behind P Q taken rest k f (inl e) = inl e
-  faults_behind P Q taken rest k f (inr h) = inr (h.0, taken ++ h.1, f h.0 h.1 h.2, fault_behind h.0 taken rest h.1 k h.3)
+  faults_behind {old = old} {mid = mid} {fault = fault} P Q taken rest k f = found_as P Q _ _ (λ upto. taken ++ upto) f (λ cause upto h. fault_behind {old = old} {mid = mid} {fault = fault} cause taken rest upto k h)
 
   -- what is allowed as one thing is allowed as another
   pub faults_as : {old : StreamView} {fault : ParseFault A} (P Q : Fault → Text → Type 0) → ((cause : Fault) (upto : Text) → P cause upto → Q cause upto) → Faults P old fault → Faults Q old fault
-  faults_as P Q f (inl e) = inl e
-  faults_as P Q f (inr h) = inr (h.0, h.1, f h.0 h.1 h.2, h.3)
+  faults_as P Q f = found_as P Q _ _ (λ upto. upto) f (λ cause upto h. h)
 
 -- the same of what a root reports
 module _ {A : Type 0} where
@@ -101,13 +105,11 @@ module _ {A : Type 0} where
 
   -- a report behind what was taken is one of the text in front of it, where its causes are
   pub reports_behind : {old mid : StreamView} {fault : ParseFault A} (P Q : Fault → Text → Type 0) (taken rest : Text) → Takes itself replaced taken rest old mid → ((cause : Fault) (upto : Text) → P cause upto → Q cause (taken ++ upto)) → Reports P mid fault → Reports Q old fault
-  reports_behind P Q taken rest k f (inl e) = inl e
-  reports_behind P Q taken rest k f (inr h) = inr (h.0, taken ++ h.1, f h.0 h.1 h.2, reported_behind h.0 taken rest h.1 k h.3)
+  reports_behind {old = old} {mid = mid} {fault = fault} P Q taken rest k f = found_as P Q _ _ (λ upto. taken ++ upto) f (λ cause upto h. reported_behind {old = old} {mid = mid} {fault = fault} cause taken rest upto k h)
 
   -- a report of some causes is one of more causes
   pub reports_as : {old : StreamView} {fault : ParseFault A} (P Q : Fault → Text → Type 0) → ((cause : Fault) (upto : Text) → P cause upto → Q cause upto) → Reports P old fault → Reports Q old fault
-  reports_as P Q f (inl e) = inl e
-  reports_as P Q f (inr h) = inr (h.0, h.1, f h.0 h.1 h.2, h.3)
+  reports_as P Q f = found_as P Q _ _ (λ upto. upto) f (λ cause upto h. h)
 
   -- a fault that is reported so, in the place of one that stands there
   pub record ReportOf (fault first : ParseFault A) : Type 0 where

@@ -139,7 +139,12 @@ shorter false (Read y (c ∷ t) r) old new x g h =
 shorter false (Missing cause) old new x g h = absurd h
 shorter false (Bad cause upto) old new x g h = absurd h
 
-fine : {X : Type 0} (b : Bool) (o : Outcome X) (old new : StreamView) (x : X) → Gives itself replaced (demanded (unless_failed b o)) old x new → new.failed ≡ old.failed
+-- what is given where a value is demanded is given where it may stand
+undemanded : {X : Type 0} (o : Outcome X) (old new : StreamView) (x : X) → Gives itself replaced (demanded o) old x new → Gives itself replaced o old x new
+undemanded (Missing cause) old new x h = absurd h
+undemanded _ old new x h = h
+
+fine : {X : Type 0} (b : Bool) (o : Outcome X) (old new : StreamView) (x : X) → Gives itself replaced (unless_failed b o) old x new → new.failed ≡ old.failed
 fine true o old new x h = absurd h
 fine false (Read y t r) old new x h = ap (λ v. v.failed) h.1.is
 fine false (Missing cause) old new x h = absurd h
@@ -147,7 +152,11 @@ fine false (Bad cause upto) old new x h = absurd h
 
 -- behind what is read the stream has failed exactly where it had
 pub reads_fine : {X Y A : Type 0} {see : Y → X} {f : Text → Outcome X} {old new : StreamView} {y : Y} → MustRead {A = A} itself replaced see f old (Ok y) new → new.failed ≡ old.failed
-reads_fine {see = see} {f = f} {old = old} {new = new} {y = y} h = fine old.failed (f old.rest) old new (see y) h.answers
+reads_fine {see = see} {f = f} {old = old} {new = new} {y = y} h = fine old.failed (f old.rest) old new (see y) (undemanded (unless_failed old.failed (f old.rest)) old new (see y) h.answers)
+
+-- so it has behind what may stand there
+pub read_fine : {X Y A : Type 0} {see : Y → X} {f : Text → Outcome X} {old new : StreamView} {y : Y} → MayRead {A = A} itself replaced see f old (Ok y) new → new.failed ≡ old.failed
+read_fine {see = see} {f = f} {old = old} {new = new} {y = y} h = fine old.failed (f old.rest) old new (see y) h.answers
 
 -- an entry, and white space behind it, leave less
 pub entry_shorter : {A E Y : Type 0} (attr : Text → Outcome (AttrView A)) (test : ℕ → Bool) (see : Y → ℕ × Option (Written A)) (old mid new : StreamView) (e : Y) (t r : Text) → MustRead {A = E} itself replaced see (entry_at attr test) old (Ok e) mid → Takes itself replaced t r mid new → length new.rest < length old.rest
@@ -167,13 +176,3 @@ entry_spares reading test k text = whole.spares
 -- nor does that of the section's heading
 pub heading_spares : (text : Text) → Spares NotFailed (heading_at text)
 heading_spares = never_failed (honest_spaced (codes "outlined_attributes:"))
-
-may_fine : {X : Type 0} (b : Bool) (o : Outcome X) (old new : StreamView) (x : X) → Gives itself replaced (unless_failed b o) old x new → new.failed ≡ old.failed
-may_fine true o old new x h = absurd h
-may_fine false (Read y t r) old new x h = ap (λ v. v.failed) h.1.is
-may_fine false (Missing cause) old new x h = absurd h
-may_fine false (Bad cause upto) old new x h = absurd h
-
--- behind what is read the stream has failed exactly where it had
-pub read_fine : {X Y A : Type 0} {see : Y → X} {f : Text → Outcome X} {old new : StreamView} {y : Y} → MayRead {A = A} itself replaced see f old (Ok y) new → new.failed ≡ old.failed
-read_fine {see = see} {f = f} {old = old} {new = new} {y = y} h = may_fine old.failed (f old.rest) old new (see y) h.answers

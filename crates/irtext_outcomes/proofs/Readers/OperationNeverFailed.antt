@@ -66,11 +66,7 @@ module _ {A : Type 0} (reading : Text → Outcome A) (sincere : Sincere reading)
   fine_piece iso format.header found text = fine_mapped _ _ (fine_honest honest_symbol text)
   fine_piece iso (format.region i) found text = fine_mapped _ _ (fine_region iso text)
   fine_piece iso format.regions found text = fine_mapped _ _ (fine_regions iso (length text) 0 text)
-  fine_piece iso (format.operand i) found text = fine_bad _ _ (unexpected_fine (first_of text) AnOperation)
-  fine_piece iso format.operands found text = fine_bad _ _ (unexpected_fine (first_of text) AnOperation)
-  fine_piece iso (format.successor i) found text = fine_bad _ _ (unexpected_fine (first_of text) AnOperation)
-  fine_piece iso format.successors found text = fine_bad _ _ (unexpected_fine (first_of text) AnOperation)
-  fine_piece iso (format.result_type i) found text = fine_bad _ _ (unexpected_fine (first_of text) AnOperation)
+  fine_piece iso _ found text = fine_bad _ _ (unexpected_fine (first_of text) AnOperation)
 
   fine_pieces : (iso : Bool) (ds : List Directive) (found : Pieces A) (text : Text) → Fine (pieces_after (attr_at reading) iso ds found text)
   fine_pieces iso [] found text = fine_read _ _ _

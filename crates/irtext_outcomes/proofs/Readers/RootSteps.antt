@@ -197,17 +197,8 @@ module _ {T A : Type 0} where
   -- more paths change nothing else
   pathed_stands : {old mid new : ContextView T A} {op : Ptr Operation} {view : OperationView T A} → Stood old mid op view → AddsPaths mid new → Stood old new op view
   pathed_stands {old = old} {mid = mid} {new = new} {op = op} {view = view} s a =
-      subst (λ c. Stood old c op view) (sym a.rest) (record {
-        born = s.born;
-        here = s.here;
-        op_new = s.op_new;
-        operations = s.operations;
-        regions_new = s.regions_new;
-        regions_stay = s.regions_stay;
-        regions = s.regions;
-        paths = λ i path h. a.kept i path (s.paths i path h);
-        dialects = s.dialects;
-      })
+      subst (λ c. Stood old c op view) (sym a.rest)
+      (record { born = s.born; here = s.here; op_new = s.op_new; operations = s.operations; regions_new = s.regions_new; regions_stay = s.regions_stay; regions = s.regions; paths = λ i path h. a.kept i path (s.paths i path h); dialects = s.dialects })
 
   -- only an operation and its regions are new
   pub stood_alone : {old new : ContextView T A} {op : Ptr Operation} {view : OperationView T A} → Stood old new op view → OnlyNew op old new

@@ -33,12 +33,7 @@ stops (c ∷ rest) e = grind (arith, nat_tests)
 -- a location's text begins with no white space
 no_space : {A : Type 0} (text_of : A → Text) (l : Written A) → begins is_whitespace (written_text text_of l) ≡ false
 no_space text_of (src_pos None at) = refl
-no_space text_of (src_pos (Some path) at) = refl
-no_space text_of (fused None ls) = refl
-no_space text_of (fused (Some a) ls) = refl
-no_space text_of (named name child) = refl
-no_space text_of (call_site callee caller) = refl
-no_space text_of unknown = refl
+no_space text_of _ = refl
 
 module _ {A : Type 0} (reading : Text → Outcome A) (text_of : A → Text) (lawful : Lawful A (texts_of reading text_of)) (sincere : Sincere reading) (unreserved : Unreserved A (texts_of reading text_of)) where
   attr_starts : (v : AttrView A) (rest : Text) → begins begins_word (attr_text text_of v ++ rest) ≡ true

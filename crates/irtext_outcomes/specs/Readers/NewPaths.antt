@@ -7,7 +7,7 @@ use Rattle.irtext_base.specs.Text.{Text, front, after}
 use Rattle.irtext_base.specs.Stream.{StreamView}
 use Rattle.irtext_base.specs.Answers.{Outcome, StarvesHere, Takes}
 use Rattle.irtext_context.specs.Context.{ContextView, with_paths}
-use Rattle.irtext_base.specs.Paths.{KeepsPaths, Written, path_of, are_known, row_known, written_with}
+use Rattle.irtext_base.specs.Paths.{KeepsPaths, path_of, are_known, row_known}
 use Rattle.irtext_base.specs.Locations.{LocationView, LocationsOf, no_location, location, location_view, in_row, row_sourced}
 use Rattle.irtext_base.specs.declared.location.Location.{Location}
 use Rattle.irtext_base.specs.declared.parsable.fault.ParseFault.{ParseFault}

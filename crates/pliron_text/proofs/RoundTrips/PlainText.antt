@@ -28,7 +28,7 @@ use Rattle.irtext_grammar.proofs.Lists.Ascii.{ascii-from}
 use Rattle.irtext_grammar.proofs.Graphs.FitsFormat.{meets, and_left, and_right}
 use Rattle.irtext_outcomes.proofs.RoundTrips.KeptText.{scalars_joined, scalars_word, all_given}
 use Rattle.pliron_text.proofs.RoundTrips.PlainSection.{plain_entries, no_marks, entries_are}
-use Rattle.irtext_grammar.proofs.Graphs.WrittenSpellable.{each_filter}
+use Rattle.irtext_grammar.proofs.Lists.Each.{each_filter}
 
 -- ---- words, spaces and lists
 graphic_scalars : (s : Text) → list_all is_ascii_graphic s ≡ true → AreScalars s
