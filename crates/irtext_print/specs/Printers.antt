@@ -11,3 +11,4 @@ pub mod PrintedOperation
 pub mod PieceText
 pub mod OpPrinters
 pub mod ConcreteText
+pub mod OnePrinting

@@ -55,11 +55,13 @@ impl<T: IrText<A>, A: AttrText, U> Printable<U, T, A> for Error<A> {
 
 /// A value prints as itself, and an error as an error.
 impl<X: Printable<U, T, A>, T: IrText<A>, A: AttrText, U> Printable<U, T, A> for Result<X, A> {
-    ghost use Rattle.irtext_print.specs.Errors.Printed.{can_be, given};
+    ghost use Rattle.irtext_print.specs.Errors.Printed.{can_be, given, may_print};
 
     ghost can_print = { can_be X.can_print };
 
     ghost gives = { given A.written X.gives };
+
+    ghost prints = { may_print A.written X.prints };
 
     fn fmt(&self, ctx: &Context<T, A>, state: &mut State<U>, f: &mut String) -> fmt::Result {
         match self {

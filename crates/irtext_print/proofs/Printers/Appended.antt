@@ -62,8 +62,3 @@ pub spaces-slice : (n : ℕ) → n ≤ 64 → slice_range {X = ℕ} (replicate 6
 spaces-slice n few =
     let size : n - 0 ≡ n = omega arith in
     ap (λ k. take k (replicate 64 32)) size ∙ take-replicate n 64 32 few
-
--- what is known in any case
-pub in_any_case : {X E P : Type 0} (r : Result X E) → P → OnOk r P
-in_any_case (Ok x) p = p
-in_any_case (Err e) p = tt

@@ -11,6 +11,7 @@ use Rattle.irtext_base.specs.declared.base.attributes.AttrObj.{AttrObj}
 use Rattle.irtext_base.specs.declared.base.identifier.OpId.{OpId}
 use Rattle.irtext_context.specs.declared.base.operation.Operation.{Operation}
 use Rattle.irtext_grammar.specs.Graphs.Graph.{lookup}
+use Rattle.irtext_print.specs.Printers.OnePrinting.{PartPrinted}
 use Rattle.irtext_print.specs.Printers.OpPrinters.{header_of, typed_header_of, region_of, printed_part}
 use Rattle.irtext_print.specs.Printers.PieceText.{symbol_in, region_text}
 use Rattle.irtext_print.specs.Printers.Shown.{Shown}
@@ -38,16 +39,20 @@ module _ {T A : Type 0} where
       go None h = h
       go (Some t) h = more old mid new t (codes ": " ++ ty) h (worded mid between new (codes ": ") ty refl p q)
 
-  module _ {U : Type 0} (s after : Shown U) (old new : List ℕ) (ctx : ContextView T A) (p : Ptr Operation) (op : OperationView T A) (stands : operation ctx p ≡ Some op) (left : after ≡ s) where
-    -- the claim on a part
-    pub part_written : (part : OperationView T A → Option Text) → IsSomeAnd (part op) (λ t. new ≡ old ++ encode_utf8_all t) → Writes (printed_part part ctx p s) after old new
-    part_written part h = subst (λ o. Writes (option_map (λ t. (encode_utf8_all t, s)) (option_and_then part o)) after old new) (sym stands) (go (part op) h)
+  module _ {U : Type 0} (s after : Shown U) (old new : List ℕ) (ctx : ContextView T A) (p : Ptr Operation) where
+    -- a part that was printed is the text that is claimed
+    pub part_writes : (part : OperationView T A → Option Text) → PartPrinted part ctx p s old after new → Writes (printed_part part ctx p s) after old new
+    part_writes part r = subst (λ o. Writes (option_map (λ t. (encode_utf8_all t, s)) (option_and_then part o)) after old new) (sym r.stands) (go (part r.view) r.text)
       where
         go : (o : Option Text) → IsSomeAnd o (λ t. new ≡ old ++ encode_utf8_all t) → Writes (option_map (λ t. (encode_utf8_all t, s)) o) after old new
         go None h = tt
-        go (Some t) h = record { text = h; state = left }
+        go (Some t) h = record { text = h; state = r.state }
 
-    -- the claim on the one region
-    pub region_written : (length op.regions == 1) ≡ true → new ≡ old ++ region_text s → Writes (printed_part (region_of s) ctx p s) after old new
-    region_written one h =
-        part_written (region_of s) (subst (λ b. IsSomeAnd (cond b (Some (region_text s)) None) (λ t. new ≡ old ++ encode_utf8_all t)) (sym one) (h ∙ ap (λ z. old ++ z) (sym (region_bytes s))))
+    -- the one region was printed
+    pub region_printed : (op : OperationView T A) → operation ctx p ≡ Some op → after ≡ s → (length op.regions == 1) ≡ true → new ≡ old ++ region_text s → PartPrinted (region_of s) ctx p s old after new
+    region_printed op stands left one h = record {
+      view = op;
+      stands = stands;
+      text = subst (λ b. IsSomeAnd (cond b (Some (region_text s)) None) (λ t. new ≡ old ++ encode_utf8_all t)) (sym one) (h ∙ ap (λ z. old ++ z) (sym (region_bytes s)));
+      state = left;
+    }

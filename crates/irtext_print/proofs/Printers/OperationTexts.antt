@@ -7,7 +7,7 @@ use Rattle.std.specs.List.{list_all, cons_option}
 use Rattle.std.specs.Option.{option_map, option_and_then}
 use Rattle.std.specs.Str.{encode_utf8_all}
 use Rattle.irtext_base.specs.Causes.{id_text}
-use Rattle.irtext_context.specs.Context.{OperationView}
+use Rattle.irtext_context.specs.Context.{OperationView, regions_in}
 use Rattle.irtext_base.specs.Faults.{id_of}
 use Rattle.irtext_base.specs.Format as format
 use Rattle.irtext_base.specs.Format.{Format, Directive, same_text, has, sym_name_key}
@@ -141,6 +141,16 @@ pub record Given {T A : Type 0} (C : Printing T A) (op : OperationView T A) (id 
   pub same_count : length op.regions ≡ n
   pub known : directives_in (C.format_of (id_of id)) ≡ Some ds
 
+-- the same, from what was asked of an operation that stands
+pub given_of : {T A : Type 0} (C : Printing T A) (o : Option (OperationView T A)) (op : OperationView T A) (id : OpId) (es : List (Text × AttrObj A)) (n : ℕ) (ds : List Directive) → o ≡ Some op
+    → option_map (λ op. op.id) o ≡ Some id → option_map (λ op. op.attributes) o ≡ Some es → n ≡ length (regions_in o) → directives_in (C.format_of (id_of id)) ≡ Some ds → Given C op id es n ds
+given_of C o op id es n ds stands i a r k = record {
+  same_id = seen (λ op. op.id) o op id stands i;
+  same_attributes = seen (λ op. op.attributes) o op es stands a;
+  same_count = sym (r ∙ ap (λ z. length (regions_in z)) stands);
+  known = k;
+}
+
 module _ {T A U : Type 0} (L : Language ⊤ T A) (C : Printing T A) (s : Shown U) (op : OperationView T A) (id : OpId) (es : List (Text × AttrObj A)) (n : ℕ) (ds : List Directive) (given : Given C op id es n ds) where
   own_directives : directives_in (C.format_of (id_of op.id)) ≡ Some ds
   own_directives = ap (λ i. directives_in (C.format_of (id_of i))) given.same_id ∙ given.known
@@ -161,5 +171,5 @@ module _ {T A U : Type 0} (L : Language ⊤ T A) (C : Printing T A) (s : Shown U
       more old mid new (id_text id) (directives_text L.owns.written C.own_outlined ds (entries_of es) (region_text s) n ds) p q ∙ ap (λ t. old ++ encode_utf8_all t) (sym is)
 
   -- an operation that is there is printed where it fits
-  pub printed_in : (o : Option (OperationView T A)) → o ≡ Some op → fits_directives C ds (entries_of es) n ≡ true → is_printed_in C o ≡ true
-  printed_in o stands h = ap (is_printed_in C) stands ∙ given_printed ∙ h
+  pub printed_in : (o : Option (OperationView T A)) → o ≡ Some op → is_printed_in C o ≡ fits_directives C ds (entries_of es) n
+  printed_in o stands = ap (is_printed_in C) stands ∙ given_printed

@@ -20,6 +20,7 @@ use Rattle.irtext_print.specs.Printers.ConcreteText.{concrete_of, concrete_text,
 use Rattle.irtext_grammar.specs.Graphs.Graph.{Graph, Printing, Limit, Entry, is_elided, mark_at, marks_in_regions, entries_of_regions, own_entry, outlined, outlined_entries}
 use Rattle.irtext_grammar.specs.Spelling.Locations.{known_text}
 use Rattle.irtext_print.specs.Printers.PrintedOperation.{printed, levels, is_printed, is_printed_in, is_supported, fits_format, regions_fit, has_named_keys, symbol_fits, covers_all, none_outlined, mark_text, gathered_at, entry_at, entry_text, section_text, root_text}
+use Rattle.irtext_print.specs.Printers.OnePrinting.{ConcretePrinted, RootPrinted}
 use Rattle.irtext_print.specs.Printers.Printing.{gathered_of, with_gathered}
 use Rattle.irtext_grammar.specs.Spelling.Section.{text, section}
 use Rattle.irtext_print.specs.Printers.Shown.{Shown}
@@ -141,7 +142,7 @@ module _ {T A U : Type 0} (L : Language ⊤ T A) (C : Printing T A) (ctx : Conte
     concrete_made g = (encode_utf8_all (concrete_of L C g s.indent s.width (levels s.limit)), s)
 
     -- the claim, where the operation stands
-    pub writes_standing : operation ctx p ≡ Some op → new ≡ old ++ encode_utf8_all (root_text L.owns.written ctx p op s (concrete_text L C op s)) → after ≡ with_gathered s []
+    writes_standing : operation ctx p ≡ Some op → new ≡ old ++ encode_utf8_all (root_text L.owns.written ctx p op s (concrete_text L C op s)) → after ≡ with_gathered s []
         → Writes (printed L C ctx p s) after old new
     writes_standing o written left =
         let claim : Option (OperationView T A) → Type 0 = λ z. Writes (cond (is_printed_in C z && (length s.gathered == 0))
@@ -155,7 +156,7 @@ module _ {T A U : Type 0} (L : Language ⊤ T A) (C : Printing T A) (ctx : Conte
         subst claim (sym o) main
 
     -- the claim on the concrete text, where the operation stands
-    pub writes_concrete : operation ctx p ≡ Some op → new ≡ old ++ encode_utf8_all (concrete_text L C op s) → after ≡ s → Writes (printed_concrete L C ctx p s) after old new
+    writes_concrete : operation ctx p ≡ Some op → new ≡ old ++ encode_utf8_all (concrete_text L C op s) → after ≡ s → Writes (printed_concrete L C ctx p s) after old new
     writes_concrete o written left =
         let claim : Option (OperationView T A) → Type 0 = λ z. Writes (cond (is_printed_in C z) (option_map concrete_made (option_and_then (λ v. elim v.result_types [ [] ↦ Some (graph_at v None) | _ ∷ _ ↦ None ]) z)) None) after old new in
         let main : claim (Some op) =
@@ -163,23 +164,40 @@ module _ {T A U : Type 0} (L : Language ⊤ T A) (C : Printing T A) (ctx : Conte
         subst claim (sym o) main
 
 -- the claim on the concrete text with its regions elided
-pub writes_debug : {T A : Type 0} (L : Language ⊤ T A) (C : Printing T A) (ctx : ContextView T A) (p : Ptr Operation) (op : OperationView T A) (old new : List ℕ)
-    → operation ctx p ≡ Some op → new ≡ old ++ encode_utf8_all (concrete_text L C op debugging) → IfSome (debug_text L C ctx p) (λ t. new ≡ old ++ t)
-writes_debug L C ctx p op old new o written = alone (printed_concrete L C ctx p debugging) (writes_concrete L C ctx p op debugging debugging old new o written refl)
+pub writes_debug : {T A : Type 0} (L : Language ⊤ T A) (C : Printing T A) (ctx : ContextView T A) (p : Ptr Operation) (old new : List ℕ)
+    → ConcretePrinted L C ctx p debugging old debugging new → IfSome (debug_text L C ctx p) (λ t. new ≡ old ++ t)
+writes_debug L C ctx p old new r = alone (printed_concrete L C ctx p debugging) (writes_concrete L C ctx p r.view debugging debugging old new r.stands r.text r.state)
   where
     alone : (claim : Option (List ℕ × Shown (Unit {0}))) → Writes claim debugging old new → IfSome (text_of claim) (λ t. new ≡ old ++ t)
     alone None w = tt
     alone (Some x) w = w.text
 
 -- a concrete text, a mark and a section, one behind the other
-pub root_appended : {T A U : Type 0} (L : Language ⊤ T A) (C : Printing T A) (ctx : ContextView T A) (p : Ptr Operation) (op : OperationView T A) (location : Location A) (s first second : Shown U) (old now then new : List ℕ)
-    → operation ctx p ≡ Some op → option_map (λ o. o.loc) (operation ctx p) ≡ Some location → first ≡ s → second ≡ with_gathered first (first.gathered ++ gathered_at location p)
-    → now ≡ old ++ encode_utf8_all (concrete_text L C op s) → then ≡ now ++ encode_utf8_all (mark_text location (length first.gathered))
-    → new ≡ then ++ encode_utf8_all (section_text L.owns.written ctx second.gathered) → new ≡ old ++ encode_utf8_all (root_text L.owns.written ctx p op s (concrete_text L C op s))
-root_appended L C ctx p op location s first second old now then new o at kept gathered concrete mark section =
-    let located : op.loc ≡ location = seen (λ z. z.loc) (operation ctx p) op location o at in
+pub root_appended : {T A U : Type 0} (L : Language ⊤ T A) (C : Printing T A) (ctx : ContextView T A) (p : Ptr Operation) (location : Location A) (s first second last : Shown U) (old now then new : List ℕ)
+    → ConcretePrinted L C ctx p s old first now → option_map (λ o. o.loc) (operation ctx p) ≡ Some location → second ≡ with_gathered first (first.gathered ++ gathered_at location p)
+    → then ≡ now ++ encode_utf8_all (mark_text location (length first.gathered)) → new ≡ then ++ encode_utf8_all (section_text L.owns.written ctx second.gathered) → last ≡ with_gathered second []
+    → RootPrinted L C ctx p s old last new
+root_appended L C ctx p location s first second last old now then new concrete at gathered mark section left =
+    let op = concrete.view in
+    let kept = concrete.state in
+    let located : op.loc ≡ location = seen (λ z. z.loc) (operation ctx p) op location concrete.stands at in
     let gathers : second.gathered ≡ s.gathered ++ gathered_at op.loc p = ap gathered_of gathered ∙ ap (λ z. z.gathered ++ gathered_at location p) kept ∙ ap (λ l. s.gathered ++ gathered_at l p) (sym located) in
     let marks : then ≡ now ++ encode_utf8_all (mark_text op.loc (length s.gathered)) = mark ∙ ap (λ z. now ++ encode_utf8_all (mark_text location (length z.gathered))) kept ∙ ap (λ l. now ++ encode_utf8_all (mark_text l (length s.gathered))) (sym located) in
     let sections : new ≡ then ++ encode_utf8_all (section_text L.owns.written ctx (s.gathered ++ gathered_at op.loc p)) = section ∙ ap (λ z. then ++ encode_utf8_all (section_text L.owns.written ctx z)) gathers in
-    more old now new (concrete_text L C op s) (mark_text op.loc (length s.gathered) ++ section_text L.owns.written ctx (s.gathered ++ gathered_at op.loc p)) concrete
-    (more now then new (mark_text op.loc (length s.gathered)) (section_text L.owns.written ctx (s.gathered ++ gathered_at op.loc p)) marks sections)
+    record {
+      view = op;
+      stands = concrete.stands;
+      fits = concrete.fits;
+      text = more old now new (concrete_text L C op s) (mark_text op.loc (length s.gathered) ++ section_text L.owns.written ctx (s.gathered ++ gathered_at op.loc p)) concrete.text
+          (more now then new (mark_text op.loc (length s.gathered)) (section_text L.owns.written ctx (s.gathered ++ gathered_at op.loc p)) marks sections);
+      state = left ∙ ap (λ z. with_gathered z []) gathered ∙ ap (λ z. with_gathered z []) kept;
+    }
+
+module _ {T A U : Type 0} (L : Language ⊤ T A) (C : Printing T A) (ctx : ContextView T A) (p : Ptr Operation) (s t : Shown U) (old new : List ℕ) where
+  -- what is printed of a root is the text that is claimed
+  pub root_writes : RootPrinted L C ctx p s old t new → Writes (printed L C ctx p s) t old new
+  root_writes r = writes_standing L C ctx p r.view s t old new r.stands r.text r.state
+
+  -- the same of a concrete text
+  pub concrete_writes : ConcretePrinted L C ctx p s old t new → Writes (printed_concrete L C ctx p s) t old new
+  concrete_writes r = writes_concrete L C ctx p r.view s t old new r.stands r.text r.state

@@ -1,9 +1,12 @@
 -- For callers: what errors and answers print as.
-use Rattle.std.specs.Prelude.{List, ℕ, Option, Some, Result, Ok, Err, ⊤}
+use Rattle.std.specs.Prelude.{List, ℕ, Option, Some, Result, Ok, Err, string_bytes, ⊤}
 use Rattle.irtext_base.specs.Text.{Text}
 use Rattle.irtext_context.specs.declared.base.context.Context.{Context}
 use Rattle.irtext_base.specs.declared.result.Error.{Error}
 use Rattle.irtext_print.specs.Errors.Located.{located_error}
+use Rattle.std.specs.declared.string.String.{String}
+use Rattle.std.specs.declared.alloc.Global.{Global}
+use Rattle.irtext_print.specs.Printers.Appended.{Appends}
 use Rattle.irtext_print.specs.Printers.Shown.{Shown}
 
 -- an error's text over these paths, which leaves the printing state as it is
@@ -20,3 +23,8 @@ module _ {X T A : Type 0} where
   abbrev pub given : {U : Type 0} → (A → Text) → (X → Context T A → Shown U → Option (List ℕ × Shown U)) → Result X (Error A) → Context T A → Shown U → Option (List ℕ × Shown U)
   given written gives (Ok x) ctx s = gives x ctx s
   given written gives (Err error) ctx s = given_of written ctx.paths error s
+
+  -- what one printing of an answer has done: what its value's may do, or its error's text was appended
+  abbrev pub may_print : {U : Type 0} → (A → Text) → (X → Context T A → Shown U → String Global → Shown U → String Global → Type 0) → Result X (Error A) → Context T A → Shown U → String Global → Shown U → String Global → Type 0
+  may_print written prints (Ok x) ctx s b t d = prints x ctx s b t d
+  may_print written prints (Err error) ctx s b t d = Appends (located_error written ctx.paths error, s) t (string_bytes b) (string_bytes d)

@@ -9,7 +9,9 @@ use Rattle.irtext_context.specs.Dialects.{Table}
 use Rattle.irtext_base.specs.Faults.{id_of}
 use Rattle.irtext_base.specs.Format as format
 use Rattle.irtext_base.specs.Format.{Format, Directive, same_text, has, count, keys, region_places, is_regions, is_dictionary, is_header, sym_name_key}
-use Rattle.irtext_base.specs.Own.{Language}
+use Rattle.irtext_base.specs.Own.{Language, texts_of, unplaced}
+use Rattle.irtext_base.specs.declared.text.AttrText as attr_text
+use Rattle.irtext_base.specs.declared.text.IrText as ir_text
 use Rattle.irtext_context.specs.Context.{ContextView, OperationView, operation}
 use Rattle.irtext_context.specs.declared.base.arena.Ptr.{Ptr}
 use Rattle.irtext_context.specs.declared.base.operation.Operation.{Operation}
@@ -84,11 +86,11 @@ module _ {T A : Type 0} (C : Printing T A) where
   is_printed_in None = false
   is_printed_in (Some op) = is_printed op
 
-  -- what a refusal of the concrete text says: memory may be refused at any time, but all else only for this reason
-  abbrev pub RefusesConcrete : {U : Type 0} → OperationView T A → Shown U → Refusal → Type 0
-  RefusesConcrete op s Memory = ⊤
-  RefusesConcrete op s Depth = 2 ^ 16 ≤ s.indent + s.width
-  RefusesConcrete op s Misfit = is_printed op ≡ false
+  -- what a refusal says: memory may be refused at any time, but all else only for this reason
+  abbrev pub Refuses : {U : Type 0} → Option (OperationView T A) → Shown U → Refusal → Type 0
+  Refuses op s Memory = ⊤
+  Refuses op s Depth = 2 ^ 16 ≤ s.indent + s.width
+  Refuses op s Misfit = is_printed_in op ≡ false
 
 module _ {A : Type 0} where
   -- the mark behind an operation whose location is known
@@ -127,6 +129,15 @@ module _ {T A : Type 0} (written : A → Text) (ctx : ContextView T A) where
 -- what printing asks of a context with these dialects that gives no names, and of the attributes of the caller
 abbrev pub printing : {T A : Type 0} → List (Text × Table) → (A → Bool) → (A → Bool) → (A → A → Bool) → Printing T A
 printing dialects outlined once same = record { given = λ v. None; label = λ b. None; type_of = λ v. None; own_outlined = outlined; own_once = once; same_own = same; format_of = format_of dialects }
+
+module _ {T A : Type 0} (owns : attr_text.Ghosts A) (same : A → A → Bool) where
+  -- what printing asks of this context, and of the attributes of the caller
+  abbrev pub printing_in : ContextView T A → Printing T A
+  printing_in ctx = printing ctx.dialects owns.outlined owns.print_once same
+
+-- what the caller's types and attributes mean by their texts, and the formats of this context
+abbrev pub language_in : {T A : Type 0} → ir_text.Ghosts T A → ir_text.Ghosts A A → ContextView T A → Language ⊤ T A
+language_in types owns ctx = unplaced (texts_of types.reading types.written) (texts_of owns.reading owns.written) (format_of ctx.dialects)
 
 -- how many levels of regions are printed, where that is limited
 abbrev pub levels : RegionPrintDepthLimit → Limit

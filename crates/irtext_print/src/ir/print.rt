@@ -1,11 +1,9 @@
 //! Printing of roots.
-ghost use Rattle.std.specs.Prelude.{◌≡◌, ◌++◌, [], Some, OnOk, IfErr, IsSome, IsTrue, codes, decimal, string_bytes, length};
+ghost use Rattle.std.specs.Prelude.{◌≡◌, ◌++◌, [], OnOk, IfErr, IsSome, codes, decimal, string_bytes, length};
 ghost use Rattle.std.specs.Str.{encode_utf8_all};
-ghost use Rattle.irtext_context.specs.Context.{OperationView, operation};
-ghost use Rattle.irtext_base.specs.Own.{texts_of, unplaced};
-ghost use Rattle.irtext_print.specs.Printers.ConcreteText as concrete;
-ghost use Rattle.irtext_grammar.specs.Contexts.Formats.{format_of};
+ghost use Rattle.irtext_context.specs.Context.{operation};
 ghost use Rattle.irtext_grammar.specs.Spelling.Locations.{known_text};
+ghost use Rattle.irtext_print.specs.Printers.OnePrinting.{RootPrinted};
 ghost use Rattle.irtext_print.specs.Printers.PrintedOperation as printed;
 ghost use Rattle.irtext_print.specs.Printers.Printing.{gathered_of, with_gathered};
 ghost use Rattle.irtext_print.specs.declared.printable.refusal.Refusal.TheVariants as refusal;
@@ -122,10 +120,8 @@ fn fmt_root<T: IrText<A>, A: AttrText, U>(
     f: &mut String,
 ) -> Result<(), Refusal>
     requires live { IsSome (operation ctx.now op) }
-    ensures text { (view : OperationView T A) → operation ctx.now op ≡ Some view → OnOk result (string_bytes f.new ≡ string_bytes f.old ++ encode_utf8_all (printed.root_text A.written ctx.now op view state.old (concrete.concrete_text (unplaced (texts_of T.reading T.written) (texts_of A.reading A.written) (format_of ctx.now.dialects)) (printed.printing ctx.now.dialects A.outlined A.print_once A.eq) view state.old))) }
-    ensures fits { OnOk result (IsTrue (printed.is_printed_in (printed.printing ctx.now.dialects A.outlined A.print_once A.eq) (operation ctx.now op))) }
-    ensures state { OnOk result (state.new ≡ with_gathered state.old []) }
-    ensures refused { (view : OperationView T A) → operation ctx.now op ≡ Some view → IfErr result (printed.RefusesConcrete (printed.printing ctx.now.dialects A.outlined A.print_once A.eq) view state.old) }
+    ensures prints { OnOk result (RootPrinted (printed.language_in T.IrText.own A.IrText.own ctx.now) (printed.printing_in A.AttrText.own A.eq ctx.now) ctx.now op state.old (string_bytes f.old) state.new (string_bytes f.new)) }
+    ensures refused { IfErr result (printed.Refuses (printed.printing_in A.AttrText.own A.eq ctx.now) (operation ctx.now op) state.old) }
 {
     fmt_concrete(ctx, op, state, f)?;
     fmt_mark(op.loc(ctx), op, state, f)?;
@@ -138,7 +134,9 @@ fn fmt_root<T: IrText<A>, A: AttrText, U>(
 impl<T: IrText<A>, A: AttrText, U> Printable<U, T, A> for Ptr<Operation> {
     ghost can_print = { λ op ctx. IsSome (operation ctx op) };
 
-    ghost gives = { λ op ctx s. printed.printed (unplaced (texts_of T.reading T.written) (texts_of A.reading A.written) (format_of ctx.dialects)) (printed.printing ctx.dialects A.outlined A.print_once A.eq) ctx op s };
+    ghost gives = { λ op ctx s. printed.printed (printed.language_in T.IrText.own A.IrText.own ctx) (printed.printing_in A.AttrText.own A.eq ctx) ctx op s };
+
+    ghost prints = { λ op ctx s b t d. RootPrinted (printed.language_in T.IrText.own A.IrText.own ctx) (printed.printing_in A.AttrText.own A.eq ctx) ctx op s (string_bytes b) t (string_bytes d) };
 
     fn fmt(&self, ctx: &Context<T, A>, state: &mut State<U>, f: &mut String) -> fmt::Result {
         fmt_root(ctx, *self, state, f)?;

@@ -1,6 +1,7 @@
 //! A value with its context as a `Display`.
-ghost use Rattle.std.specs.Prelude.{◌≡◌, List, ℕ, Some, None, Option};
+ghost use Rattle.std.specs.Prelude.{◌≡◌, ◌++◌, List, ℕ, Some, None, Option, OnOk, IfSome, string_bytes};
 ghost use Rattle.irtext_print.specs.Printers.Appended.{fresh, text_of};
+ghost use Rattle.irtext_print.specs.Printers.Shown.{Shown};
 
 use crate::printable::Printable;
 use crate::printable::state::{RegionPrintDepthLimit, State};
@@ -22,17 +23,19 @@ pub struct Displayable<'a, X: Printable<(), T, A>, T: IrText<A>, A: AttrText> {
 }
 
 impl<'a, X: Printable<(), T, A>, T: IrText<A>, A: AttrText> Displayable<'a, X, T, A> {
+    ghost use Rattle.irtext_print.specs.Printers.Shows.{shown_by};
+
     /// The field says only that a proof exists; this hands it out.
     fn can_be_printed(&self)
         ensures { X.can_print self.now.value.now self.now.ctx.now }
     {}
-}
 
-impl<X: Printable<(), T, A>, T: IrText<A>, A: AttrText> fmt::Display for Displayable<'_, X, T, A> {
-    ghost output = { λ d. text_of (X.gives d.value.now d.ctx.now (fresh d.indent_width d.current_indent d.limit)) };
-
-    fn fmt<W: fmt::Write>(&self, f: &mut fmt::Formatter<W>) -> fmt::Result {
-        let mut text = String::new(self.alloc);
+    /// Appends the text. A `Display` can promise no more than a text that its value gives; this call promises what the value's
+    /// printing may do as well, as where a closure prints. It fails where that printing does; what was written until then stays.
+    pub fn append_to(&self, f: &mut String) -> fmt::Result
+        ensures prints { OnOk result ((t : Shown (Unit {0})) × X.prints self.now.value.now self.now.ctx.now (fresh self.now.indent_width self.now.current_indent self.now.limit) f.old t f.new) }
+        ensures text { OnOk result (IfSome (shown_by X.gives self.now) (λ text. string_bytes f.new ≡ string_bytes f.old ++ text)) }
+    {
         let mut state = State::with_layout(
             self.alloc,
             self.indent_width,
@@ -41,28 +44,39 @@ impl<X: Printable<(), T, A>, T: IrText<A>, A: AttrText> fmt::Display for Display
             (),
         );
         self.can_be_printed();
-        self.value.fmt(self.ctx, &mut state, &mut text)?;
+        self.value.fmt(self.ctx, &mut state, f)
+    }
+}
+
+impl<X: Printable<(), T, A>, T: IrText<A>, A: AttrText> fmt::Display for Displayable<'_, X, T, A> {
+    ghost output = { λ d. text_of (X.gives d.value.now d.ctx.now (fresh d.indent_width d.current_indent d.limit)) };
+
+    fn fmt<W: fmt::Write>(&self, f: &mut fmt::Formatter<W>) -> fmt::Result {
+        let mut text = String::new(self.alloc);
+        self.append_to(&mut text)?;
         f.write_str(text.as_str())
     }
 }
 
 /// The text of what is printable, as a `Display`.
 pub trait Disp<T: IrText<A>, A: AttrText>: Printable<(), T, A> {
-    ghost use Rattle.irtext_print.specs.Printers.Shows.{shown_by};
+    ghost use Rattle.irtext_print.specs.Printers.Shows.{shown_by, Displays};
 
     /// The text with a new printing state at each formatting.
     fn disp<'a>(&'a self, ctx: &'a Context<T, A>) -> Displayable<'a, Self, T, A>
     where
         Self: Sized,
         requires { Self.can_print self.now ctx.now }
-        ensures { shown_by Self.gives result ≡ text_of (Self.gives self.now ctx.now (fresh 2 0 RegionPrintDepthLimit.Unlimited)) };
+        ensures text { shown_by Self.gives result ≡ text_of (Self.gives self.now ctx.now (fresh 2 0 RegionPrintDepthLimit.Unlimited)) }
+        ensures shows { Displays result self.now ctx.now (fresh 2 0 RegionPrintDepthLimit.Unlimited) };
 
     /// The text with a state of the same width, indentation and limit, and nothing gathered, at each formatting.
     fn print<'a>(&'a self, ctx: &'a Context<T, A>, state: &State<()>) -> Displayable<'a, Self, T, A>
     where
         Self: Sized,
         requires { Self.can_print self.now ctx.now }
-        ensures { shown_by Self.gives result ≡ text_of (Self.gives self.now ctx.now (fresh state.now.width state.now.indent state.now.limit)) };
+        ensures text { shown_by Self.gives result ≡ text_of (Self.gives self.now ctx.now (fresh state.now.width state.now.indent state.now.limit)) }
+        ensures shows { Displays result self.now ctx.now (fresh state.now.width state.now.indent state.now.limit) };
 }
 
 impl<X: Printable<(), T, A>, T: IrText<A>, A: AttrText> Disp<T, A> for X {

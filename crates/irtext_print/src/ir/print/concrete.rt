@@ -1,14 +1,14 @@
 //! The concrete text of operations: their id and their pieces, without mark and section.
-ghost use Rattle.std.specs.Prelude.{◌≡◌, ◌++◌, Some, OnOk, IfErr, IsSome, IsTrue, option_map, string_bytes};
+ghost use Rattle.std.specs.Prelude.{◌≡◌, ◌++◌, OnOk, IfErr, IsSome, option_map, string_bytes};
 ghost use Rattle.std.specs.Str.{encode_utf8_all};
 ghost use Rattle.irtext_base.specs.Causes.{id_text};
-ghost use Rattle.irtext_context.specs.Context.{OperationView, operation};
+ghost use Rattle.irtext_context.specs.Context.{operation};
 ghost use Rattle.irtext_context.specs.Directives.{directives_of};
 ghost use Rattle.irtext_base.specs.Faults.{id_of};
-ghost use Rattle.irtext_base.specs.Own.{texts_of, unplaced};
 ghost use Rattle.irtext_print.specs.Printers.ConcreteText as concrete;
 ghost use Rattle.irtext_grammar.specs.Contexts.Formats.{format_of};
-ghost use Rattle.irtext_print.specs.Printers.PrintedOperation as printed;
+ghost use Rattle.irtext_print.specs.Printers.OnePrinting.{ConcretePrinted};
+ghost use Rattle.irtext_print.specs.Printers.PrintedOperation.{Refuses, language_in, printing_in};
 ghost use Rattle.irtext_print.specs.declared.printable.refusal.Refusal.TheVariants as refusal;
 
 use crate::ir::print::directives::fmt_directives;
@@ -54,10 +54,9 @@ pub(crate) fn fmt_concrete<T: IrText<A>, A: AttrText, U>(
     f: &mut String,
 ) -> Result<(), Refusal>
     requires live { IsSome (operation ctx.now op) }
-    ensures text { (view : OperationView T A) → operation ctx.now op ≡ Some view → OnOk result (string_bytes f.new ≡ string_bytes f.old ++ encode_utf8_all (concrete.concrete_text (unplaced (texts_of T.reading T.written) (texts_of A.reading A.written) (format_of ctx.now.dialects)) (printed.printing ctx.now.dialects A.outlined A.print_once A.eq) view state.old)) }
-    ensures fits { OnOk result (IsTrue (printed.is_printed_in (printed.printing ctx.now.dialects A.outlined A.print_once A.eq) (operation ctx.now op))) }
+    ensures prints { OnOk result (ConcretePrinted (language_in T.IrText.own A.IrText.own ctx.now) (printing_in A.AttrText.own A.eq ctx.now) ctx.now op state.old (string_bytes f.old) state.new (string_bytes f.new)) }
     ensures state { state.new ≡ state.old }
-    ensures refused { (view : OperationView T A) → operation ctx.now op ≡ Some view → IfErr result (printed.RefusesConcrete (printed.printing ctx.now.dialects A.outlined A.print_once A.eq) view state.old) }
+    ensures refused { IfErr result (Refuses (printing_in A.AttrText.own A.eq ctx.now) (operation ctx.now op) state.old) }
 {
     let id = op.get_opid(ctx);
     let attributes = op.attributes(ctx);
@@ -82,7 +81,9 @@ pub struct OpObj {
 impl<T: IrText<A>, A: AttrText, U> Printable<U, T, A> for OpObj {
     ghost can_print = { λ obj ctx. IsSome (operation ctx obj.op) };
 
-    ghost gives = { λ obj ctx s. concrete.printed_concrete (unplaced (texts_of T.reading T.written) (texts_of A.reading A.written) (format_of ctx.dialects)) (printed.printing ctx.dialects A.outlined A.print_once A.eq) ctx obj.op s };
+    ghost gives = { λ obj ctx s. concrete.printed_concrete (language_in T.IrText.own A.IrText.own ctx) (printing_in A.AttrText.own A.eq ctx) ctx obj.op s };
+
+    ghost prints = { λ obj ctx s b t d. ConcretePrinted (language_in T.IrText.own A.IrText.own ctx) (printing_in A.AttrText.own A.eq ctx) ctx obj.op s (string_bytes b) t (string_bytes d) };
 
     fn fmt(&self, ctx: &Context<T, A>, state: &mut State<U>, f: &mut String) -> fmt::Result {
         fmt_concrete(ctx, self.op, state, f)?;

@@ -1,11 +1,9 @@
 //! An operation's text for those who debug: regions are elided, and nothing is told of marks.
-ghost use Rattle.std.specs.Prelude.{◌≡◌, ◌≢◌, ◌++◌, Some, OnOk, IfErr, IsSome, IfSome, IsTrue, false, string_bytes};
-ghost use Rattle.std.specs.Str.{encode_utf8_all};
-ghost use Rattle.irtext_context.specs.Context.{OperationView, operation};
-ghost use Rattle.irtext_base.specs.Own.{texts_of, unplaced};
+ghost use Rattle.std.specs.Prelude.{◌≡◌, ◌≢◌, ◌++◌, OnOk, IfErr, IsSome, IfSome, false, string_bytes};
+ghost use Rattle.irtext_context.specs.Context.{operation};
 ghost use Rattle.irtext_print.specs.Printers.ConcreteText as concrete;
-ghost use Rattle.irtext_grammar.specs.Contexts.Formats.{format_of};
-ghost use Rattle.irtext_print.specs.Printers.PrintedOperation as printed;
+ghost use Rattle.irtext_print.specs.Printers.OnePrinting.{ConcretePrinted};
+ghost use Rattle.irtext_print.specs.Printers.PrintedOperation.{is_printed_in, language_in, printing_in};
 ghost use Rattle.irtext_print.specs.declared.printable.refusal.Refusal.TheVariants as refusal;
 
 use crate::ir::print::concrete::fmt_concrete;
@@ -22,9 +20,8 @@ fn fmt_dbg<T: IrText<A>, A: AttrText>(
     f: &mut String,
 ) -> Result<(), Refusal>
     requires live { IsSome (operation ctx.now op) }
-    ensures text { (view : OperationView T A) → operation ctx.now op ≡ Some view → OnOk result (string_bytes f.new ≡ string_bytes f.old ++ encode_utf8_all (concrete.concrete_text (unplaced (texts_of T.reading T.written) (texts_of A.reading A.written) (format_of ctx.now.dialects)) (printed.printing ctx.now.dialects A.outlined A.print_once A.eq) view concrete.debugging)) }
-    ensures fits { OnOk result (IsTrue (printed.is_printed_in (printed.printing ctx.now.dialects A.outlined A.print_once A.eq) (operation ctx.now op))) }
-    ensures refused { (view : OperationView T A) → operation ctx.now op ≡ Some view → IfErr result (λ e. e ≢ refusal.Memory → (e ≡ refusal.Misfit) × (printed.is_printed (printed.printing ctx.now.dialects A.outlined A.print_once A.eq) view ≡ false)) }
+    ensures prints { OnOk result (ConcretePrinted (language_in T.IrText.own A.IrText.own ctx.now) (printing_in A.AttrText.own A.eq ctx.now) ctx.now op concrete.debugging (string_bytes f.old) concrete.debugging (string_bytes f.new)) }
+    ensures refused { IfErr result (λ e. e ≢ refusal.Memory → (e ≡ refusal.Misfit) × (is_printed_in (printing_in A.AttrText.own A.eq ctx.now) (operation ctx.now op) ≡ false)) }
 {
     let mut state = State::new(ctx.allocator(), ());
     state.set_region_print_depth_limit(RegionPrintDepthLimit::Max(0));
@@ -39,9 +36,8 @@ pub fn print_dbg<T: IrText<A>, A: AttrText>(
     f: &mut String,
 ) -> fmt::Result
     requires live { IsSome (operation ctx.now op) }
-    ensures text { (view : OperationView T A) → operation ctx.now op ≡ Some view → OnOk result (string_bytes f.new ≡ string_bytes f.old ++ encode_utf8_all (concrete.concrete_text (unplaced (texts_of T.reading T.written) (texts_of A.reading A.written) (format_of ctx.now.dialects)) (printed.printing ctx.now.dialects A.outlined A.print_once A.eq) view concrete.debugging)) }
-    ensures fits { OnOk result (IsTrue (printed.is_printed_in (printed.printing ctx.now.dialects A.outlined A.print_once A.eq) (operation ctx.now op))) }
-    ensures defined { OnOk result (IfSome (concrete.debug_text (unplaced (texts_of T.reading T.written) (texts_of A.reading A.written) (format_of ctx.now.dialects)) (printed.printing ctx.now.dialects A.outlined A.print_once A.eq) ctx.now op) (λ text. string_bytes f.new ≡ string_bytes f.old ++ text)) }
+    ensures prints { OnOk result (ConcretePrinted (language_in T.IrText.own A.IrText.own ctx.now) (printing_in A.AttrText.own A.eq ctx.now) ctx.now op concrete.debugging (string_bytes f.old) concrete.debugging (string_bytes f.new)) }
+    ensures defined { OnOk result (IfSome (concrete.debug_text (language_in T.IrText.own A.IrText.own ctx.now) (printing_in A.AttrText.own A.eq ctx.now) ctx.now op) (λ text. string_bytes f.new ≡ string_bytes f.old ++ text)) }
 {
     fmt_dbg(ctx, op, f)?;
     Ok(())
@@ -58,7 +54,7 @@ pub struct OpDbg<'a, T: IrText<A>, A: AttrText> {
 }
 
 impl<T: IrText<A>, A: AttrText> fmt::Display for OpDbg<'_, T, A> {
-    ghost output = { λ d. concrete.debug_text (unplaced (texts_of T.reading T.written) (texts_of A.reading A.written) (format_of d.ctx.now.dialects)) (printed.printing d.ctx.now.dialects A.outlined A.print_once A.eq) d.ctx.now d.op };
+    ghost output = { λ d. concrete.debug_text (language_in T.IrText.own A.IrText.own d.ctx.now) (printing_in A.AttrText.own A.eq d.ctx.now) d.ctx.now d.op };
 
     fn fmt<W: fmt::Write>(&self, f: &mut fmt::Formatter<W>) -> fmt::Result {
         if !self.ctx.contains_operation(self.op) {
@@ -71,7 +67,7 @@ impl<T: IrText<A>, A: AttrText> fmt::Display for OpDbg<'_, T, A> {
 }
 
 impl<T: IrText<A>, A: AttrText> fmt::Debug for OpDbg<'_, T, A> {
-    ghost debug_output = { λ d. concrete.debug_text (unplaced (texts_of T.reading T.written) (texts_of A.reading A.written) (format_of d.ctx.now.dialects)) (printed.printing d.ctx.now.dialects A.outlined A.print_once A.eq) d.ctx.now d.op };
+    ghost debug_output = { λ d. concrete.debug_text (language_in T.IrText.own A.IrText.own d.ctx.now) (printing_in A.AttrText.own A.eq d.ctx.now) d.ctx.now d.op };
 
     fn fmt<W: fmt::Write>(&self, f: &mut fmt::Formatter<W>) -> fmt::Result {
         fmt::Display::fmt(self, f)

@@ -2,6 +2,7 @@
 ghost use Rattle.std.specs.Prelude.{◌≡◌, ◌++◌, Some, OnOk, IsSome, IsSomeAnd, string_bytes};
 ghost use Rattle.std.specs.Str.{encode_utf8_all};
 ghost use Rattle.irtext_context.specs.Context.{OperationView, operation};
+ghost use Rattle.irtext_print.specs.Printers.OnePrinting.{PartPrinted};
 ghost use Rattle.irtext_print.specs.Printers.OpPrinters as parts;
 
 use crate::ir::print::concrete::fmt_id;
@@ -81,6 +82,8 @@ impl<T: IrText<A>, A: AttrText, U> Printable<U, T, A> for SymbOpHeader {
 
     ghost gives = { λ h ctx s. parts.printed_part parts.header_of ctx h.op s };
 
+    ghost prints = { λ h ctx s b t d. PartPrinted parts.header_of ctx h.op s (string_bytes b) t (string_bytes d) };
+
     fn fmt(&self, ctx: &Context<T, A>, _state: &mut State<U>, f: &mut String) -> fmt::Result {
         fmt_header(ctx, self.op, f)?;
         Ok(())
@@ -91,6 +94,8 @@ impl<T: IrText<A>, A: AttrText, U> Printable<U, T, A> for TypedSymbOpHeader<'_, 
     ghost can_print = { λ h ctx. IsSome (operation ctx h.op) };
 
     ghost gives = { λ h ctx s. parts.printed_part (parts.typed_header_of (T.written h.ty.now)) ctx h.op s };
+
+    ghost prints = { λ h ctx s b t d. PartPrinted (parts.typed_header_of (T.written h.ty.now)) ctx h.op s (string_bytes b) t (string_bytes d) };
 
     fn fmt(&self, ctx: &Context<T, A>, _state: &mut State<U>, f: &mut String) -> fmt::Result {
         fmt_header(ctx, self.op, f)?;
@@ -103,6 +108,8 @@ impl<T: IrText<A>, A: AttrText, U> Printable<U, T, A> for OneRegion {
     ghost can_print = { λ r ctx. IsSome (operation ctx r.op) };
 
     ghost gives = { λ r ctx s. parts.printed_part (parts.region_of s) ctx r.op s };
+
+    ghost prints = { λ r ctx s b t d. PartPrinted (parts.region_of s) ctx r.op s (string_bytes b) t (string_bytes d) };
 
     fn fmt(&self, ctx: &Context<T, A>, state: &mut State<U>, f: &mut String) -> fmt::Result {
         if self.op.num_regions(ctx) != 1 {

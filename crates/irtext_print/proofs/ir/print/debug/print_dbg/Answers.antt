@@ -1,15 +1,8 @@
 use Rattle.std.proofs.Common.{string_bytes}
-use Rattle.irtext_context.specs.Context.{operation}
-use Rattle.irtext_base.specs.Own.{texts_of, unplaced}
-use Rattle.irtext_grammar.specs.Contexts.Formats.{format_of}
-use Rattle.irtext_print.specs.Printers.PrintedOperation.{printing}
-use Rattle.irtext_print.proofs.Printers.RootParts.{there}
+use Rattle.irtext_print.specs.Printers.PrintedOperation.{language_in, printing_in}
 use Rattle.irtext_print.proofs.Printers.PrintedOperations.{writes_debug}
 use Rattle.irtext_print.proofs.ir.print.debug.print_dbg.Goals as goal
 
 pub returns-clause-defined : goal.returns-clause-defined
 returns-clause-defined g c =
-    let v = there (operation c.args.ctx.now c.args.op) c.requires.live in
-    let L = unplaced (texts_of g.T.IrText.reading g.T.IrText.written) (texts_of g.A.IrText.reading g.A.IrText.written) (format_of c.args.ctx.now.dialects) in
-    let C = printing {T = g.row.T.Denot} c.args.ctx.now.dialects g.A.AttrText.outlined g.A.AttrText.print_once g.A.PartialEq.eq in
-    writes_debug L C c.args.ctx.now c.args.op v.0 (string_bytes c.args.f.now) (string_bytes c.fmt_dbg.new.f) v.1 (c.in_ok-fmt_dbg.ensures.text v.0 v.1)
+    writes_debug (language_in g.T.IrText g.A.IrText c.args.ctx.now) (printing_in {T = g.row.T.Denot} g.A.AttrText g.A.PartialEq.eq c.args.ctx.now) c.args.ctx.now c.args.op (string_bytes c.args.f.now) (string_bytes c.fmt_dbg.new.f) c.in_ok-fmt_dbg.ensures.prints

@@ -1,16 +1,7 @@
-use Rattle.std.proofs.Common.{string_bytes}
-use Rattle.irtext_context.specs.Context.{operation}
-use Rattle.irtext_base.specs.Own.{texts_of, unplaced}
-use Rattle.irtext_grammar.specs.Contexts.Formats.{format_of}
-use Rattle.irtext_print.specs.Printers.PrintedOperation.{printing}
-use Rattle.irtext_print.proofs.Printers.RootParts.{there}
-use Rattle.irtext_print.proofs.Printers.PrintedOperations.{writes_concrete}
+use Rattle.irtext_print.specs.Printers.PrintedOperation.{language_in, printing_in}
+use Rattle.irtext_print.proofs.Printers.PrintedOperations.{concrete_writes}
 use Rattle.irtext_print.proofs.ir.print.concrete.OpObjPrintable.fmt.Goals as goal
 
 pub returns-clause-text : goal.returns-clause-text
 returns-clause-text g c =
-    let v = there (operation c.args.ctx.now c.args.self.now.op) c.requires in
-    let L = unplaced (texts_of g.T.IrText.reading g.T.IrText.written) (texts_of g.A.IrText.reading g.A.IrText.written) (format_of c.args.ctx.now.dialects) in
-    let C = printing {T = g.row.T.Denot} c.args.ctx.now.dialects g.A.AttrText.outlined g.A.AttrText.print_once g.A.PartialEq.eq in
-    writes_concrete L C c.args.ctx.now c.args.self.now.op v.0 c.args.state.now c.fmt_concrete.new.state (string_bytes c.args.f.now) (string_bytes c.fmt_concrete.new.f)
-    v.1 (c.in_ok-fmt_concrete.ensures.text v.0 v.1) c.in_ok-fmt_concrete.ensures.state
+    concrete_writes (language_in g.T.IrText g.A.IrText c.args.ctx.now) (printing_in {T = g.row.T.Denot} g.A.AttrText g.A.PartialEq.eq c.args.ctx.now) c.args.ctx.now c.args.self.now.op c.args.state.now c.fmt_concrete.new.state _ _ c.in_ok-fmt_concrete.ensures.prints
