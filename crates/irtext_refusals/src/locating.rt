@@ -1,28 +1,33 @@
 //! Reading a location where a request for memory is refused: the fault says so.
 
-use crate::Fault;
-use crate::printing::is_memory;
+use crate::{Ctx, Fault};
 use irtext_types::{DemoAttr, DemoType};
 use pliron_text::base::Context;
 use pliron_text::location::Location;
 use pliron_text::parsable::{Parsable, parse_from_str};
 use pliron_text::printable::Disp;
-use std::alloc::Global;
+use std::alloc::{AllocError, Global};
 
 /// The printed text of the location that stands in the text.
 pub fn read(alloc: Global, text: &str) -> Result<String, Fault> {
-    let mut ctx: Context<DemoType, DemoAttr> = Context::new(alloc);
+    let mut ctx: Ctx = Context::new(alloc);
+    read_with(alloc, &mut ctx, text)
+}
+
+/// The same with a context that is lent.
+fn read_with(alloc: Global, ctx: &mut Ctx, text: &str) -> Result<String, Fault> {
     let answer = parse_from_str(
         |s| <Location<DemoAttr> as Parsable<DemoType, DemoAttr, ()>>::parse(s, ()),
-        &mut ctx,
+        ctx,
         text,
     );
     match answer {
-        Ok(location) => match format!(in alloc; "{}", location.disp(&ctx)) {
-            Ok(text) => Ok(text),
-            Err(_) => Err(Fault::Memory),
-        },
-        Err(error) if is_memory(&error.err) => Err(Fault::Memory),
-        Err(_) => Err(Fault::Wrong),
+        Ok(location) => Ok(printed(alloc, ctx, &location)?),
+        Err(error) => Err(Fault::of(&error)),
     }
+}
+
+/// The text of a location.
+fn printed(alloc: Global, ctx: &Ctx, location: &Location<DemoAttr>) -> Result<String, AllocError> {
+    format!(in alloc; "{}", location.disp(ctx))
 }

@@ -7,10 +7,16 @@ mod printing;
 mod registering;
 mod strings;
 
-use std::alloc::AllocError;
-use std::io::{Read, Write};
+use irtext_types::{DemoAttr, DemoType};
+use pliron_text::base::Context;
+use pliron_text::result::{Cause, Error};
+use std::alloc::{AllocError, Global};
+use std::io::Write;
 use std::process::ExitCode;
 use std::{env, io};
+
+/// A context of the demo types and attributes.
+pub type Ctx = Context<DemoType, DemoAttr>;
 
 /// Why there is no text.
 #[derive(Clone, Copy, Drop)]
@@ -27,35 +33,74 @@ impl From<AllocError> for Fault {
     }
 }
 
-/// All of the standard input, as text.
-fn read_text(rt: &HostRuntime) -> io::Result<String> {
-    let mut bytes = Vec::new(rt.alloc());
-    rt.reader().read_to_end(&mut bytes)?;
-    match String::from_utf8(bytes) {
-        Ok(text) => Ok(text),
-        Err(_) => Err(io::Error::from(io::ErrorKind::InvalidData)),
+impl Fault {
+    /// The fault of an error: whether its cause is that memory was refused, to the reading or to its fault.
+    pub fn of(error: &Error<DemoAttr>) -> Fault {
+        match &error.err {
+            Cause::Memory => Fault::Memory,
+            Cause::Parse { at: _, cause } => Fault::of_reading(cause),
+            _ => Fault::Wrong,
+        }
+    }
+
+    /// The fault of a reading's cause.
+    fn of_reading(cause: &Cause<DemoAttr>) -> Fault {
+        match cause {
+            Cause::Memory => Fault::Memory,
+            _ => Fault::Wrong,
+        }
     }
 }
 
-/// The text of the call that the word names.
-fn answer(rt: &HostRuntime) -> io::Result<Result<String, Fault>> {
-    let alloc = rt.alloc();
-    let text = read_text(rt)?;
-    for word in env::args(rt)?.skip(1) {
-        if word.as_str() == "disp" {
-            return Ok(printing::displayed(alloc, text.as_str()));
-        }
-        if word.as_str() == "location" {
-            return Ok(locating::read(alloc, text.as_str()));
-        }
-        if word.as_str() == "objects" {
-            return Ok(registering::objects(alloc, text.as_str()));
-        }
-        if word.as_str() == "strings" {
-            return Ok(strings::read(alloc, text.as_str()));
+/// The calls that a word can name.
+#[derive(Clone, Copy)]
+enum Call {
+    Disp,
+    Location,
+    Objects,
+    Strings,
+}
+
+impl Call {
+    /// The call that a word names.
+    fn of(word: &str) -> Option<Call> {
+        match word {
+            "disp" => Some(Call::Disp),
+            "location" => Some(Call::Location),
+            "objects" => Some(Call::Objects),
+            "strings" => Some(Call::Strings),
+            _ => None,
         }
     }
-    Ok(Err(Fault::Wrong))
+
+    /// The text of the call.
+    fn answer(self, alloc: Global, text: &str) -> Result<String, Fault> {
+        match self {
+            Call::Disp => printing::displayed(alloc, text),
+            Call::Location => locating::read(alloc, text),
+            Call::Objects => registering::objects(alloc, text),
+            Call::Strings => strings::read(alloc, text),
+        }
+    }
+}
+
+/// The call that the first word names that names one.
+fn named_call(rt: &HostRuntime) -> io::Result<Option<Call>> {
+    for word in env::args(rt)?.skip(1) {
+        if let Some(call) = Call::of(word.as_str()) {
+            return Ok(Some(call));
+        }
+    }
+    Ok(None)
+}
+
+/// The text of the call that the words name.
+fn answer(rt: &HostRuntime) -> io::Result<Result<String, Fault>> {
+    let text = io::read_to_string(rt.alloc(), rt.reader())?;
+    match named_call(rt)? {
+        Some(call) => Ok(call.answer(rt.alloc(), text.as_str())),
+        None => Ok(Err(Fault::Wrong)),
+    }
 }
 
 /// Writes the text, or says why there is none.

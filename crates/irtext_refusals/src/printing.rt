@@ -1,51 +1,73 @@
 //! Printing a root where a request for memory is refused: the first printing fails, and a second one writes the text.
+ghost use Rattle.std.specs.Prelude.{IsSome};
+ghost use Rattle.irtext_context.specs.Context.{operation};
 
-use crate::Fault;
+use crate::{Ctx, Fault};
 use irtext_types::dialects::register_demo;
-use irtext_types::{DemoAttr, DemoType};
-use pliron_text::base::{Context, Operation};
+use pliron_text::base::{Context, Operation, Ptr};
 use pliron_text::ir::OperationText;
 use pliron_text::parsable::parse_from_str;
 use pliron_text::printable::Disp;
-use pliron_text::result::Cause;
 use std::alloc::Global;
 use std::fmt::Write;
 
-/// Whether the cause is that memory was refused, to the reading or to its fault.
-pub(crate) fn is_memory(cause: &Cause<DemoAttr>) -> bool {
-    match cause {
-        Cause::Memory => true,
-        Cause::Parse { at: _, cause } => match **cause {
-            Cause::Memory => true,
-            _ => false,
-        },
-        _ => false,
+/// The text of a root, unless its printing is refused.
+fn printed(alloc: Global, ctx: &Ctx, root: Ptr<Operation>) -> Option<String>
+    requires { IsSome (operation ctx.now root) }
+{
+    let mut text = String::new(alloc);
+    match write!(text, "{}", root.disp(ctx)) {
+        Ok(()) => Some(text),
+        Err(_) => None,
     }
 }
 
-/// The text of the root that stands in the text. It is printed twice; where the first printing is refused the second has to write it.
+/// The text of a second printing, which has to be that of the first one where that was written.
+fn compared(first: &str, second: String) -> Result<String, Fault> {
+    if first == second.as_str() {
+        return Ok(second);
+    }
+    Err(Fault::Wrong)
+}
+
+/// The text of a root that is printed once more.
+fn again(alloc: Global, ctx: &Ctx, root: Ptr<Operation>, first: &str) -> Result<String, Fault>
+    requires { IsSome (operation ctx.now root) }
+{
+    match printed(alloc, ctx, root) {
+        Some(second) => compared(first, second),
+        None => Err(Fault::Memory),
+    }
+}
+
+/// The text of a root. It is printed twice; where the first printing is refused the second has to write it.
+fn twice(alloc: Global, ctx: &Ctx, root: Ptr<Operation>) -> Result<String, Fault>
+    requires { IsSome (operation ctx.now root) }
+{
+    match printed(alloc, ctx, root) {
+        Some(first) => again(alloc, ctx, root, first.as_str()),
+        None => Ok(printed(alloc, ctx, root).ok_or(Fault::Wrong)?),
+    }
+}
+
+/// The text of the root that stands in the text, which is printed twice.
+fn read(alloc: Global, ctx: &mut Ctx, text: &str) -> Result<String, Fault> {
+    match parse_from_str(|stream| Operation::top_level_parse(stream), ctx, text) {
+        Ok(root) => twice(alloc, ctx, root),
+        Err(error) => Err(Fault::of(&error)),
+    }
+}
+
+/// The same once the demo dialects are registered.
+fn registered(alloc: Global, ctx: &mut Ctx, text: &str) -> Result<String, Fault> {
+    match register_demo(ctx) {
+        Ok(()) => read(alloc, ctx, text),
+        Err(error) => Err(Fault::of(&error)),
+    }
+}
+
+/// The same with a context of its own.
 pub fn displayed(alloc: Global, text: &str) -> Result<String, Fault> {
-    let mut ctx: Context<DemoType, DemoAttr> = Context::new(alloc);
-    if let Err(error) = register_demo(&mut ctx) {
-        return Err(if is_memory(&error.err) {
-            Fault::Memory
-        } else {
-            Fault::Wrong
-        });
-    }
-    let root = match parse_from_str(|stream| Operation::top_level_parse(stream), &mut ctx, text) {
-        Ok(root) => root,
-        Err(error) if is_memory(&error.err) => return Err(Fault::Memory),
-        Err(_) => return Err(Fault::Wrong),
-    };
-    let mut first = String::new(alloc);
-    let written = write!(first, "{}", root.disp(&ctx)).is_ok();
-    let mut second = String::new(alloc);
-    if write!(second, "{}", root.disp(&ctx)).is_err() {
-        return Err(if written { Fault::Memory } else { Fault::Wrong });
-    }
-    if written && first != second {
-        return Err(Fault::Wrong);
-    }
-    Ok(second)
+    let mut ctx: Ctx = Context::new(alloc);
+    registered(alloc, &mut ctx, text)
 }

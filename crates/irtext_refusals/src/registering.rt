@@ -1,7 +1,7 @@
 //! Registering an operation and making it where a request for memory is refused: nothing came of the call that was refused.
 
-use crate::Fault;
-use irtext_types::{DemoAttr, DemoType};
+use crate::{Ctx, Fault};
+use irtext_types::DemoAttr;
 use pliron_text::base::{Context, Identifier, OpId, Operation};
 use pliron_text::dialect::{Dialect, DialectName};
 use pliron_text::format::OpFormat;
@@ -9,8 +9,8 @@ use pliron_text::result::{Cause, Error, Result as Answer};
 use std::alloc::Global;
 
 /// The fault of an error: want of memory, where nothing came of the call.
-fn fault_of(error: Error<DemoAttr>, is_as_it_was: bool) -> Fault {
-    match error.err {
+fn fault_of(error: &Error<DemoAttr>, is_as_it_was: bool) -> Fault {
+    match &error.err {
         Cause::Memory if is_as_it_was => Fault::Memory,
         _ => Fault::Wrong,
     }
@@ -21,7 +21,7 @@ fn named(alloc: Global, text: &str) -> Result<Identifier, Fault> {
     let name: Answer<Identifier, DemoAttr> = Identifier::try_new(alloc, text);
     match name {
         Ok(name) => Ok(name),
-        Err(error) => Err(fault_of(error, true)),
+        Err(error) => Err(fault_of(&error, true)),
     }
 }
 
@@ -34,16 +34,16 @@ fn id(alloc: Global, dialect: &str) -> Result<OpId, Fault> {
 }
 
 /// Registers a dialect. Where memory is refused it is not registered.
-fn register(ctx: &mut Context<DemoType, DemoAttr>, name: &DialectName) -> Result<(), Fault> {
+fn register(ctx: &mut Ctx, name: &DialectName) -> Result<(), Fault> {
     let refused = match Dialect::register(ctx, name) {
         Ok(_) => return Ok(()),
         Err(error) => error,
     };
-    Err(fault_of(refused, ctx.dialect(name).is_none()))
+    Err(fault_of(&refused, ctx.dialect(name).is_none()))
 }
 
 /// Registers an operation with a dialect that is there. Where memory is refused it is not registered.
-fn add(ctx: &mut Context<DemoType, DemoAttr>, name: &DialectName, id: OpId) -> Result<(), Fault> {
+fn add(ctx: &mut Ctx, name: &DialectName, id: OpId) -> Result<(), Fault> {
     match Dialect::register(ctx, name) {
         Ok(dialect) => add_to(dialect, id),
         Err(_) => Err(Fault::Wrong),
@@ -55,27 +55,34 @@ fn add_to(dialect: &mut Dialect, id: OpId) -> Result<(), Fault> {
     let answer: Answer<(), DemoAttr> = dialect.add_op(id, OpFormat::Canonical, false);
     match answer {
         Ok(()) => Ok(()),
-        Err(error) => Err(fault_of(error, true)),
+        Err(error) => Err(fault_of(&error, true)),
     }
 }
 
 /// Makes an operation with two regions. Where memory is refused no object stands.
-fn make(ctx: &mut Context<DemoType, DemoAttr>, id: OpId) -> Result<u64, Fault> {
+fn make(ctx: &mut Ctx, id: OpId) -> Result<u64, Fault> {
     match Operation::new(ctx, id, 2) {
         Ok(_) => Ok(ctx.num_live()),
-        Err(error) => Err(fault_of(error, ctx.num_live() == 0)),
+        Err(error) => Err(fault_of(&error, ctx.num_live() == 0)),
     }
+}
+
+/// Makes an operation of a dialect once both are registered, and says how many objects stand then.
+fn registered(alloc: Global, ctx: &mut Ctx, name: &DialectName, text: &str) -> Result<u64, Fault> {
+    register(ctx, name)?;
+    add(ctx, name, id(alloc, text)?)?;
+    make(ctx, id(alloc, text)?)
+}
+
+/// The same of the dialect that the text names, as a line.
+fn made(alloc: Global, ctx: &mut Ctx, text: &str) -> Result<String, Fault> {
+    let name = DialectName::from(named(alloc, text)?);
+    let objects = registered(alloc, ctx, &name, text)?;
+    Ok(format!(in alloc; "{objects}\n")?)
 }
 
 /// How many objects stand once an operation of the dialect that the text names was registered and made with two regions.
 pub fn objects(alloc: Global, text: &str) -> Result<String, Fault> {
-    let mut ctx: Context<DemoType, DemoAttr> = Context::new(alloc);
-    let name = DialectName::from(named(alloc, text)?);
-    register(&mut ctx, &name)?;
-    add(&mut ctx, &name, id(alloc, text)?)?;
-    let objects = make(&mut ctx, id(alloc, text)?)?;
-    match format!(in alloc; "{objects}\n") {
-        Ok(text) => Ok(text),
-        Err(_) => Err(Fault::Memory),
-    }
+    let mut ctx: Ctx = Context::new(alloc);
+    made(alloc, &mut ctx, text)
 }

@@ -3,7 +3,7 @@
 use crate::Fault;
 use irtext_types::DemoAttr;
 use pliron_text::irfmt::parsers::{delimited_list_parser, quoted_string_parse};
-use pliron_text::parsable::{ParseResult, TextStream};
+use pliron_text::parsable::{ParseFault, ParseResult, TextStream};
 use pliron_text::result::Cause;
 use std::alloc::{AllocError, Global};
 
@@ -31,22 +31,29 @@ fn lines(alloc: Global, texts: &[String]) -> Result<String, AllocError> {
 /// Whether the stream refuses another reading because it has failed.
 fn has_failed(stream: &mut TextStream) -> bool {
     match list(stream) {
-        Err(fault) => match fault.cause {
-            Cause::StreamFailed => fault.committed,
-            _ => false,
-        },
+        Err(fault) => fault.committed && matches!(&fault.cause, Cause::StreamFailed),
         Ok(_) => false,
+    }
+}
+
+/// The fault of a reading: want of memory, where the stream has failed from then on.
+fn fault_of(stream: &mut TextStream, fault: &ParseFault<DemoAttr>) -> Fault {
+    match &fault.cause {
+        Cause::Memory if fault.committed && has_failed(stream) => Fault::Memory,
+        _ => Fault::Wrong,
+    }
+}
+
+/// The texts of the list that stands where the stream stands, a line each.
+fn read_lines(alloc: Global, stream: &mut TextStream) -> Result<String, Fault> {
+    match list(stream) {
+        Ok(texts) => Ok(lines(alloc, texts.as_slice())?),
+        Err(fault) => Err(fault_of(stream, &fault)),
     }
 }
 
 /// The texts of the list that stands in the text, a line each.
 pub fn read(alloc: Global, text: &str) -> Result<String, Fault> {
     let mut stream = TextStream::new(alloc, text)?;
-    match list(&mut stream) {
-        Ok(texts) => Ok(lines(alloc, texts.as_slice())?),
-        Err(fault) => match fault.cause {
-            Cause::Memory if fault.committed && has_failed(&mut stream) => Err(Fault::Memory),
-            _ => Err(Fault::Wrong),
-        },
-    }
+    read_lines(alloc, &mut stream)
 }
