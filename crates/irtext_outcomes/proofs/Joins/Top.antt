@@ -21,7 +21,7 @@ use Rattle.irtext_outcomes.specs.Readers.Operations.{ReadOp, root_at}
 use Rattle.irtext_grammar.specs.Names.Script.{Failure}
 use Rattle.irtext_grammar.specs.Grammar.Section.{Entry}
 use Rattle.irtext_outcomes.specs.Promises.Section.{IsReported, ReportedAt}
-use Rattle.irtext_outcomes.specs.Promises.Supported.{supported, location_standing, IsSupported, AllSupported, RootRefused}
+use Rattle.irtext_outcomes.specs.Promises.Supported.{supported, location_standing, IsSupported, AllSupported, is_committed, RootRefused}
 use Rattle.irtext_grammar.specs.Contexts.Held.{whole, StandsAt}
 use Rattle.irtext_outcomes.specs.Promises.Root.{location_of, ReadsRoot, BuildsRoot, IsCause, IsPlace, IsFirst, RefusesRoot}
 use Rattle.irtext_grammar.specs.Grammar.Tree.{Tree}
@@ -60,7 +60,7 @@ module _ {T A U : Type 0} (types : Texts T) (reading : Text → Outcome A) (writ
 
 module _ {T A : Type 0} (types : Texts T) (reading : Text → Outcome A) (written : A → Text) (dialects : List (Text × Table)) (fronts : Splits reading) where
   -- Where the readers refuse a root, each root of this form that reads there is refused first with that cause, at that place.
-  pub refused_refuses : {old : StreamView} {fault : ParseFault A} (cause : Fault) (upto : Text) → RootRefused dialects (attr_at reading) old.rest cause upto → ReportedAt cause upto old fault → RefusesRoot types (texts_of reading written) (attr_at reading) dialects old fault
+  pub refused_refuses : {old : StreamView} {fault : ParseFault A} (cause : Fault) (upto : Text) → RootRefused dialects (attr_at reading) old.rest cause upto → ReportedAt (is_committed (root_at dialects (attr_at reading) old.rest)) cause upto old fault → RefusesRoot types (texts_of reading written) (attr_at reading) dialects old fault
   refused_refuses {old} {fault} cause upto refused at = record { first = first; cause = cause; upto = upto; refused = refused; at = at }
     where
       -- the fault stands where the readers stopped

@@ -1,6 +1,5 @@
 -- What reading a root promises, from what its readers found.
 use Rattle.std.proofs.Common.{◌≡◌, true, List, Result, Ok, Err, IfOk, IfErr, ◌⊎◌, inl, inr}
-use Rattle.irtext_base.specs.Faults.{Memory, fault_of}
 use Rattle.irtext_base.specs.Answers.{Outcome}
 use Rattle.irtext_context.specs.Dialects.{Table}
 use Rattle.irtext_base.specs.Own.{Texts, texts_of}
@@ -11,15 +10,16 @@ use Rattle.irtext_context.specs.declared.base.operation.Operation.{Operation}
 use Rattle.irtext_base.specs.declared.parsable.fault.ParseFault.{ParseFault}
 use Rattle.irtext_read.specs.AttrTexts.{attr_at}
 use Rattle.irtext_read.specs.declared.parsable.state.StateStream.{StateStream}
-use Rattle.irtext_outcomes.specs.Promises.Section.{Reports, ReadsWith, MissesWith}
-use Rattle.irtext_outcomes.specs.Promises.Supported.{RootRefused}
+use Rattle.irtext_outcomes.specs.Readers.Operations.{root_at}
+use Rattle.irtext_outcomes.specs.Promises.Section.{IsStarved, Reports, ReadsWith, MissesWith}
+use Rattle.irtext_outcomes.specs.Promises.Supported.{is_committed, RootRefused}
 use Rattle.irtext_outcomes.specs.Promises.Root.{IsFresh, BuildsRoot, RefusesRoot}
 use Rattle.irtext_outcomes.proofs.Joins.Answers.{Splits}
 use Rattle.irtext_outcomes.proofs.Joins.Top.{reads_builds, refused_refuses}
 use Rattle.irtext_outcomes.proofs.Readers.RootSteps.{root_reads, root_misses}
 
 module _ {T A : Type 0} (types : Texts T) (reading : Text → Outcome A) (written : A → Text) (fronts : Splits reading) where
-  refuses : {fault : ParseFault A} (dialects : List (Text × Table)) (old : StreamView) → Reports (RootRefused dialects (attr_at reading) old.rest) old fault → (fault_of fault.cause ≡ Memory) ⊎ RefusesRoot types (texts_of reading written) (attr_at reading) dialects old fault
+  refuses : {fault : ParseFault A} (dialects : List (Text × Table)) (old : StreamView) → Reports (is_committed (root_at dialects (attr_at reading) old.rest)) (RootRefused dialects (attr_at reading) old.rest) old fault → IsStarved fault ⊎ RefusesRoot types (texts_of reading written) (attr_at reading) dialects old fault
   refuses dialects old (inl e) = inl e
   refuses dialects old (inr h) = inr (refused_refuses types reading written dialects fronts h.0 h.1 h.2 h.3)
 
@@ -31,6 +31,6 @@ module _ {T A U : Type 0} (types : Texts T) (reading : Text → Outcome A) (writ
 
   -- each fault that is answered on a fresh state, but want of memory, is one of the text
   pub all_refuse : {old : StateStream T A U} → IsFresh old → (result : Result (Ptr Operation) (ParseFault A)) → IfErr result (λ fault. MissesWith (attr_at reading) true old fault)
-      → IfErr result (λ fault. (fault_of fault.cause ≡ Memory) ⊎ RefusesRoot types (texts_of reading written) (attr_at reading) old.state.ctx.now.dialects old.stream fault)
+      → IfErr result (λ fault. IsStarved fault ⊎ RefusesRoot types (texts_of reading written) (attr_at reading) old.state.ctx.now.dialects old.stream fault)
   all_refuse fresh (Ok op) h = tt
   all_refuse {old = old} fresh (Err fault) h = refuses types reading written fronts old.state.ctx.now.dialects old.stream (root_misses (attr_at reading) fresh h)

@@ -27,8 +27,8 @@ use Rattle.irtext_grammar.specs.Names.Placeholders.{In}
 use Rattle.irtext_grammar.specs.Grammar.Section.{Entry}
 use Rattle.irtext_grammar.specs.Names.Script.{Cause, Failure}
 use Rattle.irtext_grammar.specs.Names.Script as script
-use Rattle.irtext_outcomes.specs.Promises.Section.{Moves, ReportedAt}
-use Rattle.irtext_outcomes.specs.Promises.Supported.{supported, location_standing, IsSupported, AllSupported, SectionStands, RootRefused, location_given, operation_built}
+use Rattle.irtext_outcomes.specs.Promises.Section.{Moves, IsStarved, ReportedAt}
+use Rattle.irtext_outcomes.specs.Promises.Supported.{supported, location_standing, IsSupported, AllSupported, SectionStands, is_committed, RootRefused, location_given, operation_built}
 use Rattle.irtext_grammar.specs.Contexts.Held.{held_root, whole, StandsAt}
 use Rattle.irtext_grammar.specs.Grammar.Tree.{Tree}
 
@@ -89,7 +89,8 @@ IsFirst text (f ∷ fs) fault = IsCause f.cause (fault_of fault.cause) × IsPlac
 
 module _ {T A : Type 0} (types : Texts T) (owns : Texts A) (attr : Text → Outcome (AttrView A)) (dialects : List (Text × Table)) where
   -- Whatever the text reads as by these dialects, in that form, does not resolve, and the fault is its first failure; and it is the
-  -- fault of the readers of the operation and its section, where nothing reads too.
+  -- fault of the readers of the operation and its section, where nothing reads too: uncommitted where no operation begins there, and
+  -- else committed.
   pub record RefusesRoot (old : StreamView) (fault : ParseFault A) : Type 0 where
     pub first : (tree : Tree ℕ T A) (entries : List (Entry ℕ A (Written A))) (rest : Text)
         → reads_root (supported dialects types owns) (location_standing attr) tree entries old.rest rest → IsSupported tree → AllSupported entries
@@ -97,11 +98,11 @@ module _ {T A : Type 0} (types : Texts T) (owns : Texts A) (attr : Text → Outc
     pub cause : Fault
     pub upto : Text
     pub refused : RootRefused dialects attr old.rest cause upto
-    pub at : ReportedAt cause upto old fault
+    pub at : ReportedAt (is_committed (root_at dialects attr old.rest)) cause upto old fault
 
--- memory was refused, or this is said of the fault
+-- memory was refused, and the fault is committed, or this is said of it
 abbrev pub UnlessMemory : {A : Type 0} → (ParseFault A → Type 0) → ParseFault A → Type 0
-UnlessMemory says f = (fault_of f.cause ≡ fault.Memory) ⊎ says f
+UnlessMemory says f = IsStarved f ⊎ says f
 
 module _ {T A U : Type 0} (types : Texts T) (owns : Texts A) (attr : Text → Outcome (AttrView A)) where
   -- A root stood where the stream stood: the text reads by the context's dialects, with its section, as a tree of the form that is

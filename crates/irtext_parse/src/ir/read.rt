@@ -3,7 +3,7 @@ ghost use Rattle.std.specs.Prelude.{◌≡◌, false, IfOk, IfErr, OnErr};
 ghost use Rattle.irtext_context.specs.Made.{SameObjects};
 ghost use Rattle.irtext_read.specs.AttrTexts.{attr_at};
 ghost use Rattle.irtext_read.specs.States.{marks_of};
-ghost use Rattle.irtext_outcomes.specs.Readers.Refusals.{Refusal};
+ghost use Rattle.irtext_outcomes.specs.Readers.Refusals.{Refusal, RefusesFailed};
 ghost use Rattle.irtext_outcomes.specs.Readers.Streams.{KeepsRest};
 ghost use Rattle.irtext_outcomes.specs.Promises.Section.{ReadsWith, MissesWith};
 
@@ -41,6 +41,7 @@ impl<T: IrText<A>, A: AttrText, U> Parsable<T, A, U> for Operation {
         ensures lent { stream.new.state.ctx.ghost_name ≡ stream.old.state.ctx.ghost_name }
         ensures rest { KeepsRest stream.old.state stream.new.state }
         ensures refused { IfErr result (λ fault. Refusal stream.old.stream fault stream.new.stream) }
+        ensures failed { RefusesFailed stream.old.stream result stream.new.stream }
         ensures read { IfOk result (λ op. ReadsWith (attr_at A.IrText.reading) config.look_for_outlined_attrs op stream.old stream.new) }
         ensures missed { stream.old.stream.failed ≡ false → IfErr result (λ fault. MissesWith (attr_at A.IrText.reading) config.look_for_outlined_attrs stream.old fault) }
         ensures objects { OnErr result (SameObjects stream.old.state.ctx.now stream.new.state.ctx.now) }
