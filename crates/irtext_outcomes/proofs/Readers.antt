@@ -7,6 +7,7 @@ pub mod Leads
 pub mod PlainStream
 pub mod OperationNeverFailed
 pub mod EntryIndices
+pub mod FirstMissing
 pub mod OperationSteps
 pub mod Answered
 pub mod SectionSteps

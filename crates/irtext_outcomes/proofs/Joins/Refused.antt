@@ -24,11 +24,11 @@ use Rattle.irtext_outcomes.proofs.Joins.Root.{may_have-onto}
 
 -- ---- two answers of one reader
 -- what is read is not refused
-not_refused : {X : Type 0} (o : Outcome X) (x : X) (taken rest : Text) (cause : Fault) (upto : Text) → o ≡ Read x taken rest → RefusedAs o cause upto → ⊥
+pub not_refused : {X : Type 0} (o : Outcome X) (x : X) (taken rest : Text) (cause : Fault) (upto : Text) → o ≡ Read x taken rest → RefusedAs o cause upto → ⊥
 not_refused o x taken rest cause upto e r = subst (λ o. RefusedAs o cause upto) e r
 
 -- what is bad is refused as that
-bad_refused : {X : Type 0} (o : Outcome X) (c : Fault) (u : Text) (cause : Fault) (upto : Text) → o ≡ Bad c u → RefusedAs o cause upto → (c ≡ cause) × (u ≡ upto)
+pub bad_refused : {X : Type 0} (o : Outcome X) (c : Fault) (u : Text) (cause : Fault) (upto : Text) → o ≡ Bad c u → RefusedAs o cause upto → (c ≡ cause) × (u ≡ upto)
 bad_refused o c u cause upto e r = subst (λ o. RefusedAs o cause upto) e r
 
 same_value : {X : Type 0} (x y : X) (a b r s : Text) → Read x a r ≡ Read y b s → x ≡ y

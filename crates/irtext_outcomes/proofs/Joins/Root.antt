@@ -26,7 +26,7 @@ use Rattle.irtext_outcomes.specs.Readers.Section.{may_have, Entries, AllEntries,
 use Rattle.irtext_outcomes.specs.Promises.Supported.{supported, location_standing, IsSupported, AllSupported, index_of, DescribeEntries, StopsAt, SectionStands, location_given, operation_built, bare_regions}
 use Rattle.irtext_outcomes.proofs.Joins.Answers.{Splits}
 use Rattle.irtext_outcomes.proofs.Joins.Body.{StopsFor}
-use Rattle.irtext_outcomes.proofs.Joins.Operation.{Describes, OperationFound, operation_reads, operation_stops, Accepts, operation_read, operation_found}
+use Rattle.irtext_outcomes.proofs.Joins.Operation.{Describes, TreeStops, OperationFound, operation_reads, operation_stops, Accepts, operation_read, operation_found}
 use Rattle.irtext_outcomes.proofs.Joins.Plain.{marked_is, PiecesPass, failures_marked, failures_unmarked, build_plain}
 use Rattle.irtext_outcomes.proofs.Joins.Section.{spaced_read, spaced_found}
 use Rattle.irtext_outcomes.proofs.Joins.Entries.{swap, entry_unknown, entry_reads, allow_first, refused, unknown_at, onto, entries_read, Accepted, Stopped, entries_found}
@@ -148,11 +148,15 @@ module _ {T A : Type 0} (types : Texts T) (reading : Text → Outcome A) (writte
   sets (Some k) (e ∷ es) (of_item m x (j ∷ js) ∷ entries) text rest s d = absurd d
   sets (Some k) (e ∷ es) (of_once m a ∷ entries) text rest s d = absurd d
 
-  -- the graph of an operation: its location is its entry's, else the one of its place
-  build-so_far : (t : Tree ℕ T A) (m : ReadOp A) (es : List (ℕ × Option (Written A))) (entries : List (Entry ℕ A (Written A))) (first : ℕ → Written A) (text mid rest : Text) → IsSupported t → Describes types reading written dialects fronts t m → t.own.place ≡ length text
-      → SectionStands attr m.mark es mid rest → DescribeEntries entries es → build (isolated dialects) first entries t ≡ operation_built m.id m.pieces (location_given (first (length text)) es)
-  build-so_far t m es entries first text mid rest form d place s says =
-      let k = sets t.own.mark es entries mid rest (subst (λ k. SectionStands attr k es mid rest) (sym d.mark) s) says in
+  -- nothing is set where there is no entry
+  sets_nothing : (k : Option (Mark ℕ)) → Sets {A = A} {X = Written A} [] [] k
+  sets_nothing None = record { attributes = λ as_they_are. refl; location = λ first. refl }
+  sets_nothing (Some k) = record { attributes = λ as_they_are. refl; location = λ first. refl }
+
+  -- the graph of an operation, where this is what its entries set
+  build-set : (t : Tree ℕ T A) (m : ReadOp A) (es : List (ℕ × Option (Written A))) (entries : List (Entry ℕ A (Written A))) (first : ℕ → Written A) (text : Text) → IsSupported t → Describes types reading written dialects fronts t m → t.own.place ≡ length text
+      → Sets entries es t.own.mark → build (isolated dialects) first entries t ≡ operation_built m.id m.pieces (location_given (first (length text)) es)
+  build-set t m es entries first text form d place k =
       let attributes = k.attributes _ ∙ sym d.makes.attributes in
       let location = k.location (first t.own.place) ∙ ap (λ p. location_given (first p) es) place in
       let count = sym d.makes.count in
@@ -160,6 +164,12 @@ module _ {T A : Type 0} (types : Texts T) (reading : Text → Outcome A) (writte
         own = record { id = d.id i; result_types = []; operands = []; successors = []; attributes = attributes i; location = location i };
         regions = bare_regions (count i);
       })
+
+  -- the graph of an operation: its location is its entry's, else the one of its place
+  build-so_far : (t : Tree ℕ T A) (m : ReadOp A) (es : List (ℕ × Option (Written A))) (entries : List (Entry ℕ A (Written A))) (first : ℕ → Written A) (text mid rest : Text) → IsSupported t → Describes types reading written dialects fronts t m → t.own.place ≡ length text
+      → SectionStands attr m.mark es mid rest → DescribeEntries entries es → build (isolated dialects) first entries t ≡ operation_built m.id m.pieces (location_given (first (length text)) es)
+  build-so_far t m es entries first text mid rest form d place s says =
+      build-set t m es entries first text form d place (sets t.own.mark es entries mid rest (subst (λ k. SectionStands attr k es mid rest) (sym d.mark) s) says)
 
   -- a root of this form resolves, and this is built of it: what the readers said of its text
   pub record Resolves (t : Tree ℕ T A) (entries : List (Entry ℕ A (Written A))) (m : ReadOp A) (es : List (ℕ × Option (Written A))) (text : Text) : Type 0 where
@@ -213,6 +223,32 @@ module _ {T A : Type 0} (types : Texts T) (reading : Text → Outcome A) (writte
             };
           }
 
+  -- the grammar reads a tree of this form, which is what the readers said, and which resolves alone
+  pub record TreeRead (m : ReadOp A) (text rest : Text) : Type 0 where
+    pub t : Tree ℕ T A
+    pub reads : reads.reads (supported dialects types owns) t text rest
+    pub form : IsSupported t
+    pub mark : index_of t.own.mark ≡ m.mark
+    pub resolves : failures_of {X = Written A} (isolated dialects) t [] ≡ []
+    pub builds : (first : ℕ → Written A) → build (isolated dialects) first [] t ≡ operation_built m.id m.pieces (first (length text))
+
+  -- What the readers of an operation answer, the grammar reads as a tree that resolves alone, and this is built of it.
+  pub tree_read : (m : ReadOp A) (text taken rest : Text) → IsAccepted dialects m.id → root_at dialects attr text ≡ Read m taken rest → TreeRead m text rest
+  tree_read m text taken rest accepted e =
+      let r = operation_read types reading written dialects fronts text m taken rest accepted e in
+      record {
+        t = r.0;
+        reads = r.1;
+        form = r.2;
+        mark = r.3.mark;
+        resolves = resolves r.0 r.2 r.3 m.mark refl;
+        builds = λ first. build-set r.0 m [] [] first text r.2 r.3 r.4 (sets_nothing r.0.own.mark);
+      }
+    where
+      resolves : (t : Tree ℕ T A) → IsSupported t → Describes types reading written dialects fronts t m → (k : Option ℕ) → m.mark ≡ k → failures_of {X = Written A} (isolated dialects) t [] ≡ []
+      resolves t form d None f = failures_of-unmarked t m form d f
+      resolves t form d (Some i) f = failures_of-marked t m i [] form d f tt
+
   -- the readers of the section stop at one of its entries, which is the first that is refused
   pub record SectionStops (t : Tree ℕ T A) (entries : List (Entry ℕ A (Written A))) (m : ReadOp A) (text : Text) : Type 0 where
     pub mark : ℕ
@@ -235,6 +271,12 @@ module _ {T A : Type 0} (types : Texts T) (reading : Text → Outcome A) (writte
     pub failures : List (Failure Text ℕ)
     pub refused_first : failures_of (isolated dialects) t entries ≡ failure ∷ failures
     pub stops : StopsFor text failure cause upto
+
+  -- where the reader of an operation stops at what fails first of a tree, the root's does, with any entries
+  pub stops_root : (t : Tree ℕ T A) (entries : List (Entry ℕ A (Written A))) (text : Text) → TreeStops types reading written dialects fronts t text → RootStops t entries text
+  stops_root t entries text k =
+      let f = k.fails.fails (singles (parts_of t.own.body)) (single_labels (parts_of t.own.body)) (does_all (closing_acts [] t.own) (does_all (section_acts (rule_of t) entries) done)) in
+      record { cause = k.cause; upto = k.upto; failure = k.failure; is_bad = k.is_bad; failures = f.0; refused_first = f.1; stops = k.stops }
 
   -- what stands behind an operation that the readers read
   abbrev pub Behind : Tree ℕ T A → List (Entry ℕ A (Written A)) → ReadOp A → Text → Text → Text → Type 0
@@ -283,6 +325,4 @@ module _ {T A : Type 0} (types : Texts T) (reading : Text → Outcome A) (writte
       found : OperationFound types reading written dialects fronts t text mid → RootFound t entries text rest
       found (operation_reads m taken e d) =
           root_reads m taken mid e (go m d m.mark refl entries entries_form (subst (λ b. section_if (supported dialects types owns) (location_standing attr) b entries mid rest) (marked_is t form ∙ ap is_some d.mark) s))
-      found (operation_stops k) =
-          let f = k.fails.fails (singles (parts_of t.own.body)) (single_labels (parts_of t.own.body)) (does_all (closing_acts [] t.own) (does_all (section_acts (rule_of t) entries) done)) in
-          root_stops (record { cause = k.cause; upto = k.upto; failure = k.failure; is_bad = k.is_bad; failures = f.0; refused_first = f.1; stops = k.stops })
+      found (operation_stops k) = root_stops (stops_root t entries text k)

@@ -14,13 +14,14 @@ use Rattle.irtext_outcomes.specs.Readers.Parts.{index_at}
 use Rattle.irtext_base.proofs.Compose.{takes_stands, stands_failed}
 use Rattle.irtext_read.specs.MustRead.{MustRead, MayRead}
 use Rattle.irtext_outcomes.specs.Readers.Section.{known_index, entry_at, content_at, heading_at}
-use Rattle.irtext_base.specs.Own.{Sincere}
+use Rattle.irtext_base.specs.Own.{Sincere, is_first_fault}
 use Rattle.irtext_outcomes.specs.Readers.Refusals.{Refusal, CommittedRefusal}
 use Rattle.irtext_outcomes.specs.Readers.Streams.{itself, replaced}
 use Rattle.irtext_base.proofs.Sincere.{of_sincere}
 use Rattle.irtext_read.proofs.Honest.{seen, never_failed, honest_index, honest_spaced, honest_attr}
 use Rattle.irtext_outcomes.proofs.Readers.Honest.{honest_content}
 use Rattle.irtext_outcomes.proofs.Readers.NeverFailed.{Spares, NotFailed, Fine, fine_honest, fine_missing, fine_bad, fine_either, fine_followed}
+use Rattle.irtext_outcomes.proofs.Readers.FirstMissing.{FirstMissing}
 use Rattle.irtext_outcomes.proofs.Readers.PlainStream.{alone}
 
 module _ (test : ℕ → Bool) where
@@ -72,24 +73,24 @@ module _ {A : Type 0} where
   pub demands : {X Y : Type 0} {see : Y → X} {f : Text → Outcome X} {old new : StreamView} {fault : ParseFault A} → ((text : Text) → Spares NotFailed (f text)) → MustRead {Y = Y} itself replaced see f old (Err fault) new → CommittedRefusal old fault new
   demands {f = f} {old = old} {new = new} {fault = fault} s h = demands_of old.failed (f old.rest) old new fault refl (s old.rest) h.answers
 
-  refusal_of : {X : Type 0} (b : Bool) (o : Outcome X) (old new : StreamView) (fault : ParseFault A) → old.failed ≡ b → Spares NotFailed o → Starves itself replaced old fault new ⊎ Refuses itself replaced (unless_failed b o) old fault new → Refusal old fault new
-  refusal_of b o old new fault e s (inl h) = record { committed = λ _. ap (λ v. v.failed) h.left.is ∙ h.left.fails; uncommitted = λ q. absurd (cc (h.committed)); failed = λ f. absurd (cc (h.because)) }
-  refusal_of true o old new fault e s (inr h) = record { committed = λ _. ap (λ v. v.failed) h.left.is ∙ h.left.fails; uncommitted = λ q. absurd (cc (h.committed)); failed = λ f. e }
-  refusal_of false (Read x t r) old new fault e s (inr h) = absurd h
-  refusal_of false (Missing cause) old new fault e s (inr h) = record { committed = λ q. absurd (cc (h.committed)); uncommitted = λ _. h.left; failed = λ f. absurd (s (sym h.because ∙ f)) }
-  refusal_of false (Bad cause upto) old new fault e s (inr h) = record { committed = λ _. ap (λ v. v.failed) h.left.is ∙ h.left.fails; uncommitted = λ q. absurd (cc (h.committed)); failed = λ f. absurd (s (sym h.because ∙ f)) }
+  refusal_of : {X : Type 0} (b : Bool) (o : Outcome X) (old new : StreamView) (fault : ParseFault A) → old.failed ≡ b → Spares NotFailed o → FirstMissing o → Starves itself replaced old fault new ⊎ Refuses itself replaced (unless_failed b o) old fault new → Refusal old fault new
+  refusal_of b o old new fault e s m (inl h) = record { committed = λ _. ap (λ v. v.failed) h.left.is ∙ h.left.fails; uncommitted = λ q. absurd (cc (h.committed)); first = λ q. absurd (cc (h.committed)); failed = λ f. absurd (cc (h.because)) }
+  refusal_of true o old new fault e s m (inr h) = record { committed = λ _. ap (λ v. v.failed) h.left.is ∙ h.left.fails; uncommitted = λ q. absurd (cc (h.committed)); first = λ q. absurd (cc (h.committed)); failed = λ f. e }
+  refusal_of false (Read x t r) old new fault e s m (inr h) = absurd h
+  refusal_of false (Missing cause) old new fault e s m (inr h) = record { committed = λ q. absurd (cc (h.committed)); uncommitted = λ _. h.left; first = λ _. ap is_first_fault h.because ∙ m.says; failed = λ f. absurd (s (sym h.because ∙ f)) }
+  refusal_of false (Bad cause upto) old new fault e s m (inr h) = record { committed = λ _. ap (λ v. v.failed) h.left.is ∙ h.left.fails; uncommitted = λ q. absurd (cc (h.committed)); first = λ q. absurd (cc (h.committed)); failed = λ f. absurd (s (sym h.because ∙ f)) }
 
   -- a refusal of what may be read
-  pub refusal : {X Y : Type 0} {see : Y → X} {f : Text → Outcome X} {old new : StreamView} {fault : ParseFault A} → ((text : Text) → Spares NotFailed (f text)) → MayRead {Y = Y} itself replaced see f old (Err fault) new → Refusal old fault new
-  refusal {f = f} {old = old} {new = new} {fault = fault} s h = refusal_of old.failed (f old.rest) old new fault refl (s old.rest) h.answers
+  pub refusal : {X Y : Type 0} {see : Y → X} {f : Text → Outcome X} {old new : StreamView} {fault : ParseFault A} → ((text : Text) → Spares NotFailed (f text)) → ((text : Text) → FirstMissing (f text)) → MayRead {Y = Y} itself replaced see f old (Err fault) new → Refusal old fault new
+  refusal {f = f} {old = old} {new = new} {fault = fault} s m h = refusal_of old.failed (f old.rest) old new fault refl (s old.rest) (m old.rest) h.answers
 
   -- a refusal of what must be read, behind what was read
   pub demanded_refusal : {old mid new : StreamView} {fault : ParseFault A} → (mid.failed ≡ true → old.failed ≡ true) → CommittedRefusal mid fault new → Refusal old fault new
-  demanded_refusal e h = record { committed = λ _. h.fails; uncommitted = λ q. absurd (cc (h.committed)); failed = λ f. e (h.failed f) }
+  demanded_refusal e h = record { committed = λ _. h.fails; uncommitted = λ q. absurd (cc (h.committed)); first = λ q. absurd (cc (h.committed)); failed = λ f. e (h.failed f) }
 
   -- the same refusal, reported at another place
   pub reported_refusal : {old new : StreamView} {first fault : ParseFault A} → fault.cause ≡ first.cause → fault.committed ≡ first.committed → Refusal old first new → Refusal old fault new
-  reported_refusal same kept h = record { committed = λ e. h.committed (sym kept ∙ e); uncommitted = λ e. h.uncommitted (sym kept ∙ e); failed = λ e. h.failed (sym (ap fault_of same) ∙ e) }
+  reported_refusal same kept h = record { committed = λ e. h.committed (sym kept ∙ e); uncommitted = λ e. h.uncommitted (sym kept ∙ e); first = λ e. ap (λ c. is_first_fault (fault_of c)) same ∙ h.first (sym kept ∙ e); failed = λ e. h.failed (sym (ap fault_of same) ∙ e) }
 
   -- memory is refused where something must be read
   pub demands_memory : {old new : StreamView} {fault : ParseFault A} → StarvesHere itself replaced old fault new → CommittedRefusal old fault new

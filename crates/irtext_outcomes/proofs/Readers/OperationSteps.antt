@@ -3,7 +3,7 @@ use Rattle.std.proofs.Common.{◌≡◌, ℕ, false, Ok, Err, List, sym, ◌∙�
 use Rattle.irtext_base.specs.Text.{Text}
 use Rattle.irtext_base.specs.Answers.{Outcome, Read, Missing, Bad, Starves, Refuses, unless_failed, followed, mapped}
 use Rattle.irtext_context.specs.Dialects.{Table}
-use Rattle.irtext_base.specs.Faults.{Memory, fault_of, id_of}
+use Rattle.irtext_base.specs.Faults.{id_of}
 use Rattle.irtext_base.specs.Format.{Id}
 use Rattle.irtext_base.specs.Locations.{AttrView}
 use Rattle.irtext_base.specs.Stream.{StreamView}
@@ -17,9 +17,9 @@ use Rattle.irtext_outcomes.specs.Readers.Operations.{ReadOp, operation_with, led
 use Rattle.irtext_outcomes.specs.Readers.Directives.{Pieces}
 use Rattle.irtext_outcomes.specs.Readers.Marks.{fresh_mark_at}
 use Rattle.irtext_outcomes.specs.Readers.Streams.{itself, replaced}
-use Rattle.irtext_outcomes.specs.Promises.Section.{Faults}
-use Rattle.irtext_outcomes.specs.Promises.Supported.{RefusedAs, OperationRefused}
-use Rattle.irtext_outcomes.proofs.Readers.Answered.{may_not_answered, may_answered, faults_as}
+use Rattle.irtext_outcomes.specs.Promises.Section.{IsStarved, Faults}
+use Rattle.irtext_outcomes.specs.Promises.Supported.{RefusedAs, is_committed, OperationRefused}
+use Rattle.irtext_outcomes.proofs.Readers.Answered.{may_not_answered, may_answered, faults_as, starved_fault}
 
 module _ {A X : Type 0} (dialects : List (Text × Table)) (attr : Text → Outcome (AttrView A)) (marks : List (ℕ × X)) where
   -- what stands behind the white space in front of a mark
@@ -40,18 +40,18 @@ module _ {A X : Type 0} (dialects : List (Text × Table)) (attr : Text → Outco
 
   -- an operation that is refused, where the format of its id is accepted
   pub operation_missed : {old new : StreamView} {fault : ParseFault A} → old.failed ≡ false → Accepts old.rest → MayRead {Y = ReadOp A} itself replaced (λ m. m) (operation_at dialects attr marks) old (Err fault) new
-      → Faults (OperationRefused dialects attr (fresh_mark_at marks) old.rest) old fault
+      → Faults (is_committed (operation_at dialects attr marks old.rest)) (OperationRefused dialects attr (fresh_mark_at marks) old.rest) old fault
   operation_missed {old = old} e a h = faults_as (RefusedAs (operation_at dialects attr marks old.rest)) (OperationRefused dialects attr (fresh_mark_at marks) old.rest) (λ cause upto r. record { refused = r; accepted = a }) (may_not_answered e h)
 
-  unread : (o : Outcome Id) (old new : StreamView) (fault : ParseFault A) → Starves itself replaced old fault new ⊎ Refuses itself replaced o old fault new → (fault_of fault.cause ≡ Memory) ⊎ ((id : Id) (taken rest : Text) → o ≡ Read id taken rest → ⊥)
-  unread o old new fault (inl h) = inl h.because
+  unread : (o : Outcome Id) (old new : StreamView) (fault : ParseFault A) → Starves itself replaced old fault new ⊎ Refuses itself replaced o old fault new → IsStarved fault ⊎ ((id : Id) (taken rest : Text) → o ≡ Read id taken rest → ⊥)
+  unread o old new fault (inl h) = inl (starved_fault h)
   unread (Read x taken rest) old new fault (inr h) = absurd h
   unread (Missing cause) old new fault (inr h) = inr (λ id taken rest e. absurd (cc e))
   unread (Bad cause upto) old new fault (inr h) = inr (λ id taken rest e. absurd (cc e))
 
   -- an operation whose id is refused
   pub id_missed : {old new : StreamView} {fault : ParseFault A} → old.failed ≡ false → MayRead {Y = OpId} itself replaced id_of (led_id_at dialects) old (Err fault) new → MayRead {Y = ReadOp A} itself replaced (λ m. m) (operation_at dialects attr marks) old (Err fault) new
-      → Faults (OperationRefused dialects attr (fresh_mark_at marks) old.rest) old fault
+      → Faults (is_committed (operation_at dialects attr marks old.rest)) (OperationRefused dialects attr (fresh_mark_at marks) old.rest) old fault
   id_missed {old = old} {new = new} {fault = fault} e h k =
       elim (unread (led_id_at dialects old.rest) old new fault (subst (λ b. Starves itself replaced old fault new ⊎ Refuses itself replaced (unless_failed b (led_id_at dialects old.rest)) old fault new) e h.answers)) [
         | inl m ↦ inl m

@@ -36,9 +36,9 @@ use Rattle.irtext_outcomes.specs.Readers.Streams.{made_view}
 use Rattle.irtext_outcomes.specs.Promises.Section.{indices_of, given_over, entry_over, entries_over, is_noted, Moves, Reports, Locates, Applies, AppliesAll, ReadsSection, ReadsWith, MissesWith, no_operation, no_section}
 use Rattle.irtext_outcomes.specs.Readers.Section.{may_have, Entries, AllEntries}
 use Rattle.irtext_outcomes.specs.Promises.Supported as so_far
-use Rattle.irtext_outcomes.specs.Promises.Supported.{OperationRefused, SectionRefused, RootRefused, SectionStands, location_given, bare_regions, operation_built}
+use Rattle.irtext_outcomes.specs.Promises.Supported.{is_committed, OperationRefused, SectionRefused, RootRefused, SectionStands, location_given, bare_regions, operation_built}
 use Rattle.irtext_grammar.specs.Contexts.Held.{entries_of, empty_regions, stood_operation, built_of, held_root, whole, location_over}
-use Rattle.irtext_outcomes.specs.Promises.Root.{position_behind, location_of, OnlyNew, IsFresh, ReadsRoot}
+use Rattle.irtext_outcomes.specs.Promises.Root.{position_behind, location_of, OnlyNew, IsFresh, ReadsRoot, ReadsTree}
 use Rattle.irtext_outcomes.proofs.Readers.Answered.{may_answered, moves_none, moves_more, moves_taken, reports_as, reports_behind}
 use Rattle.irtext_base.proofs.LocationViews.{seen-src_pos}
 use Rattle.irtext_outcomes.proofs.Readers.SectionSteps.{entry_known}
@@ -359,13 +359,31 @@ module _ {T A U : Type 0} (attr : Text → Outcome (AttrView A)) (op : Ptr Opera
       (q.heading, q.behind, q.head, subst (λ p. AllEntries attr (i ∷ []) (entries_over p q.entries) q.behind new.stream.rest) same all)) q.moves q.fresh
       (applied_stands attr i (view_at loc) q.middle.paths q.entries q.behind new.stream.rest all.0 (pathed_stands operation_stands.stood q.adds) applied)
 
+  -- the operation alone, where no section is looked for
+  tree_there : ReadsTree attr op old mid
+  tree_there =
+      let built = built_stands attr r.read.pieces.regions r.id r.attributes operation_stands.regions loc operation_stands.count operation_stands.stood in
+      let where_it_is = located_over mid.state.ctx.now.paths old.stream old.state.src r.loc r.located in
+      let id_is = r.id_is in
+      let attributes_are = r.attributes_are in
+      record {
+        m = r.read;
+        taken = taken;
+        reads = operation_is;
+        accepted = r.accepted;
+        moves = moves_taken taken mid.stream.rest (may_answered r.reads).takes;
+        builds = built ∙ (λ i. Some (operation_built (id_is i) (record { attributes = attributes_are i; regions = r.read.pieces.regions }) (where_it_is i)));
+        marks = marks_are;
+        only = stood_alone operation_stands.stood;
+      }
+
   -- a refusal of the section behind the operation refuses the root
-  refused_behind : {fault : ParseFault A} (k : Option ℕ) → r.read.mark ≡ k → is_noted (noted k op) ≡ true → marks_of mid.state ≡ noted k op → Reports (SectionRefused attr (indices_of (marks_of mid.state)) mid.stream.rest) mid.stream fault
-      → Reports (RootRefused old.state.ctx.now.dialects attr old.stream.rest) old.stream fault
+  refused_behind : {fault : ParseFault A} (k : Option ℕ) → r.read.mark ≡ k → is_noted (noted k op) ≡ true → marks_of mid.state ≡ noted k op → Reports true (SectionRefused attr (indices_of (marks_of mid.state)) mid.stream.rest) mid.stream fault
+      → Reports (is_committed (root_at old.state.ctx.now.dialects attr old.stream.rest)) (RootRefused old.state.ctx.now.dialects attr old.stream.rest) old.stream fault
   refused_behind None e h marks f = absurd (true≢false (sym h))
   refused_behind {fault = fault} (Some i) e h marks f =
-      reports_behind (SectionRefused attr (i ∷ []) mid.stream.rest) (RootRefused old.state.ctx.now.dialects attr old.stream.rest) taken mid.stream.rest (may_answered r.reads).takes
-      (λ cause upto q. so_far.no_section r.read taken mid.stream.rest i upto operation_is r.accepted e q refl) (subst (λ ms. Reports (SectionRefused attr (indices_of ms) mid.stream.rest) mid.stream fault) marks f)
+      subst (λ o. Reports (is_committed o) (RootRefused old.state.ctx.now.dialects attr old.stream.rest) old.stream fault) (sym operation_is) (reports_behind (SectionRefused attr (i ∷ []) mid.stream.rest) (RootRefused old.state.ctx.now.dialects attr old.stream.rest) taken mid.stream.rest (may_answered r.reads).takes
+      (λ cause upto q. so_far.no_section r.read taken mid.stream.rest i upto operation_is r.accepted e q refl) (subst (λ ms. Reports true (SectionRefused attr (indices_of ms) mid.stream.rest) mid.stream fault) marks f))
 
 module _ {T A U : Type 0} (attr : Text → Outcome (AttrView A)) {old : StateStream T A U} where
   -- what the readers found on a fresh state is a root
@@ -374,13 +392,25 @@ module _ {T A U : Type 0} (attr : Text → Outcome (AttrView A)) {old : StateStr
       let marks = marks_are attr op old w.mid new fresh w.operation in
       by_mark attr op old w.mid new fresh w.operation w.operation.read.mark refl (subst (λ ms. cond (is_noted ms) (ReadsSection attr w.mid new) (new ≡ w.mid)) marks w.section) marks
 
-  -- and where they found none, the root is refused
-  pub root_misses : {fault : ParseFault A} → IsFresh old → MissesWith attr true old fault → Reports (RootRefused old.state.ctx.now.dialects attr old.stream.rest) old.stream fault
-  root_misses fresh (no_operation f) =
+  -- what they found where no section is looked for is a tree
+  pub tree_reads : {op : Ptr Operation} {new : StateStream T A U} → IsFresh old → ReadsWith attr false op old new → ReadsTree attr op old new
+  tree_reads {op = op} {new = new} fresh w = subst (ReadsTree attr op old) (sym w.section) (tree_there attr op old w.mid w.mid fresh w.operation)
+
+  -- and where they found none, the operation is refused
+  pub tree_misses : {fault : ParseFault A} → IsFresh old → MissesWith attr false old fault
+      → Reports (is_committed (root_at old.state.ctx.now.dialects attr old.stream.rest)) (OperationRefused old.state.ctx.now.dialects attr mark_at old.stream.rest) old.stream fault
+  tree_misses {fault = fault} fresh (no_operation f) =
+      let same = ap (λ ms. fresh_mark_at ms) fresh.marks ∙ mark_alone (Ptr Operation) in
+      subst (λ mark. Reports (is_committed (operation_by old.state.ctx.now.dialects attr mark old.stream.rest)) (OperationRefused old.state.ctx.now.dialects attr mark old.stream.rest) old.stream fault) same f
+  tree_misses fresh (no_section op mid r h f) = absurd (true≢false (sym h))
+
+  -- and where they found no root, it is refused
+  pub root_misses : {fault : ParseFault A} → IsFresh old → MissesWith attr true old fault → Reports (is_committed (root_at old.state.ctx.now.dialects attr old.stream.rest)) (RootRefused old.state.ctx.now.dialects attr old.stream.rest) old.stream fault
+  root_misses {fault = fault} fresh (no_operation f) =
       let dialects = old.state.ctx.now.dialects in
       let same = ap (λ ms. fresh_mark_at ms) fresh.marks ∙ mark_alone (Ptr Operation) in
-      reports_as (OperationRefused dialects attr (fresh_mark_at (marks_of old.state)) old.stream.rest) (RootRefused dialects attr old.stream.rest)
-      (λ cause upto q. so_far.no_operation (subst (λ mark. OperationRefused dialects attr mark old.stream.rest cause upto) same q)) f
+      subst (λ mark. Reports (is_committed (operation_by dialects attr mark old.stream.rest)) (RootRefused dialects attr old.stream.rest) old.stream fault) same (reports_as (OperationRefused dialects attr (fresh_mark_at (marks_of old.state)) old.stream.rest) (RootRefused dialects attr old.stream.rest)
+      (λ cause upto q. so_far.no_operation (subst (λ mark. OperationRefused dialects attr mark old.stream.rest cause upto) same q)) f)
   root_misses fresh (no_section op mid r h f) =
       let marks = marks_are attr op old mid mid fresh r in
       refused_behind attr op old mid mid fresh r r.read.mark refl (ap is_noted (sym marks) ∙ h) marks f

@@ -173,7 +173,7 @@ module _ {A X : Type 0} (attr : Text → Outcome (AttrView A)) (marks : List (�
 
   -- the reader's refusal of one more entry refuses the entries
   pub entries_stop : {old mid : StreamView} {fault : ParseFault A} (paths : List (List ℕ)) (es : List (ℕ × Option (Location A))) (h : Moves old mid) → Entries attr (indices_of marks) [] (entries_over paths es) old.rest mid.rest → begins (the 33) mid.rest ≡ true
-      → Faults (RefusedAs (entry_at attr (may_follow marks es) mid.rest)) mid fault → Faults (EntriesRefused attr (indices_of marks) old.rest) old fault
+      → Faults true (RefusedAs (entry_at attr (may_follow marks es) mid.rest)) mid fault → Faults true (EntriesRefused attr (indices_of marks) old.rest) old fault
   entries_stop {old = old} {mid = mid} paths es h e b f =
       faults_behind (RefusedAs (entry_at attr (may_follow marks es) mid.rest)) (EntriesRefused attr (indices_of marks) old.rest) h.taken mid.rest h.takes
       (λ cause upto r. record { before = entries_over paths es; stop = mid.rest; stand = e; more = b; taken = h.taken; splits = h.takes.same; last = upto; refused = subst (λ o. RefusedAs o cause upto) (follow_over paths es mid.rest) r; whole = refl }) f

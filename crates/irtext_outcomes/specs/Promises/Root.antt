@@ -1,5 +1,5 @@
 -- For callers: what reading a root promises: a tree of the form that is read so far, which resolves, and what it builds; or else why not.
-use Rattle.std.specs.Prelude.{◌≡◌, ◌≢◌, ◌⊎◌, ℕ, ◌-◌, false, Option, Some, None, List, [], ◌∷◌, length, take}
+use Rattle.std.specs.Prelude.{◌≡◌, ◌≢◌, ◌⊎◌, ℕ, ◌-◌, Bool, false, cond, Option, Some, None, List, [], ◌∷◌, length, take}
 use Rattle.irtext_base.specs.Text.{Text, line_behind, column_behind}
 use Rattle.irtext_base.specs.Own.{Texts}
 use Rattle.irtext_base.specs.Stream.{StreamView, cut, IsAt}
@@ -21,14 +21,17 @@ use Rattle.irtext_read.specs.declared.parsable.state.StateStream.{StateStream}
 use Rattle.irtext_grammar.specs.Names.Acts.{failures_of}
 use Rattle.irtext_grammar.specs.Graphs.Build.{build}
 use Rattle.irtext_grammar.specs.Grammar.Marked.{reads_root}
+use Rattle.irtext_grammar.specs.Grammar.Reads as grammar
 use Rattle.irtext_grammar.specs.Contexts.Formats.{isolated, IsAccepted}
+use Rattle.irtext_outcomes.specs.Readers.Marks.{noted}
 use Rattle.irtext_outcomes.specs.Readers.Operations.{ReadOp, root_at}
+use Rattle.irtext_outcomes.specs.Readers.Parts.{mark_at}
 use Rattle.irtext_grammar.specs.Names.Placeholders.{In}
 use Rattle.irtext_grammar.specs.Grammar.Section.{Entry}
 use Rattle.irtext_grammar.specs.Names.Script.{Cause, Failure}
 use Rattle.irtext_grammar.specs.Names.Script as script
-use Rattle.irtext_outcomes.specs.Promises.Section.{Moves, ReportedAt}
-use Rattle.irtext_outcomes.specs.Promises.Supported.{supported, location_standing, IsSupported, AllSupported, SectionStands, RootRefused, location_given, operation_built}
+use Rattle.irtext_outcomes.specs.Promises.Section.{Moves, IsStarved, ReportedAt}
+use Rattle.irtext_outcomes.specs.Promises.Supported.{supported, location_standing, IsSupported, AllSupported, SectionStands, is_committed, OperationRefused, RootRefused, index_of, location_given, operation_built}
 use Rattle.irtext_grammar.specs.Contexts.Held.{held_root, whole, StandsAt}
 use Rattle.irtext_grammar.specs.Grammar.Tree.{Tree}
 
@@ -69,6 +72,18 @@ module _ {T A U : Type 0} where
     pub fresh : marks_of new.state ≡ []
     pub only : OnlyNew op old.state.ctx.now new.state.ctx.now
 
+  -- the readers found an operation where the stream stood, and looked for no section; it stands under the answer, only it is new, and
+  -- its mark stays noted
+  pub record ReadsTree (attr : Text → Outcome (AttrView A)) (op : Ptr Operation) (old new : StateStream T A U) : Type 0 where
+    pub m : ReadOp A
+    pub taken : Text
+    pub reads : root_at old.state.ctx.now.dialects attr old.stream.rest ≡ Read m taken new.stream.rest
+    pub accepted : IsAccepted old.state.ctx.now.dialects m.id
+    pub moves : Moves old.stream new.stream
+    pub builds : held_root new.state.ctx.now op ≡ Some (operation_built m.id m.pieces (location_of new.state.ctx.now.paths old.state.src (whole old.stream) (length old.stream.rest)))
+    pub marks : marks_of new.state ≡ noted m.mark op
+    pub only : OnlyNew op old.state.ctx.now new.state.ctx.now
+
 -- the cause that the readers answer for this failure; the others are not met so far
 abbrev pub IsCause : Cause Text → Fault → Type 0
 IsCause (script.DuplicateIndex i) cause = cause ≡ fault.DuplicateIndex i
@@ -89,7 +104,8 @@ IsFirst text (f ∷ fs) fault = IsCause f.cause (fault_of fault.cause) × IsPlac
 
 module _ {T A : Type 0} (types : Texts T) (owns : Texts A) (attr : Text → Outcome (AttrView A)) (dialects : List (Text × Table)) where
   -- Whatever the text reads as by these dialects, in that form, does not resolve, and the fault is its first failure; and it is the
-  -- fault of the readers of the operation and its section, where nothing reads too.
+  -- fault of the readers of the operation and its section, where nothing reads too: uncommitted where no operation begins there, and
+  -- else committed.
   pub record RefusesRoot (old : StreamView) (fault : ParseFault A) : Type 0 where
     pub first : (tree : Tree ℕ T A) (entries : List (Entry ℕ A (Written A))) (rest : Text)
         → reads_root (supported dialects types owns) (location_standing attr) tree entries old.rest rest → IsSupported tree → AllSupported entries
@@ -97,11 +113,26 @@ module _ {T A : Type 0} (types : Texts T) (owns : Texts A) (attr : Text → Outc
     pub cause : Fault
     pub upto : Text
     pub refused : RootRefused dialects attr old.rest cause upto
-    pub at : ReportedAt cause upto old fault
+    pub at : ReportedAt (is_committed (root_at dialects attr old.rest)) cause upto old fault
 
--- memory was refused, or this is said of the fault
+  -- Whatever the text reads as by these dialects, in that form and with no section behind it, does not resolve, and the fault is its
+  -- first failure; and it is the fault of the operation's readers, where nothing reads: uncommitted where no operation begins there,
+  -- and else committed.
+  pub record RefusesTree (old : StreamView) (fault : ParseFault A) : Type 0 where
+    pub first : (tree : Tree ℕ T A) (rest : Text) → grammar.reads (supported dialects types owns) tree old.rest rest → IsSupported tree
+        → IsFirst (whole old) (failures_of {X = Written A} (isolated dialects) tree []) fault
+    pub cause : Fault
+    pub upto : Text
+    pub refused : OperationRefused dialects attr mark_at old.rest cause upto
+    pub at : ReportedAt (is_committed (root_at dialects attr old.rest)) cause upto old fault
+
+  -- the one with its section, where that is looked for, or the other without it
+  abbrev pub RefusesWith : Bool → StreamView → ParseFault A → Type 0
+  RefusesWith look old fault = cond look (RefusesRoot old fault) (RefusesTree old fault)
+
+-- memory was refused, and the fault is committed, or this is said of it
 abbrev pub UnlessMemory : {A : Type 0} → (ParseFault A → Type 0) → ParseFault A → Type 0
-UnlessMemory says f = (fault_of f.cause ≡ fault.Memory) ⊎ says f
+UnlessMemory says f = IsStarved f ⊎ says f
 
 module _ {T A U : Type 0} (types : Texts T) (owns : Texts A) (attr : Text → Outcome (AttrView A)) where
   -- A root stood where the stream stood: the text reads by the context's dialects, with its section, as a tree of the form that is
@@ -118,3 +149,20 @@ module _ {T A U : Type 0} (types : Texts T) (owns : Texts A) (attr : Text → Ou
     pub builds : held_root new.state.ctx.now op ≡ Some (build (isolated old.state.ctx.now.dialects) (location_of new.state.ctx.now.paths old.state.src (whole old.stream)) entries tree)
     pub fresh : marks_of new.state ≡ []
     pub only : OnlyNew op old.state.ctx.now new.state.ctx.now
+
+  -- An operation stood where the stream stood: the text reads by the context's dialects as a tree of the form that is read so far, up
+  -- to where the stream stands now, and the tree alone resolves. What it alone builds stands under the answer, only that is new, and
+  -- its mark is noted where it has one.
+  pub record BuildsTree (op : Ptr Operation) (old new : StateStream T A U) : Type 0 where
+    pub tree : Tree ℕ T A
+    pub reads : grammar.reads (supported old.state.ctx.now.dialects types owns) tree old.stream.rest new.stream.rest
+    pub tree_form : IsSupported tree
+    pub resolves : failures_of {X = Written A} (isolated old.state.ctx.now.dialects) tree [] ≡ []
+    pub moves : Moves old.stream new.stream
+    pub builds : held_root new.state.ctx.now op ≡ Some (build (isolated old.state.ctx.now.dialects) (location_of new.state.ctx.now.paths old.state.src (whole old.stream)) [] tree)
+    pub marks : marks_of new.state ≡ noted (index_of tree.own.mark) op
+    pub only : OnlyNew op old.state.ctx.now new.state.ctx.now
+
+  -- the one with its section, where that is looked for, or the other without it
+  abbrev pub BuildsWith : Bool → Ptr Operation → StateStream T A U → StateStream T A U → Type 0
+  BuildsWith look op old new = cond look (BuildsRoot op old new) (BuildsTree op old new)

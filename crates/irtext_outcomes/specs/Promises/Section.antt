@@ -19,11 +19,11 @@ use Rattle.irtext_read.specs.States.{marks_of, same_index}
 use Rattle.irtext_read.specs.declared.parsable.state.StateStream.{StateStream}
 use Rattle.irtext_grammar.specs.Contexts.Held.{location_over}
 use Rattle.irtext_outcomes.specs.Readers.NewPaths.{AddsPaths, known_location}
-use Rattle.irtext_outcomes.specs.Promises.Operation.{ReadsOperation}
+use Rattle.irtext_outcomes.specs.Promises.Operation.{operation_at, ReadsOperation}
 use Rattle.irtext_outcomes.specs.Readers.Marks.{may_follow, fresh_mark_at}
 use Rattle.irtext_outcomes.specs.Readers.Streams.{itself, replaced}
 use Rattle.irtext_outcomes.specs.Readers.Section.{entry_at, AllEntries, heading_at}
-use Rattle.irtext_outcomes.specs.Promises.Supported.{OperationRefused, SectionRefused}
+use Rattle.irtext_outcomes.specs.Promises.Supported.{is_committed, OperationRefused, SectionRefused}
 
 -- the indices of marks
 abbrev pub indices_of : {X : Type 0} → List (ℕ × X) → List ℕ
@@ -34,9 +34,10 @@ pub record Moves (old new : StreamView) : Type 0 where
   pub taken : Text
   pub takes : Takes itself replaced taken new.rest old new
 
--- the fault has this cause, and stands behind these characters
-pub record FaultAt {A : Type 0} (cause : Fault) (upto : Text) (old : StreamView) (fault : ParseFault A) : Type 0 where
+-- the fault has this cause, is committed or not, and stands behind these characters
+pub record FaultAt {A : Type 0} (committed : Bool) (cause : Fault) (upto : Text) (old : StreamView) (fault : ParseFault A) : Type 0 where
   pub because : fault_of fault.cause ≡ cause
+  pub flag : fault.committed ≡ committed
   pub place : IsAt fault.pos.line fault.pos.column (old.passed ++ upto)
 
 -- a fault whose place is that of what stands round it: a region that isn't isolated
@@ -47,18 +48,24 @@ is_unplaced cause = elim cause [ NotIsolated ↦ true | _ ↦ false ]
 abbrev pub IsReported : Fault → Text → SourcePosition → Type 0
 IsReported cause passed at = cond (is_unplaced cause) (IsAt at.line at.column []) (IsAt at.line at.column passed)
 
--- the fault has this cause, and is reported where it stands behind these characters
-pub record ReportedAt {A : Type 0} (cause : Fault) (upto : Text) (old : StreamView) (fault : ParseFault A) : Type 0 where
+-- the fault has this cause, is committed or not, and is reported where it stands behind these characters
+pub record ReportedAt {A : Type 0} (committed : Bool) (cause : Fault) (upto : Text) (old : StreamView) (fault : ParseFault A) : Type 0 where
   pub because : fault_of fault.cause ≡ cause
+  pub flag : fault.committed ≡ committed
   pub place : IsReported cause (old.passed ++ upto) fault.pos
 
--- memory was refused, or else the root's fault is one that is allowed there
-abbrev pub Reports : {A : Type 0} → (Fault → Text → Type 0) → StreamView → ParseFault A → Type 0
-Reports Allowed old fault = (fault_of fault.cause ≡ Memory) ⊎ ((cause : Fault) × (upto : Text) × Allowed cause upto × ReportedAt cause upto old fault)
+-- memory was refused, for which a fault is always committed
+pub record IsStarved {A : Type 0} (fault : ParseFault A) : Type 0 where
+  pub because : fault_of fault.cause ≡ Memory
+  pub flag : fault.committed ≡ true
 
--- memory was refused, or else the fault is one that is allowed there
-abbrev pub Faults : {A : Type 0} → (Fault → Text → Type 0) → StreamView → ParseFault A → Type 0
-Faults Allowed old fault = (fault_of fault.cause ≡ Memory) ⊎ ((cause : Fault) × (upto : Text) × Allowed cause upto × FaultAt cause upto old fault)
+-- memory was refused, or else the root's fault is one that is allowed there, committed or not
+abbrev pub Reports : {A : Type 0} → Bool → (Fault → Text → Type 0) → StreamView → ParseFault A → Type 0
+Reports committed Allowed old fault = IsStarved fault ⊎ ((cause : Fault) × (upto : Text) × Allowed cause upto × ReportedAt committed cause upto old fault)
+
+-- memory was refused, or else the fault is one that is allowed there, committed or not
+abbrev pub Faults : {A : Type 0} → Bool → (Fault → Text → Type 0) → StreamView → ParseFault A → Type 0
+Faults committed Allowed old fault = IsStarved fault ⊎ ((cause : Fault) × (upto : Text) × Allowed cause upto × FaultAt committed cause upto old fault)
 
 module _ {A : Type 0} where
   -- whether the paths of the files of what an entry gives are among so many
@@ -151,8 +158,9 @@ module _ {T A U : Type 0} (attr : Text → Outcome (AttrView A)) where
     pub operation : ReadsOperation attr op old mid
     pub section : cond (look && is_noted (marks_of mid.state)) (ReadsSection attr mid new) (new ≡ mid)
 
-  -- on a stream that has not failed no operation was read where it stood, or no section behind the operation
+  -- on a stream that has not failed no operation was read where it stood, and the fault is committed unless nothing of its kind stands
+  -- there; or no section behind the operation, and the fault is committed
   pub data MissesWith (look : Bool) (old : StateStream T A U) (fault : ParseFault A) : Type 0 where
-    no_operation : Reports (OperationRefused old.state.ctx.now.dialects attr (fresh_mark_at (marks_of old.state)) old.stream.rest) old.stream fault → MissesWith look old fault
+    no_operation : Reports (is_committed (operation_at old.state.ctx.now.dialects attr (marks_of old.state) old.stream.rest)) (OperationRefused old.state.ctx.now.dialects attr (fresh_mark_at (marks_of old.state)) old.stream.rest) old.stream fault → MissesWith look old fault
     no_section : (op : Ptr Operation) (mid : StateStream T A U) → ReadsOperation attr op old mid → (look && is_noted (marks_of mid.state)) ≡ true
-        → Reports (SectionRefused attr (indices_of (marks_of mid.state)) mid.stream.rest) mid.stream fault → MissesWith look old fault
+        → Reports true (SectionRefused attr (indices_of (marks_of mid.state)) mid.stream.rest) mid.stream fault → MissesWith look old fault

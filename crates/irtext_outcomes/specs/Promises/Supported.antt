@@ -1,5 +1,5 @@
 -- For callers: the form of text that is read so far: which trees and entries have it, and what a reader's answer says of them.
-use Rattle.std.specs.Prelude.{◌≡◌, ℕ, zero, suc, true, Option, Some, None, List, [], ◌∷◌, ◌++◌, ⊤}
+use Rattle.std.specs.Prelude.{◌≡◌, ℕ, zero, suc, Bool, true, false, Option, Some, None, List, [], ◌∷◌, ◌++◌, ⊤}
 use Rattle.std.specs.Option.{option_map}
 use Rattle.irtext_base.specs.Text.{Text, begins}
 use Rattle.irtext_base.specs.Own.{Standing, standing, Texts, Language, language}
@@ -94,6 +94,12 @@ abbrev pub RefusedAs : {X : Type 0} → Outcome X → Fault → Text → Type 0
 RefusedAs (Read x taken rest) cause upto = ⊥
 RefusedAs (Missing c) cause upto = (c ≡ cause) × (upto ≡ [])
 RefusedAs (Bad c u) cause upto = (c ≡ cause) × (u ≡ upto)
+
+-- whether a fault that this outcome gives is committed: each is, but where nothing of its kind stands there
+abbrev pub is_committed : {X : Type 0} → Outcome X → Bool
+is_committed (Read x taken rest) = true
+is_committed (Missing cause) = false
+is_committed (Bad cause upto) = true
 
 -- the readers refuse the text where entries must stand: one more begins, and none that may stand there
 pub record EntriesRefused {A : Type 0} (attr : Text → Outcome (AttrView A)) (marks : List ℕ) (text : Text) (cause : Fault) (upto : Text) : Type 0 where

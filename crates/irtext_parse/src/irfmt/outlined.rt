@@ -1,5 +1,5 @@
 //! The section behind a root: what is said of the items that carry a mark.
-ghost use Rattle.std.specs.Prelude.{◌≡◌, ◌<◌, false, length, OnOk, OnErr, IfOk, IfErr};
+ghost use Rattle.std.specs.Prelude.{◌≡◌, ◌<◌, true, false, length, OnOk, OnErr, IfOk, IfErr};
 ghost use Rattle.std.specs.Map.{lookup};
 ghost use Rattle.irtext_read.specs.AttrTexts.{attr_at};
 ghost use Rattle.irtext_read.specs.States.{marks_of, same_index};
@@ -129,7 +129,7 @@ fn entry_parse<T: IrText<A>, A: AttrText, U>(
     ensures shorter { OnOk result (length s.new.stream.rest < length s.old.stream.rest) }
     ensures fine { OnOk result (s.new.stream.failed ≡ s.old.stream.failed) }
     ensures read { OnOk result (ReadsEntry (attr_at A.IrText.reading) (marks_of s.old.state) s.old.state.ctx.now.paths s.new.state.ctx.now.paths entries.old.entries s.old.stream entries.new.entries s.new.stream) }
-    ensures missed { s.old.stream.failed ≡ false → IfErr result (λ fault. Faults (RefusedAs (entry_at (attr_at A.IrText.reading) (may_follow (marks_of s.old.state) entries.old.entries) s.old.stream.rest)) s.old.stream fault) }
+    ensures missed { s.old.stream.failed ≡ false → IfErr result (λ fault. Faults true (RefusedAs (entry_at (attr_at A.IrText.reading) (may_follow (marks_of s.old.state) entries.old.entries) s.old.stream.rest)) s.old.stream fault) }
     ensures refused { IfErr result (λ fault. CommittedRefusal s.old.stream fault s.new.stream) }
 {
     let entry = entry_read(s, entries)?;
@@ -150,7 +150,7 @@ fn entries_parse<T: IrText<A>, A: AttrText, U>(
     ensures adds { AddsPaths s.old.state.ctx.now s.new.state.ctx.now }
     ensures fine { OnOk result (s.new.stream.failed ≡ s.old.stream.failed) }
     ensures read { IfOk result (λ entries. ReadsEntries (attr_at A.IrText.reading) (indices_of (marks_of s.old.state)) s.new.state.ctx.now.paths entries.entries s.old.stream s.new.stream) }
-    ensures missed { s.old.stream.failed ≡ false → IfErr result (λ fault. Faults (EntriesRefused (attr_at A.IrText.reading) (indices_of (marks_of s.old.state)) s.old.stream.rest) s.old.stream fault) }
+    ensures missed { s.old.stream.failed ≡ false → IfErr result (λ fault. Faults true (EntriesRefused (attr_at A.IrText.reading) (indices_of (marks_of s.old.state)) s.old.stream.rest) s.old.stream fault) }
     ensures refused { IfErr result (λ fault. CommittedRefusal s.old.stream fault s.new.stream) }
     ensures paths { IfOk result (λ entries. s.new.state.ctx.now.paths ≡ entries_kept s.old.state.ctx.now.paths (entries_over s.new.state.ctx.now.paths entries.entries)) }
 {
@@ -221,7 +221,7 @@ pub(crate) fn section_parse<T: IrText<A>, A: AttrText, U>(
     ensures lent { s.new.state.ctx.ghost_name ≡ s.old.state.ctx.ghost_name }
     ensures rest { KeepsRest s.old.state s.new.state }
     ensures read { OnOk result (ReadsSection (attr_at A.IrText.reading) s.old s.new) }
-    ensures missed { s.old.stream.failed ≡ false → IfErr result (λ fault. Faults (SectionRefused (attr_at A.IrText.reading) (indices_of (marks_of s.old.state)) s.old.stream.rest) s.old.stream fault) }
+    ensures missed { s.old.stream.failed ≡ false → IfErr result (λ fault. Faults true (SectionRefused (attr_at A.IrText.reading) (indices_of (marks_of s.old.state)) s.old.stream.rest) s.old.stream fault) }
     ensures refused { IfErr result (λ fault. CommittedRefusal s.old.stream fault s.new.stream) }
     ensures marks { OnErr result (marks_of s.new.state ≡ marks_of s.old.state) }
     ensures adds { OnErr result (AddsPaths s.old.state.ctx.now s.new.state.ctx.now) }

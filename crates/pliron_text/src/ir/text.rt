@@ -4,7 +4,7 @@ ghost use Rattle.irtext_context.specs.Made.{SameObjects};
 ghost use Rattle.irtext_base.specs.Own.{texts_of};
 ghost use Rattle.irtext_read.specs.AttrTexts.{attr_at};
 ghost use Rattle.irtext_read.specs.States.{marks_of};
-ghost use Rattle.irtext_outcomes.specs.Readers.Refusals.{Refusal};
+ghost use Rattle.irtext_outcomes.specs.Readers.Refusals.{Refusal, RefusesFailed};
 ghost use Rattle.irtext_outcomes.specs.Readers.Streams.{KeepsRest};
 ghost use Rattle.irtext_outcomes.specs.Promises.Root.{IsFresh, BuildsRoot, RefusesRoot, UnlessMemory};
 
@@ -30,6 +30,7 @@ pub trait OperationText {
         ensures lent { stream.new.state.ctx.ghost_name ≡ stream.old.state.ctx.ghost_name }
         ensures rest { KeepsRest stream.old.state stream.new.state }
         ensures refused { IfErr result (λ fault. Refusal stream.old.stream fault stream.new.stream) }
+        ensures failed { RefusesFailed stream.old.stream result stream.new.stream }
         ensures builds { IsFresh stream.old → IfOk result (λ op. BuildsRoot (texts_of T.reading T.written) (texts_of A.reading A.written) (attr_at A.reading) op stream.old stream.new) }
         ensures unresolved { IsFresh stream.old → IfErr result (UnlessMemory (RefusesRoot (texts_of T.reading T.written) (texts_of A.reading A.written) (attr_at A.reading) stream.old.state.ctx.now.dialects stream.old.stream)) }
         ensures objects { OnErr result (SameObjects stream.old.state.ctx.now stream.new.state.ctx.now) }

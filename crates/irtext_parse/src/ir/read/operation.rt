@@ -3,11 +3,11 @@ ghost use Rattle.std.specs.Prelude.{◌≡◌, ◌≤◌, ℕ, false, IfOk, IfEr
 ghost use Rattle.irtext_context.specs.Context.{KeepsOlder};
 ghost use Rattle.irtext_read.specs.AttrTexts.{attr_at};
 ghost use Rattle.irtext_read.specs.States.{marks_of};
-ghost use Rattle.irtext_outcomes.specs.Promises.Operation.{ReadsOperation, MissesOperation};
+ghost use Rattle.irtext_outcomes.specs.Promises.Operation.{operation_at, ReadsOperation, MissesOperation};
 ghost use Rattle.irtext_outcomes.specs.Readers.Marks.{fresh_mark_at};
 ghost use Rattle.irtext_outcomes.specs.Readers.Streams.{KeepsRest};
 ghost use Rattle.irtext_outcomes.specs.Promises.Section.{Faults};
-ghost use Rattle.irtext_outcomes.specs.Promises.Supported.{OperationRefused};
+ghost use Rattle.irtext_outcomes.specs.Promises.Supported.{is_committed, OperationRefused};
 
 use crate::ir::read::body::{known_body_parse, make_read};
 use crate::ir::read::head::led_id_parse;
@@ -26,7 +26,7 @@ pub(crate) fn operation_parse<T: IrText<A>, A: AttrText, U>(
     ensures rest { KeepsRest s.old.state s.new.state }
     ensures read { IfOk result (λ op. ReadsOperation (attr_at A.IrText.reading) op s.old s.new) }
     ensures refused { IfErr result (λ fault. MissesOperation (attr_at A.IrText.reading) s.old fault s.new) }
-    ensures missed { s.old.stream.failed ≡ false → IfErr result (λ fault. Faults (OperationRefused s.old.state.ctx.now.dialects (attr_at A.IrText.reading) (fresh_mark_at (marks_of s.old.state)) s.old.stream.rest) s.old.stream fault) }
+    ensures missed { s.old.stream.failed ≡ false → IfErr result (λ fault. Faults (is_committed (operation_at s.old.state.ctx.now.dialects (attr_at A.IrText.reading) (marks_of s.old.state) s.old.stream.rest)) (OperationRefused s.old.state.ctx.now.dialects (attr_at A.IrText.reading) (fresh_mark_at (marks_of s.old.state)) s.old.stream.rest) s.old.stream fault) }
     ensures unmarked { OnErr result (marks_of s.new.state ≡ marks_of s.old.state) }
     ensures kept { (mark : ℕ) → mark ≤ s.old.state.ctx.now.made → KeepsOlder mark s.old.state.ctx.now s.new.state.ctx.now }
 {

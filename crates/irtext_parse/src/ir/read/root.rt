@@ -1,19 +1,21 @@
 //! A root: an operation with its section, reported as one that nothing stands round, and given back where it is refused.
-ghost use Rattle.std.specs.Prelude.{◌≡◌, ◌≤◌, ℕ, false, List, ◌++◌, IfOk, IfErr, OnErr};
+ghost use Rattle.std.specs.Prelude.{◌≡◌, ◌≤◌, ℕ, true, false, List, ◌++◌, IfOk, IfErr, OnErr};
 ghost use Rattle.irtext_context.specs.Context.{KeepsOlder};
 ghost use Rattle.irtext_base.specs.Faults.{fault_of};
 ghost use Rattle.irtext_context.specs.Made.{SameObjects};
 ghost use Rattle.irtext_base.specs.Stream.{IsAt};
 ghost use Rattle.irtext_read.specs.AttrTexts.{attr_at};
 ghost use Rattle.irtext_read.specs.States.{marks_of};
-ghost use Rattle.irtext_outcomes.specs.Readers.Refusals.{Refusal};
+ghost use Rattle.irtext_outcomes.specs.Readers.Refusals.{Refusal, FailedRefusal, RefusesFailed};
 ghost use Rattle.irtext_outcomes.specs.Readers.Streams.{KeepsRest};
 ghost use Rattle.irtext_outcomes.specs.Promises.Section.{ReadsWith, MissesWith, is_unplaced, IsReported};
 
 use crate::ir::read::OperationParserConfig;
 use crate::ir::read::operation::operation_parse;
 use crate::irfmt::outlined::section_parse;
-use irtext_base::parsable::{ParseFault, ParseResult, ParserNameTrackerError, SourcePosition};
+use irtext_base::parsable::{
+    CharStream, ParseFault, ParseResult, ParserNameTrackerError, SourcePosition,
+};
 use irtext_base::result::Cause;
 use irtext_base::text::{AttrText, IrText};
 use irtext_context::base::context::making::Making;
@@ -77,6 +79,17 @@ fn root_parse<T: IrText<A>, A: AttrText, U>(
     }
 }
 
+/// The fault of a stream that has failed, where it stands.
+fn failed_fault<S: CharStream, A>(stream: &S) -> ParseFault<A>
+    ensures { FailedRefusal (S.view stream.now) result (S.view stream.now) }
+{
+    ParseFault {
+        pos: stream.position().position(),
+        cause: Cause::StreamFailed,
+        committed: true,
+    }
+}
+
 /// The outermost reading: it gives back what it made where it is refused.
 pub fn outermost_parse<T: IrText<A>, A: AttrText, U>(
     s: &mut StateStream<'_, T, A, U>,
@@ -85,11 +98,15 @@ pub fn outermost_parse<T: IrText<A>, A: AttrText, U>(
     ensures lent { s.new.state.ctx.ghost_name ≡ s.old.state.ctx.ghost_name }
     ensures rest { KeepsRest s.old.state s.new.state }
     ensures refused { IfErr result (λ fault. Refusal s.old.stream fault s.new.stream) }
+    ensures failed { RefusesFailed s.old.stream result s.new.stream }
     ensures read { IfOk result (λ op. ReadsWith (attr_at A.IrText.reading) config.look_for_outlined_attrs op s.old s.new) }
     ensures missed { s.old.stream.failed ≡ false → IfErr result (λ fault. MissesWith (attr_at A.IrText.reading) config.look_for_outlined_attrs s.old fault) }
     ensures objects { OnErr result (SameObjects s.old.state.ctx.now s.new.state.ctx.now) }
     ensures marks { OnErr result (marks_of s.new.state ≡ marks_of s.old.state) }
 {
+    if s.stream.has_failed() {
+        return Err(failed_fault(&s.stream));
+    }
     let ctx = &mut *s.state.ctx;
     let made = ctx.made();
     let marks = s.state.num_marks();

@@ -10,18 +10,19 @@ use Rattle.irtext_outcomes.proofs.Readers.SectionSteps.{noted_there, both_hold, 
 use Rattle.irtext_outcomes.proofs.Readers.NewPaths.{adds_kept}
 use Rattle.irtext_outcomes.proofs.Readers.EntryIndices.{refusal, demanded_refusal, reported_refusal, read_fine}
 use Rattle.irtext_outcomes.proofs.Readers.OperationNeverFailed.{operation_spares}
+use Rattle.irtext_outcomes.proofs.Readers.FirstMissing.{operation_missing}
 use Rattle.irtext_parse.proofs.ir.read.root.root_parse.Goals as goal
 use Rattle.irtext_parse.proofs.ir.read.root.root_parse.Goals.{then-not-config-via-then-not-config, then-not-config-via-else-not-config+then-not-has_marks}
 
 pub returns-in-Err-clause-refused : goal.returns-in-Err-clause-refused
 returns-in-Err-clause-refused g c =
     let s = c.args.s.now in
-    reported_refusal c.reported.ensures.cause c.reported.ensures.committed (refusal (operation_spares g.A.IrText.reading g.met.A.IrText.sincere s.state.ctx.now.dialects (marks_of s.state)) c.in-Err.ensures.refused)
+    reported_refusal c.reported.ensures.cause c.reported.ensures.committed (refusal (operation_spares g.A.IrText.reading g.met.A.IrText.sincere s.state.ctx.now.dialects (marks_of s.state)) (operation_missing s.state.ctx.now.dialects (attr_at g.A.IrText.reading) (marks_of s.state)) c.in-Err.ensures.refused)
 
 pub returns-in-Err-clause-missed : goal.returns-in-Err-clause-missed
 returns-in-Err-clause-missed g c = λ e.
     let s = c.args.s.now in
-    no_operation (reports (OperationRefused s.state.ctx.now.dialects (attr_at g.A.IrText.reading) (fresh_mark_at (marks_of s.state)) s.stream.rest) (record { cause = c.reported.ensures.cause; at = c.reported.ensures.at }) (c.in-Err.ensures.missed e))
+    no_operation (reports (OperationRefused s.state.ctx.now.dialects (attr_at g.A.IrText.reading) (fresh_mark_at (marks_of s.state)) s.stream.rest) (record { cause = c.reported.ensures.cause; committed = c.reported.ensures.committed; at = c.reported.ensures.at }) (c.in-Err.ensures.missed e))
 
 pub returns-in-Err-section_parse-clause-refused : goal.returns-in-Err-section_parse-clause-refused
 returns-in-Err-section_parse-clause-refused g c =
@@ -35,7 +36,7 @@ returns-in-Err-section_parse-clause-missed g c = λ e.
     let mid = c.operation_parse.new.s in
     let noted = noted_there (marks_of mid.state) c.has_marks.result c.has_marks.ensures c.if-not-has_marks.false in
     no_section c.in-Ok.op mid r (both_hold c.args.config.look_for_outlined_attrs _ c.if-not-config.false noted)
-    (reports (SectionRefused (attr_at g.A.IrText.reading) (indices_of (marks_of mid.state)) mid.stream.rest) (record { cause = k.cause; at = k.at }) (c.in-Err-section_parse.ensures.missed (read_fine r.reads ∙ e)))
+    (reports (SectionRefused (attr_at g.A.IrText.reading) (indices_of (marks_of mid.state)) mid.stream.rest) (record { cause = k.cause; committed = k.committed; at = k.at }) (c.in-Err-section_parse.ensures.missed (read_fine r.reads ∙ e)))
 
 pub returns-in-Err-section_parse-clause-kept : goal.returns-in-Err-section_parse-clause-kept
 returns-in-Err-section_parse-clause-kept g c = λ mark h. kept_trans (c.in-Ok.ensures.kept mark h) (adds_kept mark c.in-Err-section_parse.ensures.adds)
