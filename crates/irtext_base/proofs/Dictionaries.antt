@@ -9,7 +9,7 @@ use Rattle.irtext_base.specs.Dictionary.{spliced, closed_up, IsAbsent, IsFirstAt
 use Rattle.std.specs.Str.{bytes_eq}
 use Rattle.irtext_base.specs.Text.{Text}
 use Rattle.irtext_base.specs.Format.{given_names_key}
-use Rattle.irtext_base.specs.Dictionary.{whole, IsSound, placed, moved_up}
+use Rattle.irtext_base.specs.Dictionary.{whole, IsSound, placed, moved_up, are_given_names}
 use Rattle.irtext_base.proofs.Spliced
 use Rattle.irtext_base.specs.declared.base.attributes.AttrObj.{AttrObj}
 use Rattle.irtext_base.specs.declared.base.attributes.Given.{Given}
@@ -56,9 +56,9 @@ module _ {A : Type 0} where
       (ap (bytes_eq k) (s.0 ∙ key_is k h) ∙ nat_list_eq_equiv.refl k)
       (subst (λ x. IsAbsent (bytes_eq x) es) (key_is k h) s.2)
 
-  pub put-sound : (k : Text) (a : AttrObj A) (g : Option (Given A)) (es : List (Text × AttrObj A)) → IsSound g es → bytes_eq given_names_key k ≡ true → IsSound (Some (placed g (length es) k a)) es
-  put-sound k a None es s h = (sym (key_is k h), omega arith, s)
-  put-sound k a (Some g) es s h = s
+  pub put-sound : (k : Text) (a : AttrObj A) (g : Option (Given A)) (es : List (Text × AttrObj A)) → IsSound g es → bytes_eq given_names_key k ≡ true → are_given_names a ≡ true → IsSound (Some (placed g (length es) k a)) es
+  put-sound k a None es s h n = (sym (key_is k h), omega arith, s, n)
+  put-sound k a (Some g) es s h n = (s.0, s.1, s.2, n)
 
   pub insert-miss : (k : Text) (a : AttrObj A) (g : Option (Given A)) (es : List (Text × AttrObj A)) → IsSound g es → bytes_eq given_names_key k ≡ false → whole g (insert_entry bytes_eq es k a) ≡ insert_entry bytes_eq (whole g es) k a
   insert-miss k a None es s h = refl
@@ -66,7 +66,7 @@ module _ {A : Type 0} where
 
   pub insert-sound : (k : Text) (a : AttrObj A) (g : Option (Given A)) (es : List (Text × AttrObj A)) → IsSound g es → bytes_eq given_names_key k ≡ false → IsSound g (insert_entry bytes_eq es k a)
   insert-sound k a None es s h = Spliced.absent-inserted bytes_eq (bytes_eq given_names_key) k a es h s
-  insert-sound k a (Some g) es s h = (s.0, Spliced.insert-longer bytes_eq k a g.at es s.1, Spliced.absent-inserted bytes_eq (bytes_eq given_names_key) k a es h s.2)
+  insert-sound k a (Some g) es s h = (s.0, Spliced.insert-longer bytes_eq k a g.at es s.1, Spliced.absent-inserted bytes_eq (bytes_eq given_names_key) k a es h s.2, s.3)
 
   pub take : (k : Text) (g : Option (Given A)) (es : List (Text × AttrObj A)) → IsSound g es → bytes_eq given_names_key k ≡ true → es ≡ remove_entry (bytes_eq k) (whole g es)
   take k None es s h = sym (Spliced.remove-absent (bytes_eq k) es (subst (λ x. IsAbsent (bytes_eq x) es) (key_is k h) s))
@@ -81,7 +81,7 @@ module _ {A : Type 0} where
 
   pub remove-sound : (k : Text) (p : ℕ) (g : Option (Given A)) (es : List (Text × AttrObj A)) → IsSound g es → IsFirstAt (bytes_eq k) es p → IsSound (moved_up g p) (remove_entry (bytes_eq k) es)
   remove-sound k p None es s f = Spliced.absent-removed (bytes_eq k) (bytes_eq given_names_key) es s
-  remove-sound k p (Some g) es s f = (s.0, Spliced.closed_up-within (bytes_eq k) p g.at es f s.1, Spliced.absent-removed (bytes_eq k) (bytes_eq given_names_key) es s.2)
+  remove-sound k p (Some g) es s f = (s.0, Spliced.closed_up-within (bytes_eq k) p g.at es f s.1, Spliced.absent-removed (bytes_eq k) (bytes_eq given_names_key) es s.2, s.3)
 
   pub remove-absent : (k : Text) (g : Option (Given A)) (es : List (Text × AttrObj A)) → IsSound g es → bytes_eq given_names_key k ≡ false → lookup (bytes_eq k) es ≡ None → whole g (remove_entry (bytes_eq k) es) ≡ remove_entry (bytes_eq k) (whole g es)
   remove-absent k None es s h n = refl

@@ -3,6 +3,7 @@ pub mod Bytes
 pub mod Compose
 pub mod Dictionaries
 pub mod Drops
+pub mod KeptKeys
 pub mod Spliced
 pub mod Characters
 pub mod Numbers

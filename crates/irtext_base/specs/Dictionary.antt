@@ -55,10 +55,10 @@ module _ {A : Type 0} where
   whole None others = others
   whole (Some g) others = spliced g.at (g.key, g.attr) others
 
-  -- the given names stand under their key, beside the others, and never among them
+  -- given names, and nothing else, stand under their key, beside the others, and never among them
   abbrev pub IsSound : Option (Given A) → List (Text × AttrObj A) → Type 0
   IsSound None others = IsAbsent (bytes_eq given_names_key) others
-  IsSound (Some g) others = (g.key ≡ given_names_key) × (g.at ≤ length others) × IsAbsent (bytes_eq given_names_key) others
+  IsSound (Some g) others = (g.key ≡ given_names_key) × (g.at ≤ length others) × IsAbsent (bytes_eq given_names_key) others × (are_given_names g.attr ≡ true)
 
   -- the given names with a new attribute: they keep their place, or come to stand at the index
   abbrev pub placed : Option (Given A) → ℕ → Text → AttrObj A → Given A

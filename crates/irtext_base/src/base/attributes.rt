@@ -12,6 +12,7 @@ ghost use Rattle.irtext_base.specs.Entries.{entries_left};
 ghost use Rattle.irtext_base.specs.declared.base.attributes.Refusal.TheVariants.{Memory};
 
 mod copy;
+mod kept;
 
 use crate::base::Identifier;
 use indexmap::IndexMap;
@@ -82,6 +83,15 @@ fn is_reserved(key: &Identifier) -> bool
     ensures { result ≡ bytes_eq given_names_key key.now }
 {
     is_reserved_text(key.as_str())
+}
+
+fn are_given_names<A>(attr: &AttrObj<A>) -> bool
+    ensures { result ≡ are_given_names attr.now }
+{
+    match attr {
+        AttrObj::GivenNames(_) => true,
+        AttrObj::Ident(_) | AttrObj::Own(_) => false,
+    }
 }
 
 fn given_attr<A>(given: &Option<Given<A>>) -> Option<&AttrObj<A>>
@@ -245,7 +255,7 @@ impl<A: Drop> AttributeDict<A> {
         if !is_reserved(&key) {
             return put_other(&mut self.others, self.alloc, key, attr);
         }
-        if let AttrObj::Own(_) | AttrObj::Ident(_) = &attr {
+        if !are_given_names(&attr) {
             return Err(Refusal::ReservedKey(key));
         }
         let at = len_other(&self.others);

@@ -23,6 +23,7 @@ mod directives;
 mod fits;
 pub(crate) mod pieces;
 pub(crate) mod regions;
+pub mod root;
 
 /// Appends a mark with this index.
 fn fmt_index(index: usize, f: &mut String) -> Result<(), Refusal>

@@ -23,7 +23,7 @@ pub invariant_of-self-2 : goal.invariant_of-self-2
 invariant_of-self-2 g c =
     rw c.put_given.ensures
     (subst (λ n. IsSound (Some (placed c.self.inside.given n c.args.key c.args.attr)) (entries_of c.self.inside.others)) (sym c.len_other-at.ensures.len)
-    (Dictionaries.put-sound c.args.key c.args.attr c.self.inside.given (entries_of c.self.inside.others) c.self.invariant (sym c.is_reserved.ensures ∙ c.if-not-is_reserved.false)))
+    (Dictionaries.put-sound c.args.key c.args.attr c.self.inside.given (entries_of c.self.inside.others) c.self.invariant (sym c.is_reserved.ensures ∙ c.if-not-is_reserved.false) (sym c.are_given_names.ensures ∙ c.if-not-are_given_names.false)))
 
 pub returns-clause-entries : goal.returns-clause-entries
 returns-clause-entries g c =

@@ -1,0 +1,159 @@
+//! What every root keeps, for callers that prove that its text is read back. The calls look at an operation's parts, whose types
+//! say these things of each value; they take no memory and change nothing.
+ghost use Rattle.std.specs.Prelude.{◌≡◌, Some, IsSome, IfSome, FitsSigned, map};
+ghost use Rattle.std.specs.Int.{w32};
+ghost use Rattle.std.specs.Str.{IsUtf8};
+ghost use Rattle.irtext_base.specs.Locations.{attr_view, attr_view_in, location_view, in_row, row_sourced};
+ghost use Rattle.irtext_base.specs.Paths.{path_of};
+ghost use Rattle.irtext_context.specs.Context.{OperationView, operation};
+ghost use Rattle.irtext_grammar.specs.Contexts.Held.{attribute_of, entries_of, location_over};
+ghost use Rattle.irtext_grammar.specs.Graphs.Identifiers.{EntryHasIdentifiers};
+ghost use Rattle.irtext_grammar.specs.Spelling.AttrText.{IsSpellableAttr};
+ghost use Rattle.irtext_grammar.specs.Spelling.Spellable.{Each, IsGiven, IsIdentifier, IsSpellableAttribute};
+ghost use Rattle.irtext_outcomes.specs.Promises.KeptRoot.{AllHold, IsKept, RowHold};
+ghost use Rattle.irtext_outcomes.specs.Promises.LocationsBack.{AllFit, RowFit};
+ghost use Rattle.irtext_outcomes.specs.Promises.PrintedBack.{Fits32};
+
+use irtext_base::base::{AttrObj, AttributeDict, Identifier, OpId};
+use irtext_base::location::{Location, Source};
+use irtext_base::parsable::SourcePosition;
+use irtext_base::text::{AttrText, IrText};
+use irtext_context::base::{Context, Operation, Ptr};
+
+/// An identifier is the text of one.
+fn identifier_kept(name: &Identifier)
+    ensures { IsIdentifier name.now }
+{
+    let _text = name.as_str();
+}
+
+fn given_kept(name: &Option<Identifier>)
+    ensures { IsGiven name.now }
+{
+    if let Some(name) = name {
+        identifier_kept(name);
+    }
+}
+
+fn names_kept(names: &Vec<Option<Identifier>>)
+    ensures { Each IsGiven names.now.items }
+{
+    for name in names {
+        given_kept(name);
+    }
+}
+
+/// The names in an attribute are identifiers.
+fn attr_kept<A>(attr: &AttrObj<A>)
+    ensures view { IsSpellableAttr (attr_view attr.now) }
+    ensures tree { IsSpellableAttribute (attribute_of attr.now) }
+{
+    match attr {
+        AttrObj::GivenNames(names) => names_kept(names),
+        AttrObj::Ident(name) => identifier_kept(name),
+        AttrObj::Own(_) => {}
+    }
+}
+
+fn metadata_kept<A>(metadata: &Option<AttrObj<A>>)
+    ensures { IfSome (attr_view_in metadata.now) IsSpellableAttr }
+{
+    if let Some(attr) = metadata {
+        attr_kept(attr);
+    }
+}
+
+/// The keys of a dictionary, and the names in its attributes, are identifiers.
+fn entries_kept<A: AttrText>(attributes: &AttributeDict<A>)
+    ensures { Each EntryHasIdentifiers (entries_of attributes.now) }
+{
+    for (key, attr) in attributes.iter() {
+        identifier_kept(key);
+        attr_kept(attr);
+    }
+}
+
+/// A number fits its type.
+fn number_fits(number: &i32)
+    ensures { FitsSigned w32 number.now }
+{
+    let _number = *number;
+}
+
+fn position_fits(pos: &SourcePosition)
+    ensures { Fits32 pos.now }
+{
+    number_fits(&pos.line);
+    number_fits(&pos.column);
+}
+
+/// The path of a source, if the context keeps one, is UTF-8.
+fn source_kept<T: IrText<A>, A: AttrText>(src: Source, ctx: &Context<T, A>)
+    ensures { IfSome (path_of ctx.now.paths src) IsUtf8 }
+{
+    if let Source::File(key) = src {
+        if src.is_of(ctx) {
+            let _path = ctx.path(key);
+        }
+    }
+}
+
+/// A location's paths and names are UTF-8, its numbers fit, and the names in its attributes are identifiers.
+#[cycle(kept)]
+fn location_kept<T: IrText<A>, A: AttrText>(location: &Location<A>, ctx: &Context<T, A>)
+    ensures fits { AllFit (location_over ctx.now.paths location.now) }
+    ensures holds { AllHold IsSpellableAttr (location_over ctx.now.paths location.now) }
+{
+    match location {
+        Location::SrcPos { src, pos } => {
+            source_kept(*src, ctx);
+            position_fits(pos);
+        }
+        Location::Fused {
+            metadata,
+            locations,
+        } => {
+            metadata_kept(metadata);
+            locations_kept(locations, ctx);
+        }
+        Location::Named { name: _, child_loc } => location_kept(child_loc, ctx),
+        Location::CallSite { callee, caller } => {
+            location_kept(callee, ctx);
+            location_kept(caller, ctx);
+        }
+        Location::Unknown => {}
+    }
+}
+
+/// The same of each location in a list.
+#[cycle(kept)]
+fn locations_kept<T: IrText<A>, A: AttrText>(locations: &Vec<Location<A>>, ctx: &Context<T, A>)
+    ensures fits { RowFit (row_sourced (path_of ctx.now.paths) (in_row (map location_view locations.now.items))) }
+    ensures holds { RowHold IsSpellableAttr (row_sourced (path_of ctx.now.paths) (in_row (map location_view locations.now.items))) }
+{
+    for location in locations {
+        location_kept(location, ctx);
+    }
+}
+
+fn id_kept(id: &OpId)
+    ensures dialect { IsIdentifier id.now.dialect }
+    ensures name { IsIdentifier id.now.name }
+{
+    identifier_kept(&id.dialect);
+    identifier_kept(&id.name);
+}
+
+/// An operation holds what its parts' types keep, which is what a law asks of a root whose text is to be read back.
+pub fn keeps_parts<T: IrText<A>, A: AttrText>(ctx: &Context<T, A>, op: Ptr<Operation>)
+    requires live { IsSome (operation ctx.now op) }
+    ensures kept { (view : OperationView T A) → operation ctx.now op ≡ Some view → IsKept ctx.now view }
+{
+    let id = op.get_opid(ctx);
+    let attributes = op.attributes(ctx);
+    id_kept(id);
+    let _info = ctx.op_info(id);
+    entries_kept(attributes);
+    attributes.keeps_keys();
+    location_kept(op.loc(ctx), ctx);
+}
