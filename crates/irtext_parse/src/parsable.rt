@@ -15,9 +15,9 @@ pub use irtext_base::parsable::{
 use irtext_base::result::Cause;
 use irtext_base::text::{AttrText, IrText};
 use irtext_read::irfmt::faults::refuse;
-pub use irtext_read::parsable::{
-    IntoParseResult, OwnStream, State, StateStream, StreamLocation, parse_from_str,
-    state_stream_from_iterator,
+pub use irtext_read::parsable::{IntoParseResult, OwnStream};
+pub use irtext_state::parsable::{
+    State, StateStream, StreamLocation, parse_from_str, state_stream_from_iterator,
 };
 
 /// What is read from a stream with a context.

@@ -4,8 +4,6 @@ pub mod Tokens
 pub mod Demanded
 pub mod Spelled
 pub mod QuotedTexts
-pub mod States
-pub mod FromText
 pub mod Integers
 pub mod Committed
 pub mod Lists

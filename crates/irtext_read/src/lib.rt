@@ -1,5 +1,4 @@
-//! Readers over a stream: tokens, lists, types and attributes; the state of a reading; and texts between quotation marks, as they
-//! are read and printed.
+//! Readers over a stream: tokens, lists and attributes; and texts between quotation marks, as they are read and printed.
 #![tactic(auto)]
 
 pub mod irfmt;

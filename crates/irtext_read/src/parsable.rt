@@ -1,11 +1,7 @@
-//! The stream of a text together with the state of its reading.
+//! Streams on which a caller's own readers read, and errors as faults of a reading.
 
 pub mod answer;
 pub mod own;
-pub mod state;
-pub mod text;
 
 pub use answer::IntoParseResult;
 pub use own::OwnStream;
-pub use state::{State, StateStream, StreamLocation};
-pub use text::{parse_from_str, state_stream_from_iterator};

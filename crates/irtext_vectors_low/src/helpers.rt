@@ -4,7 +4,7 @@ use irtext_base::location::Source;
 use irtext_base::parsable::{ParseFault, ParseResult, TextStream};
 use irtext_base::result::Result as Answer;
 use irtext_context::base::Context;
-use irtext_read::parsable::{State, StateStream};
+use irtext_state::parsable::{State, StateStream};
 use irtext_types::{DemoAttr, DemoType};
 use std::alloc::Global;
 use std::fmt;

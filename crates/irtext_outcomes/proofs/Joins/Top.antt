@@ -13,7 +13,7 @@ use Rattle.irtext_context.specs.declared.base.operation.Operation.{Operation}
 use Rattle.irtext_base.specs.Paths.{Written}
 use Rattle.irtext_base.specs.declared.parsable.fault.ParseFault.{ParseFault}
 use Rattle.irtext_read.specs.AttrTexts.{attr_at}
-use Rattle.irtext_read.specs.declared.parsable.state.StateStream.{StateStream}
+use Rattle.irtext_state.specs.declared.parsable.state.StateStream.{StateStream}
 use Rattle.irtext_grammar.specs.Names.Acts.{failures_of}
 use Rattle.irtext_grammar.specs.Grammar.Marked.{reads_root}
 use Rattle.irtext_grammar.specs.Contexts.Formats.{isolated}

@@ -13,7 +13,7 @@ use Rattle.irtext_context.specs.DialectTable as table
 use Rattle.irtext_context.specs.DialectTable.{dialect_of}
 use Rattle.irtext_base.specs.Own.{Sincere}
 use Rattle.irtext_read.specs.AttrTexts.{attr_at}
-use Rattle.irtext_read.specs.States.{same_index}
+use Rattle.irtext_state.specs.States.{same_index}
 use Rattle.irtext_read.specs.Tokens.{id_at}
 use Rattle.irtext_grammar.specs.Names.Acts.{may_hold}
 use Rattle.irtext_grammar.specs.Contexts.Formats.{op_id, format_of, isolated}

@@ -22,8 +22,8 @@ use Rattle.irtext_base.specs.declared.location.Location.{Location, SrcPos}
 use Rattle.irtext_base.specs.declared.parsable.fault.ParseFault.{ParseFault}
 use Rattle.irtext_context.proofs.Contexts.{same-paths}
 use Rattle.irtext_base.proofs.Numbers.{same_character}
-use Rattle.irtext_read.specs.States.{marks_of, same_index, LocatesAt}
-use Rattle.irtext_read.specs.declared.parsable.state.StateStream.{StateStream}
+use Rattle.irtext_state.specs.States.{marks_of, same_index, LocatesAt}
+use Rattle.irtext_state.specs.declared.parsable.state.StateStream.{StateStream}
 use Rattle.irtext_grammar.specs.Grammar.Forest.{no_blocks}
 use Rattle.irtext_grammar.specs.Grammar.Forest as forest
 use Rattle.irtext_outcomes.specs.Readers.Parts.{mark_at}

@@ -15,7 +15,7 @@ use Rattle.irtext_context.specs.declared.base.operation.Operation.{Operation}
 use Rattle.irtext_base.specs.Locations.{AttrView, location_view}
 use Rattle.irtext_base.specs.declared.location.Location.{Location}
 use Rattle.irtext_base.specs.declared.parsable.fault.ParseFault.{ParseFault}
-use Rattle.irtext_read.specs.States.{same_index}
+use Rattle.irtext_state.specs.States.{same_index}
 use Rattle.irtext_outcomes.specs.Readers.Parts.{index_at}
 use Rattle.irtext_outcomes.specs.Readers.Marks.{may_follow}
 use Rattle.irtext_outcomes.specs.Readers.Section.{content_at, known_index, entry_at, may_have, Entries}

@@ -7,7 +7,7 @@ use Rattle.irtext_context.specs.declared.base.arena.Ptr.{Ptr}
 use Rattle.irtext_context.specs.declared.base.operation.Operation.{Operation}
 use Rattle.irtext_base.specs.declared.parsable.fault.ParseFault.{ParseFault}
 use Rattle.irtext_read.specs.AttrTexts.{attr_at}
-use Rattle.irtext_read.specs.declared.parsable.state.StateStream.{StateStream}
+use Rattle.irtext_state.specs.declared.parsable.state.StateStream.{StateStream}
 use Rattle.irtext_outcomes.specs.Promises.Section.{ReadsWith, MissesWith}
 use Rattle.irtext_outcomes.specs.Promises.Root.{IsFresh, UnlessMemory, BuildsWith, RefusesWith}
 use Rattle.irtext_outcomes.proofs.Joins.Answers.{Splits}

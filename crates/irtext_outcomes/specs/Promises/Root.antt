@@ -16,8 +16,8 @@ use Rattle.irtext_base.specs.Locations.{AttrView, src_pos}
 use Rattle.irtext_base.specs.declared.location.Source.{Source}
 use Rattle.irtext_base.specs.declared.parsable.fault.ParseFault.{ParseFault}
 use Rattle.irtext_base.specs.declared.parsable.position.SourcePosition.{SourcePosition}
-use Rattle.irtext_read.specs.States.{marks_of}
-use Rattle.irtext_read.specs.declared.parsable.state.StateStream.{StateStream}
+use Rattle.irtext_state.specs.States.{marks_of}
+use Rattle.irtext_state.specs.declared.parsable.state.StateStream.{StateStream}
 use Rattle.irtext_grammar.specs.Names.Acts.{failures_of}
 use Rattle.irtext_grammar.specs.Graphs.Build.{build}
 use Rattle.irtext_grammar.specs.Grammar.Marked.{reads_root}

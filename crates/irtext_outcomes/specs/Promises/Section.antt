@@ -15,8 +15,8 @@ use Rattle.irtext_base.specs.declared.parsable.position.SourcePosition.{SourcePo
 use Rattle.irtext_base.specs.Locations.{AttrView}
 use Rattle.irtext_base.specs.Moves.{all_kept}
 use Rattle.irtext_base.specs.Paths.{Written}
-use Rattle.irtext_read.specs.States.{marks_of, same_index}
-use Rattle.irtext_read.specs.declared.parsable.state.StateStream.{StateStream}
+use Rattle.irtext_state.specs.States.{marks_of, same_index}
+use Rattle.irtext_state.specs.declared.parsable.state.StateStream.{StateStream}
 use Rattle.irtext_grammar.specs.Contexts.Held.{location_over}
 use Rattle.irtext_outcomes.specs.Readers.NewPaths.{AddsPaths, known_location}
 use Rattle.irtext_outcomes.specs.Promises.Operation.{operation_at, ReadsOperation}

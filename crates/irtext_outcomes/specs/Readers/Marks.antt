@@ -4,7 +4,7 @@ use Rattle.std.specs.Map.{lookup}
 use Rattle.irtext_base.specs.Text.{Text}
 use Rattle.irtext_base.specs.Faults.{DuplicateIndex}
 use Rattle.irtext_base.specs.Answers.{Outcome, Read, Missing, Bad}
-use Rattle.irtext_read.specs.States.{same_index}
+use Rattle.irtext_state.specs.States.{same_index}
 use Rattle.irtext_outcomes.specs.Readers.Parts.{mark_at}
 
 -- a mark with an index that is noted already is bad where it stands

@@ -6,7 +6,7 @@ use Rattle.irtext_context.specs.Context.{OperationView}
 use Rattle.irtext_base.specs.declared.base.attributes.AttrObj.{AttrObj}
 use Rattle.irtext_base.specs.declared.base.identifier.OpId.{OpId}
 use Rattle.irtext_base.specs.declared.location.Location.{Location}
-use Rattle.irtext_read.specs.declared.parsable.state.State.{State}
+use Rattle.irtext_state.specs.declared.parsable.state.State.{State}
 
 -- a stream is its own view
 abbrev pub itself : StreamView → StreamView

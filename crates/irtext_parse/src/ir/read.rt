@@ -3,7 +3,7 @@ ghost use Rattle.std.specs.Prelude.{◌≡◌, false, IfOk, IfErr, OnErr};
 ghost use Rattle.irtext_context.specs.Made.{SameObjects};
 ghost use Rattle.irtext_base.specs.Own.{texts_of};
 ghost use Rattle.irtext_read.specs.AttrTexts.{attr_at};
-ghost use Rattle.irtext_read.specs.States.{marks_of};
+ghost use Rattle.irtext_state.specs.States.{marks_of};
 ghost use Rattle.irtext_outcomes.specs.Readers.Refusals.{Refusal, RefusesFailed};
 ghost use Rattle.irtext_outcomes.specs.Readers.Streams.{KeepsRest};
 ghost use Rattle.irtext_outcomes.specs.Promises.Root.{IsFresh, BuildsWith, RefusesWith, UnlessMemory};
@@ -19,7 +19,7 @@ use crate::parsable::Parsable;
 use irtext_base::parsable::{CharStream, ParseResult};
 use irtext_base::text::{AttrText, IrText};
 use irtext_context::base::{Operation, Ptr};
-use irtext_read::parsable::StateStream;
+use irtext_state::parsable::StateStream;
 pub use root::outermost_parse;
 
 /// How an operation is read.

@@ -2,7 +2,7 @@
 ghost use Rattle.std.specs.Prelude.{◌≡◌, ◌<◌, true, false, length, OnOk, OnErr, IfOk, IfErr};
 ghost use Rattle.std.specs.Map.{lookup};
 ghost use Rattle.irtext_read.specs.AttrTexts.{attr_at};
-ghost use Rattle.irtext_read.specs.States.{marks_of, same_index};
+ghost use Rattle.irtext_state.specs.States.{marks_of, same_index};
 ghost use Rattle.irtext_outcomes.specs.Readers.Parts.{index_at};
 ghost use Rattle.irtext_read.specs.MustRead.{MustRead};
 ghost use Rattle.irtext_outcomes.specs.Readers.NewPaths.{AddsPaths, MustReadOver};
@@ -25,8 +25,8 @@ use irtext_context::base::{Context, Operation, Ptr};
 use irtext_read::irfmt::demanded::{index_demanded, spaced_text_demanded, text_demanded};
 use irtext_read::irfmt::faults::{next_is, refuse, refuse_at};
 use irtext_read::irfmt::parsers::skip_white_space;
-use irtext_read::parsable::StateStream;
-use irtext_read::parsable::state::Noting;
+use irtext_state::parsable::StateStream;
+use irtext_state::parsable::state::Noting;
 
 /// What the entries of a section say, by the index of their marks: a location, where they give one.
 type Entries<A> = IndexMap<usize, Option<Location<A>>>;

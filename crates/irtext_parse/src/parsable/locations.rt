@@ -3,7 +3,7 @@ ghost use Rattle.std.specs.Prelude.{◌≡◌, IfOk};
 ghost use Rattle.irtext_base.specs.Moves.{path_kept, all_kept};
 ghost use Rattle.irtext_base.specs.Paths.{path_of, is_known};
 ghost use Rattle.irtext_read.specs.AttrTexts.{attr_at};
-ghost use Rattle.irtext_read.specs.States.{marks_of};
+ghost use Rattle.irtext_state.specs.States.{marks_of};
 ghost use Rattle.irtext_outcomes.specs.Readers.Locations.{source_at, location_at};
 ghost use Rattle.irtext_outcomes.specs.Readers.Positions.{position_at};
 ghost use Rattle.irtext_read.specs.MustRead.{MayRead};

@@ -11,10 +11,9 @@ pub mod integer;
 pub mod lists;
 pub mod operation_id;
 pub mod quoted;
-pub mod standing;
 pub mod truth;
 
-pub use attributes::{attr_parse, type_parse};
+pub use attributes::attr_parse;
 pub use class::{Class, skip_class, skip_white_space};
 pub use digits::Radix;
 pub use fixed_text::{held, text_parse};
@@ -27,5 +26,4 @@ pub use lists::{
 };
 pub use operation_id::id_parse;
 pub use quoted::quoted_string_parse;
-pub use standing::location;
 pub use truth::bool_parse;

@@ -1,9 +1,8 @@
 //! Streams on which a caller's own readers read.
 ghost use Rattle.irtext_read.specs.MustRead.{MayRead};
 
-use crate::parsable::StateStream;
 use irtext_base::parsable::{CharStream, ParseResult, TextStream};
-use irtext_base::text::{AttrText, IrText};
+use irtext_base::text::IrText;
 
 /// A stream of characters on which the caller's own readers of types and attributes read: they are given its text.
 pub trait OwnStream: CharStream {
@@ -15,11 +14,5 @@ pub trait OwnStream: CharStream {
 impl OwnStream for TextStream {
     fn read_own<X: IrText<A>, A>(&mut self) -> ParseResult<X, A> {
         X::read(self)
-    }
-}
-
-impl<'c, T: IrText<B>, B: AttrText, U> OwnStream for StateStream<'c, T, B, U> {
-    fn read_own<X: IrText<A>, A>(&mut self) -> ParseResult<X, A> {
-        X::read(&mut self.stream)
     }
 }

@@ -13,7 +13,7 @@ use Rattle.irtext_base.specs.Answers.{Outcome}
 use Rattle.irtext_base.specs.declared.location.Source.{Source}
 use Rattle.irtext_read.specs.AttrTexts.{attr_at}
 use Rattle.irtext_base.specs.declared.parsable.fault.ParseFault.{ParseFault}
-use Rattle.irtext_read.specs.declared.parsable.state.StateStream.{StateStream}
+use Rattle.irtext_state.specs.declared.parsable.state.StateStream.{StateStream}
 use Rattle.irtext_grammar.specs.Graphs.Build.{build}
 use Rattle.irtext_grammar.specs.Graphs.Graph.{Graph, Printing}
 use Rattle.irtext_grammar.specs.Spelling.Locations.{known_text}

@@ -7,7 +7,7 @@ ghost use Rattle.irtext_context.specs.declared.base.arena.Ptr.{Ptr};
 ghost use Rattle.irtext_context.specs.declared.base.operation.Operation.{Operation};
 ghost use Rattle.irtext_base.specs.declared.parsable.fault.ParseFault.{ParseFault};
 ghost use Rattle.irtext_read.specs.AttrTexts.{attr_at};
-ghost use Rattle.irtext_read.specs.declared.parsable.state.StateStream.{StateStream};
+ghost use Rattle.irtext_state.specs.declared.parsable.state.StateStream.{StateStream};
 ghost use Rattle.irtext_grammar.specs.Graphs.Graph.{Graph};
 ghost use Rattle.irtext_grammar.specs.Contexts.Formats.{format_of};
 ghost use Rattle.irtext_outcomes.specs.Promises.KeptRoot.{IsKept, StandsAlone};

@@ -6,7 +6,7 @@ ghost use Rattle.irtext_context.specs.DialectTable.{registered};
 ghost use Rattle.irtext_base.specs.Faults.{id_of};
 ghost use Rattle.irtext_context.specs.Made.{AddsRegions};
 ghost use Rattle.irtext_read.specs.AttrTexts.{attr_at};
-ghost use Rattle.irtext_read.specs.States.{marks_of};
+ghost use Rattle.irtext_state.specs.States.{marks_of};
 ghost use Rattle.irtext_grammar.specs.Contexts.Formats.{IsAccepted};
 ghost use Rattle.irtext_read.specs.MustRead.{MustRead};
 ghost use Rattle.irtext_outcomes.specs.Promises.Operation.{MakesWith};
@@ -23,7 +23,7 @@ use irtext_base::text::{AttrText, IrText};
 use irtext_context::base::context::making::Making;
 use irtext_context::base::operation::add_regions;
 use irtext_context::base::{Context, Operation, Ptr};
-use irtext_read::parsable::StateStream;
+use irtext_state::parsable::StateStream;
 use std::alloc::AllocError;
 
 /// What stands behind the id of a registered operation, by its format.

@@ -1,6 +1,6 @@
 //! The mark of an operation.
 ghost use Rattle.std.specs.Prelude.{◌≡◌, ◌++◌, IfOk, OnErr};
-ghost use Rattle.irtext_read.specs.States.{marks_of};
+ghost use Rattle.irtext_state.specs.States.{marks_of};
 ghost use Rattle.irtext_outcomes.specs.Readers.Parts.{mark_at};
 ghost use Rattle.irtext_read.specs.MustRead.{MustRead};
 ghost use Rattle.irtext_outcomes.specs.Readers.Marks.{fresh_mark_at, noted};
@@ -13,8 +13,8 @@ use irtext_base::text::{AttrText, IrText};
 use irtext_context::base::{Operation, Ptr};
 use irtext_read::irfmt::demanded::index_demanded;
 use irtext_read::irfmt::faults::{next_is, refuse, refuse_at};
-use irtext_read::parsable::StateStream;
-use irtext_read::parsable::state::Noting;
+use irtext_state::parsable::StateStream;
+use irtext_state::parsable::state::Noting;
 use std::alloc::AllocError;
 
 /// A mark's index, where a mark stands.

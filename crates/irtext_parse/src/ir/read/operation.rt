@@ -2,7 +2,7 @@
 ghost use Rattle.std.specs.Prelude.{◌≡◌, ◌≤◌, ℕ, false, IfOk, IfErr, OnErr};
 ghost use Rattle.irtext_context.specs.Context.{KeepsOlder};
 ghost use Rattle.irtext_read.specs.AttrTexts.{attr_at};
-ghost use Rattle.irtext_read.specs.States.{marks_of};
+ghost use Rattle.irtext_state.specs.States.{marks_of};
 ghost use Rattle.irtext_outcomes.specs.Promises.Operation.{operation_at, ReadsOperation, MissesOperation};
 ghost use Rattle.irtext_outcomes.specs.Readers.Marks.{fresh_mark_at};
 ghost use Rattle.irtext_outcomes.specs.Readers.Streams.{KeepsRest};
@@ -16,7 +16,7 @@ use irtext_base::parsable::{CharStream, ParseResult};
 use irtext_base::text::{AttrText, IrText};
 use irtext_context::base::{Operation, Ptr};
 use irtext_read::irfmt::parsers::skip_white_space;
-use irtext_read::parsable::{StateStream, StreamLocation};
+use irtext_state::parsable::{StateStream, StreamLocation};
 
 /// An operation with its mark. What it made stays where it is refused.
 pub(crate) fn operation_parse<T: IrText<A>, A: AttrText, U>(

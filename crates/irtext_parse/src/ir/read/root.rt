@@ -5,7 +5,7 @@ ghost use Rattle.irtext_base.specs.Faults.{fault_of};
 ghost use Rattle.irtext_context.specs.Made.{SameObjects};
 ghost use Rattle.irtext_base.specs.Stream.{IsAt};
 ghost use Rattle.irtext_read.specs.AttrTexts.{attr_at};
-ghost use Rattle.irtext_read.specs.States.{marks_of};
+ghost use Rattle.irtext_state.specs.States.{marks_of};
 ghost use Rattle.irtext_outcomes.specs.Readers.Refusals.{Refusal, FailedRefusal, RefusesFailed};
 ghost use Rattle.irtext_outcomes.specs.Readers.Streams.{KeepsRest};
 ghost use Rattle.irtext_outcomes.specs.Promises.Section.{ReadsWith, MissesWith, is_unplaced, IsReported};
@@ -20,8 +20,8 @@ use irtext_base::result::Cause;
 use irtext_base::text::{AttrText, IrText};
 use irtext_context::base::context::making::Making;
 use irtext_context::base::{Operation, Ptr};
-use irtext_read::parsable::StateStream;
-use irtext_read::parsable::state::Noting;
+use irtext_state::parsable::StateStream;
+use irtext_state::parsable::state::Noting;
 
 /// Whether a fault's place is that of what stands round it.
 fn is_unplaced<A>(cause: &Cause<A>) -> bool

@@ -10,7 +10,7 @@ use crate::irfmt::parsers::class::{Class, skip_class, skip_white_space};
 use crate::irfmt::parsers::fixed_text::text_parse;
 use crate::irfmt::parsers::identifier::identifier_parse;
 use crate::irfmt::parsers::lists::list_parser;
-use crate::parsable::{OwnStream, StateStream};
+use crate::parsable::OwnStream;
 use irtext_base::base::{AttrObj, Identifier};
 use irtext_base::parsable::{CharStream, ParseResult};
 use irtext_base::result::Cause;
@@ -105,14 +105,4 @@ pub fn attr_parse<S: OwnStream, A: AttrText>(stream: &mut S) -> ParseResult<Attr
     ensures beside { stream.new ≡ S.CharStream.at stream.old (S.CharStream.view stream.new) }
 {
     led_parse(stream)
-}
-
-/// Reads a type by its own reader, whose faults are the answer. Nothing but the stream changes.
-pub fn type_parse<T: IrText<A>, A: AttrText, U>(
-    stream: &mut StateStream<'_, T, A, U>,
-) -> ParseResult<T, A>
-    ensures read { MayRead (λ s. s) (λ s v. v) (λ t. t) T.IrText.reading stream.old.stream result stream.new.stream }
-    ensures state { stream.new.state ≡ stream.old.state }
-{
-    T::read(&mut stream.stream)
 }

@@ -1,6 +1,6 @@
 use Rattle.std.proofs.Common.{refl, sym, ◌∙◌, subst}
 use Rattle.std.specs.Map.{lookup}
-use Rattle.irtext_read.specs.States.{marks_of, same_index}
+use Rattle.irtext_state.specs.States.{marks_of, same_index}
 use Rattle.irtext_outcomes.specs.Promises.Section.{Applies, AppliesAll}
 use Rattle.irtext_outcomes.proofs.Readers.SectionSteps.{applies_last, emptied}
 use Rattle.irtext_parse.proofs.irfmt.outlined.apply.Goals as goal

@@ -1,6 +1,6 @@
 use Rattle.std.proofs.Common.{◌≡◌, length}
 use Rattle.irtext_context.specs.Context.{ContextView}
-use Rattle.irtext_read.specs.States.{marks_of}
+use Rattle.irtext_state.specs.States.{marks_of}
 use Rattle.irtext_outcomes.specs.Readers.Streams.{KeepsRest}
 use Rattle.irtext_outcomes.specs.Promises.Section.{AppliesAll}
 use Rattle.irtext_parse.proofs.irfmt.outlined.apply.Given as goal

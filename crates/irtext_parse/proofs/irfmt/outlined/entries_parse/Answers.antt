@@ -1,7 +1,7 @@
 use Rattle.std.proofs.Common.{true, sym, ◌∙◌, subst}
 use Rattle.std.proofs.lemmas.Result.{err_from_is_err_and}
 use Rattle.irtext_read.specs.AttrTexts.{attr_at}
-use Rattle.irtext_read.specs.States.{marks_of}
+use Rattle.irtext_state.specs.States.{marks_of}
 use Rattle.irtext_outcomes.specs.Promises.Section.{ReadsEntry, Faults}
 use Rattle.irtext_outcomes.specs.Readers.Section.{entry_at}
 use Rattle.irtext_outcomes.specs.Promises.Supported.{RefusedAs}

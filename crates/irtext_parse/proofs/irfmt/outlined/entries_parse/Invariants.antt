@@ -1,6 +1,6 @@
 use Rattle.std.proofs.Common.{◌≡◌, length}
 use Rattle.irtext_read.specs.AttrTexts.{attr_at}
-use Rattle.irtext_read.specs.States.{marks_of}
+use Rattle.irtext_state.specs.States.{marks_of}
 use Rattle.irtext_outcomes.specs.Readers.NewPaths.{AddsPaths}
 use Rattle.irtext_outcomes.specs.Readers.Streams.{KeepsRest}
 use Rattle.irtext_outcomes.specs.Promises.Section.{Moves, entries_kept, entries_over}

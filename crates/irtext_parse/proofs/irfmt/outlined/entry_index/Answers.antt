@@ -1,6 +1,6 @@
 use Rattle.std.proofs.Common.{sym, ◌∙◌, ap}
 use Rattle.irtext_base.specs.Faults.{fault_of}
-use Rattle.irtext_read.specs.States.{marks_of}
+use Rattle.irtext_state.specs.States.{marks_of}
 use Rattle.irtext_outcomes.specs.Readers.Marks.{may_follow}
 use Rattle.irtext_outcomes.proofs.Readers.EntryIndices.{knows, unknown}
 use Rattle.irtext_parse.proofs.irfmt.outlined.entry_index.Goals as goal

@@ -2,7 +2,7 @@ use Rattle.indexmap.proofs.CallerLemmas.{insert_entry-new}
 use Rattle.std.proofs.Common.{ap, sym, nat_eq, ◌∙◌}
 use Rattle.std.proofs.lemmas.Result.{err_from_is_err_and}
 use Rattle.irtext_read.specs.AttrTexts.{attr_at}
-use Rattle.irtext_read.specs.States.{marks_of}
+use Rattle.irtext_state.specs.States.{marks_of}
 use Rattle.irtext_outcomes.specs.Readers.Marks.{may_follow}
 use Rattle.irtext_outcomes.specs.Promises.Section.{entry_over}
 use Rattle.irtext_outcomes.proofs.Readers.Answered.{answered, not_answered, moves_more, moves_taken}

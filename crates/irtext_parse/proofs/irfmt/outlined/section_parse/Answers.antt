@@ -1,7 +1,7 @@
 use Rattle.std.proofs.Common.{refl, subst, sym, ◌∙◌}
 use Rattle.std.proofs.lemmas.Result.{err_from_is_err_and}
 use Rattle.irtext_read.specs.AttrTexts.{attr_at}
-use Rattle.irtext_read.specs.States.{marks_of}
+use Rattle.irtext_state.specs.States.{marks_of}
 use Rattle.irtext_outcomes.specs.Readers.Section.{AllEntries, heading_at}
 use Rattle.irtext_outcomes.specs.Promises.Section.{indices_of, entries_over, Moves, AppliesAll}
 use Rattle.irtext_outcomes.specs.Promises.Supported.{RefusedAs, EntriesRefused, SectionRefused, no_heading, no_entry}

@@ -2,7 +2,7 @@ use Rattle.std.proofs.Common.{◌++◌, refl, sym, subst, ap, ◌∙◌}
 use Rattle.std.proofs.lemmas.Result.{err_from_is_err_and}
 use Rattle.irtext_base.specs.Faults.{id_of}
 use Rattle.irtext_read.specs.AttrTexts.{attr_at}
-use Rattle.irtext_read.specs.States.{marks_of}
+use Rattle.irtext_state.specs.States.{marks_of}
 use Rattle.irtext_outcomes.specs.Promises.Operation.{operation_at}
 use Rattle.irtext_outcomes.specs.Readers.Operations.{operation_with}
 use Rattle.irtext_parse.specs.Readers.PiecesOf.{pieces_of}

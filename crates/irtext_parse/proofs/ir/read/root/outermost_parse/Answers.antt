@@ -1,6 +1,6 @@
 use Rattle.std.proofs.Common.{ap, ◌∙◌, length, take, arith}
 use Rattle.std.proofs.Math.Seq.{take-append_seam}
-use Rattle.irtext_read.specs.States.{marks_of}
+use Rattle.irtext_state.specs.States.{marks_of}
 use Rattle.irtext_context.proofs.Kept.{rolled_back}
 use Rattle.irtext_parse.proofs.ir.read.root.outermost_parse.Goals as goal
 

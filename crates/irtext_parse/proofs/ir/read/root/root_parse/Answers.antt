@@ -1,6 +1,6 @@
 use Rattle.std.proofs.Common.{◌≡◌, false, ◌&&◌, refl, sym, ◌∙◌}
 use Rattle.irtext_read.specs.AttrTexts.{attr_at}
-use Rattle.irtext_read.specs.States.{marks_of}
+use Rattle.irtext_state.specs.States.{marks_of}
 use Rattle.irtext_context.proofs.Kept.{kept_trans}
 use Rattle.irtext_outcomes.specs.Readers.Marks.{fresh_mark_at}
 use Rattle.irtext_outcomes.specs.Promises.Section.{indices_of, is_noted, no_operation, no_section}

@@ -2,7 +2,7 @@
 ghost use Rattle.std.specs.Prelude.{◌≡◌, ◌⊎◌, ℕ, List, IfOk};
 ghost use Rattle.std.specs.Iterator.{Drains, IsFinite};
 ghost use Rattle.std.specs.Str.{encode_utf8_all};
-ghost use Rattle.irtext_read.specs.FromText.{at_beginning, IsErrorOf, IsStarved, Passes, Runs, Ran};
+ghost use Rattle.irtext_state.specs.FromText.{at_beginning, IsErrorOf, IsStarved, Passes, Runs, Ran};
 
 use crate::parsable::{State, StateStream};
 use irtext_base::location::{Location, Source};

@@ -8,7 +8,7 @@ use Rattle.irtext_context.specs.declared.base.operation.Operation.{Operation}
 use Rattle.irtext_base.specs.declared.location.Location.{Location, SrcPos}
 use Rattle.irtext_base.specs.declared.location.Source.{Source}
 use Rattle.irtext_base.specs.declared.parsable.position.SourcePosition.{SourcePosition}
-use Rattle.irtext_read.specs.declared.parsable.state.State.{State}
+use Rattle.irtext_state.specs.declared.parsable.state.State.{State}
 
 -- whether two indices are one
 abbrev pub same_index : ℕ → ℕ → Bool

@@ -1,6 +1,6 @@
 use Rattle.std.proofs.Common.{◌∙◌, ap}
-use Rattle.irtext_read.specs.FromText.{at_beginning}
-use Rattle.irtext_read.proofs.parsable.text.state_stream_from_iterator.Goals as goal
+use Rattle.irtext_state.specs.FromText.{at_beginning}
+use Rattle.irtext_state.proofs.parsable.text.state_stream_from_iterator.Goals as goal
 
 pub returns-clause-text : goal.returns-clause-text
 returns-clause-text g c =

@@ -10,8 +10,8 @@ use Rattle.irtext_base.specs.declared.parsable.fault.ParseFault.{ParseFault}
 use Rattle.irtext_base.specs.declared.result.Cause.{Cause, Memory, Parse'}
 use Rattle.irtext_base.specs.declared.result.Error.{Error}
 use Rattle.irtext_base.specs.declared.result.ErrorKind.TheVariants.{InvalidInput, InvalidArgument}
-use Rattle.irtext_read.specs.States.{marks_of}
-use Rattle.irtext_read.specs.declared.parsable.state.StateStream.{StateStream}
+use Rattle.irtext_state.specs.States.{marks_of}
+use Rattle.irtext_state.specs.declared.parsable.state.StateStream.{StateStream}
 
 -- a stream at the beginning of a text of these bytes
 abbrev pub at_beginning : List ℕ → StreamView

@@ -2,7 +2,7 @@ use Rattle.std.proofs.Common.{◌≡◌, ◌∙◌, refl, nat_eq, false, Option,
 use Rattle.std.specs.Option.{is_some}
 use Rattle.std.specs.HashMap.{get_by}
 use Rattle.indexmap.proofs.CallerLemmas.{insert_entry-new}
-use Rattle.irtext_read.proofs.parsable.state.StateNoting.mark.Goals as goal
+use Rattle.irtext_state.proofs.parsable.state.StateNoting.mark.Goals as goal
 
 none_of : {X : Type 0} (o : Option X) → false ≡ is_some o → o ≡ None
 none_of None e = refl

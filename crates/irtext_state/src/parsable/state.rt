@@ -4,14 +4,15 @@ ghost use Rattle.std.specs.Str.{encode_utf8_all};
 ghost use Rattle.std.specs.Map.{lookup};
 ghost use Rattle.irtext_base.specs.Stream.{StreamView, IsAt, first_of, advanced, after_failure};
 ghost use Rattle.irtext_base.specs.Places.{StandsBehind, IsPlaceOf};
-ghost use Rattle.irtext_read.specs.States.{marks_of, same_index, LocatesAt, Marks};
+ghost use Rattle.irtext_state.specs.States.{marks_of, same_index, LocatesAt, Marks};
 ghost use Rattle.irtext_base.specs.declared.location.Location.{Location};
 
 use indexmap::IndexMap;
 use irtext_base::location::{Location, Source};
-use irtext_base::parsable::{CharStream, Place, TextStream};
+use irtext_base::parsable::{CharStream, ParseResult, Place, TextStream};
 use irtext_base::text::{AttrText, IrText};
 use irtext_context::base::{Context, Operation, Ptr};
+use irtext_read::parsable::OwnStream;
 use std::alloc::{AllocError, Global};
 
 /// What a reading carries beside its text.
@@ -196,6 +197,12 @@ impl<'c, T: IrText<A>, A: AttrText, U> CharStream for StateStream<'c, T, A, U> {
 
     fn allocator(&self) -> Global {
         self.stream.allocator()
+    }
+}
+
+impl<'c, T: IrText<B>, B: AttrText, U> OwnStream for StateStream<'c, T, B, U> {
+    fn read_own<X: IrText<A>, A>(&mut self) -> ParseResult<X, A> {
+        X::read(&mut self.stream)
     }
 }
 

@@ -1,0 +1,3 @@
+//! Readers that need the state of a reading.
+
+pub mod parsers;

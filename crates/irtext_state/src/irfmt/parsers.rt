@@ -1,0 +1,26 @@
+//! The reader of types, and where a reading stands.
+ghost use Rattle.std.specs.Prelude.{◌≡◌};
+ghost use Rattle.irtext_read.specs.MustRead.{MayRead};
+ghost use Rattle.irtext_state.specs.States.{LocatesAt};
+
+use crate::parsable::{StateStream, StreamLocation};
+use irtext_base::location::Location;
+use irtext_base::parsable::ParseResult;
+use irtext_base::text::{AttrText, IrText};
+
+/// Where the stream stands, as a place of the source that is read. It reads nothing, and answers on a failed stream too.
+pub fn location<T: IrText<A>, A: AttrText, U>(stream: &StateStream<'_, T, A, U>) -> Location<A>
+    ensures { LocatesAt stream.now.state.src stream.now.stream.passed result }
+{
+    stream.loc()
+}
+
+/// Reads a type by its own reader, whose faults are the answer. Nothing but the stream changes.
+pub fn type_parse<T: IrText<A>, A: AttrText, U>(
+    stream: &mut StateStream<'_, T, A, U>,
+) -> ParseResult<T, A>
+    ensures read { MayRead (λ s. s) (λ s v. v) (λ t. t) T.IrText.reading stream.old.stream result stream.new.stream }
+    ensures state { stream.new.state ≡ stream.old.state }
+{
+    T::read(&mut stream.stream)
+}

@@ -1,0 +1,7 @@
+//! The stream of a text together with the state of its reading.
+
+pub mod state;
+pub mod text;
+
+pub use state::{State, StateStream, StreamLocation};
+pub use text::{parse_from_str, state_stream_from_iterator};
