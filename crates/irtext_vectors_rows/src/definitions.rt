@@ -17,27 +17,27 @@ ghost use Rattle.irtext_vectors_rows.specs.LocationRows.{note_at, place};
 ghost use Rattle.irtext_vectors_rows.specs.Sections.{dictionary_behind, early_and_marked, early_built, for_item, note_and_location, note_nine, wrong_behind, wrong_names};
 ghost use Rattle.irtext_vectors_rows.specs.Trees as trees;
 ghost use Rattle.irtext_vectors_rows.specs.Trees.{empty_block, failure, marked, only_modules, wrong};
-ghost use Rattle.irtext_grammar.specs.Names.Acts.{failures_of};
+ghost use Rattle.irtext_grammar.specs.Grammar.Reads.{reads};
+ghost use Rattle.irtext_grammar.specs.Grammar.Section.{of_once};
+ghost use Rattle.irtext_grammar.specs.Grammar.Tree.{Tree, ident, own};
 ghost use Rattle.irtext_grammar.specs.Graphs.Build.{build, put_all};
 ghost use Rattle.irtext_grammar.specs.Graphs.Closed.{Closed, Fit};
-ghost use Rattle.irtext_grammar.specs.Graphs.ReservedKeys.{GraphKeepsKeys};
 ghost use Rattle.irtext_grammar.specs.Graphs.Graph.{written};
+ghost use Rattle.irtext_grammar.specs.Graphs.Identifiers.{HasIdentifiers};
 ghost use Rattle.irtext_grammar.specs.Graphs.Links.{Linked, links};
-ghost use Rattle.irtext_outcomes.specs.Readers.Operations.{led_id_at};
-ghost use Rattle.irtext_outcomes.specs.Readers.Directives.{body_at};
-ghost use Rattle.irtext_grammar.specs.Grammar.Section.{of_once};
-ghost use Rattle.irtext_grammar.specs.Grammar.Reads.{reads};
+ghost use Rattle.irtext_grammar.specs.Graphs.ReservedKeys.{GraphKeepsKeys};
 ghost use Rattle.irtext_grammar.specs.Graphs.RoundTrip.{GraphHeld};
 ghost use Rattle.irtext_grammar.specs.Graphs.Same.{SmallGraph};
-ghost use Rattle.irtext_grammar.specs.Names.Script as script;
+ghost use Rattle.irtext_grammar.specs.Names.Acts.{failures_of};
 ghost use Rattle.irtext_grammar.specs.Names.Script.{DuplicateIndex, MultipleDefinitions, NoActiveScope, NotIsolated, ReservedKey, ResultCount, UnknownIndex, UnknownPrintOnce, UnresolvedReference};
+ghost use Rattle.irtext_grammar.specs.Names.Script as script;
 ghost use Rattle.irtext_grammar.specs.Spelling.Section.{text};
-ghost use Rattle.irtext_outcomes.specs.Readers.Section.{entry_at};
+ghost use Rattle.irtext_grammar.specs.Spelling.SectionEntries.{SmallSection};
 ghost use Rattle.irtext_grammar.specs.Spelling.Spell.{spelled};
 ghost use Rattle.irtext_outcomes.specs.Promises.Root.{location_of};
-ghost use Rattle.irtext_grammar.specs.Grammar.Tree.{Tree, ident, own};
-ghost use Rattle.irtext_grammar.specs.Graphs.Identifiers.{HasIdentifiers};
-ghost use Rattle.irtext_grammar.specs.Spelling.SectionEntries.{SmallSection};
+ghost use Rattle.irtext_outcomes.specs.Readers.Directives.{body_at};
+ghost use Rattle.irtext_outcomes.specs.Readers.Operations.{led_id_at};
+ghost use Rattle.irtext_outcomes.specs.Readers.Section.{entry_at};
 
 /// A module with an empty block: how it is written, and that it reads so.
 pub fn an_empty_block()
