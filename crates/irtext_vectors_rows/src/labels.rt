@@ -7,19 +7,19 @@ ghost use Rattle.irtext_vectors_rows.specs.Labels.Graphs.{a_and_b, b_and_x, bloc
 ghost use Rattle.irtext_vectors_rows.specs.Labels.Trees.{block_a, branches_as_read, built, built_block, label_is, label_refused, marked_block, marked_nop};
 ghost use Rattle.irtext_vectors_rows.specs.Sections.{for_item};
 ghost use Rattle.irtext_vectors_rows.specs.Trees.{at, marked};
-ghost use Rattle.irtext_grammar.specs.Names.Acts.{failures_of};
-ghost use Rattle.irtext_grammar.specs.Graphs.Build.{build};
-ghost use Rattle.irtext_grammar.specs.Graphs.Closed.{Closed, Fit};
-ghost use Rattle.irtext_grammar.specs.Graphs.ReservedKeys.{GraphKeepsKeys};
 ghost use Rattle.irtext_grammar.specs.Grammar.Forest.{no_operations};
 ghost use Rattle.irtext_grammar.specs.Grammar.Section.{direct, of_once, reference};
+ghost use Rattle.irtext_grammar.specs.Grammar.Tree.{ident, own};
+ghost use Rattle.irtext_grammar.specs.Graphs.Build.{build};
+ghost use Rattle.irtext_grammar.specs.Graphs.Closed.{Closed, Fit};
+ghost use Rattle.irtext_grammar.specs.Graphs.Identifiers.{HasIdentifiers};
 ghost use Rattle.irtext_grammar.specs.Graphs.Regained.{Named};
+ghost use Rattle.irtext_grammar.specs.Graphs.ReservedKeys.{GraphKeepsKeys};
 ghost use Rattle.irtext_grammar.specs.Graphs.RoundTrip.{GraphHeld};
 ghost use Rattle.irtext_grammar.specs.Graphs.Same.{SmallGraph, stood};
-ghost use Rattle.irtext_grammar.specs.Spelling.Section.{text};
 ghost use Rattle.irtext_grammar.specs.Graphs.StandsFor.{Distinct, StandsFor};
-ghost use Rattle.irtext_grammar.specs.Grammar.Tree.{ident, own};
-ghost use Rattle.irtext_grammar.specs.Graphs.Identifiers.{HasIdentifiers};
+ghost use Rattle.irtext_grammar.specs.Names.Acts.{failures_of};
+ghost use Rattle.irtext_grammar.specs.Spelling.Section.{text};
 ghost use Rattle.irtext_grammar.specs.Spelling.SectionEntries.{SmallSection};
 
 /// A labelled block is marked, also where its location is unknown and no attribute is outlined; one without a label is not.

@@ -7,3 +7,4 @@ pub mod PlainRead
 pub mod PlainRoot
 pub mod PlainPrinted
 pub mod PlainText
+pub mod WithPlaces

@@ -217,8 +217,7 @@ module _ {P T A : Type 0} (L : Language P T A) (spot : Text → P) (at_spot : (t
       let q = places_steps_more os (after_space k) u s.1 b in
       (operation r.0 r.1 q.0, (m, l, (k, r.2, q.1)), λ i. operation (r.3 i) (r.4 i) (q.2 i))
 
-  places_steps : (os : Steps ⊤) (t u : Text) → PlacesOperations os → separated 59 reads.no_operation (reads.operation_readings B os) t u
-      → (os' : Steps P) × separated 59 reads.no_operation (reads.operation_readings L os') t u × (bare_operations os' ≡ os)
+  places_steps : (os : Steps ⊤) (t u : Text) → PlacesOperations os → separated 59 reads.no_operation (reads.operation_readings B os) t u → (os' : Steps P) × separated 59 reads.no_operation (reads.operation_readings L os') t u × (bare_operations os' ≡ os)
   places_steps no_operations t u s a = (no_operations, a, refl)
   places_steps (operation o rs os) t u s (m, a, b) =
       let r = s.0 t m a in

@@ -65,12 +65,10 @@ counted_in test (d ∷ ds) h = go (test d) refl h (counted_in test ds)
     go false e h f = let r = f h in (r.0, inr r.1, r.2)
 
 the_header : (d : Directive) → is_header d ≡ true → d ≡ format.header
-the_header format.header e = refl
-the_header _ e = absurd (true≢false (sym e))
+the_header = elim [ format.header ↦ λ e. refl | _ ↦ λ e. absurd (true≢false (sym e)) ]
 
 the_dictionary : (d : Directive) → is_dictionary d ≡ true → d ≡ format.dictionary
-the_dictionary format.dictionary e = refl
-the_dictionary _ e = absurd (true≢false (sym e))
+the_dictionary = elim [ format.dictionary ↦ λ e. refl | _ ↦ λ e. absurd (true≢false (sym e)) ]
 
 header_directive : (key : Text) (n : ℕ) → has same_text key (cond (n == 0) [] (sym_name_key ∷ [])) ≡ true → ((n == 0) ≡ false) × (key ≡ sym_name_key)
 header_directive key n h = go (n == 0) refl h

@@ -1,5 +1,5 @@
 -- What the written tree builds has the graph's operands and successors, types and labels.
-use Rattle.std.proofs.Common.{◌≡◌, ℕ, zero, suc, ◌+◌, ◌<◌, ◌^◌, Bool, true, false, cond, List, [], ◌∷◌, map, drop, length, slice_get, Option, Some, None, refl, sym, ap, ap₂, ◌∙◌}
+use Rattle.std.proofs.Common.{◌≡◌, ℕ, suc, ◌+◌, ◌<◌, ◌^◌, Bool, true, false, cond, List, [], ◌∷◌, map, length, slice_get, Option, Some, None, refl, sym, ap, ap₂, ◌∙◌}
 use Rattle.std.specs.Prelude.{⊤}
 use Rattle.irtext_base.specs.Text.{Text}
 use Rattle.irtext_base.specs.Format as format

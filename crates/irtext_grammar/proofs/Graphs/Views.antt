@@ -1,5 +1,5 @@
 -- The operands, successors and result types of what is written of an operation that fits are the operation's.
-use Rattle.std.proofs.Common.{◌≡◌, ℕ, zero, suc, ◌≤◌, Bool, true, cond, not, ◌==◌, nat_lt, List, [], ◌∷◌, ◌++◌, map, take, drop, length, filter_map, slice_get, Option, Some, None, is_some, option_map, option_and_then, refl, sym, ap, ap₂, ◌∙◌, subst, true≢false, append-nil, arith}
+use Rattle.std.proofs.Common.{◌≡◌, ℕ, zero, suc, Bool, true, cond, not, ◌==◌, nat_lt, List, [], ◌∷◌, ◌++◌, map, take, drop, length, filter_map, slice_get, Option, Some, None, is_some, option_map, option_and_then, refl, sym, ap, ap₂, ◌∙◌, subst, true≢false, append-nil, arith}
 use Rattle.std.specs.Prelude.{⊤}
 use Rattle.std.specs.List.{cons_option}
 use Rattle.std.proofs.lemmas.Bool.Decides.{nat_tests}

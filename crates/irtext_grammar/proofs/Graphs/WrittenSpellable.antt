@@ -1,5 +1,5 @@
 -- What is written of a graph can be written: its text is read back.
-use Rattle.std.proofs.Common.{◌≡◌, ℕ, zero, suc, ◌+◌, ◌<◌, ◌^◌, Bool, true, false, cond, not, ◌&&◌, ◌==◌, nat_lt, List, [], ◌∷◌, ◌++◌, map, filter, drop, length, filter_map, slice_get, Option, Some, None, option_map, option_and_then, codes, decimal, refl, sym, ap, subst, true≢false, arith, inl, inr, ◌∙◌}
+use Rattle.std.proofs.Common.{◌≡◌, ℕ, zero, suc, ◌+◌, ◌<◌, ◌^◌, Bool, true, false, cond, not, ◌&&◌, ◌==◌, nat_lt, List, [], ◌∷◌, ◌++◌, map, length, filter_map, slice_get, Option, Some, None, option_map, option_and_then, codes, decimal, refl, sym, ap, subst, true≢false, arith, inl, inr, ◌∙◌}
 use Rattle.std.specs.Prelude.{⊤, ◌⊎◌, ◌≤◌}
 use Rattle.std.specs.List.{cons_option, list_all}
 use Rattle.std.specs.Char.{is_ascii_digit, is_ascii_graphic}

@@ -1,5 +1,5 @@
 -- A root and its section are not refused exactly where they resolve.
-use Rattle.std.proofs.Common.{◌≡◌, Bool, true, false, ◌==◌, List, [], ◌∷◌, ◌++◌, map, Option, Some, None, refl, sym, ap, ◌∙◌, subst, append_assoc, append-nil}
+use Rattle.std.proofs.Common.{◌≡◌, Bool, true, false, ◌==◌, List, [], ◌∷◌, ◌++◌, map, refl, sym, ap, ◌∙◌, subst}
 use Rattle.irtext_base.specs.Text.{Text}
 use Rattle.irtext_base.specs.Format.{Id, same_text, distinct}
 use Rattle.irtext_grammar.specs.Spelling.Spellable.{Each}
@@ -7,7 +7,7 @@ use Rattle.irtext_grammar.specs.Grammar.Forest.{Regions, no_regions, region, no_
 use Rattle.irtext_grammar.specs.Grammar.Tree.{Name, Op, Head, Brace, Tree}
 use Rattle.irtext_grammar.specs.Grammar.Section.{Entry}
 use Rattle.irtext_grammar.specs.Names.Script.{entry, Script, done, does, within, does_all, follow}
-use Rattle.irtext_grammar.specs.Names.Scopes.{Fact, uses, defines, Facts, nothing, ◌⊕◌, Scopes, and_then, ◌⊳◌, fact_of, inside, no_scope, outward, facts, act_failures, not_isolated, left_open, failures}
+use Rattle.irtext_grammar.specs.Names.Scopes.{Fact, uses, defines, ◌⊳◌, no_scope, outward, facts, failures}
 use Rattle.irtext_grammar.specs.Spelling.Writable.{has_region}
 use Rattle.irtext_grammar.specs.Names.Acts.{section_acts, tree_script, root_script, failures_of, region_scripts, rule_of}
 use Rattle.irtext_grammar.specs.Names.Resolves.{texts, all_in_regions, all_in_blocks, shared, kept_inside, used_values, used_labels, marks_of, scopes_of, DefinesOnce, DefinesUsed, Resolves}

@@ -42,11 +42,7 @@ module _ {T A : Type 0} (C : Printing T A) (isolated : Id → Bool) where
   quiet_directives ds p o (format.attribute key ∷ rest) e rs h k = quiet_directives ds p o rest e rs h k
   quiet_directives ds p o (format.dictionary ∷ rest) e rs h k = quiet_directives ds p o rest e rs h k
   quiet_directives ds p o (format.header ∷ rest) e rs h k = quiet_directives ds p o rest e rs h k
-  quiet_directives ds p o (format.operand i ∷ rest) e rs h k = absurd (true≢false (sym e))
-  quiet_directives ds p o (format.operands ∷ rest) e rs h k = absurd (true≢false (sym e))
-  quiet_directives ds p o (format.successor i ∷ rest) e rs h k = absurd (true≢false (sym e))
-  quiet_directives ds p o (format.successors ∷ rest) e rs h k = absurd (true≢false (sym e))
-  quiet_directives ds p o (format.result_type i ∷ rest) e rs h k = absurd (true≢false (sym e))
+  quiet_directives ds p o (_ ∷ rest) e rs h k = absurd (true≢false (sym e))
 
   pub plain_closed : (g : Graph T A) → PlainRoot C isolated g → Closed C isolated g
   plain_closed g plain =

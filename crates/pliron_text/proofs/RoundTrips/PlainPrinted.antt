@@ -29,17 +29,12 @@ NamesNothing ds = (operand_places ds ≡ []) × (count is_operands ds ≡ 0) × 
 
 names_nothing : (ds : List Directive) → list_all is_supported ds ≡ true → NamesNothing ds
 names_nothing [] e = (refl, refl, refl, refl, refl)
-names_nothing (format.word s ∷ ds) e = names_nothing ds e
-names_nothing (format.attribute k ∷ ds) e = names_nothing ds e
-names_nothing (format.dictionary ∷ ds) e = names_nothing ds e
-names_nothing (format.region i ∷ ds) e = names_nothing ds e
-names_nothing (format.regions ∷ ds) e = names_nothing ds e
-names_nothing (format.header ∷ ds) e = names_nothing ds e
 names_nothing (format.operand i ∷ ds) e = absurd (true≢false (sym e))
 names_nothing (format.operands ∷ ds) e = absurd (true≢false (sym e))
 names_nothing (format.successor i ∷ ds) e = absurd (true≢false (sym e))
 names_nothing (format.successors ∷ ds) e = absurd (true≢false (sym e))
 names_nothing (format.result_type i ∷ ds) e = absurd (true≢false (sym e))
+names_nothing (_ ∷ ds) e = names_nothing ds e
 
 -- nothing fits where nothing is named
 none_fit : (places : List ℕ) (lists : ℕ) → places ≡ [] → lists ≡ 0 → cond (lists == 0) (0 == length places) (not (nat_lt 0 (length places))) ≡ true

@@ -20,18 +20,7 @@ use Rattle.irtext_grammar.proofs.Graphs.FitsFormat.{and_left, and_right}
 module _ {P T A : Type 0} where
   read_bare : (p : Part P T A) → is_read (bare_part p) ≡ is_read p
   read_bare (tree.piece (tree.word s)) = refl
-  read_bare (tree.piece (tree.operand i n)) = refl
-  read_bare (tree.piece (tree.operands ns)) = refl
-  read_bare (tree.piece (tree.successor i n)) = refl
-  read_bare (tree.piece (tree.successors ns)) = refl
-  read_bare (tree.piece (tree.attribute k None)) = refl
-  read_bare (tree.piece (tree.attribute k (Some a))) = refl
-  read_bare (tree.piece (tree.dictionary es)) = refl
-  read_bare (tree.piece (tree.result_type i x)) = refl
-  read_bare (tree.piece (tree.header n)) = refl
-  read_bare (tree.piece (tree.types ts)) = refl
-  read_bare (tree.region i) = refl
-  read_bare tree.regions = refl
+  read_bare _ = refl
 
   all_bare : (ps : List (Part P T A)) → list_all is_read (map bare_part ps) ≡ list_all is_read ps
   all_bare [] = refl
@@ -87,11 +76,7 @@ module _ {T A : Type 0} (C : Printing T A) where
   part_read ds o h (format.region i) e = refl
   part_read ds o h format.regions e = refl
   part_read ds o h format.header e = header_read (lookup sym_name_key o.attributes)
-  part_read ds o h (format.operand i) e = absurd (true≢false (sym e))
-  part_read ds o h format.operands e = absurd (true≢false (sym e))
-  part_read ds o h (format.successor i) e = absurd (true≢false (sym e))
-  part_read ds o h format.successors e = absurd (true≢false (sym e))
-  part_read ds o h (format.result_type i) e = absurd (true≢false (sym e))
+  part_read ds o h _ e = absurd (true≢false (sym e))
 
   more_read : (o : Option (Part ⊤ T A)) (ps : List (Part ⊤ T A)) → Read o → list_all is_read ps ≡ true → list_all is_read (cons_option o ps) ≡ true
   more_read None ps h k = k

@@ -15,7 +15,7 @@ use Rattle.irtext_grammar.specs.Spelling.Section as section
 use Rattle.irtext_grammar.specs.Grammar.Section.{Entry}
 use Rattle.irtext_grammar.specs.Names.Script.{done, does_all, UnknownIndex}
 use Rattle.irtext_grammar.specs.Names.Scopes.{Scopes, ◌⊳◌, no_scope, facts, failures, is_among}
-use Rattle.irtext_grammar.specs.Names.Acts.{section_acts, region_scripts, tree_script, failures_of, may_hold, rule_of, Rule}
+use Rattle.irtext_grammar.specs.Names.Acts.{section_acts, region_scripts, tree_script, failures_of, rule_of, Rule}
 use Rattle.irtext_grammar.specs.Graphs.Build.{content, build}
 use Rattle.irtext_grammar.specs.Graphs.Closed.{FitRegions, FitsFormat, Fit}
 use Rattle.irtext_grammar.specs.Graphs.Contents.{OpContent, BlockContent, Contents}

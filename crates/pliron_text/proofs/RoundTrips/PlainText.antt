@@ -80,15 +80,7 @@ module _ {T A : Type 0} (L : Language ⊤ T A) (lawful : Lawful A L.owns) where
 
   space_scalars : (x : Piece ⊤ T A) → AreScalars (spell.space L x)
   space_scalars (tree.word s) = either_scalars (begins joins_left s)
-  space_scalars (tree.operand i n) = refl
-  space_scalars (tree.operands ns) = refl
-  space_scalars (tree.successor i n) = refl
-  space_scalars (tree.successors ns) = refl
-  space_scalars (tree.attribute k a) = refl
-  space_scalars (tree.dictionary es) = refl
-  space_scalars (tree.result_type i t) = refl
-  space_scalars (tree.header n) = refl
-  space_scalars (tree.types ts) = refl
+  space_scalars _ = refl
 
   parts_scalars : (ps : List (Part ⊤ T A)) → Each PartScalars ps → (rs : List Text) → Each AreScalars rs → AreScalars (spell.parts L ps rs)
   parts_scalars [] h rs k = refl
@@ -147,11 +139,7 @@ module _ {T A : Type 0} (L : Language ⊤ T A) (lawful : Lawful A L.owns) where
       part_scalars (format.region i) e w = tt
       part_scalars format.regions e w = tt
       part_scalars format.header e w = header_part (lookup sym_name_key o.attributes) (looked_up sym_name_key o.attributes h)
-      part_scalars (format.operand i) e w = absurd (true≢false (sym e))
-      part_scalars format.operands e w = absurd (true≢false (sym e))
-      part_scalars (format.successor i) e w = absurd (true≢false (sym e))
-      part_scalars format.successors e w = absurd (true≢false (sym e))
-      part_scalars (format.result_type i) e w = absurd (true≢false (sym e))
+      part_scalars _ e w = absurd (true≢false (sym e))
 
       one_more : (p : Option (Part ⊤ T A)) (ps : List (Part ⊤ T A)) → PartIf p → Each PartScalars ps → Each PartScalars (cons_option p ps)
       one_more None ps q k = k

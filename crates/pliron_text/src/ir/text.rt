@@ -5,8 +5,8 @@ ghost use Rattle.irtext_base.specs.Own.{texts_of};
 ghost use Rattle.irtext_read.specs.AttrTexts.{attr_at};
 ghost use Rattle.irtext_state.specs.States.{marks_of};
 ghost use Rattle.irtext_outcomes.specs.Readers.Refusals.{Refusal, RefusesFailed};
-ghost use Rattle.irtext_outcomes.specs.Readers.Streams.{KeepsRest};
 ghost use Rattle.irtext_outcomes.specs.Promises.Root.{IsFresh, BuildsRoot, RefusesRoot, UnlessMemory};
+ghost use Rattle.irtext_outcomes.specs.Readers.Streams.{KeepsRest};
 
 use irtext_base::parsable::ParseResult;
 use irtext_base::text::{AttrText, IrText};

@@ -1,20 +1,18 @@
 //! The law that ties printing to reading: what is written of a root is read back.
-ghost use Rattle.std.specs.Prelude.{◌≡◌, ℕ, List, Some, None};
+ghost use Rattle.std.specs.Prelude.{◌≡◌, ℕ, List};
 ghost use Rattle.std.specs.Str.{chars};
-ghost use Rattle.irtext_context.specs.Context.{ContextView, OperationView, operation};
-ghost use Rattle.irtext_base.specs.Own.{texts_of, unplaced};
+ghost use Rattle.irtext_context.specs.Context.{ContextView, OperationView};
+ghost use Rattle.irtext_base.specs.Own.{texts_of};
 ghost use Rattle.irtext_context.specs.declared.base.arena.Ptr.{Ptr};
 ghost use Rattle.irtext_context.specs.declared.base.operation.Operation.{Operation};
 ghost use Rattle.irtext_base.specs.declared.parsable.fault.ParseFault.{ParseFault};
 ghost use Rattle.irtext_read.specs.AttrTexts.{attr_at};
 ghost use Rattle.irtext_state.specs.declared.parsable.state.StateStream.{StateStream};
 ghost use Rattle.irtext_grammar.specs.Graphs.Graph.{Graph};
-ghost use Rattle.irtext_grammar.specs.Contexts.Formats.{format_of};
-ghost use Rattle.irtext_outcomes.specs.Promises.KeptRoot.{IsKept, StandsAlone};
 ghost use Rattle.irtext_outcomes.specs.Promises.PrintedBack.{StandsBack};
-ghost use Rattle.irtext_print.specs.Printers.PrintedOperation.{levels, printed, printing};
+ghost use Rattle.pliron_text.specs.Promises.PrintedRoot.{PrintedRoot};
+ghost use Rattle.irtext_print.specs.Printers.PrintedOperation.{printing};
 ghost use Rattle.irtext_print.specs.Printers.Shown.{Shown};
-ghost use Rattle.irtext_grammar.specs.Contexts.Held.{graph_of};
 ghost use Rattle.irtext_outcomes.specs.Promises.Root.{BuildsRoot, RefusesRoot};
 
 use irtext_base::text::{AttrText, IrText};
@@ -27,16 +25,12 @@ pub fn printed_root_comes_back<T: IrText<A>, A: AttrText, U, V>()
         let types = texts_of T.reading T.written in
         let owns = texts_of A.reading A.written in
         let C = printing ctx.dialects A.outlined A.print_once A.eq in
-        operation ctx p ≡ Some op → IsKept ctx op → StandsAlone ctx.dialects op → graph_of A.written ctx p ≡ Some g → levels s.limit ≡ None →
-        printed (unplaced types owns (format_of ctx.dialects)) C ctx p s ≡ Some (bytes, after) →
-        (q : Ptr Operation) (old new : StateStream T A U) → old.stream.rest ≡ chars bytes → old.state.ctx.now.dialects ≡ ctx.dialects →
+        PrintedRoot types owns C ctx p op s after bytes g → (q : Ptr Operation) (old new : StateStream T A U) → old.stream.rest ≡ chars bytes → old.state.ctx.now.dialects ≡ ctx.dialects →
         BuildsRoot types owns (attr_at A.reading) q old new → StandsBack A.written ctx.dialects C g q new }
     ensures never_refused { (ctx : ContextView T A) (p : Ptr Operation) (op : OperationView T A) (s after : Shown V) (bytes : List ℕ) (g : Graph T A) →
         let types = texts_of T.reading T.written in
         let owns = texts_of A.reading A.written in
         let C = printing ctx.dialects A.outlined A.print_once A.eq in
-        operation ctx p ≡ Some op → IsKept ctx op → StandsAlone ctx.dialects op → graph_of A.written ctx p ≡ Some g → levels s.limit ≡ None →
-        printed (unplaced types owns (format_of ctx.dialects)) C ctx p s ≡ Some (bytes, after) →
-        (old : StateStream T A U) (fault : ParseFault A) → old.stream.rest ≡ chars bytes → old.state.ctx.now.dialects ≡ ctx.dialects →
+        PrintedRoot types owns C ctx p op s after bytes g → (old : StateStream T A U) (fault : ParseFault A) → old.stream.rest ≡ chars bytes → old.state.ctx.now.dialects ≡ ctx.dialects →
         RefusesRoot types owns (attr_at A.reading) old.state.ctx.now.dialects old.stream fault → ⊥ }
 {}

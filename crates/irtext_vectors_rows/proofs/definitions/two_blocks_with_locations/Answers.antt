@@ -2,10 +2,6 @@ use Rattle.std.specs.Prelude.{refl}
 use Rattle.std.specs.Fmt.{digits}
 use Rattle.irtext_vectors_rows.proofs.definitions.two_blocks_with_locations.Goals as goal
 
-pub returns-clause-whole : goal.returns-clause-whole
+pub returns : goal.returns
 unfolding digits
-returns-clause-whole c = refl
-
-pub returns-clause-no_region : goal.returns-clause-no_region
-unfolding digits
-returns-clause-no_region c = refl
+returns c = record { whole = refl; no_region = refl }

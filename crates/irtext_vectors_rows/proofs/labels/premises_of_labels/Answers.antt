@@ -18,17 +18,8 @@ use Rattle.irtext_vectors_rows.specs.Labels.Demo.{isolated}
 use Rattle.irtext_vectors_rows.specs.Located.{text_locations, up_to_bracket}
 use Rattle.irtext_vectors_rows.specs.Graphs.{two_branches, on_line_one}
 use Rattle.irtext_vectors_rows.specs.Labels.Graphs.{a_and_b}
+use Rattle.irtext_vectors_rows.proofs.Premises.{none_some, on}
 use Rattle.irtext_vectors_rows.proofs.labels.premises_of_labels.Goals as goal
-
-stops : (rest : Text) → begins (the 93) rest ≡ true → begins (λ c. not (c == 93)) rest ≡ false
-stops [] e = refl
-stops (c ∷ rest) e = ap not e
-
-located : (l : Text) → begins is_whitespace l ≡ false → list_all (λ c. not (c == 93)) l ≡ true → LocationReads up_to_bracket text_locations (Some l)
-located l w h = (w, (λ rest e. (l, rest, ap₂ found (front_all (λ c. not (c == 93)) l rest h (stops rest e)) (after_all (λ c. not (c == 93)) l rest h (stops rest e)), refl, refl)))
-
-on : (c : Text) → list_all (λ c. not (c == 93)) (codes "<in-memory>: line: 1, column: " ++ c) ≡ true → LocationReads up_to_bracket text_locations (on_line_one c)
-on c h = located (codes "<in-memory>: line: 1, column: " ++ c) refl h
 
 held : GraphHeld up_to_bracket text_locations two_branches
 held = ((on (codes "1") refl, refl), (tt, ((on (codes "21") refl, refl), ((on (codes "27") refl, refl), tt, tt), ((on (codes "38") refl, refl), ((on (codes "44") refl, refl), tt, tt), tt)), tt))
@@ -61,9 +52,6 @@ small = (
     tt,
   ),
 )
-
-none_some : {X : Type 0} (x : X) → None ≡ Some x → ⊥
-none_some x e = cc
 
 word_of : (x n : Text) → Some x ≡ Some n → IsIdentifier x → IsIdentifier n
 word_of x n e h = let q : x ≡ n = cc in subst IsIdentifier q h
