@@ -41,6 +41,13 @@ followed (Read x taken rest) next = prefixed taken (next x rest)
 followed (Missing cause) next = Missing cause
 followed (Bad cause upto) next = Bad cause upto
 
+-- where the outcome is a value it is answered: no memory is asked for there
+abbrev pub NeedsNoMemory : {X Y A : Type 0} → Outcome X → Result Y (ParseFault A) → Type 0
+NeedsNoMemory o (Ok y) = Unit {0}
+NeedsNoMemory (Read x taken rest) (Err fault) = ⊥
+NeedsNoMemory (Missing cause) (Err fault) = Unit {0}
+NeedsNoMemory (Bad cause upto) (Err fault) = Unit {0}
+
 -- what a relation says of a text, on a stream that may have failed
 abbrev pub Outcomes : {X : Type 0} → (Text → Outcome X → Type 0) → Bool → Text → Outcome X → Type 0
 Outcomes R true text o = o ≡ Bad Failed []
@@ -128,13 +135,6 @@ module _ {S : Type 0} (view : S → StreamView) (at : S → StreamView → S) wh
     abbrev pub Answers : {X Y : Type 0} → (Y → X) → Outcome X → S → Result Y (ParseFault A) → S → Type 0
     Answers see o old (Ok y) new = Gives o old (see y) new
     Answers see o old (Err fault) new = Starves old fault new ⊎ Refuses o old fault new
-
-    -- where the outcome is a value it is read, so no memory is asked for
-    abbrev pub NeedsNoMemory : {X Y : Type 0} → Outcome X → Result Y (ParseFault A) → Type 0
-    NeedsNoMemory o (Ok y) = Unit {0}
-    NeedsNoMemory (Read x taken rest) (Err fault) = ⊥
-    NeedsNoMemory (Missing cause) (Err fault) = Unit {0}
-    NeedsNoMemory (Bad cause upto) (Err fault) = Unit {0}
 
     -- a fault that the relation allows of the text
     pub data Refused {X : Type 0} (R : Text → Outcome X → Type 0) (old : S) (fault : ParseFault A) (new : S) : Type 0 where

@@ -1,7 +1,7 @@
 //! What is parsable: the trait. Streams, the state of a reading and the faults of readers are handed on from below.
 
 ghost use Rattle.std.specs.Prelude.{◌≡◌};
-ghost use Rattle.irtext_base.specs.Answers.{Starves};
+ghost use Rattle.irtext_base.specs.Answers.{StarvesHere};
 ghost use Rattle.irtext_outcomes.specs.Readers.Streams.{itself, replaced};
 
 mod locations;
@@ -12,9 +12,8 @@ pub use irtext_base::parsable::{
     CharStream, ParseFault, ParseResult, ParserNameTrackerError, Place, SourcePosition, TextStream,
     UnresolvedReference,
 };
-use irtext_base::result::Cause;
 use irtext_base::text::{AttrText, IrText};
-use irtext_read::irfmt::faults::refuse;
+use irtext_read::irfmt::faults;
 pub use irtext_read::parsable::{IntoParseResult, OwnStream};
 pub use irtext_state::parsable::{
     State, StateStream, StreamLocation, parse_from_str, state_stream_from_iterator,
@@ -35,8 +34,8 @@ pub trait Parsable<T: IrText<A>, A: AttrText, U> {
 pub(crate) fn out_of_memory<T: IrText<A>, A: AttrText, U>(
     s: &mut StateStream<'_, T, A, U>,
 ) -> ParseFault<A>
-    ensures starved { Starves itself replaced s.old.stream result s.new.stream }
+    ensures starved { StarvesHere itself replaced s.old.stream result s.new.stream }
     ensures state { s.new.state ≡ s.old.state }
 {
-    refuse(&mut s.stream, Cause::Memory)
+    faults::out_of_memory(&mut s.stream)
 }

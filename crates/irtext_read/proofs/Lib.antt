@@ -2,6 +2,7 @@ pub mod Grammar
 pub mod Characters
 pub mod Numbers
 pub mod Words
+pub mod Sparing
 pub mod Spelling
 pub mod Steps
 pub mod SetBack

@@ -1,5 +1,5 @@
 -- Digits behind what stands in front of them, and what is made of both.
-use Rattle.std.proofs.Common.{◌≡◌, ℕ, ℤ, ◌^◌, ◌<◌, ◌≤◌, Bool, true, false, cond, eqb, ltb, Option, Some, None, List, [], ◌∷◌, ◌++◌, refl, sym, ◌∙◌, ap, subst, append-nil, arith, ◌⊎◌, inl, inr, codes}
+use Rattle.std.proofs.Common.{◌≡◌, ℕ, ℤ, ◌^◌, ◌<◌, ◌≤◌, Bool, true, false, cond, eqb, ltb, Option, Some, None, Err, List, [], ◌∷◌, ◌++◌, refl, sym, ◌∙◌, ap, subst, append-nil, arith, ◌⊎◌, inl, inr, codes}
 use Rattle.std.proofs.lemmas.Bool.Decides.{nat_tests}
 use Rattle.std.proofs.lemmas.Str.{encode_ascii, encodes-append}
 use Rattle.std.specs.Char.{is_ascii_digit, is_ascii_hexdigit}
@@ -10,7 +10,7 @@ use Rattle.irtext_base.specs.Text.{Text, begins, front, after}
 use Rattle.irtext_base.specs.Reading.{the}
 use Rattle.irtext_base.specs.Stream.{StreamView, first_of}
 use Rattle.irtext_base.specs.Faults.{Fault, NumberRange, Unexpected, Word, AHexadecimalDigit}
-use Rattle.irtext_base.specs.Answers.{Outcome, Read, Missing, Bad, Takes, Starves, StarvesHere, FailsBehind, Refuses, Gives, unless_failed, prefixed, followed}
+use Rattle.irtext_base.specs.Answers.{Outcome, Read, Missing, Bad, Takes, Starves, StarvesHere, FailsBehind, Refuses, Gives, NeedsNoMemory, unless_failed, prefixed, followed}
 use Rattle.irtext_base.specs.declared.parsable.fault.ParseFault.{ParseFault}
 use Rattle.irtext_base.proofs.Compose.{seen_after, takes_more, starves_behind, refuses_before}
 use Rattle.irtext_read.specs.Tokens.{sign_of, after_sign, fitting, text_at, spelled_at}
@@ -185,6 +185,15 @@ module _ {S : Type 0} (view : S → StreamView) (at : S → StreamView → S) wh
       -- memory was refused behind the number
       pub number_starves : {A : Type 0} (last : S) (fault : ParseFault A) → (view old).failed ≡ failed → StarvesHere view at new fault last → Starves view at old fault last
       number_starves last fault f h = starves_behind view at view_at at_at old new last number_text (after digit l.rest) fault (f ∙ l.not_failed) number_taken h
+
+    -- a number that doesn't fit is not read
+    pub number_spares : {L X A : Type 0} (Y : Type 0) (digit : ℕ → Bool) (make : L → Text → Option X) (failed : Bool) (o : Outcome L) (old mid : S) (lead : L) (fault : ParseFault A) → Gives view at (unless_failed failed o) old lead mid → make lead (front digit (view mid).rest) ≡ None → NeedsNoMemory {Y = Y} (unless_failed failed (numeral_at digit make o)) (Err fault)
+    number_spares Y digit make true o old mid lead fault h e = tt
+    number_spares Y digit make false (Read x t r) old mid lead fault h e =
+        let q : make x (front digit r) ≡ None = subst (λ z. make z (front digit r) ≡ None) h.0 (subst (λ z. make lead (front digit z) ≡ None) (ap (λ v. v.rest) (seen_after view at view_at at_at old mid t r h.1)) e) in
+        rw q tt
+    number_spares Y digit make false (Missing cause) old mid lead fault h e = absurd h
+    number_spares Y digit make false (Bad cause upto) old mid lead fault h e = absurd h
 
     -- the text of a number is read
     pub text_read : (text : Text) (failed : Bool) (sign : Text) (old mid new : S) (l : Led failed (sign_at text) sign old mid) (d : Takes view at (front is_ascii_digit (view mid).rest) (after is_ascii_digit (view mid).rest) mid new) (bytes : List ℕ)

@@ -4,7 +4,7 @@ use Rattle.irtext_base.specs.Text.{Text, begins}
 use Rattle.irtext_base.specs.Reading.{the}
 use Rattle.irtext_base.specs.Stream.{StreamView, first_of, advanced, advanced_by, behind}
 use Rattle.irtext_base.specs.Faults.{Unexpected, Word}
-use Rattle.irtext_base.specs.Answers.{Outcome, Read, Missing, Bad, Takes, Passes, Starves, StarvesHere, Gives, Refuses, prefixed}
+use Rattle.irtext_base.specs.Answers.{Outcome, Read, Missing, Bad, Takes, Passes, Starves, StarvesHere, Gives, Refuses, NeedsNoMemory, prefixed}
 use Rattle.irtext_base.specs.declared.parsable.fault.ParseFault.{ParseFault}
 use Rattle.irtext_base.proofs.Compose.{answers_after, starves_behind, takes_none, seen_after, takes_more}
 use Rattle.std.proofs.lemmas.Bool.Decides.{nat_tests}
@@ -84,6 +84,15 @@ module _ {S : Type 0} (view : S → StreamView) (at : S → StreamView → S) wh
           let q : text_at word (view old).rest ≡ Missing (Unexpected (first_of (view now).rest) (Word word)) = h.spelling.so_far ∙ spelled-misses word h.left (view now).rest h.next h.other in
           let n : now ≡ old = takes_none_is old now (view now).rest (subst (λ z. Takes view at z (view now).rest old now) (h.spelling.untaken refl) h.spelling.takes) in
           rw q (inr (subst (λ z. Passes view at (Unexpected (first_of (view now).rest) (Word word)) z fault new) n m))
+
+      -- a text that differs is not read
+      pub differs_spares : (Y : Type 0) (word : Text) (old now : S) (begun : Bool) (fault : ParseFault A) → Differs view at word old begun now → NeedsNoMemory {Y = Y} (text_at word (view old).rest) (Err fault)
+      differs_spares Y word old now true fault h =
+          let q : text_at word (view old).rest ≡ prefixed h.taken (Missing (Unexpected (first_of (view now).rest) (Word word))) = h.spelling.so_far ∙ ap (prefixed h.taken) (spelled-misses word h.left (view now).rest h.next h.other) in
+          rw q tt
+      differs_spares Y word old now false fault h =
+          let q : text_at word (view old).rest ≡ Missing (Unexpected (first_of (view now).rest) (Word word)) = h.spelling.so_far ∙ spelled-misses word h.left (view now).rest h.next h.other in
+          rw q tt
 
       -- memory is refused behind the characters taken
       pub spelling_starved : (word : Text) (old now new : S) (begun : Bool) (fault : ParseFault A) → (view old).failed ≡ false → Differs view at word old begun now → StarvesHere view at now fault new → Starves view at old fault new

@@ -9,7 +9,7 @@ use Rattle.irtext_base.specs.Faults.{Fault, ReservedKey}
 use Rattle.irtext_base.specs.Stream.{StreamView}
 use Rattle.irtext_base.specs.Places.{StandsBehind}
 use Rattle.irtext_base.specs.Locations.{AttrView, attr_view}
-use Rattle.irtext_base.specs.Answers.{Outcome, Read, Missing, Bad, Takes, Starves, Commits, Refuses, Answers, Gives, demanded, mapped, followed, unless_failed}
+use Rattle.irtext_base.specs.Answers.{Outcome, Read, Missing, Bad, Takes, Starves, StarvesHere, Commits, Refuses, Answers, Gives, demanded, mapped, followed, unless_failed}
 use Rattle.irtext_base.specs.declared.base.attributes.AttrObj.{AttrObj}
 use Rattle.irtext_base.specs.declared.base.attributes.AttrObj.TheVariants.{GivenNames, Ident, Own}
 use Rattle.irtext_base.specs.declared.parsable.fault.ParseFault.{ParseFault}
@@ -121,7 +121,7 @@ module _ {A : Type 0} where
 
   module _ {X Y V W : Type 0} {see : Y → X} {f : Text → Outcome X} {old : StreamView} where
     -- what was read is a part of the whole, for which memory was refused
-    pub part_starved : {sees : W → V} {y : Y} {mid new : StreamView} {fault : ParseFault A} (k : X → V) → MustRead {A = A} itself replaced see f old (Ok y) mid → Starves itself replaced mid fault new → MustRead itself replaced sees (λ t. mapped k (f t)) old (Err fault) new
+    pub part_starved : {sees : W → V} {y : Y} {mid new : StreamView} {fault : ParseFault A} (k : X → V) → MustRead {A = A} itself replaced see f old (Ok y) mid → StarvesHere itself replaced mid fault new → MustRead itself replaced sees (λ t. mapped k (f t)) old (Err fault) new
     part_starved k h s =
         let whole : Text → Outcome V = λ t. mapped k (f t) in
         let fine = (first alone (λ x t. Read x [] t) h).fine in

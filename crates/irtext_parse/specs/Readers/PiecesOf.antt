@@ -2,7 +2,7 @@
 use Rattle.std.specs.Prelude.{◌≡◌, true, false, Result, Ok, Err, codes, ⊤}
 use Rattle.irtext_base.specs.Text.{Text}
 use Rattle.irtext_base.specs.Stream.{StreamView}
-use Rattle.irtext_base.specs.Answers.{Outcome, Starves, followed, mapped}
+use Rattle.irtext_base.specs.Answers.{Outcome, StarvesHere, followed, mapped}
 use Rattle.irtext_base.specs.Faults.{ReservedKey}
 use Rattle.irtext_base.specs.Locations.{AttrView}
 use Rattle.irtext_base.specs.declared.base.attributes.AttrObj.{AttrObj}
@@ -38,4 +38,4 @@ Allows place e old (Err fault) new = (may_hold e.0 (attribute_of e.1) ≡ false)
 -- The pieces are these, and the stream is as it was, unless memory was refused.
 abbrev pub Adds : {A : Type 0} → Pieces A → Pieces A → StreamView → Result ⊤ (ParseFault A) → StreamView → Type 0
 Adds all found old (Ok _) new = (found ≡ all) × (new ≡ old)
-Adds all found old (Err fault) new = Starves itself replaced old fault new
+Adds all found old (Err fault) new = StarvesHere itself replaced old fault new

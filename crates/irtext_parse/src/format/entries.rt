@@ -15,7 +15,7 @@ use irtext_base::parsable::{CharStream, ParseResult, Place, TextStream};
 use irtext_base::result::Cause;
 use irtext_base::text::AttrText;
 use irtext_read::irfmt::demanded::{spaced_text_demanded, text_demanded};
-use irtext_read::irfmt::faults::{committed, refuse, refuse_at};
+use irtext_read::irfmt::faults::{committed, out_of_memory, refuse_at};
 use irtext_read::irfmt::parsers::{attr_parse, identifier_parse, list_parser, skip_white_space};
 
 /// A key and its attribute.
@@ -84,7 +84,7 @@ fn under_key<A: AttrText>(stream: &mut TextStream, key: &Identifier) -> ParseRes
     let attr = attr_demanded(stream)?;
     match key.clone() {
         Ok(key) => Ok((key, attr)),
-        Err(_) => Err(refuse(stream, Cause::Memory)),
+        Err(_) => Err(out_of_memory(stream)),
     }
 }
 

@@ -1,6 +1,6 @@
 //! Reading of what a format's directives read, behind an operation's id.
 ghost use Rattle.std.specs.Prelude.{◌≡◌, false, OnOk, [], ◌∷◌};
-ghost use Rattle.irtext_base.specs.Answers.{Starves, Commits, mapped};
+ghost use Rattle.irtext_base.specs.Answers.{Commits, mapped};
 ghost use Rattle.irtext_context.specs.Directives.{directive_of, directives_of, format_of};
 ghost use Rattle.irtext_base.specs.Faults.{Unexpected, AnOperation};
 ghost use Rattle.irtext_base.specs.Format.{sym_name_key};
@@ -23,7 +23,7 @@ use irtext_base::parsable::{CharStream, ParseFault, ParseResult, TextStream};
 use irtext_base::result::{Cause, Expected};
 use irtext_base::text::AttrText;
 use irtext_read::irfmt::demanded::{symbol_demanded, text_demanded};
-use irtext_read::irfmt::faults::{commit, refuse, unexpected};
+use irtext_read::irfmt::faults::{commit, out_of_memory, refuse, unexpected};
 use irtext_read::irfmt::parsers::skip_white_space;
 
 /// What was read of an operation behind its id: its attributes, and how many regions it has.
@@ -31,13 +31,6 @@ use irtext_read::irfmt::parsers::skip_white_space;
 pub(crate) struct Pieces<A> {
     pub(crate) attributes: AttributeDict<A>,
     pub(crate) regions: usize,
-}
-
-/// The fault where memory was refused. The stream has failed.
-fn no_memory<A>(stream: &mut TextStream) -> ParseFault<A>
-    ensures { Starves itself replaced stream.old result stream.new }
-{
-    refuse(stream, Cause::Memory)
 }
 
 /// The fault where a directive stands that is not read so far: an operation is expected. The stream has failed.
@@ -71,7 +64,7 @@ fn store_entries<A: Drop>(
 {
     match put_entries(&mut found.attributes, entries) {
         Ok(()) => Ok(()),
-        Err(_) => Err(no_memory(stream)),
+        Err(_) => Err(out_of_memory(stream)),
     }
 }
 
@@ -86,7 +79,7 @@ fn store_entry<A: Drop>(
     let (key, attr) = entry;
     match found.attributes.insert(key, attr) {
         Ok(()) => Ok(()),
-        Err(_) => Err(no_memory(stream)),
+        Err(_) => Err(out_of_memory(stream)),
     }
 }
 
@@ -99,7 +92,7 @@ fn count_regions<A>(
     ensures { Adds (with_regions (pieces_of found.old) regions) (pieces_of found.new) stream.old result stream.new }
 {
     let Some(sum) = found.regions.checked_add(regions) else {
-        return Err(no_memory(stream));
+        return Err(out_of_memory(stream));
     };
     found.regions = sum;
     Ok(())
@@ -135,7 +128,7 @@ fn header_piece<A: AttrText>(stream: &mut TextStream, found: &mut Pieces<A>) -> 
     let symbol = symbol_demanded(stream)?;
     match Identifier::from_word(stream.allocator(), "builtin_sym_name") {
         Ok(key) => store_entry(stream, (key, AttrObj::Ident(symbol)), found),
-        Err(_) => Err(no_memory(stream)),
+        Err(_) => Err(out_of_memory(stream)),
     }
 }
 

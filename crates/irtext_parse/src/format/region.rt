@@ -7,7 +7,7 @@ ghost use Rattle.irtext_outcomes.specs.Readers.Streams.{itself, replaced};
 use irtext_base::parsable::{CharStream, ParseResult, ParserNameTrackerError, TextStream};
 use irtext_base::result::Cause;
 use irtext_read::irfmt::demanded::braces_demanded;
-use irtext_read::irfmt::faults::{next_is, refuse};
+use irtext_read::irfmt::faults::{next_is, out_of_memory, refuse};
 use irtext_read::irfmt::parsers::skip_white_space;
 
 /// Reads a region without blocks, where its operation is isolated from above; else none may stand there. A fault is committed.
@@ -36,7 +36,7 @@ pub(crate) fn regions_parse<A>(stream: &mut TextStream, isolated: bool) -> Parse
         region_parse(stream, isolated)?;
         skip_white_space(stream);
         let Some(more) = found.checked_add(1) else {
-            return Err(refuse(stream, Cause::Memory));
+            return Err(out_of_memory(stream));
         };
         found = more;
     }

@@ -6,8 +6,7 @@ ghost use Rattle.irtext_outcomes.specs.Readers.NewPaths.{AnswersMade, Makes};
 use irtext_base::base::AttrObj;
 use irtext_base::location::Location;
 use irtext_base::parsable::{CharStream, ParseResult, TextStream};
-use irtext_base::result::Cause;
-use irtext_read::irfmt::faults::refuse;
+use irtext_read::irfmt::faults::out_of_memory;
 use std::alloc::{AllocError, Global};
 
 fn fused<A: Drop>(
@@ -58,7 +57,7 @@ fn answered<A>(
 {
     match made {
         Ok(location) => Ok(location),
-        Err(_) => Err(refuse(stream, Cause::Memory)),
+        Err(_) => Err(out_of_memory(stream)),
     }
 }
 

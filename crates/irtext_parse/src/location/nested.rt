@@ -20,7 +20,7 @@ use irtext_base::result::{Cause, Expected};
 use irtext_base::text::{AttrText, IrText};
 use irtext_context::base::Context;
 use irtext_read::irfmt::demanded::{spaced_text_demanded, text_demanded};
-use irtext_read::irfmt::faults::{commit, committed, next_is, refuse, unexpected};
+use irtext_read::irfmt::faults::{commit, committed, next_is, out_of_memory, refuse, unexpected};
 use irtext_read::irfmt::parsers::{attr_parse, skip_white_space};
 
 /// Whether a source begins here.
@@ -93,7 +93,7 @@ fn push_location<A: Drop>(
     ensures { PushesRow found.old location stream.old found.new result stream.new }
 {
     if found.push(location).is_err() {
-        return Err(refuse(stream, Cause::Memory));
+        return Err(out_of_memory(stream));
     }
     skip_white_space(stream);
     Ok(())

@@ -18,7 +18,7 @@ use irtext_base::text::{AttrText, IrText};
 use irtext_context::base::Context;
 use irtext_context::base::context::making::Making;
 use irtext_read::irfmt::demanded::{spaced_text_demanded, text_demanded};
-use irtext_read::irfmt::faults::{commit, committed, next_is, refuse, unexpected};
+use irtext_read::irfmt::faults::{commit, committed, next_is, out_of_memory, refuse, unexpected};
 use irtext_read::irfmt::parsers::{held, quoted_string_parse};
 
 /// A text between quotation marks.
@@ -40,7 +40,7 @@ fn path_demanded<T: IrText<A>, A: AttrText>(
 {
     let path = quoted_demanded(stream)?;
     let Ok(key) = ctx.keep_path(&path) else {
-        return Err(refuse(stream, Cause::Memory));
+        return Err(out_of_memory(stream));
     };
     Ok(Source::File(key))
 }
@@ -111,7 +111,7 @@ pub(crate) fn position_parse<A>(stream: &mut TextStream) -> ParseResult<SourcePo
     if !next_is(stream, 'l') {
         return Err(match held(stream.allocator(), "line") {
             Ok(expected) => unexpected(stream, expected),
-            Err(_) => refuse(stream, Cause::Memory),
+            Err(_) => out_of_memory(stream),
         });
     }
     position_demanded(stream)

@@ -1,6 +1,6 @@
 //! What stands behind the id of an operation, by its format, and the operation that is made of it.
 ghost use Rattle.std.specs.Prelude.{◌≡◌, ◌≤◌, ℕ, None, IsSome, IfOk, IfErr, OnOk};
-ghost use Rattle.irtext_base.specs.Answers.{Starves};
+ghost use Rattle.irtext_base.specs.Answers.{StarvesHere};
 ghost use Rattle.irtext_context.specs.Context.{operation, before, KeepsOlder};
 ghost use Rattle.irtext_context.specs.DialectTable.{registered};
 ghost use Rattle.irtext_base.specs.Faults.{id_of};
@@ -54,7 +54,7 @@ pub(crate) fn make_read<T: IrText<A>, A: AttrText, U>(
     ensures marks { marks_of s.new.state ≡ marks_of s.old.state }
     ensures makes { IfOk result (λ op. MakesWith id pieces.attributes loc pieces.regions op s.old.state.ctx.now s.new.state.ctx.now) }
     ensures stream { OnOk result (s.new.stream ≡ s.old.stream) }
-    ensures starved { IfErr result (λ fault. Starves itself replaced s.old.stream fault s.new.stream) }
+    ensures starved { IfErr result (λ fault. StarvesHere itself replaced s.old.stream fault s.new.stream) }
     ensures kept { (mark : ℕ) → mark ≤ s.old.state.ctx.now.made → KeepsOlder mark s.old.state.ctx.now s.new.state.ctx.now }
 {
     let Pieces {
@@ -79,7 +79,7 @@ fn with_regions<T: IrText<A>, A: AttrText, U>(
     ensures marks { marks_of s.new.state ≡ marks_of s.old.state }
     ensures adds { IfOk result (λ p. (p ≡ op) × AddsRegions regions s.old.state.ctx.now s.new.state.ctx.now op) }
     ensures stream { OnOk result (s.new.stream ≡ s.old.stream) }
-    ensures starved { IfErr result (λ fault. Starves itself replaced s.old.stream fault s.new.stream) }
+    ensures starved { IfErr result (λ fault. StarvesHere itself replaced s.old.stream fault s.new.stream) }
     ensures kept { (mark : ℕ) → mark ≤ s.old.state.ctx.now.made → before mark s.old.state.ctx.now.operations op ≡ None → KeepsOlder mark s.old.state.ctx.now s.new.state.ctx.now }
 {
     let ctx = &mut *s.state.ctx;

@@ -1,6 +1,6 @@
 //! The reader of fixed texts, a format's literals among them.
 ghost use Rattle.std.specs.Prelude.{◌≡◌, IfOk};
-ghost use Rattle.irtext_base.specs.Answers.{Answers, unless_failed};
+ghost use Rattle.irtext_base.specs.Answers.{Answers, NeedsNoMemory, unless_failed};
 ghost use Rattle.irtext_base.specs.Faults.{Unexpected, Word, characters, demand_of};
 ghost use Rattle.irtext_base.specs.Stream.{first_of};
 ghost use Rattle.irtext_read.specs.Spelled.{Spells, Misses};
@@ -54,7 +54,8 @@ pub fn held(alloc: Global, text: &str) -> Result<Expected, AllocError>
 /// Reads a fixed text. The fault stands at the first character that differs; it is uncommitted where that is the first of all. A text of
 /// more than 24 bytes is copied for the fault; where there is no memory for it, that is the fault.
 pub fn text_parse<S: CharStream, A>(stream: &mut S, text: &str) -> ParseResult<(), A>
-    ensures { Answers S.view S.at (λ u. u) (unless_failed (S.view stream.old).failed (text_at (characters text.now) (S.view stream.old).rest)) stream.old result stream.new }
+    ensures answers { Answers S.view S.at (λ u. u) (unless_failed (S.view stream.old).failed (text_at (characters text.now) (S.view stream.old).rest)) stream.old result stream.new }
+    ensures spares { NeedsNoMemory (unless_failed (S.view stream.old).failed (text_at (characters text.now) (S.view stream.old).rest)) result }
 {
     if stream.has_failed() {
         return Err(refuse(stream, Cause::StreamFailed));

@@ -1,5 +1,5 @@
 //! The reader of hexadecimal numbers.
-ghost use Rattle.irtext_base.specs.Answers.{Answers, unless_failed};
+ghost use Rattle.irtext_base.specs.Answers.{Answers, NeedsNoMemory, unless_failed};
 ghost use Rattle.irtext_read.specs.Integers.{hexadecimal_mark_at, hex_int_at};
 
 use crate::irfmt::faults::{begins, commit_unexpected};
@@ -13,7 +13,8 @@ use irtext_base::result::Expected;
 
 /// `0x`, in front of a hexadecimal digit.
 fn mark_parse<S: CharStream, A>(stream: &mut S) -> ParseResult<(), A>
-    ensures { Answers S.view S.at (λ u. u) (unless_failed (S.view stream.old).failed (hexadecimal_mark_at (S.view stream.old).rest)) stream.old result stream.new }
+    ensures answers { Answers S.view S.at (λ u. u) (unless_failed (S.view stream.old).failed (hexadecimal_mark_at (S.view stream.old).rest)) stream.old result stream.new }
+    ensures spares { NeedsNoMemory (unless_failed (S.view stream.old).failed (hexadecimal_mark_at (S.view stream.old).rest)) result }
 {
     text_parse(stream, "0x")?;
     if begins(stream, Class::HexadecimalDigit) {
@@ -27,7 +28,8 @@ fn mark_parse<S: CharStream, A>(stream: &mut S) -> ParseResult<(), A>
 /// a hexadecimal digit is expected, committed. A number that doesn't fit its type is refused at its beginning. An uncommitted fault
 /// leaves the stream where it was, a committed one leaves it failed.
 pub fn hex_int_parse<S: CharStream, N: FromStrRadix, A>(stream: &mut S) -> ParseResult<N, A>
-    ensures { Answers S.view S.at N.number (unless_failed (S.view stream.old).failed (hex_int_at N.below (S.view stream.old).rest)) stream.old result stream.new }
+    ensures answers { Answers S.view S.at N.number (unless_failed (S.view stream.old).failed (hex_int_at N.below (S.view stream.old).rest)) stream.old result stream.new }
+    ensures spares { NeedsNoMemory (unless_failed (S.view stream.old).failed (hex_int_at N.below (S.view stream.old).rest)) result }
 {
     let place = stream.position();
     mark_parse(stream)?;

@@ -2,7 +2,7 @@
 ghost use Rattle.std.specs.Prelude.{◌≡◌, string_bytes};
 ghost use Rattle.std.specs.Option.{option_map};
 ghost use Rattle.irtext_base.specs.Stream.{first_of};
-ghost use Rattle.irtext_base.specs.Answers.{Answers, Takes, unless_failed};
+ghost use Rattle.irtext_base.specs.Answers.{Answers, NeedsNoMemory, Takes, unless_failed};
 ghost use Rattle.irtext_read.specs.Tokens.{sign_of, after_sign};
 ghost use Rattle.irtext_read.specs.Integers.{within_of, sign_text, sign_at, int_at, number_text_at};
 
@@ -29,7 +29,8 @@ fn take_sign<S: CharStream>(stream: &mut S) -> Option<char>
 
 /// Reads `+`, `-` or no sign, in front of a digit.
 fn sign_parse<S: CharStream, A>(stream: &mut S) -> ParseResult<Option<char>, A>
-    ensures { Answers S.view S.at sign_text (unless_failed (S.view stream.old).failed (sign_at (S.view stream.old).rest)) stream.old result stream.new }
+    ensures answers { Answers S.view S.at sign_text (unless_failed (S.view stream.old).failed (sign_at (S.view stream.old).rest)) stream.old result stream.new }
+    ensures spares { NeedsNoMemory (unless_failed (S.view stream.old).failed (sign_at (S.view stream.old).rest)) result }
 {
     if stream.has_failed() {
         return Err(refuse(stream, Cause::StreamFailed));
@@ -57,7 +58,8 @@ pub(crate) fn number_of<N: FromStrRadix>(negative: bool, magnitude: Option<u64>)
 /// beginning; behind `-` no number fits an unsigned type. An uncommitted fault leaves the stream where it was, a committed one
 /// leaves it failed.
 pub fn int_parse<S: CharStream, N: FromStrRadix, A>(stream: &mut S) -> ParseResult<N, A>
-    ensures { Answers S.view S.at N.number (unless_failed (S.view stream.old).failed (int_at N.below (S.view stream.old).rest)) stream.old result stream.new }
+    ensures answers { Answers S.view S.at N.number (unless_failed (S.view stream.old).failed (int_at N.below (S.view stream.old).rest)) stream.old result stream.new }
+    ensures spares { NeedsNoMemory (unless_failed (S.view stream.old).failed (int_at N.below (S.view stream.old).rest)) result }
 {
     let place = stream.position();
     let sign = sign_parse(stream)?;

@@ -4,4 +4,4 @@ use Rattle.irtext_outcomes.proofs.Readers.PlainStream.{alone}
 use Rattle.irtext_parse.proofs.format.entries.attr_demanded.Goals as goal
 
 pub returns : goal.returns
-returns g c = as_tree c.committed.result (insisted alone c.attr_parse-answer.ensures c.committed.ensures)
+returns g c = as_tree c.committed.result (insisted alone c.attr_parse-answer.ensures.read c.committed.ensures)

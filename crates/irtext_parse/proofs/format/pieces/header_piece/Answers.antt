@@ -20,4 +20,4 @@ returns-in-Ok g c =
     part_added (λ name. with_entries (pieces_of c.args.found.now) ((sym_name_key, ident name) ∷ [])) all (pieces_of c.store_entry.new.found) c.store_entry.result e c.in_ok-symbol.ensures c.store_entry.ensures
 
 pub returns-in-Err : goal.returns-in-Err
-returns-in-Err g c = part_starved (λ name. with_entries (pieces_of c.args.found.now) ((sym_name_key, ident name) ∷ [])) c.in_ok-symbol.ensures c.no_memory.ensures
+returns-in-Err g c = part_starved (λ name. with_entries (pieces_of c.args.found.now) ((sym_name_key, ident name) ∷ [])) c.in_ok-symbol.ensures c.out_of_memory.ensures

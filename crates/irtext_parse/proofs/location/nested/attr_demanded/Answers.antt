@@ -9,4 +9,4 @@ use Rattle.irtext_parse.proofs.location.nested.attr_demanded.Goals as goal
 pub returns : goal.returns
 returns g c =
     let old = c.args.stream.now in
-    record { answers = answers_demanded itself replaced alone.view_at alone.at_at attr_view (unless_failed old.failed (attr_at g.A.IrText.reading old.rest)) old c.attr_parse-answer.new.stream c.committed.new.stream c.attr_parse-answer.result c.committed.result c.attr_parse-answer.ensures.answers c.committed.ensures }
+    record { answers = answers_demanded itself replaced alone.view_at alone.at_at attr_view (unless_failed old.failed (attr_at g.A.IrText.reading old.rest)) old c.attr_parse-answer.new.stream c.committed.new.stream c.attr_parse-answer.result c.committed.result c.attr_parse-answer.ensures.read.answers c.committed.ensures }

@@ -10,4 +10,4 @@ returns g c =
     let view = g.S.CharStream.view in
     let at = g.S.CharStream.at in
     let old = c.args.stream.now in
-    integer_must view at old c.committed.new.stream c.committed.result (answers_demanded view at m.view_at m.at_at (λ z. z) (unless_failed (view old).failed (int_at (signed_below 32) (view old).rest)) old c.int_parse-answer.new.stream c.committed.new.stream c.int_parse-answer.result c.committed.result c.int_parse-answer.ensures c.committed.ensures)
+    integer_must view at old c.committed.new.stream c.committed.result (answers_demanded view at m.view_at m.at_at (λ z. z) (unless_failed (view old).failed (int_at (signed_below 32) (view old).rest)) old c.int_parse-answer.new.stream c.committed.new.stream c.int_parse-answer.result c.committed.result c.int_parse-answer.ensures.answers c.committed.ensures)

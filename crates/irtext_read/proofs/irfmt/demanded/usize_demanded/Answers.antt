@@ -11,4 +11,4 @@ returns g c =
     let view = g.S.CharStream.view in
     let at = g.S.CharStream.at in
     let old = c.args.stream.now in
-    number_must view at old c.committed.new.stream c.committed.result (answers_demanded view at m.view_at m.at_at pos (unless_failed (view old).failed (int_at (unsigned_below 64) (view old).rest)) old c.int_parse-answer.new.stream c.committed.new.stream c.int_parse-answer.result c.committed.result c.int_parse-answer.ensures c.committed.ensures)
+    number_must view at old c.committed.new.stream c.committed.result (answers_demanded view at m.view_at m.at_at pos (unless_failed (view old).failed (int_at (unsigned_below 64) (view old).rest)) old c.int_parse-answer.new.stream c.committed.new.stream c.int_parse-answer.result c.committed.result c.int_parse-answer.ensures.answers c.committed.ensures)

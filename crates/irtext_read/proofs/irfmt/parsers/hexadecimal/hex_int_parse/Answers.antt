@@ -4,16 +4,17 @@ use Rattle.std.specs.Char.{is_ascii_hexdigit}
 use Rattle.std.specs.Option.{option_map}
 use Rattle.irtext_base.specs.Text.{front}
 use Rattle.irtext_read.specs.Integers.{hexadecimal_mark_at, hexadecimal_integer, hex_int_at}
-use Rattle.irtext_read.proofs.Numerals.{led, lead_refused, number_text, number_passed, number_read, number_refused, hexadecimal_made, mark_at-encodes, encodes-front_hexadecimal}
+use Rattle.irtext_read.proofs.Numerals.{led, lead_refused, number_spares, number_text, number_passed, number_read, number_refused, hexadecimal_made, mark_at-encodes, encodes-front_hexadecimal}
+use Rattle.irtext_read.proofs.Sparing.{lead_spares}
 use Rattle.irtext_read.proofs.irfmt.parsers.hexadecimal.hex_int_parse.Goals as goal
 
-pub returns-in_err-mark_parse : goal.returns-in_err-mark_parse
+pub returns-in_err-mark_parse-clause-answers : goal.returns-in_err-mark_parse-clause-answers
 unfolding hex_int_at
-returns-in_err-mark_parse g c =
+returns-in_err-mark_parse-clause-answers g c =
     let view = g.S.CharStream.view in
     let old = c.args.stream.now in
     let p = err_from_is_err_and c.from_residual.result c.from_residual.ensures.1 in
-    rw (p.1, p.2) (lead_refused view g.S.CharStream.at is_ascii_hexdigit (hexadecimal_integer g.N.FromStrRadix.below) (view old).failed (hexadecimal_mark_at (view old).rest) old c.mark_parse.new.stream c.in_err-mark_parse.field-0.0 c.in_err-mark_parse.ensures)
+    rw (p.1, p.2) (lead_refused view g.S.CharStream.at is_ascii_hexdigit (hexadecimal_integer g.N.FromStrRadix.below) (view old).failed (hexadecimal_mark_at (view old).rest) old c.mark_parse.new.stream c.in_err-mark_parse.field-0.0 c.in_err-mark_parse.ensures.answers)
 
 pub out_of_range-requires : goal.out_of_range-requires
 out_of_range-requires g c =
@@ -24,13 +25,13 @@ out_of_range-requires g c =
     let mid = c.mark_parse.new.stream in
     let new = c.take_digits-magnitude.new.stream in
     let o = hexadecimal_mark_at (view old).rest in
-    let l = led view at (view old).failed o tt old mid c.in_ok-mark_parse.ensures in
+    let l = led view at (view old).failed o tt old mid c.in_ok-mark_parse.ensures.answers in
     let d = c.take_digits-magnitude.ensures.takes in
     ((view old).passed, number_text view at m.view_at m.at_at is_ascii_hexdigit (view old).failed o tt old mid new l d, number_passed view at m.view_at m.at_at is_ascii_hexdigit (view old).failed o tt old mid new l d, c.position-place.ensures)
 
-pub returns-in-Some : goal.returns-in-Some
+pub returns-in-Some-clause-answers : goal.returns-in-Some-clause-answers
 unfolding hex_int_at
-returns-in-Some g c =
+returns-in-Some-clause-answers g c =
     let view = g.S.CharStream.view in
     let at = g.S.CharStream.at in
     let m = g.met.S.CharStream in
@@ -38,15 +39,15 @@ returns-in-Some g c =
     let mid = c.mark_parse.new.stream in
     let new = c.take_digits-magnitude.new.stream in
     let o = hexadecimal_mark_at (view old).rest in
-    let l = led view at (view old).failed o tt old mid c.in_ok-mark_parse.ensures in
+    let l = led view at (view old).failed o tt old mid c.in_ok-mark_parse.ensures.answers in
     let d = c.take_digits-magnitude.ensures.takes in
     let n = g.N.FromStrRadix in
     let made = hexadecimal_made n.below g.met.N.FromStrRadix.narrow tt (front is_ascii_hexdigit (view mid).rest) c.take_digits-magnitude.result (Some (n.number c.in-Some.number)) (sym (ap (option_map n.number) c.in-Some.is) ∙ c.number_of.ensures) c.take_digits-magnitude.ensures.value in
     number_read view at m.view_at m.at_at is_ascii_hexdigit (view old).failed o tt old mid new l d (hexadecimal_integer n.below) (n.number c.in-Some.number) made
 
-pub returns-in-None : goal.returns-in-None
+pub returns-in-None-clause-answers : goal.returns-in-None-clause-answers
 unfolding hex_int_at
-returns-in-None g c =
+returns-in-None-clause-answers g c =
     let view = g.S.CharStream.view in
     let at = g.S.CharStream.at in
     let m = g.met.S.CharStream in
@@ -54,7 +55,7 @@ returns-in-None g c =
     let mid = c.mark_parse.new.stream in
     let new = c.take_digits-magnitude.new.stream in
     let o = hexadecimal_mark_at (view old).rest in
-    let l = led view at (view old).failed o tt old mid c.in_ok-mark_parse.ensures in
+    let l = led view at (view old).failed o tt old mid c.in_ok-mark_parse.ensures.answers in
     let d = c.take_digits-magnitude.ensures.takes in
     let n = g.N.FromStrRadix in
     let made = hexadecimal_made n.below g.met.N.FromStrRadix.narrow tt (front is_ascii_hexdigit (view mid).rest) c.take_digits-magnitude.result None (sym (ap (option_map n.number) c.in-None.is) ∙ c.number_of.ensures) c.take_digits-magnitude.ensures.value in
@@ -63,3 +64,22 @@ returns-in-None g c =
     let passed = number_passed view at m.view_at m.at_at is_ascii_hexdigit (view old).failed o tt old mid new l d in
     number_refused view at m.view_at m.at_at is_ascii_hexdigit (view old).failed o tt old mid new l d (hexadecimal_integer n.below) c.out_of_range.new.stream c.out_of_range.result made
     (mark_at-encodes (view old).rest tt l.taken l.rest l.is) encodes-front_hexadecimal refl (r (view old).passed text passed c.position-place.ensures)
+
+pub returns-in-None-clause-spares : goal.returns-in-None-clause-spares
+unfolding hex_int_at
+returns-in-None-clause-spares g c =
+    let view = g.S.CharStream.view in
+    let m = g.met.S.CharStream in
+    let n = g.N.FromStrRadix in
+    let old = c.args.stream.now in
+    let mid = c.mark_parse.new.stream in
+    let made = hexadecimal_made n.below g.met.N.FromStrRadix.narrow tt (front is_ascii_hexdigit (view mid).rest) c.take_digits-magnitude.result None (sym (ap (option_map n.number) c.in-None.is) ∙ c.number_of.ensures) c.take_digits-magnitude.ensures.value in
+    number_spares view g.S.CharStream.at m.view_at m.at_at (Unit {0}) is_ascii_hexdigit (hexadecimal_integer n.below) (view old).failed (hexadecimal_mark_at (view old).rest) old mid tt c.out_of_range.result c.in_ok-mark_parse.ensures.answers made
+
+pub returns-in_err-mark_parse-clause-spares : goal.returns-in_err-mark_parse-clause-spares
+unfolding hex_int_at
+returns-in_err-mark_parse-clause-spares g c =
+    let view = g.S.CharStream.view in
+    let old = c.args.stream.now in
+    let p = err_from_is_err_and c.from_residual.result c.from_residual.ensures.1 in
+    rw (p.1, p.2) (lead_spares (Unit {0}) (Unit {0}) is_ascii_hexdigit (hexadecimal_integer g.N.FromStrRadix.below) (view old).failed (hexadecimal_mark_at (view old).rest) c.in_err-mark_parse.field-0.0 _ c.in_err-mark_parse.ensures.spares)

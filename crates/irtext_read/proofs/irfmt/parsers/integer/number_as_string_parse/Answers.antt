@@ -11,7 +11,7 @@ returns-in_err-sign_parse g c =
     let view = g.S.CharStream.view in
     let old = c.args.stream.now in
     let p = err_from_is_err_and c.from_residual.result c.from_residual.ensures.1 in
-    rw (p.1, p.2) (lead_refused view g.S.CharStream.at is_ascii_digit signed_text (view old).failed (sign_at (view old).rest) old c.sign_parse.new.stream c.in_err-sign_parse.field-0.0 c.in_err-sign_parse.ensures)
+    rw (p.1, p.2) (lead_refused view g.S.CharStream.at is_ascii_digit signed_text (view old).failed (sign_at (view old).rest) old c.sign_parse.new.stream c.in_err-sign_parse.field-0.0 c.in_err-sign_parse.ensures.answers)
 
 pub text_since-requires : goal.text_since-requires
 text_since-requires g c =
@@ -23,7 +23,7 @@ text_since-requires g c =
     let new = c.skip_class.new.stream in
     let sign = sign_text c.in_ok-sign_parse.field-0 in
     let o = sign_at (view old).rest in
-    let l = led view at (view old).failed o sign old mid c.in_ok-sign_parse.ensures in
+    let l = led view at (view old).failed o sign old mid c.in_ok-sign_parse.ensures.answers in
     let d = c.skip_class.ensures in
     ((view old).passed, number_text view at m.view_at m.at_at is_ascii_digit (view old).failed o sign old mid new l d, number_passed view at m.view_at m.at_at is_ascii_digit (view old).failed o sign old mid new l d, c.position-place.ensures)
 
@@ -38,7 +38,7 @@ returns-in-Ok g c =
     let new = c.skip_class.new.stream in
     let sign = sign_text c.in_ok-sign_parse.field-0 in
     let o = sign_at (view old).rest in
-    let l = led view at (view old).failed o sign old mid c.in_ok-sign_parse.ensures in
+    let l = led view at (view old).failed o sign old mid c.in_ok-sign_parse.ensures.answers in
     let d = c.skip_class.ensures in
     let text = number_text view at m.view_at m.at_at is_ascii_digit (view old).failed o sign old mid new l d in
     let passed = number_passed view at m.view_at m.at_at is_ascii_digit (view old).failed o sign old mid new l d in
@@ -55,7 +55,7 @@ returns-in-Err g c =
     let new = c.skip_class.new.stream in
     let sign = sign_text c.in_ok-sign_parse.field-0 in
     let o = sign_at (view old).rest in
-    let l = led view at (view old).failed o sign old mid c.in_ok-sign_parse.ensures in
+    let l = led view at (view old).failed o sign old mid c.in_ok-sign_parse.ensures.answers in
     let d = c.skip_class.ensures in
     let r = c.out_of_memory.ensures in
     inl (number_starves view at m.view_at m.at_at is_ascii_digit (view old).failed o sign old mid new l d c.out_of_memory.new.stream c.out_of_memory.result refl r)
