@@ -1,5 +1,6 @@
 -- For callers: the operations of the demo dialects `builtin` and `test`, and what registering them does to a context's dialects.
-use Rattle.std.specs.Prelude.{◌≡◌, Bool, true, false, List, [], ◌∷◌, codes}
+use Rattle.std.specs.Prelude.{◌≡◌, ◌⊎◌, Bool, true, false, List, [], ◌∷◌, codes}
+use Rattle.std.specs.Str.{bytes_eq}
 use Rattle.irtext_base.specs.Text.{Text}
 use Rattle.irtext_base.specs.Format.{Directive, custom, word, attribute, header, region}
 use Rattle.irtext_context.specs.Dialects.{Table, with_op}
@@ -7,6 +8,7 @@ use Rattle.irtext_context.specs.DialectTable.{dialect_or_new, with_dialect}
 use Rattle.irtext_context.specs.Directives.{format_of}
 use Rattle.irtext_base.specs.declared.base.identifier.OpId.{OpId}
 use Rattle.irtext_base.specs.declared.format.OpFormat.{OpFormat}
+use Rattle.irtext_base.specs.declared.result.Cause.{Cause, Memory, WrongDialect}
 
 -- an operation: its id, the directives of its format, and whether it is isolated from above
 pub record DemoOp : Type 0 where
@@ -64,3 +66,14 @@ pub record Registers (old : List (Text × Table)) (op : DemoOp) (new : List (Tex
 abbrev pub RegistersAll : List (Text × Table) → List DemoOp → List (Text × Table) → Type 0
 RegistersAll old [] new = new ≡ old
 RegistersAll old (op ∷ ops) new = (mid : List (Text × Table)) × Registers old op mid × RegistersAll mid ops new
+
+-- why registering the operation with the dialects is refused: for want of memory, or since a dialect of another name stands under its dialect's name
+abbrev pub Refuses : {A : Type 0} → List (Text × Table) → DemoOp → Cause A → Type 0
+Refuses dialects op Memory = Unit {0}
+Refuses dialects op (WrongDialect id name) = (bytes_eq op.id.dialect (dialect_or_new dialects op.id.dialect).name ≡ false) × (id ≡ op.id) × (name ≡ (dialect_or_new dialects op.id.dialect).name)
+Refuses dialects op _ = ⊥
+
+-- why registering the operations one after the other is refused: the first is, or it was registered and one behind it is
+abbrev pub RefusesOne : {A : Type 0} → List (Text × Table) → List DemoOp → Cause A → Type 0
+RefusesOne dialects [] cause = ⊥
+RefusesOne dialects (op ∷ ops) cause = Refuses dialects op cause ⊎ ((mid : List (Text × Table)) × Registers dialects op mid × RefusesOne mid ops cause)

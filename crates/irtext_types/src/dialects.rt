@@ -1,10 +1,12 @@
 //! The demo dialects `builtin` and `test`, with those of their operations that are read and printed so far.
-ghost use Rattle.std.specs.Prelude.{◌≡◌, IfOk, IfErr, IsTrue, OnOk, codes};
+ghost use Rattle.std.specs.Prelude.{◌≡◌, ◌⊎◌, IfOk, IfErr, IsTrue, OnOk, codes};
+ghost use Rattle.irtext_context.specs.Dialects.{IsRefusedBy};
+ghost use Rattle.irtext_context.specs.DialectTable.{dialect_or_new};
 ghost use Rattle.irtext_context.specs.Directives.{directive_of, format_of};
 ghost use Rattle.irtext_base.specs.Format.{custom, word};
 ghost use Rattle.irtext_base.specs.Text.{is_identifier};
 ghost use Rattle.irtext_base.specs.declared.location.Location.{Unknown};
-ghost use Rattle.irtext_types.specs.DemoDialects.{demo_operations, id_with, module_directives, function_directives, scope_directives, module_op, function_op, scope_op, nop_op, with_operation, Registers, RegistersAll};
+ghost use Rattle.irtext_types.specs.DemoDialects.{demo_operations, id_with, module_directives, function_directives, scope_directives, module_op, function_op, scope_op, nop_op, with_operation, Registers, RegistersAll, Refuses, RefusesOne};
 
 use irtext_base::base::{Identifier, OpId};
 use irtext_base::format::{Directive, OpFormat};
@@ -86,6 +88,7 @@ fn add<T: IrText<A>, A: AttrText>(
     ensures ok { OnOk result (ctx.new ≡ record ctx.old { dialects = with_operation ctx.old.dialects id format isolated }) }
     ensures rest { ctx.new ≡ record ctx.old { dialects = ctx.new.dialects } }
     ensures kind { IfErr result (λ e. (e.kind ≡ ErrorKind.InvalidArgument) × (e.loc ≡ Unknown)) }
+    ensures refused { IfErr result (λ e. (e.err ≡ Cause.Memory) ⊎ IsRefusedBy (dialect_or_new ctx.old.dialects id.dialect).name id format e.err) }
 {
     let Ok(name) = id.dialect.clone() else {
         return Err(out_of_memory());
@@ -99,6 +102,7 @@ fn add_module<T: IrText<A>, A: AttrText>(ctx: &mut Context<T, A>) -> Answer<(), 
     ensures ok { OnOk result (Registers ctx.old.dialects module_op ctx.new.dialects) }
     ensures rest { ctx.new ≡ record ctx.old { dialects = ctx.new.dialects } }
     ensures kind { IfErr result (λ e. (e.kind ≡ ErrorKind.InvalidArgument) × (e.loc ≡ Unknown)) }
+    ensures refused { IfErr result (λ e. Refuses ctx.old.dialects module_op e.err) }
 {
     let alloc = ctx.allocator();
     let (Ok(id), Ok(format)) = (id(alloc, "builtin", "module"), module_format(alloc)) else {
@@ -112,6 +116,7 @@ fn add_function<T: IrText<A>, A: AttrText>(ctx: &mut Context<T, A>) -> Answer<()
     ensures ok { OnOk result (Registers ctx.old.dialects function_op ctx.new.dialects) }
     ensures rest { ctx.new ≡ record ctx.old { dialects = ctx.new.dialects } }
     ensures kind { IfErr result (λ e. (e.kind ≡ ErrorKind.InvalidArgument) × (e.loc ≡ Unknown)) }
+    ensures refused { IfErr result (λ e. Refuses ctx.old.dialects function_op e.err) }
 {
     let alloc = ctx.allocator();
     let (Ok(id), Ok(format)) = (id(alloc, "builtin", "func"), function_format(alloc)) else {
@@ -125,6 +130,7 @@ fn add_scope<T: IrText<A>, A: AttrText>(ctx: &mut Context<T, A>) -> Answer<(), A
     ensures ok { OnOk result (Registers ctx.old.dialects scope_op ctx.new.dialects) }
     ensures rest { ctx.new ≡ record ctx.old { dialects = ctx.new.dialects } }
     ensures kind { IfErr result (λ e. (e.kind ≡ ErrorKind.InvalidArgument) × (e.loc ≡ Unknown)) }
+    ensures refused { IfErr result (λ e. Refuses ctx.old.dialects scope_op e.err) }
 {
     let alloc = ctx.allocator();
     let (Ok(id), Ok(format)) = (id(alloc, "test", "scope"), scope_format(alloc)) else {
@@ -138,6 +144,7 @@ fn add_nop<T: IrText<A>, A: AttrText>(ctx: &mut Context<T, A>) -> Answer<(), A>
     ensures ok { OnOk result (Registers ctx.old.dialects nop_op ctx.new.dialects) }
     ensures rest { ctx.new ≡ record ctx.old { dialects = ctx.new.dialects } }
     ensures kind { IfErr result (λ e. (e.kind ≡ ErrorKind.InvalidArgument) × (e.loc ≡ Unknown)) }
+    ensures refused { IfErr result (λ e. Refuses ctx.old.dialects nop_op e.err) }
 {
     let alloc = ctx.allocator();
     let Ok(id) = id(alloc, "test", "nop") else {
@@ -154,6 +161,7 @@ pub fn register_demo<T: IrText<A>, A: AttrText>(ctx: &mut Context<T, A>) -> Answ
     ensures ok { OnOk result (RegistersAll ctx.old.dialects demo_operations ctx.new.dialects) }
     ensures rest { ctx.new ≡ record ctx.old { dialects = ctx.new.dialects } }
     ensures kind { IfErr result (λ e. (e.kind ≡ ErrorKind.InvalidArgument) × (e.loc ≡ Unknown)) }
+    ensures refused { IfErr result (λ e. RefusesOne ctx.old.dialects demo_operations e.err) }
 {
     add_module(ctx)?;
     add_function(ctx)?;

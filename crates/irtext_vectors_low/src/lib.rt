@@ -6,6 +6,8 @@ mod contexts;
 #[cfg(test)]
 mod demo;
 #[cfg(test)]
+mod edges;
+#[cfg(test)]
 mod formats;
 #[cfg(test)]
 mod helpers;

@@ -62,10 +62,10 @@ fn store_entries<A: Drop>(
 ) -> ParseResult<(), A>
     ensures { Adds (with_entries (pieces_of found.old) (entries_of entries.items)) (pieces_of found.new) stream.old result stream.new }
 {
-    match put_entries(&mut found.attributes, entries) {
-        Ok(()) => Ok(()),
-        Err(_) => Err(out_of_memory(stream)),
-    }
+    let Ok(()) = put_entries(&mut found.attributes, entries) else {
+        return Err(out_of_memory(stream));
+    };
+    Ok(())
 }
 
 /// Adds an entry to the pieces found.
@@ -77,10 +77,10 @@ fn store_entry<A: Drop>(
     ensures { Adds (with_entries (pieces_of found.old) (entry_of entry ∷ [])) (pieces_of found.new) stream.old result stream.new }
 {
     let (key, attr) = entry;
-    match found.attributes.insert(key, attr) {
-        Ok(()) => Ok(()),
-        Err(_) => Err(out_of_memory(stream)),
-    }
+    let Ok(()) = found.attributes.insert(key, attr) else {
+        return Err(out_of_memory(stream));
+    };
+    Ok(())
 }
 
 /// Adds so many regions to the pieces found.
