@@ -20,7 +20,7 @@ use std::fmt;
 pub mod concrete;
 pub mod debug;
 mod directives;
-mod fits;
+pub mod fits;
 pub(crate) mod pieces;
 pub(crate) mod regions;
 

@@ -12,7 +12,7 @@ ghost use Rattle.irtext_print.specs.Printers.PrintedOperation.{Refuses, language
 ghost use Rattle.irtext_print.specs.declared.printable.refusal.Refusal.TheVariants as refusal;
 
 use crate::ir::print::directives::fmt_directives;
-use crate::ir::print::fits::fits;
+use crate::ir::print::fits::check_parts;
 use crate::printable::state::State;
 use crate::printable::{Printable, Refusal};
 use irtext_base::base::OpId;
@@ -64,7 +64,7 @@ pub(crate) fn fmt_concrete<T: IrText<A>, A: AttrText, U>(
     let Some(directives) = directives_in(ctx, id) else {
         return Err(Refusal::Misfit);
     };
-    if !fits(directives, attributes, regions) {
+    if check_parts(directives, attributes, regions).is_err() {
         return Err(Refusal::Misfit);
     }
     fmt_id(id, f)?;

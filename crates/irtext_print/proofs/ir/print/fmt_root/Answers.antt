@@ -1,6 +1,5 @@
-use Rattle.std.proofs.Common.{◌∙◌, ap, string_bytes}
+use Rattle.std.proofs.Common.{string_bytes}
 use Rattle.irtext_print.specs.Printers.PrintedOperation.{language_in, printing_in}
-use Rattle.irtext_print.specs.Printers.Printing.{with_gathered}
 use Rattle.irtext_print.proofs.Printers.PrintedOperations.{root_appended}
 use Rattle.irtext_print.proofs.ir.print.fmt_root.Goals as goal
 
