@@ -14,3 +14,4 @@ pub mod FitsTests
 pub mod RegionTexts
 pub mod AttrTexts
 pub mod RootParts
+pub mod FitFaults

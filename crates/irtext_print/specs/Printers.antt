@@ -12,3 +12,4 @@ pub mod PieceText
 pub mod OpPrinters
 pub mod ConcreteText
 pub mod OnePrinting
+pub mod FitFaults

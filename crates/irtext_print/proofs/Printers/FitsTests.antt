@@ -1,15 +1,12 @@
 -- What the tests of formats and of attributes say, in the words of the definitions.
-use Rattle.std.proofs.Common.{◌≡◌, ◌∙◌, zero, suc, ◌==◌, ◌&&◌, ◌||◌, ◌++◌, not, Bool, true, false, cond, ℕ, List, [], ◌∷◌, map, refl, sym, ap, Option, Some, None, is_some, Bor, option_copied, arith}
+use Rattle.std.proofs.Common.{◌≡◌, ◌∙◌, zero, suc, ◌==◌, ◌&&◌, ◌||◌, ◌++◌, not, Bool, true, false, cond, ℕ, List, [], ◌∷◌, map, refl, sym, ap, arith}
 use Rattle.std.proofs.lemmas.Bool.Decides.{nat_tests}
 use Rattle.std.specs.List.{list_any, list_all}
-use Rattle.std.specs.Option.{option_map}
 use Rattle.irtext_base.specs.Text.{Text}
 use Rattle.irtext_base.specs.Format as format
 use Rattle.irtext_base.specs.Format.{Directive, count, keys, has, same_text, is_header, sym_name_key}
-use Rattle.irtext_grammar.specs.Graphs.Graph.{Printing, lookup, written_keys}
+use Rattle.irtext_grammar.specs.Graphs.Graph.{Printing, written_keys}
 use Rattle.irtext_print.specs.Printers.PieceText.{is_key_written}
-use Rattle.irtext_print.specs.Printers.PrintedOperation.{has_named_key}
-use Rattle.irtext_grammar.specs.Grammar.Tree.{Attribute}
 
 -- a test of all values of a list
 pub all_mapped : {X Y : Type 0} (test : Y → Bool) (f : X → Y) (xs : List X) → list_all (λ x. test (f x)) xs ≡ list_all test (map f xs)
@@ -20,11 +17,6 @@ all_mapped test f (x ∷ xs) = ap (λ b. test (f x) && b) (all_mapped test f xs)
 pub all_alike : {X : Type 0} (p q : X → Bool) → ((x : X) → p x ≡ q x) → (xs : List X) → list_all p xs ≡ list_all q xs
 all_alike p q h [] = refl
 all_alike p q h (x ∷ xs) = ap (λ b. b && list_all p xs) (h x) ∙ ap (λ b. q x && b) (all_alike p q h xs)
-
--- a value is there also where it is seen otherwise
-pub is_there : {X Y : Type 0} (f : X → Y) (r : Option (Bor X)) → is_some r ≡ is_some (option_map f (option_copied r))
-is_there f None = refl
-is_there f (Some x) = refl
 
 -- what is counted once is not 0
 pub counted : (n : ℕ) → (suc n == 0) ≡ false
@@ -43,21 +35,6 @@ any_count test (d ∷ ds) = go (test d) (any_count test ds)
     go : (b : Bool) → list_any test ds ≡ not (count test ds == 0) → (b || list_any test ds) ≡ not (cond b (suc (count test ds)) (count test ds) == 0)
     go true h = sym (ap not (counted (count test ds)))
     go false h = h
-
--- the keys that are named are there
-pub all_keys : {A : Type 0} (es : List (Text × Attribute A)) (ds : List Directive) → list_all (has_named_key es) ds ≡ list_all (λ k. is_some (lookup k es)) (keys ds)
-all_keys es [] = refl
-all_keys es (format.word s ∷ ds) = all_keys es ds
-all_keys es (format.operand i ∷ ds) = all_keys es ds
-all_keys es (format.operands ∷ ds) = all_keys es ds
-all_keys es (format.successor i ∷ ds) = all_keys es ds
-all_keys es (format.successors ∷ ds) = all_keys es ds
-all_keys es (format.attribute k ∷ ds) = ap (λ b. is_some (lookup k es) && b) (all_keys es ds)
-all_keys es (format.dictionary ∷ ds) = all_keys es ds
-all_keys es (format.result_type i ∷ ds) = all_keys es ds
-all_keys es (format.region i ∷ ds) = all_keys es ds
-all_keys es (format.regions ∷ ds) = all_keys es ds
-all_keys es (format.header ∷ ds) = all_keys es ds
 
 -- a key is in the one list or in the other
 has_append : (key : Text) (xs ys : List Text) → has same_text key (xs ++ ys) ≡ (has same_text key xs || has same_text key ys)

@@ -1,5 +1,9 @@
 -- For callers: what a printing appends, and the state that it leaves.
-use Rattle.std.specs.Prelude.{◌≡◌, ℕ, List, [], ◌++◌, Option, Some, None, IfSome}
+use Rattle.std.specs.Prelude.{◌≡◌, ℕ, List, [], ◌++◌, Option, Some, None, IfSome, string_bytes}
+use Rattle.std.specs.Str.{encode_utf8_all}
+use Rattle.std.specs.declared.string.String.{String}
+use Rattle.std.specs.declared.alloc.Global.{Global}
+use Rattle.irtext_base.specs.Text.{Text}
 use Rattle.irtext_print.specs.Printers.Shown.{Shown}
 use Rattle.irtext_print.specs.declared.printable.state.RegionPrintDepthLimit.{RegionPrintDepthLimit}
 
@@ -20,3 +24,7 @@ fresh width indent limit = record { width = width; indent = indent; limit = limi
 abbrev pub text_of : {U : Type 0} → Option (List ℕ × Shown U) → Option (List ℕ)
 text_of None = None
 text_of (Some p) = Some p.0
+
+-- the bytes of this text were appended
+abbrev pub AppendsText : String Global → Text → String Global → Type 0
+AppendsText old text new = string_bytes new ≡ string_bytes old ++ encode_utf8_all text

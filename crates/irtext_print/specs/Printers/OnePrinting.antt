@@ -1,15 +1,19 @@
 -- For callers: what one printing of an operation, or of a part of it, has done, whatever was gathered before. It names the context, the
 -- operation, the state and the bytes before, and the state and the bytes behind.
-use Rattle.std.specs.Prelude.{◌≡◌, ℕ, [], List, ◌++◌, Option, Some, IsTrue, IsSomeAnd, ⊤}
+use Rattle.std.specs.Prelude.{◌≡◌, ℕ, Bool, [], List, ◌++◌, Option, Some, IsTrue, IsSomeAnd, string_bytes, ⊤}
 use Rattle.std.specs.Str.{encode_utf8_all}
+use Rattle.std.specs.declared.string.String.{String}
+use Rattle.std.specs.declared.alloc.Global.{Global}
 use Rattle.irtext_base.specs.Text.{Text}
+use Rattle.irtext_base.specs.declared.text.AttrText as attr_text
+use Rattle.irtext_base.specs.declared.text.IrText as ir_text
 use Rattle.irtext_base.specs.Own.{Language}
 use Rattle.irtext_context.specs.Context.{ContextView, OperationView, operation}
 use Rattle.irtext_context.specs.declared.base.arena.Ptr.{Ptr}
 use Rattle.irtext_context.specs.declared.base.operation.Operation.{Operation}
 use Rattle.irtext_grammar.specs.Graphs.Graph.{Printing}
 use Rattle.irtext_print.specs.Printers.ConcreteText.{concrete_text}
-use Rattle.irtext_print.specs.Printers.PrintedOperation.{is_printed, root_text}
+use Rattle.irtext_print.specs.Printers.PrintedOperation.{is_printed, root_text, language_in, printing_in}
 use Rattle.irtext_print.specs.Printers.Printing.{with_gathered}
 use Rattle.irtext_print.specs.Printers.Shown.{Shown}
 
@@ -36,3 +40,12 @@ pub record PartPrinted {T A U : Type 0} (part : OperationView T A → Option Tex
   pub stands : operation ctx p ≡ Some view
   pub text : IsSomeAnd (part view) (λ text. new ≡ old ++ encode_utf8_all text)
   pub state : t ≡ s
+
+module _ {T A U : Type 0} (types : ir_text.Ghosts T A) (owns : ir_text.Ghosts A A) (attributes : attr_text.Ghosts A) (same : A → A → Bool) (ctx : ContextView T A) (p : Ptr Operation) (s : Shown U) (old : String Global) (t : Shown U) (new : String Global) where
+  -- the same of a concrete text, by the formats of the context and the texts of the caller's types and attributes
+  abbrev pub PrintsConcrete : Type 0
+  PrintsConcrete = ConcretePrinted (language_in types owns ctx) (printing_in attributes same ctx) ctx p s (string_bytes old) t (string_bytes new)
+
+  -- the same of a root
+  abbrev pub PrintsRoot : Type 0
+  PrintsRoot = RootPrinted (language_in types owns ctx) (printing_in attributes same ctx) ctx p s (string_bytes old) t (string_bytes new)

@@ -155,8 +155,3 @@ abbrev pub is_of_kind : SingleKind → Directive → Bool
 is_of_kind sole.Regions = is_regions
 is_of_kind sole.Dictionary = is_dictionary
 is_of_kind sole.Header = is_header
-
--- the key that the directive names, if it names one, is there
-abbrev pub has_named_key : {A : Type 0} → List (Text × Attribute A) → Directive → Bool
-has_named_key es (format.attribute k) = is_some (lookup k es)
-has_named_key es _ = true

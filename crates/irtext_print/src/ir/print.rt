@@ -1,9 +1,9 @@
 //! Printing of roots.
-ghost use Rattle.std.specs.Prelude.{◌≡◌, ◌++◌, [], OnOk, IfErr, IsSome, codes, decimal, string_bytes, length};
-ghost use Rattle.std.specs.Str.{encode_utf8_all};
+ghost use Rattle.std.specs.Prelude.{◌≡◌, ◌++◌, [], OnOk, IfErr, IsSome, codes, decimal, length};
+ghost use Rattle.irtext_print.specs.Printers.Appended.{AppendsText};
 ghost use Rattle.irtext_context.specs.Context.{operation};
 ghost use Rattle.irtext_grammar.specs.Spelling.Locations.{known_text};
-ghost use Rattle.irtext_print.specs.Printers.OnePrinting.{RootPrinted};
+ghost use Rattle.irtext_print.specs.Printers.OnePrinting.{PrintsRoot};
 ghost use Rattle.irtext_print.specs.Printers.PrintedOperation as printed;
 ghost use Rattle.irtext_print.specs.Printers.Printing.{gathered_of, with_gathered};
 ghost use Rattle.irtext_print.specs.declared.printable.refusal.Refusal.TheVariants as refusal;
@@ -20,14 +20,14 @@ use std::fmt;
 pub mod concrete;
 pub mod debug;
 mod directives;
-mod fits;
+pub mod fits;
 pub(crate) mod pieces;
 pub(crate) mod regions;
 pub mod root;
 
 /// Appends a mark with this index.
 fn fmt_index(index: usize, f: &mut String) -> Result<(), Refusal>
-    ensures text { OnOk result (string_bytes f.new ≡ string_bytes f.old ++ encode_utf8_all (codes " !" ++ decimal index)) }
+    ensures text { OnOk result (AppendsText f.old (codes " !" ++ decimal index) f.new) }
     ensures refused { IfErr result (λ e. e ≡ refusal.Memory) }
 {
     write!(f, " !{index}")?;
@@ -41,7 +41,7 @@ fn fmt_mark<A, U>(
     state: &mut State<U>,
     f: &mut String,
 ) -> Result<(), Refusal>
-    ensures text { OnOk result (string_bytes f.new ≡ string_bytes f.old ++ encode_utf8_all (printed.mark_text location.now (length (gathered_of state.old)))) }
+    ensures text { OnOk result (AppendsText f.old (printed.mark_text location.now (length (gathered_of state.old))) f.new) }
     ensures state { OnOk result (state.new ≡ with_gathered state.old (gathered_of state.old ++ printed.gathered_at location.now op)) }
     ensures refused { IfErr result (λ e. e ≡ refusal.Memory) }
 {
@@ -59,7 +59,7 @@ fn fmt_entry<T: IrText<A>, A: AttrText>(
     location: &Location<A>,
     f: &mut String,
 ) -> fmt::Result
-    ensures { OnOk result (string_bytes f.new ≡ string_bytes f.old ++ encode_utf8_all (printed.entry_text index (known_text A.written ctx.now.paths location.now))) }
+    ensures { OnOk result (AppendsText f.old (printed.entry_text index (known_text A.written ctx.now.paths location.now)) f.new) }
 {
     write!(f, "!{index} = ")?;
     fmt_known(location, "@[", "], ", ctx, f)?;
@@ -74,7 +74,7 @@ fn fmt_gathered<T: IrText<A>, A: AttrText>(
     op: Ptr<Operation>,
     f: &mut String,
 ) -> fmt::Result
-    ensures { OnOk result (string_bytes f.new ≡ string_bytes f.old ++ encode_utf8_all (printed.entry_at A.written ctx.now index op)) }
+    ensures { OnOk result (AppendsText f.old (printed.entry_at A.written ctx.now index op) f.new) }
 {
     if !ctx.contains_operation(op) {
         return Ok(());
@@ -88,7 +88,7 @@ fn fmt_entries<T: IrText<A>, A: AttrText>(
     gathered: &[Ptr<Operation>],
     f: &mut String,
 ) -> fmt::Result
-    ensures { OnOk result (string_bytes f.new ≡ string_bytes f.old ++ encode_utf8_all (printed.entries_from A.written ctx.now 0 gathered.now)) }
+    ensures { OnOk result (AppendsText f.old (printed.entries_from A.written ctx.now 0 gathered.now) f.new) }
 {
     for (index, op) in gathered.iter().enumerate() {
         fmt_gathered(ctx, index, *op, f)?;
@@ -102,7 +102,7 @@ fn fmt_section<T: IrText<A>, A: AttrText, U>(
     state: &mut State<U>,
     f: &mut String,
 ) -> fmt::Result
-    ensures text { OnOk result (string_bytes f.new ≡ string_bytes f.old ++ encode_utf8_all (printed.section_text A.written ctx.now (gathered_of state.old))) }
+    ensures text { OnOk result (AppendsText f.old (printed.section_text A.written ctx.now (gathered_of state.old)) f.new) }
     ensures state { state.new ≡ with_gathered state.old [] }
 {
     let gathered = state.take_gathered(ctx.allocator());
@@ -113,15 +113,16 @@ fn fmt_section<T: IrText<A>, A: AttrText, U>(
     fmt_entries(ctx, &gathered, f)
 }
 
-/// Appends the text of a root, with the section of all that was gathered.
-fn fmt_root<T: IrText<A>, A: AttrText, U>(
+/// Appends the text of a root, with its mark behind those that were gathered before and the section of all that was gathered. What
+/// `Printable` appends of it is the same; this call says why it was refused. What was written until then stays.
+pub fn print_root<T: IrText<A>, A: AttrText, U>(
     ctx: &Context<T, A>,
     op: Ptr<Operation>,
     state: &mut State<U>,
     f: &mut String,
 ) -> Result<(), Refusal>
     requires live { IsSome (operation ctx.now op) }
-    ensures prints { OnOk result (RootPrinted (printed.language_in T.IrText.own A.IrText.own ctx.now) (printed.printing_in A.AttrText.own A.eq ctx.now) ctx.now op state.old (string_bytes f.old) state.new (string_bytes f.new)) }
+    ensures prints { OnOk result (PrintsRoot T.IrText.own A.IrText.own A.AttrText.own A.eq ctx.now op state.old f.old state.new f.new) }
     ensures refused { IfErr result (printed.Refuses (printed.printing_in A.AttrText.own A.eq ctx.now) (operation ctx.now op) state.old) }
 {
     fmt_concrete(ctx, op, state, f)?;
@@ -137,10 +138,10 @@ impl<T: IrText<A>, A: AttrText, U> Printable<U, T, A> for Ptr<Operation> {
 
     ghost gives = { λ op ctx s. printed.printed (printed.language_in T.IrText.own A.IrText.own ctx) (printed.printing_in A.AttrText.own A.eq ctx) ctx op s };
 
-    ghost prints = { λ op ctx s b t d. RootPrinted (printed.language_in T.IrText.own A.IrText.own ctx) (printed.printing_in A.AttrText.own A.eq ctx) ctx op s (string_bytes b) t (string_bytes d) };
+    ghost prints = { λ op ctx s b t d. PrintsRoot T.IrText.own A.IrText.own A.AttrText.own A.eq ctx op s b t d };
 
     fn fmt(&self, ctx: &Context<T, A>, state: &mut State<U>, f: &mut String) -> fmt::Result {
-        fmt_root(ctx, *self, state, f)?;
+        print_root(ctx, *self, state, f)?;
         Ok(())
     }
 }

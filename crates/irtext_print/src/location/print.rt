@@ -2,6 +2,7 @@
 ghost use Rattle.std.specs.Prelude.{◌≡◌, ◌<◌, ◌^◌, ◌++◌, Some, OnOk, cond, [], codes, map, option_copied, string_bytes};
 ghost use Rattle.std.specs.Int.Signed.{mag};
 ghost use Rattle.std.specs.Str.{encode_utf8_all};
+ghost use Rattle.irtext_print.specs.Printers.Appended.{AppendsText};
 ghost use Rattle.irtext_base.specs.Causes.{position_text};
 ghost use Rattle.irtext_base.specs.Locations.{attr_view_in, location_view, in_row, row_sourced};
 ghost use Rattle.irtext_base.specs.Paths.{path_of};
@@ -39,7 +40,7 @@ fn fmt_source<T: IrText<A>, A: AttrText>(
     ctx: &Context<T, A>,
     f: &mut String,
 ) -> fmt::Result
-    ensures { OnOk result (string_bytes f.new ≡ string_bytes f.old ++ encode_utf8_all (source_text (path_of ctx.now.paths src))) }
+    ensures { OnOk result (AppendsText f.old (source_text (path_of ctx.now.paths src)) f.new) }
 {
     match path_of(src, ctx) {
         Some(path) => fmt_quoted(path, f),
@@ -59,7 +60,7 @@ fn number_fits(number: &i32)
 
 /// Appends the line and the column.
 fn fmt_position(pos: &SourcePosition, f: &mut String) -> fmt::Result
-    ensures { OnOk result (string_bytes f.new ≡ string_bytes f.old ++ encode_utf8_all (position_text pos.now)) }
+    ensures { OnOk result (AppendsText f.old (position_text pos.now) f.new) }
 {
     number_fits(&pos.line);
     number_fits(&pos.column);
@@ -79,7 +80,7 @@ fn fmt_comma(first: bool, f: &mut String) -> fmt::Result
 
 /// Appends an attribute between `<` and `>`, if there is one.
 fn fmt_metadata<A: AttrText>(metadata: &Option<AttrObj<A>>, f: &mut String) -> fmt::Result
-    ensures { OnOk result (string_bytes f.new ≡ string_bytes f.old ++ encode_utf8_all (metadata_text A.written (attr_view_in metadata.now))) }
+    ensures { OnOk result (AppendsText f.old (metadata_text A.written (attr_view_in metadata.now)) f.new) }
 {
     if let Some(attr) = metadata {
         f.push_str("<")?;
@@ -96,7 +97,7 @@ fn fmt_place<T: IrText<A>, A: AttrText>(
     ctx: &Context<T, A>,
     f: &mut String,
 ) -> fmt::Result
-    ensures { OnOk result (string_bytes f.new ≡ string_bytes f.old ++ encode_utf8_all (source_text (path_of ctx.now.paths src) ++ (codes ": " ++ position_text pos.now))) }
+    ensures { OnOk result (AppendsText f.old (source_text (path_of ctx.now.paths src) ++ (codes ": " ++ position_text pos.now)) f.new) }
 {
     fmt_source(src, ctx, f)?;
     f.push_str(": ")?;
@@ -110,7 +111,7 @@ pub(crate) fn fmt_location<T: IrText<A>, A: AttrText>(
     ctx: &Context<T, A>,
     f: &mut String,
 ) -> fmt::Result
-    ensures { OnOk result (string_bytes f.new ≡ string_bytes f.old ++ encode_utf8_all (location_text A.written ctx.now.paths location.now)) }
+    ensures { OnOk result (AppendsText f.old (location_text A.written ctx.now.paths location.now) f.new) }
 {
     match location {
         Location::SrcPos { src, pos } => fmt_place(*src, pos, ctx, f),
@@ -174,7 +175,7 @@ fn fmt_locations<T: IrText<A>, A: AttrText>(
     ctx: &Context<T, A>,
     f: &mut String,
 ) -> fmt::Result
-    ensures { OnOk result (string_bytes f.new ≡ string_bytes f.old ++ encode_utf8_all (joined comma (row_texts A.written (row_sourced (path_of ctx.now.paths) (in_row (map location_view locations.now.items)))))) }
+    ensures { OnOk result (AppendsText f.old (joined comma (row_texts A.written (row_sourced (path_of ctx.now.paths) (in_row (map location_view locations.now.items))))) f.new) }
 {
     let mut first = true;
     for location in locations {

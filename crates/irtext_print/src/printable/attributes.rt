@@ -1,6 +1,7 @@
 //! Attributes print themselves.
-ghost use Rattle.std.specs.Prelude.{◌≡◌, ◌++◌, OnOk, Some, map, string_bytes};
+ghost use Rattle.std.specs.Prelude.{OnOk, Some, map};
 ghost use Rattle.std.specs.Str.{encode_utf8_all};
+ghost use Rattle.irtext_print.specs.Printers.Appended.{AppendsText};
 ghost use Rattle.irtext_base.specs.Locations.{attr_view};
 ghost use Rattle.irtext_grammar.specs.Spelling.AttrText.{attr_text};
 ghost use Rattle.irtext_grammar.specs.Spelling.Spell.{joined, comma, or_question};
@@ -14,7 +15,7 @@ use std::fmt;
 
 /// Appends a given name, or `?` where there is none.
 fn fmt_name(name: &Option<Identifier>, f: &mut String) -> fmt::Result
-    ensures { OnOk result (string_bytes f.new ≡ string_bytes f.old ++ encode_utf8_all (or_question name.now)) }
+    ensures { OnOk result (AppendsText f.old (or_question name.now) f.new) }
 {
     match name {
         Some(name) => f.push_str(name.as_str())?,
@@ -25,7 +26,7 @@ fn fmt_name(name: &Option<Identifier>, f: &mut String) -> fmt::Result
 
 /// Appends given names with `, ` between them.
 fn fmt_names(names: &[Option<Identifier>], f: &mut String) -> fmt::Result
-    ensures { OnOk result (string_bytes f.new ≡ string_bytes f.old ++ encode_utf8_all (joined comma (map or_question names.now))) }
+    ensures { OnOk result (AppendsText f.old (joined comma (map or_question names.now)) f.new) }
 {
     let Some((first, rest)) = names.split_first() else {
         return Ok(());
@@ -40,7 +41,7 @@ fn fmt_names(names: &[Option<Identifier>], f: &mut String) -> fmt::Result
 
 /// Appends the text of an attribute. It fails only where memory is refused; what was written until then stays.
 pub(crate) fn fmt_attr<A: AttrText>(attr: &AttrObj<A>, f: &mut String) -> fmt::Result
-    ensures { OnOk result (string_bytes f.new ≡ string_bytes f.old ++ encode_utf8_all (attr_text A.IrText.written (attr_view attr.now))) }
+    ensures { OnOk result (AppendsText f.old (attr_text A.IrText.written (attr_view attr.now)) f.new) }
 {
     match attr {
         AttrObj::GivenNames(names) => {

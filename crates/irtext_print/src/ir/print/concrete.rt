@@ -1,18 +1,18 @@
 //! The concrete text of operations: their id and their pieces, without mark and section.
-ghost use Rattle.std.specs.Prelude.{◌≡◌, ◌++◌, OnOk, IfErr, IsSome, option_map, string_bytes};
-ghost use Rattle.std.specs.Str.{encode_utf8_all};
+ghost use Rattle.std.specs.Prelude.{◌≡◌, OnOk, IfErr, IsSome, option_map};
+ghost use Rattle.irtext_print.specs.Printers.Appended.{AppendsText};
 ghost use Rattle.irtext_base.specs.Causes.{id_text};
 ghost use Rattle.irtext_context.specs.Context.{operation};
 ghost use Rattle.irtext_context.specs.Directives.{directives_of};
 ghost use Rattle.irtext_base.specs.Faults.{id_of};
 ghost use Rattle.irtext_print.specs.Printers.ConcreteText as concrete;
 ghost use Rattle.irtext_grammar.specs.Contexts.Formats.{format_of};
-ghost use Rattle.irtext_print.specs.Printers.OnePrinting.{ConcretePrinted};
+ghost use Rattle.irtext_print.specs.Printers.OnePrinting.{PrintsConcrete};
 ghost use Rattle.irtext_print.specs.Printers.PrintedOperation.{Refuses, language_in, printing_in};
 ghost use Rattle.irtext_print.specs.declared.printable.refusal.Refusal.TheVariants as refusal;
 
 use crate::ir::print::directives::fmt_directives;
-use crate::ir::print::fits::fits;
+use crate::ir::print::fits::check_parts;
 use crate::printable::state::State;
 use crate::printable::{Printable, Refusal};
 use irtext_base::base::OpId;
@@ -37,7 +37,7 @@ fn directives_in<'c, T: IrText<A>, A: AttrText>(
 
 /// Appends an id.
 pub(crate) fn fmt_id(id: &OpId, f: &mut String) -> Result<(), Refusal>
-    ensures text { OnOk result (string_bytes f.new ≡ string_bytes f.old ++ encode_utf8_all (id_text id.now)) }
+    ensures text { OnOk result (AppendsText f.old (id_text id.now) f.new) }
     ensures refused { IfErr result (λ e. e ≡ refusal.Memory) }
 {
     f.push_str(id.dialect.as_str())?;
@@ -54,7 +54,7 @@ pub(crate) fn fmt_concrete<T: IrText<A>, A: AttrText, U>(
     f: &mut String,
 ) -> Result<(), Refusal>
     requires live { IsSome (operation ctx.now op) }
-    ensures prints { OnOk result (ConcretePrinted (language_in T.IrText.own A.IrText.own ctx.now) (printing_in A.AttrText.own A.eq ctx.now) ctx.now op state.old (string_bytes f.old) state.new (string_bytes f.new)) }
+    ensures prints { OnOk result (PrintsConcrete T.IrText.own A.IrText.own A.AttrText.own A.eq ctx.now op state.old f.old state.new f.new) }
     ensures state { state.new ≡ state.old }
     ensures refused { IfErr result (Refuses (printing_in A.AttrText.own A.eq ctx.now) (operation ctx.now op) state.old) }
 {
@@ -64,7 +64,7 @@ pub(crate) fn fmt_concrete<T: IrText<A>, A: AttrText, U>(
     let Some(directives) = directives_in(ctx, id) else {
         return Err(Refusal::Misfit);
     };
-    if !fits(directives, attributes, regions) {
+    if check_parts(directives, attributes, regions).is_err() {
         return Err(Refusal::Misfit);
     }
     fmt_id(id, f)?;
@@ -83,7 +83,7 @@ impl<T: IrText<A>, A: AttrText, U> Printable<U, T, A> for OpObj {
 
     ghost gives = { λ obj ctx s. concrete.printed_concrete (language_in T.IrText.own A.IrText.own ctx) (printing_in A.AttrText.own A.eq ctx) ctx obj.op s };
 
-    ghost prints = { λ obj ctx s b t d. ConcretePrinted (language_in T.IrText.own A.IrText.own ctx) (printing_in A.AttrText.own A.eq ctx) ctx obj.op s (string_bytes b) t (string_bytes d) };
+    ghost prints = { λ obj ctx s b t d. PrintsConcrete T.IrText.own A.IrText.own A.AttrText.own A.eq ctx obj.op s b t d };
 
     fn fmt(&self, ctx: &Context<T, A>, state: &mut State<U>, f: &mut String) -> fmt::Result {
         fmt_concrete(ctx, self.op, state, f)?;

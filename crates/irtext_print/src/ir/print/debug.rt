@@ -2,7 +2,7 @@
 ghost use Rattle.std.specs.Prelude.{◌≡◌, ◌≢◌, ◌++◌, OnOk, IfErr, IsSome, IfSome, false, string_bytes};
 ghost use Rattle.irtext_context.specs.Context.{operation};
 ghost use Rattle.irtext_print.specs.Printers.ConcreteText as concrete;
-ghost use Rattle.irtext_print.specs.Printers.OnePrinting.{ConcretePrinted};
+ghost use Rattle.irtext_print.specs.Printers.OnePrinting.{PrintsConcrete};
 ghost use Rattle.irtext_print.specs.Printers.PrintedOperation.{is_printed_in, language_in, printing_in};
 ghost use Rattle.irtext_print.specs.declared.printable.refusal.Refusal.TheVariants as refusal;
 
@@ -20,7 +20,7 @@ fn fmt_dbg<T: IrText<A>, A: AttrText>(
     f: &mut String,
 ) -> Result<(), Refusal>
     requires live { IsSome (operation ctx.now op) }
-    ensures prints { OnOk result (ConcretePrinted (language_in T.IrText.own A.IrText.own ctx.now) (printing_in A.AttrText.own A.eq ctx.now) ctx.now op concrete.debugging (string_bytes f.old) concrete.debugging (string_bytes f.new)) }
+    ensures prints { OnOk result (PrintsConcrete T.IrText.own A.IrText.own A.AttrText.own A.eq ctx.now op concrete.debugging f.old concrete.debugging f.new) }
     ensures refused { IfErr result (λ e. e ≢ refusal.Memory → (e ≡ refusal.Misfit) × (is_printed_in (printing_in A.AttrText.own A.eq ctx.now) (operation ctx.now op) ≡ false)) }
 {
     let mut state = State::new(ctx.allocator(), ());
@@ -36,7 +36,7 @@ pub fn print_dbg<T: IrText<A>, A: AttrText>(
     f: &mut String,
 ) -> fmt::Result
     requires live { IsSome (operation ctx.now op) }
-    ensures prints { OnOk result (ConcretePrinted (language_in T.IrText.own A.IrText.own ctx.now) (printing_in A.AttrText.own A.eq ctx.now) ctx.now op concrete.debugging (string_bytes f.old) concrete.debugging (string_bytes f.new)) }
+    ensures prints { OnOk result (PrintsConcrete T.IrText.own A.IrText.own A.AttrText.own A.eq ctx.now op concrete.debugging f.old concrete.debugging f.new) }
     ensures defined { OnOk result (IfSome (concrete.debug_text (language_in T.IrText.own A.IrText.own ctx.now) (printing_in A.AttrText.own A.eq ctx.now) ctx.now op) (λ text. string_bytes f.new ≡ string_bytes f.old ++ text)) }
 {
     fmt_dbg(ctx, op, f)?;
@@ -44,7 +44,7 @@ pub fn print_dbg<T: IrText<A>, A: AttrText>(
 }
 
 /// An operation with its context, as a `Display` and a `Debug` of what `print_dbg` appends. Where the operation is not live,
-/// formatting fails.
+/// formatting fails. A `Display` can promise no more than a text that is defined; `print_dbg` promises the same of any operation.
 #[derive(Drop)]
 pub struct OpDbg<'a, T: IrText<A>, A: AttrText> {
     /// The operation.

@@ -1,6 +1,6 @@
 //! What the directives of a format write.
-ghost use Rattle.std.specs.Prelude.{◌≡◌, ◌≢◌, ◌+◌, ◌≤◌, ◌^◌, ◌++◌, OnOk, IfOk, IfErr, IsOk, length, string_bytes};
-ghost use Rattle.std.specs.Str.{encode_utf8_all};
+ghost use Rattle.std.specs.Prelude.{◌≡◌, ◌≢◌, ◌+◌, ◌≤◌, ◌^◌, OnOk, IfOk, IfErr, IsOk, length};
+ghost use Rattle.irtext_print.specs.Printers.Appended.{AppendsText};
 ghost use Rattle.irtext_context.specs.Directives.{directive_of, directives_of};
 ghost use Rattle.irtext_print.specs.Printers.PieceText as pieces;
 ghost use Rattle.irtext_print.specs.Printers.Printing.{width_of, indent_of};
@@ -37,7 +37,7 @@ fn fmt_directive<A: AttrText, U>(
     state: &mut State<U>,
     f: &mut String,
 ) -> Result<usize, Refusal>
-    ensures text { OnOk result (string_bytes f.new ≡ string_bytes f.old ++ encode_utf8_all (pieces.directive_text A.IrText.written A.outlined (directives_of directives.now) (entries_of attributes.now) (pieces.region_text state.old) left (directive_of directive.now))) }
+    ensures text { OnOk result (AppendsText f.old (pieces.directive_text A.IrText.written A.outlined (directives_of directives.now) (entries_of attributes.now) (pieces.region_text state.old) left (directive_of directive.now)) f.new) }
     ensures left { IfOk result (λ n. n ≡ pieces.left_behind left (directive_of directive.now)) }
     ensures state { state.new ≡ state.old }
     ensures refused { IfErr result (λ e. e ≢ refusal.Memory → (e ≡ refusal.Depth) × (2 ^ 16 ≤ indent_of state.old + width_of state.old)) }
@@ -65,7 +65,7 @@ pub(crate) fn fmt_directives<A: AttrText, U>(
     state: &mut State<U>,
     f: &mut String,
 ) -> Result<(), Refusal>
-    ensures text { OnOk result (string_bytes f.new ≡ string_bytes f.old ++ encode_utf8_all (pieces.directives_text A.IrText.written A.outlined (directives_of directives.now) (entries_of attributes.now) (pieces.region_text state.old) regions (directives_of directives.now))) }
+    ensures text { OnOk result (AppendsText f.old (pieces.directives_text A.IrText.written A.outlined (directives_of directives.now) (entries_of attributes.now) (pieces.region_text state.old) regions (directives_of directives.now)) f.new) }
     ensures state { state.new ≡ state.old }
     ensures refused { IfErr result (λ e. e ≢ refusal.Memory → (e ≡ refusal.Depth) × (2 ^ 16 ≤ indent_of state.old + width_of state.old)) }
 {

@@ -1,6 +1,7 @@
 //! What a format's directives write of an operation's attributes. Each of these calls fails only where memory is refused.
-ghost use Rattle.std.specs.Prelude.{◌≡◌, ◌++◌, ◌&&◌, [], Some, OnOk, codes, cond, not, option_copied, string_bytes};
-ghost use Rattle.std.specs.Str.{chars, encode_utf8_all};
+ghost use Rattle.std.specs.Prelude.{◌≡◌, ◌++◌, ◌&&◌, [], Some, OnOk, codes, cond, not, option_copied};
+ghost use Rattle.std.specs.Str.{chars};
+ghost use Rattle.irtext_print.specs.Printers.Appended.{AppendsText};
 ghost use Rattle.irtext_context.specs.Directives.{directive_of, directives_of};
 ghost use Rattle.irtext_base.specs.Format.{sym_name_key};
 ghost use Rattle.irtext_base.specs.Text.{begins};
@@ -34,7 +35,7 @@ fn word_joins_left(word: &str) -> bool
 
 /// Appends a fixed word, behind a space unless it joins what stands before it.
 pub(crate) fn fmt_word(word: &str, f: &mut String) -> fmt::Result
-    ensures { OnOk result (string_bytes f.new ≡ string_bytes f.old ++ encode_utf8_all (pieces.word_text (chars word.now))) }
+    ensures { OnOk result (AppendsText f.old (pieces.word_text (chars word.now)) f.new) }
 {
     if !word_joins_left(word) {
         f.push_str(" ")?;
@@ -56,7 +57,7 @@ pub(crate) fn is_outlined<A: AttrText>(attr: &AttrObj<A>) -> bool
 
 /// Appends the text of an attribute, or in its place that it is outlined.
 fn fmt_inline<A: AttrText>(attr: &AttrObj<A>, f: &mut String) -> fmt::Result
-    ensures { OnOk result (string_bytes f.new ≡ string_bytes f.old ++ encode_utf8_all (pieces.inline_text A.IrText.written A.outlined (attribute_of attr.now))) }
+    ensures { OnOk result (AppendsText f.old (pieces.inline_text A.IrText.written A.outlined (attribute_of attr.now)) f.new) }
 {
     if is_outlined(attr) {
         f.push_str("!outlined")?;
@@ -71,7 +72,7 @@ pub(crate) fn fmt_keyed<A: AttrText>(
     key: &Identifier,
     f: &mut String,
 ) -> fmt::Result
-    ensures { OnOk result (string_bytes f.new ≡ string_bytes f.old ++ encode_utf8_all (pieces.spaced_if (pieces.inline_text_in A.IrText.written A.outlined (graph.lookup key.now (entries_of attributes.now))))) }
+    ensures { OnOk result (AppendsText f.old (pieces.spaced_if (pieces.inline_text_in A.IrText.written A.outlined (graph.lookup key.now (entries_of attributes.now)))) f.new) }
 {
     let Some(attr) = attributes.get(key) else {
         return Ok(());
@@ -102,7 +103,7 @@ pub(crate) fn symbol_of<A: AttrText>(attributes: &AttributeDict<A>) -> Option<&I
 
 /// Appends the symbol's name behind a space and `@`, where it is there.
 pub(crate) fn fmt_symbol<A: AttrText>(attributes: &AttributeDict<A>, f: &mut String) -> fmt::Result
-    ensures { OnOk result (string_bytes f.new ≡ string_bytes f.old ++ encode_utf8_all (pieces.symbol_text (pieces.symbol_in (graph.lookup sym_name_key (entries_of attributes.now))))) }
+    ensures { OnOk result (AppendsText f.old (pieces.symbol_text (pieces.symbol_in (graph.lookup sym_name_key (entries_of attributes.now)))) f.new) }
 {
     let Some(symbol) = symbol_of(attributes) else {
         return Ok(());
@@ -144,7 +145,7 @@ fn fmt_entry<A: AttrText>(
     attr: &AttrObj<A>,
     f: &mut String,
 ) -> fmt::Result
-    ensures { OnOk result (string_bytes f.new ≡ string_bytes f.old ++ encode_utf8_all (cond first [] spell.comma ++ pieces.entry_text A.IrText.written (key.now, attribute_of attr.now))) }
+    ensures { OnOk result (AppendsText f.old (cond first [] spell.comma ++ pieces.entry_text A.IrText.written (key.now, attribute_of attr.now)) f.new) }
 {
     if !first {
         f.push_str(", ")?;
@@ -160,7 +161,7 @@ fn fmt_entries<A: AttrText>(
     directives: &[Directive],
     f: &mut String,
 ) -> fmt::Result
-    ensures { OnOk result (string_bytes f.new ≡ string_bytes f.old ++ encode_utf8_all (pieces.rows_text A.IrText.written (pieces.dictionary_entries A.outlined (directives_of directives.now) (entries_of attributes.now)))) }
+    ensures { OnOk result (AppendsText f.old (pieces.rows_text A.IrText.written (pieces.dictionary_entries A.outlined (directives_of directives.now) (entries_of attributes.now))) f.new) }
 {
     let mut first = true;
     for (key, attr) in attributes.iter() {
@@ -178,7 +179,7 @@ pub(crate) fn fmt_dictionary<A: AttrText>(
     directives: &[Directive],
     f: &mut String,
 ) -> fmt::Result
-    ensures { OnOk result (string_bytes f.new ≡ string_bytes f.old ++ encode_utf8_all (codes " [" ++ (pieces.rows_text A.IrText.written (pieces.dictionary_entries A.outlined (directives_of directives.now) (entries_of attributes.now)) ++ codes "]"))) }
+    ensures { OnOk result (AppendsText f.old (codes " [" ++ (pieces.rows_text A.IrText.written (pieces.dictionary_entries A.outlined (directives_of directives.now) (entries_of attributes.now)) ++ codes "]")) f.new) }
 {
     f.push_str(" [")?;
     fmt_entries(attributes, directives, f)?;

@@ -1,6 +1,6 @@
 //! The text of regions, so far of those without blocks.
 ghost use Rattle.std.specs.Prelude.{◌≡◌, ◌≢◌, ◌+◌, ◌-◌, ◌≤◌, ◌^◌, ◌++◌, ◌==◌, [], cond, OnOk, IfOk, IfErr, string_bytes};
-ghost use Rattle.std.specs.Str.{encode_utf8_all};
+ghost use Rattle.irtext_print.specs.Printers.Appended.{AppendsText};
 ghost use Rattle.irtext_print.specs.Printers.PieceText as pieces;
 ghost use Rattle.irtext_print.specs.Printers.Printing.{width_of, indent_of};
 ghost use Rattle.irtext_grammar.specs.Spelling.Spell.{newline};
@@ -56,7 +56,7 @@ pub(crate) fn fmt_next_region<U>(
     state: &mut State<U>,
     f: &mut String,
 ) -> Result<usize, Refusal>
-    ensures text { OnOk result (string_bytes f.new ≡ string_bytes f.old ++ encode_utf8_all (cond (left == 0) [] (pieces.spaced (pieces.region_text state.old)))) }
+    ensures text { OnOk result (AppendsText f.old (cond (left == 0) [] (pieces.spaced (pieces.region_text state.old))) f.new) }
     ensures left { IfOk result (λ n. n ≡ left - 1) }
     ensures state { state.new ≡ state.old }
     ensures refused { IfErr result (λ e. e ≢ refusal.Memory → (e ≡ refusal.Depth) × (2 ^ 16 ≤ indent_of state.old + width_of state.old)) }
@@ -75,7 +75,7 @@ pub(crate) fn fmt_regions<U>(
     state: &mut State<U>,
     f: &mut String,
 ) -> Result<usize, Refusal>
-    ensures text { OnOk result (string_bytes f.new ≡ string_bytes f.old ++ encode_utf8_all (pieces.spaced (pieces.repeated count (pieces.region_text state.old)))) }
+    ensures text { OnOk result (AppendsText f.old (pieces.spaced (pieces.repeated count (pieces.region_text state.old))) f.new) }
     ensures left { IfOk result (λ n. n ≡ 0) }
     ensures state { state.new ≡ state.old }
     ensures refused { IfErr result (λ e. e ≢ refusal.Memory → (e ≡ refusal.Depth) × (2 ^ 16 ≤ indent_of state.old + width_of state.old)) }

@@ -1,6 +1,6 @@
 //! Printers of an operation's parts: its header, with a type too, and its one region.
-ghost use Rattle.std.specs.Prelude.{◌≡◌, ◌++◌, Some, OnOk, IsSome, IsSomeAnd, string_bytes};
-ghost use Rattle.std.specs.Str.{encode_utf8_all};
+ghost use Rattle.std.specs.Prelude.{◌≡◌, Some, OnOk, IsSome, IsSomeAnd, string_bytes};
+ghost use Rattle.irtext_print.specs.Printers.Appended.{AppendsText};
 ghost use Rattle.irtext_context.specs.Context.{OperationView, operation};
 ghost use Rattle.irtext_print.specs.Printers.OnePrinting.{PartPrinted};
 ghost use Rattle.irtext_print.specs.Printers.OpPrinters as parts;
@@ -64,7 +64,7 @@ fn fmt_header<T: IrText<A>, A: AttrText>(
     f: &mut String,
 ) -> Result<(), Refusal>
     requires live { IsSome (operation ctx.now op) }
-    ensures { (view : OperationView T A) → operation ctx.now op ≡ Some view → OnOk result (IsSomeAnd (parts.header_of view) (λ t. string_bytes f.new ≡ string_bytes f.old ++ encode_utf8_all t)) }
+    ensures { (view : OperationView T A) → operation ctx.now op ≡ Some view → OnOk result (IsSomeAnd (parts.header_of view) (λ t. AppendsText f.old t f.new)) }
 {
     let id = op.get_opid(ctx);
     let attributes = op.attributes(ctx);

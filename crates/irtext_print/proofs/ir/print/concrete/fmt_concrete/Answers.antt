@@ -1,4 +1,4 @@
-use Rattle.std.proofs.Common.{◌∙◌, sym, ap, string_bytes, option_map}
+use Rattle.std.proofs.Common.{◌∙◌, not, sym, ap, string_bytes, option_map}
 use Rattle.irtext_context.specs.Context.{operation}
 use Rattle.irtext_context.specs.Directives.{directives_of}
 use Rattle.irtext_print.specs.Printers.PrintedOperation.{language_in, printing_in}
@@ -7,8 +7,8 @@ use Rattle.irtext_print.proofs.Printers.RootParts.{there}
 use Rattle.irtext_print.proofs.Printers.OperationTexts.{given_of, given_printed, printed_in, concrete_appended}
 use Rattle.irtext_print.proofs.ir.print.concrete.fmt_concrete.Goals as goal
 
-pub returns-then-not-fits-clause-refused : goal.returns-then-not-fits-clause-refused
-returns-then-not-fits-clause-refused g c =
+pub returns-then-is_err-clause-refused : goal.returns-then-is_err-clause-refused
+returns-then-is_err-clause-refused g c =
     let C = printing_in {T = g.row.T.Denot} g.A.AttrText g.A.PartialEq.eq c.args.ctx.now in
     let L = language_in g.T.IrText g.A.IrText c.args.ctx.now in
     let o = operation c.args.ctx.now c.args.op in
@@ -16,7 +16,7 @@ returns-then-not-fits-clause-refused g c =
     let ds = directives_of c.in-Some.directives.now in
     let given = given_of C o v.0 c.get_opid-id.result.now c.attributes-attributes.result.now c.num_regions-regions.result ds v.1 c.get_opid-id.ensures c.attributes-attributes.ensures c.num_regions-regions.ensures
     (sym c.directives_in.ensures ∙ ap (option_map (λ ds. directives_of ds.now)) c.in-Some.is) in
-    printed_in L C c.args.state.now v.0 c.get_opid-id.result.now c.attributes-attributes.result.now c.num_regions-regions.result ds given o v.1 ∙ (sym c.fits.ensures ∙ c.if-not-fits.true)
+    printed_in L C c.args.state.now v.0 c.get_opid-id.result.now c.attributes-attributes.result.now c.num_regions-regions.result ds given o v.1 ∙ (sym c.check_parts.ensures.fits ∙ c.is_err.ensures.negation ∙ ap not c.if-is_err.true)
 
 pub returns-clause-prints : goal.returns-clause-prints
 returns-clause-prints g c =
@@ -27,7 +27,7 @@ returns-clause-prints g c =
     let ds = directives_of c.in-Some.directives.now in
     let given = given_of C o v.0 c.get_opid-id.result.now c.attributes-attributes.result.now c.num_regions-regions.result ds v.1 c.get_opid-id.ensures c.attributes-attributes.ensures c.num_regions-regions.ensures
     (sym c.directives_in.ensures ∙ ap (option_map (λ ds. directives_of ds.now)) c.in-Some.is) in
-    let fits = sym c.fits.ensures ∙ c.if-not-fits.false in
+    let fits = sym c.check_parts.ensures.fits ∙ c.is_err.ensures.negation ∙ ap not c.if-is_err.false in
     then c.fmt_directives.result
     (λ p. record {
       view = v.0;

@@ -1,8 +1,7 @@
-use Rattle.std.proofs.Common.{◌∙◌, ap, string_bytes}
+use Rattle.std.proofs.Common.{string_bytes}
 use Rattle.irtext_print.specs.Printers.PrintedOperation.{language_in, printing_in}
-use Rattle.irtext_print.specs.Printers.Printing.{with_gathered}
 use Rattle.irtext_print.proofs.Printers.PrintedOperations.{root_appended}
-use Rattle.irtext_print.proofs.ir.print.fmt_root.Goals as goal
+use Rattle.irtext_print.proofs.ir.print.print_root.Goals as goal
 
 pub returns-in-Ok-clause-prints : goal.returns-in-Ok-clause-prints
 returns-in-Ok-clause-prints g c =
