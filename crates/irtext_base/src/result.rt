@@ -46,6 +46,7 @@ pub enum Expected {
     TrueOrFalse,
     Type,
     Attribute,
+    EndOfInput,
 }
 
 /// A text of the caller as a cause.
@@ -192,6 +193,7 @@ impl Display for Expected {
             Expected::TrueOrFalse => write!(f, "true or false"),
             Expected::Type => write!(f, "type"),
             Expected::Attribute => write!(f, "attribute"),
+            Expected::EndOfInput => write!(f, "end of input"),
         }
     }
 }

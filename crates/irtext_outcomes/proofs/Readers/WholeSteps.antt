@@ -4,7 +4,7 @@ use Rattle.std.specs.Char.{is_whitespace}
 use Rattle.irtext_base.specs.Text.{Text, front, after_space}
 use Rattle.irtext_base.specs.Own.{Texts}
 use Rattle.irtext_base.specs.Stream.{StreamView, IsAt, first_of}
-use Rattle.irtext_base.specs.Faults.{Unexpected, AnOperation}
+use Rattle.irtext_base.specs.Faults.{Unexpected, TheEnd}
 use Rattle.irtext_base.specs.Answers.{Outcome, Takes, Commits}
 use Rattle.irtext_base.specs.Locations.{AttrView}
 use Rattle.irtext_base.specs.declared.parsable.fault.ParseFault.{ParseFault}
@@ -33,7 +33,7 @@ module _ {T A U : Type 0} (types : Texts T) (owns : Texts A) (attr : Text → Ou
       record { end = end; root = root; space = space; passes = subst (λ r. Takes itself replaced (front is_whitespace end.stream.rest) r end.stream new) space passes; state = refl }
 
   -- a root behind which something else was left, which is refused
-  pub whole_left : {failed : StreamView} {fault : ParseFault A} → is_some next ≡ true → Commits itself replaced (Unexpected (first_of new.rest) AnOperation) [] new fault failed → UnlessMemory (RefusesWhole types owns attr old) fault
+  pub whole_left : {failed : StreamView} {fault : ParseFault A} → is_some next ≡ true → Commits itself replaced (Unexpected (first_of new.rest) TheEnd) [] new fault failed → UnlessMemory (RefusesWhole types owns attr old) fault
   whole_left {fault = fault} h k = inr (inr (go (after_space end.stream.rest) refl))
     where
       go : (text : Text) → after_space end.stream.rest ≡ text → LeavesMore types owns attr old fault
@@ -45,7 +45,7 @@ module _ {T A U : Type 0} (types : Texts T) (owns : Texts A) (attr : Text → Ou
         more = c;
         left = text;
         stands = e;
-        because = k.because ∙ ap (λ t. Unexpected (first_of t) AnOperation) (behind ∙ e);
+        because = k.because ∙ ap (λ t. Unexpected (first_of t) TheEnd) (behind ∙ e);
         flag = k.committed;
         place = subst (IsAt fault.pos.line fault.pos.column) (append-nil new.passed ∙ ap (λ v. v.passed) passes.is) k.place;
       }

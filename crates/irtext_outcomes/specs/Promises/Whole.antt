@@ -4,7 +4,7 @@ use Rattle.std.specs.Char.{is_whitespace}
 use Rattle.irtext_base.specs.Text.{Text, after_space, front}
 use Rattle.irtext_base.specs.Own.{Texts}
 use Rattle.irtext_base.specs.Stream.{IsAt}
-use Rattle.irtext_base.specs.Faults.{Unexpected, AnOperation, fault_of}
+use Rattle.irtext_base.specs.Faults.{Unexpected, TheEnd, fault_of}
 use Rattle.irtext_base.specs.Answers.{Outcome, Takes}
 use Rattle.irtext_base.specs.Locations.{AttrView}
 use Rattle.irtext_base.specs.declared.parsable.fault.ParseFault.{ParseFault}
@@ -32,7 +32,7 @@ module _ {T A U : Type 0} (types : Texts T) (owns : Texts A) (attr : Text → Ou
     pub more : ℕ
     pub left : Text
     pub stands : after_space end.stream.rest ≡ more ∷ left
-    pub because : fault_of fault.cause ≡ Unexpected (Some more) AnOperation
+    pub because : fault_of fault.cause ≡ Unexpected (Some more) TheEnd
     pub flag : fault.committed ≡ true
     pub place : IsAt fault.pos.line fault.pos.column (end.stream.passed ++ front is_whitespace end.stream.rest)
 

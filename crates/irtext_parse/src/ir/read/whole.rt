@@ -46,5 +46,5 @@ pub fn whole_parse<T: IrText<A>, A: AttrText, U>(
         return Ok(op);
     }
     s.state.ctx.roll_back(made);
-    Err(commit_unexpected(&mut s.stream, Expected::Operation))
+    Err(commit_unexpected(&mut s.stream, Expected::EndOfInput))
 }
