@@ -57,6 +57,7 @@ expected_text expected.Location = codes "location"
 expected_text expected.TrueOrFalse = codes "true or false"
 expected_text expected.Type = codes "type"
 expected_text expected.Attribute = codes "attribute"
+expected_text expected.EndOfInput = codes "end of input"
 
 -- an error's text over its cause's
 abbrev pub headed : ErrorKind → List ℕ → List ℕ

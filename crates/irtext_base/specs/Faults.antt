@@ -12,7 +12,7 @@ use Rattle.irtext_base.specs.declared.result.Cause.{Cause}
 use Rattle.irtext_base.specs.declared.result.Cause as cause
 use Rattle.irtext_base.specs.declared.parsable.names.ParserNameTrackerError.TheVariants as tracked
 
--- what must stand where something else stands: a fixed text, or a thing
+-- what must stand where something else stands: a fixed text, a thing, or nothing more
 pub data Demand : Type 0 where
   Word : Text → Demand
   AnIdentifier : Demand
@@ -25,6 +25,7 @@ pub data Demand : Type 0 where
   ATrueOrFalse : Demand
   AType : Demand
   AnAttribute : Demand
+  TheEnd : Demand
 
 -- the characters of a fixed text; an ASCII text is its bytes
 abbrev pub characters : List ℕ → Text
@@ -45,6 +46,7 @@ demand_of expected.Location = ALocation
 demand_of expected.TrueOrFalse = ATrueOrFalse
 demand_of expected.Type = AType
 demand_of expected.Attribute = AnAttribute
+demand_of expected.EndOfInput = TheEnd
 
 -- a cause
 pub data Fault : Type 0 where

@@ -47,6 +47,7 @@ pub enum Expected {
     TrueOrFalse,
     Type,
     Attribute,
+    EndOfInput,
 }
 
 /// A text of the caller as a cause.
@@ -193,6 +194,7 @@ impl Display for Expected {
             Expected::TrueOrFalse => write!(f, "true or false"),
             Expected::Type => write!(f, "type"),
             Expected::Attribute => write!(f, "attribute"),
+            Expected::EndOfInput => write!(f, "end of input"),
         }
     }
 }

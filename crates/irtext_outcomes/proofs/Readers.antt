@@ -15,3 +15,5 @@ pub mod RootSteps
 pub mod TopLevel
 pub mod MarkerSteps
 pub mod RegionSteps
+pub mod RootKept
+pub mod WholeSteps

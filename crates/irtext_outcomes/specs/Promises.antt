@@ -6,3 +6,4 @@ pub mod KeptRoot
 pub mod LocationsBack
 pub mod Section
 pub mod Operation
+pub mod Whole

@@ -314,7 +314,7 @@ module _ {T A U : Type 0} (attr : Text → Outcome (AttrView A)) (op : Ptr Opera
   operation_is = ap (λ mark. operation_by old.state.ctx.now.dialects attr mark old.stream.rest) (sym (mark_alone (Ptr Operation))) ∙ (ap (λ ms. operation_at old.state.ctx.now.dialects attr ms old.stream.rest) (sym fresh.marks) ∙ (may_answered r.reads).is)
 
   -- its mark alone is noted
-  marks_are : marks_of mid.state ≡ noted r.read.mark op
+  pub marks_are : marks_of mid.state ≡ noted r.read.mark op
   marks_are = r.marks ∙ ap (λ ms. ms ++ noted r.read.mark op) fresh.marks
 
   operation_stands : WithRegions r.read.pieces.regions old.state.ctx.now mid.state.ctx.now op (made_view r.id r.attributes loc)
@@ -360,7 +360,7 @@ module _ {T A U : Type 0} (attr : Text → Outcome (AttrView A)) (op : Ptr Opera
       (applied_stands attr i (view_at loc) q.middle.paths q.entries q.behind new.stream.rest all.0 (pathed_stands operation_stands.stood q.adds) applied)
 
   -- the operation alone, where no section is looked for
-  tree_there : ReadsTree attr op old mid
+  pub tree_there : ReadsTree attr op old mid
   tree_there =
       let built = built_stands attr r.read.pieces.regions r.id r.attributes operation_stands.regions loc operation_stands.count operation_stands.stood in
       let where_it_is = located_over mid.state.ctx.now.paths old.stream old.state.src r.loc r.located in

@@ -15,7 +15,8 @@ use Rattle.irtext_outcomes.proofs.Joins.Top.{reads_builds, tree_builds, refused_
 use Rattle.irtext_outcomes.proofs.Readers.RootSteps.{root_reads, root_misses, tree_reads, tree_misses}
 
 module _ {T A U : Type 0} (types : Texts T) (reading : Text → Outcome A) (written : A → Text) (fronts : Splits reading) where
-  builds : (look : Bool) {old : StateStream T A U} (new : StateStream T A U) {op : Ptr Operation} → IsFresh old → ReadsWith (attr_at reading) look op old new → BuildsWith types (texts_of reading written) (attr_at reading) look op old new
+  -- an operation that is answered on a fresh state was read and built
+  pub builds : (look : Bool) {old : StateStream T A U} (new : StateStream T A U) {op : Ptr Operation} → IsFresh old → ReadsWith (attr_at reading) look op old new → BuildsWith types (texts_of reading written) (attr_at reading) look op old new
   builds true new fresh h = reads_builds types reading written fronts (root_reads (attr_at reading) fresh h)
   builds false new fresh h = tree_builds types reading written fronts (tree_reads (attr_at reading) fresh h)
 
@@ -25,7 +26,8 @@ module _ {T A U : Type 0} (types : Texts T) (reading : Text → Outcome A) (writ
   all_build look new fresh (Ok op) h = builds look new fresh h
   all_build look new fresh (Err fault) h = tt
 
-  refuses : (look : Bool) {old : StateStream T A U} {fault : ParseFault A} → IsFresh old → MissesWith (attr_at reading) look old fault
+  -- a fault that is answered on a fresh state, but want of memory, is one of the text
+  pub refuses : (look : Bool) {old : StateStream T A U} {fault : ParseFault A} → IsFresh old → MissesWith (attr_at reading) look old fault
       → UnlessMemory (RefusesWith types (texts_of reading written) (attr_at reading) old.state.ctx.now.dialects look old.stream) fault
   refuses true {old = old} fresh h = elim (root_misses (attr_at reading) fresh h) [
     | inl e ↦ inl e

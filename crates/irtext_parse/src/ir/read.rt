@@ -14,6 +14,7 @@ mod head;
 mod mark;
 mod operation;
 mod root;
+mod whole;
 
 use crate::parsable::Parsable;
 use irtext_base::parsable::{CharStream, ParseResult};
@@ -21,6 +22,7 @@ use irtext_base::text::{AttrText, IrText};
 use irtext_context::base::{Operation, Ptr};
 use irtext_state::parsable::StateStream;
 pub use root::outermost_parse;
+pub use whole::whole_parse;
 
 /// How an operation is read.
 #[derive(Clone, Copy)]

@@ -1,17 +1,18 @@
 //! The calls of operations that are about their text.
-ghost use Rattle.std.specs.Prelude.{◌≡◌, IfOk, IfErr, OnErr};
+ghost use Rattle.std.specs.Prelude.{◌≡◌, [], IfOk, IfErr, OnErr};
 ghost use Rattle.irtext_context.specs.Made.{SameObjects};
 ghost use Rattle.irtext_base.specs.Own.{texts_of};
 ghost use Rattle.irtext_read.specs.AttrTexts.{attr_at};
 ghost use Rattle.irtext_state.specs.States.{marks_of};
 ghost use Rattle.irtext_outcomes.specs.Readers.Refusals.{Refusal, RefusesFailed};
 ghost use Rattle.irtext_outcomes.specs.Promises.Root.{IsFresh, BuildsRoot, RefusesRoot, UnlessMemory};
+ghost use Rattle.irtext_outcomes.specs.Promises.Whole.{BuildsWhole, RefusesWhole};
 ghost use Rattle.irtext_outcomes.specs.Readers.Streams.{KeepsRest};
 
 use irtext_base::parsable::ParseResult;
 use irtext_base::text::{AttrText, IrText};
 use irtext_context::base::{Context, Operation, Ptr};
-use irtext_parse::ir::read::{OperationParserConfig, outermost_parse};
+use irtext_parse::ir::read::{OperationParserConfig, outermost_parse, whole_parse};
 use irtext_print::ir::print::concrete::OpObj;
 use irtext_state::parsable::StateStream;
 
@@ -36,6 +37,21 @@ pub trait OperationText {
         ensures objects { OnErr result (SameObjects stream.old.state.ctx.now stream.new.state.ctx.now) }
         ensures marks { OnErr result (marks_of stream.new.state ≡ marks_of stream.old.state) };
 
+    /// Reads a root as `top_level_parse` does, behind which nothing but white space is left up to the end of the text. Where something
+    /// else is left, the fault is committed and stands there: ``Unexpected `b`, expected end of input``. On a state in which no mark is
+    /// noted, a refusal leaves the context's objects and the marks as they were.
+    fn whole_text_parse<T: IrText<A>, A: AttrText, U>(
+        stream: &mut StateStream<'_, T, A, U>,
+    ) -> ParseResult<Ptr<Operation>, A>
+        ensures lent { stream.new.state.ctx.ghost_name ≡ stream.old.state.ctx.ghost_name }
+        ensures rest { KeepsRest stream.old.state stream.new.state }
+        ensures refused { IfErr result (λ fault. Refusal stream.old.stream fault stream.new.stream) }
+        ensures failed { RefusesFailed stream.old.stream result stream.new.stream }
+        ensures builds { IsFresh stream.old → IfOk result (λ op. BuildsWhole (texts_of T.reading T.written) (texts_of A.reading A.written) (attr_at A.reading) op stream.old stream.new) }
+        ensures unresolved { IsFresh stream.old → IfErr result (UnlessMemory (RefusesWhole (texts_of T.reading T.written) (texts_of A.reading A.written) (attr_at A.reading) stream.old)) }
+        ensures objects { IsFresh stream.old → OnErr result (SameObjects stream.old.state.ctx.now stream.new.state.ctx.now) }
+        ensures marks { IsFresh stream.old → OnErr result (marks_of stream.new.state ≡ []) };
+
     /// The operation as a plain value that prints its concrete text: its id and its pieces, without its mark and without a
     /// section.
     fn get_op_dyn<T: IrText<A>, A: AttrText>(op: Ptr<Operation>, ctx: &Context<T, A>) -> OpObj
@@ -52,6 +68,12 @@ impl OperationText for Operation {
                 look_for_outlined_attrs: true,
             },
         )
+    }
+
+    fn whole_text_parse<T: IrText<A>, A: AttrText, U>(
+        stream: &mut StateStream<'_, T, A, U>,
+    ) -> ParseResult<Ptr<Operation>, A> {
+        whole_parse(stream)
     }
 
     fn get_op_dyn<T: IrText<A>, A: AttrText>(op: Ptr<Operation>, _ctx: &Context<T, A>) -> OpObj {

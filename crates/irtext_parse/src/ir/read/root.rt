@@ -1,5 +1,5 @@
 //! A root: an operation with its section, reported as one that nothing stands round, and given back where it is refused.
-ghost use Rattle.std.specs.Prelude.{◌≡◌, ◌≤◌, ℕ, true, false, List, ◌++◌, IfOk, IfErr, OnErr};
+ghost use Rattle.std.specs.Prelude.{◌≡◌, ◌≤◌, ℕ, true, false, List, ◌++◌, IfOk, IfErr, OnOk, OnErr};
 ghost use Rattle.irtext_context.specs.Context.{KeepsOlder};
 ghost use Rattle.irtext_base.specs.Faults.{fault_of};
 ghost use Rattle.irtext_context.specs.Made.{SameObjects};
@@ -8,6 +8,7 @@ ghost use Rattle.irtext_read.specs.AttrTexts.{attr_at};
 ghost use Rattle.irtext_state.specs.States.{marks_of};
 ghost use Rattle.irtext_outcomes.specs.Readers.Refusals.{Refusal, FailedRefusal, RefusesFailed};
 ghost use Rattle.irtext_outcomes.specs.Readers.Streams.{KeepsRest};
+ghost use Rattle.irtext_outcomes.specs.Promises.Root.{IsFresh};
 ghost use Rattle.irtext_outcomes.specs.Promises.Section.{ReadsWith, MissesWith, is_unplaced, IsReported};
 
 use crate::ir::read::OperationParserConfig;
@@ -65,6 +66,7 @@ fn root_parse<T: IrText<A>, A: AttrText, U>(
     ensures missed { s.old.stream.failed ≡ false → IfErr result (λ fault. MissesWith (attr_at A.IrText.reading) config.look_for_outlined_attrs s.old fault) }
     ensures marks { OnErr result ((more : List (ℕ × Ptr Operation)) × (marks_of s.new.state ≡ marks_of s.old.state ++ more)) }
     ensures kept { OnErr result ((mark : ℕ) → mark ≤ s.old.state.ctx.now.made → KeepsOlder mark s.old.state.ctx.now s.new.state.ctx.now) }
+    ensures keeps { IsFresh s.old → OnOk result ((mark : ℕ) → mark ≤ s.old.state.ctx.now.made → KeepsOlder mark s.old.state.ctx.now s.new.state.ctx.now) }
 {
     let op = match operation_parse(s) {
         Ok(op) => op,
@@ -101,6 +103,7 @@ pub fn outermost_parse<T: IrText<A>, A: AttrText, U>(
     ensures failed { RefusesFailed s.old.stream result s.new.stream }
     ensures read { IfOk result (λ op. ReadsWith (attr_at A.IrText.reading) config.look_for_outlined_attrs op s.old s.new) }
     ensures missed { s.old.stream.failed ≡ false → IfErr result (λ fault. MissesWith (attr_at A.IrText.reading) config.look_for_outlined_attrs s.old fault) }
+    ensures keeps { IsFresh s.old → OnOk result ((mark : ℕ) → mark ≤ s.old.state.ctx.now.made → KeepsOlder mark s.old.state.ctx.now s.new.state.ctx.now) }
     ensures objects { OnErr result (SameObjects s.old.state.ctx.now s.new.state.ctx.now) }
     ensures marks { OnErr result (marks_of s.new.state ≡ marks_of s.old.state) }
 {

@@ -10,6 +10,7 @@ use Rattle.irtext_outcomes.proofs.Readers.SectionSteps.{noted_there, both_hold, 
 use Rattle.irtext_outcomes.proofs.Readers.NewPaths.{adds_kept}
 use Rattle.irtext_outcomes.proofs.Readers.EntryIndices.{refusal, demanded_refusal, reported_refusal, read_fine}
 use Rattle.irtext_outcomes.proofs.Readers.OperationNeverFailed.{operation_spares}
+use Rattle.irtext_outcomes.proofs.Readers.RootKept.{root_kept}
 use Rattle.irtext_outcomes.proofs.Readers.FirstMissing.{operation_missing}
 use Rattle.irtext_parse.proofs.ir.read.root.root_parse.Goals as goal
 use Rattle.irtext_parse.proofs.ir.read.root.root_parse.Goals.{then-not-config-via-then-not-config, then-not-config-via-else-not-config+then-not-has_marks}
@@ -55,3 +56,10 @@ returns-then-not-config-clause-read g c =
       | then-not-config-via-else-not-config+then-not-has_marks w ↦ none_noted look marks w.has_marks.result w.has_marks.ensures w.if-not-has_marks.true
     ] in
     record { mid = c.operation_parse.new.s; operation = c.in-Ok.ensures.read; section = held_beside _ _ e refl }
+
+pub returns-in-Ok-section_parse-clause-keeps : goal.returns-in-Ok-section_parse-clause-keeps
+unfolding returns-in-Ok-section_parse-clause-read
+returns-in-Ok-section_parse-clause-keeps g c = λ fresh mark h. root_kept (attr_at g.A.IrText.reading) c.args.config.look_for_outlined_attrs mark fresh (returns-in-Ok-section_parse-clause-read g c) (c.in-Ok.ensures.kept mark h)
+
+pub returns-then-not-config-clause-keeps : goal.returns-then-not-config-clause-keeps
+returns-then-not-config-clause-keeps g c = λ fresh mark h. c.in-Ok.ensures.kept mark h
