@@ -7,3 +7,4 @@ pub use Rattle.irtext_outcomes.specs.Promises.KeptRoot
 pub use Rattle.irtext_outcomes.specs.Promises.PrintedBack
 pub use Rattle.irtext_outcomes.specs.Promises.LocationsBack
 pub mod PlainRoot
+pub mod ReadBack

@@ -12,9 +12,10 @@ use Rattle.pliron_text.proofs.ir.kept.+kept.Goals as goal
 
 pub location_kept-returns-in-Fused-clause-holds : goal.location_kept-returns-in-Fused-clause-holds
 location_kept-returns-in-Fused-clause-holds g t c =
-    rw (c.in-Fused.is, seen-fused c.in-Fused.metadata c.in-Fused.locations)
-    (subst (λ z. IfSome (attr_view_in z) IsSpellableAttr) c.deref.ensures c.metadata_kept.ensures,
-    subst (λ z. RowHold IsSpellableAttr (row_sourced (path_of c.args.ctx.now.paths) (in_row (map location_view z.items)))) c.deref-in-Fused.ensures c.locations_kept.ensures.holds)
+    rw (c.in-Fused.is, seen-fused c.in-Fused.metadata c.in-Fused.locations) (
+      subst (λ z. IfSome (attr_view_in z) IsSpellableAttr) c.deref.ensures c.metadata_kept.ensures,
+      subst (λ z. RowHold IsSpellableAttr (row_sourced (path_of c.args.ctx.now.paths) (in_row (map location_view z.items)))) c.deref-in-Fused.ensures c.locations_kept.ensures.holds,
+    )
 
 pub location_kept-returns-in-Named-clause-fits : goal.location_kept-returns-in-Named-clause-fits
 location_kept-returns-in-Named-clause-fits g t c =
