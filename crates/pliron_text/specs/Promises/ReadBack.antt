@@ -1,5 +1,5 @@
 -- For callers: what is promised of a root that is printed and read again by two calls.
-use Rattle.std.specs.Prelude.{◌≡◌, ℕ, false, List, Some, ⊤}
+use Rattle.std.specs.Prelude.{◌≡◌, ℕ, List, Some}
 use Rattle.std.specs.Str.{chars}
 use Rattle.irtext_base.specs.Faults.{fault_of}
 use Rattle.irtext_base.specs.Faults as fault
@@ -20,9 +20,8 @@ use Rattle.irtext_grammar.specs.Graphs.Graph.{Graph, Printing}
 use Rattle.irtext_grammar.specs.Graphs.Same.{UpToFillings, stood}
 use Rattle.irtext_outcomes.specs.Promises.PrintedBack.{locations}
 use Rattle.irtext_outcomes.specs.Promises.Root.{BuildsRoot, RefusesRoot}
-use Rattle.irtext_print.specs.Printers.PrintedOperation.{is_printed}
-use Rattle.irtext_print.specs.declared.printable.refusal.Refusal.{Refusal}
-use Rattle.irtext_print.specs.declared.printable.refusal.Refusal.TheVariants.{Memory, Depth, Misfit}
+use Rattle.irtext_print.specs.Printers.PrintedOperation.{RefusesConcrete}
+use Rattle.irtext_print.specs.Printers.Shown.{Shown}
 use Rattle.irtext_read.specs.declared.parsable.state.StateStream.{StateStream}
 use Rattle.pliron_text.specs.declared.laws.two_calls.NotBack.{NotBack}
 use Rattle.pliron_text.specs.declared.laws.two_calls.NotBack.TheVariants.{Unprinted, Unread}
@@ -31,17 +30,10 @@ use Rattle.pliron_text.specs.declared.laws.two_calls.NotBack.TheVariants.{Unprin
 abbrev pub HoldsBack : {T A : Type 0} → (A → Text) → List (Text × Table) → Printing T A → Graph T A → Ptr Operation → ContextView T A → Type 0
 HoldsBack {T} {A} written dialects C g q ctx = (b : Built T A (Written A)) × (held_root ctx q ≡ Some b) × UpToFillings (locations written) (stood C (isolated dialects) g) b
 
-module _ {T A : Type 0} (C : Printing T A) (op : OperationView T A) where
-  -- why the root is not printed without indentation: memory was refused, or it does not fit its format
-  abbrev pub IsUnprinted : Refusal → Type 0
-  IsUnprinted Memory = ⊤
-  IsUnprinted Depth = ⊥
-  IsUnprinted Misfit = is_printed C op ≡ false
-
-  -- why its text is not read back: it is not printed, or memory was refused to the reading
-  abbrev pub IsExcused : NotBack A → Type 0
-  IsExcused (Unprinted refusal) = IsUnprinted refusal
-  IsExcused (Unread refused) = fault_of refused.cause ≡ fault.Memory
+-- why a root's text is not read back: it is not printed in this layout, or memory was refused to the reading
+abbrev pub IsExcused : {T A : Type 0} → Printing T A → OperationView T A → Shown (Unit {0}) → NotBack A → Type 0
+IsExcused C op layout (Unprinted refusal) = RefusesConcrete C op layout refusal
+IsExcused C op layout (Unread refused) = fault_of refused.cause ≡ fault.Memory
 
 module _ {T A : Type 0} (types : Texts T) (owns : Texts A) (attr : Text → Outcome (AttrView A)) (bytes : List ℕ) (ctx : ContextView T A) where
   -- a stream of the text stands over the context
