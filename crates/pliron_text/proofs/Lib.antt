@@ -1,2 +1,3 @@
 pub mod RoundTrips
 pub mod KeptParts
+pub mod TextBack

@@ -8,3 +8,4 @@ pub use Rattle.irtext_outcomes.specs.Promises.PrintedBack
 pub use Rattle.irtext_outcomes.specs.Promises.LocationsBack
 pub mod PlainRoot
 pub mod PrintedRoot
+pub mod ReadBack

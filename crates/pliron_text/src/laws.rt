@@ -37,6 +37,7 @@ use irtext_base::text::{AttrText, IrText};
 
 pub mod places;
 pub mod section;
+pub mod two_calls;
 
 /// A text reads as one tree at most, and leaves one rest.
 pub fn one_tree<T: IrText<A>, A: AttrText>()

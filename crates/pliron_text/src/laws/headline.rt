@@ -20,6 +20,7 @@ use irtext_base::text::{AttrText, IrText};
 /// What `disp` or `print` writes of a root without blocks by the formats of its context's dialects, its section too, without a limit
 /// that leaves regions out, is read back, from its bytes, in any context with the same dialects: each root that is answered is equal
 /// to it up to fillings, and all was read but white space. Nothing but want of memory refuses it. The root is isolated, or has no region.
+/// That a live root holds what its parts' types keep is what `keeps_parts` ensures.
 pub fn printed_root_comes_back<T: IrText<A>, A: AttrText, U, V>()
     ensures builds { (ctx : ContextView T A) (p : Ptr Operation) (op : OperationView T A) (s after : Shown V) (bytes : List ℕ) (g : Graph T A) →
         let types = texts_of T.reading T.written in

@@ -1,4 +1,3 @@
-use Rattle.std.proofs.Common.{◌≡◌, subst}
 use Rattle.irtext_context.specs.Context.{operation}
 use Rattle.pliron_text.proofs.KeptParts.{part_is, kept_of, accepted_of}
 use Rattle.pliron_text.proofs.ir.kept.keeps_parts.Goals as goal
