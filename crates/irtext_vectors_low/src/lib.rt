@@ -8,8 +8,6 @@ mod demo;
 #[cfg(test)]
 mod formats;
 #[cfg(test)]
-mod helpers;
-#[cfg(test)]
 mod lists;
 #[cfg(test)]
 mod locations;
