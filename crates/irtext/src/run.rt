@@ -106,21 +106,52 @@ fn write_root(
     }
 }
 
+/// The root's text in this form.
+fn printed(
+    alloc: Global,
+    ctx: &Context<DemoType, DemoAttr>,
+    root: Ptr<Operation>,
+    form: Form,
+) -> Result<String, Fault>
+    requires { IsSome (operation ctx.now root) }
+{
+    let mut text = String::new(alloc);
+    match write_root(ctx, root, form, &mut text) {
+        Ok(()) => Ok(text),
+        Err(_) => Err(refusal(alloc, ctx, &Error::from(fmt::Error))),
+    }
+}
+
+/// The text in this form of the root that `text` spells with the context.
+fn read_and_printed(
+    alloc: Global,
+    ctx: &mut Context<DemoType, DemoAttr>,
+    form: Form,
+    text: &str,
+) -> Result<String, Fault> {
+    match parse_from_str(|stream| Operation::top_level_parse(stream), ctx, text) {
+        Ok(root) => printed(alloc, ctx, root, form),
+        Err(error) => Err(refusal(alloc, ctx, &error)),
+    }
+}
+
+/// The same once the demo dialects are registered.
+fn registered(
+    alloc: Global,
+    ctx: &mut Context<DemoType, DemoAttr>,
+    form: Form,
+    text: &str,
+) -> Result<String, Fault> {
+    match register_demo(ctx) {
+        Ok(()) => read_and_printed(alloc, ctx, form, text),
+        Err(error) => Err(refusal(alloc, ctx, &error)),
+    }
+}
+
 /// The text in this form of the root that `text` spells.
 fn formatted(alloc: Global, form: Form, text: &str) -> Result<String, Fault> {
     let mut ctx = Context::new(alloc);
-    if let Err(error) = register_demo(&mut ctx) {
-        return Err(refusal(alloc, &ctx, &error));
-    }
-    let root = match parse_from_str(|stream| Operation::top_level_parse(stream), &mut ctx, text) {
-        Ok(root) => root,
-        Err(error) => return Err(refusal(alloc, &ctx, &error)),
-    };
-    let mut printed = String::new(alloc);
-    match write_root(&ctx, root, form, &mut printed) {
-        Ok(()) => Ok(printed),
-        Err(_) => Err(refusal(alloc, &ctx, &Error::from(fmt::Error))),
-    }
+    registered(alloc, &mut ctx, form, text)
 }
 
 /// Writes `text`, and a newline where it does not end in one.
@@ -132,6 +163,17 @@ fn write_line(out: &mut impl Write, text: &str) -> std::io::Result<()> {
     out.flush()
 }
 
+/// Writes the text in this form of the root that `text` spells.
+fn write_formatted(
+    alloc: Global,
+    form: Form,
+    text: &str,
+    output: &mut impl Write,
+) -> Result<(), Fault> {
+    let printed = formatted(alloc, form, text)?;
+    write_line(output, printed.as_str()).map_err(|_| Fault::Unwritable)
+}
+
 /// The work of `run`, up to a fault.
 fn try_run(
     alloc: Global,
@@ -141,8 +183,7 @@ fn try_run(
 ) -> Result<(), Fault> {
     let form = form_of(args)?;
     let text = read_text(alloc, input)?;
-    let printed = formatted(alloc, form, text.as_str())?;
-    write_line(output, printed.as_str()).map_err(|_| Fault::Unwritable)
+    write_formatted(alloc, form, text.as_str(), output)
 }
 
 /// Writes the fault's text, which takes no memory.

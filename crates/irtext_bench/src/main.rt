@@ -7,19 +7,9 @@ mod quoted;
 mod roots;
 
 use std::alloc::{AllocError, Global};
-use std::io::{Read, Write};
+use std::io::Write;
 use std::process::ExitCode;
 use std::{env, io};
-
-/// All of the standard input, as text.
-fn read_text(rt: &HostRuntime) -> io::Result<String> {
-    let mut bytes = Vec::new(rt.alloc());
-    rt.reader().read_to_end(&mut bytes)?;
-    match String::from_utf8(bytes) {
-        Ok(text) => Ok(text),
-        Err(_) => Err(io::Error::from(io::ErrorKind::InvalidData)),
-    }
-}
 
 /// Does what the word says so many times, and tells how much there was.
 fn measured(alloc: Global, word: &str, times: usize, text: &str) -> Result<String, AllocError> {
@@ -40,7 +30,7 @@ fn measured(alloc: Global, word: &str, times: usize, text: &str) -> Result<Strin
 
 /// Measures what the words say, and writes what was told.
 fn measure(rt: &HostRuntime) -> io::Result<()> {
-    let text = read_text(rt)?;
+    let text = io::read_to_string(rt.alloc(), rt.reader())?;
     let mut words = env::args(rt)?.skip(1);
     let Some(word) = words.next() else {
         return Err(io::Error::from(io::ErrorKind::InvalidInput));

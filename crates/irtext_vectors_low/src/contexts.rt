@@ -1,11 +1,12 @@
 //! Identifiers, dictionaries, and the objects of a context.
-use crate::helpers::{Ctx, named};
 use irtext_base::base::{AttrObj, AttributeDict, Identifier, OpId, Refusal};
 use irtext_base::location::Location;
 use irtext_base::result::Result as Answer;
 use irtext_context::base::context::making::Making;
-use irtext_context::base::{Context, Operation, Ptr};
+use irtext_context::base::{Operation, Ptr};
 use irtext_types::DemoAttr;
+use irtext_vectors_common::contexts::{Ctx, named, with_context};
+use irtext_vectors_common::tables::differing;
 use std::alloc::Global;
 use std::test::Fail;
 
@@ -127,23 +128,10 @@ fn step(
     }
 }
 
-/// The number of the first step of which something else is said.
-fn differing(
-    alloc: Global,
-    dictionary: &mut AttributeDict<DemoAttr>,
-) -> Result<Option<usize>, Fail> {
-    for (number, wanted) in STEPS.iter().enumerate() {
-        if step(alloc, dictionary, number)?.as_str() != *wanted {
-            return Ok(Some(number));
-        }
-    }
-    Ok(None)
-}
-
-/// The same with a dictionary of its own.
+/// The number of the first step of which something else is said, with a dictionary of its own.
 fn first_differing(alloc: Global) -> Result<Option<usize>, Fail> {
     let mut dictionary: AttributeDict<DemoAttr> = AttributeDict::new(alloc);
-    differing(alloc, &mut dictionary)
+    differing(alloc, STEPS, &mut dictionary, step)
 }
 
 /// Makes a module.
@@ -188,17 +176,11 @@ fn rolled_back(alloc: Global, ctx: &mut Ctx) -> Result<String, Fail> {
     )?)
 }
 
-/// The same with a context of its own.
-fn objects(alloc: Global) -> Result<String, Fail> {
-    let mut ctx: Ctx = Context::new(alloc);
-    rolled_back(alloc, &mut ctx)
-}
-
 #[test]
 fn objects_are_made_kept_and_given_back(rt: HostRuntime) -> Result<(), Fail> {
     assert_eq!(rt; first_differing(rt.alloc())?, None);
     assert_eq!(rt;
-        objects(rt.alloc())?.as_str(),
+        with_context(rt.alloc(), rolled_back)?.as_str(),
         "true 3 true 2 2 2 2 builtin.module 1 true"
     );
     Ok(())

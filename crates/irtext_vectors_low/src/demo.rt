@@ -1,8 +1,8 @@
 //! The demo types and attributes, as they are read and printed.
-use crate::helpers::told;
 use irtext_base::parsable::{ParseResult, TextStream};
 use irtext_base::text::IrText;
 use irtext_types::{DemoAttr, DemoType};
+use irtext_vectors_common::answers::told;
 use std::alloc::Global;
 use std::test::Fail;
 

@@ -1,11 +1,11 @@
 //! Which formats are accepted, and by which condition the others are refused; and the operations of a dialect.
-use crate::helpers::named;
 use irtext_base::base::{Identifier, OpId};
 use irtext_base::format::{Directive, FormatFault, OpFormat};
 use irtext_base::result::Result as Answer;
 use irtext_context::dialect::{Dialect, DialectName};
 use irtext_context::format::check_format;
 use irtext_types::DemoAttr;
+use irtext_vectors_common::contexts::named;
 use std::alloc::Global;
 use std::convert::AsStr;
 use std::test::Fail;

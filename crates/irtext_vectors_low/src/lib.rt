@@ -10,8 +10,6 @@ mod edges;
 #[cfg(test)]
 mod formats;
 #[cfg(test)]
-mod helpers;
-#[cfg(test)]
 mod lists;
 #[cfg(test)]
 mod locations;

@@ -1,11 +1,12 @@
 //! Lists of items, with and without separators.
-use crate::helpers::{Stream, in_context, left};
 use irtext_base::parsable::{CharStream, ParseResult, SourcePosition, TextStream};
 use irtext_base::printable::ListSeparator;
 use irtext_read::irfmt::parsers::{
     delimited_list_parser, int_parse, list_parser, list_with_sep_parser, zero_or_more_parser,
 };
 use irtext_types::DemoAttr;
+use irtext_vectors_common::answers::left;
+use irtext_vectors_common::contexts::{Stream, in_context};
 use std::alloc::Global;
 use std::test::Fail;
 

@@ -1,5 +1,4 @@
 //! The sources, copies and hashes of locations, and the paths that a context keeps.
-use crate::helpers::{Ctx, named};
 use irtext_base::base::{AttrObj, AttributeDict, OpId};
 use irtext_base::location::{Location, Source};
 use irtext_base::parsable::SourcePosition;
@@ -7,6 +6,7 @@ use irtext_context::base::context::making::Making;
 use irtext_context::base::{Context, Operation, Ptr};
 use irtext_context::location::erase_locations;
 use irtext_types::DemoAttr;
+use irtext_vectors_common::contexts::{Ctx, named};
 use std::alloc::Global;
 use std::hash::{DefaultHasher, Hash, Hasher};
 use std::test::Fail;

@@ -1,10 +1,10 @@
 //! Numbers of every type, in decimal and hexadecimal digits and as their text, and truth values.
-use crate::helpers::line;
 use irtext_base::parsable::{CharStream, ParseResult, TextStream};
 use irtext_read::irfmt::parsers::{
     FromStrRadix, bool_parse, hex_int_parse, int_parse, number_as_string_parse,
 };
 use irtext_types::DemoAttr;
+use irtext_vectors_common::answers::line;
 use std::alloc::Global;
 use std::fmt;
 use std::test::Fail;

@@ -1,8 +1,8 @@
 //! Quoted texts as they are read.
-use crate::helpers::behind;
 use irtext_base::parsable::TextStream;
 use irtext_read::irfmt::parsers::quoted_string_parse;
 use irtext_types::DemoAttr;
+use irtext_vectors_common::answers::behind;
 use std::alloc::Global;
 use std::test::Fail;
 

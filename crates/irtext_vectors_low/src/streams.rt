@@ -1,5 +1,4 @@
 //! The stream of a text, places, faults and tokens.
-use crate::helpers::{line, told};
 use irtext_base::parsable::{
     CharStream, ParseFault, ParseResult, Place, SourcePosition, TextStream,
 };
@@ -11,6 +10,7 @@ use irtext_read::irfmt::parsers::{
     Class, id_parse, identifier_parse, int_parse, skip_class, skip_white_space, text_parse,
 };
 use irtext_types::DemoAttr;
+use irtext_vectors_common::answers::{line, told};
 use std::alloc::Global;
 use std::test::Fail;
 

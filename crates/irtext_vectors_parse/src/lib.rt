@@ -2,8 +2,6 @@
 #![tactic(auto)]
 
 #[cfg(test)]
-mod helpers;
-#[cfg(test)]
 mod location_readings;
 #[cfg(test)]
 mod markers;

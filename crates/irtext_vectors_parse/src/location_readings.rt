@@ -1,96 +1,132 @@
 //! Locations of each kind as they are read, and why others are refused.
 use irtext_base::location::{Location, Source};
-use irtext_context::base::Context;
+use irtext_base::result::Error;
 use irtext_parse::parsable::{Parsable, SourcePosition, parse_from_str};
 use irtext_print::printable::Disp;
 use irtext_types::{DemoAttr, DemoType};
+use irtext_vectors_common::contexts::{Ctx, with_context};
+use std::alloc::Global;
 use std::test::Fail;
 
+/// Texts of locations, which are printed as they are given.
+const SAME: &[&str] = &[
+    "?",
+    "<in-memory>: line: 1, column: 2",
+    "\"foo.mlir\": line: 42, column: 7",
+    "\"a\\\"b\\\\c.mlir\": line: 1, column: 1",
+    "name: \"foo\", loc: (?)",
+    "name: \"a\\\"b\\\\c\\nd\\te\\u{7f}\", loc: (?)",
+    "fused[]",
+    "fused[<in-memory>: line: 3, column: 4, ?]",
+    "fused<builtin.string \"testattr\">[?]",
+    "callsite(? at ?)",
+    "callsite(\"b\": line: -1, column: 2 at fused[name: \"n\", loc: (\"c\": line: 1, column: 2), ?])",
+];
+
+/// Texts, and what is printed of the location that each begins with, or why it is refused.
+const OTHERS: &[(&str, &str)] = &[
+    (
+        "fused < builtin.string \"s\" >[ ? , ? ]",
+        "fused<builtin.string \"s\">[?, ?]",
+    ),
+    ("callsite ( ?\n at ? ) x", "callsite(? at ?)"),
+    (
+        "fused<builtin.string \"s\"> [?]",
+        "Parse error at line: 1, column: 26\nUnexpected ` `, expected `[`\n",
+    ),
+    (
+        "name: \"foo\", loc: ( ?)",
+        "Parse error at line: 1, column: 20\nUnexpected ` `, expected location\n",
+    ),
+    (
+        "fused[?,]",
+        "Parse error at line: 1, column: 9\nUnexpected `]`, expected location\n",
+    ),
+    (
+        "<in-memory>: line: 2147483648, column: 1",
+        "Parse error at line: 1, column: 20\nNumber out of range: 2147483648\n",
+    ),
+    (
+        "x",
+        "Parse error at line: 1, column: 1\nUnexpected `x`, expected location\n",
+    ),
+];
+
+/// The text that is printed of a location.
+fn printed(alloc: Global, ctx: &Ctx, location: &Location<DemoAttr>) -> Result<String, Fail> {
+    Ok(format!(in alloc; "{}", location.disp(ctx))?)
+}
+
+/// Why a text is refused.
+fn refused(alloc: Global, error: &Error<DemoAttr>) -> Result<String, Fail> {
+    Ok(format!(in alloc; "{}", error.err)?)
+}
+
 /// The text that is printed of the location that a text reads as, or why it is refused.
-fn again(rt: &HostRuntime, text: &str) -> Result<String, Fail> {
-    let mut ctx: Context<DemoType, DemoAttr> = Context::new(rt.alloc());
+fn read(alloc: Global, ctx: &mut Ctx, text: &str) -> Result<String, Fail> {
     let answer = parse_from_str(
         |s| <Location<DemoAttr> as Parsable<DemoType, DemoAttr, ()>>::parse(s, ()),
-        &mut ctx,
+        ctx,
         text,
     );
     match answer {
-        Ok(location) => Ok(format!(in rt.alloc(); "{}", location.disp(&ctx))?),
-        Err(error) => Ok(format!(in rt.alloc(); "{}", error.err)?),
+        Ok(location) => printed(alloc, ctx, &location),
+        Err(error) => refused(alloc, &error),
     }
+}
+
+/// The same with a context of its own.
+fn again(alloc: Global, text: &str) -> Result<String, Fail> {
+    with_context(alloc, |alloc, ctx| read(alloc, ctx, text))
 }
 
 #[test]
 fn locations_of_a_text(rt: HostRuntime) -> Result<(), Fail> {
-    for text in [
-        "?",
-        "<in-memory>: line: 1, column: 2",
-        "\"foo.mlir\": line: 42, column: 7",
-        "\"a\\\"b\\\\c.mlir\": line: 1, column: 1",
-        "name: \"foo\", loc: (?)",
-        "name: \"a\\\"b\\\\c\\nd\\te\\u{7f}\", loc: (?)",
-        "fused[]",
-        "fused[<in-memory>: line: 3, column: 4, ?]",
-        "fused<builtin.string \"testattr\">[?]",
-        "callsite(? at ?)",
-        "callsite(\"b\": line: -1, column: 2 at fused[name: \"n\", loc: (\"c\": line: 1, column: 2), ?])",
-    ] {
-        assert_eq!(rt; again(&rt, text)?.as_str(), text);
+    for text in SAME {
+        assert_eq!(rt; again(rt.alloc(), text)?.as_str(), *text);
     }
     Ok(())
 }
 
 #[test]
 fn white_space_and_faults_in_locations(rt: HostRuntime) -> Result<(), Fail> {
-    for (text, wanted) in [
-        (
-            "fused < builtin.string \"s\" >[ ? , ? ]",
-            "fused<builtin.string \"s\">[?, ?]",
-        ),
-        ("callsite ( ?\n at ? ) x", "callsite(? at ?)"),
-        (
-            "fused<builtin.string \"s\"> [?]",
-            "Parse error at line: 1, column: 26\nUnexpected ` `, expected `[`\n",
-        ),
-        (
-            "name: \"foo\", loc: ( ?)",
-            "Parse error at line: 1, column: 20\nUnexpected ` `, expected location\n",
-        ),
-        (
-            "fused[?,]",
-            "Parse error at line: 1, column: 9\nUnexpected `]`, expected location\n",
-        ),
-        (
-            "<in-memory>: line: 2147483648, column: 1",
-            "Parse error at line: 1, column: 20\nNumber out of range: 2147483648\n",
-        ),
-        (
-            "x",
-            "Parse error at line: 1, column: 1\nUnexpected `x`, expected location\n",
-        ),
-    ] {
-        assert_eq!(rt; again(&rt, text)?.as_str(), wanted);
+    for row in OTHERS {
+        assert_eq!(rt; again(rt.alloc(), row.0)?.as_str(), row.1);
     }
     Ok(())
 }
 
+/// The source that a text reads as.
+fn source(ctx: &mut Ctx, text: &str) -> Option<Source> {
+    parse_from_str(
+        |s| <Source as Parsable<DemoType, DemoAttr, ()>>::parse(s, ()),
+        ctx,
+        text,
+    )
+    .ok()
+}
+
+/// The position that a text reads as.
+fn position(ctx: &mut Ctx, text: &str) -> Option<SourcePosition> {
+    parse_from_str(
+        |s| <SourcePosition as Parsable<DemoType, DemoAttr, ()>>::parse(s, ()),
+        ctx,
+        text,
+    )
+    .ok()
+}
+
+/// What is printed of a source and a position.
+fn source_and_position(alloc: Global, ctx: &mut Ctx) -> Result<String, Fail> {
+    let source = source(ctx, "\"b\"").ok_or("refused")?;
+    let position = position(ctx, "line : 3,column:4").ok_or("refused")?;
+    Ok(format!(in alloc; "{} {}", source.disp(ctx), position.disp(ctx))?)
+}
+
 #[test]
 fn sources_and_positions_of_a_text(rt: HostRuntime) -> Result<(), Fail> {
-    let mut ctx: Context<DemoType, DemoAttr> = Context::new(rt.alloc());
-    let source = parse_from_str(
-        |s| <Source as Parsable<DemoType, DemoAttr, ()>>::parse(s, ()),
-        &mut ctx,
-        "\"b\"",
-    );
-    let source = source.ok().ok_or("refused")?;
-    let position = parse_from_str(
-        |s| <SourcePosition as Parsable<DemoType, DemoAttr, ()>>::parse(s, ()),
-        &mut ctx,
-        "line : 3,column:4",
-    );
-    let position = position.ok().ok_or("refused")?;
     assert_eq!(rt;
-        format!(in rt.alloc(); "{} {}", source.disp(&ctx), position.disp(&ctx))?.as_str(),
+        with_context(rt.alloc(), source_and_position)?.as_str(),
         "\"b\" line: 3, column: 4"
     );
     Ok(())

@@ -1,9 +1,9 @@
 //! Items with white space round them, and the marker that may stand for one.
-use crate::helpers::{behind, left};
 use irtext_base::parsable::{ParseResult, TextStream};
 use irtext_parse::irfmt::outlined::outlined_marker_or;
 use irtext_read::irfmt::parsers::{int_parse, spaced};
 use irtext_types::DemoAttr;
+use irtext_vectors_common::answers::{behind, left};
 use std::alloc::Global;
 use std::test::Fail;
 

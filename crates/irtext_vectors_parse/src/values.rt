@@ -1,8 +1,9 @@
 //! Numbers, truth values, identifiers and texts as they are read with a context.
-use crate::helpers::{Stream, in_context, line};
 use irtext_base::base::Identifier;
 use irtext_parse::parsable::Parsable;
 use irtext_types::{DemoAttr, DemoType};
+use irtext_vectors_common::answers::line;
+use irtext_vectors_common::contexts::{Stream, in_context};
 use std::alloc::Global;
 use std::test::Fail;
 

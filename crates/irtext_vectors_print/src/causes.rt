@@ -1,6 +1,5 @@
 //! The texts of causes and of the small error types.
 use crate::errors::at;
-use crate::helpers::named;
 use irtext_base::base::{Identifier, OpId};
 use irtext_base::format::FormatFault;
 use irtext_base::parsable::{ParserNameTrackerError, SourcePosition, UnresolvedReference};
@@ -8,6 +7,7 @@ use irtext_base::result::{Cause, Error, ErrorKind, Expected, StringError};
 use irtext_print::ir::verify::{BasicBlockVerifyErr, DefUseVerifyErr};
 use irtext_read::irfmt::parsers::held;
 use irtext_types::DemoAttr;
+use irtext_vectors_common::contexts::named;
 use std::alloc::Global;
 use std::test::Fail;
 

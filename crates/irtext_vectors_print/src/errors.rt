@@ -1,12 +1,13 @@
 //! Errors in errors, and errors as faults of a reading.
-use crate::helpers::{Ctx, line};
 use irtext_base::location::{Location, Source};
 use irtext_base::parsable::{ParseResult, SourcePosition};
 use irtext_base::result::{Cause, Error, ErrorKind};
-use irtext_context::base::Context;
 use irtext_print::printable::Disp;
 use irtext_read::parsable::IntoParseResult;
 use irtext_types::DemoAttr;
+use irtext_vectors_common::answers::line;
+use irtext_vectors_common::contexts::Ctx;
+use irtext_vectors_common::tables::differing_alone;
 use std::alloc::Global;
 use std::fmt;
 use std::test::Fail;
@@ -23,9 +24,8 @@ pub(crate) fn at(line: i32, column: i32) -> Location<DemoAttr> {
 }
 
 /// The text of an answer, with the locations of its error.
-fn shown(alloc: Global, answer: &Answer) -> Result<String, Fail> {
-    let ctx: Ctx = Context::new(alloc);
-    Ok(format!(in alloc; "{}", answer.disp(&ctx))?)
+fn shown(alloc: Global, ctx: &Ctx, answer: &Answer) -> Result<String, Fail> {
+    Ok(format!(in alloc; "{}", answer.disp(ctx))?)
 }
 
 /// The texts of errors that hold others, with their locations.
@@ -53,13 +53,13 @@ fn formatted(alloc: Global) -> Result<Error<DemoAttr>, Fail> {
 }
 
 /// The text of the error of a line.
-fn shown_inner(alloc: Global, number: usize) -> Result<String, Fail> {
+fn shown_inner(alloc: Global, ctx: &mut Ctx, number: usize) -> Result<String, Fail> {
     let answer: Answer = match number {
         0 => Ok(third(alloc)?),
         1 => Ok(Error::from(fmt::Error)),
         _ => Ok(formatted(alloc)?),
     };
-    shown(alloc, &answer)
+    shown(alloc, ctx, &answer)
 }
 
 /// What errors, a value and an answer are to a reading.
@@ -108,9 +108,7 @@ fn said(alloc: Global, number: usize) -> Result<String, Fail> {
 
 #[test]
 fn errors_in_errors_and_in_readings(rt: HostRuntime) -> Result<(), Fail> {
-    for (number, wanted) in INNER.iter().enumerate() {
-        assert_eq!(rt; shown_inner(rt.alloc(), number)?.as_str(), *wanted);
-    }
+    assert_eq!(rt; differing_alone(rt.alloc(), INNER, shown_inner)?, None);
     for (number, wanted) in FAULTS.iter().enumerate() {
         assert_eq!(rt; said(rt.alloc(), number)?.as_str(), *wanted);
     }

@@ -8,8 +8,6 @@ mod causes;
 #[cfg(test)]
 mod errors;
 #[cfg(test)]
-mod helpers;
-#[cfg(test)]
 mod listed;
 #[cfg(test)]
 mod location_texts;

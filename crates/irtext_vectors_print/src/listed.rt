@@ -1,34 +1,34 @@
 //! Lists whose items print themselves.
-use crate::helpers::Ctx;
-use irtext_context::base::Context;
 use irtext_print::irfmt::printers::{iter_with_sep, list_with_sep};
 use irtext_print::printable::{Disp, ListSeparator, State, fmt_iter};
+use irtext_vectors_common::contexts::Ctx;
+use irtext_vectors_common::tables::differing_alone;
 use std::alloc::Global;
 use std::test::Fail;
 
+/// The items of a slice, those of an iterator, and items that are written to a text.
+const LISTED: &[&str] = &["1,2", "012", "1+ 2"];
+
 /// The items of a slice.
-fn of_slice(alloc: Global) -> Result<String, Fail> {
-    let ctx: Ctx = Context::new(alloc);
+fn of_slice(alloc: Global, ctx: &Ctx) -> Result<String, Fail> {
     let numbers = [1u64, 2];
     let list = list_with_sep(&numbers, ListSeparator::Char(','));
-    Ok(format!(in alloc; "{}", list.disp(&ctx))?)
+    Ok(format!(in alloc; "{}", list.disp(ctx))?)
 }
 
 /// The items of an iterator.
-fn of_iterator(alloc: Global) -> Result<String, Fail> {
-    let ctx: Ctx = Context::new(alloc);
+fn of_iterator(alloc: Global, ctx: &Ctx) -> Result<String, Fail> {
     let list = iter_with_sep(0u64..3, ListSeparator::None);
-    Ok(format!(in alloc; "{}", list.disp(&ctx))?)
+    Ok(format!(in alloc; "{}", list.disp(ctx))?)
 }
 
 /// Items that are written to a text.
-fn written(alloc: Global) -> Result<String, Fail> {
-    let ctx: Ctx = Context::new(alloc);
+fn written(alloc: Global, ctx: &Ctx) -> Result<String, Fail> {
     let mut state = State::new(alloc, ());
     let mut text = String::new(alloc);
     fmt_iter(
         1u64..3,
-        &ctx,
+        ctx,
         &mut state,
         ListSeparator::CharSpace('+'),
         &mut text,
@@ -38,10 +38,17 @@ fn written(alloc: Global) -> Result<String, Fail> {
     Ok(text)
 }
 
+/// What is printed for a line.
+fn listed(alloc: Global, ctx: &mut Ctx, number: usize) -> Result<String, Fail> {
+    match number {
+        0 => of_slice(alloc, ctx),
+        1 => of_iterator(alloc, ctx),
+        _ => written(alloc, ctx),
+    }
+}
+
 #[test]
 fn printable_items_print_themselves(rt: HostRuntime) -> Result<(), Fail> {
-    assert_eq!(rt; of_slice(rt.alloc())?.as_str(), "1,2");
-    assert_eq!(rt; of_iterator(rt.alloc())?.as_str(), "012");
-    assert_eq!(rt; written(rt.alloc())?.as_str(), "1+ 2");
+    assert_eq!(rt; differing_alone(rt.alloc(), LISTED, listed)?, None);
     Ok(())
 }

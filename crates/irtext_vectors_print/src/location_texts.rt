@@ -1,12 +1,11 @@
 //! Locations of each kind as texts, and errors behind theirs: files by the paths that the context keeps.
-use crate::helpers::Ctx;
 use irtext_base::base::{AttrObj, Identifier};
 use irtext_base::location::{Location, Source};
 use irtext_base::parsable::SourcePosition;
 use irtext_base::result::{Cause, Error};
-use irtext_context::base::Context;
 use irtext_print::printable::Disp;
 use irtext_types::{Characters, DemoAttr};
+use irtext_vectors_common::contexts::{Ctx, with_context};
 use std::alloc::Global;
 use std::test::Fail;
 
@@ -143,14 +142,8 @@ fn texts(alloc: Global, ctx: &mut Ctx) -> Result<String, Fail> {
     Ok(text)
 }
 
-/// The same with a context of its own.
-fn all(alloc: Global) -> Result<String, Fail> {
-    let mut ctx: Ctx = Context::new(alloc);
-    texts(alloc, &mut ctx)
-}
-
 #[test]
 fn each_location_has_its_text(rt: HostRuntime) -> Result<(), Fail> {
-    assert_eq!(rt; all(rt.alloc())?.as_str(), TEXTS);
+    assert_eq!(rt; with_context(rt.alloc(), texts)?.as_str(), TEXTS);
     Ok(())
 }

@@ -1,11 +1,12 @@
 //! Plain values, separators, quoted texts and stored printers as texts, and the printing state's guards.
-use crate::helpers::Ctx;
 use irtext_context::base::Context;
 use irtext_print::irfmt::printers::{enclosed, iter_with_sep_by, printable_from_fn, quoted};
 use irtext_print::printable::{
     Disp, ListSeparator, Printable, RegionPrintDepthLimit, State, fmt_quoted, indented_nl,
 };
 use irtext_types::{DemoAttr, DemoType};
+use irtext_vectors_common::contexts::Ctx;
+use irtext_vectors_common::tables::differing_alone;
 use std::alloc::Global;
 use std::fmt;
 use std::test::Fail;
@@ -120,7 +121,7 @@ fn behind_guard(alloc: Global) -> Result<String, Fail> {
 }
 
 /// What is printed for a line.
-fn line(alloc: Global, ctx: &Ctx, number: usize) -> Result<String, Fail> {
+fn line(alloc: Global, ctx: &mut Ctx, number: usize) -> Result<String, Fail> {
     match number {
         0 => plain(alloc, ctx),
         1 => between(alloc, ctx),
@@ -138,25 +139,9 @@ fn line(alloc: Global, ctx: &Ctx, number: usize) -> Result<String, Fail> {
     }
 }
 
-/// The number of the first line that differs.
-fn differing(alloc: Global, ctx: &Ctx) -> Result<Option<usize>, Fail> {
-    for (number, wanted) in LINES.iter().enumerate() {
-        if line(alloc, ctx, number)?.as_str() != *wanted {
-            return Ok(Some(number));
-        }
-    }
-    Ok(None)
-}
-
-/// The same with a context of its own.
-fn first_differing(alloc: Global) -> Result<Option<usize>, Fail> {
-    let ctx: Ctx = Context::new(alloc);
-    differing(alloc, &ctx)
-}
-
 #[test]
 fn values_and_lists_print_themselves(rt: HostRuntime) -> Result<(), Fail> {
-    assert_eq!(rt; first_differing(rt.alloc())?, None);
+    assert_eq!(rt; differing_alone(rt.alloc(), LINES, line)?, None);
     Ok(())
 }
 

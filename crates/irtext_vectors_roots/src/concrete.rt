@@ -1,7 +1,9 @@
 //! The texts of a root: whole, concrete, without its regions, for those who debug, and with its location in a file.
-use crate::helpers::{Ctx, demo, root};
+use crate::reading::{concrete, root, whole};
+use irtext_vectors_common::contexts::{Ctx, with_demo};
+use irtext_vectors_common::tables::differing;
 use pliron_text::base::{Operation, Ptr};
-use pliron_text::ir::{OpDbg, OperationText, print_dbg};
+use pliron_text::ir::{OpDbg, print_dbg};
 use pliron_text::location::{Location, Source};
 use pliron_text::parsable::SourcePosition;
 use pliron_text::printable::{Disp, RegionPrintDepthLimit, State};
@@ -16,15 +18,6 @@ const TEXTS: &[&str] = &[
     "builtin.module @bar {..} !0\n\noutlined_attributes:\n!0 = @[<in-memory>: line: 1, column: 1], []\n",
     "builtin.module @bar \n{\n  \n} !0\n\noutlined_attributes:\n!0 = @[\"é.mlir\": line: 1, column: 2], []\n",
 ];
-
-/// The concrete text.
-fn concrete(alloc: Global, ctx: &Ctx, op: Ptr<Operation>) -> Result<String, Fail> {
-    if !ctx.contains_operation(op) {
-        return Err(Fail::from("no such operation"));
-    }
-    let obj = Operation::get_op_dyn(op, ctx);
-    Ok(format!(in alloc; "{}", obj.disp(ctx))?)
-}
 
 /// What is appended for those who debug.
 fn debugged(alloc: Global, ctx: &Ctx, op: Ptr<Operation>) -> Result<String, Fail> {
@@ -57,14 +50,6 @@ fn in_file(alloc: Global, ctx: &mut Ctx, op: Ptr<Operation>) -> Result<String, F
     whole(alloc, ctx, op)
 }
 
-/// The whole text.
-fn whole(alloc: Global, ctx: &Ctx, op: Ptr<Operation>) -> Result<String, Fail> {
-    if !ctx.contains_operation(op) {
-        return Err(Fail::from("no such operation"));
-    }
-    Ok(format!(in alloc; "{}", op.disp(ctx))?)
-}
-
 /// The text of a line.
 fn text(alloc: Global, ctx: &mut Ctx, op: Ptr<Operation>, number: usize) -> Result<String, Fail> {
     if !ctx.contains_operation(op) {
@@ -80,24 +65,18 @@ fn text(alloc: Global, ctx: &mut Ctx, op: Ptr<Operation>, number: usize) -> Resu
 }
 
 /// The number of the first text that differs.
-fn differing(alloc: Global, ctx: &mut Ctx) -> Result<Option<usize>, Fail> {
+fn differing_text(alloc: Global, ctx: &mut Ctx) -> Result<Option<usize>, Fail> {
     let op = root(ctx, "builtin.module @bar {}").ok_or("refused")?;
-    for (number, wanted) in TEXTS.iter().enumerate() {
-        if text(alloc, ctx, op, number)?.as_str() != *wanted {
-            return Ok(Some(number));
-        }
-    }
-    Ok(None)
-}
-
-/// The same with a context of its own.
-fn first_differing(alloc: Global) -> Result<Option<usize>, Fail> {
-    let mut ctx = demo(alloc)?;
-    differing(alloc, &mut ctx)
+    differing(
+        alloc,
+        TEXTS,
+        ctx,
+        |alloc, ctx, number| text(alloc, ctx, op, number),
+    )
 }
 
 #[test]
 fn texts_of_a_root(rt: HostRuntime) -> Result<(), Fail> {
-    assert_eq!(rt; first_differing(rt.alloc())?, None);
+    assert_eq!(rt; with_demo(rt.alloc(), differing_text)?, None);
     Ok(())
 }

@@ -1,13 +1,11 @@
 //! Operations that are read and printed by the directives of their formats.
-use crate::helpers::{Ctx, named, root};
+use crate::reading::{concrete, read_root, root, whole};
 use crate::registering::register_operation;
 use irtext_types::DemoAttr;
-use pliron_text::base::{Context, OpId, Operation, Ptr};
+use irtext_vectors_common::contexts::{Ctx, named, with_context};
+use pliron_text::base::{OpId, Operation, Ptr};
 use pliron_text::dialect::DialectName;
 use pliron_text::format::{Directive, OpFormat};
-use pliron_text::ir::OperationText;
-use pliron_text::parsable::parse_from_str;
-use pliron_text::printable::Disp;
 use pliron_text::result::Result as Answer;
 use std::alloc::Global;
 use std::test::Fail;
@@ -98,22 +96,6 @@ fn register(alloc: Global, ctx: &mut Ctx, letters: &str) -> Result<(), Fail> {
     Ok(answer.ok().ok_or("refused")?)
 }
 
-/// The concrete text of a root.
-fn concrete(alloc: Global, ctx: &Ctx, op: Ptr<Operation>) -> Result<String, Fail> {
-    if !ctx.contains_operation(op) {
-        return Err(Fail::from("no such operation"));
-    }
-    Ok(format!(in alloc; "{}", Operation::get_op_dyn(op, ctx).disp(ctx))?)
-}
-
-/// The whole text of a root.
-fn whole(alloc: Global, ctx: &Ctx, op: Ptr<Operation>) -> Result<String, Fail> {
-    if !ctx.contains_operation(op) {
-        return Err(Fail::from("no such operation"));
-    }
-    Ok(format!(in alloc; "{}", op.disp(ctx))?)
-}
-
 /// Whether the root's whole text is read back as a root of the same text.
 fn comes_back(alloc: Global, ctx: &mut Ctx, op: Ptr<Operation>) -> Result<bool, Fail> {
     let text = whole(alloc, ctx, op)?;
@@ -121,30 +103,37 @@ fn comes_back(alloc: Global, ctx: &mut Ctx, op: Ptr<Operation>) -> Result<bool, 
     Ok(whole(alloc, ctx, again)?.as_str() == text.as_str())
 }
 
+/// The concrete text of a root whose whole text comes back.
+fn printed(alloc: Global, ctx: &mut Ctx, op: Ptr<Operation>) -> Result<String, Fail> {
+    if !comes_back(alloc, ctx, op)? {
+        return Err(Fail::from("other text"));
+    }
+    concrete(alloc, ctx, op)
+}
+
 /// The concrete text of the root that a text reads as, or why it is refused.
 fn answered(alloc: Global, ctx: &mut Ctx, text: &str) -> Result<String, Fail> {
-    match parse_from_str(|s| Operation::top_level_parse(s), ctx, text) {
-        Ok(op) => {
-            if !comes_back(alloc, ctx, op)? {
-                return Err(Fail::from("other text"));
-            }
-            concrete(alloc, ctx, op)
-        }
+    match read_root(ctx, text) {
+        Ok(op) => printed(alloc, ctx, op),
         Err(error) => Ok(format!(in alloc; "{error}")?),
     }
 }
 
+/// The same once `lab.d` is registered with the format of these letters.
+fn formatted(alloc: Global, ctx: &mut Ctx, letters: &str, text: &str) -> Result<String, Fail> {
+    register(alloc, ctx, letters)?;
+    answered(alloc, ctx, text)
+}
+
 /// The same in a context of its own.
-fn formatted(alloc: Global, letters: &str, text: &str) -> Result<String, Fail> {
-    let mut ctx: Ctx = Context::new(alloc);
-    register(alloc, &mut ctx, letters)?;
-    answered(alloc, &mut ctx, text)
+fn row(alloc: Global, letters: &str, text: &str) -> Result<String, Fail> {
+    with_context(alloc, |alloc, ctx| formatted(alloc, ctx, letters, text))
 }
 
 #[test]
 fn directives_are_read_and_printed(rt: HostRuntime) -> Result<(), Fail> {
-    for row in ROWS {
-        assert_eq!(rt; formatted(rt.alloc(), row.0, row.1)?.as_str(), row.2);
+    for line in ROWS {
+        assert_eq!(rt; row(rt.alloc(), line.0, line.1)?.as_str(), line.2);
     }
     Ok(())
 }

@@ -4,17 +4,10 @@
 #[cfg(test)]
 mod concrete;
 #[cfg(test)]
-mod dialects;
-#[cfg(test)]
 mod directives;
 #[cfg(test)]
-mod handed_on;
-#[cfg(test)]
-mod helpers;
-#[cfg(test)]
-mod macros;
-#[cfg(test)]
 mod parts;
+pub mod reading;
 pub mod registering;
 #[cfg(test)]
 mod roots;

@@ -1,6 +1,8 @@
 //! Printers of an operation's parts.
-use crate::helpers::{Ctx, demo, root};
+use crate::reading::root;
 use irtext_types::DemoType;
+use irtext_vectors_common::contexts::{Ctx, with_demo};
+use irtext_vectors_common::tables::differing;
 use pliron_text::base::{Operation, Ptr};
 use pliron_text::irfmt::printers::op::{region, symb_op_header, typed_symb_op_header};
 use pliron_text::printable::{Disp, Printable, State};
@@ -44,24 +46,18 @@ fn part(alloc: Global, ctx: &Ctx, op: Ptr<Operation>, number: usize) -> Result<S
 }
 
 /// The number of the first part whose text differs.
-fn differing(alloc: Global, ctx: &mut Ctx) -> Result<Option<usize>, Fail> {
+fn differing_part(alloc: Global, ctx: &mut Ctx) -> Result<Option<usize>, Fail> {
     let op = root(ctx, "builtin.module @bar {}").ok_or("refused")?;
-    for (number, wanted) in PARTS.iter().enumerate() {
-        if part(alloc, ctx, op, number)?.as_str() != *wanted {
-            return Ok(Some(number));
-        }
-    }
-    Ok(None)
-}
-
-/// The same with a context of its own.
-fn first_differing(alloc: Global) -> Result<Option<usize>, Fail> {
-    let mut ctx = demo(alloc)?;
-    differing(alloc, &mut ctx)
+    differing(
+        alloc,
+        PARTS,
+        ctx,
+        |alloc, ctx, number| part(alloc, ctx, op, number),
+    )
 }
 
 #[test]
 fn parts_of_a_root(rt: HostRuntime) -> Result<(), Fail> {
-    assert_eq!(rt; first_differing(rt.alloc())?, None);
+    assert_eq!(rt; with_demo(rt.alloc(), differing_part)?, None);
     Ok(())
 }

@@ -1,6 +1,7 @@
 //! Roots that are read, one behind the other, and what a refusal leaves.
-use crate::helpers::{Ctx, Stream, demo, root};
+use crate::reading::{root, whole};
 use irtext_types::{DemoAttr, DemoType};
+use irtext_vectors_common::contexts::{Ctx, Stream, with_demo};
 use pliron_text::base::{Operation, Ptr};
 use pliron_text::ir::{OperationParserConfig, OperationText};
 use pliron_text::irfmt::parsers::location;
@@ -34,10 +35,9 @@ fn located(
 }
 
 /// What is said of the second of two roots on one stream.
-fn in_a_row(alloc: Global, text: &str) -> Result<String, Fail> {
+fn in_a_row(alloc: Global, ctx: &mut Ctx, text: &str) -> Result<String, Fail> {
     let stream = TextStream::new(alloc, text)?;
-    let mut ctx = demo(alloc)?;
-    let state = State::new(&mut ctx, Source::InMemory, ());
+    let state = State::new(ctx, Source::InMemory, ());
     let mut s = StateStream { stream, state };
     let roots = two(&mut s);
     let ctx = s.into_ctx();
@@ -78,30 +78,42 @@ fn with_marks(alloc: Global, s: &mut Stream<'_>) -> Result<String, Fail> {
 }
 
 /// The same on a stream of characters, and how many objects there are then.
-fn marked(alloc: Global, text: &str) -> Result<(String, u64), Fail> {
-    let mut ctx = demo(alloc)?;
-    let state = State::new(&mut ctx, Source::InMemory, ());
+fn marked(alloc: Global, ctx: &mut Ctx, text: &str) -> Result<String, Fail> {
+    let state = State::new(ctx, Source::InMemory, ());
     let mut s = state_stream_from_iterator(text.chars(), state)?;
     let said = with_marks(alloc, &mut s);
     let live = s.into_ctx().num_live();
-    Ok((said?, live))
+    Ok(format!(in alloc; "{} {live}", said?)?)
+}
+
+/// What is said of two roots with a section each.
+fn with_sections(alloc: Global, ctx: &mut Ctx) -> Result<String, Fail> {
+    in_a_row(
+        alloc,
+        ctx,
+        "builtin.module @m {} !0 outlined_attributes: builtin.module @n {} !0 outlined_attributes:",
+    )
+}
+
+/// What is said of two roots with the same mark.
+fn without_sections(alloc: Global, ctx: &mut Ctx) -> Result<String, Fail> {
+    marked(
+        alloc,
+        ctx,
+        "builtin.module @m {} !0 builtin.module @n {} !0",
+    )
 }
 
 #[test]
 fn roots_follow_each_other_on_one_stream(rt: HostRuntime) -> Result<(), Fail> {
-    let text =
-        "builtin.module @m {} !0 outlined_attributes: builtin.module @n {} !0 outlined_attributes:";
     assert_eq!(rt;
-        in_a_row(rt.alloc(), text)?.as_str(),
+        with_demo(rt.alloc(), with_sections)?.as_str(),
         "<in-memory>: line: 1, column: 46 4"
     );
-    let text = "builtin.module @m {} !0 builtin.module @n {} !0";
-    let (said, live) = marked(rt.alloc(), text)?;
     assert_eq!(rt;
-        said.as_str(),
-        "true line: 1, column: 46: Duplicate outline index: 0"
+        with_demo(rt.alloc(), without_sections)?.as_str(),
+        "true line: 1, column: 46: Duplicate outline index: 0 2"
     );
-    assert_eq!(rt; live, 2);
     Ok(())
 }
 
@@ -114,19 +126,11 @@ const REFUSED: &[&str] = &[
     "builtin.module @n {} !0 outlined_attributes: !0 = @[<in-memory>: line: 1, column: 2147483648], []",
 ];
 
-/// The text of a root.
-fn shown(alloc: Global, ctx: &Ctx, root: Ptr<Operation>) -> Result<String, Fail> {
-    if !ctx.contains_operation(root) {
-        return Err(Fail::from("no such operation"));
-    }
-    Ok(format!(in alloc; "{}", root.disp(ctx))?)
-}
-
 /// Whether a text is refused, and the root that stood is as it was, and none else is there.
 fn leaves(alloc: Global, ctx: &mut Ctx, stands: Ptr<Operation>, text: &str) -> Result<bool, Fail> {
-    let before = shown(alloc, ctx, stands)?;
+    let before = whole(alloc, ctx, stands)?;
     let read = root(ctx, text).is_some();
-    let behind = shown(alloc, ctx, stands)?;
+    let behind = whole(alloc, ctx, stands)?;
     Ok(!read && ctx.num_live() == 2 && before == behind)
 }
 
@@ -141,14 +145,8 @@ fn differing(alloc: Global, ctx: &mut Ctx) -> Result<Option<usize>, Fail> {
     Ok(None)
 }
 
-/// The same with a context of its own.
-fn first_differing(alloc: Global) -> Result<Option<usize>, Fail> {
-    let mut ctx = demo(alloc)?;
-    differing(alloc, &mut ctx)
-}
-
 #[test]
 fn a_refusal_leaves_what_stood(rt: HostRuntime) -> Result<(), Fail> {
-    assert_eq!(rt; first_differing(rt.alloc())?, None);
+    assert_eq!(rt; with_demo(rt.alloc(), differing)?, None);
     Ok(())
 }

@@ -1,6 +1,7 @@
 //! What `pliron_text` hands on from the crates below, by its own paths, where no other row names it.
-use crate::helpers::{Ctx, demo, named, root};
 use irtext_types::DemoAttr;
+use irtext_vectors_common::contexts::{Ctx, named, with_demo};
+use irtext_vectors_roots::reading::root;
 use pliron_text::base::{AttrObj, AttributeDict, Identifier, OpId, Operation, Ptr, Region};
 use pliron_text::dialect::OpInfo;
 use pliron_text::format::{FormatFault, OpFormat, check_format};
@@ -89,18 +90,17 @@ fn isolated(alloc: Global, ctx: &Ctx) -> Result<bool, Fail> {
     Ok(matches!(info, Some(info) if info.isolated))
 }
 
-/// Whether all this holds of a module in a context of its own.
-fn holds(alloc: Global) -> Result<bool, Fail> {
-    let mut ctx = demo(alloc)?;
-    let op = root(&mut ctx, "builtin.module @m {}").ok_or("refused")?;
-    let inside = stands(&ctx, op) && isolated(alloc, &ctx)? && keeps(alloc)?;
-    let kept = key(&mut ctx, "b").is_some() && key(&mut ctx, "b") == key(&mut ctx, "b");
-    Ok(inside && kept && erased(&mut ctx, op))
+/// Whether all this holds of a module.
+fn holds(alloc: Global, ctx: &mut Ctx) -> Result<bool, Fail> {
+    let op = root(ctx, "builtin.module @m {}").ok_or("refused")?;
+    let inside = stands(ctx, op) && isolated(alloc, ctx)? && keeps(alloc)?;
+    let kept = key(ctx, "b").is_some() && key(ctx, "b") == key(ctx, "b");
+    Ok(inside && kept && erased(ctx, op))
 }
 
 #[test]
 fn objects_by_the_paths_of_this_layer(rt: HostRuntime) -> Result<(), Fail> {
-    assert!(rt; holds(rt.alloc())?);
+    assert!(rt; with_demo(rt.alloc(), holds)?);
     Ok(())
 }
 

@@ -1,8 +1,10 @@
 //! The dialects of a context: how they are registered and looked up, and how their names are read and printed.
-use crate::helpers::{Ctx, named, printed};
-use crate::registering::register_operation;
 use irtext_types::{DemoAttr, DemoType};
-use pliron_text::base::{Context, OpId, Operation, Ptr};
+use irtext_vectors_common::answers::printed;
+use irtext_vectors_common::contexts::{Ctx, named};
+use irtext_vectors_common::tables::differing_alone;
+use irtext_vectors_roots::registering::register_operation;
+use pliron_text::base::{OpId, Operation, Ptr};
 use pliron_text::dialect::{Dialect, DialectName};
 use pliron_text::format::OpFormat;
 use pliron_text::parsable::{Parsable, parse_from_str};
@@ -139,24 +141,8 @@ fn step(alloc: Global, ctx: &mut Ctx, number: usize) -> Result<String, Fail> {
     }
 }
 
-/// The number of the first step of which something else is said.
-fn differing(alloc: Global, ctx: &mut Ctx) -> Result<Option<usize>, Fail> {
-    for (number, wanted) in STEPS.iter().enumerate() {
-        if step(alloc, ctx, number)?.as_str() != *wanted {
-            return Ok(Some(number));
-        }
-    }
-    Ok(None)
-}
-
-/// The same with a context of its own.
-fn first_differing(alloc: Global) -> Result<Option<usize>, Fail> {
-    let mut ctx: Ctx = Context::new(alloc);
-    differing(alloc, &mut ctx)
-}
-
 #[test]
 fn dialects_of_a_context(rt: HostRuntime) -> Result<(), Fail> {
-    assert_eq!(rt; first_differing(rt.alloc())?, None);
+    assert_eq!(rt; differing_alone(rt.alloc(), STEPS, step)?, None);
     Ok(())
 }

@@ -1,0 +1,34 @@
+//! Tables of what is said, line by line, of one value that the lines may change.
+use crate::contexts::Ctx;
+use irtext_context::base::Context;
+use std::alloc::Global;
+use std::test::Fail;
+
+/// The number of the first line of a table of which something else is said, with one value for all lines.
+pub fn differing<X, F: Fn(Global, &mut X, usize) -> Result<String, Fail>>(
+    alloc: Global,
+    wanted: &[&str],
+    on: &mut X,
+    said: F,
+) -> Result<Option<usize>, Fail>
+    requires { F.IsAlwaysCallable said }
+{
+    for (number, wanted) in wanted.iter().enumerate() {
+        if said(alloc, on, number)?.as_str() != *wanted {
+            return Ok(Some(number));
+        }
+    }
+    Ok(None)
+}
+
+/// The same with an empty context of its own.
+pub fn differing_alone<F: Fn(Global, &mut Ctx, usize) -> Result<String, Fail>>(
+    alloc: Global,
+    wanted: &[&str],
+    said: F,
+) -> Result<Option<usize>, Fail>
+    requires { F.IsAlwaysCallable said }
+{
+    let mut ctx: Ctx = Context::new(alloc);
+    differing(alloc, wanted, &mut ctx, said)
+}

@@ -1,0 +1,43 @@
+//! What the tests of roots share: roots are read and printed, with a context that is lent.
+ghost use Rattle.std.specs.Prelude.{IfOk, IfSome, IsSome};
+ghost use Rattle.irtext_context.specs.Context.{operation};
+
+use irtext_types::DemoAttr;
+use irtext_vectors_common::contexts::Ctx;
+use pliron_text::base::{Operation, Ptr};
+use pliron_text::ir::OperationText;
+use pliron_text::parsable::parse_from_str;
+use pliron_text::printable::Disp;
+use pliron_text::result::Result as Answer;
+use std::alloc::Global;
+use std::test::Fail;
+
+/// The root that a text reads as, or why it is refused.
+pub fn read_root(ctx: &mut Ctx, text: &str) -> Answer<Ptr<Operation>, DemoAttr>
+    ensures { IfOk result (λ root. IsSome (operation ctx.new root)) }
+{
+    parse_from_str(|s| Operation::top_level_parse(s), ctx, text)
+}
+
+/// The root that a text reads as, if it does.
+pub fn root(ctx: &mut Ctx, text: &str) -> Option<Ptr<Operation>>
+    ensures { IfSome result (λ root. IsSome (operation ctx.new root)) }
+{
+    read_root(ctx, text).ok()
+}
+
+/// The whole text of a root, if it stands.
+pub fn whole(alloc: Global, ctx: &Ctx, root: Ptr<Operation>) -> Result<String, Fail> {
+    if !ctx.contains_operation(root) {
+        return Err(Fail::from("no such operation"));
+    }
+    Ok(format!(in alloc; "{}", root.disp(ctx))?)
+}
+
+/// The concrete text of a root, if it stands.
+pub fn concrete(alloc: Global, ctx: &Ctx, root: Ptr<Operation>) -> Result<String, Fail> {
+    if !ctx.contains_operation(root) {
+        return Err(Fail::from("no such operation"));
+    }
+    Ok(format!(in alloc; "{}", Operation::get_op_dyn(root, ctx).disp(ctx))?)
+}
