@@ -61,7 +61,8 @@ impl DialectName {
         Ok(DialectName { name })
     }
 
-    /// A second name with the same text. Only memory can be refused, with kind invalid argument and no location.
+    /// A second name that shares the text, and takes no memory. It is refused by `Memory` alone, where the counter of those that
+    /// share the text is full, with kind invalid argument and no location.
     pub fn try_clone<A>(&self) -> result::Result<DialectName, A>
         ensures ok { IfOk result (λ n. n ≡ self.now) }
         ensures refused { IfErr result (λ e. e.err ≡ Cause.Memory) }

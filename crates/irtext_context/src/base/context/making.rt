@@ -1,5 +1,5 @@
-//! How a context's objects are made and given back, and its paths kept: calls for the crates above, which know when they are safe. Callers of the text
-//! layer are not handed the trait, so that no operation of theirs comes to hold a region that is gone.
+//! How a context's objects are made and given back, and its paths kept: calls for the crates above, which know when they are
+//! safe. Callers of the text layer are not handed the trait, so that no operation of theirs comes to hold a region that is gone.
 ghost use Rattle.std.specs.Prelude.{◌≡◌, ◌≤◌, ℕ, [], None, IsSome, IfOk, OnOk, OnErr};
 ghost use Rattle.irtext_base.specs.Paths.{path_index, with_path, MayBeRefused};
 ghost use Rattle.irtext_context.specs.Context.{operation, before, KeepsOlder, AllOlder, RollsBack, MakesOperation, AddsRegion};
