@@ -42,10 +42,10 @@ pub record PartPrinted {T A U : Type 0} (part : OperationView T A → Option Tex
   pub state : t ≡ s
 
 module _ {T A U : Type 0} (types : ir_text.Ghosts T A) (owns : ir_text.Ghosts A A) (attributes : attr_text.Ghosts A) (same : A → A → Bool) (ctx : ContextView T A) (p : Ptr Operation) (s : Shown U) (old : String Global) (t : Shown U) (new : String Global) where
-  -- the same of a concrete text, by the formats of the context and the texts of the caller's types and attributes
+  -- a concrete text was printed, by the formats of the context and the texts of the caller's types and attributes
   abbrev pub PrintsConcrete : Type 0
   PrintsConcrete = ConcretePrinted (language_in types owns ctx) (printing_in attributes same ctx) ctx p s (string_bytes old) t (string_bytes new)
 
-  -- the same of a root
+  -- a root was printed, by the formats of the context and the texts of the caller's types and attributes
   abbrev pub PrintsRoot : Type 0
   PrintsRoot = RootPrinted (language_in types owns ctx) (printing_in attributes same ctx) ctx p s (string_bytes old) t (string_bytes new)
