@@ -11,8 +11,8 @@ use Rattle.irtext_context.specs.declared.base.arena.Ptr.{Ptr}
 use Rattle.irtext_context.specs.declared.base.operation.Operation.{Operation}
 use Rattle.irtext_context.proofs.Contexts.{same-keeps, edits-keeps}
 use Rattle.irtext_context.proofs.Kept.{kept_trans}
-use Rattle.irtext_read.specs.States.{marks_of, same_index}
-use Rattle.irtext_read.specs.declared.parsable.state.StateStream.{StateStream}
+use Rattle.irtext_state.specs.States.{marks_of, same_index}
+use Rattle.irtext_state.specs.declared.parsable.state.StateStream.{StateStream}
 use Rattle.irtext_outcomes.specs.Readers.Marks.{noted}
 use Rattle.irtext_outcomes.specs.Promises.Root.{IsFresh}
 use Rattle.irtext_outcomes.specs.Promises.Operation.{ReadsOperation}

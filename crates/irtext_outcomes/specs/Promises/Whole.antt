@@ -10,7 +10,7 @@ use Rattle.irtext_base.specs.Locations.{AttrView}
 use Rattle.irtext_base.specs.declared.parsable.fault.ParseFault.{ParseFault}
 use Rattle.irtext_context.specs.declared.base.arena.Ptr.{Ptr}
 use Rattle.irtext_context.specs.declared.base.operation.Operation.{Operation}
-use Rattle.irtext_read.specs.declared.parsable.state.StateStream.{StateStream}
+use Rattle.irtext_state.specs.declared.parsable.state.StateStream.{StateStream}
 use Rattle.irtext_outcomes.specs.Readers.Streams.{itself, replaced}
 use Rattle.irtext_outcomes.specs.Promises.Root.{BuildsRoot, RefusesRoot}
 

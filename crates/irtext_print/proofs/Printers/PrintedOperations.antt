@@ -1,6 +1,6 @@
 -- What printing appends for an operation is what the definitions say, where they say something.
 use Rattle.std.proofs.Common.{◌≡◌, ◌++◌, ◌∙◌, ◌&&◌, ◌==◌, ◌+◌, not, ℕ, List, [], ◌∷◌, Bool, true, false, true≢false, cond, filter, refl, sym, ap, subst, Option, Some, None, length, IfSome, codes}
-use Rattle.std.specs.Prelude.{⊤}
+use Rattle.std.specs.Prelude.{IsTrue, ⊤}
 use Rattle.std.proofs.lemmas.List.{append_assoc, append-nil}
 use Rattle.std.specs.List.{list_all}
 use Rattle.std.specs.Option.{option_map, option_and_then}
@@ -197,6 +197,10 @@ module _ {T A U : Type 0} (L : Language ⊤ T A) (C : Printing T A) (ctx : Conte
   -- what is printed of a root is the text that is claimed
   pub root_writes : RootPrinted L C ctx p s old t new → Writes (printed L C ctx p s) t old new
   root_writes r = writes_standing L C ctx p r.view s t old new r.stands r.text r.state
+
+  -- a root that is printed fits its format
+  pub root_fits : RootPrinted L C ctx p s old t new → IsTrue (is_printed_in C (operation ctx p))
+  root_fits r = subst (λ o. IsTrue (is_printed_in C o)) (sym r.stands) r.fits
 
   -- the same of a concrete text
   pub concrete_writes : ConcretePrinted L C ctx p s old t new → Writes (printed_concrete L C ctx p s) t old new

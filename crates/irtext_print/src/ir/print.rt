@@ -1,6 +1,6 @@
 //! Printing of roots.
-ghost use Rattle.std.specs.Prelude.{◌≡◌, ◌++◌, [], OnOk, IfErr, IsSome, codes, decimal, length};
-ghost use Rattle.irtext_print.specs.Printers.Appended.{AppendsText};
+ghost use Rattle.std.specs.Prelude.{◌≡◌, ◌++◌, [], OnOk, IfErr, IsSome, IsTrue, string_bytes, codes, decimal, length};
+ghost use Rattle.irtext_print.specs.Printers.Appended.{AppendsText, Writes};
 ghost use Rattle.irtext_context.specs.Context.{operation};
 ghost use Rattle.irtext_grammar.specs.Spelling.Locations.{known_text};
 ghost use Rattle.irtext_print.specs.Printers.OnePrinting.{PrintsRoot};
@@ -23,7 +23,6 @@ mod directives;
 pub mod fits;
 pub(crate) mod pieces;
 pub(crate) mod regions;
-pub mod root;
 
 /// Appends a mark with this index.
 fn fmt_index(index: usize, f: &mut String) -> Result<(), Refusal>
@@ -123,6 +122,8 @@ pub fn print_root<T: IrText<A>, A: AttrText, U>(
 ) -> Result<(), Refusal>
     requires live { IsSome (operation ctx.now op) }
     ensures prints { OnOk result (PrintsRoot T.IrText.own A.IrText.own A.AttrText.own A.eq ctx.now op state.old f.old state.new f.new) }
+    ensures fits { OnOk result (IsTrue (printed.is_printed_in (printed.printing_in A.AttrText.own A.eq ctx.now) (operation ctx.now op))) }
+    ensures text { OnOk result (Writes (printed.printed (printed.language_in T.IrText.own A.IrText.own ctx.now) (printed.printing_in A.AttrText.own A.eq ctx.now) ctx.now op state.old) state.new (string_bytes f.old) (string_bytes f.new)) }
     ensures refused { IfErr result (printed.Refuses (printed.printing_in A.AttrText.own A.eq ctx.now) (operation ctx.now op) state.old) }
 {
     fmt_concrete(ctx, op, state, f)?;

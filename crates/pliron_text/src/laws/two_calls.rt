@@ -10,7 +10,7 @@ ghost use Rattle.irtext_grammar.specs.Graphs.Graph.{Graph};
 ghost use Rattle.irtext_outcomes.specs.Promises.KeptRoot.{StandsAlone};
 ghost use Rattle.irtext_outcomes.specs.Promises.Root.{OnlyNew, UnlessMemory};
 ghost use Rattle.irtext_print.specs.Printers.Appended.{fresh};
-ghost use Rattle.irtext_print.specs.Printers.PrintedOperation.{RefusesConcrete, levels, printed, printing};
+ghost use Rattle.irtext_print.specs.Printers.PrintedOperation.{Refuses, levels, printed, printing};
 ghost use Rattle.irtext_read.specs.AttrTexts.{attr_at};
 ghost use Rattle.pliron_text.specs.Promises.ReadBack.{HoldsBack, IsExcused, ReadsText, RefusesText};
 
@@ -20,9 +20,9 @@ use irtext_base::parsable::{ParseFault, ParseResult, SourcePosition, TextStream}
 use irtext_base::result::Cause;
 use irtext_base::text::{AttrText, IrText};
 use irtext_context::base::{Context, Operation, Ptr};
-use irtext_print::ir::print::root::print_root;
+use irtext_print::ir::print::print_root;
 use irtext_print::printable::{Refusal, State as PrintState};
-use irtext_read::parsable::{State, StateStream};
+use irtext_state::parsable::{State, StateStream};
 
 /// Why a root's text was not read back.
 #[derive(Drop)]
@@ -41,7 +41,7 @@ fn text_of_root<T: IrText<A>, A: AttrText>(
 ) -> Result<String, Refusal>
     requires live { IsSome (operation ctx.now op) }
     ensures text { (g : Graph T A) → graph_of A.written ctx.now op ≡ Some g → IfOk result (λ s. printed (unplaced (texts_of T.reading T.written) (texts_of A.reading A.written) (format_of ctx.now.dialects)) (printing ctx.now.dialects A.outlined A.print_once A.eq) ctx.now op (fresh layout.now.width layout.now.indent layout.now.limit) ≡ Some (string_bytes s, fresh layout.now.width layout.now.indent layout.now.limit)) }
-    ensures refused { (view : OperationView T A) → operation ctx.now op ≡ Some view → IfErr result (RefusesConcrete (printing ctx.now.dialects A.outlined A.print_once A.eq) view (fresh layout.now.width layout.now.indent layout.now.limit)) }
+    ensures refused { IfErr result (Refuses (printing ctx.now.dialects A.outlined A.print_once A.eq) (operation ctx.now op) (fresh layout.now.width layout.now.indent layout.now.limit)) }
 {
     let alloc = ctx.allocator();
     let mut text = String::new(alloc);
@@ -110,7 +110,7 @@ pub fn printed_and_read<T: IrText<A>, A: AttrText>(
     ensures only { IfOk result (λ q. OnlyNew q other.old other.new) }
     ensures refused { (view : OperationView T A) (g : Graph T A) →
         operation ctx.now op ≡ Some view → StandsAlone ctx.now.dialects view → graph_of A.written ctx.now op ≡ Some g →
-        IfErr result (IsExcused (printing ctx.now.dialects A.outlined A.print_once A.eq) view (fresh layout.now.width layout.now.indent layout.now.limit)) }
+        IfErr result (IsExcused (printing ctx.now.dialects A.outlined A.print_once A.eq) (operation ctx.now op) (fresh layout.now.width layout.now.indent layout.now.limit)) }
     ensures objects { OnErr result (SameObjects other.old other.new) }
 {
     keeps_parts(ctx, op);

@@ -3,7 +3,7 @@ ghost use Rattle.std.specs.Prelude.{◌≡◌, [], IfOk, IfErr, OnErr};
 ghost use Rattle.irtext_base.specs.Own.{texts_of};
 ghost use Rattle.irtext_context.specs.Made.{SameObjects};
 ghost use Rattle.irtext_read.specs.AttrTexts.{attr_at};
-ghost use Rattle.irtext_read.specs.States.{marks_of};
+ghost use Rattle.irtext_state.specs.States.{marks_of};
 ghost use Rattle.irtext_outcomes.specs.Readers.Refusals.{Refusal, RefusesFailed};
 ghost use Rattle.irtext_outcomes.specs.Readers.Streams.{KeepsRest};
 ghost use Rattle.irtext_outcomes.specs.Promises.Root.{IsFresh, UnlessMemory};
@@ -17,7 +17,7 @@ use irtext_base::text::{AttrText, IrText};
 use irtext_context::base::{Operation, Ptr};
 use irtext_read::irfmt::faults::commit_unexpected;
 use irtext_read::irfmt::parsers::skip_white_space;
-use irtext_read::parsable::StateStream;
+use irtext_state::parsable::StateStream;
 
 /// A root with its section, behind which nothing but white space is left. Where it is refused, what it made is given back.
 pub fn whole_parse<T: IrText<A>, A: AttrText, U>(

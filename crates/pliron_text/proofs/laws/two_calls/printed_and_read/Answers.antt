@@ -4,7 +4,7 @@ use Rattle.pliron_text.proofs.TextBack.{reads_back, memory_alone}
 use Rattle.pliron_text.proofs.laws.two_calls.printed_and_read.Goals as goal
 
 pub returns-in-Err-clause-refused : goal.returns-in-Err-clause-refused
-returns-in-Err-clause-refused g c = λ view x stands alone sees. c.in-Err.ensures.refused view stands
+returns-in-Err-clause-refused g c = λ view x stands alone sees. c.in-Err.ensures.refused
 
 pub returns-in-Ok-read_text-clause-back : goal.returns-in-Ok-read_text-clause-back
 returns-in-Ok-read_text-clause-back g c = λ view x stands alone sees.

@@ -2,7 +2,7 @@ use Rattle.std.proofs.Common.{ap}
 use Rattle.irtext_base.specs.Own.{texts_of}
 use Rattle.irtext_outcomes.specs.Promises.Root.{RefusesRoot}
 use Rattle.irtext_read.specs.AttrTexts.{attr_at}
-use Rattle.irtext_read.specs.declared.parsable.state.StateStream.{StateStream}
+use Rattle.irtext_state.specs.declared.parsable.state.StateStream.{StateStream}
 use Rattle.pliron_text.specs.Promises.ReadBack.{RefusesText}
 use Rattle.pliron_text.proofs.TextBack.{refused_as}
 use Rattle.pliron_text.proofs.laws.two_calls.read_text.Goals as goal
