@@ -16,13 +16,13 @@ use std::fmt;
 
 /// Prints an operation's id and its symbol's name. Made by [`symb_op_header`].
 #[derive(Clone, Copy, Debug)]
-pub struct SymbOpHeader {
+pub struct SymbHeader {
     op: Ptr<Operation>,
 }
 
 /// Prints an operation's id, its symbol's name and a type. Made by [`typed_symb_op_header`].
 #[derive(Clone, Copy)]
-pub struct TypedSymbOpHeader<'a, T> {
+pub struct TypedSymbHeader<'a, T> {
     op: Ptr<Operation>,
     ty: &'a T,
 }
@@ -35,18 +35,18 @@ pub struct OneRegion {
 
 /// A printer that writes an operation's id, a space, and `@` with its symbol's name: the identifier under the key
 /// `builtin_sym_name`. It prints where the operation is live, and fails where there is no such name or memory is refused.
-pub fn symb_op_header(op: Ptr<Operation>) -> SymbOpHeader
+pub fn symb_op_header(op: Ptr<Operation>) -> SymbHeader
     ensures { result.op ≡ op }
 {
-    SymbOpHeader { op }
+    SymbHeader { op }
 }
 
 /// A printer that writes what [`symb_op_header`] does, and the type behind `: `. It fails as that one does.
-pub fn typed_symb_op_header<T>(op: Ptr<Operation>, ty: &T) -> TypedSymbOpHeader<'_, T>
+pub fn typed_symb_op_header<T>(op: Ptr<Operation>, ty: &T) -> TypedSymbHeader<'_, T>
     ensures op { result.op ≡ op }
     ensures ty { result.ty.now ≡ ty.now }
 {
-    TypedSymbOpHeader { op, ty }
+    TypedSymbHeader { op, ty }
 }
 
 /// A printer that writes the one region of an operation. It prints where the operation is live, and fails where it has no region
@@ -77,7 +77,7 @@ fn fmt_header<T: IrText<A>, A: AttrText>(
     Ok(())
 }
 
-impl<T: IrText<A>, A: AttrText, U> Printable<U, T, A> for SymbOpHeader {
+impl<T: IrText<A>, A: AttrText, U> Printable<U, T, A> for SymbHeader {
     ghost can_print = { λ h ctx. IsSome (operation ctx h.op) };
 
     ghost gives = { λ h ctx s. parts.printed_part parts.header_of ctx h.op s };
@@ -90,7 +90,7 @@ impl<T: IrText<A>, A: AttrText, U> Printable<U, T, A> for SymbOpHeader {
     }
 }
 
-impl<T: IrText<A>, A: AttrText, U> Printable<U, T, A> for TypedSymbOpHeader<'_, T> {
+impl<T: IrText<A>, A: AttrText, U> Printable<U, T, A> for TypedSymbHeader<'_, T> {
     ghost can_print = { λ h ctx. IsSome (operation ctx h.op) };
 
     ghost gives = { λ h ctx s. parts.printed_part (parts.typed_header_of (T.written h.ty.now)) ctx h.op s };

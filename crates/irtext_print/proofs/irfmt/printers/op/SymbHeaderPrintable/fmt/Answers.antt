@@ -3,7 +3,7 @@ use Rattle.irtext_context.specs.Context.{operation}
 use Rattle.irtext_print.specs.Printers.OpPrinters.{header_of}
 use Rattle.irtext_print.proofs.Printers.RootParts.{there}
 use Rattle.irtext_print.proofs.Printers.OpPrinters.{part_writes}
-use Rattle.irtext_print.proofs.irfmt.printers.op.SymbOpHeaderPrintable.fmt.Goals as goal
+use Rattle.irtext_print.proofs.irfmt.printers.op.SymbHeaderPrintable.fmt.Goals as goal
 
 pub returns-clause-prints : goal.returns-clause-prints
 returns-clause-prints g c =

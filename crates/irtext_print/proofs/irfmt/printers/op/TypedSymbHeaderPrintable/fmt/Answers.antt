@@ -4,7 +4,7 @@ use Rattle.irtext_print.specs.Printers.OpPrinters.{typed_header_of}
 use Rattle.irtext_print.proofs.Printers.Appended.{then}
 use Rattle.irtext_print.proofs.Printers.RootParts.{there}
 use Rattle.irtext_print.proofs.Printers.OpPrinters.{typed_appended, part_writes}
-use Rattle.irtext_print.proofs.irfmt.printers.op.TypedSymbOpHeaderPrintable.fmt.Goals as goal
+use Rattle.irtext_print.proofs.irfmt.printers.op.TypedSymbHeaderPrintable.fmt.Goals as goal
 
 pub returns-clause-prints : goal.returns-clause-prints
 returns-clause-prints g c =
