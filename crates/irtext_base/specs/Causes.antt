@@ -7,7 +7,7 @@ use Rattle.irtext_base.specs.declared.result.ErrorKind.{ErrorKind}
 use Rattle.irtext_base.specs.declared.result.ErrorKind.TheVariants.{InvalidInput, VerificationFailed, InvalidArgument}
 use Rattle.irtext_base.specs.declared.result.Expected.{Expected}
 use Rattle.irtext_base.specs.declared.result.Expected.TheVariants as expected
-use Rattle.irtext_base.specs.declared.result.Cause.{Cause, Memory, StreamFailed, Unexpected, NumberRange, BadEscape, BadUnicodeEscape, EmptyItem, BadSeparator, UnregisteredDialect, UnregisteredOp, ResultCount, NoActiveScope, UnresolvedReference, ParserNameTracker, DuplicateIndex, UnknownIndex, UnknownPrintOnce, ReservedKey, OwnText, FormatFault, Text, Fmt, Nested', Parse', WrongDialect}
+use Rattle.irtext_base.specs.declared.result.Cause.{Cause, Memory, StreamFailed, Unexpected, NumberRange, BadEscape, BadUnicodeEscape, EmptyItem, BadSeparator, UnregisteredDialect, UnregisteredOp, ResultCount, NoActiveScope, UnresolvedReference, ParserNameTrackerError, DuplicateIndex, UnknownIndex, UnknownPrintOnce, ReservedKey, OwnText, FormatFault, Text, Fmt, Nested', Parse', WrongDialect}
 use Rattle.irtext_base.specs.declared.base.attributes.Refusal.{Refusal}
 use Rattle.irtext_base.specs.declared.base.attributes.Refusal.TheVariants as refusal
 use Rattle.irtext_base.specs.declared.format.FormatFault as format_fault
@@ -102,7 +102,7 @@ cause_text (UnregisteredOp id) = codes "Unregistered Op " ++ id_text id
 cause_text (ResultCount results names) = codes "Operation has " ++ (decimal results ++ (codes " results and " ++ (decimal names ++ codes " names")))
 cause_text (NoActiveScope name) = codes "No active scope for identifier " ++ name
 cause_text (UnresolvedReference name) = unresolved_text name
-cause_text (ParserNameTracker error) = name_tracker_text error
+cause_text (ParserNameTrackerError error) = name_tracker_text error
 cause_text (DuplicateIndex index) = codes "Duplicate outline index: " ++ decimal index
 cause_text (UnknownIndex index) = codes "No operation or block found for outline index: " ++ decimal index
 cause_text (UnknownPrintOnce index) = codes "No PrintOnceAttr found for outline index: " ++ decimal index

@@ -91,7 +91,7 @@ pub enum Cause<A> {
     /// A name or a label that its scope doesn't define.
     UnresolvedReference(UnresolvedReference),
     /// A scope refuses a name, or a region that has none.
-    ParserNameTracker(ParserNameTrackerError),
+    ParserNameTrackerError(ParserNameTrackerError),
     /// A second mark with this index.
     DuplicateIndex(usize),
     /// An entry for an index that no mark has, or that has an entry.
@@ -247,7 +247,7 @@ impl<A> Display for Cause<A> {
             }
             Cause::NoActiveScope(name) => write!(f, "No active scope for identifier {name}"),
             Cause::UnresolvedReference(reference) => write!(f, "{reference}"),
-            Cause::ParserNameTracker(error) => write!(f, "{error}"),
+            Cause::ParserNameTrackerError(error) => write!(f, "{error}"),
             Cause::DuplicateIndex(index) => write!(f, "Duplicate outline index: {index}"),
             Cause::UnknownIndex(index) => {
                 write!(f, "No operation or block found for outline index: {index}")

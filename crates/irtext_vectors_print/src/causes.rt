@@ -98,7 +98,7 @@ fn with_name(number: usize, name: Identifier) -> Cause<DemoAttr> {
         23 => Cause::UnregisteredDialect(name),
         24 => Cause::NoActiveScope(name),
         25 => Cause::UnresolvedReference(UnresolvedReference(name)),
-        26 => Cause::ParserNameTracker(ParserNameTrackerError::MultipleDefinitions(name)),
+        26 => Cause::ParserNameTrackerError(ParserNameTrackerError::MultipleDefinitions(name)),
         _ => Cause::ReservedKey(name),
     }
 }

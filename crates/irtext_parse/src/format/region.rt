@@ -19,7 +19,7 @@ pub(crate) fn region_parse<A>(stream: &mut TextStream, isolated: bool) -> ParseR
     }
     if !isolated {
         let error = ParserNameTrackerError::TopLevelOpRegionNotIsolatedFromAbove;
-        return Err(refuse(stream, Cause::ParserNameTracker(error)));
+        return Err(refuse(stream, Cause::ParserNameTrackerError(error)));
     }
     braces_demanded(stream)
 }

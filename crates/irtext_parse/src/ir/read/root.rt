@@ -29,9 +29,9 @@ fn is_unplaced<A>(cause: &Cause<A>) -> bool
     ensures { result ≡ is_unplaced (fault_of cause.now) }
 {
     match cause {
-        Cause::ParserNameTracker(ParserNameTrackerError::TopLevelOpRegionNotIsolatedFromAbove) => {
-            true
-        }
+        Cause::ParserNameTrackerError(
+            ParserNameTrackerError::TopLevelOpRegionNotIsolatedFromAbove,
+        ) => { true }
         _ => false,
     }
 }
