@@ -36,6 +36,7 @@ const CAUSES: &[&str] = &[
     "Unexpected end of input, expected true or false",
     "Unexpected end of input, expected type",
     "Unexpected end of input, expected attribute",
+    "Unexpected end of input, expected end of input",
     "Unregistered dialect x",
     "No active scope for identifier x",
     "Identifier x was not resolved to any definition in the scope",
@@ -88,17 +89,18 @@ fn expected(number: usize) -> Expected {
         19 => Expected::Location,
         20 => Expected::TrueOrFalse,
         21 => Expected::Type,
-        _ => Expected::Attribute,
+        22 => Expected::Attribute,
+        _ => Expected::EndOfInput,
     }
 }
 
 /// A cause with this name.
 fn with_name(number: usize, name: Identifier) -> Cause<DemoAttr> {
     match number {
-        23 => Cause::UnregisteredDialect(name),
-        24 => Cause::NoActiveScope(name),
-        25 => Cause::UnresolvedReference(UnresolvedReference(name)),
-        26 => Cause::ParserNameTrackerError(ParserNameTrackerError::MultipleDefinitions(name)),
+        24 => Cause::UnregisteredDialect(name),
+        25 => Cause::NoActiveScope(name),
+        26 => Cause::UnresolvedReference(UnresolvedReference(name)),
+        27 => Cause::ParserNameTrackerError(ParserNameTrackerError::MultipleDefinitions(name)),
         _ => Cause::ReservedKey(name),
     }
 }
@@ -106,10 +108,10 @@ fn with_name(number: usize, name: Identifier) -> Cause<DemoAttr> {
 /// A cause with this text.
 fn with_text(number: usize, text: String) -> Cause<DemoAttr> {
     match number {
-        28 => Cause::NumberRange(text),
-        29 => Cause::BadUnicodeEscape(text),
-        30 => Cause::OwnText(text),
-        31 => Cause::Text(StringError(text)),
+        29 => Cause::NumberRange(text),
+        30 => Cause::BadUnicodeEscape(text),
+        31 => Cause::OwnText(text),
+        32 => Cause::Text(StringError(text)),
         _ => Cause::Unexpected {
             found: None,
             expected: Expected::Literal(text),
@@ -120,7 +122,7 @@ fn with_text(number: usize, text: String) -> Cause<DemoAttr> {
 /// A cause with this operation's id.
 fn with_id(number: usize, id: OpId, dialect: Identifier) -> Cause<DemoAttr> {
     match number {
-        33 => Cause::UnregisteredOp(id),
+        34 => Cause::UnregisteredOp(id),
         _ => Cause::WrongDialect { id, dialect },
     }
 }
@@ -155,10 +157,10 @@ fn fixed_text(alloc: Global) -> Result<Cause<DemoAttr>, Fail> {
 fn cause(alloc: Global, number: usize) -> Result<Cause<DemoAttr>, Fail> {
     match number {
         3 => fixed_text(alloc),
-        0..=22 => Ok(plain(number)),
-        23..=27 => Ok(with_name(number, named(alloc, "x")?)),
-        28..=32 => Ok(with_text(number, String::from_str(alloc, "110000")?)),
-        33..=34 => of_operation(alloc, number),
+        0..=23 => Ok(plain(number)),
+        24..=28 => Ok(with_name(number, named(alloc, "x")?)),
+        29..=33 => Ok(with_text(number, String::from_str(alloc, "110000")?)),
+        34..=35 => of_operation(alloc, number),
         _ => nested(alloc),
     }
 }

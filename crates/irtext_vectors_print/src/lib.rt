@@ -1,4 +1,5 @@
-//! Worked rows of what prints itself: values, lists, causes, errors and locations; and the printing state.
+//! Worked rows of what prints itself: values, lists, causes, errors, locations and roots; the printing state, and which
+//! operations fit their formats.
 #![tactic(auto)]
 
 #[cfg(test)]
@@ -8,10 +9,14 @@ mod causes;
 #[cfg(test)]
 mod errors;
 #[cfg(test)]
+mod fits;
+#[cfg(test)]
 mod listed;
 #[cfg(test)]
 mod location_texts;
 #[cfg(test)]
 mod printing;
+#[cfg(test)]
+mod roots;
 #[cfg(test)]
 mod separators;

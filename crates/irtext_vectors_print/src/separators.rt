@@ -26,6 +26,7 @@ const LINES: &[&str] = &[
     "x4",
     "\n  108\n  ",
     "\n",
+    "text: <\"a\">",
 ];
 
 /// Appends a number.
@@ -96,6 +97,14 @@ fn stored(alloc: Global, ctx: &Ctx) -> Result<String, Fail> {
     Ok(text)
 }
 
+/// A text between two others, appended to what stands.
+fn appended(alloc: Global, ctx: &Ctx) -> Result<String, Fail> {
+    let inside = enclosed("<", ">", quoted("a"));
+    let mut text = String::from_str(alloc, "text: ")?;
+    inside.disp(ctx).append_to(&mut text).ok().ok_or("refused")?;
+    Ok(text)
+}
+
 /// A newline under one indent, made before the state has no room for another.
 fn newline(alloc: Global, ctx: &Ctx) -> Result<String, Fail> {
     let mut state = State::new(alloc, ());
@@ -135,7 +144,8 @@ fn line(alloc: Global, ctx: &mut Ctx, number: usize) -> Result<String, Fail> {
         9 => listed(alloc, ctx, &[], ListSeparator::CharSpace(',')),
         10 => stored(alloc, ctx),
         11 => newline(alloc, ctx),
-        _ => behind_guard(alloc),
+        12 => behind_guard(alloc),
+        _ => appended(alloc, ctx),
     }
 }
 

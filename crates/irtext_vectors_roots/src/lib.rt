@@ -13,3 +13,5 @@ pub mod registering;
 mod roots;
 #[cfg(test)]
 mod sections;
+#[cfg(test)]
+mod whole_texts;

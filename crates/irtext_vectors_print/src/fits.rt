@@ -1,0 +1,193 @@
+//! Which operations fit their formats, and what is said of those that don't.
+use irtext_base::base::{AttrObj, AttributeDict, Identifier, OpId};
+use irtext_base::format::{Directive, OpFormat};
+use irtext_base::location::Location;
+use irtext_base::result::Result as Answer;
+use irtext_context::base::context::making::Making;
+use irtext_context::base::operation::add_regions;
+use irtext_context::base::{Operation, Ptr};
+use irtext_context::dialect::{Dialect, DialectName};
+use irtext_print::ir::print::fits::check_fits;
+use irtext_types::{Characters, DemoAttr};
+use irtext_vectors_common::contexts::{Ctx, named, with_context};
+use std::alloc::Global;
+use std::test::Fail;
+
+/// The format of `lab.d` by its letters, how many regions and which attributes such an operation has, and what is said of it.
+type Row = (&'static str, usize, &'static str, &'static str);
+
+/// Operations with their formats. Where several things don't fit, the first in the order of `FitFault` is said.
+const ROWS: &[Row] = &[
+    ("?", 1, "k", "The operation is not registered"),
+    ("-", 0, "", "The format has no directives"),
+    ("", 0, "", "fits"),
+    ("x", 0, "", "fits"),
+    ("v", 0, "", "The format names a value, a block or a type"),
+    ("o", 1, "", "The format names a value, a block or a type"),
+    ("kO", 0, "", "The format names a value, a block or a type"),
+    ("t", 0, "", "The format names a value, a block or a type"),
+    ("S:", 0, "", "The format names a value, a block or a type"),
+    ("x", 2, "k", "The format does not write 2 regions"),
+    ("ak", 0, "", "The format does not write 0 regions"),
+    ("ab", 1, "", "The format does not write 1 regions"),
+    ("aR", 0, "", "The format does not write 0 regions"),
+    ("aR", 3, "", "fits"),
+    ("R", 0, "", "fits"),
+    ("hk", 0, "", "The operation has no attribute k"),
+    ("k", 0, "s", "The operation has no attribute k"),
+    ("k", 0, "k", "fits"),
+    ("h", 0, "k", "The operation has no symbol"),
+    ("h", 0, "t", "The operation has no symbol"),
+    ("h", 0, "s", "fits"),
+    ("h", 0, "sk", "The format does not write the attribute k"),
+    ("", 0, "ns", "The format does not write the attribute k"),
+    ("d", 0, "ks", "fits"),
+    ("d", 0, "sn", "The attribute k is outlined"),
+    ("ka", 1, "n", "The attribute k is outlined"),
+];
+
+/// The directive without a text that a letter stands for.
+fn plain(letter: char) -> Option<Directive> {
+    match letter {
+        'v' => Some(Directive::ResultType(0)),
+        'o' => Some(Directive::Operand(0)),
+        'O' => Some(Directive::Operands),
+        't' => Some(Directive::Successor(0)),
+        'S' => Some(Directive::Successors),
+        'a' => Some(Directive::Region(0)),
+        'b' => Some(Directive::Region(1)),
+        'R' => Some(Directive::Regions),
+        'd' => Some(Directive::AttrDict),
+        'h' => Some(Directive::SymbolHeader),
+        _ => None,
+    }
+}
+
+/// The directive that a letter stands for.
+fn directive(alloc: Global, letter: char) -> Result<Directive, Fail> {
+    if let Some(directive) = plain(letter) {
+        return Ok(directive);
+    }
+    match letter {
+        'k' => Ok(Directive::Attr(named(alloc, "k")?)),
+        ':' => Ok(Directive::Literal(String::from_str(alloc, ":")?)),
+        _ => Ok(Directive::Literal(String::from_str(alloc, "x")?)),
+    }
+}
+
+/// The format of these letters: that of any operation for `-`, else one directive for each.
+fn format_of(alloc: Global, letters: &str) -> Result<OpFormat, Fail> {
+    if letters == "-" {
+        return Ok(OpFormat::Canonical);
+    }
+    let mut directives = Vec::new(alloc);
+    for letter in letters.chars() {
+        directives.push(directive(alloc, letter)?)?;
+    }
+    Ok(OpFormat::Custom(directives))
+}
+
+/// The id `lab.d`.
+fn id(alloc: Global) -> Result<OpId, Fail> {
+    Ok(OpId {
+        dialect: named(alloc, "lab")?,
+        name: named(alloc, "d")?,
+    })
+}
+
+/// Registers an operation with the dialect of a name.
+fn add(ctx: &mut Ctx, name: &DialectName, id: OpId, format: OpFormat) -> Answer<(), DemoAttr> {
+    let dialect = Dialect::register(ctx, name)?;
+    dialect.add_op(id, format, false)
+}
+
+/// Registers `lab.d` with the format of these letters, unless they are `?`.
+fn register(alloc: Global, ctx: &mut Ctx, letters: &str) -> Result<(), Fail> {
+    if letters == "?" {
+        return Ok(());
+    }
+    let name = DialectName::from(named(alloc, "lab")?);
+    let answer = add(ctx, &name, id(alloc)?, format_of(alloc, letters)?);
+    Ok(answer.ok().ok_or("refused")?)
+}
+
+/// The attribute that a letter stands for: one that is outlined, a text, or an identifier.
+fn attr_of(alloc: Global, letter: char) -> Result<AttrObj<DemoAttr>, Fail> {
+    match letter {
+        'n' => Ok(AttrObj::Own(DemoAttr::Debug(Characters::new(String::from_str(alloc, "x")?)))),
+        't' => Ok(AttrObj::Own(DemoAttr::String(Characters::new(String::from_str(alloc, "x")?)))),
+        _ => Ok(AttrObj::Ident(named(alloc, "x")?)),
+    }
+}
+
+/// The key of the attribute that a letter stands for.
+fn key_of(letter: char) -> &'static str {
+    match letter {
+        's' | 't' => "builtin_sym_name",
+        _ => "k",
+    }
+}
+
+/// Puts an attribute into a dictionary.
+fn put(
+    attributes: &mut AttributeDict<DemoAttr>,
+    key: Identifier,
+    attr: AttrObj<DemoAttr>,
+) -> Option<()> {
+    attributes.insert(key, attr).ok()
+}
+
+/// Puts the attribute that a letter stands for into a dictionary.
+fn insert(
+    alloc: Global,
+    attributes: &mut AttributeDict<DemoAttr>,
+    letter: char,
+) -> Result<(), Fail> {
+    let key = named(alloc, key_of(letter))?;
+    let attr = attr_of(alloc, letter)?;
+    Ok(put(attributes, key, attr).ok_or("refused")?)
+}
+
+/// The dictionary with one attribute for each letter.
+fn attributes_of(alloc: Global, letters: &str) -> Result<AttributeDict<DemoAttr>, Fail> {
+    let mut attributes = AttributeDict::new(alloc);
+    for letter in letters.chars() {
+        insert(alloc, &mut attributes, letter)?;
+    }
+    Ok(attributes)
+}
+
+/// What is said of an operation, once it has as many regions.
+fn said(alloc: Global, ctx: &mut Ctx, op: Ptr<Operation>, regions: usize) -> Result<String, Fail> {
+    if !ctx.contains_operation(op) {
+        return Err(Fail::from("no such operation"));
+    }
+    add_regions(ctx, op, regions)?;
+    if !ctx.contains_operation(op) {
+        return Err(Fail::from("no such operation"));
+    }
+    match check_fits(ctx, op) {
+        Ok(()) => Ok(String::from_str(alloc, "fits")?),
+        Err(fault) => Ok(format!(in alloc; "{fault}")?),
+    }
+}
+
+/// What is said of the operation of a row.
+fn made(alloc: Global, ctx: &mut Ctx, row: &Row) -> Result<String, Fail> {
+    register(alloc, ctx, row.0)?;
+    let op = ctx.make_operation(id(alloc)?, attributes_of(alloc, row.2)?, Location::Unknown)?;
+    said(alloc, ctx, op, row.1)
+}
+
+/// The same in a context of its own.
+fn in_its_own(alloc: Global, row: &Row) -> Result<String, Fail> {
+    with_context(alloc, |alloc, ctx| made(alloc, ctx, row))
+}
+
+#[test]
+fn operations_fit_their_formats(rt: HostRuntime) -> Result<(), Fail> {
+    for row in ROWS {
+        assert_eq!(rt; in_its_own(rt.alloc(), row)?.as_str(), row.3);
+    }
+    Ok(())
+}
