@@ -45,7 +45,7 @@ fn identifiers_are_words(rt: HostRuntime) -> Result<(), Fail> {
 
 /// What is said of each step, one behind the other, with one dictionary.
 const STEPS: &[&str] = &[
-    "reserved", "kept", "kept", "kept", "2", "y", "true", "true", "true", "1",
+    "reserved", "kept", "kept", "kept", "2", "y", "true", "true", "true", "1", "1",
 ];
 
 /// Puts an attribute into a dictionary.
@@ -109,6 +109,12 @@ fn remove(alloc: Global, dictionary: &mut AttributeDict<DemoAttr>) -> Result<boo
     Ok(dictionary.remove(&given).is_some())
 }
 
+/// How many pairs there are behind the call for what a dictionary keeps.
+fn kept(dictionary: &AttributeDict<DemoAttr>) -> usize {
+    dictionary.keeps_keys();
+    dictionary.len()
+}
+
 /// What is said of a step.
 fn step(
     alloc: Global,
@@ -124,6 +130,7 @@ fn step(
         6 => Ok(format!(in alloc; "{}", at_one(alloc, dictionary)?)?),
         7 => Ok(format!(in alloc; "{}", two_pairs(dictionary))?),
         8 => Ok(format!(in alloc; "{}", remove(alloc, dictionary)?)?),
+        10 => Ok(format!(in alloc; "{}", kept(dictionary))?),
         _ => Ok(format!(in alloc; "{}", dictionary.len())?),
     }
 }

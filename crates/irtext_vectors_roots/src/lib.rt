@@ -6,6 +6,8 @@ mod concrete;
 #[cfg(test)]
 mod directives;
 #[cfg(test)]
+mod kept;
+#[cfg(test)]
 mod parts;
 pub mod reading;
 pub mod registering;

@@ -50,9 +50,14 @@ const TEXTS: &[(&str, usize, &str)] = &[
         "line: 1, column: 20: The stream has failed!, false, 0",
     ),
     (
+        "",
+        1,
+        "line: 1, column: 1: Unexpected end of input, expected operation, false, 0",
+    ),
+    (
         " ",
         1,
-        "line: 1, column: 2: Unexpected end of input, expected operation, false, 0",
+        "line: 1, column: 2: Unexpected end of input, expected operation!, false, 0",
     ),
     (
         "builtin.module @m {}",
