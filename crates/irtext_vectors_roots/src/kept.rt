@@ -1,4 +1,4 @@
-//! What every root keeps, and the law of the two calls where it has something to say of contexts made by a test.
+//! What every root keeps; and the law of the two calls over contexts without dialects, where no root is printed.
 ghost use Rattle.std.specs.Prelude.{◌≡◌, OnOk};
 
 use crate::reading::{root, whole};
