@@ -147,6 +147,11 @@ module _ {S : Type 0} (view : S → StreamView) (at : S → StreamView → S) wh
           unit = rw r (o.unit ∙ braced_some (view mid).rest q);
         }
 
+    -- a stream behind `\u`, a brace and digits
+    pub digits_counted : (before old opens now : S) → Takes view at (codes "\\u") (view old).rest before old → begins (the 123) (view old).rest ≡ true → opens ≡ at old (advanced (view old)) → begins is_ascii_hexdigit (view opens).rest ≡ true
+        → Takes view at (front is_ascii_hexdigit (view opens).rest) (after is_ascii_hexdigit (view opens).rest) opens now → Counted before now (front is_ascii_hexdigit (view opens).rest)
+    digits_counted before old opens now k q n d t = counted before opens now (opened before old opens k q n) d t
+
     -- the brace behind the digits, where they name a character
     pub braces_closed : (before now next : S) (digits : Text) (c : ℕ) → Counted before now digits → begins (the 125) (view now).rest ≡ true → Some c ≡ character_of (value_in 16 digits) → next ≡ at now (advanced (view now)) → Gives view at (unit_at (view before).rest) before c next
     braces_closed before now next digits c h q e n =
