@@ -5,8 +5,8 @@ use Rattle.std.specs.Char.{is_ascii_hexdigit, encode_utf8}
 use Rattle.std.specs.Str.{encode_utf8_all}
 use Rattle.irtext_base.specs.Text.{Text, begins, front, after}
 use Rattle.irtext_base.specs.Reading.{the}
-use Rattle.irtext_base.specs.Stream.{StreamView, IsAt, first_of, advanced, advanced_by, after_failure}
-use Rattle.irtext_base.specs.Faults.{Fault, Word, Unexpected, AHexadecimalDigit, AnEscapedCharacter, BadEscape, BadUnicodeEscape, fault_of}
+use Rattle.irtext_base.specs.Stream.{StreamView, first_of, advanced, advanced_by}
+use Rattle.irtext_base.specs.Faults.{Fault, Word, Unexpected, AHexadecimalDigit, AnEscapedCharacter, BadEscape, BadUnicodeEscape}
 use Rattle.irtext_base.specs.Answers.{Outcome, Read, Missing, Bad, Takes, Starves, StarvesHere, FailsBehind, Commits, Answers, Gives, Refuses, demanded, prefixed, mapped, followed, unless_failed}
 use Rattle.irtext_base.specs.declared.parsable.fault.ParseFault.{ParseFault}
 use Rattle.irtext_base.proofs.Bytes.{first_some}

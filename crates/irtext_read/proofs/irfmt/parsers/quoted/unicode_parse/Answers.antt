@@ -1,6 +1,6 @@
 use Rattle.std.proofs.Common.{◌∙◌, sym, ap, codes}
 use Rattle.std.specs.Char.{is_ascii_hexdigit}
-use Rattle.irtext_base.specs.Text.{front, after}
+use Rattle.irtext_base.specs.Text.{front}
 use Rattle.irtext_base.proofs.Compose.{seen_after, fine_before}
 use Rattle.irtext_read.specs.QuotedTexts.{character_of}
 use Rattle.irtext_read.proofs.QuotedSteps.{opened, digits_counted, unopened, uncounted, unclosed, unnamed, braces_closed}
