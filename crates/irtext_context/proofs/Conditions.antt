@@ -325,23 +325,26 @@ bare format.header = record { operands = not_so; successors = not_so; regions = 
 bare _ = record { operands = not_so; successors = not_so; regions = not_so; dictionary = not_so; header = not_so }
 
 -- ---- C2 to C4
+-- the directives of one kind are places, and one directive stands for all of them once at most
+module _ (named : Directive → Option ℕ) (single : ℕ → Directive) (sees : (k : ℕ) → named (single k) ≡ Some k) (is_single : (d : Directive) (k : ℕ) → named d ≡ Some k → d ≡ single k)
+    (all : Directive) (test : Directive → Bool) (tested : test all ≡ true) (is_all : (d : Directive) → test d ≡ true → d ≡ all) (ds : List Directive) where
+  places_say : (are_places (filter_map named ds) && nat_lt (count test ds) 2) ≡ true → NameAllBelow single ds × StandsOnceAtMost all ds
+  places_say e = let p = and_parts (are_places (filter_map named ds)) (nat_lt (count test ds) 2) e in (name_places named single sees is_single ds p.0, once all test tested is_all ds p.1)
+
+  say_places : NameAllBelow single ds × StandsOnceAtMost all ds → (are_places (filter_map named ds) && nat_lt (count test ds) 2) ≡ true
+  say_places f = and_from (are_places (filter_map named ds)) (nat_lt (count test ds) 2) (places_named named single sees is_single ds f.0) (is_once all test tested is_all ds f.1)
+
 pub c2_says : (ds : List Directive) → c2 ds ≡ true → C2 ds
-c2_says ds e =
-    let p = and_parts (are_places (operand_places ds)) (nat_lt (count is_operands ds) 2) e in
-    (name_places (place_of part.Operand) format.operand (λ k. refl) (λ d k. (placed d k).operand) ds p.0, once format.operands is_operands refl (λ d. (bare d).operands) ds p.1)
+c2_says ds e = places_say (place_of part.Operand) format.operand (λ k. refl) (λ d k. (placed d k).operand) format.operands is_operands refl (λ d. (bare d).operands) ds e
 
 pub says_c2 : (ds : List Directive) → C2 ds → c2 ds ≡ true
-says_c2 ds f =
-    and_from (are_places (operand_places ds)) (nat_lt (count is_operands ds) 2) (places_named (place_of part.Operand) format.operand (λ k. refl) (λ d k. (placed d k).operand) ds f.0) (is_once format.operands is_operands refl (λ d. (bare d).operands) ds f.1)
+says_c2 ds f = say_places (place_of part.Operand) format.operand (λ k. refl) (λ d k. (placed d k).operand) format.operands is_operands refl (λ d. (bare d).operands) ds f
 
 pub c3_says : (ds : List Directive) → c3 ds ≡ true → C3 ds
-c3_says ds e =
-    let p = and_parts (are_places (successor_places ds)) (nat_lt (count is_successors ds) 2) e in
-    (name_places (place_of part.Successor) format.successor (λ k. refl) (λ d k. (placed d k).successor) ds p.0, once format.successors is_successors refl (λ d. (bare d).successors) ds p.1)
+c3_says ds e = places_say (place_of part.Successor) format.successor (λ k. refl) (λ d k. (placed d k).successor) format.successors is_successors refl (λ d. (bare d).successors) ds e
 
 pub says_c3 : (ds : List Directive) → C3 ds → c3 ds ≡ true
-says_c3 ds f =
-    and_from (are_places (successor_places ds)) (nat_lt (count is_successors ds) 2) (places_named (place_of part.Successor) format.successor (λ k. refl) (λ d k. (placed d k).successor) ds f.0) (is_once format.successors is_successors refl (λ d. (bare d).successors) ds f.1)
+says_c3 ds f = say_places (place_of part.Successor) format.successor (λ k. refl) (λ d k. (placed d k).successor) format.successors is_successors refl (λ d. (bare d).successors) ds f
 
 pub c4_says : (ds : List Directive) → c4 ds ≡ true → C4 ds
 c4_says ds e = name_places (place_of part.ResultType) format.result_type (λ k. refl) (λ d k. (placed d k).result_type) ds e
