@@ -403,47 +403,54 @@ key_stands k ds e = has_stands same_text same_sound same_self key_of format.attr
 stands_key : (k : Text) (ds : List Directive) → Stands (format.attribute k) ds → has same_text k (keys ds) ≡ true
 stands_key k ds s = stands_has same_text same_sound same_self key_of format.attribute (λ k. refl) is_key k ds s.0 s.1
 
-pub c6_says : (ds : List Directive) → c6 ds ≡ true → C6 ds
-c6_says ds e =
-    let a = distinct same_text (keys ds) in
-    let b = not (has same_text given_names_key (keys ds)) in
-    let m = nat_lt (count is_dictionary ds) 2 in
-    let n = nat_lt (count is_header ds) 2 in
-    let o = not (nat_lt 0 (count is_header ds)) || not (has same_text sym_name_key (keys ds)) in
-    let p = and_parts (a && b && m && n) o e in
-    let q = and_parts (a && b && m) n p.0 in
-    let r = and_parts (a && b) m q.0 in
-    let t = and_parts a b r.0 in (
-      (λ k. differ_once same_text same_sound same_self key_of format.attribute (λ k. refl) is_key ds t.0 k),
-      (λ s. not_both (has same_text given_names_key (keys ds)) (stands_key given_names_key ds s) t.1),
-      once format.dictionary is_dictionary refl (λ d. (bare d).dictionary) ds r.1,
-      once format.header is_header refl (λ d. (bare d).header) ds q.1,
-      (λ h s.
-          ⊎_elim (λ (f : not (nat_lt 0 (count is_header ds)) ≡ true). not_both (nat_lt 0 (count is_header ds)) (counted_some format.header is_header refl (λ d. (bare d).header) ds h) f)
-          (λ (f : not (has same_text sym_name_key (keys ds)) ≡ true). not_both (has same_text sym_name_key (keys ds)) (stands_key sym_name_key ds s) f)
-          (or_cases (not (nat_lt 0 (count is_header ds))) (not (has same_text sym_name_key (keys ds))) p.1)),
-    )
+module _ (ds : List Directive) where
+  -- the five tests of C6, in their order
+  abbrev keys_differ : Bool
+  keys_differ = distinct same_text (keys ds)
 
-pub says_c6 : (ds : List Directive) → C6 ds → c6 ds ≡ true
-says_c6 ds f =
-    let a = distinct same_text (keys ds) in
-    let b = not (has same_text given_names_key (keys ds)) in
-    let m = nat_lt (count is_dictionary ds) 2 in
-    let n = nat_lt (count is_header ds) 2 in
-    let o = not (nat_lt 0 (count is_header ds)) || not (has same_text sym_name_key (keys ds)) in
-    and_from (a && b && m && n) o
-    (and_from (a && b && m) n
-    (and_from (a && b) m
-    (and_from a b (once_differ same_text same_sound same_self key_of format.attribute (λ k. refl) is_key ds f.0)
-    (not_from_false (has same_text given_names_key (keys ds)) (false_from_ne_true (has same_text given_names_key (keys ds)) (λ q. f.1 (key_stands given_names_key ds q)))))
-    (is_once format.dictionary is_dictionary refl (λ d. (bare d).dictionary) ds f.2))
-    (is_once format.header is_header refl (λ d. (bare d).header) ds f.3))
-    (go (nat_lt 0 (count is_header ds)) refl)
-  where
-    go : (x : Bool) → nat_lt 0 (count is_header ds) ≡ x → (not x || not (has same_text sym_name_key (keys ds))) ≡ true
-    go true x =
-        not_from_false (has same_text sym_name_key (keys ds)) (false_from_ne_true (has same_text sym_name_key (keys ds)) (λ q. f.4 (some_counted format.header is_header refl (λ d. (bare d).header) ds x) (key_stands sym_name_key ds q)))
-    go false x = refl
+  abbrev no_given_names : Bool
+  no_given_names = not (has same_text given_names_key (keys ds))
+
+  abbrev one_dictionary : Bool
+  one_dictionary = nat_lt (count is_dictionary ds) 2
+
+  abbrev one_header : Bool
+  one_header = nat_lt (count is_header ds) 2
+
+  abbrev header_alone : Bool
+  header_alone = not (nat_lt 0 (count is_header ds)) || not (has same_text sym_name_key (keys ds))
+
+  pub c6_says : c6 ds ≡ true → C6 ds
+  c6_says e =
+      let p = and_parts (keys_differ && no_given_names && one_dictionary && one_header) header_alone e in
+      let q = and_parts (keys_differ && no_given_names && one_dictionary) one_header p.0 in
+      let r = and_parts (keys_differ && no_given_names) one_dictionary q.0 in
+      let t = and_parts keys_differ no_given_names r.0 in (
+        (λ k. differ_once same_text same_sound same_self key_of format.attribute (λ k. refl) is_key ds t.0 k),
+        (λ s. not_both (has same_text given_names_key (keys ds)) (stands_key given_names_key ds s) t.1),
+        once format.dictionary is_dictionary refl (λ d. (bare d).dictionary) ds r.1,
+        once format.header is_header refl (λ d. (bare d).header) ds q.1,
+        (λ h s.
+            ⊎_elim (λ (f : not (nat_lt 0 (count is_header ds)) ≡ true). not_both (nat_lt 0 (count is_header ds)) (counted_some format.header is_header refl (λ d. (bare d).header) ds h) f)
+            (λ (f : not (has same_text sym_name_key (keys ds)) ≡ true). not_both (has same_text sym_name_key (keys ds)) (stands_key sym_name_key ds s) f)
+            (or_cases (not (nat_lt 0 (count is_header ds))) (not (has same_text sym_name_key (keys ds))) p.1)),
+      )
+
+  pub says_c6 : C6 ds → c6 ds ≡ true
+  says_c6 f =
+      and_from (keys_differ && no_given_names && one_dictionary && one_header) header_alone
+      (and_from (keys_differ && no_given_names && one_dictionary) one_header
+      (and_from (keys_differ && no_given_names) one_dictionary
+      (and_from keys_differ no_given_names (once_differ same_text same_sound same_self key_of format.attribute (λ k. refl) is_key ds f.0)
+      (not_from_false (has same_text given_names_key (keys ds)) (false_from_ne_true (has same_text given_names_key (keys ds)) (λ q. f.1 (key_stands given_names_key ds q)))))
+      (is_once format.dictionary is_dictionary refl (λ d. (bare d).dictionary) ds f.2))
+      (is_once format.header is_header refl (λ d. (bare d).header) ds f.3))
+      (go (nat_lt 0 (count is_header ds)) refl)
+    where
+      go : (x : Bool) → nat_lt 0 (count is_header ds) ≡ x → (not x || not (has same_text sym_name_key (keys ds))) ≡ true
+      go true x =
+          not_from_false (has same_text sym_name_key (keys ds)) (false_from_ne_true (has same_text sym_name_key (keys ds)) (λ q. f.4 (some_counted format.header is_header refl (λ d. (bare d).header) ds x) (key_stands sym_name_key ds q)))
+      go false x = refl
 
 -- ---- C7
 writes_regions : (d : Directive) → WritesRegions d → is_any_region d ≡ true
