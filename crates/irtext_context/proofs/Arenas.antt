@@ -104,21 +104,6 @@ module _ {X : Type 0} where
         len = length-set a.slots.items p.index (Full p.generation (filled o w));
       }
 
-  -- the objects of an arena after one changed are as old as before
-  pub older_edited : {K : Type 0} (mark : ℕ) (a b : Arena X) (p : Ptr K) (o x : Object X) → AreOlder mark a → get a p ≡ Some o → x.born ≡ o.born → Updates a b p (Some x) → AreOlder mark b
-  older_edited {K} mark a b p o x h e same u i g y f = go (ptr_or q p)
-    where
-      q : Ptr K
-      q = record { index = i; generation = g; of = p.of }
-
-      go : (q ≡ p) ⊎ (q ≢ p) → y.born < mark
-      go (inl s) =
-          let k : Some x ≡ Some y = sym u.changed ∙ sym (ap (get b) s) ∙ f in
-          let l : x ≡ y = cc in
-          let m : o.born < mark = h p.index p.generation o e in
-          subst (λ n. n < mark) (sym same ∙ ap (λ (z : Object X). z.born) l) m
-      go (inr n) = h i g y (sym (u.others q n) ∙ f)
-
   -- the objects of an arena after one came are older than a later mark
   pub older_inserted : {K : Type 0} (mark next : ℕ) (a b : Arena X) (p : Ptr K) (x : Object X) → AreOlder mark a → mark ≤ next → x.born < next → Updates a b p (Some x) → AreOlder next b
   older_inserted {K} mark next a b p x h up less u i g y f = go (ptr_or q p)
@@ -132,6 +117,10 @@ module _ {X : Type 0} where
           let l : x ≡ y = cc in
           subst (λ n. n < next) (ap (λ (z : Object X). z.born) l) less
       go (inr n) = let m : y.born < mark = h i g y (sym (u.others q n) ∙ f) in omega (arith, m, up)
+
+  -- the objects of an arena after one changed are as old as before
+  pub older_edited : {K : Type 0} (mark : ℕ) (a b : Arena X) (p : Ptr K) (o x : Object X) → AreOlder mark a → get a p ≡ Some o → x.born ≡ o.born → Updates a b p (Some x) → AreOlder mark b
+  older_edited mark a b p o x h e same u = older_inserted mark mark a b p x h (omega arith) (subst (λ n. n < mark) (sym same) (h p.index p.generation o e)) u
 
   pub older_later : (mark next : ℕ) (a : Arena X) → AreOlder mark a → mark ≤ next → AreOlder next a
   older_later mark next a h up i g y f = let m : y.born < mark = h i g y f in omega (arith, m, up)

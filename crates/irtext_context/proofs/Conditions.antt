@@ -286,66 +286,71 @@ says_c1 ds f = all_from word_prints ds prints
     prints i _ h = refl
 
 -- ---- what tests of directives say
-is_operand : (d : Directive) (k : ℕ) → place_of part.Operand d ≡ Some k → d ≡ format.operand k
-is_operand (format.operand i) k e = ap format.operand (some_inside i k e)
-is_operand _ k e = absurd (cc)
+none_inside : {X Y : Type 0} (x : X) → None ≡ Some x → Y
+none_inside x e = absurd (cc)
 
-is_successor : (d : Directive) (k : ℕ) → place_of part.Successor d ≡ Some k → d ≡ format.successor k
-is_successor (format.successor i) k e = ap format.successor (some_inside i k e)
-is_successor _ k e = absurd (cc)
+-- a directive that names a place is the one with that place
+record Placed (d : Directive) (k : ℕ) : Type 0 where
+  operand : place_of part.Operand d ≡ Some k → d ≡ format.operand k
+  successor : place_of part.Successor d ≡ Some k → d ≡ format.successor k
+  result_type : place_of part.ResultType d ≡ Some k → d ≡ format.result_type k
 
-is_type : (d : Directive) (k : ℕ) → place_of part.ResultType d ≡ Some k → d ≡ format.result_type k
-is_type (format.result_type i) k e = ap format.result_type (some_inside i k e)
-is_type _ k e = absurd (cc)
+placed : (d : Directive) (k : ℕ) → Placed d k
+placed (format.operand i) k = record { operand = λ e. ap format.operand (some_inside i k e); successor = none_inside k; result_type = none_inside k }
+placed (format.successor i) k = record { operand = none_inside k; successor = λ e. ap format.successor (some_inside i k e); result_type = none_inside k }
+placed (format.result_type i) k = record { operand = none_inside k; successor = none_inside k; result_type = λ e. ap format.result_type (some_inside i k e) }
+placed _ k = record { operand = none_inside k; successor = none_inside k; result_type = none_inside k }
 
 is_key : (d : Directive) (k : Text) → key_of d ≡ Some k → d ≡ format.attribute k
 is_key (format.attribute i) k e = ap format.attribute (some_inside i k e)
 is_key _ k e = absurd (cc)
 
-the_operands : (d : Directive) → is_operands d ≡ true → d ≡ format.operands
-the_operands format.operands e = refl
-the_operands _ e = absurd (true≢false (sym e))
+not_so : {X : Type 0} → false ≡ true → X
+not_so e = absurd (true≢false (sym e))
 
-the_successors : (d : Directive) → is_successors d ≡ true → d ≡ format.successors
-the_successors format.successors e = refl
-the_successors _ e = absurd (true≢false (sym e))
+-- a directive that stands for all of a kind, for the dictionary or for the header is that one
+record Bare (d : Directive) : Type 0 where
+  operands : is_operands d ≡ true → d ≡ format.operands
+  successors : is_successors d ≡ true → d ≡ format.successors
+  regions : is_regions d ≡ true → d ≡ format.regions
+  dictionary : is_dictionary d ≡ true → d ≡ format.dictionary
+  header : is_header d ≡ true → d ≡ format.header
 
-the_regions : (d : Directive) → is_regions d ≡ true → d ≡ format.regions
-the_regions format.regions e = refl
-the_regions _ e = absurd (true≢false (sym e))
-
-the_dictionary : (d : Directive) → is_dictionary d ≡ true → d ≡ format.dictionary
-the_dictionary format.dictionary e = refl
-the_dictionary _ e = absurd (true≢false (sym e))
-
-the_header : (d : Directive) → is_header d ≡ true → d ≡ format.header
-the_header format.header e = refl
-the_header _ e = absurd (true≢false (sym e))
+bare : (d : Directive) → Bare d
+bare format.operands = record { operands = λ e. refl; successors = not_so; regions = not_so; dictionary = not_so; header = not_so }
+bare format.successors = record { operands = not_so; successors = λ e. refl; regions = not_so; dictionary = not_so; header = not_so }
+bare format.regions = record { operands = not_so; successors = not_so; regions = λ e. refl; dictionary = not_so; header = not_so }
+bare format.dictionary = record { operands = not_so; successors = not_so; regions = not_so; dictionary = λ e. refl; header = not_so }
+bare format.header = record { operands = not_so; successors = not_so; regions = not_so; dictionary = not_so; header = λ e. refl }
+bare _ = record { operands = not_so; successors = not_so; regions = not_so; dictionary = not_so; header = not_so }
 
 -- ---- C2 to C4
+-- the directives of one kind are places, and one directive stands for all of them once at most
+module _ (named : Directive → Option ℕ) (single : ℕ → Directive) (sees : (k : ℕ) → named (single k) ≡ Some k) (is_single : (d : Directive) (k : ℕ) → named d ≡ Some k → d ≡ single k)
+    (all : Directive) (test : Directive → Bool) (tested : test all ≡ true) (is_all : (d : Directive) → test d ≡ true → d ≡ all) (ds : List Directive) where
+  places_say : (are_places (filter_map named ds) && nat_lt (count test ds) 2) ≡ true → NameAllBelow single ds × StandsOnceAtMost all ds
+  places_say e = let p = and_parts (are_places (filter_map named ds)) (nat_lt (count test ds) 2) e in (name_places named single sees is_single ds p.0, once all test tested is_all ds p.1)
+
+  say_places : NameAllBelow single ds × StandsOnceAtMost all ds → (are_places (filter_map named ds) && nat_lt (count test ds) 2) ≡ true
+  say_places f = and_from (are_places (filter_map named ds)) (nat_lt (count test ds) 2) (places_named named single sees is_single ds f.0) (is_once all test tested is_all ds f.1)
+
 pub c2_says : (ds : List Directive) → c2 ds ≡ true → C2 ds
-c2_says ds e =
-    let p = and_parts (are_places (operand_places ds)) (nat_lt (count is_operands ds) 2) e in
-    (name_places (place_of part.Operand) format.operand (λ k. refl) is_operand ds p.0, once format.operands is_operands refl the_operands ds p.1)
+c2_says ds e = places_say (place_of part.Operand) format.operand (λ k. refl) (λ d k. (placed d k).operand) format.operands is_operands refl (λ d. (bare d).operands) ds e
 
 pub says_c2 : (ds : List Directive) → C2 ds → c2 ds ≡ true
-says_c2 ds f =
-    and_from (are_places (operand_places ds)) (nat_lt (count is_operands ds) 2) (places_named (place_of part.Operand) format.operand (λ k. refl) is_operand ds f.0) (is_once format.operands is_operands refl the_operands ds f.1)
+says_c2 ds f = say_places (place_of part.Operand) format.operand (λ k. refl) (λ d k. (placed d k).operand) format.operands is_operands refl (λ d. (bare d).operands) ds f
 
 pub c3_says : (ds : List Directive) → c3 ds ≡ true → C3 ds
-c3_says ds e =
-    let p = and_parts (are_places (successor_places ds)) (nat_lt (count is_successors ds) 2) e in
-    (name_places (place_of part.Successor) format.successor (λ k. refl) is_successor ds p.0, once format.successors is_successors refl the_successors ds p.1)
+c3_says ds e = places_say (place_of part.Successor) format.successor (λ k. refl) (λ d k. (placed d k).successor) format.successors is_successors refl (λ d. (bare d).successors) ds e
 
 pub says_c3 : (ds : List Directive) → C3 ds → c3 ds ≡ true
-says_c3 ds f =
-    and_from (are_places (successor_places ds)) (nat_lt (count is_successors ds) 2) (places_named (place_of part.Successor) format.successor (λ k. refl) is_successor ds f.0) (is_once format.successors is_successors refl the_successors ds f.1)
+says_c3 ds f = say_places (place_of part.Successor) format.successor (λ k. refl) (λ d k. (placed d k).successor) format.successors is_successors refl (λ d. (bare d).successors) ds f
 
 pub c4_says : (ds : List Directive) → c4 ds ≡ true → C4 ds
-c4_says ds e = name_places (place_of part.ResultType) format.result_type (λ k. refl) is_type ds e
+c4_says ds e = name_places (place_of part.ResultType) format.result_type (λ k. refl) (λ d k. (placed d k).result_type) ds e
 
 pub says_c4 : (ds : List Directive) → C4 ds → c4 ds ≡ true
-says_c4 ds f = places_named (place_of part.ResultType) format.result_type (λ k. refl) is_type ds f
+says_c4 ds f = places_named (place_of part.ResultType) format.result_type (λ k. refl) (λ d k. (placed d k).result_type) ds f
 
 -- ---- C5
 ascends : (n : ℕ) (ks : List ℕ) → ascend n ks ≡ true → (j k : ℕ) → slice_get ks j ≡ Some k → k ≡ n + j
@@ -368,18 +373,18 @@ c5_says ds e =
     let p = and_parts (ascend 0 (region_places ds) && nat_lt (count is_regions ds) 2) (none_behind is_regions is_region ds) e in
     let q = and_parts (ascend 0 (region_places ds)) (nat_lt (count is_regions ds) 2) p.0 in (
       (λ j k h. omega (arith, ascends 0 (region_places ds) q.0 j k h)),
-      once format.regions is_regions refl the_regions ds q.1,
+      once format.regions is_regions refl (λ d. (bare d).regions) ds q.1,
       (λ i j k h m l. none_at is_regions is_region ds p.1 i j format.regions (format.region k) h m l refl refl),
     )
 
 pub says_c5 : (ds : List Directive) → C5 ds → c5 ds ≡ true
 says_c5 ds f =
     and_from (ascend 0 (region_places ds) && nat_lt (count is_regions ds) 2) (none_behind is_regions is_region ds)
-    (and_from (ascend 0 (region_places ds)) (nat_lt (count is_regions ds) 2) (ascending 0 (region_places ds) (λ j k h. omega (arith, f.0 j k h))) (is_once format.regions is_regions refl the_regions ds f.1))
+    (and_from (ascend 0 (region_places ds)) (nat_lt (count is_regions ds) 2) (ascending 0 (region_places ds) (λ j k h. omega (arith, f.0 j k h))) (is_once format.regions is_regions refl (λ d. (bare d).regions) ds f.1))
     (at_none is_regions is_region ds
     (λ i j d e h k l p q.
     let r = region_is e q in
-    f.2 i j r.0 (subst (λ x. StandsAt x ds i) (the_regions d p) h) (subst (λ x. StandsAt x ds j) r.1 k) l))
+    f.2 i j r.0 (subst (λ x. StandsAt x ds i) ((bare d).regions p) h) (subst (λ x. StandsAt x ds j) r.1 k) l))
 
 -- ---- C6
 same_sound : (s t : Text) → same_text s t ≡ true → s ≡ t
@@ -398,47 +403,54 @@ key_stands k ds e = has_stands same_text same_sound same_self key_of format.attr
 stands_key : (k : Text) (ds : List Directive) → Stands (format.attribute k) ds → has same_text k (keys ds) ≡ true
 stands_key k ds s = stands_has same_text same_sound same_self key_of format.attribute (λ k. refl) is_key k ds s.0 s.1
 
-pub c6_says : (ds : List Directive) → c6 ds ≡ true → C6 ds
-c6_says ds e =
-    let a = distinct same_text (keys ds) in
-    let b = not (has same_text given_names_key (keys ds)) in
-    let m = nat_lt (count is_dictionary ds) 2 in
-    let n = nat_lt (count is_header ds) 2 in
-    let o = not (nat_lt 0 (count is_header ds)) || not (has same_text sym_name_key (keys ds)) in
-    let p = and_parts (a && b && m && n) o e in
-    let q = and_parts (a && b && m) n p.0 in
-    let r = and_parts (a && b) m q.0 in
-    let t = and_parts a b r.0 in (
-      (λ k. differ_once same_text same_sound same_self key_of format.attribute (λ k. refl) is_key ds t.0 k),
-      (λ s. not_both (has same_text given_names_key (keys ds)) (stands_key given_names_key ds s) t.1),
-      once format.dictionary is_dictionary refl the_dictionary ds r.1,
-      once format.header is_header refl the_header ds q.1,
-      (λ h s.
-          ⊎_elim (λ (f : not (nat_lt 0 (count is_header ds)) ≡ true). not_both (nat_lt 0 (count is_header ds)) (counted_some format.header is_header refl the_header ds h) f)
-          (λ (f : not (has same_text sym_name_key (keys ds)) ≡ true). not_both (has same_text sym_name_key (keys ds)) (stands_key sym_name_key ds s) f)
-          (or_cases (not (nat_lt 0 (count is_header ds))) (not (has same_text sym_name_key (keys ds))) p.1)),
-    )
+module _ (ds : List Directive) where
+  -- the five tests of C6, in their order
+  abbrev keys_differ : Bool
+  keys_differ = distinct same_text (keys ds)
 
-pub says_c6 : (ds : List Directive) → C6 ds → c6 ds ≡ true
-says_c6 ds f =
-    let a = distinct same_text (keys ds) in
-    let b = not (has same_text given_names_key (keys ds)) in
-    let m = nat_lt (count is_dictionary ds) 2 in
-    let n = nat_lt (count is_header ds) 2 in
-    let o = not (nat_lt 0 (count is_header ds)) || not (has same_text sym_name_key (keys ds)) in
-    and_from (a && b && m && n) o
-    (and_from (a && b && m) n
-    (and_from (a && b) m
-    (and_from a b (once_differ same_text same_sound same_self key_of format.attribute (λ k. refl) is_key ds f.0)
-    (not_from_false (has same_text given_names_key (keys ds)) (false_from_ne_true (has same_text given_names_key (keys ds)) (λ q. f.1 (key_stands given_names_key ds q)))))
-    (is_once format.dictionary is_dictionary refl the_dictionary ds f.2))
-    (is_once format.header is_header refl the_header ds f.3))
-    (go (nat_lt 0 (count is_header ds)) refl)
-  where
-    go : (x : Bool) → nat_lt 0 (count is_header ds) ≡ x → (not x || not (has same_text sym_name_key (keys ds))) ≡ true
-    go true x =
-        not_from_false (has same_text sym_name_key (keys ds)) (false_from_ne_true (has same_text sym_name_key (keys ds)) (λ q. f.4 (some_counted format.header is_header refl the_header ds x) (key_stands sym_name_key ds q)))
-    go false x = refl
+  abbrev no_given_names : Bool
+  no_given_names = not (has same_text given_names_key (keys ds))
+
+  abbrev one_dictionary : Bool
+  one_dictionary = nat_lt (count is_dictionary ds) 2
+
+  abbrev one_header : Bool
+  one_header = nat_lt (count is_header ds) 2
+
+  abbrev header_alone : Bool
+  header_alone = not (nat_lt 0 (count is_header ds)) || not (has same_text sym_name_key (keys ds))
+
+  pub c6_says : c6 ds ≡ true → C6 ds
+  c6_says e =
+      let p = and_parts (keys_differ && no_given_names && one_dictionary && one_header) header_alone e in
+      let q = and_parts (keys_differ && no_given_names && one_dictionary) one_header p.0 in
+      let r = and_parts (keys_differ && no_given_names) one_dictionary q.0 in
+      let t = and_parts keys_differ no_given_names r.0 in (
+        (λ k. differ_once same_text same_sound same_self key_of format.attribute (λ k. refl) is_key ds t.0 k),
+        (λ s. not_both (has same_text given_names_key (keys ds)) (stands_key given_names_key ds s) t.1),
+        once format.dictionary is_dictionary refl (λ d. (bare d).dictionary) ds r.1,
+        once format.header is_header refl (λ d. (bare d).header) ds q.1,
+        (λ h s.
+            ⊎_elim (λ (f : not (nat_lt 0 (count is_header ds)) ≡ true). not_both (nat_lt 0 (count is_header ds)) (counted_some format.header is_header refl (λ d. (bare d).header) ds h) f)
+            (λ (f : not (has same_text sym_name_key (keys ds)) ≡ true). not_both (has same_text sym_name_key (keys ds)) (stands_key sym_name_key ds s) f)
+            (or_cases (not (nat_lt 0 (count is_header ds))) (not (has same_text sym_name_key (keys ds))) p.1)),
+      )
+
+  pub says_c6 : C6 ds → c6 ds ≡ true
+  says_c6 f =
+      and_from (keys_differ && no_given_names && one_dictionary && one_header) header_alone
+      (and_from (keys_differ && no_given_names && one_dictionary) one_header
+      (and_from (keys_differ && no_given_names) one_dictionary
+      (and_from keys_differ no_given_names (once_differ same_text same_sound same_self key_of format.attribute (λ k. refl) is_key ds f.0)
+      (not_from_false (has same_text given_names_key (keys ds)) (false_from_ne_true (has same_text given_names_key (keys ds)) (λ q. f.1 (key_stands given_names_key ds q)))))
+      (is_once format.dictionary is_dictionary refl (λ d. (bare d).dictionary) ds f.2))
+      (is_once format.header is_header refl (λ d. (bare d).header) ds f.3))
+      (go (nat_lt 0 (count is_header ds)) refl)
+    where
+      go : (x : Bool) → nat_lt 0 (count is_header ds) ≡ x → (not x || not (has same_text sym_name_key (keys ds))) ≡ true
+      go true x =
+          not_from_false (has same_text sym_name_key (keys ds)) (false_from_ne_true (has same_text sym_name_key (keys ds)) (λ q. f.4 (some_counted format.header is_header refl (λ d. (bare d).header) ds x) (key_stands sym_name_key ds q)))
+      go false x = refl
 
 -- ---- C7
 writes_regions : (d : Directive) → WritesRegions d → is_any_region d ≡ true

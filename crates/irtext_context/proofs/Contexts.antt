@@ -72,38 +72,26 @@ module _ {T A : Type 0} where
       dialects = ap (λ (c : ContextView T A). c.dialects) e;
     }
 
+    -- what is older stands, where nothing made was forgotten, and neither paths nor dialects changed
+    keeps : ((p : Ptr Operation) → before mark new.operations p ≡ before mark old.operations p) → ((p : Ptr Region) → before mark new.regions p ≡ before mark old.regions p) → old.made ≤ new.made → new.paths ≡ old.paths → new.dialects ≡ old.dialects → KeepsOlder mark old new
+    keeps o r m p d = record { operations = o; regions = r; count = m; paths = same-paths p; dialects = d }
+
     pub rolls_back-keeps : (at : ℕ) → mark ≤ at → RollsBack at old new → KeepsOlder mark old new
-    rolls_back-keeps at up r = record {
-      operations = returned-keeps mark at old.operations new.operations up r.operations;
-      regions = returned-keeps mark at old.regions new.regions up r.regions;
-      count = let m = r.made in omega (arith, m);
-      paths = same-paths r.paths;
-      dialects = r.dialects;
-    }
+    rolls_back-keeps at up r =
+        let m = r.made in
+        keeps (returned-keeps mark at old.operations new.operations up r.operations) (returned-keeps mark at old.regions new.regions up r.regions) (omega (arith, m)) r.paths r.dialects
 
     pub makes-keeps : (p : Ptr Operation) (view : OperationView T A) → mark ≤ old.made → MakesOperation old new p view → KeepsOlder mark old new
-    makes-keeps p view up m = record {
-      operations = inserted-keeps mark old.operations new.operations p _ up m.operations;
-      regions = λ q. ap (λ s. before mark s q) m.regions;
-      count = let n = m.made in omega (arith, n);
-      paths = same-paths m.paths;
-      dialects = m.dialects;
-    }
+    makes-keeps p view up m =
+        let n = m.made in
+        keeps (inserted-keeps mark old.operations new.operations p _ up m.operations) (λ q. ap (λ s. before mark s q) m.regions) (omega (arith, n)) m.paths m.dialects
 
     pub adds-keeps : (op : Ptr Operation) (r : Ptr Region) → mark ≤ old.made → before mark old.operations op ≡ None → AddsRegion old new op r → KeepsOlder mark old new
-    adds-keeps op r up none a = record {
-      operations = edited-keeps mark old.operations new.operations op _ none a.operations;
-      regions = inserted-keeps mark old.regions new.regions r _ up a.regions;
-      count = let n = a.made in omega (arith, n);
-      paths = same-paths a.paths;
-      dialects = a.dialects;
-    }
+    adds-keeps op r up none a =
+        let n = a.made in
+        keeps (edited-keeps mark old.operations new.operations op _ none a.operations) (inserted-keeps mark old.regions new.regions r _ up a.regions) (omega (arith, n)) a.paths a.dialects
 
     pub edits-keeps : (p : Ptr Operation) (change : OperationView T A → OperationView T A) → before mark old.operations p ≡ None → EditsOperation old new p change → KeepsOlder mark old new
-    edits-keeps p change none e = record {
-      operations = edited-keeps mark old.operations new.operations p change none e.operations;
-      regions = λ q. ap (λ s. before mark s q) e.regions;
-      count = let n = e.made in omega (arith, n);
-      paths = same-paths e.paths;
-      dialects = e.dialects;
-    }
+    edits-keeps p change none e =
+        let n = e.made in
+        keeps (edited-keeps mark old.operations new.operations p change none e.operations) (λ q. ap (λ s. before mark s q) e.regions) (omega (arith, n)) e.paths e.dialects

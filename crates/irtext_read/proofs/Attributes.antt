@@ -2,7 +2,7 @@
 use Rattle.std.proofs.Common.{◌≡◌, ℕ, ◌<◌, Bool, true, false, cond, Option, Some, None, Result, Ok, Err, [], ◌∷◌, ◌++◌, codes, List, refl, sym, ◌∙◌, ap, subst, arith}
 use Rattle.std.proofs.lemmas.Bool.Decides.{nat_tests}
 use Rattle.std.proofs.lemmas.Slice.Eq.{bytes_eq-Decides}
-use Rattle.std.specs.Str.{encode_utf8_all}
+use Rattle.std.specs.Str.{bytes_eq, encode_utf8_all}
 use Rattle.irtext_base.specs.Text.{Text, begins, front, after, begins_word, in_word, in_dotted}
 use Rattle.irtext_base.specs.Reading.{the}
 use Rattle.irtext_base.specs.Stream.{first_of}
@@ -95,8 +95,12 @@ module _ {S : Type 0} (l : Lens S) where
   Dotted old mid = Takes l.view l.at (front in_dotted (l.view old).rest) (after in_dotted (l.view old).rest) old mid
 
   -- the text since then is that word
-  pub dotted_word : (old mid : S) (place : Place) (bytes : List ℕ) → Dotted old mid → StandsBehind place (l.view old).passed → ((passed taken : Text) → passed ++ taken ≡ (l.view mid).passed → StandsBehind place passed → bytes ≡ encode_utf8_all taken) → bytes ≡ front in_dotted (l.view old).rest
+  dotted_word : (old mid : S) (place : Place) (bytes : List ℕ) → Dotted old mid → StandsBehind place (l.view old).passed → ((passed taken : Text) → passed ++ taken ≡ (l.view mid).passed → StandsBehind place passed → bytes ≡ encode_utf8_all taken) → bytes ≡ front in_dotted (l.view old).rest
   dotted_word old mid place bytes k p h = taken_since l.view l.at l.view_at l.at_at old mid place bytes _ _ k p h ∙ encodes-front in_dotted in_dotted_ascii (l.view old).rest
+
+  -- what a test of the text since then says of the word
+  pub leads_by : (word : Text) (old mid : S) (place : Place) (bytes : List ℕ) (b v : Bool) → Dotted old mid → StandsBehind place (l.view old).passed → ((passed taken : Text) → passed ++ taken ≡ (l.view mid).passed → StandsBehind place passed → bytes ≡ encode_utf8_all taken) → b ≡ bytes_eq bytes word → b ≡ v → leads word (l.view old).rest ≡ v
+  leads_by word old mid place bytes b v k p h e t = sym (ap (λ z. bytes_eq z word) (dotted_word old mid place bytes k p h)) ∙ (sym e ∙ t)
 
   -- a word that leads is the one that was passed
   pub led_by : (word : Text) (old mid : S) → leads word (l.view old).rest ≡ true → Dotted old mid → Takes l.view l.at word (after in_dotted (l.view old).rest) old mid

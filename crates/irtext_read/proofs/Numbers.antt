@@ -9,8 +9,9 @@ use Rattle.std.specs.Str.Parse.{digits_value}
 use Rattle.irtext_base.specs.Text.{Text, begins, front, after}
 use Rattle.irtext_base.specs.Reading.{the}
 use Rattle.irtext_base.specs.Stream.{StreamView}
-use Rattle.irtext_base.specs.Answers.{Outcome, Read, Missing, Bad, Answers, demanded, mapped, unless_failed}
+use Rattle.irtext_base.specs.Answers.{Outcome, Read, Missing, Bad, Answers, DemandsOf, demanded, mapped, unless_failed}
 use Rattle.irtext_base.specs.declared.parsable.fault.ParseFault.{ParseFault}
+use Rattle.irtext_base.proofs.Compose.{answers_demanded}
 use Rattle.irtext_read.specs.Digits.{base, fitting, appended, value_in}
 use Rattle.irtext_read.specs.Integers.{unsigned_below, signed_below, integer_by, within, ranged, no_digit_behind, numeral_at, signed_integer, int_at}
 use Rattle.irtext_read.specs.MustRead.{MustRead}
@@ -132,12 +133,16 @@ module _ {S A : Type 0} (view : S → StreamView) (at : S → StreamView → S) 
   as_number (Missing cause) old new (Err fault) (inr h) = inr h
   as_number (Bad cause upto) old new (Err fault) (inr h) = inr h
 
-  -- an unsigned number of 64 bits that must stand there is the grammar's
-  pub number_must : (old new : S) (r : Result ℕ (ParseFault A)) → Answers view at pos (demanded (unless_failed (view old).failed (int_at (unsigned_below 64) (view old).rest))) old r new → MustRead view at (λ n. n) number_at old r new
-  number_must old new r h =
-      let e = ap (λ o. demanded (unless_failed (view old).failed o)) (number_is (view old).rest) ∙ mapped_unless (view old).failed (number_at (view old).rest) in
-      record { answers = as_number (demanded (unless_failed (view old).failed (number_at (view old).rest))) old new r (rw e at h) }
+  module _ (view_at : (s : S) (v : StreamView) → view (at s v) ≡ v) (at_at : (s : S) (v w : StreamView) → at (at s v) w ≡ at s w) (old mid new : S) where
+    -- an unsigned number of 64 bits that must stand there is the grammar's
+    pub number_must : (a r : Result ℕ (ParseFault A)) → Answers view at pos (unless_failed (view old).failed (int_at (unsigned_below 64) (view old).rest)) old a mid → DemandsOf view at a mid r new → MustRead view at (λ n. n) number_at old r new
+    number_must a r h d =
+        let e = ap (λ o. demanded (unless_failed (view old).failed o)) (number_is (view old).rest) ∙ mapped_unless (view old).failed (number_at (view old).rest) in
+        let k = answers_demanded view at view_at at_at pos (unless_failed (view old).failed (int_at (unsigned_below 64) (view old).rest)) old mid new a r h d in
+        record { answers = as_number (demanded (unless_failed (view old).failed (number_at (view old).rest))) old new r (rw e at k) }
 
-  -- a signed number of 32 bits that must stand there is the grammar's
-  pub integer_must : (old new : S) (r : Result ℤ (ParseFault A)) → Answers view at (λ z. z) (demanded (unless_failed (view old).failed (int_at (signed_below 32) (view old).rest))) old r new → MustRead view at (λ z. z) integer_at old r new
-  integer_must old new r h = record { answers = rw (integer_is (view old).rest) at h }
+    -- a signed number of 32 bits that must stand there is the grammar's
+    pub integer_must : (a r : Result ℤ (ParseFault A)) → Answers view at (λ z. z) (unless_failed (view old).failed (int_at (signed_below 32) (view old).rest)) old a mid → DemandsOf view at a mid r new → MustRead view at (λ z. z) integer_at old r new
+    integer_must a r h d =
+        let k = answers_demanded view at view_at at_at (λ z. z) (unless_failed (view old).failed (int_at (signed_below 32) (view old).rest)) old mid new a r h d in
+        record { answers = rw (integer_is (view old).rest) at k }

@@ -8,14 +8,17 @@ use Rattle.std.specs.Str.{encode_utf8_all}
 use Rattle.std.specs.Str.Parse.{digits_value}
 use Rattle.irtext_base.specs.Text.{Text, begins, front, after}
 use Rattle.irtext_base.specs.Reading.{the}
-use Rattle.irtext_base.specs.Stream.{StreamView, first_of}
+use Rattle.irtext_base.specs.Stream.{first_of}
+use Rattle.irtext_base.specs.Places.{StandsBehind}
 use Rattle.irtext_base.specs.Faults.{Fault, NumberRange, Unexpected, Word, AHexadecimalDigit}
 use Rattle.irtext_base.specs.Answers.{Outcome, Read, Missing, Bad, Takes, Starves, StarvesHere, FailsBehind, Refuses, Gives, NeedsNoMemory, unless_failed, prefixed, followed}
 use Rattle.irtext_base.specs.declared.parsable.fault.ParseFault.{ParseFault}
+use Rattle.irtext_base.specs.declared.parsable.position.Place.{Place}
 use Rattle.irtext_base.proofs.Compose.{seen_after, takes_more, starves_behind, refuses_before}
 use Rattle.irtext_read.specs.Tokens.{sign_of, after_sign, fitting, text_at, spelled_at}
 use Rattle.irtext_read.specs.Integers.{within, within_of, signed_integer, hexadecimal_integer, signed_text, sign_text, no_digit_behind, sign_at, before_hexadecimal, hexadecimal_mark_at, ranged, numeral_at}
 use Rattle.irtext_read.proofs.Numbers.{encodes-sign}
+use Rattle.irtext_read.proofs.Steps.{Lens}
 use Rattle.irtext_read.proofs.Words.{encodes-front, encodes-front_digits}
 
 is_hexdigit_ascii : (c : ℕ) → is_ascii_hexdigit c ≡ true → c < 128
@@ -123,84 +126,105 @@ mark_at-encodes text u taken rest e =
     let t : taken ≡ codes "0x" = mark_taken (text_at (codes "0x") text) (codes "0x") (λ v t r q. word_taken (codes "0x") (codes "0x") text v t r q) u taken rest e in
     subst (λ z. encode_utf8_all z ≡ z) (sym t) mark_encodes
 
-module _ {S : Type 0} (view : S → StreamView) (at : S → StreamView → S) where
-  -- what stands in front of the digits was read
+-- where what stands in front of the digits was read, the number is what is made of them
+outcome_is : {L X : Type 0} (digit : ℕ → Bool) (make : L → Text → Option X) (failed : Bool) (o : Outcome L) (lead : L) (taken rest : Text) (v : Option X) → failed ≡ false → o ≡ Read lead taken rest → make lead (front digit rest) ≡ v → unless_failed failed (numeral_at digit make o) ≡ ranged (taken ++ front digit rest) (after digit rest) v
+outcome_is digit make failed o lead taken rest v f e q = rw (f, e) (ap (ranged (taken ++ front digit rest) (after digit rest)) q)
+
+module _ {S : Type 0} (l : Lens S) where
+  -- what stands in front of the digits was read, on a stream that had not failed
   pub record Led {L : Type 0} (failed : Bool) (o : Outcome L) (lead : L) (old mid : S) : Type 0 where
     pub not_failed : failed ≡ false
     pub taken : Text
     pub rest : Text
     pub is : o ≡ Read lead taken rest
-    pub takes : Takes view at taken rest old mid
+    pub takes : Takes l.view l.at taken rest old mid
 
-  pub led : {L : Type 0} (failed : Bool) (o : Outcome L) (lead : L) (old mid : S) → Gives view at (unless_failed failed o) old lead mid → Led failed o lead old mid
+  led : {L : Type 0} (failed : Bool) (o : Outcome L) (lead : L) (old mid : S) → Gives l.view l.at (unless_failed failed o) old lead mid → Led failed o lead old mid
   led true o lead old mid h = absurd h
   led false (Read x t r) lead old mid h = record { not_failed = refl; taken = t; rest = r; is = ap (λ z. Read z t r) (sym h.0); takes = h.1 }
   led false (Missing cause) lead old mid h = absurd h
   led false (Bad cause upto) lead old mid h = absurd h
 
-  -- where that is refused, the number is
-  pub lead_refused : {L X A : Type 0} (digit : ℕ → Bool) (make : L → Text → Option X) (failed : Bool) (o : Outcome L) (old new : S) (fault : ParseFault A) → Starves view at old fault new ⊎ Refuses view at (unless_failed failed o) old fault new → Starves view at old fault new ⊎ Refuses view at (unless_failed failed (numeral_at digit make o)) old fault new
-  lead_refused digit make true o old new fault h = h
-  lead_refused digit make false o old new fault (inl s) = inl s
-  lead_refused digit make false (Read x t r) old new fault (inr e) = absurd e
-  lead_refused digit make false (Missing cause) old new fault (inr e) = inr e
-  lead_refused digit make false (Bad cause upto) old new fault (inr e) = inr e
+  -- what stands in front of the digits was read, and the digits were taken
+  pub record Numbered {L : Type 0} (digit : ℕ → Bool) (o : Outcome L) (lead : L) (old mid new : S) : Type 0 where
+    pub led : Led (l.view old).failed o lead old mid
+    pub digits : Takes l.view l.at (front digit (l.view mid).rest) (after digit (l.view mid).rest) mid new
 
-  module _ (view_at : (s : S) (v : StreamView) → view (at s v) ≡ v) (at_at : (s : S) (v w : StreamView) → at (at s v) w ≡ at s w) where
-    module _ {L : Type 0} (digit : ℕ → Bool) (failed : Bool) (o : Outcome L) (lead : L) (old mid new : S) (l : Led failed o lead old mid) (d : Takes view at (front digit (view mid).rest) (after digit (view mid).rest) mid new) where
-      -- the text of the number
-      abbrev pub number_text : Text
-      number_text = l.taken ++ front digit l.rest
+  -- that reader's answer and the digits' together
+  pub numbered : {L : Type 0} (digit : ℕ → Bool) (o : Outcome L) (lead : L) (old mid new : S) → Gives l.view l.at (unless_failed (l.view old).failed o) old lead mid → Takes l.view l.at (front digit (l.view mid).rest) (after digit (l.view mid).rest) mid new → Numbered digit o lead old mid new
+  numbered digit o lead old mid new h d = record { led = led (l.view old).failed o lead old mid h; digits = d }
 
-      left_is : (view mid).rest ≡ l.rest
-      left_is = ap (λ v. v.rest) (seen_after view at view_at at_at old mid l.taken l.rest l.takes)
+  refused : {L X A : Type 0} (digit : ℕ → Bool) (make : L → Text → Option X) (failed : Bool) (o : Outcome L) (old new : S) (fault : ParseFault A) → Starves l.view l.at old fault new ⊎ Refuses l.view l.at (unless_failed failed o) old fault new → Starves l.view l.at old fault new ⊎ Refuses l.view l.at (unless_failed failed (numeral_at digit make o)) old fault new
+  refused digit make true o old new fault h = h
+  refused digit make false o old new fault (inl s) = inl s
+  refused digit make false (Read x t r) old new fault (inr e) = absurd e
+  refused digit make false (Missing cause) old new fault (inr e) = inr e
+  refused digit make false (Bad cause upto) old new fault (inr e) = inr e
 
-      number_taken : Takes view at number_text (after digit l.rest) old new
-      number_taken = takes_more view at view_at at_at old mid new l.taken l.rest (front digit l.rest) (after digit l.rest) l.takes (subst (λ z. Takes view at (front digit z) (after digit z) mid new) left_is d)
+  -- where what stands in front of the digits is refused, the number is
+  pub lead_refused : {L X A : Type 0} (digit : ℕ → Bool) (make : L → Text → Option X) (o : Outcome L) (old new : S) (fault : ParseFault A) → Starves l.view l.at old fault new ⊎ Refuses l.view l.at (unless_failed (l.view old).failed o) old fault new
+      → Starves l.view l.at old fault new ⊎ Refuses l.view l.at (unless_failed (l.view old).failed (numeral_at digit make o)) old fault new
+  lead_refused digit make o old new fault h = refused digit make (l.view old).failed o old new fault h
 
-      -- what was passed since the number began
-      pub number_passed : (view old).passed ++ number_text ≡ (view new).passed
-      number_passed = sym (ap (λ v. v.passed) (seen_after view at view_at at_at old new number_text (after digit l.rest) number_taken))
+  module _ {L : Type 0} {digit : ℕ → Bool} {o : Outcome L} {lead : L} {old mid new : S} (n : Numbered digit o lead old mid new) where
+    -- the text of the number
+    abbrev number_text : Text
+    number_text = n.led.taken ++ front digit n.led.rest
 
-      number_outcome : {X : Type 0} (make : L → Text → Option X) (v : Option X) → make lead (front digit (view mid).rest) ≡ v → unless_failed failed (numeral_at digit make o) ≡ ranged number_text (after digit l.rest) v
-      number_outcome make v e =
-          let q : make lead (front digit l.rest) ≡ v = subst (λ z. make lead (front digit z) ≡ v) left_is e in
-          rw (l.not_failed, l.is) (ap (ranged number_text (after digit l.rest)) q)
+    left_is : (l.view mid).rest ≡ n.led.rest
+    left_is = ap (λ v. v.rest) (seen_after l.view l.at l.view_at l.at_at old mid n.led.taken n.led.rest n.led.takes)
 
-      -- the number is read
-      pub number_read : {X : Type 0} (make : L → Text → Option X) (x : X) → make lead (front digit (view mid).rest) ≡ Some x → Gives view at (unless_failed failed (numeral_at digit make o)) old x new
-      number_read make x e = rw (number_outcome make (Some x) e) (refl, number_taken)
+    number_taken : Takes l.view l.at number_text (after digit n.led.rest) old new
+    number_taken = takes_more l.view l.at l.view_at l.at_at old mid new n.led.taken n.led.rest (front digit n.led.rest) (after digit n.led.rest) n.led.takes (subst (λ z. Takes l.view l.at (front digit z) (after digit z) mid new) left_is n.digits)
 
-      number_encodes : encode_utf8_all l.taken ≡ l.taken → ((text : Text) → encode_utf8_all (front digit text) ≡ front digit text) → encode_utf8_all number_text ≡ number_text
-      number_encodes a b = encodes-append l.taken (front digit l.rest) ∙ rw (a, b l.rest) refl
+    number_passed : (l.view old).passed ++ number_text ≡ (l.view new).passed
+    number_passed = sym (ap (λ v. v.passed) (seen_after l.view l.at l.view_at l.at_at old new number_text (after digit n.led.rest) number_taken))
 
-      -- the number doesn't fit
-      pub number_refused : {X A : Type 0} (make : L → Text → Option X) (last : S) (fault : ParseFault A) → make lead (front digit (view mid).rest) ≡ None → encode_utf8_all l.taken ≡ l.taken → ((text : Text) → encode_utf8_all (front digit text) ≡ front digit text)
-          → (view old).failed ≡ failed → StarvesHere view at new fault last ⊎ FailsBehind view at (NumberRange (encode_utf8_all number_text)) (view old).passed new fault last
-          → Starves view at old fault last ⊎ Refuses view at (unless_failed failed (numeral_at digit make o)) old fault last
-      number_refused make last fault e a b f h =
-          let k = subst (λ z. StarvesHere view at new fault last ⊎ FailsBehind view at (NumberRange z) (view old).passed new fault last) (number_encodes a b) h in
-          rw (number_outcome make None e) (refuses_before view at view_at at_at (NumberRange number_text) old new last number_text (after digit l.rest) fault (f ∙ l.not_failed) number_taken k)
+    -- what was passed since the number began
+    pub number_since : {place : Place} → StandsBehind place (l.view old).passed → (passed taken : Text) × (passed ++ taken ≡ (l.view new).passed) × StandsBehind place passed
+    number_since p = ((l.view old).passed, number_text, number_passed, p)
 
-      -- memory was refused behind the number
-      pub number_starves : {A : Type 0} (last : S) (fault : ParseFault A) → (view old).failed ≡ failed → StarvesHere view at new fault last → Starves view at old fault last
-      number_starves last fault f h = starves_behind view at view_at at_at old new last number_text (after digit l.rest) fault (f ∙ l.not_failed) number_taken h
+    number_outcome : {X : Type 0} (make : L → Text → Option X) (v : Option X) → make lead (front digit (l.view mid).rest) ≡ v → unless_failed (l.view old).failed (numeral_at digit make o) ≡ ranged number_text (after digit n.led.rest) v
+    number_outcome make v e =
+        outcome_is digit make (l.view old).failed o lead n.led.taken n.led.rest v n.led.not_failed n.led.is (subst (λ z. make lead (front digit z) ≡ v) left_is e)
+
+    -- the number is read
+    pub number_read : {X : Type 0} (make : L → Text → Option X) (x : X) → make lead (front digit (l.view mid).rest) ≡ Some x → Gives l.view l.at (unless_failed (l.view old).failed (numeral_at digit make o)) old x new
+    number_read make x e = rw (number_outcome make (Some x) e) (refl, number_taken)
+
+    number_encodes : ((taken rest : Text) → o ≡ Read lead taken rest → encode_utf8_all taken ≡ taken) → ((text : Text) → encode_utf8_all (front digit text) ≡ front digit text) → encode_utf8_all number_text ≡ number_text
+    number_encodes a b = encodes-append n.led.taken (front digit n.led.rest) ∙ rw (a n.led.taken n.led.rest n.led.is, b n.led.rest) refl
+
+    -- the number doesn't fit
+    pub number_refused : {X A : Type 0} {place : Place} (make : L → Text → Option X) (last : S) (fault : ParseFault A) → make lead (front digit (l.view mid).rest) ≡ None → ((taken rest : Text) → o ≡ Read lead taken rest → encode_utf8_all taken ≡ taken) → ((text : Text) → encode_utf8_all (front digit text) ≡ front digit text)
+        → StandsBehind place (l.view old).passed → ((passed taken : Text) → passed ++ taken ≡ (l.view new).passed → StandsBehind place passed → StarvesHere l.view l.at new fault last ⊎ FailsBehind l.view l.at (NumberRange (encode_utf8_all taken)) passed new fault last)
+        → Starves l.view l.at old fault last ⊎ Refuses l.view l.at (unless_failed (l.view old).failed (numeral_at digit make o)) old fault last
+    number_refused make last fault e a b p h =
+        let k = subst (λ z. StarvesHere l.view l.at new fault last ⊎ FailsBehind l.view l.at (NumberRange z) (l.view old).passed new fault last) (number_encodes a b) (h (l.view old).passed number_text number_passed p) in
+        rw (number_outcome make None e) (refuses_before l.view l.at l.view_at l.at_at (NumberRange number_text) old new last number_text (after digit n.led.rest) fault n.led.not_failed number_taken k)
+
+    -- memory was refused behind the number
+    pub number_starves : {A : Type 0} (last : S) (fault : ParseFault A) → StarvesHere l.view l.at new fault last → Starves l.view l.at old fault last
+    number_starves last fault h = starves_behind l.view l.at l.view_at l.at_at old new last number_text (after digit n.led.rest) fault n.led.not_failed number_taken h
 
     -- a number that doesn't fit is not read
-    pub number_spares : {L X A : Type 0} (Y : Type 0) (digit : ℕ → Bool) (make : L → Text → Option X) (failed : Bool) (o : Outcome L) (old mid : S) (lead : L) (fault : ParseFault A) → Gives view at (unless_failed failed o) old lead mid → make lead (front digit (view mid).rest) ≡ None → NeedsNoMemory {Y = Y} (unless_failed failed (numeral_at digit make o)) (Err fault)
-    number_spares Y digit make true o old mid lead fault h e = tt
-    number_spares Y digit make false (Read x t r) old mid lead fault h e =
-        let q : make x (front digit r) ≡ None = subst (λ z. make z (front digit r) ≡ None) h.0 (subst (λ z. make lead (front digit z) ≡ None) (ap (λ v. v.rest) (seen_after view at view_at at_at old mid t r h.1)) e) in
-        rw q tt
-    number_spares Y digit make false (Missing cause) old mid lead fault h e = absurd h
-    number_spares Y digit make false (Bad cause upto) old mid lead fault h e = absurd h
+    pub number_spares : {X A : Type 0} (Y : Type 0) (make : L → Text → Option X) (fault : ParseFault A) → make lead (front digit (l.view mid).rest) ≡ None → NeedsNoMemory {Y = Y} (unless_failed (l.view old).failed (numeral_at digit make o)) (Err fault)
+    number_spares Y make fault e = rw (number_outcome make None e) tt
 
-    -- the text of a number is read
-    pub text_read : (text : Text) (failed : Bool) (sign : Text) (old mid new : S) (l : Led failed (sign_at text) sign old mid) (d : Takes view at (front is_ascii_digit (view mid).rest) (after is_ascii_digit (view mid).rest) mid new) (bytes : List ℕ)
-        → bytes ≡ encode_utf8_all (number_text is_ascii_digit failed (sign_at text) sign old mid new l d) → Gives view at (unless_failed failed (numeral_at is_ascii_digit signed_text (sign_at text))) old bytes new
-    text_read text failed sign old mid new l d bytes e =
-        let o = sign_at text in
-        let t : l.taken ≡ sign = sign_at-taken text sign l.taken l.rest l.is in
-        let whole : bytes ≡ sign ++ front is_ascii_digit (view mid).rest =
-        e ∙ (number_encodes is_ascii_digit failed o sign old mid new l d (sign_at-encodes text sign l.taken l.rest l.is) encodes-front_digits ∙ (ap (λ z. z ++ front is_ascii_digit l.rest) t ∙ ap (λ z. sign ++ front is_ascii_digit z) (sym (left_is is_ascii_digit failed o sign old mid new l d)))) in
-        number_read is_ascii_digit failed o sign old mid new l d signed_text bytes (ap Some (sym whole))
+  -- digits behind a sign, or none, from its answer and theirs
+  pub signed : (sign : Option ℕ) (old mid new : S) → Gives l.view l.at (unless_failed (l.view old).failed (sign_at (l.view old).rest)) old (sign_text sign) mid → Takes l.view l.at (front is_ascii_digit (l.view mid).rest) (after is_ascii_digit (l.view mid).rest) mid new → Numbered is_ascii_digit (sign_at (l.view old).rest) (sign_text sign) old mid new
+  signed sign old mid new h d = numbered is_ascii_digit (sign_at (l.view old).rest) (sign_text sign) old mid new h d
+
+  -- digits behind `0x`, from its answer and theirs
+  pub marked : (old mid new : S) → Gives l.view l.at (unless_failed (l.view old).failed (hexadecimal_mark_at (l.view old).rest)) old tt mid → Takes l.view l.at (front is_ascii_hexdigit (l.view mid).rest) (after is_ascii_hexdigit (l.view mid).rest) mid new → Numbered is_ascii_hexdigit (hexadecimal_mark_at (l.view old).rest) tt old mid new
+  marked old mid new h d = numbered is_ascii_hexdigit (hexadecimal_mark_at (l.view old).rest) tt old mid new h d
+
+  -- the text of a number is read
+  pub text_read : {sign : Text} {old mid new : S} {place : Place} (n : Numbered is_ascii_digit (sign_at (l.view old).rest) sign old mid new) (bytes : List ℕ) → StandsBehind place (l.view old).passed → ((passed taken : Text) → passed ++ taken ≡ (l.view new).passed → StandsBehind place passed → bytes ≡ encode_utf8_all taken)
+      → Gives l.view l.at (unless_failed (l.view old).failed (numeral_at is_ascii_digit signed_text (sign_at (l.view old).rest))) old bytes new
+  text_read {sign = sign} {old = old} {mid = mid} n bytes p h =
+      let text = (l.view old).rest in
+      let t : n.led.taken ≡ sign = sign_at-taken text sign n.led.taken n.led.rest n.led.is in
+      let whole : bytes ≡ sign ++ front is_ascii_digit (l.view mid).rest =
+      h (l.view old).passed (number_text n) (number_passed n) p ∙ (number_encodes n (sign_at-encodes text sign) encodes-front_digits ∙ (ap (λ z. z ++ front is_ascii_digit n.led.rest) t ∙ ap (λ z. sign ++ front is_ascii_digit z) (sym (left_is n)))) in
+      number_read n signed_text bytes (ap Some (sym whole))

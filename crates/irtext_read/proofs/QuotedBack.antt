@@ -66,37 +66,14 @@ module _ (rest : Text) where
   same : (n : ℕ) (c : ℕ) → Fine rest n → c ≡ n → Fine rest c
   same n c h e = subst (Fine rest) (sym e) h
 
-  f0 : Fine rest 0
-  unfolding Fine unit_at
-  f0 = (refl, refl)
-
-  f9 : Fine rest 9
-  unfolding Fine unit_at
-  f9 = (refl, refl)
-
-  f10 : Fine rest 10
-  unfolding Fine unit_at
-  f10 = (refl, refl)
-
-  f13 : Fine rest 13
-  unfolding Fine unit_at
-  f13 = (refl, refl)
-
-  f34 : Fine rest 34
-  unfolding Fine unit_at
-  f34 = (refl, refl)
-
-  f92 : Fine rest 92
-  unfolding Fine unit_at
-  f92 = (refl, refl)
-
   fine_by : (c : ℕ) → (c ≡ 0) ⊎ ((c == 0) ≡ false) → (c ≡ 9) ⊎ ((c == 9) ≡ false) → (c ≡ 10) ⊎ ((c == 10) ≡ false) → (c ≡ 13) ⊎ ((c == 13) ≡ false) → (c ≡ 34) ⊎ ((c == 34) ≡ false) → (c ≡ 92) ⊎ ((c == 92) ≡ false) → (v : Bool) → is_ascii_control c ≡ v → Fine rest c
-  fine_by c (inl h) _ _ _ _ _ v k = same 0 c f0 h
-  fine_by c (inr a) (inl h) _ _ _ _ v k = same 9 c f9 h
-  fine_by c (inr a) (inr b) (inl h) _ _ _ v k = same 10 c f10 h
-  fine_by c (inr a) (inr b) (inr d) (inl h) _ _ v k = same 13 c f13 h
-  fine_by c (inr a) (inr b) (inr d) (inr e) (inl h) _ v k = same 34 c f34 h
-  fine_by c (inr a) (inr b) (inr d) (inr e) (inr f) (inl h) v k = same 92 c f92 h
+  unfolding Fine unit_at
+  fine_by c (inl h) _ _ _ _ _ v k = same 0 c (refl, refl) h
+  fine_by c (inr a) (inl h) _ _ _ _ v k = same 9 c (refl, refl) h
+  fine_by c (inr a) (inr b) (inl h) _ _ _ v k = same 10 c (refl, refl) h
+  fine_by c (inr a) (inr b) (inr d) (inl h) _ _ v k = same 13 c (refl, refl) h
+  fine_by c (inr a) (inr b) (inr d) (inr e) (inl h) _ v k = same 34 c (refl, refl) h
+  fine_by c (inr a) (inr b) (inr d) (inr e) (inr f) (inl h) v k = same 92 c (refl, refl) h
   fine_by c (inr a) (inr b) (inr d) (inr e) (inr f) (inr g) true k = control c a b d e f g k
   fine_by c (inr a) (inr b) (inr d) (inr e) (inr f) (inr g) false k = plain c a b d e f g k
 

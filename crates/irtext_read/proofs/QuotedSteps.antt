@@ -5,8 +5,8 @@ use Rattle.std.specs.Char.{is_ascii_hexdigit, encode_utf8}
 use Rattle.std.specs.Str.{encode_utf8_all}
 use Rattle.irtext_base.specs.Text.{Text, begins, front, after}
 use Rattle.irtext_base.specs.Reading.{the}
-use Rattle.irtext_base.specs.Stream.{StreamView, IsAt, first_of, advanced, advanced_by, after_failure}
-use Rattle.irtext_base.specs.Faults.{Fault, Word, Unexpected, AHexadecimalDigit, AnEscapedCharacter, BadEscape, BadUnicodeEscape, fault_of}
+use Rattle.irtext_base.specs.Stream.{StreamView, first_of, advanced, advanced_by}
+use Rattle.irtext_base.specs.Faults.{Fault, Word, Unexpected, AHexadecimalDigit, AnEscapedCharacter, BadEscape, BadUnicodeEscape}
 use Rattle.irtext_base.specs.Answers.{Outcome, Read, Missing, Bad, Takes, Starves, StarvesHere, FailsBehind, Commits, Answers, Gives, Refuses, demanded, prefixed, mapped, followed, unless_failed}
 use Rattle.irtext_base.specs.declared.parsable.fault.ParseFault.{ParseFault}
 use Rattle.irtext_base.proofs.Bytes.{first_some}
@@ -146,6 +146,11 @@ module _ {S : Type 0} (view : S → StreamView) (at : S → StreamView → S) wh
           takes = rw r (takes_more view at view_at at_at before mid now (codes "\\u{") (view mid).rest (front is_ascii_hexdigit (view mid).rest) (after is_ascii_hexdigit (view mid).rest) o.takes k);
           unit = rw r (o.unit ∙ braced_some (view mid).rest q);
         }
+
+    -- a stream behind `\u`, a brace and digits
+    pub digits_counted : (before old opens now : S) → Takes view at (codes "\\u") (view old).rest before old → begins (the 123) (view old).rest ≡ true → opens ≡ at old (advanced (view old)) → begins is_ascii_hexdigit (view opens).rest ≡ true
+        → Takes view at (front is_ascii_hexdigit (view opens).rest) (after is_ascii_hexdigit (view opens).rest) opens now → Counted before now (front is_ascii_hexdigit (view opens).rest)
+    digits_counted before old opens now k q n d t = counted before opens now (opened before old opens k q n) d t
 
     -- the brace behind the digits, where they name a character
     pub braces_closed : (before now next : S) (digits : Text) (c : ℕ) → Counted before now digits → begins (the 125) (view now).rest ≡ true → Some c ≡ character_of (value_in 16 digits) → next ≡ at now (advanced (view now)) → Gives view at (unit_at (view before).rest) before c next

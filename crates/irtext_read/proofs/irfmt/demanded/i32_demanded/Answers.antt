@@ -1,13 +1,7 @@
-use Rattle.irtext_base.specs.Answers.{unless_failed}
-use Rattle.irtext_base.proofs.Compose.{answers_demanded}
-use Rattle.irtext_read.specs.Integers.{signed_below, int_at}
 use Rattle.irtext_read.proofs.Numbers.{integer_must}
 use Rattle.irtext_read.proofs.irfmt.demanded.i32_demanded.Goals as goal
 
 pub returns : goal.returns
 returns g c =
     let m = g.met.S.CharStream in
-    let view = g.S.CharStream.view in
-    let at = g.S.CharStream.at in
-    let old = c.args.stream.now in
-    integer_must view at old c.committed.new.stream c.committed.result (answers_demanded view at m.view_at m.at_at (λ z. z) (unless_failed (view old).failed (int_at (signed_below 32) (view old).rest)) old c.int_parse-answer.new.stream c.committed.new.stream c.int_parse-answer.result c.committed.result c.int_parse-answer.ensures.answers c.committed.ensures)
+    integer_must g.S.CharStream.view g.S.CharStream.at m.view_at m.at_at c.args.stream.now c.int_parse-answer.new.stream c.committed.new.stream c.int_parse-answer.result c.committed.result c.int_parse-answer.ensures.answers c.committed.ensures

@@ -10,9 +10,7 @@ pub put_attribute-requires : goal.put_attribute-requires
 put_attribute-requires g c = stands_seen operation_of c.ctx.inside.operations c.args.self (rw (← c.ctx.view_is) at c.requires)
 
 pub invariant_of-ctx : goal.invariant_of-ctx
-invariant_of-ctx g c =
-    let p = c.put_attribute.ensures in
-    (p.few c.ctx.invariant.0, c.ctx.invariant.1, p.age c.ctx.inside.made c.ctx.invariant.2, c.ctx.invariant.3)
+invariant_of-ctx g c = (c.put_attribute.ensures.few c.ctx.invariant.0, c.ctx.invariant.1, c.put_attribute.ensures.age c.ctx.inside.made c.ctx.invariant.2, c.ctx.invariant.3)
 
 pub returns-clause-edits : goal.returns-clause-edits
 returns-clause-edits g c =

@@ -5,9 +5,8 @@ use Rattle.irtext_read.proofs.irfmt.parsers.integer.sign_parse.Goals as goal
 
 pub returns-then-has_failed-clause-spares : goal.returns-then-has_failed-clause-spares
 returns-then-has_failed-clause-spares g c =
-    let view = g.S.CharStream.view in
-    let old = c.args.stream.now in
-    failed_spares (Unit {0}) (view old).failed (sign_at (view old).rest) c.refuse.result (sym c.has_failed.ensures ∙ c.if-has_failed.true)
+    let v = g.S.CharStream.view c.args.stream.now in
+    failed_spares (Unit {0}) v.failed (sign_at v.rest) c.refuse.result (sym c.has_failed.ensures ∙ c.if-has_failed.true)
 
 pub returns-then-is_some-clause-spares : goal.returns-then-is_some-clause-spares
 returns-then-is_some-clause-spares g c =

@@ -8,16 +8,12 @@ use Rattle.irtext_read.proofs.irfmt.parsers.quoted.quoted_string_parse.Goals as 
 pub returns-in_err-text_parse : goal.returns-in_err-text_parse
 unfolding quoted_at
 returns-in_err-text_parse g c =
-    let view = g.S.CharStream.view in
     let m = g.met.S.CharStream in
-    let old = c.args.stream.now in
     let p = err_from_is_err_and c.from_residual.result c.from_residual.ensures.1 in
-    rw (p.1, p.2) (unquoted view g.S.CharStream.at m.view_at m.at_view m.at_at (view old).failed (text_at (codes "\"") (view old).rest) old c.text_parse.new.stream c.in_err-text_parse.field-0.0 c.in_err-text_parse.ensures.answers)
+    rw (p.1, p.2) (unquoted g.S.CharStream.view g.S.CharStream.at m.view_at m.at_view m.at_at _ (text_at (codes "\"") (g.S.CharStream.view c.args.stream.now).rest) c.args.stream.now c.text_parse.new.stream c.in_err-text_parse.field-0.0 c.in_err-text_parse.ensures.answers)
 
 pub returns : goal.returns
 unfolding quoted_at
 returns g c =
-    let view = g.S.CharStream.view in
     let m = g.met.S.CharStream in
-    let old = c.args.stream.now in
-    quoted_by view g.S.CharStream.at m.view_at m.at_view m.at_at (λ s. string_bytes s) (view old).failed (text_at (codes "\"") (view old).rest) old c.text_parse.new.stream c.units_parse.new.stream c.in_ok-text_parse.field-0 c.units_parse.result c.in_ok-text_parse.ensures.answers c.units_parse.ensures
+    quoted_by g.S.CharStream.view g.S.CharStream.at m.view_at m.at_view m.at_at (λ s. string_bytes s) _ (text_at (codes "\"") (g.S.CharStream.view c.args.stream.now).rest) c.args.stream.now c.text_parse.new.stream c.units_parse.new.stream c.in_ok-text_parse.field-0 c.units_parse.result c.in_ok-text_parse.ensures.answers c.units_parse.ensures

@@ -13,23 +13,15 @@ returns-in_default-take g c =
 
 pub unicode_parse-requires : goal.unicode_parse-requires
 unicode_parse-requires g c =
-    let view = g.S.CharStream.view in
-    let at = g.S.CharStream.at in
     let m = g.met.S.CharStream in
-    let old = c.args.stream.now in
-    let last = c.take-2.new.self in
-    let k = two_taken view at m.view_at m.at_view m.at_at old c.take.new.self last c.in-Some.c c.in-Some-take.c c.if-c-ne92.false c.in-Some.ensures.value c.take.ensures.after c.in-Some-take.ensures.value c.take-2.ensures.after in
-    takes_fine view at m.view_at m.at_at old last (92 ∷ c.in-Some-take.c ∷ []) (view last).rest k c.requires
+    let k = two_taken g.S.CharStream.view g.S.CharStream.at m.view_at m.at_view m.at_at c.args.stream.now c.take.new.self c.take-2.new.self c.in-Some.c c.in-Some-take.c c.if-c-ne92.false c.in-Some.ensures.value c.take.ensures.after c.in-Some-take.ensures.value c.take-2.ensures.after in
+    takes_fine g.S.CharStream.view g.S.CharStream.at m.view_at m.at_at c.args.stream.now c.take-2.new.self _ _ k c.requires
 
 pub returns-then-c-eq117 : goal.returns-then-c-eq117
 returns-then-c-eq117 g c =
-    let view = g.S.CharStream.view in
-    let at = g.S.CharStream.at in
     let m = g.met.S.CharStream in
-    let old = c.args.stream.now in
-    let last = c.take-2.new.self in
-    let k = two_taken view at m.view_at m.at_view m.at_at old c.take.new.self last c.in-Some.c c.in-Some-take.c c.if-c-ne92.false c.in-Some.ensures.value c.take.ensures.after c.in-Some-take.ensures.value c.take-2.ensures.after in
-    c.unicode_parse.ensures old (subst (λ z. Takes view at (92 ∷ z ∷ []) (view last).rest old last) c.if-c-eq117.true k) c.position-place.ensures
+    let k = two_taken g.S.CharStream.view g.S.CharStream.at m.view_at m.at_view m.at_at c.args.stream.now c.take.new.self c.take-2.new.self c.in-Some.c c.in-Some-take.c c.if-c-ne92.false c.in-Some.ensures.value c.take.ensures.after c.in-Some-take.ensures.value c.take-2.ensures.after in
+    c.unicode_parse.ensures c.args.stream.now (subst (λ z. Takes g.S.CharStream.view g.S.CharStream.at (92 ∷ z ∷ []) (g.S.CharStream.view c.take-2.new.self).rest c.args.stream.now c.take-2.new.self) c.if-c-eq117.true k) c.position-place.ensures
 
 pub returns-in-None : goal.returns-in-None
 returns-in-None g c =
