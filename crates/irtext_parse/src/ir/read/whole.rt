@@ -14,6 +14,7 @@ use crate::ir::read::root::outermost_parse;
 use irtext_base::parsable::{CharStream, ParseResult};
 use irtext_base::result::Expected;
 use irtext_base::text::{AttrText, IrText};
+use irtext_context::base::context::making::Making;
 use irtext_context::base::{Operation, Ptr};
 use irtext_read::irfmt::faults::commit_unexpected;
 use irtext_read::irfmt::parsers::skip_white_space;
