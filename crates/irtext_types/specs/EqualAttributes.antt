@@ -39,21 +39,10 @@ function_same a b e = ap₂ function_with (list_same a.inputs b.inputs (and_left
 
 attr_same : (x y : DemoAttr) → attr_test.ghosts.eq x y ≡ true → x ≡ y
 attr_same (attr.Integer a) (attr.Integer b) e = ap attr.Integer (integer_attr_same a b e)
-attr_same (attr.Integer a) (attr.String t) e = absurd (true≢false (sym e))
-attr_same (attr.Integer a) (attr.Function b) e = absurd (true≢false (sym e))
-attr_same (attr.Integer a) (attr.Debug t) e = absurd (true≢false (sym e))
-attr_same (attr.String s) (attr.Integer b) e = absurd (true≢false (sym e))
 attr_same (attr.String s) (attr.String t) e = ap attr.String (characters_same s t e)
-attr_same (attr.String s) (attr.Function b) e = absurd (true≢false (sym e))
-attr_same (attr.String s) (attr.Debug t) e = absurd (true≢false (sym e))
-attr_same (attr.Function a) (attr.Integer b) e = absurd (true≢false (sym e))
-attr_same (attr.Function a) (attr.String t) e = absurd (true≢false (sym e))
 attr_same (attr.Function a) (attr.Function b) e = ap attr.Function (function_same a b e)
-attr_same (attr.Function a) (attr.Debug t) e = absurd (true≢false (sym e))
-attr_same (attr.Debug s) (attr.Integer b) e = absurd (true≢false (sym e))
-attr_same (attr.Debug s) (attr.String t) e = absurd (true≢false (sym e))
-attr_same (attr.Debug s) (attr.Function b) e = absurd (true≢false (sym e))
 attr_same (attr.Debug s) (attr.Debug t) e = ap attr.Debug (characters_same s t e)
+attr_same _ _ e = absurd (true≢false (sym e))
 
 pub attr_decides : (x y : DemoAttr) → IsTrue (attr_test.ghosts.eq x y) ↔ (x ≡ y)
 attr_decides x y = (attr_same x y, λ e. ap (attr_test.ghosts.eq x) (sym e) ∙ attr_laws.laws-law.refl x)
