@@ -46,7 +46,7 @@ module _ {T A : Type 0} (types : own.Texts T) (reading : Text → Outcome A) (te
   memory_alone f h =
       let n = printed_text (unplaced types (texts_of reading text_of) (format_of ctx.dialects)) outlined once same ctx p op s g owns_law stands kept alone sees bytes s unlimited is in
       elim h [
-        | inl m ↦ m
+        | inl m ↦ m.because
         | inr r ↦ absurd (never_refused types reading text_of types_law owns_law owns_sincere unreserved outlined once same ctx p op s g stands sees n.0 kept alone r.old (r.starts.text ∙ ap chars text_is ∙ n.1) f
             (ap (λ v. v.dialects) r.starts.context ∙ same_dialects) r.refuses)
       ]

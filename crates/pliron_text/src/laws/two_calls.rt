@@ -1,6 +1,5 @@
 //! The law of the two calls, with a body that makes them: a root is printed, and its text is read in another context.
 ghost use Rattle.std.specs.Prelude.{◌≡◌, None, Some, IsSome, IfErr, IfOk, OnErr, string_bytes};
-ghost use Rattle.irtext_base.specs.Faults.{Memory, fault_of};
 ghost use Rattle.irtext_base.specs.Own.{texts_of, unplaced};
 ghost use Rattle.irtext_context.specs.Context.{OperationView, operation};
 ghost use Rattle.irtext_context.specs.Made.{SameObjects};
@@ -9,6 +8,7 @@ ghost use Rattle.irtext_grammar.specs.Contexts.Held.{graph_of};
 ghost use Rattle.irtext_grammar.specs.Graphs.Graph.{Graph};
 ghost use Rattle.irtext_outcomes.specs.Promises.KeptRoot.{StandsAlone};
 ghost use Rattle.irtext_outcomes.specs.Promises.Root.{OnlyNew, UnlessMemory};
+ghost use Rattle.irtext_outcomes.specs.Promises.Section.{IsStarved};
 ghost use Rattle.irtext_print.specs.Printers.Appended.{fresh};
 ghost use Rattle.irtext_print.specs.Printers.PrintedOperation.{Refuses, levels, printed, printing};
 ghost use Rattle.irtext_read.specs.AttrTexts.{attr_at};
@@ -60,12 +60,12 @@ fn text_of_root<T: IrText<A>, A: AttrText>(
 
 /// The fault where there is no memory for the text.
 fn no_memory<A>() -> ParseFault<A>
-    ensures { fault_of result.cause ≡ Memory }
+    ensures { IsStarved result }
 {
     ParseFault {
         pos: SourcePosition { line: 1, column: 1 },
         cause: Cause::Memory,
-        committed: false,
+        committed: true,
     }
 }
 
