@@ -1,6 +1,7 @@
 //! Attributes and types as they are read and printed.
 use irtext_base::base::AttrObj;
 use irtext_base::parsable::{CharStream, ParseResult};
+use irtext_context::base::Context;
 use irtext_print::printable::Disp;
 use irtext_read::irfmt::parsers::attr_parse;
 use irtext_state::irfmt::parsers::type_parse;
@@ -68,12 +69,12 @@ const TYPES: &[(&str, &str)] = &[
 /// The text of an attribute that was read, or the fault, and what stands behind.
 fn printed(
     alloc: Global,
-    ctx: &Ctx,
     answer: &ParseResult<AttrObj<DemoAttr>, DemoAttr>,
     next: Option<char>,
 ) -> Result<String, Fail> {
+    let ctx: Ctx = Context::new(alloc);
     match answer {
-        Ok(attr) => Ok(format!(in alloc; "{}|{next:?}", attr.disp(ctx))?),
+        Ok(attr) => Ok(format!(in alloc; "{}|{next:?}", attr.disp(&ctx))?),
         Err(fault) => left(alloc, fault, next),
     }
 }
@@ -94,7 +95,7 @@ fn printed_type(
 fn attribute(alloc: Global, s: &mut Stream<'_>) -> Result<String, Fail> {
     let answer = attr_parse(s);
     let next = s.peek();
-    printed(alloc, s.state.ctx, &answer, next)
+    printed(alloc, &answer, next)
 }
 
 /// What is said of the type that is read.
