@@ -116,11 +116,21 @@ fn position(ctx: &mut Ctx, text: &str) -> Option<SourcePosition> {
     .ok()
 }
 
-/// What is printed of a source and a position.
+/// The texts that are printed of a source and a position.
+fn shown(
+    alloc: Global,
+    ctx: &Ctx,
+    source: &Source,
+    position: &SourcePosition,
+) -> Result<String, Fail> {
+    Ok(format!(in alloc; "{} {}", source.disp(ctx), position.disp(ctx))?)
+}
+
+/// What is printed of a source and a position that are read.
 fn source_and_position(alloc: Global, ctx: &mut Ctx) -> Result<String, Fail> {
     let source = source(ctx, "\"b\"").ok_or("refused")?;
     let position = position(ctx, "line : 3,column:4").ok_or("refused")?;
-    Ok(format!(in alloc; "{} {}", source.disp(ctx), position.disp(ctx))?)
+    shown(alloc, ctx, &source, &position)
 }
 
 #[test]
