@@ -3,12 +3,26 @@ ghost use Rattle.std.specs.Prelude.{[], Some};
 ghost use Rattle.irtext_stream.specs.Stream.{IsAt};
 
 use std::fmt;
+use std::hash::Hasher;
 
 /// A line and a column, each counted from 1 in characters, and cut at the largest `i32`.
 #[derive(Clone, Copy, PartialEq, Eq, Hash, Debug)]
 pub struct SourcePosition {
     pub line: i32,
     pub column: i32,
+}
+
+impl SourcePosition {
+    ghost use Rattle.std.specs.Prelude.{◌≡◌, fold};
+    ghost use Rattle.irtext_stream.specs.Places.{position_writes};
+
+    /// Feeds a hasher the line, and then the column: the same beside any context.
+    pub fn stable_hash<C, H: Hasher>(&self, _ctx: &C, state: &mut H)
+        ensures { state.new ≡ fold H.write state.old (position_writes self.now) }
+    {
+        state.write_i32(self.line);
+        state.write_i32(self.column);
+    }
 }
 
 impl Default for SourcePosition {
