@@ -8,28 +8,24 @@ use Rattle.std.specs.Char.{encode_utf8}
 use lib.Utf8.{scalar}
 use Rattle.irtext_stream.specs.Text.{Text}
 use Rattle.irtext_stream.specs.Stream.{StreamView, first_of, advanced_by}
+use Rattle.irtext_stream.proofs.Ascii.{and_left, and_right}
 
 -- a text whose first character is known is that character and another text
 pub first_some : (text : Text) (c : ℕ) → Some c ≡ first_of text → (rest : Text) × (text ≡ c ∷ rest)
 first_some [] c e = absurd (cc)
 first_some (d ∷ text) c e = (text, cc)
 
--- both of two tests that hold together
-both : (a b : Bool) → (a && b) ≡ true → (a ≡ true) × (b ≡ true)
-both true b e = (refl, e)
-both false b e = absurd (cc)
-
+-- two texts of such characters make one
 pub scalars_more : (xs ys : Text) → all_scalars xs ≡ true → all_scalars ys ≡ true → all_scalars (xs ++ ys) ≡ true
 scalars_more [] ys e f = f
-scalars_more (c ∷ xs) ys e f = let p = both (scalar c) (all_scalars xs) e in rw (p.0, scalars_more xs ys p.1 f) refl
+scalars_more (c ∷ xs) ys e f = rw (and_left (scalar c) (all_scalars xs) e, scalars_more xs ys (and_right (scalar c) (all_scalars xs) e) f) refl
 
 -- the parts of a text are texts
 scalars_parts : (xs ys : Text) → all_scalars (xs ++ ys) ≡ true → (all_scalars xs ≡ true) × (all_scalars ys ≡ true)
 scalars_parts [] ys e = (refl, e)
 scalars_parts (c ∷ xs) ys e =
-    let p = both (scalar c) (all_scalars (xs ++ ys)) e in
-    let q = scalars_parts xs ys p.1 in
-    (rw (p.0, q.0) refl, q.1)
+    let q = scalars_parts xs ys (and_right (scalar c) (all_scalars (xs ++ ys)) e) in
+    (rw (and_left (scalar c) (all_scalars (xs ++ ys)) e, q.0) refl, q.1)
 
 -- the first character, where it is one byte
 first_by_byte : (bs : List ℕ) → IsUtf8 bs → 0 < length bs → get_or bs 0 0 < 128 → Some (get_or bs 0 0) ≡ first_of (chars bs)
@@ -58,6 +54,7 @@ pub record OneMore (bs : List ℕ) (o n c : ℕ) : Type 0 where
   pub passed : chars (take (o + n) bs) ≡ chars (take o bs) ++ (c ∷ [])
   pub advances : (b : Bool) → ◌≡◌ {A = StreamView} (record { passed = chars (take (o + n) bs); rest = chars (drop (o + n) bs); failed = b }) (advanced_by (chars (take o bs)) (chars (drop o bs)) b)
 
+-- the place behind the next character
 pub one_more : (bs : List ℕ) (o n c : ℕ) → o ≤ length bs → IsUtf8 (take o bs) → IsUtf8 (drop o bs) → Some c ≡ first_of (chars (drop o bs)) → n ≡ length (encode_utf8 c) → OneMore bs o n c
 one_more bs o n c l f u e m =
     let s = first_some (chars (drop o bs)) c e in
@@ -121,6 +118,7 @@ pub record Between (bs : List ℕ) (o n : ℕ) (taken : Text) : Type 0 where
   pub to : IsCharBoundary bs o
   pub slice : take (o - n) (drop n bs) ≡ encode_utf8_all taken
 
+-- the text between two places is a slice of the bytes
 pub between : (bs : List ℕ) (o n : ℕ) (passed taken : Text) → o ≤ length bs → IsUtf8 (take o bs) → IsUtf8 (drop o bs) → passed ++ taken ≡ chars (take o bs) → n ≡ length (encode_utf8_all passed) → Between bs o n taken
 between bs o n passed taken l f u e m =
     let later = chars (drop o bs) in

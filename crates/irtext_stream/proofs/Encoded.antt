@@ -1,12 +1,12 @@
 -- The bytes of characters: which of them begin one, and where a newline is among them.
-use Rattle.std.proofs.Common.{◌≡◌, ℕ, zero, suc, ◌+◌, ◌-◌, ◌*◌, ◌/◌, ◌%◌, ◌<◌, ◌≤◌, Bool, true, false, cond, ◌==◌, List, [], ◌∷◌, ◌++◌, length, get_or, count_by, refl, sym, ◌∙◌, ap, arith, length-append}
+use Rattle.std.proofs.Common.{◌≡◌, ℕ, zero, suc, ◌+◌, ◌-◌, ◌/◌, ◌<◌, ◌≤◌, Bool, true, false, cond, List, [], ◌∷◌, ◌++◌, length, get_or, count_by, refl, sym, ◌∙◌, ap, arith, length-append}
 use Rattle.std.specs.Prelude.{⊤}
 use Rattle.std.proofs.lemmas.Bool.{ltb-true, ltb-false, le-ltb}
 use Rattle.std.proofs.lemmas.Bool.Decides.{nat_tests}
 use Rattle.std.proofs.lemmas.List.{get_or_append_left, get_or-append_right, get_or-append-add}
 use Rattle.std.proofs.lemmas.List.Sums.{sum_by-append, sum_by-cons}
-use Rattle.std.proofs.lemmas.Str.{encode_same, encode_ascii, length-encode, len_utf8_bounds}
-use Rattle.std.specs.Str.{encode_utf8_all}
+use Rattle.std.proofs.lemmas.Str.{encode_ascii, length-encode, len_utf8_bounds}
+use Rattle.std.specs.Str.{encode_utf8_all, IsAscii}
 use Rattle.std.specs.Char.{encode_utf8}
 use lib.Dec.{ltb}
 use lib.Utf8.{next}
@@ -38,6 +38,7 @@ long_begins c true z = begun (192 + c / 64) (next c ∷ []) (high_begins (192 + 
 long_begins c false true = begun (224 + c / 4096) (next (c / 64) ∷ next c ∷ []) (high_begins (224 + c / 4096) (omega arith)) (more_on (c / 64) (next c ∷ []) (more_on c [] refl))
 long_begins c false false = begun (240 + c / 262144) (next (c / 4096) ∷ next (c / 64) ∷ next c ∷ []) (high_begins (240 + c / 262144) (omega arith)) (more_on (c / 4096) (next (c / 64) ∷ next c ∷ []) (more_on (c / 64) (next c ∷ []) (more_on c [] refl)))
 
+-- one byte of a character begins it
 pub one_begins : (c : ℕ) → count_by begins_character (encode_utf8 c) ≡ 1
 unfolding lib.Utf8.encode
 one_begins c = go (ltb c 128) refl
@@ -50,6 +51,13 @@ one_begins c = go (ltb c 128) refl
 pub characters_begin : (cs : Text) → count_by begins_character (encode_utf8_all cs) ≡ length cs
 characters_begin [] = refl
 characters_begin (c ∷ cs) = sum_by-append (λ b. cond (begins_character b) 1 0) (encode_utf8 c) (encode_utf8_all cs) ∙ omega (arith, one_begins c, characters_begin cs)
+
+-- in ASCII each byte does
+pub ascii_begins : (bs : List ℕ) → IsAscii bs → count_by begins_character bs ≡ length bs
+ascii_begins [] a = refl
+ascii_begins (b ∷ bs) a =
+    let h : count_by begins_character (b ∷ bs) ≡ 1 + count_by begins_character bs = sum_by-cons (λ b. cond (begins_character b) 1 0) b bs ∙ ap (λ t. cond t 1 0 + count_by begins_character bs) (low_begins b (a 0)) in
+    omega (arith, h, ascii_begins bs (λ i. a (suc i)))
 
 -- ---- sizes
 pub encode_some : (c : ℕ) → 0 < length (encode_utf8 c)
@@ -106,6 +114,7 @@ not_counted c cs e =
     let h : count_by is_newline (c ∷ cs) ≡ 0 + count_by is_newline cs = sum_by-cons (λ c. cond (is_newline c) 1 0) c cs ∙ ap (λ b. cond b 1 0 + count_by is_newline cs) e in
     omega (arith, h)
 
+-- the first byte 10 of a text stands where its first newline does
 pub split_newline : (cs : Text) (i : ℕ) → i < length (encode_utf8_all cs) → get_or (encode_utf8_all cs) i 0 ≡ 10 → ((j : ℕ) → j < i → get_or (encode_utf8_all cs) j 0 ≡ 10 → ⊥) → Split cs i
 split_newline [] i l e b = absurd (omega (arith, l))
 split_newline (c ∷ cs) i l e b = go (is_newline c) refl (split_newline cs (i - length (encode_utf8 c)))
@@ -125,8 +134,8 @@ split_newline (c ∷ cs) i l e b = go (is_newline c) refl (split_newline cs (i -
         λ j p q. no_newline c (other c h) j p (sym (get_or_append_left (encode_utf8 c) (encode_utf8_all cs) 0 j p) ∙ q) in
         let far : length (encode_utf8 c) ≤ i = beyond i (length (encode_utf8 c)) (λ p. here i p e) in
         let s = more (omega (arith, l, length-append (encode_utf8 c) (encode_utf8_all cs)))
-          (sym (get_or-append_right (encode_utf8 c) (encode_utf8_all cs) (length (encode_utf8 c)) i 0 refl far) ∙ e)
-          (λ j p q. b (length (encode_utf8 c) + j) (omega arith) (get_or-append-add (encode_utf8 c) (encode_utf8_all cs) j 0 ∙ q)) in
+        (sym (get_or-append_right (encode_utf8 c) (encode_utf8_all cs) (length (encode_utf8 c)) i 0 refl far) ∙ e)
+        (λ j p q. b (length (encode_utf8 c) + j) (omega arith) (get_or-append-add (encode_utf8 c) (encode_utf8_all cs) j 0 ∙ q)) in
         record {
           line = c ∷ s.line;
           rest = s.rest;
@@ -138,6 +147,7 @@ split_newline (c ∷ cs) i l e b = go (is_newline c) refl (split_newline cs (i -
         beyond : (i n : ℕ) → (i < n → ⊥) → n ≤ i
         beyond i n f = grind (arith)
 
+-- a text without such a byte has no newline
 pub no_newlines : (cs : Text) → ((j : ℕ) → j < length (encode_utf8_all cs) → get_or (encode_utf8_all cs) j 0 ≡ 10 → ⊥) → count_by is_newline cs ≡ 0
 no_newlines [] b = refl
 no_newlines (c ∷ cs) b = go (is_newline c) refl (no_newlines cs)

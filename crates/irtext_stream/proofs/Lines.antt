@@ -31,14 +31,17 @@ newline_more c ys = sum_by-cons (λ c. cond (is_newline c) 1 0) c ys
 column_step : (xs : Text) (c : ℕ) → column_behind (xs ++ (c ∷ [])) ≡ 1 + length (cond (not (is_newline c)) (c ∷ take_while (λ c. not (is_newline c)) (reverse xs)) [])
 column_step xs c = ap (λ t. 1 + length (take_while (λ c. not (is_newline c)) t)) (reverse-append xs (c ∷ [])) ∙ ap (λ t. 1 + length t) (take_while-cons (λ c. not (is_newline c)) c (reverse xs))
 
+-- a character that is no newline goes one column on
 pub column_more : (xs : Text) (c : ℕ) → is_newline c ≡ false → column_behind (xs ++ (c ∷ [])) ≡ suc (column_behind xs)
 column_more xs c e =
     let h : column_behind (xs ++ (c ∷ [])) ≡ 1 + suc (length (take_while (λ c. not (is_newline c)) (reverse xs))) = column_step xs c ∙ ap (λ b. 1 + length (cond (not b) (c ∷ take_while (λ c. not (is_newline c)) (reverse xs)) [])) e in
     omega (arith, h)
 
+-- behind a newline stands column 1
 pub column_fresh : (xs : Text) → column_behind (xs ++ (10 ∷ [])) ≡ 1
 column_fresh xs = column_step xs 10
 
+-- a text without newlines goes as many columns on as it has characters
 pub columns : (xs ys : Text) → count_by is_newline ys ≡ 0 → column_behind (xs ++ ys) ≡ column_behind xs + length ys
 columns xs [] e = ap column_behind (append-nil xs) ∙ omega arith
 columns xs (c ∷ ys) e = go (is_newline c) refl (columns (xs ++ (c ∷ [])) ys)
@@ -129,6 +132,7 @@ last text passed rest line e n = omega (arith, n, ap (count_by is_newline) e, ne
 few : (text passed rest : Text) (starts : List ℕ) (k : ℕ) → AreStarts text starts → passed ++ rest ≡ text → k ≤ length starts → (k < length starts → length (encode_utf8_all passed) < get_or starts k 0) → count_by is_newline passed ≤ k
 few text passed rest starts k a e w f = ⊎_elim (λ (h : k ≡ length starts). last text passed rest k e (a.all ∙ sym h)) (λ (h : k < length starts). fewer text passed rest (get_or starts k 0) k e (a.each k h) (f h)) (eq-or-lt_of_le w)
 
+-- a place is on the line between whose beginning and the next it stands
 pub stands_on : (text passed rest : Text) (starts : List ℕ) (k : ℕ) → AreStarts text starts → passed ++ rest ≡ text → k ≤ length starts → (0 < k → get_or starts (k - 1) 0 ≤ length (encode_utf8_all passed)) → (k < length starts → length (encode_utf8_all passed) < get_or starts k 0) → OnLine passed (entry_before starts k) k
 stands_on text passed rest starts zero a e w b f = on_line text passed rest 0 0 e (no_line text) (omega arith) (few text passed rest starts zero a e w f)
 stands_on text passed rest starts (suc k) a e w b f =
@@ -140,15 +144,16 @@ stands_on text passed rest starts (suc k) a e w b f =
 pub entries_more : (P : ℕ → ℕ → Type 0) (xs : List ℕ) (x : ℕ) → ((k : ℕ) → k < length xs → P (get_or xs k 0) k) → P x (length xs) → (k : ℕ) → k < length (xs ++ (x ∷ [])) → P (get_or (xs ++ (x ∷ [])) k 0) k
 entries_more P xs x a p k h =
     ⊎_elim
-      (λ (e : k ≡ length xs). subst (λ j. P (get_or (xs ++ (x ∷ [])) j 0) j) (sym e) (subst (λ y. P y (length xs)) (sym (get_or-append_seam xs x [] 0)) p))
-      (λ (l : k < length xs). subst (λ y. P y k) (sym (get_or_append_left xs (x ∷ []) 0 k l)) (a k l))
-      (eq-or-lt_of_le (le_of_suc-le-suc (omega (arith, h, length-append xs (x ∷ [])))))
+    (λ (e : k ≡ length xs). subst (λ j. P (get_or (xs ++ (x ∷ [])) j 0) j) (sym e) (subst (λ y. P y (length xs)) (sym (get_or-append_seam xs x [] 0)) p))
+    (λ (l : k < length xs). subst (λ y. P y k) (sym (get_or_append_left xs (x ∷ []) 0 k l)) (a k l))
+    (eq-or-lt_of_le (le_of_suc-le-suc (omega (arith, h, length-append xs (x ∷ [])))))
 
 -- the bytes behind the beginning of a line
 pub record Coming (bs : List ℕ) (o : ℕ) (behind : Text) : Type 0 where
   pub within : o ≤ length bs
   pub bytes : drop o bs ≡ encode_utf8_all behind
 
+-- what is behind the beginning of a line, in bytes
 pub coming : (bs : List ℕ) (o n : ℕ) → IsUtf8 bs → (l : BeginsLine (chars bs) o n) → Coming bs o l.behind
 coming bs o n u l =
     let b : encode_utf8_all l.before ++ encode_utf8_all l.behind ≡ bs = sym (encodes-append l.before l.behind) ∙ (ap encode_utf8_all l.same ∙ encodes-chars bs u) in
@@ -176,6 +181,7 @@ lines_end bs part starts o u l p f a =
 pub counted_more : (bs : List ℕ) (o n : ℕ) → count_by begins_character (take (o + n) bs) ≡ count_by begins_character (take o bs) + count_by begins_character (take n (drop o bs))
 counted_more bs o n = ap (count_by begins_character) (take-add o n bs) ∙ sum_by-append (λ b. cond (begins_character b) 1 0) (take o bs) (take n (drop o bs))
 
+-- the slice from an offset to the end
 pub rest_of : (bs cs : List ℕ) (o : ℕ) → cs ≡ bs → take (length cs - o) (drop o cs) ≡ drop o bs
 rest_of bs cs o e = take_all (length cs - o) (drop o cs) (omega (arith, length-drop o cs)) ∙ ap (drop o) e
 
@@ -213,6 +219,7 @@ front_begins bs xs ys u e =
     let t : take (length (encode_utf8_all xs)) bs ≡ encode_utf8_all xs = rw (← b) (take-append_seam (encode_utf8_all xs) (encode_utf8_all ys)) in
     ap (count_by begins_character) t ∙ characters_begin xs
 
+-- the line and the column of a place, by its line's number and the characters that begin before
 pub position_is : (bs : List ℕ) (passed rest : Text) (starts : List ℕ) (offset line : ℕ) → IsUtf8 bs → AreStarts (chars bs) starts → passed ++ rest ≡ chars bs → offset ≡ length (encode_utf8_all passed) → line ≤ length starts → (0 < line → get_or starts (line - 1) 0 ≤ offset) → (line < length starts → offset < get_or starts line 0)
     → (line_behind passed ≡ 1 + line) × (column_behind passed ≡ 1 + (count_by begins_character (take offset bs) - count_by begins_character (take (entry_before starts line) bs)))
 position_is bs passed rest starts offset line u a e o w b f =
@@ -223,6 +230,7 @@ position_is bs passed rest starts offset line u a e o w b f =
     let z : length passed ≡ length l.before + length l.between = ap length l.same ∙ length-append l.before l.between in
     (l.is_line, omega (arith, l.is_column, x, y, z))
 
+-- a line begins at or before each of its places
 pub start_within : (bs starts : List ℕ) (offset line : ℕ) → (0 < line → get_or starts (line - 1) 0 ≤ offset) → entry_before starts line ≤ offset
 start_within bs starts offset zero b = omega arith
 start_within bs starts offset (suc k) b =

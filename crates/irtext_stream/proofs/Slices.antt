@@ -1,5 +1,5 @@
 -- Fronts of characters of a kind, and texts that come next, among bytes.
-use Rattle.std.proofs.Common.{◌≡◌, ℕ, zero, suc, ◌+◌, ◌-◌, ◌<◌, ◌≤◌, Bool, true, false, cond, Some, None, List, [], ◌∷◌, ◌++◌, length, get_or, take, drop, refl, sym, ◌∙◌, ap, subst, arith, length-append, length-drop, append_assoc, take-add, ◌&&◌}
+use Rattle.std.proofs.Common.{◌≡◌, ℕ, ◌+◌, ◌-◌, ◌<◌, ◌≤◌, Bool, true, false, cond, Some, None, List, [], ◌∷◌, ◌++◌, length, get_or, take, drop, refl, sym, ◌∙◌, ap, arith, length-append, length-drop, append_assoc, take-add, ◌&&◌}
 use Rattle.std.proofs.lemmas.List.{append-nil, drop-drop, take-append-drop}
 use Rattle.std.proofs.lemmas.Str.{encodes-chars, scalars-chars, encodes-append, chars-append, encode_same, encode_ascii, IsUtf8-append}
 use Rattle.std.proofs.Math.Seq.{take-append_seam}
@@ -7,7 +7,7 @@ use Rattle.std.specs.Str.{chars, IsUtf8, encode_utf8_all, all_scalars}
 use Rattle.std.specs.Char.{encode_utf8}
 use lib.Utf8.{scalar}
 use Rattle.irtext_stream.specs.Text.{Text, front, after}
-use Rattle.irtext_stream.specs.Stream.{StreamView, first_of, advanced_by, behind}
+use Rattle.irtext_stream.specs.Stream.{first_of, advanced_by}
 use Rattle.irtext_stream.specs.Index.{Ends, Behind, width_of}
 use Rattle.std.specs.Cmp.Lexicographic.{pointwise}
 use Rattle.std.proofs.lemmas.Slice.Eq.{starts_is}
@@ -27,6 +27,7 @@ pub record Ahead (bytes : List ℕ) (from : ℕ) (kind : ℕ → Bool) (at : ℕ
   pub front_is : taken ++ front kind (chars (drop at bytes)) ≡ front kind (chars (drop from bytes))
   pub after_is : after kind (chars (drop at bytes)) ≡ after kind (chars (drop from bytes))
 
+-- at first nothing was taken
 pub ahead_none : (bytes : List ℕ) (from : ℕ) (kind : ℕ → Bool) → from ≤ length bytes → IsUtf8 (take from bytes) → IsUtf8 (drop from bytes) → Ahead bytes from kind from
 ahead_none bytes from kind l f u = record { within = l; passed_utf8 = f; rest_utf8 = u; taken = []; passed = sym (append-nil (chars (take from bytes))); front_is = refl; after_is = refl }
 
@@ -46,6 +47,7 @@ next_of kind (c ∷ text) width e n = go (kind c) refl
     go true h = record { c = c; rest = text; is = refl; passes = h; size = e ∙ ap (λ b. cond b (length (encode_utf8 c)) 0) h }
     go false h = absurd (n (e ∙ ap (λ b. cond b (length (encode_utf8 c)) 0) h))
 
+-- one more character of the kind
 pub ahead_more : (bytes : List ℕ) (from : ℕ) (kind : ℕ → Bool) (at width : ℕ) → Ahead bytes from kind at → width ≡ width_of kind (chars (drop at bytes)) → (width ≡ 0 → ⊥) → Ahead bytes from kind (at + width)
 ahead_more bytes from kind at width a e n =
     let x = next_of kind (chars (drop at bytes)) width e n in
@@ -71,6 +73,7 @@ stops kind (c ∷ text) e = go (kind c) refl
     go true h = absurd (omega (arith, e ∙ ap (λ b. cond b (length (encode_utf8 c)) 0) h, encode_some c))
     go false h = (ap (λ b. cond b (c ∷ front kind text) []) h, ap (λ b. cond b (after kind text) (c ∷ text)) h)
 
+-- where no character of the kind comes the front ends
 pub ahead_ends : (bytes : List ℕ) (from : ℕ) (kind : ℕ → Bool) (at : ℕ) → Ahead bytes from kind at → 0 ≡ width_of kind (chars (drop at bytes)) → Ends bytes from kind at
 ahead_ends bytes from kind at a e =
     let s = stops kind (chars (drop at bytes)) e in
@@ -86,6 +89,7 @@ ahead_ends bytes from kind at a e =
 pub width_some : (kind : ℕ → Bool) (text : Text) (c : ℕ) → Some c ≡ first_of text → width_of kind text ≡ cond (kind c) (length (encode_utf8 c)) 0
 width_some kind text c e = let s = first_some text c e in ap (width_of kind) s.1
 
+-- there is none at the end
 pub width_none : (kind : ℕ → Bool) (text : Text) → None ≡ first_of text → width_of kind text ≡ 0
 width_none kind [] e = refl
 width_none kind (c ∷ text) e = absurd (cc)
@@ -101,6 +105,7 @@ utf8_behind (c ∷ xs) b (d ∷ zs) s e = utf8_behind xs b zs (more (scalar d) (
     more true b e = e
     more false b e = absurd (cc)
 
+-- the place behind a text whose bytes come next
 pub behind_text : (bytes : List ℕ) (o : ℕ) (text : List ℕ) → o ≤ length bytes → IsUtf8 (take o bytes) → IsUtf8 (drop o bytes) → IsUtf8 text → drop o bytes ≡ text ++ drop (length text) (drop o bytes) → Behind bytes o text
 behind_text bytes o text l f u t e =
     let d : drop (length text) (drop o bytes) ≡ drop (o + length text) bytes = drop-drop (length text) o bytes in
@@ -130,6 +135,7 @@ byte_width bs cs o b kind same u l e h =
     let n : Some b ≡ first_of (chars (drop o bs)) = ap Some f ∙ next_by_byte bs o u (omega (arith, l, ap length same)) (omega (arith, f, h)) in
     width_some kind (chars (drop o bs)) b n ∙ ap (λ k. cond (kind b) (length k) 0) (encode_ascii b h)
 
+-- no byte is left at the end
 pub no_width : (bs cs : List ℕ) (o : ℕ) (kind : ℕ → Bool) → cs ≡ bs → length cs ≤ o → width_of kind (chars (drop o bs)) ≡ 0
 no_width bs cs o kind same l = width_none kind (chars (drop o bs)) (next_at_end bs o (omega (arith, l, ap length same)))
 

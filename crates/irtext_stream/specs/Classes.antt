@@ -13,3 +13,12 @@ has class.HexadecimalDigit c = is_ascii_hexdigit c
 has class.Beginning c = begins_word c
 has class.Word c = in_word c
 has class.Dotted c = in_word c || c == 46
+
+-- a class's bit in a table of bytes
+abbrev pub bit_of : Class → ℕ
+bit_of class.WhiteSpace = 1
+bit_of class.Digit = 2
+bit_of class.HexadecimalDigit = 4
+bit_of class.Beginning = 8
+bit_of class.Word = 16
+bit_of class.Dotted = 32

@@ -59,4 +59,3 @@ pub record Behind (bytes : List ℕ) (o : ℕ) (text : List ℕ) : Type 0 where
   pub rest_utf8 : IsUtf8 (drop (o + length text) bytes)
   pub passed : chars (take (o + length text) bytes) ≡ chars (take o bytes) ++ chars text
   pub rest : chars (drop o bytes) ≡ chars text ++ chars (drop (o + length text) bytes)
-

@@ -1,6 +1,28 @@
 //! Classes of characters.
-ghost use Rattle.std.specs.Prelude.{◌≡◌, ◌<◌};
-ghost use Rattle.irtext_stream.specs.Classes.{has};
+ghost use Rattle.std.specs.Prelude.{◌≡◌, ◌<◌, get_or};
+ghost use Rattle.irtext_stream.specs.Classes.{has, bit_of};
+ghost use Rattle.irtext_stream.specs.declared.class.TheConstants.{CLASSES};
+
+// for each ASCII character the bits of its classes, and 0 for the other bytes
+const CLASSES: [u8; 256] = [
+    0, 0, 0, 0, 0, 0, 0, 0, 0, 1, 1, 1, 1, 1, 0, 0, 0, 0, 0, 0, 0, 0, 0, 0, 0, 0, 0, 0, 0, 0, 0, 0,
+    1, 0, 0, 0, 0, 0, 0, 0, 0, 0, 0, 0, 0, 0, 32, 0, 54, 54, 54, 54, 54, 54, 54, 54, 54, 54, 0, 0,
+    0, 0, 0, 0, 0, 60, 60, 60, 60, 60, 60, 56, 56, 56, 56, 56, 56, 56, 56, 56, 56, 56, 56, 56, 56,
+    56, 56, 56, 56, 56, 56, 0, 0, 0, 0, 56, 0, 60, 60, 60, 60, 60, 60, 56, 56, 56, 56, 56, 56, 56,
+    56, 56, 56, 56, 56, 56, 56, 56, 56, 56, 56, 56, 56, 0, 0, 0, 0, 0, 0, 0, 0, 0, 0, 0, 0, 0, 0,
+    0, 0, 0, 0, 0, 0, 0, 0, 0, 0, 0, 0, 0, 0, 0, 0, 0, 0, 0, 0, 0, 0, 0, 0, 0, 0, 0, 0, 0, 0, 0, 0,
+    0, 0, 0, 0, 0, 0, 0, 0, 0, 0, 0, 0, 0, 0, 0, 0, 0, 0, 0, 0, 0, 0, 0, 0, 0, 0, 0, 0, 0, 0, 0, 0,
+    0, 0, 0, 0, 0, 0, 0, 0, 0, 0, 0, 0, 0, 0, 0, 0, 0, 0, 0, 0, 0, 0, 0, 0, 0, 0, 0, 0, 0, 0, 0, 0,
+    0, 0, 0, 0, 0, 0, 0, 0, 0, 0, 0, 0, 0, 0, 0, 0, 0, 0, 0, 0, 0, 0, 0,
+];
+
+/// The bits of a byte's classes.
+#[inline(always)]
+fn classes_of(b: u8) -> u8
+    ensures { result ≡ get_or CLASSES b 0 }
+{
+    CLASSES[b as usize]
+}
 
 /// A class of characters.
 #[derive(Clone, Copy)]
@@ -39,13 +61,21 @@ impl Class {
         requires { b < 128 }
         ensures { result ≡ has self b }
     {
+        classes_of(b) & self.bit() != 0
+    }
+
+    /// The class's bit in the table.
+    #[inline(always)]
+    fn bit(self) -> u8
+        ensures { result ≡ bit_of self }
+    {
         match self {
-            Class::WhiteSpace => b == b' ' || (9 <= b && b <= 13),
-            Class::Digit => b.is_ascii_digit(),
-            Class::HexadecimalDigit => b.is_ascii_hexdigit(),
-            Class::Beginning => b.is_ascii_alphabetic() || b == b'_',
-            Class::Word => b.is_ascii_alphanumeric() || b == b'_',
-            Class::Dotted => b.is_ascii_alphanumeric() || b == b'_' || b == b'.',
+            Class::WhiteSpace => 1,
+            Class::Digit => 2,
+            Class::HexadecimalDigit => 4,
+            Class::Beginning => 8,
+            Class::Word => 16,
+            Class::Dotted => 32,
         }
     }
 }

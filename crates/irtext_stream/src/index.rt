@@ -115,32 +115,45 @@ impl TextIndex {
         ensures { IfOk result (λ index. Indexes text.now index) }
     {
         let starts = line_starts(alloc, text)?;
-        let bytes = text.as_bytes();
-        let single = count_characters(bytes) == bytes.len();
-        let blocks = if single {
-            Vec::new(alloc)
-        } else {
-            block_counts(alloc, bytes)?
-        };
+        if text.is_ascii() {
+            return Ok(TextIndex {
+                starts,
+                single: true,
+                blocks: Vec::new(alloc),
+            });
+        }
+        let blocks = block_counts(alloc, text.as_bytes())?;
         Ok(TextIndex {
             starts,
-            single,
+            single: false,
             blocks,
         })
     }
 
     /// How many characters begin before an offset.
     fn characters_before(&self, bytes: &[u8], offset: usize) -> usize
-        requires indexed { Indexes bytes.now self.now }
+        requires blocks { AreBlocks bytes.now self.now.blocks.items }
         requires within { offset ≤ length bytes.now }
         ensures { result ≡ count_by begins_character (take offset bytes.now) }
     {
-        if self.single {
-            return offset;
-        }
         let block = offset / BLOCK;
-        entry_before(&self.blocks, block)
-            + count_characters(&bytes[block * BLOCK..offset])
+        entry_before(&self.blocks, block) + count_characters(&bytes[block * BLOCK..offset])
+    }
+
+    /// How many characters begin between two offsets.
+    fn characters_between(&self, bytes: &[u8], start: usize, end: usize) -> usize
+        requires indexed { Indexes bytes.now self.now }
+        requires order { start ≤ end }
+        requires within { end ≤ length bytes.now }
+        ensures { count_by begins_character (take start bytes.now) + result ≡ count_by begins_character (take end bytes.now) }
+    {
+        if self.single {
+            return end - start;
+        }
+        if end - start < BLOCK {
+            return count_characters(&bytes[start..end]);
+        }
+        self.characters_before(bytes, end) - self.characters_before(bytes, start)
     }
 
     /// The line and the column of an offset where a character begins, or of the end.
@@ -149,11 +162,9 @@ impl TextIndex {
         requires within { offset ≤ length text.now }
         ensures { (passed rest : Text) → passed ++ rest ≡ chars text.now → offset ≡ length (encode_utf8_all passed) → IsAt result.line result.column passed }
     {
-        let bytes = text.as_bytes();
         let line = line_at(&self.starts, offset);
         let start = entry_before(&self.starts, line);
-        let characters =
-            self.characters_before(bytes, offset) - self.characters_before(bytes, start);
+        let characters = self.characters_between(text.as_bytes(), start, offset);
         SourcePosition {
             line: shown(line),
             column: shown(characters),

@@ -44,7 +44,21 @@ fn wide_at(text: &str, at: usize, class: Class) -> usize
 }
 
 /// Where the front of characters of a class ends that begins at an offset.
+#[inline(always)]
 pub(crate) fn end_of(text: &str, from: usize, class: Class) -> usize
+    requires within { from ≤ length text.now }
+    requires passed_utf8 { IsUtf8 (take from text.now) }
+    requires rest_utf8 { IsUtf8 (drop from text.now) }
+    ensures { Ends text.now from (has class) result }
+{
+    if width_at(text, from, class) == 0 {
+        return from;
+    }
+    end_of_run(text, from, class)
+}
+
+/// The same, where it is mostly not empty.
+fn end_of_run(text: &str, from: usize, class: Class) -> usize
     requires within { from ≤ length text.now }
     requires passed_utf8 { IsUtf8 (take from text.now) }
     requires rest_utf8 { IsUtf8 (drop from text.now) }

@@ -1,4 +1,4 @@
-use Rattle.std.proofs.Common.{◌≡◌, ◌∙◌, ◌+◌, ◌-◌, ◌*◌, ◌++◌, ◌∷◌, [], ℕ, suc, sym, refl, ap, arith, length, length-append, take, drop, get_or, count_by}
+use Rattle.std.proofs.Common.{◌≡◌, ◌∙◌, ◌+◌, ◌-◌, ◌*◌, ◌∷◌, [], ℕ, suc, ap, arith, length, length-append, take, drop, count_by}
 use Rattle.irtext_stream.specs.Index.{begins_character}
 use Rattle.irtext_stream.proofs.Lines.{counted_more, entries_more}
 use Rattle.irtext_stream.proofs.index.block_counts.Goals as goal

@@ -1,4 +1,4 @@
-use Rattle.std.proofs.Common.{◌≡◌, ◌≤◌, ◌<◌, ◌-◌, length, get_or}
+use Rattle.std.proofs.Common.{◌≤◌, ◌<◌, ◌-◌, length, get_or}
 use Rattle.irtext_stream.proofs.index.line_at.Given as goal
 
 abbrev pub invariant-loop-low : goal.invariant-loop-low

@@ -1,4 +1,4 @@
-use Rattle.std.proofs.Common.{◌≡◌, ◌∙◌, ◌+◌, ◌++◌, ◌∷◌, [], ℕ, suc, sym, refl, ap, arith, length, length-append, subst, drop, get_or}
+use Rattle.std.proofs.Common.{◌≡◌, ◌∙◌, ◌+◌, ◌∷◌, [], suc, ap, arith, length, length-append}
 use Rattle.std.specs.Str.{chars}
 use Rattle.irtext_stream.specs.Index.{BeginsLine}
 use Rattle.irtext_stream.proofs.Lines.{no_line, coming, line_found, lines_end, entries_more, rest_of}

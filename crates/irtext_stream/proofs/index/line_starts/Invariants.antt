@@ -1,4 +1,4 @@
-use Rattle.std.proofs.Common.{◌≡◌, ◌≤◌, ◌<◌, ◌-◌, ◌*◌, ℕ, suc, length, get_or, take, count_by}
+use Rattle.std.proofs.Common.{◌≡◌, ◌≤◌, ◌<◌, ◌-◌, ℕ, suc, length, get_or}
 use Rattle.std.specs.Str.{chars}
 use Rattle.irtext_stream.specs.Index.{BeginsLine}
 use Rattle.irtext_stream.proofs.index.line_starts.Given as goal

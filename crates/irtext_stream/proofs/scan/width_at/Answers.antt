@@ -1,4 +1,4 @@
-use Rattle.std.proofs.Common.{◌≡◌, ◌∙◌, Bool, cond, sym, ap}
+use Rattle.std.proofs.Common.{◌∙◌, cond, sym, ap}
 use Rattle.irtext_stream.specs.Classes.{has}
 use Rattle.irtext_stream.proofs.Slices.{byte_width, no_width}
 use Rattle.irtext_stream.proofs.scan.width_at.Goals as goal

@@ -1,4 +1,4 @@
-use Rattle.std.proofs.Common.{◌≡◌, ◌∙◌, ◌+◌, ◌++◌, ap, sym, refl, string_bytes, length, drop, take, subst}
+use Rattle.std.proofs.Common.{◌∙◌, ◌+◌, ap, sym, refl, string_bytes, length, drop}
 use Rattle.std.specs.Str.{chars}
 use Rattle.irtext_stream.specs.Stream.{StreamView, behind}
 use Rattle.irtext_stream.specs.Index.{Behind}

@@ -1,4 +1,4 @@
-use Rattle.std.proofs.Common.{◌≡◌, ◌∙◌, ◌++◌, ap, sym, arith, string_bytes, length}
+use Rattle.std.proofs.Common.{◌∙◌, ◌++◌, ap, sym, arith, string_bytes}
 use Rattle.irtext_stream.proofs.Bytes.{parts_at}
 use Rattle.irtext_stream.proofs.Slices.{all_chars}
 use Rattle.std.specs.Str.{chars}

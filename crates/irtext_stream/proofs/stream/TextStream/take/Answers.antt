@@ -1,4 +1,4 @@
-use Rattle.std.proofs.Common.{◌≡◌, Some, take, drop, ap, ◌∙◌, sym, string_bytes}
+use Rattle.std.proofs.Common.{◌≡◌, Some, drop, ap, ◌∙◌, sym, string_bytes}
 use Rattle.std.specs.Str.{chars}
 use Rattle.std.proofs.lemmas.Str.{length-encode}
 use Rattle.irtext_stream.specs.Stream.{first_of}

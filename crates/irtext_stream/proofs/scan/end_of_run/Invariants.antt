@@ -3,7 +3,7 @@ use Rattle.std.specs.Str.{chars}
 use Rattle.irtext_stream.specs.Classes.{has}
 use Rattle.irtext_stream.specs.Index.{width_of}
 use Rattle.irtext_stream.proofs.Slices.{Ahead}
-use Rattle.irtext_stream.proofs.scan.end_of.Given as goal
+use Rattle.irtext_stream.proofs.scan.end_of_run.Given as goal
 
 abbrev pub invariant-loop-width : goal.invariant-loop-width
 invariant-loop-width l = record {
