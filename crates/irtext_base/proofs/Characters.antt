@@ -7,29 +7,10 @@ use Rattle.std.specs.List.{list_all}
 use Rattle.irtext_base.specs.Text.{Text, begins, front, after, after_space, begins_word, in_word, is_identifier}
 use Rattle.irtext_base.specs.Format.{has}
 use Rattle.irtext_base.specs.Own.{can_follow, Ends}
+pub use Rattle.irtext_stream.proofs.Ascii.{and_left, and_right, ascii}
 
 pub in_word_small : (c : ℕ) → in_word c ≡ true → c < 128
 in_word_small c e = grind (arith, nat_tests)
-
-abbrev all_below : ℕ → (ℕ → Bool) → Bool
-all_below zero test = true
-all_below (suc n) test = test n && all_below n test
-
-pub and_left : (a b : Bool) → (a && b) ≡ true → a ≡ true
-and_left true b e = refl
-and_left false b e = e
-
-pub and_right : (a b : Bool) → (a && b) ≡ true → b ≡ true
-and_right true b e = e
-and_right false b e = absurd (true≢false (sym e))
-
-below_all : (n : ℕ) (test : ℕ → Bool) → all_below n test ≡ true → (c : ℕ) → c < n → test c ≡ true
-below_all zero test e c h = absurd (omega arith)
-below_all (suc n) test e c h = ⊎_elim (λ (i : c ≡ n). ap test i ∙ and_left (test n) (all_below n test) e) (λ (l : c < n). below_all n test (and_right (test n) (all_below n test) e) c l) (eq-or-lt_of_le (le_of_suc-le-suc h))
-
--- a law of ASCII characters is computed
-pub ascii : (test : ℕ → Bool) → all_below 128 test ≡ true → (c : ℕ) → c < 128 → test c ≡ true
-ascii test e c h = below_all 128 test e c h
 
 pub not_both : (a b : Bool) → not (a && b) ≡ true → a ≡ true → b ≡ true → ⊥
 not_both true true e f g = true≢false (sym e)
