@@ -2,7 +2,7 @@
 use Rattle.std.proofs.Common.{◌≡◌, ℕ, ◌<◌, Bool, true, false, Some, [], ◌∷◌, ◌++◌, length, refl, sym, ◌∙◌, ap, append_assoc, cond, arith}
 use Rattle.irtext_base.specs.Text.{Text, front, after}
 use Rattle.irtext_base.specs.Stream.{StreamView, first_of, advanced, advanced_by, behind}
-use Rattle.irtext_base.proofs.Bytes.{first_some}
+use Rattle.irtext_stream.proofs.Bytes.{first_some}
 
 -- one more character behind those taken
 advanced_behind : (v w : StreamView) (taken rest : Text) (c : ℕ) → w.rest ≡ c ∷ rest → w ≡ behind v taken w.rest → advanced w ≡ behind v (taken ++ (c ∷ [])) rest

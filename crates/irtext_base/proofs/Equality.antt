@@ -12,7 +12,7 @@ use Rattle.irtext_base.specs.Locations.{AttrView, LocationView, LocationViews, s
 use Rattle.irtext_base.specs.declared.location.Location.{Location}
 use Rattle.irtext_base.specs.declared.location.Source.{Source}
 use Rattle.irtext_base.specs.declared.location.Source.TheVariants.{File, InMemory}
-use Rattle.irtext_base.specs.declared.parsable.position.SourcePosition.{SourcePosition}
+use Rattle.irtext_stream.specs.declared.position.SourcePosition.{SourcePosition}
 
 -- the same test of what is equal to two values
 pub turned : {X : Type 0} (r t : Bool) {v w x y : X} → r ≡ t → v ≡ x → w ≡ y → Decides t (x ≡ y) → Decides r (v ≡ w)

@@ -1,5 +1,4 @@
 pub mod Along
-pub mod Bytes
 pub mod Compose
 pub mod Dictionaries
 pub mod Drops

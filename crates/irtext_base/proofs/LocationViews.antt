@@ -5,7 +5,7 @@ use Rattle.irtext_base.specs.declared.location.Location.{Location, fold-roll-Loc
 use Rattle.irtext_base.specs.declared.location.Location.TheOpen.{Location-F}
 use Rattle.irtext_base.specs.declared.location.Location.TheVariants.{SrcPos, Fused, Named, CallSite, Unknown, rolls-SrcPos, rolls-Fused, rolls-Named, rolls-CallSite, rolls-Unknown}
 use Rattle.irtext_base.specs.declared.location.Source.{Source}
-use Rattle.irtext_base.specs.declared.parsable.position.SourcePosition.{SourcePosition}
+use Rattle.irtext_stream.specs.declared.position.SourcePosition.{SourcePosition}
 use Rattle.irtext_base.specs.Locations.{LocationView, location_view, view_step, attr_view_in, in_row, src_pos, fused, named, call_site, unknown}
 
 pub seen-src_pos : {A : Type 0} (src : Source) (pos : SourcePosition) → location_view {A = A} (SrcPos src pos) ≡ src_pos src pos

@@ -11,7 +11,7 @@ use Rattle.irtext_base.specs.declared.location.Location.{Location}
 use Rattle.irtext_base.specs.declared.location.Location.TheVariants.{Fused, CallSite, SrcPos}
 use Rattle.irtext_base.specs.declared.location.Source.{Source}
 use Rattle.irtext_base.specs.declared.location.Source.TheVariants.{File, InMemory}
-use Rattle.irtext_base.specs.declared.parsable.position.SourcePosition.{SourcePosition}
+use Rattle.irtext_stream.specs.declared.position.SourcePosition.{SourcePosition}
 use Rattle.irtext_base.proofs.Drops.{none_left}
 use Rattle.irtext_base.proofs.LocationViews.{seen-src_pos, seen-fused, seen-call_site}
 use Rattle.irtext_base.proofs.PathKeys.{within, path_found, path_known, paths_stay, stays_known, written_same, both_true}

@@ -8,17 +8,13 @@ use Rattle.std.specs.Fmt.{digits}
 use Rattle.std.specs.Str.{IsAscii, all_scalars}
 use lib.Utf8.{scalar}
 use Rattle.irtext_base.specs.Text.{Text}
+pub use Rattle.irtext_stream.proofs.Bytes.{scalars_more}
 use Rattle.irtext_base.specs.Quoted.{hexadecimal, image_of, images, quoted}
 use Rattle.irtext_base.proofs.Characters.{ascii, and_left, and_right}
 
 -- a text of such characters
 abbrev pub AreScalars : Text → Type 0
 AreScalars text = all_scalars text ≡ true
-
--- two such texts make one
-pub scalars_more : (xs ys : Text) → AreScalars xs → AreScalars ys → AreScalars (xs ++ ys)
-scalars_more [] ys e f = f
-scalars_more (c ∷ xs) ys e f = rw (and_left (scalar c) (all_scalars xs) e, scalars_more xs ys (and_right (scalar c) (all_scalars xs) e) f) refl
 
 -- so is ASCII
 pub scalars_ascii : (text : Text) → IsAscii text → AreScalars text

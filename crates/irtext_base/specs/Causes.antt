@@ -1,6 +1,6 @@
 -- The texts of causes and errors, in bytes.
 use Rattle.std.specs.Prelude.{ℕ, Option, Some, None, List, ◌++◌, codes, string_bytes}
-use Rattle.std.specs.Fmt.{signed_decimal, decimal}
+use Rattle.std.specs.Fmt.{decimal}
 use Rattle.std.specs.Char.{encode_utf8}
 use Rattle.irtext_base.specs.declared.base.identifier.OpId.{OpId}
 use Rattle.irtext_base.specs.declared.result.ErrorKind.{ErrorKind}
@@ -16,7 +16,7 @@ use Rattle.irtext_base.specs.declared.parsable.names.UnresolvedReference as refe
 use Rattle.irtext_base.specs.declared.parsable.names.ParserNameTrackerError as tracker
 use Rattle.irtext_base.specs.declared.parsable.names.ParserNameTrackerError.TheVariants as tracked
 use Rattle.irtext_base.specs.declared.result.Error.{Error}
-use Rattle.irtext_base.specs.declared.parsable.position.SourcePosition.{SourcePosition}
+pub use Rattle.irtext_stream.specs.Places.{position_text}
 
 -- what a dictionary refuses, as a cause
 abbrev pub cause_of : {A : Type 0} → Refusal → Cause A
@@ -32,10 +32,6 @@ abbrev pub kind_text : ErrorKind → List ℕ
 kind_text InvalidInput = codes "invalid input program"
 kind_text VerificationFailed = codes "verification failed"
 kind_text InvalidArgument = codes "invalid argument"
-
--- the text of a place: its line and its column
-abbrev pub position_text : SourcePosition → List ℕ
-position_text at = codes "line: " ++ (signed_decimal at.line ++ (codes ", column: " ++ signed_decimal at.column))
 
 -- a character between backquotes, or the words for the end
 abbrev pub found_text : Option ℕ → List ℕ

@@ -8,7 +8,7 @@ use Rattle.irtext_base.specs.declared.location.Source.{Source}
 use Rattle.irtext_base.specs.declared.location.Source.TheVariants.{File, InMemory}
 use Rattle.irtext_base.specs.declared.location.Location.{Location, fold-Location, Unknown}
 use Rattle.irtext_base.specs.declared.location.Location.TheOpen.{Location-F}
-use Rattle.irtext_base.specs.declared.parsable.position.SourcePosition.{SourcePosition}
+use Rattle.irtext_stream.specs.declared.position.SourcePosition.{SourcePosition}
 use Rattle.irtext_base.specs.declared.result.Cause.{Memory}
 use Rattle.irtext_base.specs.declared.result.Error.{Error}
 use Rattle.irtext_base.specs.declared.result.ErrorKind.TheVariants.{InvalidArgument}

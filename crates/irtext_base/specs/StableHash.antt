@@ -4,7 +4,7 @@ use Rattle.std.specs.Hash as fed
 use Rattle.std.specs.Hash.{HashWrites}
 use Rattle.irtext_base.specs.declared.location.Source.{Source}
 use Rattle.irtext_base.specs.declared.location.Source.TheVariants.{File, InMemory}
-use Rattle.irtext_base.specs.declared.parsable.position.SourcePosition.{SourcePosition}
+pub use Rattle.irtext_stream.specs.Places.{position_writes}
 use Rattle.irtext_base.specs.Locations.{AttrView, given_names, ident, own, LocationView, src_pos, fused, named, call_site, unknown, LocationViews, no_location, location}
 
 -- the writes for the text of a path
@@ -16,10 +16,6 @@ path_writes (Some path) = fed.str path
 abbrev pub source_writes : List (List ℕ) → Source → HashWrites
 source_writes paths (File key) = fed.u8 0 ++ path_writes (slice_get paths key.index)
 source_writes paths InMemory = fed.u8 1
-
--- the writes for a position: its line and its column
-abbrev pub position_writes : SourcePosition → HashWrites
-position_writes at = fed.i32 at.line ++ fed.i32 at.column
 
 -- how many locations stand in a row
 abbrev pub row_len : {A : Type 0} → LocationViews A → ℕ

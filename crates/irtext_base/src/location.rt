@@ -11,6 +11,8 @@ mod made;
 pub mod paths;
 pub mod sources;
 
+pub use into_context::CloneIntoContext;
+
 use crate::base::AttrObj;
 use crate::parsable::SourcePosition;
 use crate::result::{Cause, Error, ErrorKind};

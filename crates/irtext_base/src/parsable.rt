@@ -1,13 +1,11 @@
 //! The stream of a text, and the faults of readers.
 
-pub mod char_stream;
 pub mod fault;
 pub mod names;
-pub mod position;
-pub mod stream;
 
-pub use char_stream::CharStream;
 pub use fault::{ParseFault, ParseResult};
+pub use irtext_stream::char_stream::CharStream;
+pub use irtext_stream::class::Class;
+pub use irtext_stream::position::{Place, SourcePosition};
+pub use irtext_stream::stream::TextStream;
 pub use names::{ParserNameTrackerError, UnresolvedReference};
-pub use position::{Place, SourcePosition};
-pub use stream::TextStream;

@@ -10,7 +10,7 @@ use Rattle.irtext_base.specs.Faults.{AnIdentifier, Unexpected}
 use Rattle.irtext_base.specs.Answers.{Outcome, Read, Missing, Bad, Takes, Gives, mapped}
 use Rattle.irtext_base.specs.Places.{StandsBehind, IsPlaceOf}
 use Rattle.irtext_base.specs.declared.parsable.fault.ParseFault.{ParseFault}
-use Rattle.irtext_base.specs.declared.parsable.position.Place.{Place}
+use Rattle.irtext_stream.specs.declared.position.Place.{Place}
 use Rattle.irtext_base.proofs.Along.{front_after}
 use Rattle.irtext_base.proofs.Compose.{gives_mapped, refuses_mapped, seen_after, takes_stands}
 use Rattle.irtext_read.specs.Tokens.{word_at, text_at, identifier_at}

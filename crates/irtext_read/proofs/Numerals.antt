@@ -13,7 +13,7 @@ use Rattle.irtext_base.specs.Places.{StandsBehind}
 use Rattle.irtext_base.specs.Faults.{Fault, NumberRange, Unexpected, Word, AHexadecimalDigit}
 use Rattle.irtext_base.specs.Answers.{Outcome, Read, Missing, Bad, Takes, Starves, StarvesHere, FailsBehind, Refuses, Gives, NeedsNoMemory, unless_failed, prefixed, followed}
 use Rattle.irtext_base.specs.declared.parsable.fault.ParseFault.{ParseFault}
-use Rattle.irtext_base.specs.declared.parsable.position.Place.{Place}
+use Rattle.irtext_stream.specs.declared.position.Place.{Place}
 use Rattle.irtext_base.proofs.Compose.{seen_after, takes_more, starves_behind, refuses_before}
 use Rattle.irtext_read.specs.Tokens.{sign_of, after_sign, fitting, text_at, spelled_at}
 use Rattle.irtext_read.specs.Integers.{within, within_of, signed_integer, hexadecimal_integer, signed_text, sign_text, no_digit_behind, sign_at, before_hexadecimal, hexadecimal_mark_at, ranged, numeral_at}

@@ -9,7 +9,7 @@ use Rattle.irtext_base.specs.Stream.{StreamView, first_of, advanced, advanced_by
 use Rattle.irtext_base.specs.Faults.{Fault, Word, Unexpected, AHexadecimalDigit, AnEscapedCharacter, BadEscape, BadUnicodeEscape}
 use Rattle.irtext_base.specs.Answers.{Outcome, Read, Missing, Bad, Takes, Starves, StarvesHere, FailsBehind, Commits, Answers, Gives, Refuses, demanded, prefixed, mapped, followed, unless_failed}
 use Rattle.irtext_base.specs.declared.parsable.fault.ParseFault.{ParseFault}
-use Rattle.irtext_base.proofs.Bytes.{first_some}
+use Rattle.irtext_stream.proofs.Bytes.{first_some}
 use Rattle.irtext_base.proofs.Compose.{takes_none, takes_fine, seen_after, takes_more, starves_after, starves_behind, commits_after, refuses_before, answers_after}
 use Rattle.irtext_read.specs.QuotedTexts.{is_plain, escape_of, character_of, closed, braced, unicode_at, unit_at, units_at}
 use Rattle.irtext_read.proofs.Spelling.{begins_the, takes_next}

@@ -9,7 +9,7 @@ use Rattle.irtext_base.specs.Text.{Text, begins, front, begins_word, in_word, is
 use Rattle.irtext_base.specs.Stream.{StreamView}
 use Rattle.irtext_base.specs.Places.{StandsBehind}
 use Rattle.irtext_base.specs.Answers.{Takes}
-use Rattle.irtext_base.specs.declared.parsable.position.Place.{Place}
+use Rattle.irtext_stream.specs.declared.position.Place.{Place}
 use Rattle.irtext_base.proofs.Compose.{seen_after, takes_stands}
 
 in_word_ascii : (c : ℕ) → in_word c ≡ true → c < 128

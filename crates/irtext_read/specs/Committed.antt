@@ -1,7 +1,7 @@
 -- Errors as committed faults of a reading.
 use Rattle.std.specs.Prelude.{true, pos, Result, Ok, Err}
 use Rattle.irtext_base.specs.declared.location.Location.{Location, SrcPos}
-use Rattle.irtext_base.specs.declared.parsable.position.SourcePosition.{SourcePosition}
+use Rattle.irtext_stream.specs.declared.position.SourcePosition.{SourcePosition}
 use Rattle.irtext_base.specs.declared.parsable.fault.ParseFault.{ParseFault}
 use Rattle.irtext_base.specs.declared.result.Error.{Error}
 

@@ -7,7 +7,7 @@ use Rattle.irtext_context.specs.declared.base.arena.Ptr.{Ptr}
 use Rattle.irtext_context.specs.declared.base.operation.Operation.{Operation}
 use Rattle.irtext_base.specs.declared.location.Location.{Location, SrcPos}
 use Rattle.irtext_base.specs.declared.location.Source.{Source}
-use Rattle.irtext_base.specs.declared.parsable.position.SourcePosition.{SourcePosition}
+use Rattle.irtext_stream.specs.declared.position.SourcePosition.{SourcePosition}
 use Rattle.irtext_state.specs.declared.parsable.state.State.{State}
 
 -- whether two indices are one

@@ -1,5 +1,5 @@
 //! Where operations and errors come from.
 
-pub use irtext_base::location::{Location, PathKey, Source};
+pub use irtext_base::location::{CloneIntoContext, Location, PathKey, Source};
 pub use irtext_base::parsable::SourcePosition;
 pub use irtext_context::location::erase_locations;

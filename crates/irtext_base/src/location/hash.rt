@@ -2,13 +2,12 @@
 ghost use Rattle.std.specs.Prelude.{◌≡◌, map, length, fold, IsTrue};
 ghost use Rattle.irtext_base.specs.Locations.{location_view, attr_view, attr_view_in, in_row};
 ghost use Rattle.irtext_base.specs.Paths.{is_known, are_known, row_known};
-ghost use Rattle.irtext_base.specs.StableHash.{source_writes, position_writes, attr_writes, metadata_writes, location_writes, row_writes, row_len};
+ghost use Rattle.irtext_base.specs.StableHash.{source_writes, attr_writes, metadata_writes, location_writes, row_writes, row_len};
 ghost use Rattle.std.specs.Hash as fed;
 
 use crate::base::AttrObj;
 use crate::location::paths::{HasPaths, Paths};
 use crate::location::{Location, Source};
-use crate::parsable::SourcePosition;
 use crate::text::AttrText;
 use std::hash::{Hash, Hasher};
 
@@ -23,13 +22,6 @@ fn hash_source<H: Hasher>(source: Source, paths: &Paths, state: &mut H)
         }
         Source::InMemory => state.write_u8(1),
     }
-}
-
-fn hash_position<H: Hasher>(pos: SourcePosition, state: &mut H)
-    ensures { state.new ≡ fold H.write state.old (position_writes pos) }
-{
-    state.write_i32(pos.line);
-    state.write_i32(pos.column);
 }
 
 fn hash_attr<A: AttrText, H: Hasher>(attr: &AttrObj<A>, state: &mut H)
@@ -66,7 +58,7 @@ fn hash_location<A: AttrText, H: Hasher>(location: &Location<A>, paths: &Paths, 
         Location::SrcPos { src, pos } => {
             state.write_u8(0);
             hash_source(*src, paths, state);
-            hash_position(*pos, state);
+            pos.stable_hash(paths, state);
         }
         Location::Fused {
             metadata,
@@ -112,15 +104,6 @@ impl Source {
         ensures { state.new ≡ fold H.write state.old (source_writes (C.paths ctx.now) self.now) }
     {
         hash_source(*self, ctx.paths(), state);
-    }
-}
-
-impl SourcePosition {
-    /// Feeds a hasher the line, and then the column.
-    pub fn stable_hash<C: HasPaths<A>, A, H: Hasher>(&self, _ctx: &C, state: &mut H)
-        ensures { state.new ≡ fold H.write state.old (position_writes self.now) }
-    {
-        hash_position(*self, state);
     }
 }
 

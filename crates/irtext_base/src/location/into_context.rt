@@ -128,16 +128,24 @@ impl Source {
     }
 }
 
-impl SourcePosition {
-    /// The same position, which is so in any context. It is never refused.
-    pub fn clone_into_context<C: HasPaths<A>, A>(
+/// What is the same in any context, since it mentions no path.
+pub trait CloneIntoContext: Sized {
+    /// The same value for another context, which stays as it was. It is never refused.
+    fn clone_into_context<C: HasPaths<A>, A>(
+        &self,
+        src_ctx: &C,
+        dst_ctx: &mut C,
+    ) -> crate::result::Result<Self, A>
+        ensures ok { result ≡ Ok self.now }
+        ensures same { dst_ctx.new ≡ dst_ctx.old };
+}
+
+impl CloneIntoContext for SourcePosition {
+    fn clone_into_context<C: HasPaths<A>, A>(
         &self,
         _src_ctx: &C,
         dst_ctx: &mut C,
-    ) -> crate::result::Result<SourcePosition, A>
-        ensures ok { result ≡ Ok self.now }
-        ensures same { dst_ctx.new ≡ dst_ctx.old }
-    {
+    ) -> crate::result::Result<SourcePosition, A> {
         Ok(*self)
     }
 }

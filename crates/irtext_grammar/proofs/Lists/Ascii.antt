@@ -13,7 +13,7 @@ use Rattle.std.specs.Str.{IsAscii, encode_utf8_all}
 use Rattle.irtext_base.proofs.Characters.{in_word_small}
 use Rattle.irtext_base.specs.Text.{is_identifier, in_word, begins_word}
 use Rattle.irtext_base.specs.Causes.{position_text}
-use Rattle.irtext_base.specs.declared.parsable.position.SourcePosition.{SourcePosition}
+use Rattle.irtext_stream.specs.declared.position.SourcePosition.{SourcePosition}
 
 -- the bytes of an ASCII text
 pub encodes-ascii : (text : List ℕ) → IsAscii text → encode_utf8_all text ≡ text

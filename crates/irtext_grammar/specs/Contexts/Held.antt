@@ -13,7 +13,7 @@ use Rattle.irtext_context.specs.declared.base.region.Region.{Region}
 use Rattle.irtext_base.specs.Locations.{location_view}
 use Rattle.irtext_base.specs.Paths.{Written, written_with}
 use Rattle.irtext_base.specs.declared.location.Location.{Location}
-use Rattle.irtext_base.specs.declared.parsable.position.SourcePosition.{SourcePosition}
+use Rattle.irtext_stream.specs.declared.position.SourcePosition.{SourcePosition}
 use Rattle.irtext_grammar.specs.Grammar.Forest.{Regions, region, no_regions, no_blocks}
 use Rattle.irtext_grammar.specs.Grammar.Tree.{Attribute, given_names, ident, own}
 use Rattle.irtext_grammar.specs.Graphs.Build.{Built, BuiltOp}

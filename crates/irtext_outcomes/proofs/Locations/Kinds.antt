@@ -8,7 +8,7 @@ use Rattle.irtext_base.specs.Causes.{position_text}
 use Rattle.irtext_base.specs.Locations.{AttrView, src_pos, fused, named, call_site, unknown, location}
 use Rattle.irtext_base.specs.Paths.{Written}
 use Rattle.irtext_base.specs.Quoted.{quoted}
-use Rattle.irtext_base.specs.declared.parsable.position.SourcePosition.{SourcePosition}
+use Rattle.irtext_stream.specs.declared.position.SourcePosition.{SourcePosition}
 use Rattle.irtext_base.proofs.Characters.{word_tight}
 use Rattle.irtext_read.specs.Tokens.{text_at}
 use Rattle.irtext_outcomes.specs.Readers.Positions.{space_at, spaced_at, position_at}

@@ -10,7 +10,7 @@ use Rattle.irtext_base.specs.Text.{Text, begins}
 use Rattle.irtext_base.specs.Answers.{Outcome, Read, followed, mapped}
 use Rattle.irtext_base.specs.Causes.{position_text}
 use Rattle.irtext_base.specs.Quoted.{quoted}
-use Rattle.irtext_base.specs.declared.parsable.position.SourcePosition.{SourcePosition}
+use Rattle.irtext_stream.specs.declared.position.SourcePosition.{SourcePosition}
 use Rattle.irtext_read.specs.Tokens.{text_at, integer_at}
 use Rattle.irtext_read.proofs.QuotedBack.{quoted_back}
 use Rattle.irtext_outcomes.specs.Readers.Positions.{spaced_at, labelled_at, position_at}

@@ -16,7 +16,7 @@ use Rattle.irtext_base.specs.Answers.{Outcome, Read, Missing, Bad, Takes, Starve
 use Rattle.irtext_base.specs.Places.{StandsBehind}
 use Rattle.irtext_base.specs.declared.base.identifier.OpId.{OpId}
 use Rattle.irtext_base.specs.declared.parsable.fault.ParseFault.{ParseFault}
-use Rattle.irtext_base.specs.declared.parsable.position.Place.{Place}
+use Rattle.irtext_stream.specs.declared.position.Place.{Place}
 use Rattle.irtext_base.proofs.Compose.{seen_after, takes_more, answers_after, answers_demanded, takes_stands, stands_failed}
 use Rattle.irtext_read.proofs.Spelling.{begins_the, takes_next, takes_none_is}
 use Rattle.irtext_read.proofs.Words.{text_stays}

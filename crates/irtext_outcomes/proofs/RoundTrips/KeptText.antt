@@ -11,7 +11,7 @@ use Rattle.irtext_base.specs.Locations.{AttrView, given_names, ident, own, src_p
 use Rattle.irtext_base.specs.Paths.{Written}
 use Rattle.irtext_base.specs.Own.{Texts, Lawful}
 use Rattle.irtext_base.specs.Quoted.{quoted}
-use Rattle.irtext_base.specs.declared.parsable.position.SourcePosition.{SourcePosition}
+use Rattle.irtext_stream.specs.declared.position.SourcePosition.{SourcePosition}
 use Rattle.irtext_base.specs.declared.location.Location.{Location, Unknown}
 use Rattle.irtext_base.proofs.Scalars.{AreScalars, scalars_more, scalars_ascii, scalars_quoted}
 use Rattle.irtext_grammar.specs.Spelling.AttrText.{IsSpellableAttr, attr_text}

@@ -15,7 +15,7 @@ use Rattle.irtext_context.specs.declared.base.region.Region.{Region}
 use Rattle.irtext_base.specs.Locations.{AttrView, src_pos}
 use Rattle.irtext_base.specs.declared.location.Source.{Source}
 use Rattle.irtext_base.specs.declared.parsable.fault.ParseFault.{ParseFault}
-use Rattle.irtext_base.specs.declared.parsable.position.SourcePosition.{SourcePosition}
+use Rattle.irtext_stream.specs.declared.position.SourcePosition.{SourcePosition}
 use Rattle.irtext_state.specs.States.{marks_of}
 use Rattle.irtext_state.specs.declared.parsable.state.StateStream.{StateStream}
 use Rattle.irtext_grammar.specs.Names.Acts.{failures_of}

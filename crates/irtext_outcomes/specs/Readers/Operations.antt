@@ -18,7 +18,7 @@ use Rattle.irtext_base.specs.Stream.{StreamView, IsAt, after_failure}
 use Rattle.irtext_base.specs.Places.{StandsBehind}
 use Rattle.irtext_base.specs.declared.base.identifier.OpId.{OpId}
 use Rattle.irtext_base.specs.declared.parsable.fault.ParseFault.{ParseFault}
-use Rattle.irtext_base.specs.declared.parsable.position.Place.{Place}
+use Rattle.irtext_stream.specs.declared.position.Place.{Place}
 
 -- an id that stands behind a lead, where its operation is registered: a fault of the dialect stands at the id, one of the name at the lead
 abbrev pub registered_behind : List (Text × Table) → Text → Outcome Id → Outcome Id

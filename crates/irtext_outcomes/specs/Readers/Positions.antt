@@ -6,7 +6,7 @@ use Rattle.irtext_read.specs.Infix.{◌▷◌, ◌▶◌, ◌⇒◌}
 pub use Rattle.irtext_read.specs.Tokens.{space_at}
 pub use Rattle.irtext_read.specs.Demanded.{spaced_at}
 use Rattle.irtext_read.specs.Tokens.{word, integer_at}
-use Rattle.irtext_base.specs.declared.parsable.position.SourcePosition.{SourcePosition}
+use Rattle.irtext_stream.specs.declared.position.SourcePosition.{SourcePosition}
 
 -- a word, `:` and a number
 abbrev pub labelled_at : Text → Text → Outcome ℤ

@@ -7,7 +7,7 @@ use Rattle.irtext_base.specs.Faults.{ReservedKey}
 use Rattle.irtext_base.specs.Locations.{AttrView}
 use Rattle.irtext_base.specs.declared.base.attributes.AttrObj.{AttrObj}
 use Rattle.irtext_base.specs.declared.parsable.fault.ParseFault.{ParseFault}
-use Rattle.irtext_base.specs.declared.parsable.position.Place.{Place}
+use Rattle.irtext_stream.specs.declared.position.Place.{Place}
 use Rattle.irtext_read.specs.Tokens.{identifier_at}
 use Rattle.irtext_grammar.specs.Names.Acts.{may_hold}
 use Rattle.irtext_outcomes.specs.Readers.Positions.{spaced_at}

@@ -11,7 +11,7 @@ use Rattle.std.specs.List.{list_all}
 use Rattle.std.specs.Str.{encode_utf8_all, IsAscii}
 use Rattle.irtext_base.specs.Text.{Text, is_identifier}
 use Rattle.irtext_base.specs.Causes.{position_text}
-use Rattle.irtext_base.specs.declared.parsable.position.SourcePosition.{SourcePosition}
+use Rattle.irtext_stream.specs.declared.position.SourcePosition.{SourcePosition}
 use Rattle.irtext_print.specs.Errors.Located.{between, framed}
 use Rattle.irtext_print.specs.Printers.PrintedOperation.{entry_text}
 use Rattle.irtext_grammar.specs.Spelling.Spell.{joined, joined_from, comma}

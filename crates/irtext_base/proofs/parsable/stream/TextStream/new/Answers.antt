@@ -1,9 +1,0 @@
-use Rattle.std.proofs.Common.{rules, arith, refl}
-use Rattle.std.proofs.lemmas.Str.{chars-nil, IsUtf8-nil, IsUtf8-string_bytes}
-use Rattle.irtext_base.proofs.parsable.stream.TextStream.new.Goals as goal
-
-pub invariant_of-result : goal.invariant_of-result
-invariant_of-result c = (omega arith, IsUtf8-nil, IsUtf8-string_bytes c.in_ok-text.text, rw chars-nil (refl, refl))
-
-pub returns : goal.returns
-returns c = search (rules, chars-nil)

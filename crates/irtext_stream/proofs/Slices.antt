@@ -1,0 +1,140 @@
+-- Fronts of characters of a kind, and texts that come next, among bytes.
+use Rattle.std.proofs.Common.{◌≡◌, ℕ, zero, suc, ◌+◌, ◌-◌, ◌<◌, ◌≤◌, Bool, true, false, cond, Some, None, List, [], ◌∷◌, ◌++◌, length, get_or, take, drop, refl, sym, ◌∙◌, ap, subst, arith, length-append, length-drop, append_assoc, take-add, ◌&&◌}
+use Rattle.std.proofs.lemmas.List.{append-nil, drop-drop, take-append-drop}
+use Rattle.std.proofs.lemmas.Str.{encodes-chars, scalars-chars, encodes-append, chars-append, encode_same, encode_ascii, IsUtf8-append}
+use Rattle.std.proofs.Math.Seq.{take-append_seam}
+use Rattle.std.specs.Str.{chars, IsUtf8, encode_utf8_all, all_scalars}
+use Rattle.std.specs.Char.{encode_utf8}
+use lib.Utf8.{scalar}
+use Rattle.irtext_stream.specs.Text.{Text, front, after}
+use Rattle.irtext_stream.specs.Stream.{StreamView, first_of, advanced_by, behind}
+use Rattle.irtext_stream.specs.Index.{Ends, Behind, width_of}
+use Rattle.std.specs.Cmp.Lexicographic.{pointwise}
+use Rattle.std.proofs.lemmas.Slice.Eq.{starts_is}
+use Rattle.std.proofs.lemmas.Bool.Decides.{Decides-eqb}
+use lib.Dec.{eqb}
+use Rattle.irtext_stream.proofs.Lines.{rest_of}
+use Rattle.irtext_stream.proofs.Encoded.{encode_some}
+use Rattle.irtext_stream.proofs.Bytes.{first_some, one_more, next_by_byte, next_at_end}
+
+-- the front of characters of a kind has come so far
+pub record Ahead (bytes : List ℕ) (from : ℕ) (kind : ℕ → Bool) (at : ℕ) : Type 0 where
+  pub within : at ≤ length bytes
+  pub passed_utf8 : IsUtf8 (take at bytes)
+  pub rest_utf8 : IsUtf8 (drop at bytes)
+  pub taken : Text
+  pub passed : chars (take at bytes) ≡ chars (take from bytes) ++ taken
+  pub front_is : taken ++ front kind (chars (drop at bytes)) ≡ front kind (chars (drop from bytes))
+  pub after_is : after kind (chars (drop at bytes)) ≡ after kind (chars (drop from bytes))
+
+pub ahead_none : (bytes : List ℕ) (from : ℕ) (kind : ℕ → Bool) → from ≤ length bytes → IsUtf8 (take from bytes) → IsUtf8 (drop from bytes) → Ahead bytes from kind from
+ahead_none bytes from kind l f u = record { within = l; passed_utf8 = f; rest_utf8 = u; taken = []; passed = sym (append-nil (chars (take from bytes))); front_is = refl; after_is = refl }
+
+-- a width that is not 0 is of a character of the kind
+record Next (kind : ℕ → Bool) (text : Text) (width : ℕ) : Type 0 where
+  pub c : ℕ
+  pub rest : Text
+  pub is : text ≡ c ∷ rest
+  pub passes : kind c ≡ true
+  pub size : width ≡ length (encode_utf8 c)
+
+next_of : (kind : ℕ → Bool) (text : Text) (width : ℕ) → width ≡ width_of kind text → (width ≡ 0 → ⊥) → Next kind text width
+next_of kind [] width e n = absurd (n e)
+next_of kind (c ∷ text) width e n = go (kind c) refl
+  where
+    go : (b : Bool) → kind c ≡ b → Next kind (c ∷ text) width
+    go true h = record { c = c; rest = text; is = refl; passes = h; size = e ∙ ap (λ b. cond b (length (encode_utf8 c)) 0) h }
+    go false h = absurd (n (e ∙ ap (λ b. cond b (length (encode_utf8 c)) 0) h))
+
+pub ahead_more : (bytes : List ℕ) (from : ℕ) (kind : ℕ → Bool) (at width : ℕ) → Ahead bytes from kind at → width ≡ width_of kind (chars (drop at bytes)) → (width ≡ 0 → ⊥) → Ahead bytes from kind (at + width)
+ahead_more bytes from kind at width a e n =
+    let x = next_of kind (chars (drop at bytes)) width e n in
+    let m = one_more bytes at width x.c a.within a.passed_utf8 a.rest_utf8 (sym (ap first_of x.is)) x.size in
+    let r : chars (drop (at + width) bytes) ≡ x.rest = ap (λ v. v.rest) (m.advances false) ∙ ap (λ t. (advanced_by (chars (take at bytes)) t false).rest) x.is in
+    let f : front kind (chars (drop at bytes)) ≡ x.c ∷ front kind x.rest = ap (front kind) x.is ∙ ap (λ b. cond b (x.c ∷ front kind x.rest) []) x.passes in
+    let g : after kind (chars (drop at bytes)) ≡ after kind x.rest = ap (after kind) x.is ∙ ap (λ b. cond b (after kind x.rest) (x.c ∷ x.rest)) x.passes in
+    record {
+      within = m.within;
+      passed_utf8 = m.passed_utf8;
+      rest_utf8 = m.rest_utf8;
+      taken = a.taken ++ (x.c ∷ []);
+      passed = m.passed ∙ (ap (λ t. t ++ (x.c ∷ [])) a.passed ∙ append_assoc (chars (take from bytes)) a.taken (x.c ∷ []));
+      front_is = ap (λ t. (a.taken ++ (x.c ∷ [])) ++ front kind t) r ∙ (append_assoc a.taken (x.c ∷ []) (front kind x.rest) ∙ (ap (λ t. a.taken ++ t) (sym f) ∙ a.front_is));
+      after_is = ap (after kind) r ∙ (sym g ∙ a.after_is);
+    }
+
+stops : (kind : ℕ → Bool) (text : Text) → 0 ≡ width_of kind text → (front kind text ≡ []) × (after kind text ≡ text)
+stops kind [] e = (refl, refl)
+stops kind (c ∷ text) e = go (kind c) refl
+  where
+    go : (b : Bool) → kind c ≡ b → (front kind (c ∷ text) ≡ []) × (after kind (c ∷ text) ≡ c ∷ text)
+    go true h = absurd (omega (arith, e ∙ ap (λ b. cond b (length (encode_utf8 c)) 0) h, encode_some c))
+    go false h = (ap (λ b. cond b (c ∷ front kind text) []) h, ap (λ b. cond b (after kind text) (c ∷ text)) h)
+
+pub ahead_ends : (bytes : List ℕ) (from : ℕ) (kind : ℕ → Bool) (at : ℕ) → Ahead bytes from kind at → 0 ≡ width_of kind (chars (drop at bytes)) → Ends bytes from kind at
+ahead_ends bytes from kind at a e =
+    let s = stops kind (chars (drop at bytes)) e in
+    record {
+      within = a.within;
+      passed_utf8 = a.passed_utf8;
+      rest_utf8 = a.rest_utf8;
+      passed = a.passed ∙ ap (λ t. chars (take from bytes) ++ t) (sym (append-nil a.taken) ∙ (ap (λ t. a.taken ++ t) (sym s.0) ∙ a.front_is));
+      rest = sym s.1 ∙ a.after_is;
+    }
+
+-- the width of a character that is known
+pub width_some : (kind : ℕ → Bool) (text : Text) (c : ℕ) → Some c ≡ first_of text → width_of kind text ≡ cond (kind c) (length (encode_utf8 c)) 0
+width_some kind text c e = let s = first_some text c e in ap (width_of kind) s.1
+
+pub width_none : (kind : ℕ → Bool) (text : Text) → None ≡ first_of text → width_of kind text ≡ 0
+width_none kind [] e = refl
+width_none kind (c ∷ text) e = absurd (cc)
+
+-- ---- a text that comes next
+-- what is left of UTF-8 behind UTF-8
+utf8_behind : (xs : Text) (b : List ℕ) (zs : Text) → all_scalars zs ≡ true → encode_utf8_all xs ++ b ≡ encode_utf8_all zs → IsUtf8 b
+utf8_behind [] b zs s e = (zs, (s, sym e))
+utf8_behind (c ∷ xs) b [] s e = absurd (omega (arith, ap length e, encode_some c, length-append (encode_utf8 c ++ encode_utf8_all xs) b, length-append (encode_utf8 c) (encode_utf8_all xs)))
+utf8_behind (c ∷ xs) b (d ∷ zs) s e = utf8_behind xs b zs (more (scalar d) (all_scalars zs) s) (encode_same c d (encode_utf8_all xs ++ b) (encode_utf8_all zs) (sym (append_assoc (encode_utf8 c) (encode_utf8_all xs) b) ∙ e)).1
+  where
+    more : (a b : Bool) → (a && b) ≡ true → b ≡ true
+    more true b e = e
+    more false b e = absurd (cc)
+
+pub behind_text : (bytes : List ℕ) (o : ℕ) (text : List ℕ) → o ≤ length bytes → IsUtf8 (take o bytes) → IsUtf8 (drop o bytes) → IsUtf8 text → drop o bytes ≡ text ++ drop (length text) (drop o bytes) → Behind bytes o text
+behind_text bytes o text l f u t e =
+    let d : drop (length text) (drop o bytes) ≡ drop (o + length text) bytes = drop-drop (length text) o bytes in
+    let b : drop o bytes ≡ text ++ drop (o + length text) bytes = e ∙ ap (λ z. text ++ z) d in
+    let p : take (o + length text) bytes ≡ take o bytes ++ text = take-add o (length text) bytes ∙ ap (λ z. take o bytes ++ z) (ap (take (length text)) b ∙ take-append_seam text (drop (o + length text) bytes)) in
+    let z : encode_utf8_all (chars text) ++ drop (o + length text) bytes ≡ encode_utf8_all (chars (drop o bytes)) = ap (λ x. x ++ drop (o + length text) bytes) (encodes-chars text t) ∙ (sym b ∙ sym (encodes-chars (drop o bytes) u)) in
+    record {
+      within = omega (arith, l, length-drop o bytes, ap length b, length-append text (drop (o + length text) bytes));
+      passed_utf8 = rw p (IsUtf8-append (take o bytes) text f t);
+      rest_utf8 = utf8_behind (chars text) (drop (o + length text) bytes) (chars (drop o bytes)) (scalars-chars (drop o bytes) u) z;
+      passed = ap chars p ∙ chars-append (take o bytes) text f;
+      rest = ap chars b ∙ chars-append text (drop (o + length text) bytes) t;
+    }
+
+-- a text that comes next in characters comes next in bytes
+pub comes_next : (bytes : List ℕ) (o : ℕ) (text : List ℕ) (rest : Text) → IsUtf8 (drop o bytes) → IsUtf8 text → chars (drop o bytes) ≡ chars text ++ rest → drop o bytes ≡ text ++ encode_utf8_all rest
+comes_next bytes o text rest u t e = sym (encodes-chars (drop o bytes) u) ∙ (ap encode_utf8_all e ∙ (encodes-append (chars text) rest ∙ ap (λ z. z ++ encode_utf8_all rest) (encodes-chars text t)))
+
+-- the text's characters
+pub all_chars : (bytes : List ℕ) (o : ℕ) → IsUtf8 (take o bytes) → chars (take o bytes) ++ chars (drop o bytes) ≡ chars bytes
+all_chars bytes o f = sym (chars-append (take o bytes) (drop o bytes) f) ∙ ap chars (take-append-drop o bytes)
+
+-- the width of a character of one byte
+pub byte_width : (bs cs : List ℕ) (o b : ℕ) (kind : ℕ → Bool) → cs ≡ bs → IsUtf8 (drop o bs) → o < length cs → b ≡ get_or cs o 0 → b < 128 → width_of kind (chars (drop o bs)) ≡ cond (kind b) 1 0
+byte_width bs cs o b kind same u l e h =
+    let f : b ≡ get_or bs o 0 = e ∙ ap (λ z. get_or z o 0) same in
+    let n : Some b ≡ first_of (chars (drop o bs)) = ap Some f ∙ next_by_byte bs o u (omega (arith, l, ap length same)) (omega (arith, f, h)) in
+    width_some kind (chars (drop o bs)) b n ∙ ap (λ k. cond (kind b) (length k) 0) (encode_ascii b h)
+
+pub no_width : (bs cs : List ℕ) (o : ℕ) (kind : ℕ → Bool) → cs ≡ bs → length cs ≤ o → width_of kind (chars (drop o bs)) ≡ 0
+no_width bs cs o kind same l = width_none kind (chars (drop o bs)) (next_at_end bs o (omega (arith, l, ap length same)))
+
+-- whether a text comes next, by its bytes
+pub comes : (bs cs text word : List ℕ) (o : ℕ) (r : Bool) → cs ≡ bs → word ≡ text → r ≡ pointwise eqb word (take (length word) (take (length cs - o) (drop o cs))) → (r ≡ true → drop o bs ≡ text ++ drop (length text) (drop o bs)) × ((rest : List ℕ) → drop o bs ≡ text ++ rest → r ≡ true)
+comes bs cs text word o r same w e =
+    let f : r ≡ pointwise eqb text (take (length text) (drop o bs)) = e ∙ (ap (λ z. pointwise eqb z (take (length z) (take (length cs - o) (drop o cs)))) w ∙ ap (λ z. pointwise eqb text (take (length text) z)) (rest_of bs cs o same)) in
+    starts_is (λ a b. Decides-eqb a b) (drop o bs) text r f

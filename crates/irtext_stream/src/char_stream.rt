@@ -1,0 +1,132 @@
+//! What readers ask of a stream of characters.
+ghost use Rattle.std.specs.Prelude.{◌≡◌, ℕ, List, ◌++◌, MatchBool, refl};
+ghost use Rattle.std.specs.Str.{chars, encode_utf8_all};
+ghost use Rattle.irtext_stream.specs.Text.{Text, front, after};
+ghost use Rattle.irtext_stream.specs.Classes.{has};
+ghost use Rattle.irtext_stream.specs.Stream.{StreamView, IsAt, first_of, advanced, after_failure, behind};
+ghost use Rattle.irtext_stream.specs.Places.{StandsBehind, IsPlaceOf};
+
+use crate::class::Class;
+use crate::position::{Place, SourcePosition};
+use crate::stream::TextStream;
+use std::alloc::Global;
+
+/// A stream of characters that readers read, and perhaps more beside it.
+pub trait CharStream {
+    // the stream that is read
+    ghost view: { Self → StreamView };
+    // the same with another stream in its place
+    ghost at: { Self → StreamView → Self };
+
+    /// The next character, which stays.
+    fn peek(&self) -> Option<char>
+        ensures { result ≡ first_of (view self.now).rest };
+
+    /// The next character, which is passed.
+    fn take(&mut self) -> Option<char>
+        ensures value { result ≡ first_of (view self.old).rest }
+        ensures after { self.new ≡ at self.old (advanced (view self.old)) };
+
+    /// Passes the longest front of characters of a class.
+    fn skip(&mut self, class: Class)
+        ensures { self.new ≡ at self.old (behind (view self.old) (front (has class) (view self.old).rest) (after (has class) (view self.old).rest)) };
+
+    /// Passes a text where the whole of it comes next, and answers whether it does.
+    fn accept(&mut self, text: &str) -> bool
+        ensures { MatchBool result
+            ((rest : Text) × ((view self.old).rest ≡ chars text.now ++ rest) × (self.new ≡ at self.old (behind (view self.old) (chars text.now) rest)))
+            (((rest : Text) → (view self.old).rest ≡ chars text.now ++ rest → ⊥) × (self.new ≡ self.old)) };
+
+    /// The place of the next character, or of the end.
+    fn position(&self) -> Place
+        ensures { StandsBehind result (view self.now).passed };
+
+    /// The line and the column of a place that `position` gave on this stream.
+    fn locate(&self, place: Place) -> SourcePosition
+        ensures { (passed rest : Text) → passed ++ rest ≡ (view self.now).passed ++ (view self.now).rest → StandsBehind place passed →
+            IsAt result.line result.column passed };
+
+    /// Goes to a place that `position` gave on this stream. A failed stream stays failed.
+    fn reset(&mut self, place: Place)
+        requires { IsPlaceOf place (view self.old) }
+        ensures { (passed rest : List ℕ) → passed ++ rest ≡ (view self.old).passed ++ (view self.old).rest → StandsBehind place passed →
+            self.new ≡ at self.old (record { passed = passed; rest = rest; failed = (view self.old).failed }) };
+
+    /// Fails the stream: each reader refuses it from now on.
+    fn fail(&mut self)
+        ensures { self.new ≡ at self.old (after_failure (view self.old)) };
+
+    /// Whether the stream has failed.
+    fn has_failed(&self) -> bool
+        ensures { result ≡ (view self.now).failed };
+
+    /// The text between an earlier place and the next character.
+    fn text_since(&self, place: Place) -> &str
+        requires { (passed taken : List ℕ) × (passed ++ taken ≡ (view self.now).passed) × StandsBehind place passed }
+        ensures { (passed taken : List ℕ) → passed ++ taken ≡ (view self.now).passed → StandsBehind place passed → result.now ≡ encode_utf8_all taken };
+
+    /// Where what a reader answers is allocated.
+    fn allocator(&self) -> Global;
+
+    ghost view_at: { (s : Self) (v : StreamView) → view (at s v) ≡ v };
+
+    ghost at_view: { (s : Self) → at s (view s) ≡ s };
+
+    ghost at_at: { (s : Self) (v w : StreamView) → at (at s v) w ≡ at s w };
+}
+
+impl CharStream for TextStream {
+    ghost view = { λ s. s };
+
+    ghost at = { λ s v. v };
+
+    ghost view_at = { λ s v. refl };
+
+    ghost at_view = { λ s. refl };
+
+    ghost at_at = { λ s v w. refl };
+
+    fn peek(&self) -> Option<char> {
+        self.peek()
+    }
+
+    fn take(&mut self) -> Option<char> {
+        self.take()
+    }
+
+    fn skip(&mut self, class: Class) {
+        self.skip(class)
+    }
+
+    fn accept(&mut self, text: &str) -> bool {
+        self.accept(text)
+    }
+
+    fn position(&self) -> Place {
+        self.position()
+    }
+
+    fn locate(&self, place: Place) -> SourcePosition {
+        self.locate(place)
+    }
+
+    fn reset(&mut self, place: Place) {
+        self.reset(place)
+    }
+
+    fn fail(&mut self) {
+        self.fail()
+    }
+
+    fn has_failed(&self) -> bool {
+        self.has_failed()
+    }
+
+    fn text_since(&self, place: Place) -> &str {
+        self.text_since(place)
+    }
+
+    fn allocator(&self) -> Global {
+        self.allocator()
+    }
+}

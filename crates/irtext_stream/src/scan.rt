@@ -1,0 +1,71 @@
+//! How far the characters of a class go.
+ghost use Rattle.std.specs.Prelude.{◌≡◌, ◌≤◌, ◌++◌, ℕ, List, MatchBool, length, take, drop};
+ghost use Rattle.std.specs.Str.{chars, IsUtf8};
+ghost use Rattle.irtext_stream.specs.Classes.{has};
+ghost use Rattle.irtext_stream.specs.Stream.{first_of};
+ghost use Rattle.irtext_stream.specs.Index.{Ends, Behind, width_of};
+
+use crate::class::Class;
+
+/// The character at an offset, by its bytes.
+pub(crate) fn decode(text: &str, at: usize) -> Option<char>
+    requires within { at ≤ length text.now }
+    requires utf8 { IsUtf8 (drop at text.now) }
+    ensures { result ≡ first_of (chars (drop at text.now)) }
+{
+    text[at..].chars().next()
+}
+
+/// How many bytes the character at an offset has, where it is of the class; and else 0.
+#[inline(always)]
+fn width_at(text: &str, at: usize, class: Class) -> usize
+    requires within { at ≤ length text.now }
+    requires utf8 { IsUtf8 (drop at text.now) }
+    ensures { result ≡ width_of (has class) (chars (drop at text.now)) }
+{
+    match text.as_bytes().get(at) {
+        Some(b) if *b < 128 => if class.has_byte(*b) { 1 } else { 0 },
+        Some(_) => wide_at(text, at, class),
+        None => 0,
+    }
+}
+
+/// The same, by the character's bytes.
+#[cold]
+fn wide_at(text: &str, at: usize, class: Class) -> usize
+    requires within { at ≤ length text.now }
+    requires utf8 { IsUtf8 (drop at text.now) }
+    ensures { result ≡ width_of (has class) (chars (drop at text.now)) }
+{
+    match decode(text, at) {
+        Some(c) => if class.has(c) { c.len_utf8() } else { 0 },
+        None => 0,
+    }
+}
+
+/// Where the front of characters of a class ends that begins at an offset.
+pub(crate) fn end_of(text: &str, from: usize, class: Class) -> usize
+    requires within { from ≤ length text.now }
+    requires passed_utf8 { IsUtf8 (take from text.now) }
+    requires rest_utf8 { IsUtf8 (drop from text.now) }
+    ensures { Ends text.now from (has class) result }
+{
+    let mut at = from;
+    let mut width = width_at(text, at, class);
+    while width != 0 {
+        at += width;
+        width = width_at(text, at, class);
+    }
+    at
+}
+
+/// Whether the whole of a text comes at an offset.
+#[inline(always)]
+pub(crate) fn comes_at(text: &str, at: usize, word: &str) -> bool
+    requires within { at ≤ length text.now }
+    requires passed_utf8 { IsUtf8 (take at text.now) }
+    requires rest_utf8 { IsUtf8 (drop at text.now) }
+    ensures { MatchBool result (Behind text.now at word.now) ((rest : List ℕ) → chars (drop at text.now) ≡ chars word.now ++ rest → ⊥) }
+{
+    text.as_bytes()[at..].starts_with(word.as_bytes())
+}

@@ -1,0 +1,154 @@
+//! The stream of a text: its bytes, how far they were read, and the index by which its lines and columns are found.
+ghost use Rattle.std.specs.Prelude.{◌≡◌, ℕ, List, [], ◌++◌, IfOk, MatchBool, false};
+ghost use Rattle.std.specs.Str.{chars, encode_utf8_all};
+ghost use Rattle.irtext_stream.specs.Text.{front, after};
+ghost use Rattle.irtext_stream.specs.Classes.{has};
+ghost use Rattle.irtext_stream.specs.Stream.{StreamView, IsAt, first_of, advanced, after_failure, behind};
+ghost use Rattle.irtext_stream.specs.Places.{StandsBehind, IsPlaceOf};
+
+use crate::class::Class;
+use crate::index::TextIndex;
+use crate::position::{Place, SourcePosition};
+use crate::scan::{comes_at, decode, end_of};
+use std::alloc::{AllocError, Global};
+use std::marker::Model;
+
+/// A text, how far it was read, and whether a reader has failed on it.
+#[derive(Drop)]
+pub struct TextStream {
+    alloc: Global,
+    text: String,
+    index: TextIndex,
+    // in bytes
+    offset: usize,
+    failed: bool,
+}
+
+impl Model for TextStream {
+    ghost use Rattle.std.specs.Prelude.{◌≤◌, take, drop, length, string_bytes};
+    ghost use Rattle.std.specs.Str.{chars, IsUtf8};
+    ghost use Rattle.irtext_stream.specs.Stream.{StreamView};
+    ghost use Rattle.irtext_stream.specs.Index.{Indexes};
+
+    ghost Value = { StreamView };
+
+    ghost view = { λ s. record { passed = chars (take s.offset (string_bytes s.text)); rest = chars (drop s.offset (string_bytes s.text)); failed = s.failed } };
+
+    ghost invariant = { λ s. (s.offset ≤ length (string_bytes s.text)) × IsUtf8 (take s.offset (string_bytes s.text)) × IsUtf8 (drop s.offset (string_bytes s.text))
+        × Indexes (string_bytes s.text) s.index };
+}
+
+impl TextStream {
+    /// A stream at the beginning of a text, which is copied. Only memory can be refused.
+    pub fn new(alloc: Global, text: &str) -> Result<TextStream, AllocError>
+        ensures { IfOk result (λ s. s ≡ record { passed = []; rest = chars text.now; failed = false }) }
+    {
+        let index = TextIndex::new(alloc, text)?;
+        let text = String::from_str(alloc, text)?;
+        Ok(TextStream {
+            alloc,
+            text,
+            index,
+            offset: 0,
+            failed: false,
+        })
+    }
+
+    /// The next character, which stays.
+    #[inline(always)]
+    pub fn peek(&self) -> Option<char>
+        ensures { result ≡ first_of self.now.rest }
+    {
+        match self.text.as_bytes().get(self.offset) {
+            Some(b) if *b < 0x80 => Some(*b as char),
+            Some(_) => decode(self.text.as_str(), self.offset),
+            None => None,
+        }
+    }
+
+    /// The next character, which is passed.
+    #[inline(always)]
+    pub fn take(&mut self) -> Option<char>
+        ensures value { result ≡ first_of self.old.rest }
+        ensures after { self.new ≡ advanced self.old }
+    {
+        let c = self.peek()?;
+        self.offset += c.len_utf8();
+        Some(c)
+    }
+
+    /// Passes the longest front of characters of a class.
+    pub fn skip(&mut self, class: Class)
+        ensures { self.new ≡ behind self.old (front (has class) self.old.rest) (after (has class) self.old.rest) }
+    {
+        self.offset = end_of(self.text.as_str(), self.offset, class);
+    }
+
+    /// Passes a text where the whole of it comes next, and answers whether it does.
+    #[inline(always)]
+    pub fn accept(&mut self, text: &str) -> bool
+        ensures { MatchBool result
+            ((rest : List ℕ) × (self.old.rest ≡ chars text.now ++ rest) × (self.new ≡ behind self.old (chars text.now) rest))
+            (((rest : List ℕ) → self.old.rest ≡ chars text.now ++ rest → ⊥) × (self.new ≡ self.old)) }
+    {
+        if !comes_at(self.text.as_str(), self.offset, text) {
+            return false;
+        }
+        self.offset += text.len();
+        true
+    }
+
+    /// The place of the next character, or of the end.
+    #[inline(always)]
+    pub fn position(&self) -> Place
+        ensures { StandsBehind result self.now.passed }
+    {
+        Place {
+            offset: self.offset,
+        }
+    }
+
+    /// The line and the column of a place that `position` gave on this stream.
+    pub fn locate(&self, place: Place) -> SourcePosition
+        ensures { (passed rest : List ℕ) → passed ++ rest ≡ self.now.passed ++ self.now.rest → StandsBehind place passed → IsAt result.line result.column passed }
+    {
+        let offset = place.offset.min(self.text.len());
+        self.index.position(self.text.as_str(), offset)
+    }
+
+    /// Goes to a place that `position` gave on this stream. A failed stream stays failed.
+    pub fn reset(&mut self, place: Place)
+        requires { IsPlaceOf place self.old }
+        ensures { (passed rest : List ℕ) → passed ++ rest ≡ self.old.passed ++ self.old.rest → StandsBehind place passed →
+            self.new ≡ record { passed = passed; rest = rest; failed = self.old.failed } }
+    {
+        self.offset = place.offset;
+    }
+
+    /// Fails the stream: each reader refuses it from now on.
+    pub fn fail(&mut self)
+        ensures { self.new ≡ after_failure self.old }
+    {
+        self.failed = true;
+    }
+
+    /// Whether the stream has failed.
+    pub fn has_failed(&self) -> bool
+        ensures { result ≡ self.now.failed }
+    {
+        self.failed
+    }
+
+    /// The text between an earlier place and the next character.
+    pub fn text_since(&self, place: Place) -> &str
+        requires { (passed taken : List ℕ) × (passed ++ taken ≡ self.now.passed) × StandsBehind place passed }
+        ensures { (passed taken : List ℕ) → passed ++ taken ≡ self.now.passed → StandsBehind place passed → result.now ≡ encode_utf8_all taken }
+    {
+        &self.text.as_str()[place.offset..self.offset]
+    }
+
+    /// Where what a reader answers is allocated.
+    pub fn allocator(&self) -> Global {
+        self.alloc
+    }
+}
