@@ -1,5 +1,5 @@
 //! Faults of readers, and tests of the next character.
-ghost use Rattle.std.specs.Prelude.{◌≡◌, ℕ, List, [], true};
+ghost use Rattle.std.specs.Prelude.{◌≡◌, ℕ, List, [], ◌++◌, true};
 ghost use Rattle.irtext_base.specs.Text.{begins};
 ghost use Rattle.irtext_base.specs.Reading.{the};
 ghost use Rattle.irtext_base.specs.Stream.{IsAt, first_of, after_failure};
@@ -46,7 +46,7 @@ pub fn refuse<S: CharStream, A>(stream: &mut S, cause: Cause<A>) -> ParseFault<A
 pub fn refuse_at<S: CharStream, A>(stream: &mut S, place: Place, cause: Cause<A>) -> ParseFault<A>
     ensures cause { result.cause ≡ cause }
     ensures committed { result.committed ≡ true }
-    ensures at { (passed : List ℕ) → StandsBehind place passed → IsAt result.pos.line result.pos.column passed }
+    ensures at { (passed rest : List ℕ) → passed ++ rest ≡ (S.view stream.old).passed ++ (S.view stream.old).rest → StandsBehind place passed → IsAt result.pos.line result.pos.column passed }
     ensures left { stream.new ≡ S.at stream.old (after_failure (S.view stream.old)) }
 {
     stream.fail();
