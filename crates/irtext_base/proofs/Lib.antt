@@ -4,6 +4,7 @@ pub mod Dictionaries
 pub mod Drops
 pub mod KeptKeys
 pub mod Spliced
+pub mod FewEntries
 pub mod Characters
 pub mod Numbers
 pub mod Results

@@ -1,8 +1,6 @@
--- What a contract sees of a dictionary: its entries in order. One key is kept beside the map that holds the others.
+-- What a contract sees of a dictionary: its entries in order. One key is kept beside the others.
 use Rattle.std.specs.Prelude.{◌≡◌, IsTrue, ℕ, zero, suc, ◌≤◌, Bool, true, false, not, ◌&&◌, List, [], ◌∷◌, length, Option, Some, None}
 use Rattle.std.specs.Str.{bytes_eq}
-use Rattle.std.specs.declared.boxed.Box.{Box}
-use Rattle.indexmap.specs.IndexMap.{IndexMap}
 use Rattle.irtext_base.specs.Text.{Text}
 use Rattle.irtext_base.specs.Format.{given_names_key}
 use Rattle.irtext_base.specs.declared.base.attributes.AttrObj.{AttrObj}
@@ -69,8 +67,3 @@ module _ {A : Type 0} where
   abbrev pub moved_up : Option (Given A) → ℕ → Option (Given A)
   moved_up None gone = None
   moved_up (Some g) gone = Some (record g { at = closed_up gone g.at })
-
--- the entries of a map, if it was made
-abbrev pub entries_of : {K V S Z : Type 0} → Option (Box (IndexMap K V S) Z) → List (K × V)
-entries_of None = []
-entries_of (Some map) = map.value.entries

@@ -9,6 +9,7 @@ pub mod Quoted
 pub mod Answers
 pub mod Own
 pub mod Dictionary
+pub mod Others
 pub mod Entries
 pub mod Locations
 pub mod Seen

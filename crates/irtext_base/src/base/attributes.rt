@@ -1,21 +1,22 @@
 //! Attributes, and the dictionaries that hold them under keys.
-ghost use Rattle.std.specs.Prelude.{◌≡◌, ◌≢◌, ◌<◌, [], false, Some, IfErr, OnOk, OnErr, IfSome, option_copied, length, slice_get, position};
-ghost use Rattle.std.specs.Map.{lookup, keys_of};
+ghost use Rattle.std.specs.Prelude.{◌≡◌, ◌≢◌, ◌<◌, [], false, Some, IfErr, OnOk, OnErr, option_copied, length, slice_get};
+ghost use Rattle.std.specs.Map.{lookup};
 ghost use Rattle.std.specs.Map.Iter.{deref_pair};
 ghost use Rattle.std.specs.Option.{option_map};
 ghost use Rattle.std.specs.Str.{bytes_eq};
 ghost use Rattle.std.specs.Iterator.{YieldsFirstBy, item_count};
 ghost use Rattle.indexmap.specs.IndexMap.{insert_entry, shift_remove_entry};
 ghost use Rattle.irtext_base.specs.Format.{given_names_key};
-ghost use Rattle.irtext_base.specs.Dictionary.{are_given_names, placed, moved_up, entries_of, is_reserved_for, RefusesEntry};
+ghost use Rattle.irtext_base.specs.Dictionary.{are_given_names, placed, moved_up, is_reserved_for, RefusesEntry};
 ghost use Rattle.irtext_base.specs.Entries.{entries_left};
 ghost use Rattle.irtext_base.specs.declared.base.attributes.Refusal.TheVariants.{Memory};
 
 mod copy;
 mod kept;
+mod others;
 
 use crate::base::Identifier;
-use indexmap::IndexMap;
+use others::Others;
 use std::alloc::Global;
 use std::marker::Model;
 
@@ -50,8 +51,6 @@ pub(crate) struct Given<A> {
     attr: AttrObj<A>,
 }
 
-type Others<A> = Option<Box<IndexMap<Identifier, AttrObj<A>>>>;
-
 /// Attributes under keys, in the order in which the keys came.
 #[derive(Drop)]
 pub struct AttributeDict<A> {
@@ -63,14 +62,14 @@ pub struct AttributeDict<A> {
 impl<A> Model for AttributeDict<A> {
     ghost use Rattle.std.specs.Prelude.{List};
     ghost use Rattle.irtext_base.specs.Text.{Text};
-    ghost use Rattle.irtext_base.specs.Dictionary.{whole, IsSound, entries_of};
+    ghost use Rattle.irtext_base.specs.Dictionary.{whole, IsSound};
     ghost use Rattle.irtext_base.specs.declared.base.attributes.AttrObj.{AttrObj};
 
     ghost Value = { List (Text × AttrObj A) };
 
-    ghost view = { λ d. whole d.given (entries_of d.others) };
+    ghost view = { λ d. whole d.given d.others };
 
-    ghost invariant = { λ d. IsSound d.given (entries_of d.others) };
+    ghost invariant = { λ d. IsSound d.given d.others };
 }
 
 fn is_reserved_text(key: &str) -> bool
@@ -112,84 +111,19 @@ fn put_given<A: Drop>(given: &mut Option<Given<A>>, at: usize, key: Identifier, 
     }
 }
 
-fn put<A: Drop>(
-    map: &mut IndexMap<Identifier, AttrObj<A>>,
-    key: Identifier,
-    attr: AttrObj<A>,
-) -> Result<(), Refusal>
-    ensures ok { OnOk result (map.new.entries ≡ insert_entry bytes_eq map.old.entries key attr) }
-    ensures err { OnErr result (map.new.entries ≡ map.old.entries) }
-    ensures memory { IfErr result (λ e. e ≡ Memory) }
-{
-    match map.insert(key, attr) {
-        Ok(_) => Ok(()),
-        Err(_) => Err(Refusal::Memory),
-    }
-}
-
 fn put_other<A: Drop>(
     others: &mut Others<A>,
     alloc: Global,
     key: Identifier,
     attr: AttrObj<A>,
 ) -> Result<(), Refusal>
-    ensures ok { OnOk result (entries_of others.new ≡ insert_entry bytes_eq (entries_of others.old) key attr) }
-    ensures err { OnErr result (entries_of others.new ≡ entries_of others.old) }
+    ensures ok { OnOk result (others.new ≡ insert_entry bytes_eq others.old key attr) }
+    ensures err { OnErr result (others.new ≡ others.old) }
     ensures memory { IfErr result (λ e. e ≡ Memory) }
 {
-    if let Some(map) = others {
-        return put(map, key, attr);
-    }
-    let mut map = IndexMap::new(alloc);
-    put(&mut map, key, attr)?;
-    match Box::new(alloc, map) {
-        Ok(map) => {
-            *others = Some(map);
-            Ok(())
-        }
+    match others.put(alloc, key, attr) {
+        Ok(()) => Ok(()),
         Err(_) => Err(Refusal::Memory),
-    }
-}
-
-fn get_other<'a, A: Drop>(others: &'a Others<A>, key: &str) -> Option<&'a AttrObj<A>>
-    ensures { option_copied result ≡ lookup (bytes_eq key.now) (entries_of others.now) }
-{
-    match others {
-        Some(map) => map.get(key),
-        None => None,
-    }
-}
-
-fn len_other<A: Drop>(others: &Others<A>) -> usize
-    ensures len { result ≡ length (entries_of others.now) }
-    ensures small { result < 9223372036854775808 }
-{
-    match others {
-        Some(map) => map.len(),
-        None => 0,
-    }
-}
-
-fn other_at<A: Drop>(others: &Others<A>, i: usize) -> Option<(&Identifier, &AttrObj<A>)>
-    ensures { option_map deref_pair result ≡ slice_get (entries_of others.now) i }
-{
-    match others {
-        Some(map) => map.get_index(i),
-        None => None,
-    }
-}
-
-fn take_other<A: Drop>(others: &mut Others<A>, key: &Identifier) -> Option<(usize, AttrObj<A>)>
-    ensures entries { entries_of others.new ≡ shift_remove_entry (bytes_eq key.now) (entries_of others.old) }
-    ensures value { option_map (λ p. p.1) result ≡ lookup (bytes_eq key.now) (entries_of others.old) }
-    ensures index { IfSome result (λ p. position (bytes_eq key.now) (keys_of (entries_of others.old)) ≡ Some p.0) }
-{
-    match others {
-        Some(map) => {
-            let (index, _, attr) = map.shift_remove_full(key)?;
-            Some((index, attr))
-        }
-        None => None,
     }
 }
 
@@ -221,7 +155,7 @@ impl<A: Drop> AttributeDict<A> {
     {
         AttributeDict {
             given: None,
-            others: None,
+            others: Others::new(alloc),
             alloc,
         }
     }
@@ -240,7 +174,7 @@ impl<A: Drop> AttributeDict<A> {
         if is_reserved_text(key) {
             return given_attr(&self.given);
         }
-        get_other(&self.others, key)
+        self.others.get(key)
     }
 
     /// Puts an attribute under a key, in place of the one that is there, or else last. A refusal changes nothing: by
@@ -258,7 +192,7 @@ impl<A: Drop> AttributeDict<A> {
         if !are_given_names(&attr) {
             return Err(Refusal::ReservedKey(key));
         }
-        let at = len_other(&self.others);
+        let at = self.others.len();
         put_given(&mut self.given, at, key, attr);
         Ok(())
     }
@@ -271,7 +205,7 @@ impl<A: Drop> AttributeDict<A> {
         if is_reserved(key) {
             return take_given(&mut self.given);
         }
-        let (index, attr) = take_other(&mut self.others, key)?;
+        let (index, attr) = self.others.take(key)?;
         move_up(&mut self.given, index);
         Some(attr)
     }
@@ -281,15 +215,15 @@ impl<A: Drop> AttributeDict<A> {
         ensures { option_map deref_pair result ≡ slice_get self.now index }
     {
         let Some(given) = &self.given else {
-            return other_at(&self.others, index);
+            return self.others.at(index);
         };
         if index < given.at {
-            return other_at(&self.others, index);
+            return self.others.at(index);
         }
         if index == given.at {
             return Some((&given.key, &given.attr));
         }
-        other_at(&self.others, index - 1)
+        self.others.at(index - 1)
     }
 
     /// How many entries there are.
@@ -298,8 +232,8 @@ impl<A: Drop> AttributeDict<A> {
         ensures { result ≡ length self.now }
     {
         match &self.given {
-            Some(_) => len_other(&self.others) + 1,
-            None => len_other(&self.others),
+            Some(_) => self.others.len() + 1,
+            None => self.others.len(),
         }
     }
 

@@ -3,18 +3,10 @@ ghost use Rattle.std.specs.Prelude.{◌≡◌, true, not};
 ghost use Rattle.std.specs.List.{list_all};
 ghost use Rattle.std.specs.Map.{keys_of};
 ghost use Rattle.std.specs.Str.{bytes_eq};
-ghost use Rattle.irtext_base.specs.Dictionary.{entries_of, is_reserved_for};
+ghost use Rattle.irtext_base.specs.Dictionary.{is_reserved_for};
 ghost use Rattle.irtext_base.specs.Format.{distinct};
 
-use crate::base::attributes::{AttributeDict, Others};
-
-fn others_differ<A: Drop>(others: &Others<A>)
-    ensures { distinct bytes_eq (keys_of (entries_of others.now)) ≡ true }
-{
-    if let Some(map) = others {
-        let _count = map.len();
-    }
-}
+use crate::base::AttributeDict;
 
 impl<A: Drop> AttributeDict<A> {
     /// No key stands twice in a dictionary, and under the key `builtin_given_names` it has `AttrObj::GivenNames` alone. The call
@@ -23,6 +15,6 @@ impl<A: Drop> AttributeDict<A> {
         ensures differ { distinct bytes_eq (keys_of self.now) ≡ true }
         ensures reserved { list_all (λ e. not (is_reserved_for e.0 e.1)) self.now ≡ true }
     {
-        others_differ(&self.others);
+        self.others.keeps_keys();
     }
 }
