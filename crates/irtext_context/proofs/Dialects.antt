@@ -1,32 +1,69 @@
--- The operations of a dialect stay accepted, one by one.
-use Rattle.std.proofs.Common.{◌≡◌, Bool, true, false, cond, List, [], ◌∷◌, Option, Some, None, Result, Ok, Err, sym, subst}
-use Rattle.std.specs.Prelude.{OnOk, OnErr, IfSome, option_copied}
+-- The operations of a dialect stay accepted, one by one, and what is known of them is what the code keeps.
+use Rattle.std.proofs.Common.{◌≡◌, Bool, true, false, cond, List, [], ◌∷◌, Option, Some, None, Result, Ok, Err, refl, sym, ap, subst, ◌∙◌}
+use Rattle.std.specs.Prelude.{OnOk, OnErr, IfSome, option_copied, option_map}
 use Rattle.std.specs.Map.{lookup}
 use denote.Ref.{Bor}
 use Rattle.indexmap.specs.IndexMap.{insert_entry}
 use Rattle.irtext_base.specs.Text.{Text}
 use Rattle.irtext_base.specs.Format.{Accepted}
 use Rattle.irtext_context.specs.Directives.{format_of}
-use Rattle.irtext_context.specs.Dialects.{AreAccepted, same_id}
+use Rattle.irtext_context.specs.Dialects.{Known, Table, AreAccepted, known_of, known_entries, same_id, with_op}
 use Rattle.irtext_base.specs.declared.base.identifier.OpId.{OpId}
 use Rattle.irtext_context.specs.declared.dialect.OpInfo.{OpInfo}
 
--- one more entry
-pub accepted_more : (name : Text) (es : List (OpId × OpInfo)) (id : OpId) (info : OpInfo) → AreAccepted name es → id.dialect ≡ name → Accepted (format_of info.format) → AreAccepted name (insert_entry same_id es id info)
-accepted_more name [] id info a d f = (d, f, tt)
-accepted_more name (e ∷ es) id info a d f = go (same_id id e.0) (accepted_more name es id info a.2 d f)
+-- what is known once an entry was put
+pub known_put : (es : List (OpId × OpInfo)) (id : OpId) (info : OpInfo) → known_entries (insert_entry same_id es id info) ≡ insert_entry same_id (known_entries es) id (known_of info)
+known_put [] id info = refl
+known_put (e ∷ es) id info = go (same_id id e.0) (known_put es id info)
   where
-    go : (b : Bool) → AreAccepted name (insert_entry same_id es id info) → AreAccepted name (cond b ((e.0, info) ∷ es) (e ∷ insert_entry same_id es id info))
+    go : (b : Bool) → known_entries (insert_entry same_id es id info) ≡ insert_entry same_id (known_entries es) id (known_of info)
+        → known_entries (cond b ((e.0, info) ∷ es) (e ∷ insert_entry same_id es id info)) ≡ cond b ((e.0, known_of info) ∷ known_entries es) ((e.0, known_of e.1) ∷ insert_entry same_id (known_entries es) id (known_of info))
+    go true r = refl
+    go false r = ap (λ l. (e.0, known_of e.1) ∷ l) r
+
+-- a dialect of this name with these operations
+abbrev with_entries : Text → List (OpId × Known) → Table
+with_entries name es = record { name = name; entries = es }
+
+-- what is seen of a dialect once an entry was put
+pub seen_put : (name : Text) (old new : List (OpId × OpInfo)) (id : OpId) (info : OpInfo) → new ≡ insert_entry same_id old id info
+    → with_entries name (known_entries new) ≡ with_op (with_entries name (known_entries old)) id (format_of info.format) info.isolated
+seen_put name old new id info e = ap (λ es. with_entries name (known_entries es)) e ∙ ap (with_entries name) (known_put old id info)
+
+-- what is known of the entry that is found
+known_found : (test : OpId → Bool) (es : List (OpId × OpInfo)) → lookup test (known_entries es) ≡ option_map known_of (lookup test es)
+known_found test [] = refl
+known_found test (e ∷ es) = go (test e.0) (known_found test es)
+  where
+    go : (b : Bool) → lookup test (known_entries es) ≡ option_map known_of (lookup test es)
+        → cond b (Some (known_of e.1)) (lookup test (known_entries es)) ≡ option_map known_of (cond b (Some e.1) (lookup test es))
+    go true r = refl
+    go false r = r
+
+-- the same behind the reference that a look-up lends
+pub known_behind : (r : Option (Bor OpInfo)) (test : OpId → Bool) (es : List (OpId × OpInfo)) → option_copied r ≡ lookup test es → option_map (λ info. known_of info.now) r ≡ lookup test (known_entries es)
+known_behind r test es e = go r ∙ ap (option_map known_of) e ∙ sym (known_found test es)
+  where
+    go : (r : Option (Bor OpInfo)) → option_map (λ info. known_of info.now) r ≡ option_map known_of (option_copied r)
+    go None = refl
+    go (Some info) = refl
+
+-- one more entry
+pub accepted_more : (name : Text) (es : List (OpId × Known)) (id : OpId) (known : Known) → AreAccepted name es → id.dialect ≡ name → Accepted known.format → AreAccepted name (insert_entry same_id es id known)
+accepted_more name [] id known a d f = (d, f, tt)
+accepted_more name (e ∷ es) id known a d f = go (same_id id e.0) (accepted_more name es id known a.2 d f)
+  where
+    go : (b : Bool) → AreAccepted name (insert_entry same_id es id known) → AreAccepted name (cond b ((e.0, known) ∷ es) (e ∷ insert_entry same_id es id known))
     go true r = (a.0, f, a.2)
     go false r = (a.0, a.1, r)
 
 -- what a look-up of an entry gives, if it gives anything
-abbrev pub IsAccepted : Option OpInfo → Type 0
+abbrev pub IsAccepted : Option Known → Type 0
 IsAccepted None = Unit {0}
-IsAccepted (Some info) = Accepted (format_of info.format)
+IsAccepted (Some known) = Accepted known.format
 
 -- what is found was accepted
-pub accepted_found : (name : Text) (test : OpId → Bool) (es : List (OpId × OpInfo)) → AreAccepted name es → IsAccepted (lookup test es)
+pub accepted_found : (name : Text) (test : OpId → Bool) (es : List (OpId × Known)) → AreAccepted name es → IsAccepted (lookup test es)
 accepted_found name test [] a = tt
 accepted_found name test (e ∷ es) a = go (test e.0) (accepted_found name test es a.2)
   where
@@ -35,13 +72,13 @@ accepted_found name test (e ∷ es) a = go (test e.0) (accepted_found name test 
     go false r = r
 
 -- the same behind the reference that a look-up lends
-pub accepted_behind : (r : Option (Bor OpInfo)) → IsAccepted (option_copied r) → IfSome r (λ info. Accepted (format_of info.now.format))
+pub accepted_behind : (r : Option (Bor OpInfo)) → IsAccepted (option_map (λ info. known_of info.now) r) → IfSome r (λ info. Accepted (format_of info.now.format))
 accepted_behind None a = tt
 accepted_behind (Some info) a = a
 
 -- the entries after one was put, or not
 pub accepted_put : {X E : Type 0} (r : Result X E) (name : Text) (old new : List (OpId × OpInfo)) (id : OpId) (info : OpInfo)
     → OnOk r (new ≡ insert_entry same_id old id info) → OnErr r (new ≡ old)
-    → AreAccepted name old → id.dialect ≡ name → Accepted (format_of info.format) → AreAccepted name new
-accepted_put (Ok x) name old new id info e f a d k = subst (λ es. AreAccepted name es) (sym e) (accepted_more name old id info a d k)
-accepted_put (Err x) name old new id info e f a d k = subst (λ es. AreAccepted name es) (sym f) a
+    → AreAccepted name (known_entries old) → id.dialect ≡ name → Accepted (format_of info.format) → AreAccepted name (known_entries new)
+accepted_put (Ok x) name old new id info e f a d k = subst (λ es. AreAccepted name es) (sym (known_put old id info) ∙ ap known_entries (sym e)) (accepted_more name (known_entries old) id (known_of info) a d k)
+accepted_put (Err x) name old new id info e f a d k = subst (λ es. AreAccepted name (known_entries es)) (sym f) a

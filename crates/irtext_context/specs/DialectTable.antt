@@ -5,9 +5,8 @@ use Rattle.std.specs.Str.{bytes_eq}
 use Rattle.indexmap.specs.IndexMap.{insert_entry}
 use Rattle.indexmap.specs.Layout.{set_value_at}
 use Rattle.irtext_base.specs.Text.{Text}
-use Rattle.irtext_context.specs.Dialects.{Table, same_id}
+use Rattle.irtext_context.specs.Dialects.{Known, Table, same_id}
 use Rattle.irtext_base.specs.declared.base.identifier.OpId.{OpId}
-use Rattle.irtext_context.specs.declared.dialect.OpInfo.{OpInfo}
 
 -- the dialect of a name, if it is registered
 abbrev pub dialect_of : List (Text × Table) → Text → Option Table
@@ -32,5 +31,5 @@ pub record IsKeptAt (old : List (Text × Table)) (name : Text) (i : ℕ) (new : 
   pub replaced : (table : Table) → set_value_at new i table ≡ with_dialect old name table
 
 -- what is known of an operation, if its dialect is registered and it is registered with that
-abbrev pub registered : List (Text × Table) → OpId → Option OpInfo
+abbrev pub registered : List (Text × Table) → OpId → Option Known
 registered dialects id = option_and_then (λ table. lookup (same_id id) table.entries) (dialect_of dialects id.dialect)

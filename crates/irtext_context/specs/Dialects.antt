@@ -1,31 +1,44 @@
 -- What a contract sees of a dialect: its name, and its operations with their formats.
-use Rattle.std.specs.Prelude.{◌≡◌, Bool, false, ◌&&◌, List, [], ◌∷◌}
+use Rattle.std.specs.Prelude.{◌≡◌, Bool, false, ◌&&◌, List, [], ◌∷◌, map}
 use Rattle.std.specs.Str.{bytes_eq}
 use Rattle.indexmap.specs.IndexMap.{insert_entry}
 use Rattle.irtext_base.specs.Text.{Text}
-use Rattle.irtext_base.specs.Format.{Accepted, first_fault}
+use Rattle.irtext_base.specs.Format.{Format, Accepted, first_fault}
 use Rattle.irtext_context.specs.Directives.{format_of, condition_number}
 use Rattle.irtext_base.specs.declared.base.identifier.OpId.{OpId}
 use Rattle.irtext_context.specs.declared.dialect.OpInfo.{OpInfo}
 use Rattle.irtext_base.specs.declared.format.OpFormat.{OpFormat}
 use Rattle.irtext_base.specs.declared.result.Cause.{Cause, Memory, FormatFault, WrongDialect}
 
+-- what a dialect knows of an operation: how it is written, and whether it is isolated
+pub record Known : Type 0 where
+  pub format : Format
+  pub isolated : Bool
+
 -- a dialect: its name, and its operations in the order in which they came
 pub record Table : Type 0 where
   pub name : Text
-  pub entries : List (OpId × OpInfo)
+  pub entries : List (OpId × Known)
+
+-- what the code keeps of an operation, with its format as the theory has it
+abbrev pub known_of : OpInfo → Known
+known_of info = record { format = format_of info.format; isolated = info.isolated }
+
+-- the operations that the code keeps, each with what is known of it
+abbrev pub known_entries : List (OpId × OpInfo) → List (OpId × Known)
+known_entries = map (λ e. (e.0, known_of e.1))
 
 -- both ids have the same dialect and the same name
 abbrev pub same_id : OpId → OpId → Bool
 same_id x y = bytes_eq x.dialect y.dialect && bytes_eq x.name y.name
 
 -- each operation is one of the dialect, and its format reads uniquely
-abbrev pub AreAccepted : Text → List (OpId × OpInfo) → Type 0
+abbrev pub AreAccepted : Text → List (OpId × Known) → Type 0
 AreAccepted name [] = Unit {0}
-AreAccepted name (e ∷ es) = (e.0.dialect ≡ name) × Accepted (format_of e.1.format) × AreAccepted name es
+AreAccepted name (e ∷ es) = (e.0.dialect ≡ name) × Accepted e.1.format × AreAccepted name es
 
 -- the dialect with one more operation, or with another format and isolation of one that it has
-abbrev pub with_op : Table → OpId → OpFormat → Bool → Table
+abbrev pub with_op : Table → OpId → Format → Bool → Table
 with_op table id format isolated = record { name = table.name; entries = insert_entry same_id table.entries id (record { format = format; isolated = isolated }) }
 
 -- why an operation is refused: it is of another dialect, or else its format may not read uniquely, or else memory was refused

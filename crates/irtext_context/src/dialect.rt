@@ -1,5 +1,5 @@
 //! Dialects: their names, and their operations, each with the format in which it is written.
-ghost use Rattle.std.specs.Prelude.{◌≡◌, [], false, nat_eq, IfOk, IfErr, IfSome, IsTrue, OnOk, OnErr, Some, option_copied};
+ghost use Rattle.std.specs.Prelude.{◌≡◌, [], false, nat_eq, IfOk, IfErr, IfSome, IsTrue, OnOk, OnErr, Some, option_map};
 ghost use Rattle.std.specs.Cmp.{on_equiv, on_per, partial_equiv_from_equiv};
 ghost use Rattle.std.specs.Cmp.Lexicographic.{pointwise, bytes_decides, nat_list_eq_equiv};
 ghost use Rattle.std.specs.Cmp.Rules.{hashing};
@@ -8,7 +8,7 @@ ghost use Rattle.std.specs.Map.{lookup};
 ghost use Rattle.std.specs.Str.{bytes_eq};
 ghost use Rattle.indexmap.specs.IndexMap.{insert_entry};
 ghost use Rattle.std.proofs.Common.{rules, ap};
-ghost use Rattle.irtext_context.specs.Dialects.{same_id, with_op, IsRefusedBy};
+ghost use Rattle.irtext_context.specs.Dialects.{same_id, known_of, with_op, IsRefusedBy};
 ghost use Rattle.irtext_context.specs.Directives.{format_of};
 ghost use Rattle.irtext_base.specs.Faults.{fault_of, name_refused};
 ghost use Rattle.irtext_base.specs.Format.{Accepted};
@@ -167,13 +167,13 @@ pub struct Dialect {
 }
 
 impl Model for Dialect {
-    ghost use Rattle.irtext_context.specs.Dialects.{Table, AreAccepted};
+    ghost use Rattle.irtext_context.specs.Dialects.{Table, known_entries, AreAccepted};
 
     ghost Value = { Table };
 
-    ghost view = { λ d. record { name = d.name; entries = d.ops.entries } };
+    ghost view = { λ d. record { name = d.name; entries = known_entries d.ops.entries } };
 
-    ghost invariant = { λ d. AreAccepted d.name d.ops.entries };
+    ghost invariant = { λ d. AreAccepted d.name (known_entries d.ops.entries) };
 }
 
 /// An error of kind invalid argument without a location.
@@ -232,7 +232,7 @@ impl Dialect {
     /// A refusal changes nothing, and is of kind invalid argument without a location: by `WrongDialect` where the id is of another
     /// dialect, else by `FormatFault` where `check_format` refuses the format, else by `Memory`.
     pub fn add_op<A>(&mut self, id: OpId, format: OpFormat, isolated: bool) -> result::Result<(), A>
-        ensures ok { OnOk result (self.new ≡ with_op self.old id format isolated) }
+        ensures ok { OnOk result (self.new ≡ with_op self.old id (format_of format) isolated) }
         ensures accepted { OnOk result ((id.dialect ≡ self.old.name) × Accepted (format_of format)) }
         ensures err { OnErr result (self.new ≡ self.old) }
         ensures refused { IfErr result (λ e. IsRefusedBy self.old.name id format e.err) }
@@ -252,7 +252,7 @@ impl Dialect {
 
     /// What the dialect knows of an operation, if it was registered. It takes no memory.
     pub fn op(&self, id: &OpId) -> Option<&OpInfo>
-        ensures found { option_copied result ≡ lookup (same_id id.now) self.now.entries }
+        ensures found { option_map (λ info. known_of info.now) result ≡ lookup (same_id id.now) self.now.entries }
         ensures accepted { IfSome result (λ info. Accepted (format_of info.now.format)) }
     {
         self.ops.get(id)

@@ -1,8 +1,9 @@
 //! The dialects of a context: how one is registered, and what is known of an operation.
-ghost use Rattle.std.specs.Prelude.{◌≡◌, ◌<◌, ◌∷◌, ◌++◌, [], Some, None, IsSome, IfOk, IfErr, IfSome, OnOk, OnErr, length, slice_get, is_some, option_copied};
+ghost use Rattle.std.specs.Prelude.{◌≡◌, ◌<◌, ◌∷◌, ◌++◌, [], Some, None, IsSome, IfOk, IfErr, IfSome, OnOk, OnErr, length, slice_get, is_some, option_copied, option_map};
 ghost use Rattle.std.specs.Borrow.{sem};
 ghost use Rattle.std.specs.Map.{lookup, values_of};
 ghost use Rattle.std.specs.Str.{bytes_eq};
+ghost use Rattle.irtext_context.specs.Dialects.{known_of};
 ghost use Rattle.irtext_context.specs.DialectTable.{IsKeptAt, no_operations, dialect_of, dialect_or_new, registered};
 ghost use Rattle.irtext_context.specs.Directives.{format_of};
 ghost use Rattle.irtext_base.specs.Format.{Accepted};
@@ -99,7 +100,7 @@ impl<T: IrText<A>, A: AttrText> Context<T, A> {
 
     /// What is known of an operation, if it is registered with a dialect of the context. It takes no memory.
     pub fn op_info(&self, id: &OpId) -> Option<&OpInfo>
-        ensures found { option_copied result ≡ registered self.now.dialects id.now }
+        ensures found { option_map (λ info. known_of info.now) result ≡ registered self.now.dialects id.now }
         ensures accepted { IfSome result (λ info. Accepted (format_of info.now.format)) }
     {
         let dialect = self.dialects.get(&id.dialect)?;
