@@ -19,7 +19,7 @@ pub use digits::Radix;
 pub use fixed_text::{held, text_parse};
 pub use from_str_radix::FromStrRadix;
 pub use hexadecimal::hex_int_parse;
-pub use identifier::identifier_parse;
+pub use identifier::{identifier_parse, skip_identifier};
 pub use integer::{int_parse, number_as_string_parse};
 pub use lists::{
     delimited_list_parser, list_parser, list_with_sep_parser, spaced, zero_or_more_parser,

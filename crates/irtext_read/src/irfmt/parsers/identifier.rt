@@ -1,6 +1,9 @@
 //! The reader of identifiers.
-ghost use Rattle.irtext_base.specs.Answers.{Answers, unless_failed};
+ghost use Rattle.std.specs.Prelude.{◌≡◌, true};
+ghost use Rattle.std.specs.Bool.{MatchBool};
+ghost use Rattle.irtext_base.specs.Answers.{Answers, Takes, unless_failed};
 ghost use Rattle.irtext_base.specs.Faults.{demand_of};
+ghost use Rattle.irtext_base.specs.Text.{begins, front, after, begins_word, in_word};
 ghost use Rattle.irtext_read.specs.Tokens.{word_at, identifier_at};
 
 use crate::irfmt::faults::{begins, out_of_memory, refuse, unexpected};
@@ -36,4 +39,18 @@ pub fn identifier_parse<S: CharStream, A>(stream: &mut S) -> ParseResult<Identif
     ensures { Answers S.view S.at (λ name. name) (unless_failed (S.view stream.old).failed (identifier_at (S.view stream.old).rest)) stream.old result stream.new }
 {
     word_parse(stream, Expected::Identifier)
+}
+
+/// Passes an identifier, as long as it goes, and answers whether one begins there; else it passes nothing. It takes no memory, and
+/// goes on a failed stream too.
+pub fn skip_identifier<S: CharStream>(stream: &mut S) -> bool
+    ensures { MatchBool result
+        ((begins begins_word (S.view stream.old).rest ≡ true) × Takes S.view S.at (front in_word (S.view stream.old).rest) (after in_word (S.view stream.old).rest) stream.old stream.new)
+        (stream.new ≡ stream.old) }
+{
+    if !begins(stream, Class::Beginning) {
+        return false;
+    }
+    skip_class(stream, Class::Word);
+    true
 }
