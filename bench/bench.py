@@ -5,8 +5,8 @@ Reads and prints texts of that many megabytes (10 where none is given) with the 
 `rt run` in that folder builds. One text of roots has newlines, one has none. Best of five runs; the start of the program is taken
 off, and where a text is printed its reading too. Printing is done ten times in a run, so that it is not lost in the noise of
 reading. Then come lists of integers and of quoted texts as they are read, and a text that is printed between quotation marks, with
-a plain copy of the same bytes beside it. Last come the instructions a root and a byte, counted by valgrind's callgrind where it is
-there: they are the same on a busy machine."""
+a plain copy of the same bytes beside it. Last come the instructions of an item, with what it may take, counted by valgrind where it
+is there: they are the same on a busy machine."""
 import os
 import re
 import shutil
@@ -83,6 +83,77 @@ def instructions(path, words):
     return int(re.search(rb"Collected : (\d+)", run.stderr).group(1))
 
 
+def allocations(path, words):
+    """The requests for memory of a run."""
+    with open(path, "rb") as source:
+        run = subprocess.run(["valgrind", "--tool=memcheck", "--leak-check=no", PROGRAM] + words,
+                             stdin=source, stdout=subprocess.DEVNULL, stderr=subprocess.PIPE, check=True)
+    return int(re.search(rb"total heap usage: ([\d,]+) allocs", run.stderr).group(1).replace(b",", b""))
+
+
+def roots(count):
+    """Roots with their sections."""
+    return "".join(LINES.format(i, i + 1) for i in range(count))
+
+
+def dictionary(count):
+    """A root with a dictionary of so many entries."""
+    entries = ", ".join("key_%d: builtin.integer <%d: si64>" % (i, i) for i in range(count))
+    return "bench.note [%s]\n" % entries
+
+
+def function(count):
+    """A root with a function type of so many types."""
+    return "builtin.func @f: builtin.function <(%s)->()>\n{\n}\n" % ", ".join(["builtin.integer si64"] * count)
+
+
+def fused(count):
+    """A root whose location is a list of so many positions, in 50 files."""
+    places = ", ".join('"file_%d.txt": line: %d, column: %d' % (i % 50, i + 1, i % 80 + 1) for i in range(count))
+    return "builtin.module @m\n{\n}!0\n\noutlined_attributes:\n!0 = @[fused[%s]], []\n" % places
+
+
+def quoted(count):
+    """One quoted text of so many bytes."""
+    return '"%s"' % ("a line of plain characters " * (count // 27 + 1))[:count]
+
+
+# What is counted, the word of the program, the text of so many items, two numbers of items, and how many instructions an item may
+# take to be read, and to be printed where that is limited.
+BUDGETS = (
+    ("root with its section", "roots", roots, 2, 2002, 7000, 1800),
+    ("entry of a dictionary", "roots", dictionary, 10, 10010, 3000, None),
+    ("type in a function type", "roots", function, 10, 10010, 900, None),
+    ("position in a fused location", "roots", fused, 100, 10100, 2100, None),
+    ("byte of a quoted text", "strings", quoted, 1000, 1001000, 9, None),
+)
+
+
+def print_positions(path, size):
+    """The time of a position at the end of a text of so many bytes, which the program asks for a million times."""
+    for name, line in (("one line", "abcdefgh"), ("one line past ASCII", "abc\u00e4efg"), ("lines", "abcdefghi\n" * 4), ("lines past ASCII", "abc\u00e4efgh\n")):
+        content = (line * (size // len(line.encode())))
+        written(path, content)
+        took = seconds(path, ["positions", "again"]) - seconds(path, ["positions"])
+        print("Position at the end of %.1f MB, %s: %.0f ns" % (len(content.encode()) / 1e6, name, took * 1e3))
+
+
+def print_instructions(path):
+    """The instructions and requests for memory of an item, with what it may take: a count of many items less one of few."""
+    print("| Item | instructions, read | at most | requests for memory | instructions, printed | at most |")
+    print("|---|---|---|---|---|---|")
+    for name, word, make, few, many, read_most, print_most in BUDGETS:
+        counts = []
+        for number in (few, many):
+            written(path, make(number))
+            read = instructions(path, [word])
+            again = instructions(path, [word] + ["print"] * PRINTS) if word == "roots" else read
+            counts.append((read, allocations(path, [word]), (again - read) / PRINTS))
+        read, requests, printed = ((last - first) / (many - few) for first, last in zip(*counts))
+        print("| %s | %.1f | %d | %.2f | %s | %s |" % (
+            name, read, read_most, requests, "%.1f" % printed if word == "roots" else "-", print_most or "-"))
+
+
 def main():
     size = int(float(sys.argv[1]) * 1e6) if len(sys.argv) > 1 else 10_000_000
     print("| Text | MB | roots | read MB/s | printed MB/s | ns a root, read | ns a root, printed |")
@@ -109,17 +180,9 @@ def main():
         for name in ("quoted", "copied"):
             once = (seconds(path, [name] + ["again"] * PRINTS) - seconds(path, [name])) / PRINTS
             print("Text %s: %.0f MB/s" % (name, len(content) / 1e6 / once))
+        print_positions(path, size)
         if shutil.which("valgrind"):
-            counts = []
-            for size in (200, 200_000):
-                content, roots = text(size, True)
-                written(path, content)
-                read = instructions(path, ["roots"])
-                printed = (instructions(path, ["roots"] + ["print"] * PRINTS) - read) / PRINTS
-                counts.append((roots, len(content), read, printed))
-            roots, length, read, printed = (last - first for first, last in zip(*counts))
-            print("Instructions: %d a root and %.1f a byte to read, %d a root and %.1f a byte to print" % (
-                read / roots, read / length, printed / roots, printed / length))
+            print_instructions(path)
 
 
 main()

@@ -1,8 +1,10 @@
 //! The program of the benchmark. Its first word says what is measured on the standard input: `roots` are read from one stream, and
-//! printed once for each further word; `numbers` and `strings` are read as one list; the text is `quoted` or `copied` once for each further word.
+//! printed once for each further word; `numbers` and `strings` are read as one list; the text is `quoted` or `copied` once for each
+//! further word; and for each the `positions` of its end are asked for, a million times.
 #![tactic(auto)]
 
 mod lists;
+mod positions;
 mod quoted;
 mod roots;
 
@@ -18,6 +20,9 @@ fn measured(alloc: Global, word: &str, times: usize, text: &str) -> Result<Strin
     }
     if word == "strings" {
         return lists::strings(alloc, text);
+    }
+    if word == "positions" {
+        return positions::positions(alloc, text, times);
     }
     if word == "quoted" {
         return quoted::quoted(alloc, text, times);

@@ -2,12 +2,15 @@
 
 use irtext_types::dialects::register_demo;
 use irtext_types::{DemoAttr, DemoType};
-use pliron_text::base::{Context, Operation, Ptr};
+use pliron_text::base::{Context, OpId, Operation, Ptr};
+use pliron_text::dialect::{Dialect, DialectName};
+use pliron_text::format::{Directive, OpFormat};
 use pliron_text::ir::OperationText;
 use pliron_text::location::Source;
 use pliron_text::parsable::{State, StateStream, TextStream};
 use pliron_text::printable;
 use pliron_text::printable::Printable;
+use pliron_text::result::Result as Answer;
 use std::alloc::{AllocError, Global};
 
 /// All roots of a text, in a context.
@@ -49,10 +52,21 @@ fn print_roots(
     Ok(text)
 }
 
+/// Registers `bench.note`, which is written as a dictionary of its attributes, beside the demo dialects.
+fn register(alloc: Global, ctx: &mut Context<DemoType, DemoAttr>) -> Answer<(), DemoAttr> {
+    register_demo(ctx)?;
+    let name: DialectName = DialectName::try_new(alloc, "bench")?;
+    let id = OpId::try_new(alloc, "bench", "note")?;
+    let mut directives = Vec::new(alloc);
+    directives.push(Directive::AttrDict)?;
+    let dialect = Dialect::register(ctx, &name)?;
+    dialect.add_op(id, OpFormat::Custom(directives), false)
+}
+
 /// Reads all roots and prints them so many times. It tells how many roots and bytes there were.
 pub fn roots(alloc: Global, text: &str, times: usize) -> Result<String, AllocError> {
     let mut ctx = Context::new(alloc);
-    if register_demo(&mut ctx).is_err() {
+    if register(alloc, &mut ctx).is_err() {
         return Err(AllocError);
     }
     let roots = read_roots(alloc, text, &mut ctx)?;

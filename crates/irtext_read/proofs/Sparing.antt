@@ -1,10 +1,10 @@
 -- Readers that ask for no memory where what they read stands.
-use Rattle.std.proofs.Common.{◌≡◌, ℕ, Bool, true, false, Option, Err, [], ◌∷◌, codes, ap, subst}
+use Rattle.std.proofs.Common.{◌≡◌, ℕ, Bool, true, false, Option, Result, Ok, Err, [], ◌∷◌, codes, ap, subst, sym}
 use Rattle.std.specs.Char.{is_ascii_digit, is_ascii_hexdigit}
 use Rattle.irtext_base.specs.Text.{Text, begins}
 use Rattle.irtext_base.specs.Reading.{the}
 use Rattle.irtext_base.specs.Stream.{StreamView}
-use Rattle.irtext_base.specs.Answers.{Outcome, Read, Missing, Bad, Takes, Gives, NeedsNoMemory, mapped, followed, unless_failed}
+use Rattle.irtext_base.specs.Answers.{Outcome, Read, Missing, Bad, Takes, Gives, DemandsOf, NeedsNoMemory, mapped, followed, unless_failed}
 use Rattle.irtext_base.specs.declared.parsable.fault.ParseFault.{ParseFault}
 use Rattle.irtext_base.proofs.Compose.{seen_after}
 use Rattle.irtext_read.specs.Integers.{no_digit_behind, sign_at, before_hexadecimal, numeral_at, bool_at}
@@ -40,6 +40,20 @@ module _ {X A : Type 0} where
   lead_spares Y W digit make false (Missing cause) fault last h = tt
   lead_spares Y W digit make false (Bad cause upto) fault last h = tt
 
+  -- what is no value is none, whatever the fault says
+  pub err_spares : (Y : Type 0) (o : Outcome X) (fault last : ParseFault A) → NeedsNoMemory {Y = Y} o (Err fault) → NeedsNoMemory {Y = Y} o (Err last)
+  err_spares Y (Read x taken rest) fault last h = h
+  err_spares Y (Missing cause) fault last h = tt
+  err_spares Y (Bad cause upto) fault last h = tt
+
+  -- what is no value when seen is none
+  pub unmapped_spares : {V : Type 0} (Y : Type 0) (see : X → V) (b : Bool) (o : Outcome X) (r : Result Y (ParseFault A)) → NeedsNoMemory (unless_failed b (mapped see o)) r → NeedsNoMemory (unless_failed b o) r
+  unmapped_spares Y see b o (Ok y) h = tt
+  unmapped_spares Y see true o (Err fault) h = tt
+  unmapped_spares Y see false (Read x taken rest) (Err fault) h = h
+  unmapped_spares Y see false (Missing cause) (Err fault) h = tt
+  unmapped_spares Y see false (Bad cause upto) (Err fault) h = tt
+
 module _ {A : Type 0} where
   -- where no digit stands, nothing is read
   pub no_digit_spares : (X Y : Type 0) (sign text : Text) (fault : ParseFault A) → NeedsNoMemory {X = X} {Y = Y} (no_digit_behind sign text) (Err fault)
@@ -60,6 +74,12 @@ module _ {A : Type 0} where
   pub neither_spares : (Y : Type 0) (b : Bool) (text : Text) (fault : ParseFault A) → begins (the 116) text ≡ false → begins (the 102) text ≡ false → NeedsNoMemory {Y = Y} (unless_failed b (bool_at text)) (Err fault)
   unfolding bool_at
   neither_spares Y b text fault n m = unread_spares Y b _ fault (rw (n, m) tt)
+
+module _ {S X Y A : Type 0} (view : S → StreamView) (at : S → StreamView → S) (mid new : S) where
+  -- an answer whose fault is committed asks for no memory where the answer didn't
+  pub demanded_spares : (o : Outcome X) (a r : Result Y (ParseFault A)) → NeedsNoMemory o a → DemandsOf view at a mid r new → NeedsNoMemory o r
+  demanded_spares o (Ok y) r h d = subst (λ r. NeedsNoMemory o r) (sym d.0) tt
+  demanded_spares o (Err fault) r h d = subst (λ r. NeedsNoMemory o r) (sym d.1) (err_spares Y o fault d.0 h)
 
 module _ {S A : Type 0} (view : S → StreamView) (at : S → StreamView → S) (view_at : (s : S) (v : StreamView) → view (at s v) ≡ v) (at_at : (s : S) (v w : StreamView) → at (at s v) w ≡ at s w) where
   -- a mark behind which no hexadecimal digit stands is none

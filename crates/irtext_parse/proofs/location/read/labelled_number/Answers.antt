@@ -13,4 +13,4 @@ pub returns : goal.returns
 returns g c =
     let m = g.met.S.CharStream in
     let l = lens g.S.CharStream.view g.S.CharStream.at m.view_at m.at_view m.at_at in
-    last l (more l _ (first l _ c.in_ok-text_demanded.ensures) c.in_ok-spaced_text_demanded.ensures) c.i32_demanded.ensures
+    last l (more l _ (first l _ c.in_ok-text_demanded.ensures) c.in_ok-spaced_text_demanded.ensures) c.i32_demanded.ensures.read

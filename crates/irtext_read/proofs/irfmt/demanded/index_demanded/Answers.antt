@@ -5,4 +5,4 @@ pub returns : goal.returns
 returns g c =
     let m = g.met.S.CharStream in
     let l = lens g.S.CharStream.view g.S.CharStream.at m.view_at m.at_view m.at_at in
-    last l (first l _ c.in_ok-text_demanded.ensures) c.usize_demanded.ensures
+    last l (first l _ c.in_ok-text_demanded.ensures) c.usize_demanded.ensures.read

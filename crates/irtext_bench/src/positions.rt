@@ -1,0 +1,21 @@
+//! The position of the end of a text.
+
+use pliron_text::parsable::{SourcePosition, TextStream};
+use std::alloc::{AllocError, Global};
+
+const MILLION: usize = 1_000_000;
+
+/// Asks for the position of the end of a text so many million times. It tells the position.
+pub fn positions(alloc: Global, text: &str, times: usize) -> Result<String, AllocError> {
+    let mut stream = TextStream::new(alloc, text)?;
+    for _ in 0..text.len() {
+        let _ = stream.take();
+    }
+    let mut position = SourcePosition::default();
+    for _ in 0..times {
+        for _ in 0..MILLION {
+            position = stream.locate(stream.position());
+        }
+    }
+    format!(in alloc; "{position}")
+}
