@@ -1,5 +1,5 @@
 -- Indices of entries that may stand, and those that may not.
-use Rattle.std.proofs.Common.{◌≡◌, append-nil, ℕ, ◌<◌, Bool, true, false, cond, Ok, Err, [], ◌∷◌, length, length-append, Option, Some, codes, refl, sym, ◌∙◌, ap, subst, ◌⊎◌, inl, inr, arith}
+use Rattle.std.proofs.Common.{◌≡◌, append-nil, ℕ, ◌<◌, Bool, true, false, cond, Ok, Err, [], ◌∷◌, ◌++◌, length, length-append, Option, Some, codes, refl, sym, ◌∙◌, ap, subst, ◌⊎◌, inl, inr, arith}
 use Rattle.irtext_base.specs.Text.{Text}
 use Rattle.irtext_base.specs.Stream.{StreamView, IsAt, after_failure}
 use Rattle.irtext_base.specs.Faults.{UnknownIndex, Unexpected, Word, fault_of}
@@ -12,6 +12,7 @@ use Rattle.irtext_read.specs.AttrTexts.{attr_at}
 use Rattle.irtext_read.specs.Tokens.{text_at, number_at}
 use Rattle.irtext_outcomes.specs.Readers.Parts.{index_at}
 use Rattle.irtext_base.proofs.Compose.{takes_stands, stands_failed}
+use Rattle.irtext_read.proofs.SetBack.{set_within}
 use Rattle.irtext_read.specs.MustRead.{MustRead, MayRead}
 use Rattle.irtext_outcomes.specs.Readers.Section.{known_index, entry_at, content_at, heading_at}
 use Rattle.irtext_base.specs.Own.{Sincere, is_first_fault}
@@ -35,11 +36,11 @@ module _ (test : ℕ → Bool) where
   pub knows : {A : Type 0} {f : Text → Outcome ℕ} {old new : StreamView} {i : ℕ} → test i ≡ true → MustRead {A = A} itself replaced (λ i. i) f old (Ok i) new → MustRead {A = A} itself replaced (λ i. i) (λ t. known_index test (f t)) old (Ok i) new
   knows {f = f} {old = old} {new = new} {i = i} e h = record { answers = known_read old.failed (f old.rest) i old new e h.answers }
 
-  -- a fault at the place where the stream stood
+  -- a fault at the place where the stream stood, which has the same text
   pub record UnknownAt {A : Type 0} (i : ℕ) (old mid : StreamView) (fault : ParseFault A) (new : StreamView) : Type 0 where
     pub because : fault_of fault.cause ≡ UnknownIndex i
     pub committed : fault.committed ≡ true
-    pub place : IsAt fault.pos.line fault.pos.column old.passed
+    pub place : old.passed ++ old.rest ≡ mid.passed ++ mid.rest → IsAt fault.pos.line fault.pos.column old.passed
     pub left : new ≡ after_failure mid
 
   unknown_read : {A : Type 0} (b : Bool) (o : Outcome ℕ) (i : ℕ) (old mid new : StreamView) (fault : ParseFault A) → test i ≡ false → Gives itself replaced (demanded (unless_failed b o)) old i mid → UnknownAt i old mid fault new →
@@ -48,7 +49,8 @@ module _ (test : ℕ → Bool) where
   unknown_read false (Read x t r) i old mid new fault e h k =
       let d : test x ≡ false = subst (λ x. test x ≡ false) h.0 e in
       let c : fault_of fault.cause ≡ UnknownIndex x = k.because ∙ ap UnknownIndex h.0 in
-      rw d (inr (record { because = c; committed = k.committed; place = rw append-nil k.place; left = stands_failed itself replaced alone.view_at alone.at_at old.failed old mid new (takes_stands itself replaced alone.view_at alone.at_at old mid t r h.1) k.left }))
+      let s = takes_stands itself replaced alone.view_at alone.at_at old mid t r h.1 in
+      rw d (inr (record { because = c; committed = k.committed; place = rw append-nil (k.place (set_within alone old mid s)); left = stands_failed itself replaced alone.view_at alone.at_at old.failed old mid new s k.left }))
   unknown_read false (Missing cause) i old mid new fault e h k = absurd h
   unknown_read false (Bad cause upto) i old mid new fault e h k = absurd h
 

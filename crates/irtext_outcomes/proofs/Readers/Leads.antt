@@ -19,6 +19,7 @@ use Rattle.irtext_base.specs.declared.parsable.fault.ParseFault.{ParseFault}
 use Rattle.irtext_stream.specs.declared.position.Place.{Place}
 use Rattle.irtext_base.proofs.Compose.{seen_after, takes_more, answers_after, answers_demanded, takes_stands, stands_failed}
 use Rattle.irtext_read.proofs.Spelling.{begins_the, takes_next, takes_none_is}
+use Rattle.irtext_read.proofs.SetBack.{set_within}
 use Rattle.irtext_read.specs.Tokens.{id_at}
 use Rattle.irtext_grammar.specs.Contexts.Formats.{op_id}
 use Rattle.irtext_outcomes.specs.Readers.Parts.{lead_of, behind_lead, behind, is_led}
@@ -72,27 +73,29 @@ module _ {S A : Type 0} (dialects : List (Text × Table)) (l : Lens S) where
       let q : demanded (unless_failed (l.view mid).failed (id_at (l.view mid).rest)) ≡ demanded (id_at text) = rw (v, f) refl in
       answers_after l.view l.at l.view_at l.at_at id_of (id_at text) old mid new (c ∷ lead) text r t (subst (λ o. Answers l.view l.at id_of o mid r new) q b)
 
-  refused_at : (cause : Fault) (upto : Text) (place : Place) (old mid new : S) (fault : ParseFault A) (t r : Text) → Takes l.view l.at t r old mid → StandsBehind place ((l.view old).passed ++ upto) → RefusesAt l.view l.at cause place mid fault new → Commits l.view l.at cause upto old fault new
-  refused_at cause upto place old mid new fault t r k p h =
-      record { because = h.because; committed = h.committed; place = h.position ((l.view old).passed ++ upto) p; left = stands_failed l.view l.at l.view_at l.at_at (l.view old).failed old mid new (takes_stands l.view l.at l.view_at l.at_at old mid t r k) h.left }
+  refused_at : (cause : Fault) (upto more : Text) (place : Place) (old mid new : S) (fault : ParseFault A) (t r : Text) → upto ++ more ≡ (l.view old).rest → Takes l.view l.at t r old mid → StandsBehind place ((l.view old).passed ++ upto) → RefusesAt l.view l.at cause place mid fault new → Commits l.view l.at cause upto old fault new
+  refused_at cause upto more place old mid new fault t r e k p h =
+      let s = takes_stands l.view l.at l.view_at l.at_at old mid t r k in
+      let same = append_assoc (l.view old).passed upto more ∙ (ap (λ z. (l.view old).passed ++ z) e ∙ set_within l old mid s) in
+      record { because = h.because; committed = h.committed; place = h.position ((l.view old).passed ++ upto) more same p; left = stands_failed l.view l.at l.view_at l.at_at (l.view old).failed old mid new s h.left }
 
-  by_dialect : (b n : Bool) (lead : Text) (start place : Place) (i : OpId) (t r : Text) (old mid new : S) (fault : ParseFault A) → Takes l.view l.at t r old mid → StandsBehind start (l.view old).passed → StandsBehind place ((l.view old).passed ++ lead) →
+  by_dialect : (b n : Bool) (lead more : Text) (start place : Place) (i : OpId) (t r : Text) (old mid new : S) (fault : ParseFault A) → lead ++ more ≡ (l.view old).rest → Takes l.view l.at t r old mid → StandsBehind start (l.view old).passed → StandsBehind place ((l.view old).passed ++ lead) →
       cond b ((n ≡ false) × RefusesAt l.view l.at (UnregisteredOp (id_of i)) start mid fault new) (RefusesAt l.view l.at (UnregisteredDialect i.dialect) place mid fault new) →
       Starves l.view l.at old fault new ⊎ Refuses l.view l.at (cond b (cond n (Read (id_of i) t r) (Bad (UnregisteredOp (id_of i)) [])) (Bad (UnregisteredDialect i.dialect) lead)) old fault new
-  by_dialect true n lead start place i t r old mid new fault k p q h = inr (rw h.0 (refused_at (UnregisteredOp (id_of i)) [] start old mid new fault t r k (rw append-nil p) h.1))
-  by_dialect false n lead start place i t r old mid new fault k p q h = inr (refused_at (UnregisteredDialect i.dialect) lead place old mid new fault t r k q h)
+  by_dialect true n lead more start place i t r old mid new fault e k p q h = inr (rw h.0 (refused_at (UnregisteredOp (id_of i)) [] (l.view old).rest start old mid new fault t r refl k (rw append-nil p) h.1))
+  by_dialect false n lead more start place i t r old mid new fault e k p q h = inr (refused_at (UnregisteredDialect i.dialect) lead more place old mid new fault t r e k q h)
 
-  registers : (lead : Text) (o : Outcome Id) (start place : Place) (i : OpId) (old mid new : S) (r : Result OpId (ParseFault A)) → StandsBehind start (l.view old).passed → StandsBehind place ((l.view old).passed ++ lead) → Gives l.view l.at o old (id_of i) mid → Registers l.view l.at dialects start place i mid r new
+  registers : (lead more : Text) (o : Outcome Id) (start place : Place) (i : OpId) (old mid new : S) (r : Result OpId (ParseFault A)) → lead ++ more ≡ (l.view old).rest → StandsBehind start (l.view old).passed → StandsBehind place ((l.view old).passed ++ lead) → Gives l.view l.at o old (id_of i) mid → Registers l.view l.at dialects start place i mid r new
       → Answers l.view l.at id_of (registered_behind dialects lead o) old r new
-  registers lead (Read x t q) start place i old mid new (Ok j) p s h k =
+  registers lead more (Read x t q) start place i old mid new (Ok j) e p s h k =
       let d : is_some (dialect_of dialects x.dialect) ≡ true = subst (λ y. is_some (dialect_of dialects y.dialect) ≡ true) h.0 k.0 in
       let n : is_some (table.registered dialects (op_id x)) ≡ true = subst (λ y. is_some (table.registered dialects (op_id y)) ≡ true) h.0 k.1 in
       rw (d, n) (rw k.2 h.0, rw k.3 h.1)
-  registers lead (Read x t q) start place i old mid new (Err fault) p s h k =
+  registers lead more (Read x t q) start place i old mid new (Err fault) e p s h k =
       subst (λ y. Starves l.view l.at old fault new ⊎ Refuses l.view l.at (registered_behind dialects lead (Read y t q)) old fault new) h.0
-      (by_dialect (is_some (dialect_of dialects i.dialect)) (is_some (table.registered dialects i)) lead start place i t q old mid new fault h.1 p s k)
-  registers lead (Missing cause) start place i old mid new r p s h k = absurd h
-  registers lead (Bad cause upto) start place i old mid new r p s h k = absurd h
+      (by_dialect (is_some (dialect_of dialects i.dialect)) (is_some (table.registered dialects i)) lead more start place i t q old mid new fault e h.1 p s k)
+  registers lead more (Missing cause) start place i old mid new r e p s h k = absurd h
+  registers lead more (Bad cause upto) start place i old mid new r e p s h k = absurd h
 
   unregistered : (lead : Text) (o : Outcome Id) (old new : S) (fault : ParseFault A) → Starves l.view l.at old fault new ⊎ Refuses l.view l.at o old fault new → Starves l.view l.at old fault new ⊎ Refuses l.view l.at (registered_behind dialects lead o) old fault new
   unregistered lead o old new fault (inl h) = inl h
@@ -121,7 +124,7 @@ module _ {S A : Type 0} (dialects : List (Text × Table)) (l : Lens S) where
       let lead = lead_of (l.view old).rest in
       let v = seen_after l.view l.at l.view_at l.at_at old mid lead (behind_lead (l.view old).rest) h.takes in
       let s : StandsBehind place ((l.view old).passed ++ lead) = rw v at q in
-      record { answers = rw h.fine (registers lead (behind lead (id_at (behind_lead (l.view old).rest))) start place i old now new r p s (led_is old mid next a (Ok i) now h) k) }
+      record { answers = rw h.fine (registers lead (behind_lead (l.view old).rest) (behind lead (id_at (behind_lead (l.view old).rest))) start place i old now new r h.takes.same p s (led_is old mid next a (Ok i) now h) k) }
 
   -- an id that is answered is one of a registered operation
   pub known_id : (start place : Place) (i : OpId) (old new : S) (r : Result OpId (ParseFault A)) → Registers l.view l.at dialects start place i old r new → IfOk r (λ id. IsSome (table.registered dialects id))

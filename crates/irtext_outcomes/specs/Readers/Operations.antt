@@ -1,5 +1,5 @@
 -- Between functions: what a text reads as, where a root of the form that is read so far stands, by a context's dialects, with each fault's cause and place.
-use Rattle.std.specs.Prelude.{ℕ, cond, is_some, List, Option, Some, None, [], ◌≡◌, true, false, Result, Ok, Err}
+use Rattle.std.specs.Prelude.{ℕ, cond, is_some, List, Option, Some, None, [], ◌++◌, ◌≡◌, true, false, Result, Ok, Err}
 use Rattle.irtext_base.specs.Text.{Text}
 use Rattle.irtext_base.specs.Format.{Id}
 use Rattle.irtext_base.specs.Faults.{UnregisteredDialect, UnregisteredOp, Fault, fault_of, id_of}
@@ -59,7 +59,7 @@ module _ {S A : Type 0} (view : S → StreamView) (at : S → StreamView → S) 
   pub record RefusesAt (cause : Fault) (place : Place) (old : S) (fault : ParseFault A) (new : S) : Type 0 where
     pub because : fault_of fault.cause ≡ cause
     pub committed : fault.committed ≡ true
-    pub position : (passed : Text) → StandsBehind place passed → IsAt fault.pos.line fault.pos.column passed
+    pub position : (passed rest : Text) → passed ++ rest ≡ (view old).passed ++ (view old).rest → StandsBehind place passed → IsAt fault.pos.line fault.pos.column passed
     pub left : new ≡ at old (after_failure (view old))
 
   -- The id is answered where its operation is registered: else its dialect is unknown at one place, or its name at another.

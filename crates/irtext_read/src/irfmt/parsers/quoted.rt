@@ -66,7 +66,7 @@ fn character(number: Option<u64>) -> Option<char>
 /// digits, that is the fault, where the stream stands. It leaves the stream failed.
 fn no_character<S: CharStream, A>(stream: &mut S, escape: Place, digits: Place) -> ParseFault<A>
     requires { (passed taken : List ℕ) × (passed ++ taken ≡ (S.view stream.old).passed) × StandsBehind digits passed }
-    ensures { (before passed taken : List ℕ) → StandsBehind escape before → passed ++ taken ≡ (S.view stream.old).passed → StandsBehind digits passed →
+    ensures { (before rest passed taken : List ℕ) → before ++ rest ≡ (S.view stream.old).passed ++ (S.view stream.old).rest → StandsBehind escape before → passed ++ taken ≡ (S.view stream.old).passed → StandsBehind digits passed →
         StarvesHere S.view S.at stream.old result stream.new ⊎ FailsBehind S.view S.at (BadUnicodeEscape (encode_utf8_all taken)) before stream.old result stream.new }
 {
     match String::from_str(stream.allocator(), stream.text_since(digits)) {
