@@ -4,13 +4,13 @@ use Rattle.irtext_base.specs.Text.{Text, begins}
 use Rattle.irtext_base.specs.Reading.{the}
 use Rattle.irtext_base.specs.Stream.{StreamView, first_of, advanced, advanced_by, behind}
 use Rattle.irtext_base.specs.Faults.{Unexpected, Word}
-use Rattle.irtext_base.specs.Answers.{Outcome, Read, Missing, Bad, Takes, Passes, Starves, StarvesHere, Gives, Refuses, NeedsNoMemory, prefixed, unless_failed}
+use Rattle.irtext_base.specs.Answers.{Outcome, Read, Missing, Bad, Takes, Passes, Starves, StarvesHere, Gives, Refuses, NeedsNoMemory, prefixed}
 use Rattle.irtext_base.specs.declared.parsable.fault.ParseFault.{ParseFault}
 use Rattle.irtext_base.proofs.Compose.{answers_after, starves_behind, takes_none, seen_after, takes_more}
 use Rattle.std.proofs.lemmas.Bool.Decides.{nat_tests}
 use Rattle.irtext_read.specs.Spelled.{begun_by, Spelling, Differs, Misses}
 use Rattle.irtext_read.specs.Tokens.{spelled_at, text_at}
-use Rattle.irtext_read.proofs.Sparing.{unread_spares}
+use Rattle.irtext_read.proofs.Grammar.{text_at-literal}
 
 -- two fronts of an outcome are one
 pub prefixed-prefixed : {X : Type 0} (t u : Text) (o : Outcome X) → prefixed t (prefixed u o) ≡ prefixed (t ++ u) o
@@ -74,6 +74,10 @@ module _ {S : Type 0} (view : S → StreamView) (at : S → StreamView → S) wh
     spelling_all word old now true taken s = rw s.so_far (refl, rw (append-nil taken) s.takes)
     spelling_all word old now false taken s = rw s.so_far (refl, rw (sym (s.untaken refl)) s.takes)
 
+    -- a text that was passed whole was read
+    pub whole_gives : (word rest : Text) (old new : S) → (view old).rest ≡ word ++ rest → new ≡ at old (behind (view old) word rest) → Gives view at (text_at word (view old).rest) old tt new
+    whole_gives word rest old new s n = rw (text_at-literal word (view old).rest rest s) (refl, record { is = n; same = sym s })
+
     module _ {A : Type 0} where
       -- the next character of the word doesn't come
       pub spelling_refused : (word : Text) (old now new : S) (begun : Bool) (fault : ParseFault A) → Differs view at word old begun now → Misses view at begun (Unexpected (first_of (view now).rest) (Word word)) now fault new → Starves view at old fault new ⊎ Refuses view at (text_at word (view old).rest) old fault new
@@ -87,17 +91,13 @@ module _ {S : Type 0} (view : S → StreamView) (at : S → StreamView → S) wh
           rw q (inr (subst (λ z. Passes view at (Unexpected (first_of (view now).rest) (Word word)) z fault new) n m))
 
       -- a text that differs is not read
-      differs_spares : (Y : Type 0) (word : Text) (old now : S) (begun : Bool) (fault : ParseFault A) → Differs view at word old begun now → NeedsNoMemory {Y = Y} (text_at word (view old).rest) (Err fault)
+      pub differs_spares : (Y : Type 0) (word : Text) (old now : S) (begun : Bool) (fault : ParseFault A) → Differs view at word old begun now → NeedsNoMemory {Y = Y} (text_at word (view old).rest) (Err fault)
       differs_spares Y word old now true fault h =
           let q : text_at word (view old).rest ≡ prefixed h.taken (Missing (Unexpected (first_of (view now).rest) (Word word))) = h.spelling.so_far ∙ ap (prefixed h.taken) (spelled-misses word h.left (view now).rest h.next h.other) in
           rw q tt
       differs_spares Y word old now false fault h =
           let q : text_at word (view old).rest ≡ Missing (Unexpected (first_of (view now).rest) (Word word)) = h.spelling.so_far ∙ spelled-misses word h.left (view now).rest h.next h.other in
           rw q tt
-
-      -- nor on a stream that may have failed
-      pub text_spares : (Y : Type 0) (word : Text) (old now : S) (begun : Bool) (fault : ParseFault A) → Differs view at word old begun now → NeedsNoMemory {Y = Y} (unless_failed (view old).failed (text_at word (view old).rest)) (Err fault)
-      text_spares Y word old now begun fault h = unread_spares Y (view old).failed (text_at word (view old).rest) fault (differs_spares Y word old now begun fault h)
 
       -- memory is refused behind the characters taken
       pub spelling_starved : (word : Text) (old now new : S) (begun : Bool) (fault : ParseFault A) → (view old).failed ≡ false → Differs view at word old begun now → StarvesHere view at now fault new → Starves view at old fault new

@@ -1,5 +1,5 @@
 -- Fronts of ASCII characters: their bytes, and the identifiers among them.
-use Rattle.std.proofs.Common.{◌≡◌, ℕ, ◌<◌, Bool, true, false, List, cond, [], ◌∷◌, ◌++◌, refl, sym, ◌∙◌, ap, arith}
+use Rattle.std.proofs.Common.{◌≡◌, ℕ, ◌<◌, Bool, true, false, List, cond, [], ◌∷◌, ◌++◌, refl, sym, ap, arith}
 use Rattle.std.proofs.lemmas.Bool.Decides.{nat_tests}
 use Rattle.std.proofs.lemmas.Str.{encode_ascii}
 use Rattle.std.specs.Str.{encode_utf8_all}
@@ -10,7 +10,7 @@ use Rattle.irtext_base.specs.Stream.{StreamView}
 use Rattle.irtext_base.specs.Places.{StandsBehind}
 use Rattle.irtext_base.specs.Answers.{Takes}
 use Rattle.irtext_stream.specs.declared.position.Place.{Place}
-use Rattle.irtext_base.proofs.Compose.{seen_after, takes_stands}
+use Rattle.irtext_base.proofs.Compose.{seen_after}
 
 in_word_ascii : (c : ℕ) → in_word c ≡ true → c < 128
 in_word_ascii c e = grind (arith, nat_tests)
@@ -53,9 +53,3 @@ is_identifier-front (c ∷ text) e = rw (begins_word_in_word c e) (rw e (list_al
 -- the text since a place is what was taken there
 pub taken_since : {S : Type 0} (view : S → StreamView) (at : S → StreamView → S) → ((s : S) (v : StreamView) → view (at s v) ≡ v) → ((s : S) (v w : StreamView) → at (at s v) w ≡ at s w) → (old mid : S) (place : Place) (bytes : List ℕ) (t r : Text) → Takes view at t r old mid → StandsBehind place (view old).passed → ((passed taken : Text) → passed ++ taken ≡ (view mid).passed → StandsBehind place passed → bytes ≡ encode_utf8_all taken) → bytes ≡ encode_utf8_all t
 taken_since view at view_at at_at old mid place bytes t r k p h = h (view old).passed t (sym (ap (λ s. s.passed) (seen_after view at view_at at_at old mid t r k))) p
-
--- the whole text stays the same where characters of it are taken
-pub text_stays : {S : Type 0} (view : S → StreamView) (at : S → StreamView → S) → ((s : S) (v : StreamView) → view (at s v) ≡ v) → ((s : S) (v w : StreamView) → at (at s v) w ≡ at s w) → (old mid : S) (t r : Text) → Takes view at t r old mid → (view old).passed ++ (view old).rest ≡ (view mid).passed ++ (view mid).rest
-text_stays view at view_at at_at old mid t r k =
-    let s = takes_stands view at view_at at_at old mid t r k in
-    sym (ap (λ v. v.passed ++ v.rest) (ap view s.is ∙ view_at old s.seen) ∙ s.same)

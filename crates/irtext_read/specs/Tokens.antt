@@ -1,26 +1,16 @@
 -- Tokens: what a text is to the reader of each.
 use Rattle.std.specs.Prelude.{ℕ, zero, suc, ℤ, pos, negsuc, Bool, cond, ◌||◌, nat_lt, Option, Some, None, [], ◌∷◌, ◌++◌, codes, ⊤}
-use Rattle.std.specs.Char.{is_ascii_digit, is_ascii_hexdigit, is_whitespace}
+use Rattle.std.specs.Char.{is_ascii_digit, is_whitespace}
 use Rattle.irtext_base.specs.Text.{Text, begins, front, after, begins_word, in_word}
 use Rattle.irtext_base.specs.Reading.{the}
 use Rattle.irtext_base.specs.Format.{Id}
 use Rattle.irtext_base.specs.Stream.{first_of}
 use Rattle.irtext_base.specs.Faults.{Demand, Word, AnIdentifier, ADigit, AnOperation, Unexpected, NumberRange}
 use Rattle.irtext_base.specs.Answers.{Outcome, Read, Missing, Bad, prefixed}
+pub use Rattle.irtext_stream.specs.Classes.{has}
 pub use Rattle.irtext_read.specs.Digits.{fitting}
 use Rattle.irtext_read.specs.Infix.{Reader, ◌▷◌, ◌▶◌, ◌⇒◌}
 use Rattle.irtext_read.specs.Digits.{value_in}
-use Rattle.irtext_read.specs.declared.irfmt.parsers.class.Class.{Class}
-use Rattle.irtext_read.specs.declared.irfmt.parsers.class.Class.TheVariants as class
-
--- the characters of a class
-abbrev pub has : Class → ℕ → Bool
-has class.WhiteSpace c = is_whitespace c
-has class.Digit c = is_ascii_digit c
-has class.HexadecimalDigit c = is_ascii_hexdigit c
-has class.Beginning c = begins_word c
-has class.Word c = in_word c
-has class.Dotted c = in_word c || the 46 c
 
 -- white space, as far as it goes
 abbrev pub space_at : Text → Outcome ⊤

@@ -8,7 +8,7 @@ use Rattle.std.specs.Char.{encode_utf8}
 use lib.Utf8.{scalar}
 use Rattle.irtext_stream.specs.Text.{Text, front, after}
 use Rattle.irtext_stream.specs.Stream.{first_of, advanced_by}
-use Rattle.irtext_stream.specs.Index.{Ends, Behind, width_of}
+use Rattle.irtext_stream.specs.Index.{Ends, ComesAt, width_of}
 use Rattle.std.specs.Cmp.Lexicographic.{pointwise}
 use Rattle.std.proofs.lemmas.Slice.Eq.{starts_is}
 use Rattle.std.proofs.lemmas.Bool.Decides.{Decides-eqb}
@@ -106,7 +106,7 @@ utf8_behind (c ∷ xs) b (d ∷ zs) s e = utf8_behind xs b zs (more (scalar d) (
     more false b e = absurd (cc)
 
 -- the place behind a text whose bytes come next
-pub behind_text : (bytes : List ℕ) (o : ℕ) (text : List ℕ) → o ≤ length bytes → IsUtf8 (take o bytes) → IsUtf8 (drop o bytes) → IsUtf8 text → drop o bytes ≡ text ++ drop (length text) (drop o bytes) → Behind bytes o text
+pub behind_text : (bytes : List ℕ) (o : ℕ) (text : List ℕ) → o ≤ length bytes → IsUtf8 (take o bytes) → IsUtf8 (drop o bytes) → IsUtf8 text → drop o bytes ≡ text ++ drop (length text) (drop o bytes) → ComesAt bytes o text
 behind_text bytes o text l f u t e =
     let d : drop (length text) (drop o bytes) ≡ drop (o + length text) bytes = drop-drop (length text) o bytes in
     let b : drop o bytes ≡ text ++ drop (o + length text) bytes = e ∙ ap (λ z. text ++ z) d in

@@ -52,8 +52,8 @@ abbrev pub width_of : (ℕ → Bool) → Text → ℕ
 width_of kind [] = 0
 width_of kind (c ∷ text) = cond (kind c) (length (encode_utf8 c)) 0
 
--- the place behind a text that comes next
-pub record Behind (bytes : List ℕ) (o : ℕ) (text : List ℕ) : Type 0 where
+-- a text comes next at an offset, and its end is a place too
+pub record ComesAt (bytes : List ℕ) (o : ℕ) (text : List ℕ) : Type 0 where
   pub within : o + length text ≤ length bytes
   pub passed_utf8 : IsUtf8 (take (o + length text) bytes)
   pub rest_utf8 : IsUtf8 (drop (o + length text) bytes)

@@ -86,22 +86,27 @@ impl CharStream for TextStream {
 
     ghost at_at = { λ s v w. refl };
 
+    #[inline(always)]
     fn peek(&self) -> Option<char> {
         self.peek()
     }
 
+    #[inline(always)]
     fn take(&mut self) -> Option<char> {
         self.take()
     }
 
+    #[inline(always)]
     fn skip(&mut self, class: Class) {
         self.skip(class)
     }
 
+    #[inline(always)]
     fn accept(&mut self, text: &str) -> bool {
         self.accept(text)
     }
 
+    #[inline(always)]
     fn position(&self) -> Place {
         self.position()
     }

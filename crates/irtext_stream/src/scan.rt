@@ -3,7 +3,7 @@ ghost use Rattle.std.specs.Prelude.{◌≡◌, ◌≤◌, ◌++◌, ℕ, List, M
 ghost use Rattle.std.specs.Str.{chars, IsUtf8};
 ghost use Rattle.irtext_stream.specs.Classes.{has};
 ghost use Rattle.irtext_stream.specs.Stream.{first_of};
-ghost use Rattle.irtext_stream.specs.Index.{Ends, Behind, width_of};
+ghost use Rattle.irtext_stream.specs.Index.{Ends, ComesAt, width_of};
 
 use crate::class::Class;
 
@@ -79,7 +79,7 @@ pub(crate) fn comes_at(text: &str, at: usize, word: &str) -> bool
     requires within { at ≤ length text.now }
     requires passed_utf8 { IsUtf8 (take at text.now) }
     requires rest_utf8 { IsUtf8 (drop at text.now) }
-    ensures { MatchBool result (Behind text.now at word.now) ((rest : List ℕ) → chars (drop at text.now) ≡ chars word.now ++ rest → ⊥) }
+    ensures { MatchBool result (ComesAt text.now at word.now) ((rest : List ℕ) → chars (drop at text.now) ≡ chars word.now ++ rest → ⊥) }
 {
     text.as_bytes()[at..].starts_with(word.as_bytes())
 }

@@ -78,6 +78,7 @@ impl TextStream {
     }
 
     /// Passes the longest front of characters of a class.
+    #[inline(always)]
     pub fn skip(&mut self, class: Class)
         ensures { self.new ≡ behind self.old (front (has class) self.old.rest) (after (has class) self.old.rest) }
     {

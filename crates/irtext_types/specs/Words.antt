@@ -3,7 +3,7 @@ use Rattle.std.specs.Prelude.{ℕ, Bool, cond, Option, Some, None, [], ◌++◌}
 use Rattle.std.specs.Char.{is_whitespace}
 use Rattle.irtext_base.specs.Text.{Text, begins, front, after, after_space, begins_word}
 use Rattle.irtext_read.specs.Tokens.{has}
-use Rattle.irtext_read.specs.declared.irfmt.parsers.class.Class.TheVariants.{Dotted}
+use Rattle.irtext_stream.specs.declared.class.Class.TheVariants.{Dotted}
 use Rattle.irtext_base.specs.Stream.{first_of}
 use Rattle.irtext_base.specs.Faults.{Demand, Unexpected, OwnText}
 use Rattle.irtext_base.specs.Answers.{Outcome, Read, Missing, Bad, prefixed}

@@ -7,7 +7,8 @@ use pliron_text::dialect::OpInfo;
 use pliron_text::format::{FormatFault, OpFormat, check_format};
 use pliron_text::ir::{BasicBlockVerifyErr, DefUseVerifyErr, OpObj, OperationText};
 use pliron_text::irfmt::outlined::OUTLINED_ATTR_MARKER;
-use pliron_text::location::{PathKey, Source, erase_locations};
+use pliron_text::irfmt::parsers::Class;
+use pliron_text::location::{PathKey, Source, SourcePosition, erase_locations};
 use pliron_text::parsable::{
     CharStream, IntoParseResult, ParseFault, ParseResult, ParserNameTrackerError, Place,
     TextStream, UnresolvedReference,
@@ -16,10 +17,12 @@ use pliron_text::result::{Cause, Error, Expected, StringError};
 use std::alloc::Global;
 use std::test::Fail;
 
-/// The place behind the next character.
-fn passed<S: CharStream>(stream: &mut S) -> Place {
+/// The line and the column behind the next character that is no white space.
+fn passed<S: CharStream>(stream: &mut S) -> SourcePosition {
+    stream.skip(Class::WhiteSpace);
     let _ = stream.take();
-    stream.position()
+    let place: Place = stream.position();
+    stream.locate(place)
 }
 
 /// The fault that an error is to a reading.
@@ -107,7 +110,7 @@ fn objects_by_the_paths_of_this_layer(rt: HostRuntime) -> Result<(), Fail> {
 #[test]
 fn readings_and_errors_by_the_paths_of_this_layer(rt: HostRuntime) -> Result<(), Fail> {
     let mut stream = TextStream::new(rt.alloc(), "ab")?;
-    assert_eq!(rt; passed(&mut stream).position().column, 2);
+    assert_eq!(rt; passed(&mut stream).column, 2);
     assert!(rt; matches!(fault(), Some(fault) if fault.committed));
     assert_eq!(rt; OUTLINED_ATTR_MARKER, "!outlined");
     let checked: Result<(), FormatFault> = check_format(&OpFormat::Canonical);

@@ -104,7 +104,7 @@ fn read(alloc: Global, stream: &mut TextStream, reader: Reader) -> Result<String
         Reader::Spaces => list_with_sep_parser(stream, ListSeparator::Char(' '), int_parse),
         Reader::Lines => list_with_sep_parser(stream, ListSeparator::Newline, int_parse),
     };
-    told(alloc, &answer, stream.position().position(), stream.peek())
+    told(alloc, &answer, stream.locate(stream.position()), stream.peek())
 }
 
 /// What a reader answers on a text of its own.
@@ -116,7 +116,7 @@ fn read_text(alloc: Global, reader: Reader, text: &str) -> Result<String, Fail> 
 /// What a list answers on a stream with its state.
 fn read_with(alloc: Global, s: &mut Stream<'_>) -> Result<String, Fail> {
     let answer: ParseResult<Vec<i32>, DemoAttr> = list_parser(s, ',', int_parse);
-    told(alloc, &answer, s.position().position(), s.peek())
+    told(alloc, &answer, s.locate(s.position()), s.peek())
 }
 
 #[test]

@@ -1,6 +1,6 @@
 //! The sources, copies and hashes of locations, and the paths that a context keeps.
 use irtext_base::base::{AttrObj, AttributeDict, OpId};
-use irtext_base::location::{Location, Source};
+use irtext_base::location::{CloneIntoContext, Location, Source};
 use irtext_base::parsable::SourcePosition;
 use irtext_context::base::context::making::Making;
 use irtext_context::base::{Context, Operation, Ptr};

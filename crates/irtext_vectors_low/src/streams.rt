@@ -65,16 +65,16 @@ const FAULTS: &[&str] = &[
 fn a_stream_counts_lines_and_characters(rt: HostRuntime) -> Result<(), Fail> {
     let mut stream = TextStream::new(rt.alloc(), "é\nb")?;
     let start = stream.position();
-    assert_eq!(rt; start.position(), SourcePosition::default());
+    assert_eq!(rt; stream.locate(start), SourcePosition::default());
     assert_eq!(rt; stream.peek(), Some('é'));
     assert_eq!(rt; stream.take(), Some('é'));
     assert_eq!(rt;
-        stream.position().position(),
+        stream.locate(stream.position()),
         SourcePosition { line: 1, column: 2 }
     );
     assert_eq!(rt; stream.take(), Some('\n'));
     assert_eq!(rt;
-        stream.position().position(),
+        stream.locate(stream.position()),
         SourcePosition { line: 2, column: 1 }
     );
     assert_eq!(rt; stream.text_since(start), "é\n");
@@ -198,5 +198,39 @@ fn faults_are_committed_or_not(rt: HostRuntime) -> Result<(), Fail> {
     }
     let value: ParseResult<u8, DemoAttr> = committed(&mut stream, Ok(7));
     assert_eq!(rt; value.ok(), Some(7));
+    Ok(())
+}
+
+#[test]
+fn a_stream_goes_by_slices(rt: HostRuntime) -> Result<(), Fail> {
+    let mut stream = TextStream::new(rt.alloc(), " \u{3000}\né!=a")?;
+    stream.skip(Class::WhiteSpace);
+    assert!(rt; stream.accept("é!="));
+    assert!(rt; !stream.accept("ab"));
+    assert_eq!(rt; stream.peek(), Some('a'));
+    let place = stream.position();
+    assert_eq!(rt;
+        stream.locate(place),
+        SourcePosition { line: 2, column: 4 }
+    );
+    Ok(())
+}
+
+#[test]
+fn a_long_line_counts_characters(rt: HostRuntime) -> Result<(), Fail> {
+    let mut text = String::new(rt.alloc());
+    text.push('\n')?;
+    for _ in 0..600 {
+        text.push_str("aé")?;
+    }
+    let mut stream = TextStream::new(rt.alloc(), text.as_str())?;
+    for _ in 0..1100 {
+        let _ = stream.take();
+    }
+    let place = stream.position();
+    assert_eq!(rt;
+        stream.locate(place),
+        SourcePosition { line: 2, column: 1100 }
+    );
     Ok(())
 }

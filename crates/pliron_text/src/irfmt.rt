@@ -6,9 +6,10 @@ pub use irtext_print::irfmt::printers;
 /// and place.
 pub mod parsers {
     pub use irtext_read::irfmt::parsers::{
-        FromStrRadix, attr_parse, bool_parse, delimited_list_parser, hex_int_parse, id_parse,
-        identifier_parse, int_parse, list_parser, list_with_sep_parser, number_as_string_parse,
-        quoted_string_parse, skip_white_space, spaced, text_parse, zero_or_more_parser,
+        Class, FromStrRadix, attr_parse, bool_parse, delimited_list_parser, hex_int_parse,
+        id_parse, identifier_parse, int_parse, list_parser, list_with_sep_parser,
+        number_as_string_parse, quoted_string_parse, skip_white_space, spaced, text_parse,
+        zero_or_more_parser,
     };
     pub use irtext_state::irfmt::parsers::{location, type_parse};
 }

@@ -12,7 +12,7 @@ use Rattle.irtext_read.specs.AttrTexts.{attr_at}
 use Rattle.irtext_read.specs.Tokens.{text_at, number_at}
 use Rattle.irtext_outcomes.specs.Readers.Parts.{index_at}
 use Rattle.irtext_base.proofs.Compose.{takes_stands, stands_failed}
-use Rattle.irtext_read.proofs.Words.{text_stays}
+use Rattle.irtext_read.proofs.SetBack.{set_within}
 use Rattle.irtext_read.specs.MustRead.{MustRead, MayRead}
 use Rattle.irtext_outcomes.specs.Readers.Section.{known_index, entry_at, content_at, heading_at}
 use Rattle.irtext_base.specs.Own.{Sincere, is_first_fault}
@@ -49,7 +49,8 @@ module _ (test : ℕ → Bool) where
   unknown_read false (Read x t r) i old mid new fault e h k =
       let d : test x ≡ false = subst (λ x. test x ≡ false) h.0 e in
       let c : fault_of fault.cause ≡ UnknownIndex x = k.because ∙ ap UnknownIndex h.0 in
-      rw d (inr (record { because = c; committed = k.committed; place = rw append-nil (k.place (text_stays itself replaced alone.view_at alone.at_at old mid t r h.1)); left = stands_failed itself replaced alone.view_at alone.at_at old.failed old mid new (takes_stands itself replaced alone.view_at alone.at_at old mid t r h.1) k.left }))
+      let s = takes_stands itself replaced alone.view_at alone.at_at old mid t r h.1 in
+      rw d (inr (record { because = c; committed = k.committed; place = rw append-nil (k.place (set_within alone old mid s)); left = stands_failed itself replaced alone.view_at alone.at_at old.failed old mid new s k.left }))
   unknown_read false (Missing cause) i old mid new fault e h k = absurd h
   unknown_read false (Bad cause upto) i old mid new fault e h k = absurd h
 

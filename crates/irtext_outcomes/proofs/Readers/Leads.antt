@@ -19,7 +19,7 @@ use Rattle.irtext_base.specs.declared.parsable.fault.ParseFault.{ParseFault}
 use Rattle.irtext_stream.specs.declared.position.Place.{Place}
 use Rattle.irtext_base.proofs.Compose.{seen_after, takes_more, answers_after, answers_demanded, takes_stands, stands_failed}
 use Rattle.irtext_read.proofs.Spelling.{begins_the, takes_next, takes_none_is}
-use Rattle.irtext_read.proofs.Words.{text_stays}
+use Rattle.irtext_read.proofs.SetBack.{set_within}
 use Rattle.irtext_read.specs.Tokens.{id_at}
 use Rattle.irtext_grammar.specs.Contexts.Formats.{op_id}
 use Rattle.irtext_outcomes.specs.Readers.Parts.{lead_of, behind_lead, behind, is_led}
@@ -75,8 +75,9 @@ module _ {S A : Type 0} (dialects : List (Text × Table)) (l : Lens S) where
 
   refused_at : (cause : Fault) (upto more : Text) (place : Place) (old mid new : S) (fault : ParseFault A) (t r : Text) → upto ++ more ≡ (l.view old).rest → Takes l.view l.at t r old mid → StandsBehind place ((l.view old).passed ++ upto) → RefusesAt l.view l.at cause place mid fault new → Commits l.view l.at cause upto old fault new
   refused_at cause upto more place old mid new fault t r e k p h =
-      let s = append_assoc (l.view old).passed upto more ∙ (ap (λ z. (l.view old).passed ++ z) e ∙ text_stays l.view l.at l.view_at l.at_at old mid t r k) in
-      record { because = h.because; committed = h.committed; place = h.position ((l.view old).passed ++ upto) more s p; left = stands_failed l.view l.at l.view_at l.at_at (l.view old).failed old mid new (takes_stands l.view l.at l.view_at l.at_at old mid t r k) h.left }
+      let s = takes_stands l.view l.at l.view_at l.at_at old mid t r k in
+      let same = append_assoc (l.view old).passed upto more ∙ (ap (λ z. (l.view old).passed ++ z) e ∙ set_within l old mid s) in
+      record { because = h.because; committed = h.committed; place = h.position ((l.view old).passed ++ upto) more same p; left = stands_failed l.view l.at l.view_at l.at_at (l.view old).failed old mid new s h.left }
 
   by_dialect : (b n : Bool) (lead more : Text) (start place : Place) (i : OpId) (t r : Text) (old mid new : S) (fault : ParseFault A) → lead ++ more ≡ (l.view old).rest → Takes l.view l.at t r old mid → StandsBehind start (l.view old).passed → StandsBehind place ((l.view old).passed ++ lead) →
       cond b ((n ≡ false) × RefusesAt l.view l.at (UnregisteredOp (id_of i)) start mid fault new) (RefusesAt l.view l.at (UnregisteredDialect i.dialect) place mid fault new) →

@@ -19,7 +19,7 @@ use Rattle.irtext_grammar.specs.Names.Acts.{may_hold}
 use Rattle.irtext_grammar.specs.Spelling.AttrText.{attr_tree}
 use Rattle.irtext_grammar.specs.Graphs.Build.{put}
 use Rattle.irtext_read.specs.MustRead.{MustRead, MayRead}
-use Rattle.irtext_read.proofs.Words.{text_stays}
+use Rattle.irtext_read.proofs.SetBack.{set_within}
 use Rattle.irtext_outcomes.specs.Readers.Directives.{Pieces, allowed_entry}
 use Rattle.irtext_parse.specs.Readers.PiecesOf.{entry_of, Allows, Adds}
 use Rattle.irtext_outcomes.specs.Readers.Operations.{RefusesAt}
@@ -66,7 +66,7 @@ module _ {A : Type 0} where
   refused_at cause place old mid new fault t r k p h = record {
     because = h.because;
     committed = h.committed;
-    place = h.position (old.passed ++ []) old.rest (rw append-nil (text_stays itself replaced alone.view_at alone.at_at old mid t r k)) (rw append-nil p);
+    place = h.position (old.passed ++ []) old.rest (rw append-nil (set_within alone old mid (takes_stands itself replaced alone.view_at alone.at_at old mid t r k))) (rw append-nil p);
     left = stands_failed itself replaced alone.view_at alone.at_at old.failed old mid new (takes_stands itself replaced alone.view_at alone.at_at old mid t r k) h.left;
   }
 

@@ -8,11 +8,13 @@ ghost use Rattle.irtext_base.specs.Faults.{fault_of, demand_of, Unexpected};
 ghost use Rattle.irtext_base.specs.Answers.{StarvesHere, Commits, Passes, Demands, DemandsOf};
 ghost use Rattle.irtext_read.specs.Tokens.{has};
 
-use crate::irfmt::parsers::Class;
-use irtext_base::parsable::{CharStream, ParseFault, ParseResult, Place};
+use irtext_base::parsable::{
+    CharStream, Class, ParseFault, ParseResult, Place, SourcePosition,
+};
 use irtext_base::result::{Cause, Expected};
 
 /// Whether this character comes next.
+#[inline]
 pub fn next_is<S: CharStream>(stream: &S, c: char) -> bool
     ensures { result ≡ begins (the c) (S.view stream.now).rest }
 {
@@ -20,6 +22,7 @@ pub fn next_is<S: CharStream>(stream: &S, c: char) -> bool
 }
 
 /// Whether a character of the class comes next.
+#[inline]
 pub fn begins<S: CharStream>(stream: &S, class: Class) -> bool
     ensures { result ≡ begins (has class) (S.view stream.now).rest }
 {
@@ -29,35 +32,49 @@ pub fn begins<S: CharStream>(stream: &S, class: Class) -> bool
     }
 }
 
+/// The line and the column where the stream stands.
+pub fn stands_at<S: CharStream>(stream: &S) -> SourcePosition
+    ensures { IsAt result.line result.column (S.view stream.now).passed }
+{
+    stream.locate(stream.position())
+}
+
 /// A committed fault of this cause where the stream stands, which leaves the stream failed.
+#[cold]
+#[inline(never)]
 pub fn refuse<S: CharStream, A>(stream: &mut S, cause: Cause<A>) -> ParseFault<A>
     ensures { Commits S.view S.at (fault_of cause) [] stream.old result stream.new }
 {
-    let place = stream.position();
+    let pos = stands_at(stream);
     stream.fail();
     ParseFault {
-        pos: place.position(),
+        pos,
         cause,
         committed: true,
     }
 }
 
 /// A committed fault of this cause at an earlier place, which leaves the stream failed where it stands.
+#[cold]
+#[inline(never)]
 pub fn refuse_at<S: CharStream, A>(stream: &mut S, place: Place, cause: Cause<A>) -> ParseFault<A>
     ensures cause { result.cause ≡ cause }
     ensures committed { result.committed ≡ true }
     ensures at { (passed rest : List ℕ) → passed ++ rest ≡ (S.view stream.old).passed ++ (S.view stream.old).rest → StandsBehind place passed → IsAt result.pos.line result.pos.column passed }
     ensures left { stream.new ≡ S.at stream.old (after_failure (S.view stream.old)) }
 {
+    let pos = stream.locate(place);
     stream.fail();
     ParseFault {
-        pos: place.position(),
+        pos,
         cause,
         committed: true,
     }
 }
 
 /// The fault of want of memory where the stream stands, which leaves the stream failed.
+#[cold]
+#[inline(never)]
 pub fn out_of_memory<S: CharStream, A>(stream: &mut S) -> ParseFault<A>
     ensures { StarvesHere S.view S.at stream.old result stream.new }
 {
@@ -66,17 +83,21 @@ pub fn out_of_memory<S: CharStream, A>(stream: &mut S) -> ParseFault<A>
 }
 
 /// An uncommitted fault of this cause where the stream stands.
+#[cold]
+#[inline(never)]
 pub fn pass<S: CharStream, A>(stream: &S, cause: Cause<A>) -> ParseFault<A>
     ensures { Passes S.view S.at (fault_of cause) stream.now result stream.now }
 {
     ParseFault {
-        pos: stream.position().position(),
+        pos: stands_at(stream),
         cause,
         committed: false,
     }
 }
 
 /// An uncommitted fault at the next character, or at the end, where this is expected.
+#[cold]
+#[inline(never)]
 pub fn unexpected<S: CharStream, A>(stream: &S, expected: Expected) -> ParseFault<A>
     ensures { Passes S.view S.at (Unexpected (first_of (S.view stream.now).rest) (demand_of expected)) stream.now result stream.now }
 {
@@ -85,6 +106,8 @@ pub fn unexpected<S: CharStream, A>(stream: &S, expected: Expected) -> ParseFaul
 }
 
 /// A committed fault at the next character, or at the end, where this is expected. It leaves the stream failed.
+#[cold]
+#[inline(never)]
 pub fn commit_unexpected<S: CharStream, A>(stream: &mut S, expected: Expected) -> ParseFault<A>
     ensures { Commits S.view S.at (Unexpected (first_of (S.view stream.old).rest) (demand_of expected)) [] stream.old result stream.new }
 {
@@ -93,6 +116,8 @@ pub fn commit_unexpected<S: CharStream, A>(stream: &mut S, expected: Expected) -
 }
 
 /// The same fault, committed, which leaves the stream failed.
+#[cold]
+#[inline(never)]
 pub fn commit<S: CharStream, A>(stream: &mut S, fault: ParseFault<A>) -> ParseFault<A>
     ensures { Demands S.view S.at fault stream.old result stream.new }
 {
@@ -105,6 +130,7 @@ pub fn commit<S: CharStream, A>(stream: &mut S, fault: ParseFault<A>) -> ParseFa
 }
 
 /// The same answer, its fault committed. A fault leaves the stream failed.
+#[inline]
 pub fn committed<S: CharStream, X, A>(
     stream: &mut S,
     answer: ParseResult<X, A>,

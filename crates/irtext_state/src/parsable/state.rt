@@ -9,7 +9,7 @@ ghost use Rattle.irtext_base.specs.declared.location.Location.{Location};
 
 use indexmap::IndexMap;
 use irtext_base::location::{Location, Source};
-use irtext_base::parsable::{CharStream, ParseResult, Place, TextStream};
+use irtext_base::parsable::{CharStream, Class, ParseResult, Place, SourcePosition, TextStream};
 use irtext_base::text::{AttrText, IrText};
 use irtext_context::base::{Context, Operation, Ptr};
 use irtext_read::parsable::OwnStream;
@@ -175,8 +175,20 @@ impl<'c, T: IrText<A>, A: AttrText, U> CharStream for StateStream<'c, T, A, U> {
         self.stream.take()
     }
 
+    fn skip(&mut self, class: Class) {
+        self.stream.skip(class)
+    }
+
+    fn accept(&mut self, text: &str) -> bool {
+        self.stream.accept(text)
+    }
+
     fn position(&self) -> Place {
         self.stream.position()
+    }
+
+    fn locate(&self, place: Place) -> SourcePosition {
+        self.stream.locate(place)
     }
 
     fn reset(&mut self, place: Place) {
@@ -222,7 +234,7 @@ impl<'c, T: IrText<A>, A: AttrText, U> StreamLocation<A> for StateStream<'c, T, 
     fn loc(&self) -> Location<A> {
         Location::SrcPos {
             src: self.state.src,
-            pos: self.stream.position().position(),
+            pos: self.stream.locate(self.stream.position()),
         }
     }
 }

@@ -21,6 +21,7 @@ use irtext_base::result::Cause;
 use irtext_base::text::{AttrText, IrText};
 use irtext_context::base::context::making::Making;
 use irtext_context::base::{Operation, Ptr};
+use irtext_read::irfmt::faults::stands_at;
 use irtext_state::parsable::StateStream;
 use irtext_state::parsable::state::Noting;
 
@@ -86,7 +87,7 @@ fn failed_fault<S: CharStream, A>(stream: &S) -> ParseFault<A>
     ensures { FailedRefusal (S.view stream.now) result (S.view stream.now) }
 {
     ParseFault {
-        pos: stream.position().position(),
+        pos: stands_at(stream),
         cause: Cause::StreamFailed,
         committed: true,
     }

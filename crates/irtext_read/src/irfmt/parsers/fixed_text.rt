@@ -1,5 +1,5 @@
 //! The reader of fixed texts, a format's literals among them.
-ghost use Rattle.std.specs.Prelude.{◌≡◌, IfOk};
+ghost use Rattle.std.specs.Prelude.{◌≡◌, IfOk, false};
 ghost use Rattle.irtext_base.specs.Answers.{Answers, NeedsNoMemory, unless_failed};
 ghost use Rattle.irtext_base.specs.Faults.{Unexpected, Word, characters, demand_of};
 ghost use Rattle.irtext_base.specs.Stream.{first_of};
@@ -27,6 +27,8 @@ fn spell<S: CharStream>(stream: &mut S, text: &str) -> Option<bool>
 }
 
 /// The fault where this is expected and doesn't stand: committed where something of it was begun.
+#[cold]
+#[inline(never)]
 fn missing<S: CharStream, A>(stream: &mut S, begun: bool, expected: Expected) -> ParseFault<A>
     ensures { Misses S.view S.at begun (Unexpected (first_of (S.view stream.old).rest) (demand_of expected)) stream.old result stream.new }
 {
@@ -51,15 +53,14 @@ pub fn held(alloc: Global, text: &str) -> Result<Expected, AllocError>
     }
 }
 
-/// Reads a fixed text. The fault stands at the first character that differs; it is uncommitted where that is the first of all. A text of
-/// more than 24 bytes is copied for the fault; where there is no memory for it, that is the fault.
-pub fn text_parse<S: CharStream, A>(stream: &mut S, text: &str) -> ParseResult<(), A>
-    ensures answers { Answers S.view S.at (λ u. u) (unless_failed (S.view stream.old).failed (text_at (characters text.now) (S.view stream.old).rest)) stream.old result stream.new }
-    ensures spares { NeedsNoMemory (unless_failed (S.view stream.old).failed (text_at (characters text.now) (S.view stream.old).rest)) result }
+/// The same as `text_parse`, one character behind the other: so it finds the first that differs.
+#[cold]
+#[inline(never)]
+fn spelled_parse<S: CharStream, A>(stream: &mut S, text: &str) -> ParseResult<(), A>
+    requires { (S.view stream.old).failed ≡ false }
+    ensures answers { Answers S.view S.at (λ u. u) (text_at (characters text.now) (S.view stream.old).rest) stream.old result stream.new }
+    ensures spares { NeedsNoMemory (text_at (characters text.now) (S.view stream.old).rest) result }
 {
-    if stream.has_failed() {
-        return Err(refuse(stream, Cause::StreamFailed));
-    }
     let Some(begun) = spell(stream, text) else {
         return Ok(());
     };
@@ -67,4 +68,20 @@ pub fn text_parse<S: CharStream, A>(stream: &mut S, text: &str) -> ParseResult<(
         Ok(expected) => Err(missing(stream, begun, expected)),
         Err(_) => Err(out_of_memory(stream)),
     }
+}
+
+/// Reads a fixed text. The fault stands at the first character that differs; it is uncommitted where that is the first of all. A text of
+/// more than 24 bytes is copied for the fault; where there is no memory for it, that is the fault.
+#[inline]
+pub fn text_parse<S: CharStream, A>(stream: &mut S, text: &str) -> ParseResult<(), A>
+    ensures answers { Answers S.view S.at (λ u. u) (unless_failed (S.view stream.old).failed (text_at (characters text.now) (S.view stream.old).rest)) stream.old result stream.new }
+    ensures spares { NeedsNoMemory (unless_failed (S.view stream.old).failed (text_at (characters text.now) (S.view stream.old).rest)) result }
+{
+    if stream.has_failed() {
+        return Err(refuse(stream, Cause::StreamFailed));
+    }
+    if stream.accept(text) {
+        return Ok(());
+    }
+    spelled_parse(stream, text)
 }

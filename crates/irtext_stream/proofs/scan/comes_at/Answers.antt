@@ -1,7 +1,7 @@
 use Rattle.std.proofs.Common.{Bool, true, false, ◌≡◌, ◌++◌, ℕ, List, drop, sym, true≢false, refl}
 use Rattle.std.specs.Prelude.{MatchBool}
 use Rattle.std.specs.Str.{chars, encode_utf8_all}
-use Rattle.irtext_stream.specs.Index.{Behind}
+use Rattle.irtext_stream.specs.Index.{ComesAt}
 use Rattle.irtext_stream.proofs.Slices.{comes, comes_next, behind_text}
 use Rattle.irtext_stream.proofs.scan.comes_at.Goals as goal
 
@@ -14,6 +14,6 @@ returns c =
     go c.starts_with.result (λ e. behind_text bs o w c.requires.within c.requires.passed_utf8 c.requires.rest_utf8 c.utf8.word (p.0 e))
     (λ rest e. p.1 (encode_utf8_all rest) (comes_next bs o w rest c.requires.rest_utf8 c.utf8.word e))
   where
-    go : (r : Bool) → (r ≡ true → Behind c.args.text.now c.args.at c.args.word.now) → ((rest : List ℕ) → chars (drop c.args.at c.args.text.now) ≡ chars c.args.word.now ++ rest → r ≡ true) → MatchBool r (Behind c.args.text.now c.args.at c.args.word.now) ((rest : List ℕ) → chars (drop c.args.at c.args.text.now) ≡ chars c.args.word.now ++ rest → ⊥)
+    go : (r : Bool) → (r ≡ true → ComesAt c.args.text.now c.args.at c.args.word.now) → ((rest : List ℕ) → chars (drop c.args.at c.args.text.now) ≡ chars c.args.word.now ++ rest → r ≡ true) → MatchBool r (ComesAt c.args.text.now c.args.at c.args.word.now) ((rest : List ℕ) → chars (drop c.args.at c.args.text.now) ≡ chars c.args.word.now ++ rest → ⊥)
     go true f g = f refl
     go false f g = λ rest e. true≢false (sym (g rest e))

@@ -1,7 +1,8 @@
-use Rattle.std.proofs.Common.{sym, ◌∙◌, inl}
+use Rattle.std.proofs.Common.{sym, ◌∙◌}
+use Rattle.std.proofs.lemmas.Str.{chars_from_encodes}
 use Rattle.irtext_base.specs.Faults.{characters}
 use Rattle.irtext_read.proofs.Characters.{encodes-characters}
-use Rattle.irtext_read.proofs.Spelling.{spelling_refused, spelling_starved, text_spares}
+use Rattle.irtext_read.proofs.Spelling.{whole_gives}
 use Rattle.irtext_read.specs.Tokens.{text_at}
 use Rattle.irtext_read.proofs.Sparing.{failed_spares}
 use Rattle.irtext_read.proofs.irfmt.parsers.fixed_text.text_parse.Goals as goal
@@ -11,32 +12,15 @@ returns-then-has_failed-clause-spares g c =
     let v = g.S.CharStream.view c.args.stream.now in
     failed_spares (Unit {0}) v.failed (text_at (characters c.args.text.now) v.rest) c.refuse.result (sym c.has_failed.ensures ∙ c.if-has_failed.true)
 
-pub returns-in_default-clause-answers : goal.returns-in_default-clause-answers
-returns-in_default-clause-answers g c =
-    rw (sym c.has_failed.ensures ∙ c.if-has_failed.false) (c.in_default.ensures (characters c.args.text.now) (encodes-characters c.args.text.now c.utf8.text))
-
-pub returns-in-Ok-clause-answers : goal.returns-in-Ok-clause-answers
-returns-in-Ok-clause-answers g c =
+pub returns-then-accept-clause-answers : goal.returns-then-accept-clause-answers
+returns-then-accept-clause-answers g c =
     let m = g.met.S.CharStream in
-    let h = c.in-Some.ensures (characters c.args.text.now) (encodes-characters c.args.text.now c.utf8.text) in
-    let refused = spelling_refused g.S.CharStream.view g.S.CharStream.at m.view_at m.at_view m.at_at (characters c.args.text.now) c.args.stream.now c.spell.new.stream c.missing.new.stream c.in-Some.begun c.missing.result h (rw c.in-Ok.ensures at c.missing.ensures) in
-    rw (sym c.has_failed.ensures ∙ c.if-has_failed.false) refused
+    let bytes = c.args.text.now in
+    let h = rw (← chars_from_encodes (characters bytes) bytes c.utf8.text (encodes-characters bytes c.utf8.text)) at c.if-accept.ensures in
+    rw (sym c.has_failed.ensures ∙ c.if-has_failed.false) (whole_gives g.S.CharStream.view g.S.CharStream.at m.view_at m.at_view m.at_at (characters bytes) h.0 c.args.stream.now c.accept.new.self h.1 h.2)
 
-pub returns-in-Err-clause-answers : goal.returns-in-Err-clause-answers
-returns-in-Err-clause-answers g c =
-    let m = g.met.S.CharStream in
-    let h = c.in-Some.ensures (characters c.args.text.now) (encodes-characters c.args.text.now c.utf8.text) in
-    let fine = sym c.has_failed.ensures ∙ c.if-has_failed.false in
-    rw fine (inl (spelling_starved g.S.CharStream.view g.S.CharStream.at m.view_at m.at_view m.at_at (characters c.args.text.now) c.args.stream.now c.spell.new.stream c.out_of_memory.new.stream c.in-Some.begun c.out_of_memory.result fine h c.out_of_memory.ensures))
+pub returns-clause-answers : goal.returns-clause-answers
+returns-clause-answers g c = rw (sym c.has_failed.ensures ∙ c.if-has_failed.false) (rw c.if-accept.ensures.1 at c.spelled_parse.ensures.answers)
 
-pub returns-in-Ok-clause-spares : goal.returns-in-Ok-clause-spares
-returns-in-Ok-clause-spares g c =
-    let m = g.met.S.CharStream in
-    let h = c.in-Some.ensures (characters c.args.text.now) (encodes-characters c.args.text.now c.utf8.text) in
-    text_spares g.S.CharStream.view g.S.CharStream.at m.view_at m.at_view m.at_at (Unit {0}) (characters c.args.text.now) c.args.stream.now c.spell.new.stream c.in-Some.begun c.missing.result h
-
-pub returns-in-Err-clause-spares : goal.returns-in-Err-clause-spares
-returns-in-Err-clause-spares g c =
-    let m = g.met.S.CharStream in
-    let h = c.in-Some.ensures (characters c.args.text.now) (encodes-characters c.args.text.now c.utf8.text) in
-    text_spares g.S.CharStream.view g.S.CharStream.at m.view_at m.at_view m.at_at (Unit {0}) (characters c.args.text.now) c.args.stream.now c.spell.new.stream c.in-Some.begun c.out_of_memory.result h
+pub returns-clause-spares : goal.returns-clause-spares
+returns-clause-spares g c = rw (sym c.has_failed.ensures ∙ c.if-has_failed.false) (rw c.if-accept.ensures.1 at c.spelled_parse.ensures.spares)
