@@ -2,12 +2,10 @@
 use Rattle.std.specs.Prelude.{◌≡◌, ◌⊎◌, Bool, true, false, List, [], ◌∷◌, codes}
 use Rattle.std.specs.Str.{bytes_eq}
 use Rattle.irtext_base.specs.Text.{Text}
-use Rattle.irtext_base.specs.Format.{Directive, custom, word, attribute, header, region}
+use Rattle.irtext_base.specs.Format.{Directive, Format, custom, word, attribute, header, region}
 use Rattle.irtext_context.specs.Dialects.{Table, with_op}
 use Rattle.irtext_context.specs.DialectTable.{dialect_or_new, with_dialect}
-use Rattle.irtext_context.specs.Directives.{format_of}
 use Rattle.irtext_base.specs.declared.base.identifier.OpId.{OpId}
-use Rattle.irtext_base.specs.declared.format.OpFormat.{OpFormat}
 use Rattle.irtext_base.specs.declared.result.Cause.{Cause, Memory, WrongDialect}
 
 -- an operation: its id, the directives of its format, and whether it is isolated from above
@@ -53,19 +51,17 @@ abbrev pub demo_operations : List DemoOp
 demo_operations = module_op ∷ function_op ∷ scope_op ∷ nop_op ∷ []
 
 -- the dialects with one more operation, or with another format and isolation of one that is there
-abbrev pub with_operation : List (Text × Table) → OpId → OpFormat → Bool → List (Text × Table)
+abbrev pub with_operation : List (Text × Table) → OpId → Format → Bool → List (Text × Table)
 with_operation dialects id format isolated = with_dialect dialects id.dialect (with_op (dialect_or_new dialects id.dialect) id format isolated)
 
--- the operation was registered with the dialects
-pub record Registers (old : List (Text × Table)) (op : DemoOp) (new : List (Text × Table)) : Type 0 where
-  pub format : OpFormat
-  pub is : format_of format ≡ custom op.directives
-  pub dialects : new ≡ with_operation old op.id format op.isolated
+-- the dialects with this operation
+abbrev pub with_demo : List (Text × Table) → DemoOp → List (Text × Table)
+with_demo dialects op = with_operation dialects op.id (custom op.directives) op.isolated
 
--- the operations were registered with the dialects, one after the other
-abbrev pub RegistersAll : List (Text × Table) → List DemoOp → List (Text × Table) → Type 0
-RegistersAll old [] new = new ≡ old
-RegistersAll old (op ∷ ops) new = (mid : List (Text × Table)) × Registers old op mid × RegistersAll mid ops new
+-- the dialects with these operations, which are registered one after the other
+abbrev pub with_all : List (Text × Table) → List DemoOp → List (Text × Table)
+with_all dialects [] = dialects
+with_all dialects (op ∷ ops) = with_all (with_demo dialects op) ops
 
 -- why registering the operation with the dialects is refused: for want of memory, or since a dialect of another name stands under its dialect's name
 abbrev pub Refuses : {A : Type 0} → List (Text × Table) → DemoOp → Cause A → Type 0
@@ -76,4 +72,4 @@ Refuses dialects op _ = ⊥
 -- why registering the operations one after the other is refused: the first is, or it was registered and one behind it is
 abbrev pub RefusesOne : {A : Type 0} → List (Text × Table) → List DemoOp → Cause A → Type 0
 RefusesOne dialects [] cause = ⊥
-RefusesOne dialects (op ∷ ops) cause = Refuses dialects op cause ⊎ ((mid : List (Text × Table)) × Registers dialects op mid × RefusesOne mid ops cause)
+RefusesOne dialects (op ∷ ops) cause = Refuses dialects op cause ⊎ RefusesOne (with_demo dialects op) ops cause

@@ -6,7 +6,7 @@ ghost use Rattle.irtext_context.specs.Directives.{directive_of, format_of};
 ghost use Rattle.irtext_base.specs.Format.{custom, word};
 ghost use Rattle.irtext_base.specs.Text.{is_identifier};
 ghost use Rattle.irtext_base.specs.declared.location.Location.{Unknown};
-ghost use Rattle.irtext_types.specs.DemoDialects.{demo_operations, id_with, module_directives, function_directives, scope_directives, module_op, function_op, scope_op, nop_op, with_operation, Registers, RegistersAll, Refuses, RefusesOne};
+ghost use Rattle.irtext_types.specs.DemoDialects.{demo_operations, id_with, module_directives, function_directives, scope_directives, module_op, function_op, scope_op, nop_op, with_operation, with_demo, with_all, Refuses, RefusesOne};
 
 use irtext_base::base::{Identifier, OpId};
 use irtext_base::format::{Directive, OpFormat};
@@ -85,7 +85,7 @@ fn add<T: IrText<A>, A: AttrText>(
     format: OpFormat,
     isolated: bool,
 ) -> Answer<(), A>
-    ensures ok { OnOk result (ctx.new ≡ record ctx.old { dialects = with_operation ctx.old.dialects id format isolated }) }
+    ensures ok { OnOk result (ctx.new ≡ record ctx.old { dialects = with_operation ctx.old.dialects id (format_of format) isolated }) }
     ensures rest { ctx.new ≡ record ctx.old { dialects = ctx.new.dialects } }
     ensures kind { IfErr result (λ e. (e.kind ≡ ErrorKind.InvalidArgument) × (e.loc ≡ Unknown)) }
     ensures refused { IfErr result (λ e. (e.err ≡ Cause.Memory) ⊎ IsRefusedBy (dialect_or_new ctx.old.dialects id.dialect).name id format e.err) }
@@ -99,7 +99,7 @@ fn add<T: IrText<A>, A: AttrText>(
 
 /// Registers `builtin.module`.
 fn add_module<T: IrText<A>, A: AttrText>(ctx: &mut Context<T, A>) -> Answer<(), A>
-    ensures ok { OnOk result (Registers ctx.old.dialects module_op ctx.new.dialects) }
+    ensures ok { OnOk result (ctx.new.dialects ≡ with_demo ctx.old.dialects module_op) }
     ensures rest { ctx.new ≡ record ctx.old { dialects = ctx.new.dialects } }
     ensures kind { IfErr result (λ e. (e.kind ≡ ErrorKind.InvalidArgument) × (e.loc ≡ Unknown)) }
     ensures refused { IfErr result (λ e. Refuses ctx.old.dialects module_op e.err) }
@@ -113,7 +113,7 @@ fn add_module<T: IrText<A>, A: AttrText>(ctx: &mut Context<T, A>) -> Answer<(), 
 
 /// Registers `builtin.func`.
 fn add_function<T: IrText<A>, A: AttrText>(ctx: &mut Context<T, A>) -> Answer<(), A>
-    ensures ok { OnOk result (Registers ctx.old.dialects function_op ctx.new.dialects) }
+    ensures ok { OnOk result (ctx.new.dialects ≡ with_demo ctx.old.dialects function_op) }
     ensures rest { ctx.new ≡ record ctx.old { dialects = ctx.new.dialects } }
     ensures kind { IfErr result (λ e. (e.kind ≡ ErrorKind.InvalidArgument) × (e.loc ≡ Unknown)) }
     ensures refused { IfErr result (λ e. Refuses ctx.old.dialects function_op e.err) }
@@ -127,7 +127,7 @@ fn add_function<T: IrText<A>, A: AttrText>(ctx: &mut Context<T, A>) -> Answer<()
 
 /// Registers `test.scope`.
 fn add_scope<T: IrText<A>, A: AttrText>(ctx: &mut Context<T, A>) -> Answer<(), A>
-    ensures ok { OnOk result (Registers ctx.old.dialects scope_op ctx.new.dialects) }
+    ensures ok { OnOk result (ctx.new.dialects ≡ with_demo ctx.old.dialects scope_op) }
     ensures rest { ctx.new ≡ record ctx.old { dialects = ctx.new.dialects } }
     ensures kind { IfErr result (λ e. (e.kind ≡ ErrorKind.InvalidArgument) × (e.loc ≡ Unknown)) }
     ensures refused { IfErr result (λ e. Refuses ctx.old.dialects scope_op e.err) }
@@ -141,7 +141,7 @@ fn add_scope<T: IrText<A>, A: AttrText>(ctx: &mut Context<T, A>) -> Answer<(), A
 
 /// Registers `test.nop`, whose format is empty.
 fn add_nop<T: IrText<A>, A: AttrText>(ctx: &mut Context<T, A>) -> Answer<(), A>
-    ensures ok { OnOk result (Registers ctx.old.dialects nop_op ctx.new.dialects) }
+    ensures ok { OnOk result (ctx.new.dialects ≡ with_demo ctx.old.dialects nop_op) }
     ensures rest { ctx.new ≡ record ctx.old { dialects = ctx.new.dialects } }
     ensures kind { IfErr result (λ e. (e.kind ≡ ErrorKind.InvalidArgument) × (e.loc ≡ Unknown)) }
     ensures refused { IfErr result (λ e. Refuses ctx.old.dialects nop_op e.err) }
@@ -158,7 +158,7 @@ fn add_nop<T: IrText<A>, A: AttrText>(ctx: &mut Context<T, A>) -> Answer<(), A>
 /// argument without a location, says that memory was refused, or by `WrongDialect` that the context has a dialect of another name under
 /// one of these names; those before it stay registered then, and all else in the context is as it was.
 pub fn register_demo<T: IrText<A>, A: AttrText>(ctx: &mut Context<T, A>) -> Answer<(), A>
-    ensures ok { OnOk result (RegistersAll ctx.old.dialects demo_operations ctx.new.dialects) }
+    ensures ok { OnOk result (ctx.new.dialects ≡ with_all ctx.old.dialects demo_operations) }
     ensures rest { ctx.new ≡ record ctx.old { dialects = ctx.new.dialects } }
     ensures kind { IfErr result (λ e. (e.kind ≡ ErrorKind.InvalidArgument) × (e.loc ≡ Unknown)) }
     ensures refused { IfErr result (λ e. RefusesOne ctx.old.dialects demo_operations e.err) }

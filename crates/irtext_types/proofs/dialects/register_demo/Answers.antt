@@ -1,7 +1,14 @@
-use Rattle.std.proofs.Common.{inl, inr}
-use Rattle.std.proofs.lemmas.Result.{IfErr-weaker}
+use Rattle.std.proofs.Common.{◌∙◌, ap}
+use Rattle.std.proofs.lemmas.Result.{on_ok_weaker}
+use Rattle.irtext_types.specs.DemoDialects.{function_op, scope_op, nop_op, with_demo}
 use Rattle.irtext_types.proofs.dialects.register_demo.Goals as goal
 
-pub returns-clause-refused : goal.returns-clause-refused
-returns-clause-refused g c =
-    IfErr-weaker c.add_nop.result _ _ (λ e refused. inr (_, c.in_ok-add_module.ensures.ok, inr (_, c.in_ok-add_function.ensures.ok, inr (_, c.in_ok-add_scope.ensures.ok, inl refused)))) c.add_nop.ensures.refused
+pub returns-clause-ok : goal.returns-clause-ok
+returns-clause-ok g c =
+    on_ok_weaker c.add_nop.result
+    (λ e.
+    e
+    ∙ ap (λ dialects. with_demo dialects nop_op)
+    (c.in_ok-add_scope.ensures.ok
+    ∙ ap (λ dialects. with_demo dialects scope_op) (c.in_ok-add_function.ensures.ok ∙ ap (λ dialects. with_demo dialects function_op) c.in_ok-add_module.ensures.ok)))
+    c.add_nop.ensures.ok
