@@ -5,7 +5,6 @@ use Rattle.irtext_base.specs.Text.{Text}
 use Rattle.irtext_base.specs.Format.{Id, Format, Accepted}
 use Rattle.irtext_context.specs.Dialects.{Table}
 use Rattle.irtext_context.specs.DialectTable.{registered}
-use Rattle.irtext_context.specs.Directives as directives
 use Rattle.irtext_base.specs.declared.base.identifier.OpId.{OpId}
 
 -- the id, as the code has it
@@ -14,11 +13,11 @@ op_id id = record { dialect = id.dialect; name = id.name }
 
 -- the format of each registered operation
 abbrev pub format_of : List (Text × Table) → Id → Option Format
-format_of dialects id = option_map (λ info. directives.format_of info.format) (registered dialects (op_id id))
+format_of dialects id = option_map (λ known. known.format) (registered dialects (op_id id))
 
 -- whether an operation is registered as isolated from above
 abbrev pub isolated : List (Text × Table) → Id → Bool
-isolated dialects id = elim (registered dialects (op_id id)) [ Some info ↦ info.isolated | None ↦ false ]
+isolated dialects id = elim (registered dialects (op_id id)) [ Some known ↦ known.isolated | None ↦ false ]
 
 -- the format of an operation, if it has one, reads uniquely
 abbrev pub IsAccepted : List (Text × Table) → Id → Type 0

@@ -8,15 +8,13 @@ use Rattle.std.specs.Option.{option_map}
 use Rattle.irtext_base.specs.Text.{Text, begins, front, after_space, begins_word}
 use Rattle.irtext_base.specs.Reading as reading
 use Rattle.irtext_base.specs.Reading.{the}
-use Rattle.irtext_context.specs.Directives as directives
 use Rattle.irtext_base.specs.Faults.{UnregisteredDialect, UnregisteredOp}
 use Rattle.irtext_base.specs.Format.{Id, Format}
 use Rattle.irtext_base.specs.Answers.{Outcome, Read, Missing, Bad, prefixed}
-use Rattle.irtext_context.specs.Dialects.{Table, same_id}
+use Rattle.irtext_context.specs.Dialects.{Known, Table, same_id}
 use Rattle.irtext_context.specs.DialectTable as table
 use Rattle.irtext_context.specs.DialectTable.{dialect_of}
 use Rattle.irtext_base.specs.Own.{Texts, Language, language}
-use Rattle.irtext_context.specs.declared.dialect.OpInfo.{OpInfo}
 use Rattle.irtext_base.proofs.Characters.{after_twice}
 use Rattle.irtext_read.specs.Tokens.{id_at}
 use Rattle.irtext_grammar.specs.Contexts.Formats.{op_id, format_of}
@@ -60,13 +58,13 @@ module _ (dialects : List (Text × Table)) where
   has_dialect None id e = e
   has_dialect (Some table) id e = refl
 
-  formatted : (o : Option OpInfo) → is_some o ≡ true → (f : Format) × (option_map (λ info. directives.format_of info.format) o ≡ Some f)
+  formatted : (o : Option Known) → is_some o ≡ true → (f : Format) × (option_map (λ known. known.format) o ≡ Some f)
   formatted None e = absurd (true≢false (sym e))
-  formatted (Some info) e = (directives.format_of info.format, refl)
+  formatted (Some known) e = (known.format, refl)
 
-  unformatted : (o : Option OpInfo) (f : Format) → option_map (λ info. directives.format_of info.format) o ≡ Some f → is_some o ≡ true
+  unformatted : (o : Option Known) (f : Format) → option_map (λ known. known.format) o ≡ Some f → is_some o ≡ true
   unformatted None f e = absurd (cc e)
-  unformatted (Some info) f e = refl
+  unformatted (Some known) f e = refl
 
   -- an operation that has a format is registered
   pub format_known : (id : Id) (f : Format) → format_of dialects id ≡ Some f → is_some (table.registered dialects (op_id id)) ≡ true
