@@ -31,7 +31,7 @@ pub seen_put : (name : Text) (old new : List (OpId × OpInfo)) (id : OpId) (info
 seen_put name old new id info e = ap (λ es. with_entries name (known_entries es)) e ∙ ap (with_entries name) (known_put old id info)
 
 -- what is known of the entry that is found
-known_found : (test : OpId → Bool) (es : List (OpId × OpInfo)) → lookup test (known_entries es) ≡ option_map known_of (lookup test es)
+pub known_found : (test : OpId → Bool) (es : List (OpId × OpInfo)) → lookup test (known_entries es) ≡ option_map known_of (lookup test es)
 known_found test [] = refl
 known_found test (e ∷ es) = go (test e.0) (known_found test es)
   where

@@ -6,6 +6,7 @@ pub mod Kept
 pub mod Made
 pub mod Formats
 pub mod Dialects
+pub mod Named
 pub mod DialectTables
 pub mod Conditions
 pub mod Meetings

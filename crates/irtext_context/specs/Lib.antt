@@ -1,6 +1,7 @@
 pub mod Conditions
 pub mod Directives
 pub mod Dialects
+pub mod Named
 pub mod Arena
 pub mod Lending
 pub mod Context

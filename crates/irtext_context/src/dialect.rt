@@ -15,8 +15,11 @@ ghost use Rattle.irtext_base.specs.Format.{Accepted};
 ghost use Rattle.irtext_base.specs.Text.{is_identifier};
 ghost use Rattle.irtext_base.specs.declared.location.Location.{Unknown};
 
+mod key;
+mod named;
 mod table;
 
+use crate::dialect::key::{SymNameKey, key_for};
 use crate::format;
 use indexmap::{Equivalent, IndexMap};
 use irtext_base::base::{Identifier, OpId};
@@ -157,6 +160,7 @@ pub struct OpInfo {
     pub format: OpFormat,
     /// Whether names inside its regions don't see those outside.
     pub isolated: bool,
+    sym_name_key: Option<SymNameKey>,
 }
 
 /// A dialect: its operations by their ids. Each is of this dialect, and its format was accepted by `check_format`.
@@ -244,7 +248,15 @@ impl Dialect {
         if let Err(fault) = format::check_format(&format) {
             return Err(invalid(Cause::FormatFault(fault)));
         }
-        match put(&mut self.ops, id, OpInfo { format, isolated }) {
+        let Ok(sym_name_key) = key_for(*self.ops.allocator(), &format) else {
+            return Err(invalid(Cause::Memory));
+        };
+        let info = OpInfo {
+            format,
+            isolated,
+            sym_name_key,
+        };
+        match put(&mut self.ops, id, info) {
             Ok(()) => Ok(()),
             Err(cause) => Err(invalid(cause)),
         }

@@ -5,7 +5,7 @@ ghost use Rattle.irtext_context.specs.Directives.{format_of, condition_number};
 
 mod conditions;
 mod followers;
-mod parts;
+pub(crate) mod parts;
 mod rules;
 
 use irtext_base::format::{FormatFault, OpFormat};

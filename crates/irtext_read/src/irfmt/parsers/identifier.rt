@@ -48,9 +48,9 @@ pub fn skip_identifier<S: CharStream>(stream: &mut S) -> bool
         ((begins begins_word (S.view stream.old).rest ≡ true) × Takes S.view S.at (front in_word (S.view stream.old).rest) (after in_word (S.view stream.old).rest) stream.old stream.new)
         (stream.new ≡ stream.old) }
 {
-    if !begins(stream, Class::Beginning) {
-        return false;
+    if begins(stream, Class::Beginning) {
+        skip_class(stream, Class::Word);
+        return true;
     }
-    skip_class(stream, Class::Word);
-    true
+    false
 }

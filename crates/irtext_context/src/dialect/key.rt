@@ -1,0 +1,66 @@
+//! The key under which a symbol's name is kept, made once for each operation that has one.
+ghost use Rattle.std.specs.Prelude.{◌≡◌, IfSome};
+ghost use Rattle.irtext_base.specs.Format.{sym_name_key};
+
+use crate::dialect::OpInfo;
+use crate::format::parts;
+use crate::format::parts::Sole;
+use irtext_base::base::Identifier;
+use irtext_base::format::OpFormat;
+use std::alloc::{AllocError, Global};
+use std::marker::Model;
+
+/// The key `builtin_sym_name`.
+#[derive(Drop)]
+pub(crate) struct SymNameKey {
+    key: Identifier,
+}
+
+impl Model for SymNameKey {
+    ghost use Rattle.std.specs.Prelude.{◌≡◌, ℕ, List};
+    ghost use Rattle.irtext_base.specs.Format.{sym_name_key};
+
+    ghost Value = { List ℕ };
+
+    ghost view = { λ k. k.key };
+
+    ghost invariant = { λ k. k.key ≡ sym_name_key };
+}
+
+impl SymNameKey {
+    /// The key as an identifier.
+    fn get(&self) -> &Identifier
+        ensures { result.now ≡ sym_name_key }
+    {
+        &self.key
+    }
+}
+
+/// Whether a format has a symbol's name.
+fn has_header(format: &OpFormat) -> bool {
+    match format {
+        OpFormat::Canonical => false,
+        OpFormat::Custom(directives) => 0 < parts::count_sole(Sole::Header, directives.as_slice()),
+    }
+}
+
+/// The key, where the format has a symbol's name.
+pub(crate) fn key_for(alloc: Global, format: &OpFormat) -> Result<Option<SymNameKey>, AllocError> {
+    if !has_header(format) {
+        return Ok(None);
+    }
+    let key = Identifier::from_word(alloc, "builtin_sym_name")?;
+    Ok(Some(SymNameKey { key }))
+}
+
+impl OpInfo {
+    /// The key `builtin_sym_name`, which is kept where the format has a symbol's name.
+    pub fn sym_name_key(&self) -> Option<&Identifier>
+        ensures { IfSome result (λ key. key.now ≡ sym_name_key) }
+    {
+        match &self.sym_name_key {
+            Some(key) => Some(key.get()),
+            None => None,
+        }
+    }
+}
