@@ -1,6 +1,7 @@
-//! What the crates of tests share: contexts of the demo types, streams over them, what an answer says as a text, and tables of such texts.
+//! What the crates of tests share: contexts of the demo types, streams over them, what an answer says as a text, tables of such texts, and formats.
 #![tactic(auto)]
 
 pub mod answers;
 pub mod contexts;
+pub mod formats;
 pub mod tables;

@@ -5,8 +5,8 @@ use irtext_context::base::Context;
 use irtext_print::printable::Disp;
 use irtext_read::irfmt::parsers::attr_parse;
 use irtext_state::irfmt::parsers::type_parse;
-use irtext_types::{DemoAttr, DemoType};
-use irtext_vectors_common::answers::left;
+use irtext_types::DemoAttr;
+use irtext_vectors_common::answers::{behind, left};
 use irtext_vectors_common::contexts::{Ctx, Stream, in_context};
 use std::alloc::Global;
 use std::test::Fail;
@@ -59,7 +59,7 @@ const ATTRIBUTES: &[(&str, &str)] = &[
 
 /// Texts, and what is said of the type that each begins with.
 const TYPES: &[(&str, &str)] = &[
-    ("test.ptr x", "Pointer|Some(' ')"),
+    ("test.ptr x", "test.ptr |Some(' ')"),
     (
         "",
         "line: 1, column: 1: Unexpected end of input, expected type|None",
@@ -79,18 +79,6 @@ fn printed(
     }
 }
 
-/// The type that was read, or the fault, and what stands behind.
-fn printed_type(
-    alloc: Global,
-    answer: &ParseResult<DemoType, DemoAttr>,
-    next: Option<char>,
-) -> Result<String, Fail> {
-    match answer {
-        Ok(ptr) => Ok(format!(in alloc; "{ptr:?}|{next:?}")?),
-        Err(fault) => left(alloc, fault, next),
-    }
-}
-
 /// What is said of the attribute that is read.
 fn attribute(alloc: Global, s: &mut Stream<'_>) -> Result<String, Fail> {
     let answer = attr_parse(s);
@@ -102,7 +90,7 @@ fn attribute(alloc: Global, s: &mut Stream<'_>) -> Result<String, Fail> {
 fn type_of(alloc: Global, s: &mut Stream<'_>) -> Result<String, Fail> {
     let answer = type_parse(s);
     let next = s.peek();
-    printed_type(alloc, &answer, next)
+    behind(alloc, &answer, next)
 }
 
 #[test]

@@ -1,6 +1,6 @@
 //! Which operations fit their formats, and what is said of those that don't.
 use irtext_base::base::{AttrObj, AttributeDict, Identifier, OpId};
-use irtext_base::format::{Directive, OpFormat};
+use irtext_base::format::OpFormat;
 use irtext_base::location::Location;
 use irtext_base::result::Result as Answer;
 use irtext_context::base::context::making::Making;
@@ -10,6 +10,7 @@ use irtext_context::dialect::{Dialect, DialectName};
 use irtext_print::ir::print::fits::check_fits;
 use irtext_types::{Characters, DemoAttr};
 use irtext_vectors_common::contexts::{Ctx, named, with_context};
+use irtext_vectors_common::formats::format_of;
 use std::alloc::Global;
 use std::test::Fail;
 
@@ -23,9 +24,9 @@ const ROWS: &[Row] = &[
     ("", 0, "", "fits"),
     ("x", 0, "", "fits"),
     ("v", 0, "", "The format names a value, a block or a type"),
-    ("o", 1, "", "The format names a value, a block or a type"),
+    ("0", 1, "", "The format names a value, a block or a type"),
     ("kO", 0, "", "The format names a value, a block or a type"),
-    ("t", 0, "", "The format names a value, a block or a type"),
+    ("s", 0, "", "The format names a value, a block or a type"),
     ("S:", 0, "", "The format names a value, a block or a type"),
     ("x", 2, "k", "The format does not write 2 regions"),
     ("ak", 0, "", "The format does not write 0 regions"),
@@ -46,45 +47,12 @@ const ROWS: &[Row] = &[
     ("ka", 1, "n", "The attribute k is outlined"),
 ];
 
-/// The directive without a text that a letter stands for.
-fn plain(letter: char) -> Option<Directive> {
-    match letter {
-        'v' => Some(Directive::ResultType(0)),
-        'o' => Some(Directive::Operand(0)),
-        'O' => Some(Directive::Operands),
-        't' => Some(Directive::Successor(0)),
-        'S' => Some(Directive::Successors),
-        'a' => Some(Directive::Region(0)),
-        'b' => Some(Directive::Region(1)),
-        'R' => Some(Directive::Regions),
-        'd' => Some(Directive::AttrDict),
-        'h' => Some(Directive::SymbolHeader),
-        _ => None,
-    }
-}
-
-/// The directive that a letter stands for.
-fn directive(alloc: Global, letter: char) -> Result<Directive, Fail> {
-    if let Some(directive) = plain(letter) {
-        return Ok(directive);
-    }
-    match letter {
-        'k' => Ok(Directive::Attr(named(alloc, "k")?)),
-        ':' => Ok(Directive::Literal(String::from_str(alloc, ":")?)),
-        _ => Ok(Directive::Literal(String::from_str(alloc, "x")?)),
-    }
-}
-
 /// The format of these letters: that of any operation for `-`, else one directive for each.
-fn format_of(alloc: Global, letters: &str) -> Result<OpFormat, Fail> {
+fn format(alloc: Global, letters: &str) -> Result<OpFormat, Fail> {
     if letters == "-" {
         return Ok(OpFormat::Canonical);
     }
-    let mut directives = Vec::new(alloc);
-    for letter in letters.chars() {
-        directives.push(directive(alloc, letter)?)?;
-    }
-    Ok(OpFormat::Custom(directives))
+    format_of(alloc, letters)
 }
 
 /// The id `lab.d`.
@@ -107,7 +75,7 @@ fn register(alloc: Global, ctx: &mut Ctx, letters: &str) -> Result<(), Fail> {
         return Ok(());
     }
     let name = DialectName::from(named(alloc, "lab")?);
-    let answer = add(ctx, &name, id(alloc)?, format_of(alloc, letters)?);
+    let answer = add(ctx, &name, id(alloc)?, format(alloc, letters)?);
     Ok(answer.ok().ok_or("refused")?)
 }
 

@@ -1,21 +1,26 @@
-//! The texts of a root: whole, concrete, without its regions, for those who debug, and with its location in a file.
+//! The texts of a root: whole, concrete, without its regions, for those who debug, of its parts, and with its location in a file.
 use crate::reading::{concrete, root, whole};
+use irtext_types::DemoType;
 use irtext_vectors_common::contexts::{Ctx, with_demo};
 use irtext_vectors_common::tables::differing;
 use pliron_text::base::{Operation, Ptr};
 use pliron_text::ir::{OpDbg, print_dbg};
+use pliron_text::irfmt::printers::op::{region, symb_op_header, typed_symb_op_header};
 use pliron_text::location::{Location, Source};
 use pliron_text::parsable::SourcePosition;
-use pliron_text::printable::{Disp, RegionPrintDepthLimit, State};
+use pliron_text::printable::{Disp, Printable, RegionPrintDepthLimit, State};
 use std::alloc::Global;
 use std::test::Fail;
 
-/// The texts of the root `builtin.module @bar {}`, one behind the other, with one context.
+/// The texts of roots `builtin.module @bar {}` in one context, and of their parts: the header, the same with a type, and the region.
 const TEXTS: &[&str] = &[
     "builtin.module @bar \n{\n  \n}",
     "text: builtin.module @bar {..}",
     "builtin.module @bar {..} builtin.module @bar {..}",
     "builtin.module @bar {..} !0\n\noutlined_attributes:\n!0 = @[<in-memory>: line: 1, column: 1], []\n",
+    "builtin.module @bar",
+    "builtin.module @bar: test.ptr ",
+    "\n{\n  \n}",
     "builtin.module @bar \n{\n  \n} !0\n\noutlined_attributes:\n!0 = @[\"é.mlir\": line: 1, column: 2], []\n",
 ];
 
@@ -39,6 +44,21 @@ fn elided(alloc: Global, ctx: &Ctx, op: Ptr<Operation>) -> Result<String, Fail> 
     Ok(format!(in alloc; "{}", op.print(ctx, &state))?)
 }
 
+/// The header with a type.
+fn typed(alloc: Global, ctx: &Ctx, op: Ptr<Operation>) -> Result<String, Fail> {
+    if !ctx.contains_operation(op) {
+        return Err(Fail::from("no such operation"));
+    }
+    let ty = DemoType::Pointer;
+    let mut state = State::new(alloc, ());
+    let mut text = String::new(alloc);
+    typed_symb_op_header(op, &ty)
+        .fmt(ctx, &mut state, &mut text)
+        .ok()
+        .ok_or("refused")?;
+    Ok(text)
+}
+
 /// The text where the location is in a file.
 fn in_file(alloc: Global, ctx: &mut Ctx, op: Ptr<Operation>) -> Result<String, Fail> {
     let src = Source::new_from_file(ctx, "é.mlir").ok().ok_or("refused")?;
@@ -51,32 +71,23 @@ fn in_file(alloc: Global, ctx: &mut Ctx, op: Ptr<Operation>) -> Result<String, F
 }
 
 /// The text of a line.
-fn text(alloc: Global, ctx: &mut Ctx, op: Ptr<Operation>, number: usize) -> Result<String, Fail> {
-    if !ctx.contains_operation(op) {
-        return Err(Fail::from("no such operation"));
-    }
+fn text(alloc: Global, ctx: &mut Ctx, number: usize) -> Result<String, Fail> {
+    let op = root(ctx, "builtin.module @bar {}").ok_or("refused")?;
     match number {
         0 => concrete(alloc, ctx, op),
         1 => debugged(alloc, ctx, op),
         2 => Ok(format!(in alloc; "{} {:?}", OpDbg { op, ctx }, OpDbg { op, ctx })?),
         3 => elided(alloc, ctx, op),
+        4 => Ok(format!(in alloc; "{}", symb_op_header(op).disp(ctx))?),
+        5 => typed(alloc, ctx, op),
+        6 => Ok(format!(in alloc; "{}", region(op).disp(ctx))?),
         _ => in_file(alloc, ctx, op),
     }
 }
 
-/// The number of the first text that differs.
-fn differing_text(alloc: Global, ctx: &mut Ctx) -> Result<Option<usize>, Fail> {
-    let op = root(ctx, "builtin.module @bar {}").ok_or("refused")?;
-    differing(
-        alloc,
-        TEXTS,
-        ctx,
-        |alloc, ctx, number| text(alloc, ctx, op, number),
-    )
-}
-
 #[test]
 fn texts_of_a_root(rt: HostRuntime) -> Result<(), Fail> {
-    assert_eq!(rt; with_demo(rt.alloc(), differing_text)?, None);
+    let differing = with_demo(rt.alloc(), |alloc, ctx| differing(alloc, TEXTS, ctx, text))?;
+    assert_eq!(rt; differing, None);
     Ok(())
 }

@@ -3,9 +3,9 @@ use crate::reading::{concrete, read_root, root, whole};
 use crate::registering::register_operation;
 use irtext_types::DemoAttr;
 use irtext_vectors_common::contexts::{Ctx, named, with_context};
+use irtext_vectors_common::formats::format_of;
 use pliron_text::base::{OpId, Operation, Ptr};
 use pliron_text::dialect::DialectName;
-use pliron_text::format::{Directive, OpFormat};
 use pliron_text::result::Result as Answer;
 use std::alloc::Global;
 use std::test::Fail;
@@ -55,30 +55,6 @@ const ROWS: &[(&str, &str, &str)] = &[
     ),
 ];
 
-/// The directive that a letter stands for.
-fn directive(alloc: Global, letter: char) -> Result<Directive, Fail> {
-    match letter {
-        'a' => Ok(Directive::Region(0)),
-        'b' => Ok(Directive::Region(1)),
-        'R' => Ok(Directive::Regions),
-        'd' => Ok(Directive::AttrDict),
-        'h' => Ok(Directive::SymbolHeader),
-        'k' => Ok(Directive::Attr(named(alloc, "k")?)),
-        'n' => Ok(Directive::Attr(named(alloc, "builtin_sym_name")?)),
-        ':' => Ok(Directive::Literal(String::from_str(alloc, ":")?)),
-        _ => Ok(Directive::Literal(String::from_str(alloc, "x")?)),
-    }
-}
-
-/// The format with one directive for each letter.
-fn format_of(alloc: Global, letters: &str) -> Result<OpFormat, Fail> {
-    let mut directives = Vec::new(alloc);
-    for letter in letters.chars() {
-        directives.push(directive(alloc, letter)?)?;
-    }
-    Ok(OpFormat::Custom(directives))
-}
-
 /// Registers `lab.d`, which is isolated, with the format of these letters.
 fn register(alloc: Global, ctx: &mut Ctx, letters: &str) -> Result<(), Fail> {
     let id = OpId {
@@ -125,15 +101,14 @@ fn formatted(alloc: Global, ctx: &mut Ctx, letters: &str, text: &str) -> Result<
     answered(alloc, ctx, text)
 }
 
-/// The same in a context of its own.
-fn row(alloc: Global, letters: &str, text: &str) -> Result<String, Fail> {
-    with_context(alloc, |alloc, ctx| formatted(alloc, ctx, letters, text))
-}
-
 #[test]
 fn directives_are_read_and_printed(rt: HostRuntime) -> Result<(), Fail> {
     for line in ROWS {
-        assert_eq!(rt; row(rt.alloc(), line.0, line.1)?.as_str(), line.2);
+        let said = with_context(
+            rt.alloc(),
+            |alloc, ctx| formatted(alloc, ctx, line.0, line.1),
+        )?;
+        assert_eq!(rt; said.as_str(), line.2);
     }
     Ok(())
 }

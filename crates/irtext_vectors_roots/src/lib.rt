@@ -7,8 +7,6 @@ mod concrete;
 mod directives;
 #[cfg(test)]
 mod kept;
-#[cfg(test)]
-mod parts;
 pub mod reading;
 pub mod registering;
 #[cfg(test)]
