@@ -52,15 +52,21 @@ fn print_roots(
     Ok(text)
 }
 
+/// A dictionary.
+fn note_format(alloc: Global) -> Result<OpFormat, AllocError> {
+    let mut directives = Vec::new(alloc);
+    directives.push(Directive::AttrDict)?;
+    Ok(OpFormat::Custom(directives))
+}
+
 /// Registers `bench.note`, which is written as a dictionary of its attributes, beside the demo dialects.
 fn register(alloc: Global, ctx: &mut Context<DemoType, DemoAttr>) -> Answer<(), DemoAttr> {
     register_demo(ctx)?;
     let name: DialectName = DialectName::try_new(alloc, "bench")?;
     let id = OpId::try_new(alloc, "bench", "note")?;
-    let mut directives = Vec::new(alloc);
-    directives.push(Directive::AttrDict)?;
+    let format = note_format(alloc)?;
     let dialect = Dialect::register(ctx, &name)?;
-    dialect.add_op(id, OpFormat::Custom(directives), false)
+    dialect.add_op(id, format, false)
 }
 
 /// Reads all roots and prints them so many times. It tells how many roots and bytes there were.
