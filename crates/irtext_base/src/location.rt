@@ -11,11 +11,10 @@ mod made;
 pub mod paths;
 pub mod sources;
 
-pub use into_context::CloneIntoContext;
-
 use crate::base::AttrObj;
 use crate::parsable::SourcePosition;
 use crate::result::{Cause, Error, ErrorKind};
+pub use into_context::CloneIntoContext;
 
 /// The key of a path that a context keeps.
 #[derive(Clone, Copy, PartialEq, Eq, Hash, Debug)]

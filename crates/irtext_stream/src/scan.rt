@@ -65,10 +65,19 @@ fn end_of_run(text: &str, from: usize, class: Class) -> usize
     ensures { Ends text.now from (has class) result }
 {
     let mut at = from;
-    let mut width = width_at(text, at, class);
-    while width != 0 {
-        at += width;
-        width = width_at(text, at, class);
+    while let Some(b) = text.as_bytes().get(at) {
+        if *b < 128 {
+            if !class.has_byte(*b) {
+                return at;
+            }
+            at += 1;
+        } else {
+            let width = wide_at(text, at, class);
+            if width == 0 {
+                return at;
+            }
+            at += width;
+        }
     }
     at
 }

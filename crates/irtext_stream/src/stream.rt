@@ -72,6 +72,22 @@ impl TextStream {
         ensures value { result ≡ first_of self.old.rest }
         ensures after { self.new ≡ advanced self.old }
     {
+        match self.text.as_bytes().get(self.offset) {
+            Some(b) if *b < 0x80 => {
+                let c = *b as char;
+                self.offset += 1;
+                Some(c)
+            }
+            _ => self.take_wide(),
+        }
+    }
+
+    /// The same, by the character's bytes.
+    #[cold]
+    fn take_wide(&mut self) -> Option<char>
+        ensures value { result ≡ first_of self.old.rest }
+        ensures after { self.new ≡ advanced self.old }
+    {
         let c = self.peek()?;
         self.offset += c.len_utf8();
         Some(c)

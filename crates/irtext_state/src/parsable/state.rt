@@ -167,22 +167,27 @@ impl<'c, T: IrText<A>, A: AttrText, U> CharStream for StateStream<'c, T, A, U> {
 
     ghost at_at = { λ s v w. refl };
 
+    #[inline(always)]
     fn peek(&self) -> Option<char> {
         self.stream.peek()
     }
 
+    #[inline(always)]
     fn take(&mut self) -> Option<char> {
         self.stream.take()
     }
 
+    #[inline(always)]
     fn skip(&mut self, class: Class) {
         self.stream.skip(class)
     }
 
+    #[inline(always)]
     fn accept(&mut self, text: &str) -> bool {
         self.stream.accept(text)
     }
 
+    #[inline(always)]
     fn position(&self) -> Place {
         self.stream.position()
     }

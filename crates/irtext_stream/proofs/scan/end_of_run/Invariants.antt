@@ -1,15 +1,10 @@
-use Rattle.std.proofs.Common.{◌≡◌, ◌-◌, length, drop}
-use Rattle.std.specs.Str.{chars}
+use Rattle.std.proofs.Common.{◌-◌, length}
 use Rattle.irtext_stream.specs.Classes.{has}
-use Rattle.irtext_stream.specs.Index.{width_of}
 use Rattle.irtext_stream.proofs.Slices.{Ahead}
 use Rattle.irtext_stream.proofs.scan.end_of_run.Given as goal
 
-abbrev pub invariant-loop-width : goal.invariant-loop-width
-invariant-loop-width l = record {
-  ahead : Ahead l.text l.from (has l.class) l.at;
-  next : l.width ≡ width_of (has l.class) (chars (drop l.at l.text));
-}
+abbrev pub invariant-loop-b : goal.invariant-loop-b
+invariant-loop-b l = Ahead l.text l.from (has l.class) l.at
 
-abbrev pub decreases-loop-width : goal.decreases-loop-width
-decreases-loop-width l = length l.text - l.at
+abbrev pub decreases-loop-b : goal.decreases-loop-b
+decreases-loop-b l = length l.text - l.at
