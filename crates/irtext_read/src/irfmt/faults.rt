@@ -8,9 +8,7 @@ ghost use Rattle.irtext_base.specs.Faults.{fault_of, demand_of, Unexpected};
 ghost use Rattle.irtext_base.specs.Answers.{StarvesHere, Commits, Passes, Demands, DemandsOf};
 ghost use Rattle.irtext_read.specs.Tokens.{has};
 
-use irtext_base::parsable::{
-    CharStream, Class, ParseFault, ParseResult, Place, SourcePosition,
-};
+use irtext_base::parsable::{CharStream, Class, ParseFault, ParseResult, Place, SourcePosition};
 use irtext_base::result::{Cause, Expected};
 
 /// Whether this character comes next.
