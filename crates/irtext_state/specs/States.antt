@@ -16,7 +16,7 @@ same_index i j = i == j
 
 -- the marks that a state keeps, in the order in which they were seen
 abbrev pub marks_of : {T A U : Type 0} → State T A U → List (ℕ × Ptr Operation)
-marks_of s = s.marks.entries
+marks_of s = s.marks
 
 -- a mark was noted last, unless its index is noted already
 abbrev pub Marks : ℕ → Ptr Operation → Bool → List (ℕ × Ptr Operation) → List (ℕ × Ptr Operation) → Type 0

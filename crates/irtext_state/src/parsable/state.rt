@@ -7,7 +7,7 @@ ghost use Rattle.irtext_base.specs.Places.{StandsBehind, IsPlaceOf};
 ghost use Rattle.irtext_state.specs.States.{marks_of, same_index, LocatesAt, Marks};
 ghost use Rattle.irtext_base.specs.declared.location.Location.{Location};
 
-use indexmap::IndexMap;
+use crate::parsable::marks::NotedMarks;
 use irtext_base::location::{Location, Source};
 use irtext_base::parsable::{CharStream, Class, ParseResult, Place, SourcePosition, TextStream};
 use irtext_base::text::{AttrText, IrText};
@@ -25,7 +25,7 @@ pub struct State<'c, T, A, U> {
     /// The caller's own.
     pub aux_data: U,
     // the operations that carry a mark for which no section was read yet
-    marks: IndexMap<usize, Ptr<Operation>>,
+    marks: NotedMarks,
 }
 
 impl<'c, T: IrText<A>, A: AttrText, U> State<'c, T, A, U> {
@@ -37,7 +37,7 @@ impl<'c, T: IrText<A>, A: AttrText, U> State<'c, T, A, U> {
         ensures aux_data { result.aux_data ≡ aux_data }
         ensures fresh { marks_of result ≡ [] }
     {
-        let marks = IndexMap::new(ctx.allocator());
+        let marks = NotedMarks::new(ctx.allocator());
         State {
             ctx,
             src,
@@ -50,14 +50,14 @@ impl<'c, T: IrText<A>, A: AttrText, U> State<'c, T, A, U> {
     pub fn marked(&self, index: usize) -> Option<Ptr<Operation>>
         ensures { result ≡ lookup (same_index index) (marks_of self.now) }
     {
-        self.marks.get(&index).copied()
+        self.marks.get(index)
     }
 
     /// Whether a mark is noted.
     pub fn has_marks(&self) -> bool
         ensures { IsTrue result ↔ (marks_of self.now ≡ [] → ⊥) }
     {
-        !self.marks.is_empty()
+        self.marks.len() != 0
     }
 }
 
@@ -96,13 +96,7 @@ impl<'c, T: IrText<A>, A: AttrText, U> Noting for State<'c, T, A, U> {
         ensures marks { IfOk result (λ noted. Marks index op noted (marks_of self.old) (marks_of self.new)) }
         ensures err { OnErr result (marks_of self.new ≡ marks_of self.old) }
     {
-        if self.marks.contains_key(&index) {
-            return Ok(false);
-        }
-        match self.marks.insert(index, op) {
-            Ok(_) => Ok(true),
-            Err(_) => Err(AllocError),
-        }
+        self.marks.note(index, op)
     }
 
     fn num_marks(&self) -> usize {
