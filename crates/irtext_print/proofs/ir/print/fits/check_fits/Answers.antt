@@ -1,6 +1,9 @@
-use Rattle.std.proofs.Common.{◌≡◌, ◌∙◌, Some, sym, ap, option_copied, option_map}
+use Rattle.std.proofs.Common.{◌≡◌, ◌∙◌, Some, sym, ap, option_map}
+use denote.Ref.{Bor}
 use Rattle.irtext_context.specs.Context.{operation}
+use Rattle.irtext_context.specs.Dialects.{Known, known_of}
 use Rattle.irtext_context.specs.Directives.{directives_of, format_of}
+use Rattle.irtext_context.specs.declared.dialect.OpInfo.{OpInfo}
 use Rattle.irtext_base.specs.Faults.{id_of}
 use Rattle.irtext_base.specs.Format as format
 use Rattle.irtext_print.specs.Printers.ConcreteText.{debugging, directives_in}
@@ -17,7 +20,7 @@ returns-in-Canonical-clause-fits g c =
     let o = operation c.args.ctx.now c.args.op in
     let v = there o c.requires.live in
     let known : C.format_of (id_of c.get_opid.result.now) ≡ Some format.canonical =
-    ap (option_map (λ info. format_of info.format)) (sym c.op_info.ensures.found ∙ ap option_copied c.in-Some.is) ∙ ap (λ z. Some (format_of z)) c.in-Canonical.is in
+    ap (option_map (λ (known : Known). known.format)) (sym c.op_info.ensures.found ∙ ap (option_map (λ (info : Bor OpInfo). known_of info.now)) c.in-Some.is) ∙ ap (λ z. Some (format_of z)) c.in-Canonical.is in
     sym (printed_by C o v.0 v.1 c.get_opid.result.now c.get_opid.ensures (Some format.canonical) known)
 
 pub returns-in-Custom-clause-fits : goal.returns-in-Custom-clause-fits
@@ -28,7 +31,7 @@ returns-in-Custom-clause-fits g c =
     let v = there o c.requires.live in
     let ds = directives_of c.deref.result.now in
     let known : C.format_of (id_of c.get_opid.result.now) ≡ Some (format.custom ds) =
-    ap (option_map (λ info. format_of info.format)) (sym c.op_info.ensures.found ∙ ap option_copied c.in-Some.is) ∙ ap (λ z. Some (format_of z)) c.in-Custom.is ∙ ap (λ items. Some (format.custom (directives_of items))) (sym c.deref.ensures.value) in
+    ap (option_map (λ (known : Known). known.format)) (sym c.op_info.ensures.found ∙ ap (option_map (λ (info : Bor OpInfo). known_of info.now)) c.in-Some.is) ∙ ap (λ z. Some (format_of z)) c.in-Custom.is ∙ ap (λ items. Some (format.custom (directives_of items))) (sym c.deref.ensures.value) in
     let given = given_of C o v.0 c.get_opid.result.now c.attributes.result.now c.num_regions.result ds v.1 c.get_opid.ensures c.attributes.ensures c.num_regions.ensures (ap directives_in known) in
     c.check_parts.ensures.fits ∙ sym (printed_in L C debugging v.0 c.get_opid.result.now c.attributes.result.now c.num_regions.result ds given o v.1)
 
@@ -38,6 +41,6 @@ returns-in-Custom-clause-fault g c = λ view stands.
     let o = operation c.args.ctx.now c.args.op in
     let ds = directives_of c.deref.result.now in
     let known : C.format_of (id_of c.get_opid.result.now) ≡ Some (format.custom ds) =
-    ap (option_map (λ info. format_of info.format)) (sym c.op_info.ensures.found ∙ ap option_copied c.in-Some.is) ∙ ap (λ z. Some (format_of z)) c.in-Custom.is ∙ ap (λ items. Some (format.custom (directives_of items))) (sym c.deref.ensures.value) in
+    ap (option_map (λ (known : Known). known.format)) (sym c.op_info.ensures.found ∙ ap (option_map (λ (info : Bor OpInfo). known_of info.now)) c.in-Some.is) ∙ ap (λ z. Some (format_of z)) c.in-Custom.is ∙ ap (λ items. Some (format.custom (directives_of items))) (sym c.deref.ensures.value) in
     let given = given_of C o view c.get_opid.result.now c.attributes.result.now c.num_regions.result ds stands c.get_opid.ensures c.attributes.ensures c.num_regions.ensures (ap directives_in known) in
     then-err c.check_parts.result (part_fault C view c.get_opid.result.now c.attributes.result.now c.num_regions.result ds given known) c.check_parts.ensures.fault
