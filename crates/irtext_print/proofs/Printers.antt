@@ -15,3 +15,4 @@ pub mod RegionTexts
 pub mod AttrTexts
 pub mod RootParts
 pub mod FitFaults
+pub mod FirstFaults

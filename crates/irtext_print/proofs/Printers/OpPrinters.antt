@@ -42,7 +42,7 @@ module _ {T A : Type 0} where
   module _ {U : Type 0} (s after : Shown U) (old new : List ℕ) (ctx : ContextView T A) (p : Ptr Operation) where
     -- a part that was printed is the text that is claimed
     pub part_writes : (part : OperationView T A → Option Text) → PartPrinted part ctx p s old after new → Writes (printed_part part ctx p s) after old new
-    part_writes part r = subst (λ o. Writes (option_map (λ t. (encode_utf8_all t, s)) (option_and_then part o)) after old new) (sym r.stands) (go (part r.view) r.text)
+    part_writes part r = subst (λ o. Writes (option_map (λ t. (encode_utf8_all t, s)) (option_and_then part o)) after old new) (sym r.written.stands) (go (part r.written.view) r.written.text)
       where
         go : (o : Option Text) → IsSomeAnd o (λ t. new ≡ old ++ encode_utf8_all t) → Writes (option_map (λ t. (encode_utf8_all t, s)) o) after old new
         go None h = tt
@@ -51,8 +51,10 @@ module _ {T A : Type 0} where
     -- the one region was printed
     pub region_printed : (op : OperationView T A) → operation ctx p ≡ Some op → after ≡ s → (length op.regions == 1) ≡ true → new ≡ old ++ region_text s → PartPrinted (region_of s) ctx p s old after new
     region_printed op stands left one h = record {
-      view = op;
-      stands = stands;
-      text = subst (λ b. IsSomeAnd (cond b (Some (region_text s)) None) (λ t. new ≡ old ++ encode_utf8_all t)) (sym one) (h ∙ ap (λ z. old ++ z) (sym (region_bytes s)));
+      written = record {
+        view = op;
+        stands = stands;
+        text = subst (λ b. IsSomeAnd (cond b (Some (region_text s)) None) (λ t. new ≡ old ++ encode_utf8_all t)) (sym one) (h ∙ ap (λ z. old ++ z) (sym (region_bytes s)));
+      };
       state = left;
     }

@@ -1,5 +1,5 @@
 -- For callers: why an operation does not fit its format, and the texts of these reasons.
-use Rattle.std.specs.Prelude.{◌≡◌, ℕ, Bool, false, cond, not, ◌==◌, List, [], ◌∷◌, ◌++◌, length, Option, Some, None, is_some, codes, decimal}
+use Rattle.std.specs.Prelude.{◌≡◌, ◌<◌, ℕ, Bool, false, cond, not, ◌==◌, List, [], ◌∷◌, ◌++◌, length, Option, Some, None, is_some, codes, decimal}
 use Rattle.std.specs.List.{find, list_all}
 use Rattle.irtext_base.specs.Text.{Text}
 use Rattle.irtext_base.specs.Faults.{id_of}
@@ -24,6 +24,22 @@ fault_text (fault.MissingAttribute key) = codes "The operation has no attribute 
 fault_text fault.NoSymbol = codes "The operation has no symbol"
 fault_text (fault.UnwrittenAttribute key) = codes "The format does not write the attribute " ++ key.now
 fault_text (fault.OutlinedAttribute key) = codes "The attribute " ++ (key.now ++ codes " is outlined")
+
+-- the place of a reason in the order in which they are looked for
+abbrev pub place_of : FitFault → ℕ
+place_of fault.NotRegistered = 0
+place_of fault.Canonical = 1
+place_of fault.Unsupported = 2
+place_of (fault.RegionCount n) = 3
+place_of (fault.MissingAttribute key) = 4
+place_of fault.NoSymbol = 5
+place_of (fault.UnwrittenAttribute key) = 6
+place_of (fault.OutlinedAttribute key) = 7
+
+-- of the reasons that are true, one that stands first in this order
+pub record IsFirst (is_true : FitFault → Type 0) (reason : FitFault) : Type 0 where
+  pub holds : is_true reason
+  pub none_before : (other : FitFault) → place_of other < place_of reason → is_true other → ⊥
 
 -- the key of the first entry that passes a test
 abbrev pub first_key : {X : Type 0} → (Text × X → Bool) → List (Text × X) → Option Text

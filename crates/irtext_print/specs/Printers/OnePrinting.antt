@@ -34,11 +34,15 @@ module _ {T A U : Type 0} (L : Language ⊤ T A) (C : Printing T A) (ctx : Conte
     pub text : new ≡ old ++ encode_utf8_all (root_text L.owns.written ctx p view s (concrete_text L C view s))
     pub state : t ≡ with_gathered s []
 
--- a part of an operation that stands was written, and so the operation has it; the state stays
-pub record PartPrinted {T A U : Type 0} (part : OperationView T A → Option Text) (ctx : ContextView T A) (p : Ptr Operation) (s : Shown U) (old : List ℕ) (t : Shown U) (new : List ℕ) : Type 0 where
+-- a part of an operation that stands was written, and so the operation has it
+pub record PartWritten {T A : Type 0} (part : OperationView T A → Option Text) (ctx : ContextView T A) (p : Ptr Operation) (old new : List ℕ) : Type 0 where
   pub view : OperationView T A
   pub stands : operation ctx p ≡ Some view
   pub text : IsSomeAnd (part view) (λ text. new ≡ old ++ encode_utf8_all text)
+
+-- the same, and the state stays
+pub record PartPrinted {T A U : Type 0} (part : OperationView T A → Option Text) (ctx : ContextView T A) (p : Ptr Operation) (s : Shown U) (old : List ℕ) (t : Shown U) (new : List ℕ) : Type 0 where
+  pub written : PartWritten part ctx p old new
   pub state : t ≡ s
 
 module _ {T A U : Type 0} (types : ir_text.Ghosts T A) (owns : ir_text.Ghosts A A) (attributes : attr_text.Ghosts A) (same : A → A → Bool) (ctx : ContextView T A) (p : Ptr Operation) (s : Shown U) (old : String Global) (t : Shown U) (new : String Global) where

@@ -1,5 +1,5 @@
 -- For callers: the texts of an operation's parts: its header, with a type too, and its one region.
-use Rattle.std.specs.Prelude.{ℕ, cond, ◌==◌, List, ◌++◌, length, Option, Some, None, codes}
+use Rattle.std.specs.Prelude.{◌≡◌, ℕ, cond, ◌==◌, List, ◌++◌, length, Option, Some, None, codes, ⊤}
 use Rattle.std.specs.Option.{option_map, option_and_then}
 use Rattle.std.specs.Str.{encode_utf8_all}
 use Rattle.irtext_base.specs.Causes.{id_text}
@@ -12,6 +12,8 @@ use Rattle.irtext_grammar.specs.Graphs.Graph.{lookup}
 use Rattle.irtext_print.specs.Printers.PieceText.{symbol_in, region_text}
 use Rattle.irtext_print.specs.Printers.Shown.{Shown}
 use Rattle.irtext_grammar.specs.Contexts.Held.{entries_of}
+use Rattle.irtext_print.specs.declared.printable.refusal.Refusal.{Refusal}
+use Rattle.irtext_print.specs.declared.printable.refusal.Refusal.TheVariants.{Memory, Depth, Misfit}
 
 module _ {T A : Type 0} where
   -- an operation's id, and `@` with its symbol's name, where it has one
@@ -29,3 +31,9 @@ module _ {T A : Type 0} where
   -- what is appended for what a context holds under a pointer, where it has this text; the state stays
   abbrev pub printed_part : {U : Type 0} → (OperationView T A → Option Text) → ContextView T A → Ptr Operation → Shown U → Option (List ℕ × Shown U)
   printed_part part ctx p s = option_map (λ t. (encode_utf8_all t, s)) (option_and_then part (operation ctx p))
+
+  -- what a refusal to write a part says: memory may be refused at any time, but all else only for this reason
+  abbrev pub RefusesPart : Type 0 → (OperationView T A → Option Text) → ContextView T A → Ptr Operation → Refusal → Type 0
+  RefusesPart deep part ctx p Memory = ⊤
+  RefusesPart deep part ctx p Depth = deep
+  RefusesPart deep part ctx p Misfit = option_and_then part (operation ctx p) ≡ None

@@ -1,5 +1,5 @@
 -- For callers: what is written of an operation's attributes and regions by the directives of its format.
-use Rattle.std.specs.Prelude.{ℕ, zero, suc, ◌+◌, ◌-◌, ◌==◌, Bool, false, cond, not, List, [], ◌∷◌, ◌++◌, map, filter, Option, Some, None, codes, ⊤}
+use Rattle.std.specs.Prelude.{◌≡◌, ◌≢◌, ℕ, zero, suc, ◌+◌, ◌-◌, ◌≤◌, ◌^◌, ◌==◌, Bool, false, cond, not, List, [], ◌∷◌, ◌++◌, map, filter, Option, Some, None, IsSome, codes, ⊤}
 use Rattle.std.specs.List.{list_any}
 use Rattle.irtext_base.specs.Text.{Text, begins}
 use Rattle.irtext_base.specs.Format as format
@@ -10,6 +10,8 @@ use Rattle.irtext_print.specs.Printers.Printing.{lowered}
 use Rattle.irtext_print.specs.Printers.Shown.{Shown}
 use Rattle.irtext_grammar.specs.Spelling.Spell.{joins_left, newline, attribute, joined, comma}
 use Rattle.irtext_grammar.specs.Grammar.Tree.{Attribute, ident, given_names, own}
+use Rattle.irtext_print.specs.declared.printable.refusal.Refusal.{Refusal}
+use Rattle.irtext_print.specs.declared.printable.refusal.Refusal.TheVariants.{Memory, Depth}
 
 -- what printing asks of the caller's attributes, where it is only whether one is outlined
 abbrev pub outlining : {A : Type 0} → (A → Bool) → Printing ⊤ A
@@ -110,3 +112,11 @@ region_text s = elim (lowered s.limit) [
   | None ↦ codes "{..}"
   | Some _ ↦ newline s.indent ++ (codes "{" ++ (newline (s.indent + s.width) ++ (newline s.indent ++ codes "}")))
 ]
+
+-- a region isn't elided, and the indentation inside does not fit 16 bits
+abbrev pub IsTooDeep : {U : Type 0} → Shown U → Type 0
+IsTooDeep s = IsSome (lowered s.limit) × (2 ^ 16 ≤ s.indent + s.width)
+
+-- what a refusal to write regions says: memory may be refused at any time, but all else only where they are too deep
+abbrev pub RefusesRegion : {U : Type 0} → Shown U → Refusal → Type 0
+RefusesRegion s refusal = refusal ≢ Memory → (refusal ≡ Depth) × IsTooDeep s

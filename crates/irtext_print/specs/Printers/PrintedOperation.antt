@@ -1,6 +1,6 @@
 -- For callers: the operations that are printed so far, and their texts: those that fit their format, where that names no value, block or type,
 -- and no attribute is outlined.
-use Rattle.std.specs.Prelude.{◌≡◌, ◌≤◌, ◌^◌, ℕ, suc, ◌+◌, Bool, true, false, cond, not, ◌&&◌, ◌||◌, ◌==◌, nat_lt, List, [], ◌∷◌, ◌++◌, length, Option, Some, None, is_some, codes, decimal, ⊤}
+use Rattle.std.specs.Prelude.{◌≡◌, ℕ, suc, Bool, true, false, cond, not, ◌&&◌, ◌||◌, ◌==◌, nat_lt, List, [], ◌∷◌, ◌++◌, length, Option, Some, None, is_some, codes, decimal, ⊤}
 use Rattle.std.specs.List.{list_all}
 use Rattle.std.specs.Option.{option_map}
 use Rattle.std.specs.Str.{encode_utf8_all}
@@ -21,6 +21,7 @@ use Rattle.irtext_grammar.specs.Graphs.Graph.{Printing, Limit, lookup, outlined,
 use Rattle.irtext_grammar.specs.Spelling.Locations.{known_text}
 use Rattle.irtext_print.specs.Errors.Located.{between}
 use Rattle.irtext_grammar.specs.Spelling.Section.{text}
+use Rattle.irtext_print.specs.Printers.PieceText.{IsTooDeep}
 use Rattle.irtext_print.specs.Printers.Shown.{Shown}
 use Rattle.irtext_grammar.specs.Contexts.Held.{entries_of, graph_of}
 use Rattle.irtext_grammar.specs.Grammar.Tree.{Attribute, ident}
@@ -89,7 +90,7 @@ module _ {T A : Type 0} (C : Printing T A) where
   -- what a refusal says: memory may be refused at any time, but all else only for this reason
   abbrev pub Refuses : {U : Type 0} → Option (OperationView T A) → Shown U → Refusal → Type 0
   Refuses op s Memory = ⊤
-  Refuses op s Depth = 2 ^ 16 ≤ s.indent + s.width
+  Refuses op s Depth = IsTooDeep s
   Refuses op s Misfit = is_printed_in op ≡ false
 
 module _ {A : Type 0} where

@@ -8,7 +8,7 @@ ghost use Rattle.irtext_print.specs.Printers.PrintedOperation as printed;
 ghost use Rattle.irtext_print.specs.Printers.Printing.{gathered_of, with_gathered};
 ghost use Rattle.irtext_print.specs.declared.printable.refusal.Refusal.TheVariants as refusal;
 
-use crate::ir::print::concrete::fmt_concrete;
+use crate::ir::print::concrete::print_concrete;
 use crate::location::print::fmt_known;
 use crate::printable::state::State;
 use crate::printable::{Printable, Refusal};
@@ -126,7 +126,7 @@ pub fn print_root<T: IrText<A>, A: AttrText, U>(
     ensures text { OnOk result (Writes (printed.printed (printed.language_in T.IrText.own A.IrText.own ctx.now) (printed.printing_in A.AttrText.own A.eq ctx.now) ctx.now op state.old) state.new (string_bytes f.old) (string_bytes f.new)) }
     ensures refused { IfErr result (printed.Refuses (printed.printing_in A.AttrText.own A.eq ctx.now) (operation ctx.now op) state.old) }
 {
-    fmt_concrete(ctx, op, state, f)?;
+    print_concrete(ctx, op, state, f)?;
     fmt_mark(op.loc(ctx), op, state, f)?;
     match fmt_section(ctx, state, f) {
         Ok(()) => Ok(()),

@@ -1,14 +1,32 @@
 //! The items of an iterator, with separators between.
-ghost use Rattle.std.specs.Prelude.{◌≡◌, List, OnOk};
+ghost use Rattle.std.specs.Prelude.{◌≡◌, ◌++◌, List, MatchBool, OnOk, string_bytes};
 ghost use Rattle.std.specs.Iterator.{Drains, HoldsAlong, IsFinite};
 ghost use Rattle.std.specs.List.{All};
 ghost use Rattle.irtext_print.specs.Printers.Items.{WritesItems, PrintsItem};
+ghost use Rattle.irtext_print.specs.Printers.Separator.{separator_text};
 
 use crate::printable::state::State;
 use crate::printable::{ListSeparator, Printable};
 use irtext_base::text::{AttrText, IrText};
 use irtext_context::base::Context;
 use std::fmt;
+
+/// Appends what stands in front of an item: the separator, unless the item is the first.
+pub(crate) fn fmt_between<T: IrText<A>, A: AttrText, U>(
+    first: bool,
+    sep: ListSeparator,
+    ctx: &Context<T, A>,
+    state: &mut State<U>,
+    f: &mut String,
+) -> fmt::Result
+    ensures text { OnOk result (MatchBool first (f.new ≡ f.old) (string_bytes f.new ≡ string_bytes f.old ++ separator_text sep state.old)) }
+    ensures state { OnOk result (state.new ≡ state.old) }
+{
+    if first {
+        return Ok(());
+    }
+    sep.fmt(ctx, state, f)
+}
 
 /// Appends the texts of the items that an iterator gives, with a separator between each two. It fails where a separator or an
 /// item does; what was written until then stays.
@@ -27,11 +45,8 @@ where
 {
     let mut first = true;
     for item in iter {
-        if first {
-            first = false;
-        } else {
-            sep.fmt(ctx, state, f)?;
-        }
+        fmt_between(first, sep, ctx, state, f)?;
+        first = false;
         item.fmt(ctx, state, f)?;
     }
     Ok(())

@@ -46,8 +46,9 @@ pub(crate) fn fmt_id(id: &OpId, f: &mut String) -> Result<(), Refusal>
     Ok(())
 }
 
-/// Appends the concrete text of an operation. Nothing is gathered.
-pub(crate) fn fmt_concrete<T: IrText<A>, A: AttrText, U>(
+/// Appends the concrete text of an operation, as [`OpObj`] prints it, and says why it was refused. Nothing is gathered, and what was
+/// written until then stays.
+pub fn print_concrete<T: IrText<A>, A: AttrText, U>(
     ctx: &Context<T, A>,
     op: Ptr<Operation>,
     state: &mut State<U>,
@@ -72,7 +73,7 @@ pub(crate) fn fmt_concrete<T: IrText<A>, A: AttrText, U>(
 }
 
 /// An operation as a plain value, whose text is its concrete text: without its mark, and without a section. It prints
-/// where the operation is live.
+/// where the operation is live; why it is refused is said by [`print_concrete`].
 #[derive(Clone, Copy, Debug, PartialEq, Eq)]
 pub struct OpObj {
     pub op: Ptr<Operation>,
@@ -86,7 +87,7 @@ impl<T: IrText<A>, A: AttrText, U> Printable<U, T, A> for OpObj {
     ghost prints = { λ obj ctx s b t d. PrintsConcrete T.IrText.own A.IrText.own A.AttrText.own A.eq ctx obj.op s b t d };
 
     fn fmt(&self, ctx: &Context<T, A>, state: &mut State<U>, f: &mut String) -> fmt::Result {
-        fmt_concrete(ctx, self.op, state, f)?;
+        print_concrete(ctx, self.op, state, f)?;
         Ok(())
     }
 }

@@ -6,7 +6,7 @@ ghost use Rattle.irtext_print.specs.Printers.OnePrinting.{PrintsConcrete};
 ghost use Rattle.irtext_print.specs.Printers.PrintedOperation.{is_printed_in, language_in, printing_in};
 ghost use Rattle.irtext_print.specs.declared.printable.refusal.Refusal.TheVariants as refusal;
 
-use crate::ir::print::concrete::fmt_concrete;
+use crate::ir::print::concrete::print_concrete;
 use crate::printable::Refusal;
 use crate::printable::state::{RegionPrintDepthLimit, State};
 use irtext_base::text::{AttrText, IrText};
@@ -25,7 +25,7 @@ fn fmt_dbg<T: IrText<A>, A: AttrText>(
 {
     let mut state = State::new(ctx.allocator(), ());
     state.set_region_print_depth_limit(RegionPrintDepthLimit::Max(0));
-    fmt_concrete(ctx, op, &mut state, f)
+    print_concrete(ctx, op, &mut state, f)
 }
 
 /// Appends the concrete text of an operation, without its mark and without a section, with `{..}` for each of its regions.

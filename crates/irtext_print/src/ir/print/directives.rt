@@ -1,9 +1,8 @@
 //! What the directives of a format write.
-ghost use Rattle.std.specs.Prelude.{◌≡◌, ◌≢◌, ◌+◌, ◌≤◌, ◌^◌, OnOk, IfOk, IfErr, IsOk, length};
+ghost use Rattle.std.specs.Prelude.{◌≡◌, OnOk, IfOk, IfErr, IsOk};
 ghost use Rattle.irtext_print.specs.Printers.Appended.{AppendsText};
 ghost use Rattle.irtext_context.specs.Directives.{directive_of, directives_of};
 ghost use Rattle.irtext_print.specs.Printers.PieceText as pieces;
-ghost use Rattle.irtext_print.specs.Printers.Printing.{width_of, indent_of};
 ghost use Rattle.irtext_grammar.specs.Contexts.Held.{entries_of};
 ghost use Rattle.irtext_print.specs.declared.printable.refusal.Refusal.TheVariants as refusal;
 
@@ -40,7 +39,7 @@ fn fmt_directive<A: AttrText, U>(
     ensures text { OnOk result (AppendsText f.old (pieces.directive_text A.IrText.written A.outlined (directives_of directives.now) (entries_of attributes.now) (pieces.region_text state.old) left (directive_of directive.now)) f.new) }
     ensures left { IfOk result (λ n. n ≡ pieces.left_behind left (directive_of directive.now)) }
     ensures state { state.new ≡ state.old }
-    ensures refused { IfErr result (λ e. e ≢ refusal.Memory → (e ≡ refusal.Depth) × (2 ^ 16 ≤ indent_of state.old + width_of state.old)) }
+    ensures refused { IfErr result (pieces.RefusesRegion state.old) }
 {
     match directive {
         Directive::Literal(word) => behind(fmt_word(word.as_str(), f), left),
@@ -67,7 +66,7 @@ pub(crate) fn fmt_directives<A: AttrText, U>(
 ) -> Result<(), Refusal>
     ensures text { OnOk result (AppendsText f.old (pieces.directives_text A.IrText.written A.outlined (directives_of directives.now) (entries_of attributes.now) (pieces.region_text state.old) regions (directives_of directives.now)) f.new) }
     ensures state { state.new ≡ state.old }
-    ensures refused { IfErr result (λ e. e ≢ refusal.Memory → (e ≡ refusal.Depth) × (2 ^ 16 ≤ indent_of state.old + width_of state.old)) }
+    ensures refused { IfErr result (pieces.RefusesRegion state.old) }
 {
     let mut left = regions;
     for directive in directives {

@@ -18,7 +18,7 @@ use irtext_context::base::{Context, Operation, Ptr};
 use std::fmt;
 use std::fmt::Display;
 
-/// Why an operation does not fit its format. Keys are lent, so that it takes no memory.
+/// Why an operation does not fit its format, in the order in which it is looked for. Keys are lent, so that it takes no memory.
 #[non_exhaustive]
 #[derive(Clone, Copy)]
 pub enum FitFault<'c> {
@@ -209,14 +209,14 @@ fn outlined_key<A: AttrText>(attributes: &AttributeDict<A>) -> Option<&Identifie
 }
 
 /// Whether directives write all of these attributes and so many regions, and nothing that is not there, and no attribute is
-/// outlined; else a reason why not.
+/// outlined; else the first reason why not.
 pub(crate) fn check_parts<'c, A: AttrText>(
     directives: &'c [Directive],
     attributes: &'c AttributeDict<A>,
     regions: usize,
 ) -> Result<(), FitFault<'c>>
     ensures fits { is_ok result ≡ printed.fits_directives (outlining A.outlined) (directives_of directives.now) (entries_of attributes.now) regions }
-    ensures fault { IfErr result (faults.IsPartFault A.outlined (directives_of directives.now) (entries_of attributes.now) regions) }
+    ensures fault { IfErr result (faults.IsFirst (faults.IsPartFault A.outlined (directives_of directives.now) (entries_of attributes.now) regions)) }
 {
     if !all_supported(directives) {
         return Err(FitFault::Unsupported);
@@ -241,14 +241,16 @@ pub(crate) fn check_parts<'c, A: AttrText>(
     }
 }
 
-/// Whether an operation fits its format, and so is printed; else a reason why not. It takes no memory.
+/// Whether an operation fits its format, and so is printed; else the first reason why not, in the order of [`FitFault`], and of
+/// several such attributes the first: a missing one as the directives name them, the others as the operation has them. It takes no
+/// memory.
 pub fn check_fits<'c, T: IrText<A>, A: AttrText>(
     ctx: &'c Context<T, A>,
     op: Ptr<Operation>,
 ) -> Result<(), FitFault<'c>>
     requires live { IsSome (operation ctx.now op) }
     ensures fits { is_ok result ≡ printed.is_printed_in (printed.printing_in A.AttrText.own A.eq ctx.now) (operation ctx.now op) }
-    ensures fault { (view : OperationView T A) → operation ctx.now op ≡ Some view → IfErr result (faults.IsFault (printed.printing_in A.AttrText.own A.eq ctx.now) view) }
+    ensures fault { (view : OperationView T A) → operation ctx.now op ≡ Some view → IfErr result (faults.IsFirst (faults.IsFault (printed.printing_in A.AttrText.own A.eq ctx.now) view)) }
 {
     let Some(info) = ctx.op_info(op.get_opid(ctx)) else {
         return Err(FitFault::NotRegistered);

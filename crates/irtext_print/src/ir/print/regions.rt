@@ -36,7 +36,7 @@ fn fmt_no_blocks<U>(state: &mut State<U>, f: &mut String) -> Result<(), Refusal>
 pub(crate) fn fmt_region<U>(state: &mut State<U>, f: &mut String) -> Result<(), Refusal>
     ensures text { OnOk result (string_bytes f.new ≡ string_bytes f.old ++ pieces.region_text state.old) }
     ensures state { state.new ≡ state.old }
-    ensures refused { IfErr result (λ e. e ≢ refusal.Memory → (e ≡ refusal.Depth) × (2 ^ 16 ≤ indent_of state.old + width_of state.old)) }
+    ensures refused { IfErr result (pieces.RefusesRegion state.old) }
 {
     let Some(region) = state.enter_region() else {
         f.push_str("{..}")?;
@@ -59,7 +59,7 @@ pub(crate) fn fmt_next_region<U>(
     ensures text { OnOk result (AppendsText f.old (cond (left == 0) [] (pieces.spaced (pieces.region_text state.old))) f.new) }
     ensures left { IfOk result (λ n. n ≡ left - 1) }
     ensures state { state.new ≡ state.old }
-    ensures refused { IfErr result (λ e. e ≢ refusal.Memory → (e ≡ refusal.Depth) × (2 ^ 16 ≤ indent_of state.old + width_of state.old)) }
+    ensures refused { IfErr result (pieces.RefusesRegion state.old) }
 {
     if left == 0 {
         return Ok(0);
@@ -78,7 +78,7 @@ pub(crate) fn fmt_regions<U>(
     ensures text { OnOk result (AppendsText f.old (pieces.spaced (pieces.repeated count (pieces.region_text state.old))) f.new) }
     ensures left { IfOk result (λ n. n ≡ 0) }
     ensures state { state.new ≡ state.old }
-    ensures refused { IfErr result (λ e. e ≢ refusal.Memory → (e ≡ refusal.Depth) × (2 ^ 16 ≤ indent_of state.old + width_of state.old)) }
+    ensures refused { IfErr result (pieces.RefusesRegion state.old) }
 {
     f.push_str(" ")?;
     for _index in 0..count {

@@ -5,6 +5,7 @@ ghost use Rattle.std.specs.List.{All};
 ghost use Rattle.irtext_print.specs.Printers.Calls.{FnWritesItem};
 ghost use Rattle.irtext_print.specs.Printers.Items.{WritesItems, PrintsItem, CloneGives};
 
+use crate::printable::items::fmt_between;
 use crate::printable::state::State;
 use crate::printable::{ListSeparator, Printable, fmt_iter};
 use irtext_base::text::{AttrText, IrText};
@@ -57,11 +58,8 @@ where
         let items = self.iter.clone()?;
         let mut first = true;
         for item in items {
-            if first {
-                first = false;
-            } else {
-                self.separator.fmt(ctx, state, f)?;
-            }
+            fmt_between(first, self.separator, ctx, state, f)?;
+            first = false;
             (self.print_item)(item, ctx, state, f)?;
         }
         Ok(())

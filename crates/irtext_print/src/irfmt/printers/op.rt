@@ -1,9 +1,9 @@
 //! Printers of an operation's parts: its header, with a type too, and its one region.
-ghost use Rattle.std.specs.Prelude.{◌≡◌, Some, OnOk, IsSome, IsSomeAnd, string_bytes};
-ghost use Rattle.irtext_print.specs.Printers.Appended.{AppendsText};
-ghost use Rattle.irtext_context.specs.Context.{OperationView, operation};
-ghost use Rattle.irtext_print.specs.Printers.OnePrinting.{PartPrinted};
+ghost use Rattle.std.specs.Prelude.{◌≡◌, OnOk, IfErr, IsSome, string_bytes};
+ghost use Rattle.irtext_context.specs.Context.{operation};
+ghost use Rattle.irtext_print.specs.Printers.OnePrinting.{PartPrinted, PartWritten};
 ghost use Rattle.irtext_print.specs.Printers.OpPrinters as parts;
+ghost use Rattle.irtext_print.specs.Printers.PieceText.{IsTooDeep};
 
 use crate::ir::print::concrete::fmt_id;
 use crate::ir::print::pieces::symbol_of;
@@ -34,14 +34,16 @@ pub struct OneRegion {
 }
 
 /// A printer that writes an operation's id, a space, and `@` with its symbol's name: the identifier under the key
-/// `builtin_sym_name`. It prints where the operation is live, and fails where there is no such name or memory is refused.
+/// `builtin_sym_name`. It prints where the operation is live, and fails where there is no such name or memory is refused;
+/// [`print_symb_op_header`] writes the same and says which.
 pub fn symb_op_header(op: Ptr<Operation>) -> SymbHeader
     ensures { result.op ≡ op }
 {
     SymbHeader { op }
 }
 
-/// A printer that writes what [`symb_op_header`] does, and the type behind `: `. It fails as that one does.
+/// A printer that writes what [`symb_op_header`] does, and the type behind `: `. It fails as that one does;
+/// [`print_typed_symb_op_header`] writes the same and says why.
 pub fn typed_symb_op_header<T>(op: Ptr<Operation>, ty: &T) -> TypedSymbHeader<'_, T>
     ensures op { result.op ≡ op }
     ensures ty { result.ty.now ≡ ty.now }
@@ -50,21 +52,23 @@ pub fn typed_symb_op_header<T>(op: Ptr<Operation>, ty: &T) -> TypedSymbHeader<'_
 }
 
 /// A printer that writes the one region of an operation. It prints where the operation is live, and fails where it has no region
-/// or several, the indentation is too deep, or memory is refused.
+/// or several, the indentation is too deep, or memory is refused; [`print_region`] writes the same and says which.
 pub fn region(op: Ptr<Operation>) -> OneRegion
     ensures { result.op ≡ op }
 {
     OneRegion { op }
 }
 
-/// Appends an operation's id and its symbol's name.
-fn fmt_header<T: IrText<A>, A: AttrText>(
+/// Appends what [`symb_op_header`] writes, and says why it is refused: [`Refusal::Misfit`] where the operation has no symbol's name,
+/// else for want of memory. What was written until then stays.
+pub fn print_symb_op_header<T: IrText<A>, A: AttrText>(
     ctx: &Context<T, A>,
     op: Ptr<Operation>,
     f: &mut String,
 ) -> Result<(), Refusal>
     requires live { IsSome (operation ctx.now op) }
-    ensures { (view : OperationView T A) → operation ctx.now op ≡ Some view → OnOk result (IsSomeAnd (parts.header_of view) (λ t. AppendsText f.old t f.new)) }
+    ensures prints { OnOk result (PartWritten parts.header_of ctx.now op (string_bytes f.old) (string_bytes f.new)) }
+    ensures refused { IfErr result (parts.RefusesPart ⊥ parts.header_of ctx.now op) }
 {
     let id = op.get_opid(ctx);
     let attributes = op.attributes(ctx);
@@ -77,6 +81,45 @@ fn fmt_header<T: IrText<A>, A: AttrText>(
     Ok(())
 }
 
+/// Appends what [`typed_symb_op_header`] writes, and says why it is refused, as [`print_symb_op_header`] does.
+pub fn print_typed_symb_op_header<T: IrText<A>, A: AttrText>(
+    ctx: &Context<T, A>,
+    op: Ptr<Operation>,
+    ty: &T,
+    f: &mut String,
+) -> Result<(), Refusal>
+    requires live { IsSome (operation ctx.now op) }
+    ensures prints { OnOk result (PartWritten (parts.typed_header_of (T.written ty.now)) ctx.now op (string_bytes f.old) (string_bytes f.new)) }
+    ensures refused { IfErr result (parts.RefusesPart ⊥ (parts.typed_header_of (T.written ty.now)) ctx.now op) }
+{
+    print_symb_op_header(ctx, op, f)?;
+    f.push_str(": ")?;
+    match ty.write_text(f) {
+        Ok(()) => Ok(()),
+        Err(_) => Err(Refusal::Memory),
+    }
+}
+
+/// Appends what [`region`] writes, and says why it is refused: [`Refusal::Misfit`] where the operation has no region or several,
+/// [`Refusal::Depth`] where its region isn't elided and the indentation inside is too deep, else for want of memory. The state
+/// stays, and what was written until then.
+pub fn print_region<T: IrText<A>, A: AttrText, U>(
+    ctx: &Context<T, A>,
+    op: Ptr<Operation>,
+    state: &mut State<U>,
+    f: &mut String,
+) -> Result<(), Refusal>
+    requires live { IsSome (operation ctx.now op) }
+    ensures prints { OnOk result (PartPrinted (parts.region_of state.old) ctx.now op state.old (string_bytes f.old) state.new (string_bytes f.new)) }
+    ensures state { state.new ≡ state.old }
+    ensures refused { IfErr result (parts.RefusesPart (IsTooDeep state.old) (parts.region_of state.old) ctx.now op) }
+{
+    if op.num_regions(ctx) != 1 {
+        return Err(Refusal::Misfit);
+    }
+    fmt_region(state, f)
+}
+
 impl<T: IrText<A>, A: AttrText, U> Printable<U, T, A> for SymbHeader {
     ghost can_print = { λ h ctx. IsSome (operation ctx h.op) };
 
@@ -85,7 +128,7 @@ impl<T: IrText<A>, A: AttrText, U> Printable<U, T, A> for SymbHeader {
     ghost prints = { λ h ctx s b t d. PartPrinted parts.header_of ctx h.op s (string_bytes b) t (string_bytes d) };
 
     fn fmt(&self, ctx: &Context<T, A>, _state: &mut State<U>, f: &mut String) -> fmt::Result {
-        fmt_header(ctx, self.op, f)?;
+        print_symb_op_header(ctx, self.op, f)?;
         Ok(())
     }
 }
@@ -98,9 +141,8 @@ impl<T: IrText<A>, A: AttrText, U> Printable<U, T, A> for TypedSymbHeader<'_, T>
     ghost prints = { λ h ctx s b t d. PartPrinted (parts.typed_header_of (T.written h.ty.now)) ctx h.op s (string_bytes b) t (string_bytes d) };
 
     fn fmt(&self, ctx: &Context<T, A>, _state: &mut State<U>, f: &mut String) -> fmt::Result {
-        fmt_header(ctx, self.op, f)?;
-        f.push_str(": ")?;
-        self.ty.write_text(f)
+        print_typed_symb_op_header(ctx, self.op, self.ty, f)?;
+        Ok(())
     }
 }
 
@@ -112,10 +154,7 @@ impl<T: IrText<A>, A: AttrText, U> Printable<U, T, A> for OneRegion {
     ghost prints = { λ r ctx s b t d. PartPrinted (parts.region_of s) ctx r.op s (string_bytes b) t (string_bytes d) };
 
     fn fmt(&self, ctx: &Context<T, A>, state: &mut State<U>, f: &mut String) -> fmt::Result {
-        if self.op.num_regions(ctx) != 1 {
-            return Err(fmt::Error);
-        }
-        fmt_region(state, f)?;
+        print_region(ctx, self.op, state, f)?;
         Ok(())
     }
 }

@@ -5,9 +5,9 @@ use Rattle.irtext_print.proofs.ir.print.print_root.Goals as goal
 
 pub returns-in-Ok-clause-prints : goal.returns-in-Ok-clause-prints
 returns-in-Ok-clause-prints g c =
-    root_appended (language_in g.T.IrText g.A.IrText c.args.ctx.now) (printing_in {T = g.row.T.Denot} g.A.AttrText g.A.PartialEq.eq c.args.ctx.now) c.args.ctx.now c.args.op c.loc.result.now c.args.state.now c.fmt_concrete.new.state c.fmt_mark.new.state c.fmt_section.new.state
-    (string_bytes c.args.f.now) (string_bytes c.fmt_concrete.new.f) (string_bytes c.fmt_mark.new.f) (string_bytes c.fmt_section.new.f)
-    c.in_ok-fmt_concrete.ensures.prints c.loc.ensures c.in_ok-fmt_mark.ensures.state c.in_ok-fmt_mark.ensures.text c.in-Ok.ensures.text c.fmt_section.ensures.state
+    root_appended (language_in g.T.IrText g.A.IrText c.args.ctx.now) (printing_in {T = g.row.T.Denot} g.A.AttrText g.A.PartialEq.eq c.args.ctx.now) c.args.ctx.now c.args.op c.loc.result.now c.args.state.now c.print_concrete.new.state c.fmt_mark.new.state c.fmt_section.new.state
+    (string_bytes c.args.f.now) (string_bytes c.print_concrete.new.f) (string_bytes c.fmt_mark.new.f) (string_bytes c.fmt_section.new.f)
+    c.in_ok-print_concrete.ensures.prints c.loc.ensures c.in_ok-fmt_mark.ensures.state c.in_ok-fmt_mark.ensures.text c.in-Ok.ensures.text c.fmt_section.ensures.state
 
 pub returns-in-Ok-clause-fits : goal.returns-in-Ok-clause-fits
 returns-in-Ok-clause-fits g c = root_fits _ (printing_in {T = g.row.T.Denot} g.A.AttrText g.A.PartialEq.eq c.args.ctx.now) _ _ _ _ _ _ (returns-in-Ok-clause-prints g c)

@@ -1,4 +1,4 @@
-use Rattle.std.proofs.Common.{◌≡◌, ◌∙◌, Some, sym, ap, option_map}
+use Rattle.std.proofs.Common.{◌≡◌, ◌∙◌, Some, None, sym, ap, option_map}
 use denote.Ref.{Bor}
 use Rattle.irtext_context.specs.Context.{operation}
 use Rattle.irtext_context.specs.Dialects.{Known, known_of}
@@ -9,7 +9,8 @@ use Rattle.irtext_base.specs.Format as format
 use Rattle.irtext_print.specs.Printers.ConcreteText.{debugging, directives_in}
 use Rattle.irtext_print.specs.Printers.PrintedOperation.{language_in, printing_in}
 use Rattle.irtext_print.proofs.Printers.Appended.{then-err}
-use Rattle.irtext_print.proofs.Printers.FitFaults.{printed_by, part_fault}
+use Rattle.irtext_print.proofs.Printers.FitFaults.{printed_by}
+use Rattle.irtext_print.proofs.Printers.FirstFaults.{first_unregistered, first_canonical, first_fault}
 use Rattle.irtext_print.proofs.Printers.OperationTexts.{given_of, printed_in}
 use Rattle.irtext_print.proofs.Printers.RootParts.{there}
 use Rattle.irtext_print.proofs.ir.print.fits.check_fits.Goals as goal
@@ -22,6 +23,20 @@ returns-in-Canonical-clause-fits g c =
     let known : C.format_of (id_of c.get_opid.result.now) ≡ Some format.canonical =
     ap (option_map (λ (known : Known). known.format)) (sym c.op_info.ensures.found ∙ ap (option_map (λ (info : Bor OpInfo). known_of info.now)) c.in-Some.is) ∙ ap (λ z. Some (format_of z)) c.in-Canonical.is in
     sym (printed_by C o v.0 v.1 c.get_opid.result.now c.get_opid.ensures (Some format.canonical) known)
+
+pub returns-in-Canonical-clause-fault : goal.returns-in-Canonical-clause-fault
+returns-in-Canonical-clause-fault g c = λ view stands.
+    let C = printing_in {T = g.row.T.Denot} g.A.AttrText g.A.PartialEq.eq c.args.ctx.now in
+    let known : C.format_of (id_of c.get_opid.result.now) ≡ Some format.canonical =
+    ap (option_map (λ (known : Known). known.format)) (sym c.op_info.ensures.found ∙ ap (option_map (λ (info : Bor OpInfo). known_of info.now)) c.in-Some.is) ∙ ap (λ z. Some (format_of z)) c.in-Canonical.is in
+    first_canonical C (operation c.args.ctx.now c.args.op) view stands c.get_opid.result.now c.get_opid.ensures known
+
+pub returns-in_default-clause-fault : goal.returns-in_default-clause-fault
+returns-in_default-clause-fault g c = λ view stands.
+    let C = printing_in {T = g.row.T.Denot} g.A.AttrText g.A.PartialEq.eq c.args.ctx.now in
+    let known : C.format_of (id_of c.get_opid.result.now) ≡ None =
+    ap (option_map (λ (known : Known). known.format)) (sym c.op_info.ensures.found ∙ ap (option_map (λ (info : Bor OpInfo). known_of info.now)) c.in_default.is) in
+    first_unregistered C (operation c.args.ctx.now c.args.op) view stands c.get_opid.result.now c.get_opid.ensures known
 
 pub returns-in-Custom-clause-fits : goal.returns-in-Custom-clause-fits
 returns-in-Custom-clause-fits g c =
@@ -43,4 +58,4 @@ returns-in-Custom-clause-fault g c = λ view stands.
     let known : C.format_of (id_of c.get_opid.result.now) ≡ Some (format.custom ds) =
     ap (option_map (λ (known : Known). known.format)) (sym c.op_info.ensures.found ∙ ap (option_map (λ (info : Bor OpInfo). known_of info.now)) c.in-Some.is) ∙ ap (λ z. Some (format_of z)) c.in-Custom.is ∙ ap (λ items. Some (format.custom (directives_of items))) (sym c.deref.ensures.value) in
     let given = given_of C o view c.get_opid.result.now c.attributes.result.now c.num_regions.result ds stands c.get_opid.ensures c.attributes.ensures c.num_regions.ensures (ap directives_in known) in
-    then-err c.check_parts.result (part_fault C view c.get_opid.result.now c.attributes.result.now c.num_regions.result ds given known) c.check_parts.ensures.fault
+    then-err c.check_parts.result (first_fault C view c.get_opid.result.now c.attributes.result.now c.num_regions.result ds given known) c.check_parts.ensures.fault

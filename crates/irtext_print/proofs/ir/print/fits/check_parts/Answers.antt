@@ -1,40 +1,52 @@
-use Rattle.std.proofs.Common.{◌∙◌, true, false, None, Some, sym, ap, refl, option_copied}
+use Rattle.std.proofs.Common.{◌∙◌, sym, ap, option_copied}
 use Rattle.irtext_context.specs.Directives.{directives_of}
 use Rattle.irtext_grammar.specs.Contexts.Held.{entries_of}
-use Rattle.irtext_print.specs.Printers.PieceText.{outlining}
-use Rattle.irtext_print.proofs.Printers.FitFaults.{named_by, covers_by, inline_by, fits_by}
+use Rattle.irtext_print.proofs.Printers.FirstFaults.{unsupported, other_count, missing, no_symbol, unwritten, outlined_one, nothing}
 use Rattle.irtext_print.proofs.ir.print.fits.check_parts.Goals as goal
 
-pub returns-in-Some-clause-fits : goal.returns-in-Some-clause-fits
-returns-in-Some-clause-fits g c =
-    let ds = directives_of c.args.directives.now in
-    let es = entries_of c.args.attributes.now in
-    fits_by (outlining g.A.AttrText.outlined) ds es c.args.regions true true false _ _ _ (sym c.all_supported.ensures ∙ c.if-not-all_supported.false) (sym c.regions_fit.ensures ∙ c.if-not-regions_fit.false)
-    (named_by es ds (Some c.in-Some.key.now) (sym c.missing_key.ensures ∙ ap option_copied c.in-Some.is)) refl refl refl
+pub returns-then-not-all_supported : goal.returns-then-not-all_supported
+returns-then-not-all_supported g c =
+    let tests = unsupported g.A.AttrText.outlined (directives_of c.args.directives.now) (entries_of c.args.attributes.now) c.args.regions
+    (sym c.all_supported.ensures ∙ c.if-not-all_supported.true) in
+    record { fits = tests.fits; fault = tests.first }
 
-pub returns-in-Some-unwritten_key-clause-fits : goal.returns-in-Some-unwritten_key-clause-fits
-returns-in-Some-unwritten_key-clause-fits g c =
-    let C = outlining g.A.AttrText.outlined in
-    let ds = directives_of c.args.directives.now in
-    let es = entries_of c.args.attributes.now in
-    fits_by C ds es c.args.regions true true true true false _ (sym c.all_supported.ensures ∙ c.if-not-all_supported.false) (sym c.regions_fit.ensures ∙ c.if-not-regions_fit.false)
-    (named_by es ds None (sym c.missing_key.ensures ∙ ap option_copied c.in-None.is)) (sym c.symbol_fits.ensures ∙ c.if-not-symbol_fits.false)
-    (covers_by C ds es (Some c.in-Some-unwritten_key.key.now) (sym c.unwritten_key.ensures ∙ ap option_copied c.in-Some-unwritten_key.is)) refl
+pub returns-then-not-regions_fit : goal.returns-then-not-regions_fit
+returns-then-not-regions_fit g c =
+    let tests = other_count g.A.AttrText.outlined (directives_of c.args.directives.now) (entries_of c.args.attributes.now) c.args.regions
+    (sym c.all_supported.ensures ∙ c.if-not-all_supported.false) (sym c.regions_fit.ensures ∙ c.if-not-regions_fit.true) in
+    record { fits = tests.fits; fault = tests.first }
 
-pub returns-in-Some-outlined_key-clause-fits : goal.returns-in-Some-outlined_key-clause-fits
-returns-in-Some-outlined_key-clause-fits g c =
-    let C = outlining g.A.AttrText.outlined in
-    let ds = directives_of c.args.directives.now in
-    let es = entries_of c.args.attributes.now in
-    fits_by C ds es c.args.regions true true true true true false (sym c.all_supported.ensures ∙ c.if-not-all_supported.false) (sym c.regions_fit.ensures ∙ c.if-not-regions_fit.false)
-    (named_by es ds None (sym c.missing_key.ensures ∙ ap option_copied c.in-None.is)) (sym c.symbol_fits.ensures ∙ c.if-not-symbol_fits.false)
-    (covers_by C ds es None (sym c.unwritten_key.ensures ∙ ap option_copied c.in-None-unwritten_key.is)) (inline_by C ds es (Some c.in-Some-outlined_key.key.now) (sym c.outlined_key.ensures ∙ ap option_copied c.in-Some-outlined_key.is))
+pub returns-in-Some : goal.returns-in-Some
+returns-in-Some g c =
+    let tests = missing g.A.AttrText.outlined (directives_of c.args.directives.now) (entries_of c.args.attributes.now) c.args.regions
+    (sym c.all_supported.ensures ∙ c.if-not-all_supported.false) (sym c.regions_fit.ensures ∙ c.if-not-regions_fit.false) c.in-Some.key
+    (sym c.missing_key.ensures ∙ ap option_copied c.in-Some.is) in
+    record { fits = tests.fits; fault = tests.first }
 
-pub returns-in-None-outlined_key-clause-fits : goal.returns-in-None-outlined_key-clause-fits
-returns-in-None-outlined_key-clause-fits g c =
-    let C = outlining g.A.AttrText.outlined in
-    let ds = directives_of c.args.directives.now in
-    let es = entries_of c.args.attributes.now in
-    fits_by C ds es c.args.regions true true true true true true (sym c.all_supported.ensures ∙ c.if-not-all_supported.false) (sym c.regions_fit.ensures ∙ c.if-not-regions_fit.false)
-    (named_by es ds None (sym c.missing_key.ensures ∙ ap option_copied c.in-None.is)) (sym c.symbol_fits.ensures ∙ c.if-not-symbol_fits.false)
-    (covers_by C ds es None (sym c.unwritten_key.ensures ∙ ap option_copied c.in-None-unwritten_key.is)) (inline_by C ds es None (sym c.outlined_key.ensures ∙ ap option_copied c.in-None-outlined_key.is))
+pub returns-then-not-symbol_fits : goal.returns-then-not-symbol_fits
+returns-then-not-symbol_fits g c =
+    let tests = no_symbol g.A.AttrText.outlined (directives_of c.args.directives.now) (entries_of c.args.attributes.now) c.args.regions
+    (sym c.all_supported.ensures ∙ c.if-not-all_supported.false) (sym c.regions_fit.ensures ∙ c.if-not-regions_fit.false) (sym c.missing_key.ensures ∙ ap option_copied c.in-None.is)
+    (sym c.symbol_fits.ensures ∙ c.if-not-symbol_fits.true) in
+    record { fits = tests.fits; fault = tests.first }
+
+pub returns-in-Some-unwritten_key : goal.returns-in-Some-unwritten_key
+returns-in-Some-unwritten_key g c =
+    let tests = unwritten g.A.AttrText.outlined (directives_of c.args.directives.now) (entries_of c.args.attributes.now) c.args.regions
+    (sym c.all_supported.ensures ∙ c.if-not-all_supported.false) (sym c.regions_fit.ensures ∙ c.if-not-regions_fit.false) (sym c.missing_key.ensures ∙ ap option_copied c.in-None.is)
+    (sym c.symbol_fits.ensures ∙ c.if-not-symbol_fits.false) c.in-Some-unwritten_key.key (sym c.unwritten_key.ensures ∙ ap option_copied c.in-Some-unwritten_key.is) in
+    record { fits = tests.fits; fault = tests.first }
+
+pub returns-in-Some-outlined_key : goal.returns-in-Some-outlined_key
+returns-in-Some-outlined_key g c =
+    let tests = outlined_one g.A.AttrText.outlined (directives_of c.args.directives.now) (entries_of c.args.attributes.now) c.args.regions
+    (sym c.all_supported.ensures ∙ c.if-not-all_supported.false) (sym c.regions_fit.ensures ∙ c.if-not-regions_fit.false) (sym c.missing_key.ensures ∙ ap option_copied c.in-None.is)
+    (sym c.symbol_fits.ensures ∙ c.if-not-symbol_fits.false) (sym c.unwritten_key.ensures ∙ ap option_copied c.in-None-unwritten_key.is) c.in-Some-outlined_key.key (sym c.outlined_key.ensures ∙ ap option_copied c.in-Some-outlined_key.is) in
+    record { fits = tests.fits; fault = tests.first }
+
+pub returns-in-None-outlined_key : goal.returns-in-None-outlined_key
+returns-in-None-outlined_key g c =
+    let tests = nothing g.A.AttrText.outlined (directives_of c.args.directives.now) (entries_of c.args.attributes.now) c.args.regions
+    (sym c.all_supported.ensures ∙ c.if-not-all_supported.false) (sym c.regions_fit.ensures ∙ c.if-not-regions_fit.false) (sym c.missing_key.ensures ∙ ap option_copied c.in-None.is)
+    (sym c.symbol_fits.ensures ∙ c.if-not-symbol_fits.false) (sym c.unwritten_key.ensures ∙ ap option_copied c.in-None-unwritten_key.is) (sym c.outlined_key.ensures ∙ ap option_copied c.in-None-outlined_key.is) in
+    record { fits = tests.fits; fault = tests.first }

@@ -4,4 +4,4 @@ use Rattle.irtext_print.proofs.ir.print.concrete.OpObjPrintable.fmt.Goals as goa
 
 pub returns-clause-text : goal.returns-clause-text
 returns-clause-text g c =
-    concrete_writes (language_in g.T.IrText g.A.IrText c.args.ctx.now) (printing_in {T = g.row.T.Denot} g.A.AttrText g.A.PartialEq.eq c.args.ctx.now) c.args.ctx.now c.args.self.now.op c.args.state.now c.fmt_concrete.new.state _ _ c.in_ok-fmt_concrete.ensures.prints
+    concrete_writes (language_in g.T.IrText g.A.IrText c.args.ctx.now) (printing_in {T = g.row.T.Denot} g.A.AttrText g.A.PartialEq.eq c.args.ctx.now) c.args.ctx.now c.args.self.now.op c.args.state.now c.print_concrete.new.state _ _ c.in_ok-print_concrete.ensures.prints

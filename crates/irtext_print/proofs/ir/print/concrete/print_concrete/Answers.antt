@@ -5,7 +5,7 @@ use Rattle.irtext_print.specs.Printers.PrintedOperation.{language_in, printing_i
 use Rattle.irtext_print.proofs.Printers.Appended.{then}
 use Rattle.irtext_print.proofs.Printers.RootParts.{there}
 use Rattle.irtext_print.proofs.Printers.OperationTexts.{given_of, given_printed, printed_in, concrete_appended}
-use Rattle.irtext_print.proofs.ir.print.concrete.fmt_concrete.Goals as goal
+use Rattle.irtext_print.proofs.ir.print.concrete.print_concrete.Goals as goal
 
 pub returns-then-is_err-clause-refused : goal.returns-then-is_err-clause-refused
 returns-then-is_err-clause-refused g c =
