@@ -22,3 +22,4 @@ pub mod Honest
 pub mod ListsAsOutcomes
 pub mod ListReads
 pub mod QuotedText
+pub mod Decimals

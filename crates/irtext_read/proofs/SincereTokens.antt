@@ -1,8 +1,8 @@
 -- What the readers of tokens say of a text is of that text.
-use Rattle.std.proofs.Common.{◌≡◌, ℕ, Bool, true, false, cond, Option, Some, None, [], ◌∷◌, ◌++◌, refl, sym, ◌∙◌, ap, append_assoc, subst}
+use Rattle.std.proofs.Common.{◌≡◌, ℕ, zero, suc, List, length, Bool, true, false, cond, Option, Some, None, [], ◌∷◌, ◌++◌, refl, sym, ◌∙◌, ap, append_assoc, subst}
 use Rattle.std.proofs.lemmas.Bool.{eqb-true}
 use Rattle.std.specs.Prelude.{◌==◌, codes}
-use Rattle.std.specs.Char.{is_ascii_digit, is_ascii_hexdigit}
+use Rattle.std.specs.Char.{is_ascii_digit, is_ascii_hexdigit, is_whitespace}
 use Rattle.std.specs.Str.Parse.{digits_value}
 use lib.Utf8.{scalar}
 use Rattle.irtext_base.specs.Text.{Text, begins, front, after}
@@ -11,7 +11,9 @@ use Rattle.irtext_base.specs.Faults.{Unexpected, Word}
 use Rattle.irtext_base.specs.Answers.{Outcome, Read, Missing, Bad, prefixed, mapped}
 use Rattle.irtext_base.proofs.Along.{front_after}
 use Rattle.irtext_base.proofs.Sincere.{Of, of_read, of_missing, of_bad, of_here, of_either, of_prefixed, of_followed, of_mapped}
-use Rattle.irtext_read.specs.Tokens.{is_sign, sign_of, after_sign, spelled_at, text_at}
+use Rattle.irtext_read.specs.Tokens.{is_sign, sign_of, after_sign, spelled_at, text_at, space_at}
+use Rattle.irtext_read.specs.Demanded.{spaced_at}
+use Rattle.irtext_read.specs.ListOutcomes.{item_after, items_after, or_empty, separated_at}
 use Rattle.irtext_read.specs.Integers.{sign_at, numeral_at, ranged, signed_integer, no_digit_behind, int_at}
 use Rattle.irtext_read.specs.QuotedTexts.{escape_of, escaped, named, closed, braced, unicode_at, escape_at, unit_at, behind_first, unit_before, units_at, quoted_at}
 use Rattle.irtext_read.proofs.QuotedUnits.{Begun, unit_begun}
@@ -119,3 +121,30 @@ of_units (d ∷ left) (c ∷ text) rest e = of_units left text rest (tail_of d c
 pub of_quoted : (text : Text) → Of text (quoted_at text)
 unfolding quoted_at
 of_quoted text = of_followed text (text_at (codes "\"") text) (λ mark t. units_at [] t) (of_text (codes "\"") text) (λ mark t. of_units [] t t refl)
+
+-- ---- white space, and what stands beside it
+pub of_space : (text : Text) → Of text (space_at text)
+of_space text = of_read text tt (front is_whitespace text) (after is_whitespace text) (front_after is_whitespace text)
+
+pub of_spaced : (w text : Text) → Of text (spaced_at w text)
+of_spaced w text = of_followed text _ _ (of_space text) (λ _ t. of_followed t _ _ (of_text w t) (λ _ u. of_space u))
+
+-- ---- lists
+of_or_empty : {X : Type 0} (text : Text) (o : Outcome (List X)) → Of text o → Of text (or_empty o text)
+of_or_empty text (Read xs taken rest) h = h
+of_or_empty text (Missing cause) h = of_read text [] [] text refl
+of_or_empty text (Bad cause upto) h = h
+
+module _ {X : Type 0} (separator : ℕ) (item : Text → Outcome X) (of_item : (text : Text) → Of text (item text)) where
+  of_item_after : (found : List X) (text : Text) → Of text (item_after separator item found text)
+  of_item_after found text = of_followed text (item text) (λ x t. mapped (λ _. found ++ (x ∷ [])) (space_at t)) (of_item text) (λ x t. of_mapped t (λ _. found ++ (x ∷ [])) (space_at t) (of_space t))
+
+  of_items_after : (n : ℕ) (found : List X) (text : Text) → Of text (items_after separator item n found text)
+  of_items_after zero found text = of_read text found [] text refl
+  of_items_after (suc n) found text = of_either text (begins (the separator) text) _ _
+      (of_followed text _ _ (of_text (separator ∷ []) text) (λ _ t. of_followed t _ _ (of_space t) (λ _ u. of_followed u _ _ (of_item_after found u) (λ more v. of_items_after n more v))))
+      (of_read text found [] text refl)
+
+  -- of items, as long as each is of its text
+  pub of_separated : (text : Text) → Of text (separated_at separator item text)
+  of_separated text = of_or_empty text _ (of_followed text _ _ (of_item_after [] text) (λ found t. of_items_after (length t) found t))

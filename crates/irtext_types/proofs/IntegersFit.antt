@@ -6,7 +6,7 @@ use Rattle.std.specs.Int.{w64}
 use Rattle.std.specs.Char.{is_ascii_digit}
 use Rattle.irtext_base.specs.Text.{Text}
 use Rattle.irtext_base.specs.Stream.{StreamView}
-use Rattle.irtext_base.specs.Answers.{Outcome, Read, Missing, Bad, Gives, prefixed, unless_failed}
+use Rattle.irtext_base.specs.Answers.{Outcome, Read, Missing, Bad, Gives, demanded, unless_failed}
 use Rattle.irtext_read.specs.Integers.{int_at, signed_below, integer_by, signed_integer, numeral_at, ranged, sign_at}
 
 below_more : (n : ℕ) → nat_lt (suc n) (2 ^ 63 + 1) ≡ true → n < 2 ^ 63
@@ -40,12 +40,12 @@ int_fits : (text : Text) (z : ℤ) (more left : Text) → int_at (signed_below 6
 unfolding int_at
 int_fits text z more left e = numeral_fits (sign_at text) z more left e
 
-given_by : (taken : Text) (o : Outcome ℤ) (old new : StreamView) (z : ℤ) → ((x : ℤ) (more left : Text) → o ≡ Read x more left → FitsSigned w64 x) → Gives (λ s. s) (λ s v. v) (prefixed taken o) old z new → FitsSigned w64 z
-given_by taken (Read x more rest) old new z h k = subst (FitsSigned w64) (sym k.0) (h x more rest refl)
-given_by taken (Missing cause) old new z h k = absurd k
-given_by taken (Bad cause upto) old new z h k = absurd k
+given_by : (o : Outcome ℤ) (old new : StreamView) (z : ℤ) → ((x : ℤ) (more left : Text) → o ≡ Read x more left → FitsSigned w64 x) → Gives (λ s. s) (λ s v. v) (demanded o) old z new → FitsSigned w64 z
+given_by (Read x more rest) old new z h k = subst (FitsSigned w64) (sym k.0) (h x more rest refl)
+given_by (Missing cause) old new z h k = absurd k
+given_by (Bad cause upto) old new z h k = absurd k
 
--- an integer that was read behind characters taken fits
-pub given_fits : (b : Bool) (taken text : Text) (old new : StreamView) (z : ℤ) → Gives (λ s. s) (λ s v. v) (unless_failed b (prefixed taken (int_at (signed_below 64) text))) old z new → FitsSigned w64 z
-given_fits true taken text old new z k = absurd k
-given_fits false taken text old new z k = given_by taken (int_at (signed_below 64) text) old new z (int_fits text) k
+-- an integer that was read fits
+pub given_fits : (b : Bool) (text : Text) (old new : StreamView) (z : ℤ) → Gives (λ s. s) (λ s v. v) (demanded (unless_failed b (int_at (signed_below 64) text))) old z new → FitsSigned w64 z
+given_fits true text old new z k = absurd k
+given_fits false text old new z k = given_by (int_at (signed_below 64) text) old new z (int_fits text) k

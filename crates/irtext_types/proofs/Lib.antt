@@ -1,4 +1,3 @@
-pub mod Steps
 pub mod IntegersFit
 pub mod Quoted
-pub mod ListSteps
+pub mod ItemRules

@@ -8,8 +8,9 @@ use Rattle.irtext_base.specs.Quoted.{quoted}
 use Rattle.irtext_base.proofs.Scalars.{AreScalars, scalars_more, scalars_ascii, scalars_quoted}
 use Rattle.irtext_types.specs.FunctionAttributes.{function_text}
 use Rattle.irtext_types.specs.IntegerAttributes.{integer_attr_text}
+use Rattle.irtext_read.specs.Infix.{◌▷◌}
+use Rattle.irtext_read.specs.Tokens.{space_at}
 use Rattle.irtext_read.proofs.QuotedBack.{quoted_back}
-use Rattle.irtext_types.specs.Words.{behind_space}
 use Rattle.irtext_types.specs.Attributes.{attr_text, characters_at, attr_behind, attr_at}
 use Rattle.irtext_types.specs.ScalarTexts.{ScalarText, scalar_text, scalar_text_found}
 use Rattle.irtext_types.specs.FunctionTexts.{ascii-function}
@@ -30,7 +31,7 @@ attributes_miss : (text : Text) → begins begins_word text ≡ false → standi
 attributes_miss text e = dotted_missed attr_behind (begins begins_word text) _ _ e
 
 -- a quoted text is read back behind a space
-quoted-behind : (s : ScalarText) (rest : Text) → behind_space characters_at (32 ∷ (quoted s.characters ++ rest)) ≡ Read s (32 ∷ quoted s.characters) rest
+quoted-behind : (s : ScalarText) (rest : Text) → (space_at ▷ characters_at) (32 ∷ (quoted s.characters ++ rest)) ≡ Read s (32 ∷ quoted s.characters) rest
 quoted-behind s rest =
     behind_one characters_at (quoted s.characters ++ rest) refl ∙ (ap (λ o. prefixed (32 ∷ []) (mapped scalar_text o)) (quoted_back s.characters rest)
     ∙ ap (λ t. let o : Outcome ScalarText = Read t (32 ∷ quoted s.characters) rest in o) (scalar_text_found s))

@@ -6,9 +6,10 @@ use Rattle.irtext_base.specs.Faults.{AnAttribute}
 use Rattle.irtext_base.specs.Quoted.{quoted}
 use Rattle.irtext_base.specs.Answers.{Outcome}
 use Rattle.irtext_read.specs.QuotedTexts.{quoted_at}
-use Rattle.irtext_read.specs.Infix.{◌▶◌, ◌⇒◌}
+use Rattle.irtext_read.specs.Tokens.{space_at}
+use Rattle.irtext_read.specs.Infix.{◌▷◌, ◌▶◌, ◌⇒◌}
 use Rattle.irtext_types.specs.ScalarTexts.{ScalarText, scalar_text}
-use Rattle.irtext_types.specs.Words.{dotted_at, behind_space}
+use Rattle.irtext_types.specs.Words.{dotted_at}
 use Rattle.irtext_types.specs.FunctionAttributes.{function_text, function_at}
 use Rattle.irtext_types.specs.IntegerAttributes.{integer_attr_text, integer_attr_at}
 use Rattle.irtext_types.specs.declared.attributes.AttrWord.{AttrWord}
@@ -35,9 +36,9 @@ characters_at = quoted_at ⇒ scalar_text
 -- what stands behind the word of an attribute
 abbrev pub attr_behind : AttrWord → Text → Outcome DemoAttr
 attr_behind word.Integer = integer_attr_at ⇒ attr.Integer
-attr_behind word.String = behind_space characters_at ⇒ attr.String
+attr_behind word.String = (space_at ▷ characters_at) ⇒ attr.String
 attr_behind word.Function = function_at ⇒ attr.Function
-attr_behind word.Debug = behind_space characters_at ⇒ attr.Debug
+attr_behind word.Debug = (space_at ▷ characters_at) ⇒ attr.Debug
 
 -- an attribute's word, and what stands behind it
 abbrev pub attr_at : Text → Outcome DemoAttr

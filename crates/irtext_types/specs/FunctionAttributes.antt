@@ -1,10 +1,9 @@
 -- For callers: the texts of the types of functions.
 use Rattle.std.specs.Prelude.{List, ◌++◌, codes}
 use Rattle.irtext_base.specs.Text.{Text}
-use Rattle.irtext_base.specs.Answers.{Outcome}
-use Rattle.irtext_read.specs.Tokens.{word}
-use Rattle.irtext_read.specs.Infix.{◌▷◌, ◌▶◌, ◌⇒◌}
-use Rattle.irtext_types.specs.Words.{behind_space}
+use Rattle.irtext_read.specs.Tokens.{space_at, word}
+use Rattle.irtext_read.specs.Demanded.{spaced_at}
+use Rattle.irtext_read.specs.Infix.{Reader, ◌▷◌, ◌▶◌, ◌⇒◌}
 use Rattle.irtext_types.specs.TypeLists.{types_text, types_at}
 use Rattle.irtext_types.specs.declared.types.DemoType.{DemoType}
 use Rattle.irtext_types.specs.declared.attributes.function.FunctionAttr.{FunctionAttr}
@@ -17,22 +16,22 @@ function_text a = codes "<" ++ (types_text a.inputs ++ (codes "->" ++ (types_tex
 abbrev pub function_with : List DemoType → List DemoType → FunctionAttr
 function_with inputs results = record { inputs = inputs; results = results }
 
+-- what a function gives
+abbrev pub results_at : List DemoType → Reader FunctionAttr
+results_at inputs = types_at ⇒ function_with inputs
+
+-- `->`, and what a function gives
+abbrev pub arrow_at : List DemoType → Reader FunctionAttr
+arrow_at inputs = spaced_at (codes "->") ▷ results_at inputs
+
+-- what a function takes, `->`, and what it gives
+abbrev pub signature_at : Reader FunctionAttr
+signature_at = types_at ▶ arrow_at
+
 -- `>` behind what a function takes and gives
-abbrev pub end_at : List DemoType → List DemoType → Text → Outcome FunctionAttr
-end_at inputs results = behind_space (word (codes ">")) ⇒ λ _. function_with inputs results
+abbrev pub end_at : FunctionAttr → Reader FunctionAttr
+end_at a = space_at ▷ word (codes ">") ⇒ λ _. a
 
--- what a function gives, and `>`
-abbrev pub results_at : List DemoType → Text → Outcome FunctionAttr
-results_at inputs = types_at ▶ end_at inputs
-
--- `->`, what a function gives, and `>`
-abbrev pub arrow_at : List DemoType → Text → Outcome FunctionAttr
-arrow_at inputs = behind_space (word (codes "->")) ▷ results_at inputs
-
--- what a function takes, `->`, what it gives, and `>`
-abbrev pub inputs_at : Text → Outcome FunctionAttr
-inputs_at = types_at ▶ arrow_at
-
--- `<`, what a function takes, `->`, what it gives, and `>`
-abbrev pub function_at : Text → Outcome FunctionAttr
-function_at = behind_space (word (codes "<")) ▷ inputs_at
+-- `<`, what a function takes, `->`, what it gives, and `>`, with white space in front of each
+abbrev pub function_at : Reader FunctionAttr
+function_at = spaced_at (codes "<") ▷ signature_at ▶ end_at

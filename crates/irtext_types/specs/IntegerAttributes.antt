@@ -2,11 +2,10 @@
 use Rattle.std.specs.Prelude.{◌≡◌, ℤ, pos, Bool, true, false, ◌++◌, codes, refl}
 use Rattle.std.specs.Fmt.{signed_decimal}
 use Rattle.irtext_base.specs.Text.{Text}
-use Rattle.irtext_base.specs.Answers.{Outcome}
 use Rattle.irtext_read.specs.Integers.{int_at, signed_below}
-use Rattle.irtext_read.specs.Tokens.{word}
-use Rattle.irtext_read.specs.Infix.{◌▷◌, ◌▶◌, ◌⇒◌}
-use Rattle.irtext_types.specs.Words.{behind_space}
+use Rattle.irtext_read.specs.Tokens.{space_at, word}
+use Rattle.irtext_read.specs.Demanded.{spaced_at}
+use Rattle.irtext_read.specs.Infix.{Reader, ◌▷◌, ◌▶◌, ◌⇒◌}
 use Rattle.irtext_types.specs.Integers64.{is_i64}
 use Rattle.irtext_types.specs.IntegerTypes.{integer_type_text, integer_type_at}
 use Rattle.irtext_types.specs.declared.integer_type.IntegerType.{IntegerType}
@@ -26,21 +25,21 @@ abbrev pub integer_attr_text : IntegerAttr → Text
 integer_attr_text a = codes "<" ++ (signed_decimal a.value ++ (codes ": " ++ (integer_type_text a.ty ++ codes ">")))
 
 -- `>` behind the attribute's text
-abbrev pub close_at : IntegerAttr → Text → Outcome IntegerAttr
-close_at a = behind_space (word (codes ">")) ⇒ λ _. a
+abbrev pub close_at : IntegerAttr → Reader IntegerAttr
+close_at a = space_at ▷ word (codes ">") ⇒ λ _. a
 
 -- the type of an integer, and `>`
-abbrev pub type_at : ℤ → Text → Outcome IntegerAttr
-type_at z = behind_space integer_type_at ▶ λ t. close_at (integer_attr_of z t)
+abbrev pub type_at : ℤ → Reader IntegerAttr
+type_at z = integer_type_at ▶ λ t. close_at (integer_attr_of z t)
 
 -- `:`, the type of an integer, and `>`
-abbrev pub colon_at : ℤ → Text → Outcome IntegerAttr
-colon_at z = behind_space (word (codes ":")) ▷ type_at z
+abbrev pub colon_at : ℤ → Reader IntegerAttr
+colon_at z = spaced_at (codes ":") ▷ type_at z
 
 -- an integer, `:`, its type, and `>`
-abbrev pub value_at : Text → Outcome IntegerAttr
-value_at = behind_space (int_at (signed_below 64)) ▶ colon_at
+abbrev pub value_at : Reader IntegerAttr
+value_at = int_at (signed_below 64) ▶ colon_at
 
 -- `<`, an integer, `:`, its type, and `>`, with white space in front of each
-abbrev pub integer_attr_at : Text → Outcome IntegerAttr
-integer_attr_at = behind_space (word (codes "<")) ▷ value_at
+abbrev pub integer_attr_at : Reader IntegerAttr
+integer_attr_at = spaced_at (codes "<") ▷ value_at

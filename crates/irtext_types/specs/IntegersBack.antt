@@ -10,15 +10,16 @@ use Rattle.std.specs.Str.Parse.{digits_value}
 use Rattle.irtext_base.specs.Text.{Text, begins}
 use Rattle.irtext_base.specs.Reading.{the}
 use Rattle.irtext_base.specs.Answers.{Outcome, Read, prefixed, followed}
-use Rattle.irtext_base.proofs.Characters.{and_left, front_all, after_all, word_no_space}
-use Rattle.irtext_base.proofs.Numbers.{digits_every, digit_in_word}
-use Rattle.irtext_read.specs.Tokens.{is_sign, sign_of, after_sign, text_at}
+use Rattle.irtext_base.proofs.Characters.{and_left, front_all, after_all}
+use Rattle.irtext_base.proofs.Numbers.{digits_every}
+use Rattle.irtext_read.specs.Tokens.{sign_of, after_sign}
+use Rattle.irtext_read.proofs.Decimals.{plain}
+use Rattle.irtext_read.specs.Demanded.{spaced_at}
 use Rattle.irtext_read.specs.Integers.{int_at, signed_below, sign_at, no_digit_behind, signed_integer, numeral_at, ranged, integer_by}
-use Rattle.irtext_types.specs.Words.{behind_space}
 use Rattle.irtext_types.specs.Integers64.{is_i64}
 use Rattle.irtext_types.specs.IntegerTypes.{integer_type_text, integer_type_at}
 use Rattle.irtext_types.specs.IntegerAttributes.{integer_attr_by, integer_attr_of, integer_attr_text, close_at, type_at, colon_at, value_at, integer_attr_at}
-use Rattle.irtext_types.specs.TypesBack.{behind_one, integer_type-here, no_space}
+use Rattle.irtext_types.specs.TypesBack.{none-passed, one-passed, integer_type-here, no_space}
 use Rattle.irtext_types.specs.declared.integer_type.IntegerType.{IntegerType}
 use Rattle.irtext_types.specs.declared.attributes.integer.IntegerAttr.{IntegerAttr}
 
@@ -45,25 +46,6 @@ digits-int sign (c ∷ ds) rest n z s b some all v small is stop =
     ∙ (ap (λ m. ranged (sign ++ (c ∷ ds)) rest (cond (nat_lt m (signed_below 64 (begins (the 45) sign))) (Some (integer_by (begins (the 45) sign) m)) None)) v
     ∙ (ap (λ q. ranged (sign ++ (c ∷ ds)) rest (cond q (Some (integer_by (begins (the 45) sign) n)) None)) small ∙ ap (λ y. ranged (sign ++ (c ∷ ds)) rest (Some y)) is)))
 
-no_sign : (c : ℕ) → is_ascii_digit c ≡ true → is_sign c ≡ false
-no_sign c e = grind (arith, nat_tests)
-
--- a text that begins with a digit begins with no sign, and no white space
-record Plain (text : Text) : Type 0 where
-  sign : sign_of text ≡ []
-  behind : after_sign text ≡ text
-  space : begins is_whitespace text ≡ false
-
-plain : (s rest : Text) → 0 < length s → list_all is_ascii_digit s ≡ true → Plain (s ++ rest)
-plain [] rest some all = absurd (omega (arith, some))
-plain (c ∷ s) rest some all =
-    let digit = and_left (is_ascii_digit c) (list_all is_ascii_digit s) all in
-    record {
-      sign = ap (λ b. cond b (c ∷ []) []) (no_sign c digit);
-      behind = ap (λ b. cond b (s ++ rest) (c ∷ (s ++ rest))) (no_sign c digit);
-      space = word_no_space c (digit_in_word c digit);
-    }
-
 below_64 : (n : ℕ) → nat_lt n (2 ^ 63) ≡ true → n < 2 ^ 63
 below_64 n e = grind (arith, nat_tests)
 
@@ -87,10 +69,6 @@ int_no_space : (z : ℤ) (rest : Text) → is_i64 z ≡ true → begins is_white
 int_no_space (pos n) rest fits = let k = decimal_is_IsNumeral n (omega (arith, below_64 n fits)) in (plain (decimal n) rest k.0.0 (digits_every (decimal n) k.0.1)).space
 int_no_space (negsuc n) rest fits = refl
 
--- what begins with no white space is read behind none
-pub behind_none : {X : Type 0} (item : Text → Outcome X) (t taken rest : Text) (x : X) → begins is_whitespace t ≡ false → item t ≡ Read x taken rest → behind_space item t ≡ Read x taken rest
-behind_none item t taken rest x e q = ap₂ (λ f a. prefixed f (item a)) (front_all is_whitespace [] t refl e) (after_all is_whitespace [] t refl e) ∙ ap (prefixed []) q
-
 -- a text reads as the value and leaves the rest
 abbrev pub Reads : {X : Type 0} → Outcome X → X → Text → Type 0
 Reads o x rest = (taken : Text) × (o ≡ Read x taken rest)
@@ -102,17 +80,17 @@ and_then o next x y taken t rest e (more, q) = (taken ++ more, ap (λ z. followe
 close-here : (a : IntegerAttr) (rest : Text) → Reads (close_at a (62 ∷ rest)) a rest
 close-here a rest = (62 ∷ [], refl)
 
-type-here : (z : ℤ) (t : IntegerType) (rest : Text) → Reads (type_at z (32 ∷ (integer_type_text t ++ (62 ∷ rest)))) (integer_attr_of z t) rest
+type-here : (z : ℤ) (t : IntegerType) (rest : Text) → Reads (type_at z (integer_type_text t ++ (62 ∷ rest))) (integer_attr_of z t) rest
 type-here z t rest =
-    and_then (behind_space integer_type_at (32 ∷ (integer_type_text t ++ (62 ∷ rest)))) (λ t text. close_at (integer_attr_of z t) text) t (integer_attr_of z t) (32 ∷ integer_type_text t) (62 ∷ rest) rest
-    (behind_one integer_type_at (integer_type_text t ++ (62 ∷ rest)) (no_space t (62 ∷ rest)) ∙ ap (prefixed (32 ∷ [])) (integer_type-here t (62 ∷ rest) refl)) (close-here (integer_attr_of z t) rest)
+    and_then (integer_type_at (integer_type_text t ++ (62 ∷ rest))) (λ t text. close_at (integer_attr_of z t) text) t (integer_attr_of z t) (integer_type_text t) (62 ∷ rest) rest (integer_type-here t (62 ∷ rest) refl) (close-here (integer_attr_of z t) rest)
 
 value-here : (z : ℤ) (t : IntegerType) (rest : Text) → is_i64 z ≡ true → Reads (value_at (signed_decimal z ++ (58 ∷ 32 ∷ (integer_type_text t ++ (62 ∷ rest))))) (integer_attr_of z t) rest
 value-here z t rest fits =
-    let behind = 58 ∷ 32 ∷ (integer_type_text t ++ (62 ∷ rest)) in
-    and_then (behind_space (int_at (signed_below 64)) (signed_decimal z ++ behind)) (λ z text. colon_at z text) z (integer_attr_of z t) (signed_decimal z) behind rest
-    (behind_none (int_at (signed_below 64)) (signed_decimal z ++ behind) (signed_decimal z) behind z (int_no_space z behind fits) (int-here z behind fits refl))
-    (and_then (behind_space (text_at (codes ":")) behind) (λ u text. type_at z text) tt (integer_attr_of z t) (58 ∷ []) (32 ∷ (integer_type_text t ++ (62 ∷ rest))) rest refl (type-here z t rest))
+    let ty = integer_type_text t ++ (62 ∷ rest) in
+    let behind = 58 ∷ 32 ∷ ty in
+    let colon = ap (λ o. prefixed [] (prefixed (58 ∷ []) o)) (one-passed ty (no_space t (62 ∷ rest))) in
+    and_then (int_at (signed_below 64) (signed_decimal z ++ behind)) (λ z text. colon_at z text) z (integer_attr_of z t) (signed_decimal z) behind rest (int-here z behind fits refl)
+    (and_then (spaced_at (codes ":") behind) (λ u text. type_at z text) tt (integer_attr_of z t) (58 ∷ 32 ∷ []) ty rest colon (type-here z t rest))
 
 -- the parts of the text, one behind the other
 flat : (z : ℤ) (t : IntegerType) (rest : Text) → (signed_decimal z ++ (codes ": " ++ (integer_type_text t ++ codes ">"))) ++ rest ≡ signed_decimal z ++ (58 ∷ 32 ∷ (integer_type_text t ++ (62 ∷ rest)))
@@ -122,5 +100,6 @@ flat z t rest = append_assoc (signed_decimal z) (codes ": " ++ (integer_type_tex
 pub integer_attr-here : (a : IntegerAttr) (rest : Text) → Reads (integer_attr_at (32 ∷ (integer_attr_text a ++ rest))) a rest
 integer_attr-here a rest =
     let t = signed_decimal a.value ++ (58 ∷ 32 ∷ (integer_type_text a.ty ++ (62 ∷ rest))) in
-    let r = and_then (behind_space (text_at (codes "<")) (32 ∷ 60 ∷ t)) (λ u text. value_at text) tt (integer_attr_of a.value a.ty) (32 ∷ 60 ∷ []) t rest refl (value-here a.value a.ty rest a.in_range) in
+    let opens = ap (λ o. prefixed (32 ∷ []) (prefixed (60 ∷ []) o)) (none-passed t (int_no_space a.value (58 ∷ 32 ∷ (integer_type_text a.ty ++ (62 ∷ rest))) a.in_range)) in
+    let r = and_then (spaced_at (codes "<") (32 ∷ 60 ∷ t)) (λ u text. value_at text) tt (integer_attr_of a.value a.ty) (32 ∷ 60 ∷ []) t rest opens (value-here a.value a.ty rest a.in_range) in
     (r.0, ap (λ u. integer_attr_at (32 ∷ 60 ∷ u)) (flat a.value a.ty rest) ∙ (r.1 ∙ ap (λ x. let o : Outcome IntegerAttr = Read x r.0 rest in o) (attr_found a)))

@@ -4,8 +4,9 @@ use Rattle.std.specs.Str.{bytes_eq}
 use Rattle.irtext_base.specs.Text.{Text}
 use Rattle.irtext_base.specs.Faults.{AType}
 use Rattle.irtext_base.specs.Answers.{Outcome}
-use Rattle.irtext_read.specs.Infix.{nothing, ◌▶◌, ◌⇒◌}
-use Rattle.irtext_types.specs.Words.{dotted_at, behind_space}
+use Rattle.irtext_read.specs.Tokens.{space_at}
+use Rattle.irtext_read.specs.Infix.{nothing, ◌▷◌, ◌▶◌, ◌⇒◌}
+use Rattle.irtext_types.specs.Words.{dotted_at}
 use Rattle.irtext_types.specs.IntegerTypes.{integer_type_text, integer_type_at}
 use Rattle.irtext_types.specs.declared.types.TypeWord.{TypeWord}
 use Rattle.irtext_types.specs.declared.types.TypeWord.TheVariants as word
@@ -23,7 +24,7 @@ type_text Pointer = codes "test.ptr "
 
 -- what stands behind the word of a type
 abbrev pub type_behind : TypeWord → Text → Outcome DemoType
-type_behind word.Integer = behind_space integer_type_at ⇒ Integer
+type_behind word.Integer = space_at ▷ integer_type_at ⇒ Integer
 type_behind word.Pointer = nothing Pointer
 
 -- a type's word, and what stands behind it

@@ -12,9 +12,10 @@ use Rattle.irtext_base.specs.Answers.{Outcome, Read, Missing, prefixed, mapped, 
 use Rattle.irtext_base.specs.Own.{found, missing, standing, Ends, can_follow}
 use Rattle.irtext_base.proofs.Characters.{and_left, front_all, after_all}
 use Rattle.irtext_base.proofs.Numbers.{digits_every}
-use Rattle.irtext_read.specs.Tokens.{fitting, value_of}
+use Rattle.irtext_read.specs.Infix.{◌▷◌, ◌⇒◌}
+use Rattle.irtext_read.specs.Tokens.{fitting, value_of, space_at}
+use Rattle.irtext_read.proofs.Decimals.{fitting-small}
 use Rattle.irtext_read.specs.Integers.{ranged}
-use Rattle.irtext_types.specs.Words.{behind_space}
 use Rattle.irtext_types.specs.IntegerTypes.{signedness_text, integer_type_text, width_if, width_at, integer_type_with, integer_type_at}
 use Rattle.irtext_types.specs.Types.{type_text, type_behind, type_at}
 use Rattle.irtext_types.specs.declared.width.Width.{Width}
@@ -24,10 +25,6 @@ use Rattle.irtext_types.specs.declared.integer_type.IntegerType.{IntegerType}
 use Rattle.irtext_types.specs.declared.types.DemoType.{DemoType}
 use Rattle.irtext_types.specs.declared.types.DemoType.TheVariants.{Integer, Pointer}
 use Rattle.irtext_types.specs.WidthLaws.{width_found, width_small}
-
--- a number below 2 ^ 64 fits
-fitting-small : (n : ℕ) → n < 2 ^ 64 → fitting n ≡ Some n
-fitting-small n small = let e : nat_lt n (2 ^ 64) ≡ true = grind (arith, nat_tests) in rw e refl
 
 digit_not_end : (c : ℕ) → can_follow c ≡ true → is_ascii_digit c ≡ false
 digit_not_end c e = grind (arith, nat_tests)
@@ -76,9 +73,17 @@ no_space t rest = by t.kind
     by Unsigned = refl
     by Signless = refl
 
+-- no white space is passed in front of what begins with none
+pub none-passed : (t : Text) → begins is_whitespace t ≡ false → space_at t ≡ Read tt [] t
+none-passed t e = ap₂ (λ f a. Read tt f a) (front_all is_whitespace [] t refl e) (after_all is_whitespace [] t refl e)
+
+-- one space is
+pub one-passed : (t : Text) → begins is_whitespace t ≡ false → space_at (32 ∷ t) ≡ Read tt (32 ∷ []) t
+one-passed t e = ap₂ (λ f a. Read tt (32 ∷ f) a) (front_all is_whitespace [] t refl e) (after_all is_whitespace [] t refl e)
+
 -- behind one space what begins with no white space is read
-pub behind_one : {X : Type 0} (item : Text → Outcome X) (t : Text) → begins is_whitespace t ≡ false → behind_space item (32 ∷ t) ≡ prefixed (32 ∷ []) (item t)
-behind_one item t e = ap₂ (λ f a. prefixed (32 ∷ f) (item a)) (front_all is_whitespace [] t refl e) (after_all is_whitespace [] t refl e)
+pub behind_one : {X : Type 0} (item : Text → Outcome X) (t : Text) → begins is_whitespace t ≡ false → (space_at ▷ item) (32 ∷ t) ≡ prefixed (32 ∷ []) (item t)
+behind_one item t e = ap (λ o. followed o (λ u t. item t)) (one-passed t e)
 
 pub types_start : (x : DemoType) (rest : Text) → begins begins_word (type_text x ++ rest) ≡ true
 types_start (Integer t) rest = refl
@@ -94,7 +99,7 @@ types_miss text e = dotted_missed type_behind (begins begins_word text) _ _ e
 pub integer-here : (t : IntegerType) (rest : Text) → begins is_ascii_digit rest ≡ false → (taken : Text) × (type_at (codes "builtin.integer " ++ (integer_type_text t ++ rest)) ≡ Read (Integer t) taken rest)
 integer-here t rest stop = (
   codes "builtin.integer " ++ integer_type_text t,
-  ap (λ o. prefixed (codes "builtin.integer") (mapped Integer o)) (behind_one integer_type_at (integer_type_text t ++ rest) (no_space t rest) ∙ ap (prefixed (32 ∷ [])) (integer_type-here t rest stop)),
+  ap (prefixed (codes "builtin.integer")) (behind_one (integer_type_at ⇒ Integer) (integer_type_text t ++ rest) (no_space t rest) ∙ ap (λ o. prefixed (32 ∷ []) (mapped Integer o)) (integer_type-here t rest stop)),
 )
 
 pub types_again : (x : DemoType) (rest : Text) → Ends rest → (left : Text) × (standing (type_at (type_text x ++ rest)) ≡ found x left) × (after_space left ≡ after_space rest)

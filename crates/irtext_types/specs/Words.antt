@@ -1,12 +1,11 @@
 -- For callers: dotted words, which types and attributes begin with.
 use Rattle.std.specs.Prelude.{ℕ, Bool, cond, Option, Some, None, [], ◌++◌}
-use Rattle.std.specs.Char.{is_whitespace}
-use Rattle.irtext_base.specs.Text.{Text, begins, front, after, after_space, begins_word}
+use Rattle.irtext_base.specs.Text.{Text, begins, front, after, begins_word}
 use Rattle.irtext_read.specs.Tokens.{has}
 use Rattle.irtext_stream.specs.declared.class.Class.TheVariants.{Dotted}
 use Rattle.irtext_base.specs.Stream.{first_of}
 use Rattle.irtext_base.specs.Faults.{Demand, Unexpected, OwnText}
-use Rattle.irtext_base.specs.Answers.{Outcome, Read, Missing, Bad, prefixed}
+use Rattle.irtext_base.specs.Answers.{Outcome, Read, Missing, Bad}
 
 -- a letter, a digit, `_` or `.`
 abbrev pub in_dotted : ℕ → Bool
@@ -20,7 +19,3 @@ chosen refusal found rest None = Bad (OwnText (refusal ++ found)) []
 -- a dotted word, as long as it goes, and what it is
 abbrev pub dotted_at : {X : Type 0} → (Text → Option X) → Text → Demand → Text → Outcome X
 dotted_at word refusal demand text = cond (begins begins_word text) (chosen refusal (front in_dotted text) (after in_dotted text) (word (front in_dotted text))) (Missing (Unexpected (first_of text) demand))
-
--- white space, and behind it what must stand there
-abbrev pub behind_space : {X : Type 0} → (Text → Outcome X) → Text → Outcome X
-behind_space item text = prefixed (front is_whitespace text) (item (after_space text))

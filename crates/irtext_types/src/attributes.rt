@@ -3,9 +3,11 @@ ghost use Rattle.std.specs.Prelude.{◌≡◌, ◌++◌, OnOk, codes, string_byt
 ghost use Rattle.std.specs.Str.{encode_utf8_all};
 ghost use Rattle.irtext_base.specs.Answers.{Answers, unless_failed};
 ghost use Rattle.irtext_base.specs.Quoted.{quoted};
+ghost use Rattle.irtext_read.specs.Infix.{◌▷◌};
+ghost use Rattle.irtext_read.specs.MustRead.{MustRead};
+ghost use Rattle.irtext_read.specs.Tokens.{space_at};
 ghost use Rattle.irtext_types.specs.Attributes.{attr_behind, characters_at};
 ghost use Rattle.irtext_types.specs.IntegerAttributes.{integer_attr_text};
-ghost use Rattle.irtext_types.specs.Words.{behind_space};
 
 pub mod function;
 pub mod integer;
@@ -85,7 +87,7 @@ fn characters_parse<A>(stream: &mut TextStream) -> ParseResult<Characters, A>
 
 /// Reads a quoted text behind white space, where it must stand.
 fn characters_behind<A>(stream: &mut TextStream) -> ParseResult<Characters, A>
-    ensures { Answers (λ s. s) (λ s v. v) (λ c. c) (unless_failed stream.old.failed (behind_space characters_at stream.old.rest)) stream.old result stream.new }
+    ensures { MustRead (λ s. s) (λ s v. v) (λ c. c) (space_at ▷ characters_at) stream.old result stream.new }
 {
     if stream.has_failed() {
         return Err(refuse(stream, Cause::StreamFailed));
@@ -96,26 +98,14 @@ fn characters_behind<A>(stream: &mut TextStream) -> ParseResult<Characters, A>
 }
 
 /// Reads what stands behind the word of an attribute.
-fn attr_parse<A>(stream: &mut TextStream, word: AttrWord) -> ParseResult<DemoAttr, A>
-    ensures { Answers (λ s. s) (λ s v. v) (λ a. a) (unless_failed stream.old.failed (attr_behind word stream.old.rest)) stream.old result stream.new }
+fn attr_parse<A: Drop>(stream: &mut TextStream, word: AttrWord) -> ParseResult<DemoAttr, A>
+    ensures { MustRead (λ s. s) (λ s v. v) (λ a. a) (attr_behind word) stream.old result stream.new }
 {
     match word {
-        AttrWord::Integer => match integer_attr_parse(stream) {
-            Ok(attr) => Ok(DemoAttr::Integer(attr)),
-            Err(fault) => Err(fault),
-        },
-        AttrWord::String => match characters_behind(stream) {
-            Ok(text) => Ok(DemoAttr::String(text)),
-            Err(fault) => Err(fault),
-        },
-        AttrWord::Function => match function_parse(stream) {
-            Ok(attr) => Ok(DemoAttr::Function(attr)),
-            Err(fault) => Err(fault),
-        },
-        AttrWord::Debug => match characters_behind(stream) {
-            Ok(text) => Ok(DemoAttr::Debug(text)),
-            Err(fault) => Err(fault),
-        },
+        AttrWord::Integer => Ok(DemoAttr::Integer(integer_attr_parse(stream)?)),
+        AttrWord::String => Ok(DemoAttr::String(characters_behind(stream)?)),
+        AttrWord::Function => Ok(DemoAttr::Function(function_parse(stream)?)),
+        AttrWord::Debug => Ok(DemoAttr::Debug(characters_behind(stream)?)),
     }
 }
 

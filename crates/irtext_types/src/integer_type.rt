@@ -1,7 +1,7 @@
 //! The integer types, and how their text is read: a sign, and a width in decimal digits.
 ghost use Rattle.std.specs.Prelude.{◌≡◌, Some};
 ghost use Rattle.irtext_base.specs.Answers.{Answers, unless_failed};
-ghost use Rattle.irtext_types.specs.Words.{behind_space};
+ghost use Rattle.irtext_read.specs.MustRead.{MustRead};
 ghost use Rattle.irtext_types.specs.IntegerTypes.{integer_type_text, signedness_text, signedness_at, width_if, width_at, integer_type_at};
 
 use crate::width::Width;
@@ -9,7 +9,7 @@ use irtext_base::parsable::{CharStream, ParseResult, TextStream};
 use irtext_base::result::{Cause, Expected};
 use irtext_read::irfmt::faults::{begins, committed, next_is, refuse, unexpected};
 use irtext_read::irfmt::parsers::digits::{Radix, out_of_range, take_digits};
-use irtext_read::irfmt::parsers::{Class, skip_white_space, text_parse};
+use irtext_read::irfmt::parsers::{Class, text_parse};
 use std::fmt;
 
 /// Whether the integers of a type have a sign, or whether each use decides.
@@ -109,14 +109,10 @@ pub fn integer_type_parse<A>(stream: &mut TextStream) -> ParseResult<IntegerType
     Ok(IntegerType { kind, width })
 }
 
-/// Reads an integer type behind white space, where it must stand.
-pub fn integer_type_behind<A>(stream: &mut TextStream) -> ParseResult<IntegerType, A>
-    ensures { Answers (λ s. s) (λ s v. v) (λ t. t) (unless_failed stream.old.failed (behind_space integer_type_at stream.old.rest)) stream.old result stream.new }
+/// Reads an integer type as `integer_type_parse` does, with its faults committed.
+pub fn integer_type_demanded<A>(stream: &mut TextStream) -> ParseResult<IntegerType, A>
+    ensures { MustRead (λ s. s) (λ s v. v) (λ t. t) integer_type_at stream.old result stream.new }
 {
-    if stream.has_failed() {
-        return Err(refuse(stream, Cause::StreamFailed));
-    }
-    skip_white_space(stream);
-    let found = integer_type_parse(stream);
-    committed(stream, found)
+    let answer = integer_type_parse(stream);
+    committed(stream, answer)
 }

@@ -1,5 +1,5 @@
 //! Lists of demo types.
-ghost use Rattle.std.specs.Prelude.{◌≡◌, ◌++◌, ◌∷◌, [], IfOk, OnOk, OnErr};
+ghost use Rattle.std.specs.Prelude.{◌≡◌, IfOk};
 ghost use Rattle.std.specs.Cmp.{on_equiv, on_per};
 ghost use Rattle.std.specs.Cmp.Lexicographic.{pointwise, lists_equiv, lists_per};
 ghost use Rattle.std.specs.Hash as fed;
@@ -8,7 +8,7 @@ ghost use Rattle.irtext_types.specs.contracts.types.DemoTypeEq.TheImpl.Laws as e
 ghost use Rattle.irtext_types.specs.contracts.types.DemoTypeHash.TheImpl.Laws as alike;
 
 use crate::types::DemoType;
-use std::alloc::{AllocError, Global};
+use std::alloc::AllocError;
 use std::fmt;
 use std::hash::{Hash, Hasher};
 use std::marker::Model;
@@ -29,22 +29,11 @@ impl Model for TypeList {
 }
 
 impl TypeList {
-    /// No type yet.
-    pub fn new(alloc: Global) -> TypeList
-        ensures { result ≡ [] }
+    /// The list of these types.
+    pub fn new(types: Vec<DemoType>) -> TypeList
+        ensures { result ≡ types.items }
     {
-        TypeList {
-            types: Vec::new(alloc),
-        }
-    }
-
-    /// Adds a type behind the others. Only memory can be refused, and the list is then as it was.
-    pub fn push(&mut self, ty: DemoType) -> Result<(), AllocError>
-        ensures ok { OnOk result (self.new ≡ self.old ++ ty ∷ []) }
-        ensures err { OnErr result (self.new ≡ self.old) }
-    {
-        self.types.push(ty)?;
-        Ok(())
+        TypeList { types }
     }
 
     /// The types.
@@ -58,8 +47,9 @@ impl TypeList {
     pub fn try_clone(&self) -> Result<TypeList, AllocError>
         ensures { IfOk result (λ copy. copy ≡ self.now) }
     {
-        let types = self.types.clone()?;
-        Ok(TypeList { types })
+        Ok(TypeList {
+            types: self.types.clone()?,
+        })
     }
 }
 

@@ -1,13 +1,14 @@
 //! The demo types: integers and a pointer.
-ghost use Rattle.irtext_base.specs.Answers.{Answers, unless_failed};
+ghost use Rattle.irtext_read.specs.MustRead.{MustRead};
 ghost use Rattle.irtext_types.specs.Types.{type_behind};
 
-use crate::integer_type::{IntegerType, integer_type_behind};
+use crate::integer_type::{IntegerType, integer_type_demanded};
 use crate::words::{DottedWord, dotted_parse};
 use irtext_base::parsable::{ParseResult, TextStream};
 use irtext_base::result::{Cause, Expected};
 use irtext_base::text::IrText;
 use irtext_read::irfmt::faults::refuse;
+use irtext_read::irfmt::parsers::skip_white_space;
 use std::fmt;
 
 /// A demo type.
@@ -60,16 +61,16 @@ impl fmt::Display for DemoType {
 
 /// Reads what stands behind the word of a type.
 fn type_parse<A>(stream: &mut TextStream, word: TypeWord) -> ParseResult<DemoType, A>
-    ensures { Answers (λ s. s) (λ s v. v) (λ t. t) (unless_failed stream.old.failed (type_behind word stream.old.rest)) stream.old result stream.new }
+    ensures { MustRead (λ s. s) (λ s v. v) (λ t. t) (type_behind word) stream.old result stream.new }
 {
     if stream.has_failed() {
         return Err(refuse(stream, Cause::StreamFailed));
     }
     match word {
-        TypeWord::Integer => match integer_type_behind(stream) {
-            Ok(ty) => Ok(DemoType::Integer(ty)),
-            Err(fault) => Err(fault),
-        },
+        TypeWord::Integer => {
+            skip_white_space(stream);
+            Ok(DemoType::Integer(integer_type_demanded(stream)?))
+        }
         TypeWord::Pointer => Ok(DemoType::Pointer),
     }
 }

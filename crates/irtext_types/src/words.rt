@@ -1,16 +1,15 @@
-//! The words of types and attributes: dotted words, which they begin with, and fixed texts behind white space.
+//! The dotted words that types and attributes begin with.
 ghost use Rattle.std.specs.Prelude.{◌≡◌, ◌⊎◌, ◌++◌, ℕ, List, Option};
 ghost use Rattle.std.specs.Str.{encode_utf8_all};
 ghost use Rattle.irtext_base.specs.Answers.{Answers, StarvesHere, FailsBehind, unless_failed};
-ghost use Rattle.irtext_base.specs.Faults.{characters, demand_of, OwnText};
+ghost use Rattle.irtext_base.specs.Faults.{demand_of, OwnText};
 ghost use Rattle.irtext_base.specs.Places.{StandsBehind};
-ghost use Rattle.irtext_read.specs.Tokens.{text_at};
-ghost use Rattle.irtext_types.specs.Words.{behind_space, dotted_at};
+ghost use Rattle.irtext_types.specs.Words.{dotted_at};
 
 use irtext_base::parsable::{CharStream, ParseFault, ParseResult, Place, TextStream};
 use irtext_base::result::{Cause, Expected};
-use irtext_read::irfmt::faults::{begins, committed, out_of_memory, refuse, refuse_at, unexpected};
-use irtext_read::irfmt::parsers::{Class, skip_class, skip_white_space, text_parse};
+use irtext_read::irfmt::faults::{begins, out_of_memory, refuse, refuse_at, unexpected};
+use irtext_read::irfmt::parsers::{Class, skip_class};
 
 /// The words that texts of one kind begin with.
 pub trait DottedWord: Copy {
@@ -59,16 +58,4 @@ pub fn dotted_parse<W: DottedWord, A>(
         return Ok(word);
     }
     Err(unregistered(stream, place, refusal))
-}
-
-/// Reads a fixed text behind white space, where it must stand.
-pub fn text_behind<A>(stream: &mut TextStream, text: &str) -> ParseResult<(), A>
-    ensures { Answers (λ s. s) (λ s v. v) (λ u. u) (unless_failed stream.old.failed (behind_space (text_at (characters text.now)) stream.old.rest)) stream.old result stream.new }
-{
-    if stream.has_failed() {
-        return Err(refuse(stream, Cause::StreamFailed));
-    }
-    skip_white_space(stream);
-    let found = text_parse(stream, text);
-    committed(stream, found)
 }

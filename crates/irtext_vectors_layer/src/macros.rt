@@ -31,56 +31,54 @@ fn at(line: i32, column: i32) -> Location<DemoAttr> {
     }
 }
 
+/// The error of a line, as a macro of the crate makes it.
+macro_rules! made {
+    ($layer:ident, $alloc:expr, $number:expr) => {
+        match $number {
+            0 => Ok($layer::create_error!(at(4, 2), ErrorKind::InvalidInput, Cause::EmptyItem)),
+            1 => Ok($layer::verify_error!(at(4, 2), in $alloc; "located {}", 1)),
+            2 => Ok($layer::verify_error_noloc!(Cause::StreamFailed)),
+            3 => Ok($layer::input_error!(at(4, 2), Cause::BadSeparator)),
+            4 => Ok($layer::input_error_noloc!(in $alloc; "alone {}", 2)),
+            5 => Ok($layer::arg_error!(at(4, 2), Cause::Memory)),
+            _ => Ok($layer::arg_error_noloc!(in $alloc; "alone 3")),
+        }
+    };
+}
+
+/// The error of a line, as a macro of the crate answers it.
+macro_rules! answered {
+    ($layer:ident, $alloc:expr, $number:expr) => {
+        match $number {
+            0 => $layer::create_err!(at(4, 2), ErrorKind::InvalidInput, Cause::EmptyItem),
+            1 => $layer::verify_err!(at(4, 2), in $alloc; "located {}", 1),
+            2 => $layer::verify_err_noloc!(Cause::StreamFailed),
+            3 => $layer::input_err!(at(4, 2), Cause::BadSeparator),
+            4 => $layer::input_err_noloc!(in $alloc; "alone {}", 2),
+            5 => $layer::arg_err!(at(4, 2), Cause::Memory),
+            _ => $layer::arg_err_noloc!(in $alloc; "alone 3"),
+        }
+    };
+}
+
 /// The error of a line, as a macro of the text layer makes it.
 fn made(alloc: Global, number: usize) -> Answer {
-    match number {
-        0 => Ok(pliron_text::create_error!(at(4, 2), ErrorKind::InvalidInput, Cause::EmptyItem)),
-        1 => Ok(pliron_text::verify_error!(at(4, 2), in alloc; "located {}", 1)),
-        2 => Ok(pliron_text::verify_error_noloc!(Cause::StreamFailed)),
-        3 => Ok(pliron_text::input_error!(at(4, 2), Cause::BadSeparator)),
-        4 => Ok(pliron_text::input_error_noloc!(in alloc; "alone {}", 2)),
-        5 => Ok(pliron_text::arg_error!(at(4, 2), Cause::Memory)),
-        _ => Ok(pliron_text::arg_error_noloc!(in alloc; "alone 3")),
-    }
+    made!(pliron_text, alloc, number)
 }
 
 /// The error of a line, as a macro of the text layer answers it.
 fn answered(alloc: Global, number: usize) -> Answer {
-    match number {
-        0 => pliron_text::create_err!(at(4, 2), ErrorKind::InvalidInput, Cause::EmptyItem),
-        1 => pliron_text::verify_err!(at(4, 2), in alloc; "located {}", 1),
-        2 => pliron_text::verify_err_noloc!(Cause::StreamFailed),
-        3 => pliron_text::input_err!(at(4, 2), Cause::BadSeparator),
-        4 => pliron_text::input_err_noloc!(in alloc; "alone {}", 2),
-        5 => pliron_text::arg_err!(at(4, 2), Cause::Memory),
-        _ => pliron_text::arg_err_noloc!(in alloc; "alone 3"),
-    }
+    answered!(pliron_text, alloc, number)
 }
 
 /// The error of a line, as a macro of the lowest crate makes it.
 fn made_below(alloc: Global, number: usize) -> Answer {
-    match number {
-        0 => Ok(irtext_base::create_error!(at(4, 2), ErrorKind::InvalidInput, Cause::EmptyItem)),
-        1 => Ok(irtext_base::verify_error!(at(4, 2), in alloc; "located {}", 1)),
-        2 => Ok(irtext_base::verify_error_noloc!(Cause::StreamFailed)),
-        3 => Ok(irtext_base::input_error!(at(4, 2), Cause::BadSeparator)),
-        4 => Ok(irtext_base::input_error_noloc!(in alloc; "alone {}", 2)),
-        5 => Ok(irtext_base::arg_error!(at(4, 2), Cause::Memory)),
-        _ => Ok(irtext_base::arg_error_noloc!(in alloc; "alone 3")),
-    }
+    made!(irtext_base, alloc, number)
 }
 
 /// The error of a line, as a macro of the lowest crate answers it.
 fn answered_below(alloc: Global, number: usize) -> Answer {
-    match number {
-        0 => irtext_base::create_err!(at(4, 2), ErrorKind::InvalidInput, Cause::EmptyItem),
-        1 => irtext_base::verify_err!(at(4, 2), in alloc; "located {}", 1),
-        2 => irtext_base::verify_err_noloc!(Cause::StreamFailed),
-        3 => irtext_base::input_err!(at(4, 2), Cause::BadSeparator),
-        4 => irtext_base::input_err_noloc!(in alloc; "alone {}", 2),
-        5 => irtext_base::arg_err!(at(4, 2), Cause::Memory),
-        _ => irtext_base::arg_err_noloc!(in alloc; "alone 3"),
-    }
+    answered!(irtext_base, alloc, number)
 }
 
 /// What the macros of a set make for a line.

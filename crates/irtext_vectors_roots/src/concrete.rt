@@ -1,4 +1,4 @@
-//! The texts of a root: whole, concrete, without its regions, for those who debug, of its parts, and with its location in a file.
+//! The texts of a root: whole, concrete, without its regions, for those who debug, with its location in a file, and of its parts.
 use crate::reading::{concrete, root, whole};
 use irtext_types::DemoType;
 use irtext_vectors_common::contexts::{Ctx, with_demo};
@@ -18,10 +18,10 @@ const TEXTS: &[&str] = &[
     "text: builtin.module @bar {..}",
     "builtin.module @bar {..} builtin.module @bar {..}",
     "builtin.module @bar {..} !0\n\noutlined_attributes:\n!0 = @[<in-memory>: line: 1, column: 1], []\n",
+    "builtin.module @bar \n{\n  \n} !0\n\noutlined_attributes:\n!0 = @[\"é.mlir\": line: 1, column: 2], []\n",
     "builtin.module @bar",
     "builtin.module @bar: test.ptr ",
     "\n{\n  \n}",
-    "builtin.module @bar \n{\n  \n} !0\n\noutlined_attributes:\n!0 = @[\"é.mlir\": line: 1, column: 2], []\n",
 ];
 
 /// What is appended for those who debug.
@@ -70,18 +70,33 @@ fn in_file(alloc: Global, ctx: &mut Ctx, op: Ptr<Operation>) -> Result<String, F
     whole(alloc, ctx, op)
 }
 
+/// The text of a part.
+fn part(alloc: Global, ctx: &Ctx, op: Ptr<Operation>, number: usize) -> Result<String, Fail> {
+    if !ctx.contains_operation(op) {
+        return Err(Fail::from("no such operation"));
+    }
+    let header = symb_op_header(op);
+    let braces = region(op);
+    match number {
+        5 => Ok(format!(in alloc; "{}", header.disp(ctx))?),
+        6 => typed(alloc, ctx, op),
+        _ => Ok(format!(in alloc; "{}", braces.disp(ctx))?),
+    }
+}
+
 /// The text of a line.
 fn text(alloc: Global, ctx: &mut Ctx, number: usize) -> Result<String, Fail> {
     let op = root(ctx, "builtin.module @bar {}").ok_or("refused")?;
+    if !ctx.contains_operation(op) {
+        return Err(Fail::from("no such operation"));
+    }
     match number {
         0 => concrete(alloc, ctx, op),
         1 => debugged(alloc, ctx, op),
         2 => Ok(format!(in alloc; "{} {:?}", OpDbg { op, ctx }, OpDbg { op, ctx })?),
         3 => elided(alloc, ctx, op),
-        4 => Ok(format!(in alloc; "{}", symb_op_header(op).disp(ctx))?),
-        5 => typed(alloc, ctx, op),
-        6 => Ok(format!(in alloc; "{}", region(op).disp(ctx))?),
-        _ => in_file(alloc, ctx, op),
+        4 => in_file(alloc, ctx, op),
+        _ => part(alloc, ctx, op, number),
     }
 }
 

@@ -10,9 +10,10 @@ use Rattle.std.specs.List.{list_all}
 use Rattle.std.specs.Str.Parse.{digits_value}
 use Rattle.irtext_base.specs.Text.{Text, begins, front, after}
 use Rattle.irtext_base.specs.Answers.{Outcome, Read}
-use Rattle.irtext_base.proofs.Characters.{and_left, front_all, after_all, word_no_space}
-use Rattle.irtext_base.proofs.Numbers.{digits_every, digit_in_word}
-use Rattle.irtext_read.specs.Tokens.{is_sign, sign_of, after_sign, fitting, value_of, integer_of, integered, no_integer, integer_at}
+use Rattle.irtext_base.proofs.Characters.{and_left, front_all, after_all}
+use Rattle.irtext_base.proofs.Numbers.{digits_every}
+use Rattle.irtext_read.proofs.Decimals.{fitting-small, Plain, plain}
+use Rattle.irtext_read.specs.Tokens.{sign_of, after_sign, fitting, value_of, integer_of, integered, no_integer, integer_at}
 
 -- ---- an integer
 -- an integer behind its sign
@@ -24,10 +25,6 @@ integer-from : (text : Text) → integer_at text ≡ integer_from (sign_of text)
 unfolding integer_at
 integer-from text = refl
 
--- a number below 2 ^ 64 fits
-fitting-small : (n : ℕ) → n < 2 ^ 64 → fitting n ≡ Some n
-fitting-small n small = let e : nat_lt n (2 ^ 64) ≡ true = grind (arith, nat_tests) in rw e refl
-
 -- digits of a number that fits are read back behind a sign, where no digit follows
 digits-integer : (sign ds rest : Text) (n : ℕ) (z : ℤ) → 0 < length ds → list_all is_ascii_digit ds ≡ true → digits_value 10 ds ≡ n → n < 2 ^ 64 → integer_of sign (Some n) ≡ Some z
     → begins is_ascii_digit rest ≡ false → integer_from sign (ds ++ rest) ≡ Read z (sign ++ ds) rest
@@ -37,27 +34,6 @@ digits-integer sign (c ∷ s) rest n z some all v small is stop =
     ap (λ b. cond b (integered sign (front is_ascii_digit t) (after is_ascii_digit t) (integer_of sign (value_of (front is_ascii_digit t)))) (no_integer sign t)) (and_left (is_ascii_digit c) (list_all is_ascii_digit s) all)
     ∙ (ap₂ (λ f a. integered sign f a (integer_of sign (value_of f))) (front_all is_ascii_digit (c ∷ s) rest all stop) (after_all is_ascii_digit (c ∷ s) rest all stop)
     ∙ ap (integered sign (c ∷ s) rest) (ap (integer_of sign) (ap fitting v ∙ fitting-small n small) ∙ is))
-
--- the text begins with no sign and no white space
-record Plain (text : Text) : Type 0 where
-  sign : sign_of text ≡ []
-  behind : after_sign text ≡ text
-  space : begins is_whitespace text ≡ false
-
--- a text that begins with digits
-plain : (s rest : Text) → 0 < length s → list_all is_ascii_digit s ≡ true → Plain (s ++ rest)
-plain [] rest some all = absurd (omega (arith, some))
-plain (c ∷ s) rest some all = record {
-  sign = ap (λ b. cond b (c ∷ []) []) (no_sign c digit);
-  behind = ap (λ b. cond b (s ++ rest) (c ∷ (s ++ rest))) (no_sign c digit);
-  space = word_no_space c (digit_in_word c digit);
-}
-  where
-    digit : is_ascii_digit c ≡ true
-    digit = and_left (is_ascii_digit c) (list_all is_ascii_digit s) all
-
-    no_sign : (c : ℕ) → is_ascii_digit c ≡ true → is_sign c ≡ false
-    no_sign c e = grind (arith, nat_tests)
 
 -- a text that begins with a number
 plain_decimal : (n : ℕ) (rest : Text) → n < 2 ^ 64 → Plain (decimal n ++ rest)

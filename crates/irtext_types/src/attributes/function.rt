@@ -1,12 +1,13 @@
 //! The types of functions, as they are read and written: as `<(T, ..)->(T, ..)>`.
 ghost use Rattle.std.specs.Prelude.{◌≡◌, ◌++◌, OnOk, IfOk, codes, string_bytes};
-ghost use Rattle.irtext_base.specs.Answers.{Answers, unless_failed};
-ghost use Rattle.irtext_types.specs.FunctionAttributes.{function_text, function_at, inputs_at, arrow_at, results_at, end_at};
+ghost use Rattle.irtext_read.specs.MustRead.{MustRead};
+ghost use Rattle.irtext_types.specs.FunctionAttributes.{function_text, signature_at, function_at};
 
 use crate::type_list::TypeList;
 use crate::type_list_text::{types_parse, write_types};
-use crate::words::text_behind;
 use irtext_base::parsable::{ParseResult, TextStream};
+use irtext_read::irfmt::demanded::{spaced_text_demanded, text_demanded};
+use irtext_read::irfmt::parsers::skip_white_space;
 use std::alloc::AllocError;
 use std::fmt;
 
@@ -28,58 +29,25 @@ impl FunctionAttr {
     }
 }
 
-/// Reads `>`, where it must stand, and answers the attribute.
-fn end_parse<A>(
-    stream: &mut TextStream,
-    inputs: TypeList,
-    results: TypeList,
-) -> ParseResult<FunctionAttr, A>
-    ensures { Answers (λ s. s) (λ s v. v) (λ a. a) (unless_failed stream.old.failed (end_at inputs results stream.old.rest)) stream.old result stream.new }
+/// Reads what a function takes, `->`, and what it gives.
+fn signature_parse<A: Drop>(stream: &mut TextStream) -> ParseResult<FunctionAttr, A>
+    ensures { MustRead (λ s. s) (λ s v. v) (λ a. a) signature_at stream.old result stream.new }
 {
-    match text_behind(stream, ">") {
-        Ok(()) => Ok(FunctionAttr { inputs, results }),
-        Err(fault) => Err(fault),
-    }
-}
-
-/// Reads what a function gives, and `>`.
-fn results_parse<A>(stream: &mut TextStream, inputs: TypeList) -> ParseResult<FunctionAttr, A>
-    ensures { Answers (λ s. s) (λ s v. v) (λ a. a) (unless_failed stream.old.failed (results_at inputs stream.old.rest)) stream.old result stream.new }
-{
-    match types_parse(stream) {
-        Ok(results) => end_parse(stream, inputs, results),
-        Err(fault) => Err(fault),
-    }
-}
-
-/// Reads `->`, what a function gives, and `>`.
-fn arrow_parse<A>(stream: &mut TextStream, inputs: TypeList) -> ParseResult<FunctionAttr, A>
-    ensures { Answers (λ s. s) (λ s v. v) (λ a. a) (unless_failed stream.old.failed (arrow_at inputs stream.old.rest)) stream.old result stream.new }
-{
-    match text_behind(stream, "->") {
-        Ok(()) => results_parse(stream, inputs),
-        Err(fault) => Err(fault),
-    }
-}
-
-/// Reads what a function takes, `->`, what it gives, and `>`.
-fn inputs_parse<A>(stream: &mut TextStream) -> ParseResult<FunctionAttr, A>
-    ensures { Answers (λ s. s) (λ s v. v) (λ a. a) (unless_failed stream.old.failed (inputs_at stream.old.rest)) stream.old result stream.new }
-{
-    match types_parse(stream) {
-        Ok(inputs) => arrow_parse(stream, inputs),
-        Err(fault) => Err(fault),
-    }
+    let inputs = types_parse(stream)?;
+    spaced_text_demanded(stream, "->")?;
+    let results = types_parse(stream)?;
+    Ok(FunctionAttr { inputs, results })
 }
 
 /// Reads `<`, what a function takes, `->`, what it gives, and `>`, with white space in front of each.
-pub fn function_parse<A>(stream: &mut TextStream) -> ParseResult<FunctionAttr, A>
-    ensures { Answers (λ s. s) (λ s v. v) (λ a. a) (unless_failed stream.old.failed (function_at stream.old.rest)) stream.old result stream.new }
+pub fn function_parse<A: Drop>(stream: &mut TextStream) -> ParseResult<FunctionAttr, A>
+    ensures { MustRead (λ s. s) (λ s v. v) (λ a. a) function_at stream.old result stream.new }
 {
-    match text_behind(stream, "<") {
-        Ok(()) => inputs_parse(stream),
-        Err(fault) => Err(fault),
-    }
+    spaced_text_demanded(stream, "<")?;
+    let attr = signature_parse(stream)?;
+    skip_white_space(stream);
+    text_demanded(stream, ">")?;
+    Ok(attr)
 }
 
 /// Appends a function's type, behind the word for it.
