@@ -1,27 +1,28 @@
 -- Readers of attributes.
 use Rattle.std.proofs.Common.{◌≡◌, ℕ, ◌<◌, Bool, true, false, cond, Option, Some, None, Result, Ok, Err, [], ◌∷◌, ◌++◌, codes, List, refl, sym, ◌∙◌, ap, subst, arith}
 use Rattle.std.proofs.lemmas.Bool.Decides.{nat_tests}
+use Rattle.std.proofs.lemmas.List.{append_cancel_left}
 use Rattle.std.proofs.lemmas.Slice.Eq.{bytes_eq-Decides}
-use Rattle.std.specs.Str.{bytes_eq, encode_utf8_all}
+use Rattle.std.proofs.lemmas.Str.{chars_from_encodes}
+use Rattle.std.specs.List.{list_all}
+use Rattle.std.specs.Str.{IsUtf8, chars, encode_utf8_all}
 use Rattle.irtext_base.specs.Text.{Text, begins, front, after, begins_word, in_word, in_dotted}
 use Rattle.irtext_base.specs.Reading.{the}
 use Rattle.irtext_base.specs.Stream.{first_of}
 use Rattle.irtext_base.specs.Faults.{AnIdentifier, Unexpected}
 use Rattle.irtext_base.specs.Answers.{Outcome, Read, Missing, Bad, Takes, Gives, mapped}
-use Rattle.irtext_base.specs.Places.{StandsBehind, IsPlaceOf}
 use Rattle.irtext_base.specs.declared.parsable.fault.ParseFault.{ParseFault}
-use Rattle.irtext_stream.specs.declared.position.Place.{Place}
 use Rattle.irtext_base.proofs.Along.{front_after}
-use Rattle.irtext_base.proofs.Compose.{gives_mapped, refuses_mapped, seen_after, takes_stands}
+use Rattle.irtext_base.proofs.Characters.{front_all, after_all}
+use Rattle.irtext_base.proofs.Compose.{gives_mapped, refuses_mapped, seen_after}
 use Rattle.irtext_read.specs.Tokens.{word_at, text_at, identifier_at}
 use Rattle.irtext_read.specs.Infix.{◌▷◌}
 use Rattle.irtext_read.specs.MustRead.{MayRead, MustRead}
 use Rattle.irtext_base.specs.Locations.{given_names, ident, own}
 use Rattle.irtext_read.specs.AttrTexts.{leads, given_name_at, given_names_at, ident_at, attr_at}
 use Rattle.irtext_read.proofs.Grammar.{literal_from_at, text_at-literal}
-use Rattle.irtext_read.proofs.SetBack.{set_within}
 use Rattle.irtext_read.proofs.Steps.{Lens, begins_with, begun_by, last}
-use Rattle.irtext_read.proofs.Words.{encodes-front, taken_since}
+use Rattle.irtext_read.proofs.Words.{encodes-front}
 
 pub in_dotted_ascii : (c : ℕ) → in_dotted c ≡ true → c < 128
 in_dotted_ascii c e = grind (arith, nat_tests)
@@ -89,32 +90,42 @@ module _ {A : Type 0} (reading : Text → Outcome A) (text : Text) where
   unfolding attr_at
   own_leads e d = rw (← e, ← d) refl
 
+-- a dotted word is its bytes
+pub dotted_bytes : (word : List ℕ) → IsUtf8 word → list_all in_dotted word ≡ true → chars word ≡ word
+dotted_bytes word u d =
+    let whole : front in_dotted (word ++ []) ≡ word = front_all in_dotted word [] d refl in
+    sym (chars_from_encodes word word u (subst (λ z. encode_utf8_all z ≡ z) whole (encodes-front in_dotted in_dotted_ascii (word ++ []))))
+
+-- what is left behind a front begins with nothing that passes
+begins_after : (p : ℕ → Bool) (text : Text) → begins p (after p text) ≡ false
+begins_after p [] = refl
+begins_after p (c ∷ text) =
+    elim (p c) as (λ b. p c ≡ b → begins p (cond b (after p text) (c ∷ text)) ≡ false) [ true ↦ (λ e. begins_after p text) | false ↦ (λ e. e) ] refl
+
+module _ (word text : Text) where
+  -- a word that leads stands at the beginning, and goes no further
+  led_word : leads word text ≡ true → text ≡ word ++ after in_dotted text
+  led_word e = sym (front_after in_dotted text) ∙ ap (λ z. z ++ after in_dotted text) ((bytes_eq-Decides (front in_dotted text) word).0 e)
+
+  unled : (leads word text ≡ true → ⊥) → leads word text ≡ false
+  unled h = elim (leads word text) as (λ b. leads word text ≡ b → b ≡ false) [ true ↦ (λ e. absurd (h e)) | false ↦ (λ e. refl) ] refl
+
+  -- a word that doesn't stand at the beginning leads nowhere
+  pub leads_not : ((rest : Text) → text ≡ word ++ rest → ⊥) → leads word text ≡ false
+  leads_not h = unled (λ e. h (after in_dotted text) (led_word e))
+
+  -- nor does one that goes on
+  pub leads_less : (rest : Text) → text ≡ word ++ rest → begins in_dotted rest ≡ true → leads word text ≡ false
+  leads_less rest s e = unled (λ d.
+      let same : rest ≡ after in_dotted text = append_cancel_left word rest (after in_dotted text) (sym s ∙ led_word d) in
+      let none : begins in_dotted rest ≡ false = ap (begins in_dotted) same ∙ begins_after in_dotted text in
+      absurd (cc))
+
+  -- one that goes no further leads
+  pub leads_whole : (rest : Text) → text ≡ word ++ rest → list_all in_dotted word ≡ true → begins in_dotted rest ≡ false → (leads word text ≡ true) × (rest ≡ after in_dotted text)
+  leads_whole rest s d e = rw s ((bytes_eq-Decides (front in_dotted (word ++ rest)) word).1 (front_all in_dotted word rest d e), sym (after_all in_dotted word rest d e))
+
 module _ {S : Type 0} (l : Lens S) where
-  -- the dotted word was passed
-  abbrev pub Dotted : S → S → Type 0
-  Dotted old mid = Takes l.view l.at (front in_dotted (l.view old).rest) (after in_dotted (l.view old).rest) old mid
-
-  -- the text since then is that word
-  dotted_word : (old mid : S) (place : Place) (bytes : List ℕ) → Dotted old mid → StandsBehind place (l.view old).passed → ((passed taken : Text) → passed ++ taken ≡ (l.view mid).passed → StandsBehind place passed → bytes ≡ encode_utf8_all taken) → bytes ≡ front in_dotted (l.view old).rest
-  dotted_word old mid place bytes k p h = taken_since l.view l.at l.view_at l.at_at old mid place bytes _ _ k p h ∙ encodes-front in_dotted in_dotted_ascii (l.view old).rest
-
-  -- what a test of the text since then says of the word
-  pub leads_by : (word : Text) (old mid : S) (place : Place) (bytes : List ℕ) (b v : Bool) → Dotted old mid → StandsBehind place (l.view old).passed → ((passed taken : Text) → passed ++ taken ≡ (l.view mid).passed → StandsBehind place passed → bytes ≡ encode_utf8_all taken) → b ≡ bytes_eq bytes word → b ≡ v → leads word (l.view old).rest ≡ v
-  leads_by word old mid place bytes b v k p h e t = sym (ap (λ z. bytes_eq z word) (dotted_word old mid place bytes k p h)) ∙ (sym e ∙ t)
-
-  -- a word that leads is the one that was passed
-  pub led_by : (word : Text) (old mid : S) → leads word (l.view old).rest ≡ true → Dotted old mid → Takes l.view l.at word (after in_dotted (l.view old).rest) old mid
-  led_by word old mid e k = subst (λ z. Takes l.view l.at z (after in_dotted (l.view old).rest) old mid) ((bytes_eq-Decides (front in_dotted (l.view old).rest) word).0 e) k
-
-  -- the place in front of what was passed is one of the stream's
-  pub place_before : (old mid : S) (place : Place) → Dotted old mid → StandsBehind place (l.view old).passed → IsPlaceOf place (l.view mid)
-  place_before old mid place k p = record {
-    passed = (l.view old).passed;
-    rest = (l.view old).rest;
-    same = set_within l old mid (takes_stands l.view l.at l.view_at l.at_at old mid _ _ k);
-    stands = p;
-  }
-
   -- a fixed text that was passed was read
   pub word_read : {A : Type 0} (word rest : Text) (old mid : S) → (l.view old).failed ≡ false → Takes l.view l.at word rest old mid → MayRead {A = A} l.view l.at (λ u. u) (text_at word) old (Ok tt) mid
   word_read word rest old mid f k =

@@ -1,12 +1,15 @@
 //! The readers of types and of attributes: each is the caller's own reader, but that two words lead to given names and to an identifier.
-ghost use Rattle.std.specs.Prelude.{◌≡◌, false};
+ghost use Rattle.std.specs.Prelude.{◌≡◌, MatchBool, true, false};
+ghost use Rattle.std.specs.List.{list_all};
+ghost use Rattle.irtext_base.specs.Text.{after, in_dotted};
+ghost use Rattle.irtext_base.specs.Answers.{Takes};
 ghost use Rattle.irtext_base.specs.Locations.{attr_view};
-ghost use Rattle.irtext_read.specs.AttrTexts.{Led, given_name_at, names_at, bracketed_names_at, spaced_identifier_at, attr_at};
+ghost use Rattle.irtext_read.specs.AttrTexts.{Led, leads, given_name_at, names_at, bracketed_names_at, spaced_identifier_at, attr_at};
 ghost use Rattle.irtext_read.specs.MustRead.{MayRead, MustRead};
 
 use crate::irfmt::demanded::{identifier_demanded, text_demanded};
-use crate::irfmt::faults::{next_is, refuse};
-use crate::irfmt::parsers::class::{Class, skip_class, skip_white_space};
+use crate::irfmt::faults::{begins, next_is, refuse};
+use crate::irfmt::parsers::class::{Class, skip_white_space};
 use crate::irfmt::parsers::fixed_text::text_parse;
 use crate::irfmt::parsers::identifier::identifier_parse;
 use crate::irfmt::parsers::lists::list_parser;
@@ -27,20 +30,34 @@ pub(crate) enum Lead {
     Own,
 }
 
+/// Passes this dotted word where it stands here and goes no further, and answers whether it does. The stream stays at another word.
+fn take_word<S: CharStream>(stream: &mut S, word: &str) -> bool
+    requires { list_all in_dotted word.now ≡ true }
+    ensures { MatchBool result
+        ((leads word.now (S.view stream.old).rest ≡ true) × Takes S.view S.at word.now (after in_dotted (S.view stream.old).rest) stream.old stream.new)
+        ((leads word.now (S.view stream.old).rest ≡ false) × (stream.new ≡ stream.old)) }
+{
+    let place = stream.position();
+    if !stream.accept(word) {
+        return false;
+    }
+    if !begins(stream, Class::Dotted) {
+        return true;
+    }
+    stream.reset(place);
+    false
+}
+
 /// Passes the dotted word that stands here, where it leads to given names or to an identifier. The stream stays at another word.
 fn take_lead<S: CharStream>(stream: &mut S) -> Lead
     ensures { Led S.view S.at stream.old result stream.new }
 {
-    let place = stream.position();
-    skip_class(stream, Class::Dotted);
-    let word = stream.text_since(place);
-    if word == "builtin.given_names" {
+    if take_word(stream, "builtin.given_names") {
         return Lead::GivenNames;
     }
-    if word == "builtin.identifier" {
+    if take_word(stream, "builtin.identifier") {
         return Lead::Ident;
     }
-    stream.reset(place);
     Lead::Own
 }
 
