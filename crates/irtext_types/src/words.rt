@@ -24,6 +24,8 @@ pub trait DottedWord: Copy {
 
 /// The fault of a word since a place, which is none, at that place: what it is not, and the word. Where there is no memory for this
 /// text, that is the fault, where the stream stands. It leaves the stream failed.
+#[cold]
+#[inline(never)]
 fn unregistered<A>(stream: &mut TextStream, place: Place, refusal: &str) -> ParseFault<A>
     requires { (passed taken : List ℕ) × (passed ++ taken ≡ stream.old.passed) × StandsBehind place passed }
     ensures { (passed taken : List ℕ) → passed ++ taken ≡ stream.old.passed → StandsBehind place passed →

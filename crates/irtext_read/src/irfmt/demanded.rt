@@ -14,6 +14,7 @@ use irtext_base::parsable::{CharStream, ParseResult};
 use irtext_base::result::Cause;
 
 /// Reads a fixed text as `text_parse` does, with its faults committed.
+#[inline]
 pub fn text_demanded<S: CharStream, A>(stream: &mut S, text: &str) -> ParseResult<(), A>
     ensures { MustRead S.view S.at (λ u. u) (text_at (characters text.now)) stream.old result stream.new }
 {
@@ -22,6 +23,7 @@ pub fn text_demanded<S: CharStream, A>(stream: &mut S, text: &str) -> ParseResul
 }
 
 /// Reads an identifier as `identifier_parse` does, with its faults committed.
+#[inline]
 pub fn identifier_demanded<S: CharStream, A>(stream: &mut S) -> ParseResult<Identifier, A>
     ensures { MustRead S.view S.at (λ name. name) identifier_at stream.old result stream.new }
 {

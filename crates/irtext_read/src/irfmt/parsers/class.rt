@@ -5,7 +5,6 @@ ghost use Rattle.irtext_base.specs.Answers.{Takes};
 ghost use Rattle.irtext_read.specs.Tokens.{has};
 
 use irtext_base::parsable::CharStream;
-
 pub use irtext_base::parsable::Class;
 
 /// Passes the characters of the class, as far as they go, on a failed stream too.

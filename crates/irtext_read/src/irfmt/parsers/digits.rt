@@ -73,6 +73,8 @@ pub fn take_digits<S: CharStream>(stream: &mut S, radix: Radix) -> Option<u64>
 
 /// The fault of a number that doesn't fit, at the place where it began. Where there is no memory for its text, that is the fault, where
 /// the stream stands. It leaves the stream failed.
+#[cold]
+#[inline(never)]
 pub fn out_of_range<S: CharStream, A>(stream: &mut S, place: Place) -> ParseFault<A>
     requires { (passed taken : List ℕ) × (passed ++ taken ≡ (S.view stream.old).passed) × StandsBehind place passed }
     ensures { (passed taken : List ℕ) → passed ++ taken ≡ (S.view stream.old).passed → StandsBehind place passed →

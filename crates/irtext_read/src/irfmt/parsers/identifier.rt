@@ -32,6 +32,7 @@ pub fn word_parse<S: CharStream, A>(
 }
 
 /// Reads an identifier, as long as it goes. Where none begins, it answers an uncommitted fault.
+#[inline]
 pub fn identifier_parse<S: CharStream, A>(stream: &mut S) -> ParseResult<Identifier, A>
     ensures { Answers S.view S.at (λ name. name) (unless_failed (S.view stream.old).failed (identifier_at (S.view stream.old).rest)) stream.old result stream.new }
 {

@@ -64,6 +64,8 @@ fn character(number: Option<u64>) -> Option<char>
 
 /// The fault of hexadecimal digits since a place, which name no character, at the escape's own place. Where there is no memory for the
 /// digits, that is the fault, where the stream stands. It leaves the stream failed.
+#[cold]
+#[inline(never)]
 fn no_character<S: CharStream, A>(stream: &mut S, escape: Place, digits: Place) -> ParseFault<A>
     requires { (passed taken : List ℕ) × (passed ++ taken ≡ (S.view stream.old).passed) × StandsBehind digits passed }
     ensures { (before rest passed taken : List ℕ) → before ++ rest ≡ (S.view stream.old).passed ++ (S.view stream.old).rest → StandsBehind escape before → passed ++ taken ≡ (S.view stream.old).passed → StandsBehind digits passed →
