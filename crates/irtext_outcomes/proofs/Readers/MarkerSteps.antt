@@ -1,61 +1,50 @@
--- How far a fixed text was taken, and what stands where it isn't whole.
-use Rattle.std.proofs.Common.{◌≡◌, ℕ, Bool, true, false, [], ◌∷◌, ◌++◌, refl, sym, ◌∙◌, ap, subst, append_assoc, append-nil, arith}
+-- A fixed text that is taken whole or not at all, and what stands where it isn't whole.
+use Rattle.std.proofs.Common.{◌≡◌, ℕ, Bool, true, false, cond, MatchBool, [], ◌∷◌, ◌++◌, refl, sym, ◌∙◌, ap, subst, arith}
 use Rattle.std.specs.Char.{is_whitespace}
 use Rattle.std.proofs.lemmas.Bool.Decides.{nat_tests}
-use Rattle.irtext_base.specs.Text.{Text, begins, front, after_space}
+use Rattle.irtext_base.specs.Text.{Text, front, after_space}
 use Rattle.irtext_base.specs.Reading.{the}
-use Rattle.irtext_base.specs.Stream.{StreamView, advanced, behind}
+use Rattle.irtext_base.specs.Stream.{StreamView, behind}
 use Rattle.irtext_base.specs.Answers.{Takes, Stands}
-use Rattle.irtext_base.proofs.Compose.{seen_after, stands_after, takes_more, takes_stands}
-use Rattle.irtext_read.proofs.Spelling.{begins_the, takes_next}
-use Rattle.irtext_base.proofs.Compose.{takes_none}
+use Rattle.irtext_base.proofs.Compose.{seen_after, stands_after, takes_none, takes_stands}
 use Rattle.irtext_outcomes.specs.Readers.Marker.{starts_with, TakesWord}
+
+same_the : (c d : ℕ) → the c d ≡ true → d ≡ c
+same_the c d e = grind (arith, nat_tests)
 
 the-same : (c : ℕ) → the c c ≡ true
 the-same c = grind (arith, nat_tests)
 
--- where the next character of the word doesn't come, the word doesn't
-starts-misses : (word text : Text) (c : ℕ) → begins (the c) text ≡ false → starts_with (c ∷ word) text ≡ false
-starts-misses word [] c e = refl
-starts-misses word (d ∷ text) c e = rw e refl
+-- a text in front of which the word stands begins with it
+starts_whole : (word rest : Text) → starts_with word (word ++ rest) ≡ true
+starts_whole [] rest = refl
+starts_whole (c ∷ word) rest = rw (the-same c) (starts_whole word rest)
 
--- where it comes, the rest of the word decides
-starts-more : (word text : Text) (c : ℕ) → the c c ≡ true → starts_with (c ∷ word) (c ∷ text) ≡ starts_with word text
-starts-more word text c e = rw e refl
+-- where a text begins with the word, the rest stands behind it
+starts_rest : (word text : Text) → starts_with word text ≡ true → (rest : Text) × (text ≡ word ++ rest)
+starts_rest [] text e = (text, refl)
+starts_rest (c ∷ word) [] e = absurd (cc)
+starts_rest (c ∷ word) (d ∷ text) e = go (the c d) refl e (starts_rest word text)
+  where
+    go : (b : Bool) → the c d ≡ b → cond b (starts_with word text) false ≡ true → (starts_with word text ≡ true → (rest : Text) × (text ≡ word ++ rest)) → (rest : Text) × (d ∷ text ≡ c ∷ (word ++ rest))
+    go true b q h = let r = h q in (r.0, ap (λ z. z ∷ text) (same_the c d b) ∙ ap (λ z. c ∷ z) r.1)
+    go false b q h = absurd (cc)
+
+starts_not : (word text : Text) → ((rest : Text) → text ≡ word ++ rest → ⊥) → starts_with word text ≡ false
+starts_not word text h =
+    elim (starts_with word text) as (λ b. starts_with word text ≡ b → b ≡ false) [ true ↦ (λ e. let r = starts_rest word text e in absurd (h r.0 r.1)) | false ↦ (λ e. refl) ] refl
 
 module _ {S : Type 0} (view : S → StreamView) (at : S → StreamView → S) where
-  -- the characters taken are the word's up to what is left of it
-  pub record Along (word : Text) (old now : S) (taken left : Text) : Type 0 where
-    pub takes : Takes view at taken (view now).rest old now
-    pub whole : taken ++ left ≡ word
-    pub so_far : starts_with word (view old).rest ≡ starts_with left (view now).rest
-
   module _ (view_at : (s : S) (v : StreamView) → view (at s v) ≡ v) (at_view : (s : S) → at s (view s) ≡ s) (at_at : (s : S) (v w : StreamView) → at (at s v) w ≡ at s w) where
-    -- nothing of the word was taken yet
-    pub along_start : (word : Text) (old : S) → Along word old old [] word
-    along_start word old = record { takes = takes_none view at view_at at_at at_view old; whole = refl; so_far = refl }
-
-    -- one more character of the word was taken
-    pub along_more : (word : Text) (old now next : S) (taken left : Text) (c : ℕ) → Along word old now taken (c ∷ left) → begins (the c) (view now).rest ≡ true → next ≡ at now (advanced (view now)) → Along word old next (taken ++ (c ∷ [])) left
-    along_more word old now next taken left c s e n =
-        let f = begins_the c (view now).rest e in
-        let k = takes_next view at view_at at_view at_at now next c f.0 f.1 n in
-        let v : view next ≡ behind (view now) (c ∷ []) f.0 = seen_after view at view_at at_at now next (c ∷ []) f.0 k in
-        let r : (view next).rest ≡ f.0 = ap (λ z. z.rest) v in
-        let t = takes_more view at view_at at_at old now next taken (view now).rest (c ∷ []) f.0 s.takes k in
-        record {
-          takes = rw r t;
-          whole = append_assoc taken (c ∷ []) left ∙ s.whole;
-          so_far = s.so_far ∙ (ap (starts_with (c ∷ left)) f.1 ∙ (starts-more left f.0 c (the-same c) ∙ ap (starts_with left) (sym r)));
-        }
-
-    -- all of the word was taken
-    pub along_all : (word : Text) (old now : S) (taken : Text) → Along word old now taken [] → TakesWord view at word old true now
-    along_all word old now taken s = record { tells = sym s.so_far; left = subst (λ z. Takes view at z (view now).rest old now) (sym (append-nil taken) ∙ s.whole) s.takes }
-
-    -- the next character of the word doesn't come
-    pub along_misses : (word : Text) (old now : S) (taken left : Text) (c : ℕ) → Along word old now taken (c ∷ left) → begins (the c) (view now).rest ≡ false → TakesWord view at word old false now
-    along_misses word old now taken left c s e = record { tells = sym (s.so_far ∙ starts-misses left (view now).rest c e); left = takes_stands view at view_at at_at old now taken (view now).rest s.takes }
+    -- the word was accepted, or the stream stays
+    pub word_accepted : (word : Text) (old new : S) (b : Bool) → MatchBool b ((rest : Text) × ((view old).rest ≡ word ++ rest) × (new ≡ at old (behind (view old) word rest))) (((rest : Text) → (view old).rest ≡ word ++ rest → ⊥) × (new ≡ old)) → TakesWord view at word old b new
+    word_accepted word old new true h =
+        let k : Takes view at word h.0 old new = record { is = h.2; same = sym h.1 } in
+        let r : (view new).rest ≡ h.0 = ap (λ v. v.rest) (seen_after view at view_at at_at old new word h.0 k) in
+        record { tells = sym (ap (starts_with word) h.1 ∙ starts_whole word h.0); left = rw r k }
+    word_accepted word old new false h =
+        let stays : Stands view at (view old).failed old old = takes_stands view at view_at at_at old old [] (view old).rest (takes_none view at view_at at_at at_view old) in
+        record { tells = sym (starts_not word (view old).rest h.0); left = rw h.1 stays }
 
     -- the stream set back to where it stood
     pub set_back : (old mid u : S) → Stands view at (view old).failed old mid → u ≡ at mid (let v : StreamView = record { passed = (view old).passed; rest = (view old).rest; failed = (view mid).failed } in v) → u ≡ old

@@ -5,23 +5,17 @@ ghost use Rattle.irtext_outcomes.specs.Readers.Marker.{MarkerOr, TakesWord};
 
 use irtext_base::parsable::{CharStream, ParseResult};
 use irtext_base::result::Cause;
-use irtext_read::irfmt::faults::{next_is, refuse};
+use irtext_read::irfmt::faults::refuse;
 use irtext_read::irfmt::parsers::skip_white_space;
 
 /// What stands in the place of an attribute that is written in the section.
 pub const OUTLINED_ATTR_MARKER: &'static str = "!outlined";
 
-/// Passes a fixed text as far as it stands there, and answers whether it stands whole.
+/// Passes a fixed text where it stands whole, and answers whether it does.
 fn take_text<S: CharStream>(stream: &mut S, text: &str) -> bool
     ensures { TakesWord S.view S.at (characters text.now) stream.old result stream.new }
 {
-    for c in text.chars() {
-        if !next_is(stream, c) {
-            return false;
-        }
-        let _ = stream.take();
-    }
-    true
+    stream.accept(text)
 }
 
 /// Reads optional white space and the marker, and answers `None`. Where the marker doesn't stand whole, it reads the item where the
