@@ -37,6 +37,19 @@ pub fn stands_at<S: CharStream>(stream: &S) -> SourcePosition
     stream.locate(stream.position())
 }
 
+/// A committed fault of this cause and place. It leaves the stream failed.
+fn fail_at<S: CharStream, A>(stream: &mut S, pos: SourcePosition, cause: Cause<A>) -> ParseFault<A>
+    ensures fault { result ≡ record { pos = pos; cause = cause; committed = true } }
+    ensures left { stream.new ≡ S.at stream.old (after_failure (S.view stream.old)) }
+{
+    stream.fail();
+    ParseFault {
+        pos,
+        cause,
+        committed: true,
+    }
+}
+
 /// A committed fault of this cause where the stream stands, which leaves the stream failed.
 #[cold]
 #[inline(never)]
@@ -44,12 +57,7 @@ pub fn refuse<S: CharStream, A>(stream: &mut S, cause: Cause<A>) -> ParseFault<A
     ensures { Commits S.view S.at (fault_of cause) [] stream.old result stream.new }
 {
     let pos = stands_at(stream);
-    stream.fail();
-    ParseFault {
-        pos,
-        cause,
-        committed: true,
-    }
+    fail_at(stream, pos, cause)
 }
 
 /// A committed fault of this cause at an earlier place, which leaves the stream failed where it stands.
@@ -62,12 +70,7 @@ pub fn refuse_at<S: CharStream, A>(stream: &mut S, place: Place, cause: Cause<A>
     ensures left { stream.new ≡ S.at stream.old (after_failure (S.view stream.old)) }
 {
     let pos = stream.locate(place);
-    stream.fail();
-    ParseFault {
-        pos,
-        cause,
-        committed: true,
-    }
+    fail_at(stream, pos, cause)
 }
 
 /// The fault of want of memory where the stream stands, which leaves the stream failed.
@@ -76,8 +79,8 @@ pub fn refuse_at<S: CharStream, A>(stream: &mut S, place: Place, cause: Cause<A>
 pub fn out_of_memory<S: CharStream, A>(stream: &mut S) -> ParseFault<A>
     ensures { StarvesHere S.view S.at stream.old result stream.new }
 {
-    let place = stream.position();
-    refuse_at(stream, place, Cause::Memory)
+    let pos = stands_at(stream);
+    fail_at(stream, pos, Cause::Memory)
 }
 
 /// An uncommitted fault of this cause where the stream stands.
@@ -119,12 +122,7 @@ pub fn commit_unexpected<S: CharStream, A>(stream: &mut S, expected: Expected) -
 pub fn commit<S: CharStream, A>(stream: &mut S, fault: ParseFault<A>) -> ParseFault<A>
     ensures { Demands S.view S.at fault stream.old result stream.new }
 {
-    stream.fail();
-    ParseFault {
-        pos: fault.pos,
-        cause: fault.cause,
-        committed: true,
-    }
+    fail_at(stream, fault.pos, fault.cause)
 }
 
 /// The same answer, its fault committed. A fault leaves the stream failed.

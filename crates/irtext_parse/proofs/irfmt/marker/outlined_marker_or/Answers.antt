@@ -11,6 +11,13 @@ returns-then-take_text-clause-answers g c =
     let w = marker_whole g.S.CharStream.view g.S.CharStream.at m.view_at m.at_view m.at_at marker c.skip_white_space.new.stream c.take_text.new.stream c.take_text.result c.take_text.ensures c.if-take_text.true in
     unless_met g.S.CharStream.view g.S.CharStream.at (MarkerOr g.S.CharStream.view g.S.CharStream.at (Calls (λ r. r) g.F.FnMut) c.args.item) (g.S.CharStream.view c.args.stream.now).failed c.args.stream.now _ _ (sym c.has_failed.ensures ∙ c.if-has_failed.false) (marked _ _ c.skip_white_space.ensures.is w.0 w.1)
 
+pub reset-requires : goal.reset-requires
+reset-requires g c =
+    let m = g.met.S.CharStream in
+    let v = g.S.CharStream.view c.args.stream.now in
+    let stands = marker_left g.S.CharStream.view g.S.CharStream.at m.view_at m.at_view m.at_at marker c.args.stream.now c.skip_white_space.new.stream c.take_text.new.stream c.take_text.result c.skip_white_space.ensures c.take_text.ensures c.if-take_text.false in
+    record { passed = v.passed; rest = v.rest; same = set_within g.S.CharStream.view g.S.CharStream.at m.view_at m.at_view m.at_at c.args.stream.now c.take_text.new.stream stands; stands = c.position-start.ensures }
+
 pub returns-in-Ok-clause-answers : goal.returns-in-Ok-clause-answers
 returns-in-Ok-clause-answers g c =
     let m = g.met.S.CharStream in
