@@ -6,6 +6,8 @@ mod contexts;
 #[cfg(test)]
 mod demo;
 #[cfg(test)]
+mod dictionaries;
+#[cfg(test)]
 mod edges;
 #[cfg(test)]
 mod formats;

@@ -1,5 +1,5 @@
 //! The marks that a reading has seen: those that count from 0 on stand in a vector, and from the first gap on they stand in a map.
-ghost use Rattle.std.specs.Prelude.{◌≡◌, ◌==◌, ◌++◌, ◌∷◌, [], None, IfOk, OnOk, OnErr, length, take};
+ghost use Rattle.std.specs.Prelude.{◌≡◌, ◌++◌, ◌∷◌, [], None, IfOk, OnOk, OnErr, length, take};
 ghost use Rattle.std.specs.Map.{lookup};
 ghost use Rattle.irtext_state.specs.NotedMarks.{all_marks};
 ghost use Rattle.irtext_state.specs.States.{same_index, Marks};
