@@ -2,6 +2,7 @@
 ghost use Rattle.std.specs.Prelude.{◌≡◌, ◌⊎◌, OnOk, OnErr};
 ghost use Rattle.irtext_context.specs.Dialects.{with_op};
 ghost use Rattle.irtext_context.specs.DialectTable.{dialect_or_new, with_dialect};
+ghost use Rattle.irtext_context.specs.Directives.{format_of};
 
 use pliron_text::base::{Context, OpId};
 use pliron_text::dialect::{Dialect, DialectName};
@@ -18,7 +19,7 @@ pub fn register_operation<T: IrText<A>, A: AttrText>(
     format: OpFormat,
     isolated: bool,
 ) -> Result<(), A>
-    ensures ok { OnOk result (ctx.new ≡ record ctx.old { dialects = with_dialect ctx.old.dialects name.now (with_op (dialect_or_new ctx.old.dialects name.now) id format isolated) }) }
+    ensures ok { OnOk result (ctx.new ≡ record ctx.old { dialects = with_dialect ctx.old.dialects name.now (with_op (dialect_or_new ctx.old.dialects name.now) id (format_of format) isolated) }) }
     ensures err { OnErr result ((ctx.new ≡ ctx.old) ⊎ (ctx.new ≡ record ctx.old { dialects = with_dialect ctx.old.dialects name.now (dialect_or_new ctx.old.dialects name.now) })) }
 {
     let dialect = Dialect::register(ctx, name)?;

@@ -1,5 +1,5 @@
 -- A worked root without blocks, and the format of its operation.
-use Rattle.std.specs.Prelude.{Bool, true, false, cond, List, [], ◌∷◌, codes, Option, Some, None, Vec, ⊤}
+use Rattle.std.specs.Prelude.{Bool, true, false, cond, List, [], ◌∷◌, codes, Option, Some, None, ⊤}
 use Rattle.irtext_base.specs.Format as format
 use Rattle.irtext_base.specs.Format.{Id, Format, same_text}
 use Rattle.irtext_base.specs.Own.{Language, unplaced}
@@ -10,10 +10,7 @@ use Rattle.irtext_context.specs.declared.base.arena.Ptr.{Ptr}
 use Rattle.irtext_base.specs.declared.base.attributes.AttrObj.TheVariants.{Ident}
 use Rattle.irtext_base.specs.declared.base.identifier.OpId.{OpId}
 use Rattle.irtext_context.specs.declared.base.region.Region.{Region}
-use Rattle.irtext_base.specs.declared.format.Directive.{Directive}
-use Rattle.irtext_base.specs.declared.format.OpFormat.TheVariants.{Custom}
 use Rattle.irtext_base.specs.declared.location.Location.{Unknown}
-use Rattle.std.specs.declared.alloc.Global.{Global}
 use Rattle.irtext_grammar.specs.Grammar.Forest.{no_regions, region, no_blocks}
 use Rattle.irtext_grammar.specs.Graphs.Graph.{Graph, Printing}
 use Rattle.irtext_grammar.specs.Grammar.Tree.{ident, own}
@@ -57,16 +54,16 @@ func_id = record { dialect = codes "test"; name = codes "func" }
 abbrev pub func_with : Ptr Region → OperationView Text Text
 func_with r = record { id = func_id; result_types = []; attributes = (codes "builtin_sym_name", Ident (codes "f")) ∷ []; loc = Unknown; regions = r ∷ [] }
 
--- test.func is registered with these directives, and is isolated
-abbrev pub func_dialects : Vec Directive Global → List (Text × Table)
-func_dialects directives = (codes "test", record { name = codes "test"; entries = (func_id, record { format = Custom directives; isolated = true }) ∷ [] }) ∷ []
+-- test.func is registered, with a symbol's name and a region, and is isolated
+abbrev pub func_dialects : List (Text × Table)
+func_dialects = (codes "test", record { name = codes "test"; entries = (func_id, record { format = format.custom (format.header ∷ format.region 0 ∷ []); isolated = true }) ∷ [] }) ∷ []
 
 -- a context with these dialects, in which such an operation stands
-abbrev pub func_context : Vec Directive Global → Ptr Region → ContextView Text Text
-func_context directives r = record {
+abbrev pub func_context : Ptr Region → ContextView Text Text
+func_context r = record {
   made = 2;
   paths = [];
-  dialects = func_dialects directives;
+  dialects = func_dialects;
   operations = record { cells = record { generation = 1; object = Some (record { born = 0; content = func_with r }) } ∷ []; free = None };
   regions = record { cells = []; free = None };
 }

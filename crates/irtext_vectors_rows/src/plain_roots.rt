@@ -1,6 +1,5 @@
 //! What the definitions say of worked roots without blocks. Each function does nothing: its contract is a row that is computed.
-ghost use Rattle.std.specs.Prelude.{◌≡◌, [], ◌∷◌, codes, None, Some, Vec};
-ghost use Rattle.std.specs.declared.alloc.Global.{Global};
+ghost use Rattle.std.specs.Prelude.{◌≡◌, codes, None, Some};
 ghost use Rattle.std.specs.declared.marker.PhantomData.{PhantomData};
 ghost use Rattle.irtext_context.specs.Context.{operation};
 ghost use Rattle.irtext_base.specs.Format.{same_text};
@@ -8,8 +7,6 @@ ghost use Rattle.irtext_base.specs.Own.{unplaced};
 ghost use Rattle.irtext_context.specs.declared.base.arena.Ptr.{Ptr};
 ghost use Rattle.irtext_context.specs.declared.base.operation.Operation.{Operation};
 ghost use Rattle.irtext_context.specs.declared.base.region.Region as declared;
-ghost use Rattle.irtext_base.specs.declared.format.Directive.{Directive};
-ghost use Rattle.irtext_base.specs.declared.format.Directive.TheVariants.{Region, SymbolHeader};
 ghost use Rattle.irtext_vectors_rows.specs.Demo.{texts};
 ghost use Rattle.irtext_vectors_rows.specs.PlainRoots.{all_isolated, by_plain_formats, func_context, func_graph, func_with, never, plain_demo, two_regions};
 ghost use Rattle.irtext_grammar.specs.Contexts.Formats.{format_of};
@@ -31,8 +28,8 @@ pub fn premises_of_a_plain_root()
 /// A context with one dialect and one operation, which has a symbol's name and a region: how it is printed, and that it meets every
 /// premise of the law that what was printed is read back.
 pub fn premises_of_a_printed_root()
-    ensures { (directives : Vec Directive Global) (r : Ptr declared.Region) (o : PhantomData Operation) → directives.items ≡ SymbolHeader ∷ Region 0 ∷ [] →
-        let ctx = func_context directives r in
+    ensures { (r : Ptr declared.Region) (o : PhantomData Operation) →
+        let ctx = func_context r in
         let p : Ptr Operation = record { index = 0; generation = 1; of = o } in
         let s = fresh 2 0 Unlimited in
         (operation ctx p ≡ Some (func_with r)) × IsKept ctx (func_with r) × StandsAlone ctx.dialects (func_with r) × (graph_of texts.written ctx p ≡ Some func_graph) × (levels s.limit ≡ None)

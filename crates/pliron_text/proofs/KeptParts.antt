@@ -7,7 +7,7 @@ use Rattle.std.specs.List.{list_all}
 use Rattle.std.specs.Map.{keys_of}
 use Rattle.std.specs.Borrow.{Bor}
 use Rattle.std.specs.Option.{option_map}
-use Rattle.std.specs.Prelude.{IfSome, option_copied}
+use Rattle.std.specs.Prelude.{IfSome}
 use Rattle.std.specs.Str.{bytes_eq}
 use Rattle.irtext_base.specs.Dictionary.{is_reserved_for, are_given_names}
 use Rattle.irtext_base.specs.Faults.{id_of}
@@ -20,7 +20,7 @@ use Rattle.irtext_base.specs.declared.base.identifier.OpId.{OpId}
 use Rattle.irtext_base.specs.declared.location.Location.{Location}
 use Rattle.irtext_context.specs.Context.{ContextView, OperationView}
 use Rattle.irtext_context.specs.DialectTable.{registered}
-use Rattle.irtext_context.specs.Dialects.{Table}
+use Rattle.irtext_context.specs.Dialects.{Known, Table, known_of}
 use Rattle.irtext_context.specs.Directives as directives
 use Rattle.irtext_context.specs.declared.dialect.OpInfo.{OpInfo}
 use Rattle.irtext_grammar.specs.Contexts.Formats.{IsAccepted}
@@ -84,13 +84,13 @@ part_is see o v x is e = sym (same_Some (see v) x (sym (ap (option_map see) is) 
 abbrev pub RowIsKept : {A : Type 0} → LocationsOf (Option (List ℕ)) A → Type 0
 RowIsKept ls = RowFit ls × RowHold IsSpellableAttr ls
 
-accepted_in : (r : Option (Bor OpInfo)) → IfSome r (λ info. Accepted (directives.format_of info.now.format)) → IfSome (option_map (λ info. directives.format_of info.format) (option_copied r)) Accepted
+accepted_in : (r : Option (Bor OpInfo)) → IfSome r (λ info. Accepted (directives.format_of info.now.format)) → IfSome (option_map (λ (known : Known). known.format) (option_map (λ info. known_of info.now) r)) Accepted
 accepted_in None h = tt
 accepted_in (Some info) h = h
 
 -- the format of an operation, if it is registered, reads uniquely
-pub accepted_of : (dialects : List (Text × Table)) (id : OpId) (r : Option (Bor OpInfo)) → option_copied r ≡ registered dialects id → IfSome r (λ info. Accepted (directives.format_of info.now.format)) → IsAccepted dialects (id_of id)
-accepted_of dialects id r e h = subst (λ o. IfSome (option_map (λ info. directives.format_of info.format) o) Accepted) e (accepted_in r h)
+pub accepted_of : (dialects : List (Text × Table)) (id : OpId) (r : Option (Bor OpInfo)) → option_map (λ info. known_of info.now) r ≡ registered dialects id → IfSome r (λ info. Accepted (directives.format_of info.now.format)) → IsAccepted dialects (id_of id)
+accepted_of dialects id r e h = subst (λ o. IfSome (option_map (λ (known : Known). known.format) o) Accepted) e (accepted_in r h)
 
 -- what the parts of an operation keep, it keeps
 pub kept_of : {T A : Type 0} (ctx : ContextView T A) (op : OperationView T A) (id : OpId) (attributes : List (Text × AttrObj A)) (loc : Location A) → id ≡ op.id → attributes ≡ op.attributes → loc ≡ op.loc

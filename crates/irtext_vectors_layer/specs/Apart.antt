@@ -1,0 +1,18 @@
+-- A dialect with one operation, as a context has it in which nothing else is registered.
+use Rattle.std.specs.Prelude.{true, List, [], ◌∷◌, codes}
+use Rattle.irtext_base.specs.Format.{Format, custom, word, region}
+use Rattle.irtext_base.specs.Text.{Text}
+use Rattle.irtext_base.specs.declared.base.identifier.OpId.{OpId}
+use Rattle.irtext_context.specs.Dialects.{Table}
+
+-- lab.d
+abbrev pub lab_id : OpId
+lab_id = record { dialect = codes "lab"; name = codes "d" }
+
+-- a word and a region
+abbrev pub lab_format : Format
+lab_format = custom (word (codes "here") ∷ region 0 ∷ [])
+
+-- lab.d is registered with that format, and is isolated
+abbrev pub lab_dialects : List (Text × Table)
+lab_dialects = (codes "lab", record { name = codes "lab"; entries = (lab_id, record { format = lab_format; isolated = true }) ∷ [] }) ∷ []
