@@ -1,2 +1,3 @@
 -- What was read of an operation, as the code holds it.
 pub mod PiecesOf
+pub mod KnownIds

@@ -1,5 +1,5 @@
 //! Reading of what a format's directives read, behind an operation's id.
-ghost use Rattle.std.specs.Prelude.{◌≡◌, false, OnOk, [], ◌∷◌};
+ghost use Rattle.std.specs.Prelude.{◌≡◌, false, IfOk, OnOk, [], ◌∷◌};
 ghost use Rattle.irtext_base.specs.Answers.{Commits, mapped};
 ghost use Rattle.irtext_context.specs.Directives.{directive_of, directives_of, format_of};
 ghost use Rattle.irtext_base.specs.Faults.{Unexpected, AnOperation};
@@ -22,9 +22,11 @@ use irtext_base::format::{Directive, OpFormat};
 use irtext_base::parsable::{CharStream, ParseFault, ParseResult, TextStream};
 use irtext_base::result::{Cause, Expected};
 use irtext_base::text::AttrText;
+use irtext_context::dialect::OpInfo;
 use irtext_read::irfmt::demanded::{symbol_demanded, text_demanded};
 use irtext_read::irfmt::faults::{commit, out_of_memory, refuse, unexpected};
 use irtext_read::irfmt::parsers::skip_white_space;
+use std::alloc::{AllocError, Global};
 
 /// What was read of an operation behind its id: its attributes, and how many regions it has.
 #[derive(Drop)]
@@ -121,12 +123,26 @@ fn dictionary_piece<A: AttrText>(
     store_entries(stream, entries, found)
 }
 
+/// The key of a symbol's name, which shares the text of the one that is kept for the operation.
+fn name_key(alloc: Global, info: &OpInfo) -> Result<Identifier, AllocError>
+    ensures { IfOk result (λ key. key ≡ sym_name_key) }
+{
+    match info.sym_name_key() {
+        Some(key) => key.clone(),
+        None => Identifier::from_word(alloc, "builtin_sym_name"),
+    }
+}
+
 /// Reads a symbol's name, and adds it to the pieces found under its key.
-fn header_piece<A: AttrText>(stream: &mut TextStream, found: &mut Pieces<A>) -> ParseResult<(), A>
+fn header_piece<A: AttrText>(
+    stream: &mut TextStream,
+    info: &OpInfo,
+    found: &mut Pieces<A>,
+) -> ParseResult<(), A>
     ensures { MustRead itself replaced (λ _. pieces_of found.new) (λ t. mapped (λ name. with_entries (pieces_of found.old) ((sym_name_key, ident name) ∷ [])) (symbol_at t)) stream.old result stream.new }
 {
     let symbol = symbol_demanded(stream)?;
-    match Identifier::from_word(stream.allocator(), "builtin_sym_name") {
+    match name_key(stream.allocator(), info) {
         Ok(key) => store_entry(stream, (key, AttrObj::Ident(symbol)), found),
         Err(_) => Err(out_of_memory(stream)),
     }
@@ -159,11 +175,11 @@ fn regions_piece<A>(
 /// Reads what one directive reads, and adds it to the pieces found.
 fn piece_parse<A: AttrText>(
     stream: &mut TextStream,
-    isolated: bool,
+    info: &OpInfo,
     directive: &Directive,
     found: &mut Pieces<A>,
 ) -> ParseResult<(), A>
-    ensures { MustRead itself replaced (λ _. pieces_of found.new) (piece_after (attr_at A.IrText.reading) isolated (directive_of directive.now) (pieces_of found.old)) stream.old result stream.new }
+    ensures { MustRead itself replaced (λ _. pieces_of found.new) (piece_after (attr_at A.IrText.reading) info.now.isolated (directive_of directive.now) (pieces_of found.old)) stream.old result stream.new }
 {
     if stream.has_failed() {
         return Err(refuse(stream, Cause::StreamFailed));
@@ -172,9 +188,9 @@ fn piece_parse<A: AttrText>(
         Directive::Literal(text) => text_demanded(stream, text.as_str()),
         Directive::Attr(key) => attr_piece(stream, key, found),
         Directive::AttrDict => dictionary_piece(stream, found),
-        Directive::SymbolHeader => header_piece(stream, found),
-        Directive::Region(_) => region_piece(stream, isolated, found),
-        Directive::Regions => regions_piece(stream, isolated, found),
+        Directive::SymbolHeader => header_piece(stream, info, found),
+        Directive::Region(_) => region_piece(stream, info.isolated, found),
+        Directive::Regions => regions_piece(stream, info.isolated, found),
         Directive::Operand(_) => Err(not_read(stream)),
         Directive::Operands => Err(not_read(stream)),
         Directive::Successor(_) => Err(not_read(stream)),
@@ -186,10 +202,10 @@ fn piece_parse<A: AttrText>(
 /// Reads what directives read, with white space before each.
 fn pieces_parse<A: AttrText>(
     stream: &mut TextStream,
-    isolated: bool,
+    info: &OpInfo,
     directives: &[Directive],
 ) -> ParseResult<Pieces<A>, A>
-    ensures { stream.old.failed ≡ false → MustRead itself replaced pieces_of (pieces_after (attr_at A.IrText.reading) isolated (directives_of directives.now) no_pieces) stream.old result stream.new }
+    ensures { stream.old.failed ≡ false → MustRead itself replaced pieces_of (pieces_after (attr_at A.IrText.reading) info.now.isolated (directives_of directives.now) no_pieces) stream.old result stream.new }
 {
     let mut found = Pieces {
         attributes: AttributeDict::new(stream.allocator()),
@@ -198,7 +214,7 @@ fn pieces_parse<A: AttrText>(
     let mut left = directives;
     while let Some((directive, rest)) = left.split_first() {
         skip_white_space(stream);
-        piece_parse(stream, isolated, directive, &mut found)?;
+        piece_parse(stream, info, directive, &mut found)?;
         left = rest;
     }
     Ok(found)
@@ -210,16 +226,15 @@ fn pieces_parse<A: AttrText>(
 /// stream failed.
 pub(crate) fn body_parse<A: AttrText>(
     stream: &mut TextStream,
-    format: &OpFormat,
-    isolated: bool,
+    info: &OpInfo,
 ) -> ParseResult<Pieces<A>, A>
-    ensures { MustRead itself replaced pieces_of (body_at (attr_at A.IrText.reading) isolated (format_of format.now)) stream.old result stream.new }
+    ensures { MustRead itself replaced pieces_of (body_at (attr_at A.IrText.reading) info.now.isolated (format_of info.now.format)) stream.old result stream.new }
 {
     if stream.has_failed() {
         return Err(refuse(stream, Cause::StreamFailed));
     }
-    match format {
+    match &info.format {
         OpFormat::Canonical => Err(not_read(stream)),
-        OpFormat::Custom(directives) => pieces_parse(stream, isolated, directives.as_slice()),
+        OpFormat::Custom(directives) => pieces_parse(stream, info, directives.as_slice()),
     }
 }

@@ -11,6 +11,7 @@ ghost use Rattle.irtext_outcomes.specs.Promises.Section.{ReadsWith, MissesWith};
 
 mod body;
 mod head;
+mod known;
 mod mark;
 mod operation;
 mod root;

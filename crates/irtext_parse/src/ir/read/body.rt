@@ -1,24 +1,20 @@
-//! What stands behind the id of an operation, by its format, and the operation that is made of it.
+//! What is read of an operation, and the operation that is made of it.
 ghost use Rattle.std.specs.Prelude.{◌≡◌, ◌≤◌, ℕ, None, IsSome, IfOk, IfErr, OnOk};
 ghost use Rattle.irtext_base.specs.Answers.{StarvesHere};
 ghost use Rattle.irtext_context.specs.Context.{operation, before, KeepsOlder};
-ghost use Rattle.irtext_context.specs.DialectTable.{registered};
-ghost use Rattle.irtext_base.specs.Faults.{id_of};
 ghost use Rattle.irtext_context.specs.Made.{AddsRegions};
 ghost use Rattle.irtext_read.specs.AttrTexts.{attr_at};
 ghost use Rattle.irtext_state.specs.States.{marks_of};
-ghost use Rattle.irtext_grammar.specs.Contexts.Formats.{IsAccepted};
-ghost use Rattle.irtext_read.specs.MustRead.{MustRead};
 ghost use Rattle.irtext_outcomes.specs.Promises.Operation.{MakesWith};
-ghost use Rattle.irtext_outcomes.specs.Readers.Operations.{body_of};
-ghost use Rattle.irtext_parse.specs.Readers.PiecesOf.{pieces_of};
 ghost use Rattle.irtext_outcomes.specs.Readers.Streams.{itself, replaced, KeepsRest};
+ghost use Rattle.irtext_parse.specs.Readers.KnownIds.{ReadsPieces, MissesPieces};
 
 use crate::format::pieces::{Pieces, body_parse};
+use crate::ir::read::head::led_id_parse;
 use crate::parsable::out_of_memory;
 use irtext_base::base::OpId;
 use irtext_base::location::Location;
-use irtext_base::parsable::{CharStream, ParseResult, TextStream};
+use irtext_base::parsable::{ParseResult, TextStream};
 use irtext_base::text::{AttrText, IrText};
 use irtext_context::base::context::making::Making;
 use irtext_context::base::operation::add_regions;
@@ -26,20 +22,17 @@ use irtext_context::base::{Context, Operation, Ptr};
 use irtext_state::parsable::StateStream;
 use std::alloc::AllocError;
 
-/// What stands behind the id of a registered operation, by its format.
-pub(crate) fn known_body_parse<T: IrText<A>, A: AttrText>(
+/// The id of a registered operation, and what stands behind it by its format. The operation is looked up once.
+pub(crate) fn pieces_parse<T: IrText<A>, A: AttrText>(
     stream: &mut TextStream,
     ctx: &Context<T, A>,
-    id: &OpId,
-) -> ParseResult<Pieces<A>, A>
-    requires { IsSome (registered ctx.now.dialects id.now) }
-    ensures read { MustRead itself replaced pieces_of (body_of ctx.now.dialects (attr_at A.IrText.reading) (id_of id.now)) stream.old result stream.new }
-    ensures accepted { IsAccepted ctx.now.dialects (id_of id.now) }
+) -> ParseResult<(OpId, Pieces<A>), A>
+    ensures read { IfOk result (λ op. ReadsPieces ctx.now.dialects (attr_at A.IrText.reading) stream.old op.0 op.1 stream.new) }
+    ensures missed { IfErr result (λ fault. MissesPieces ctx.now.dialects (attr_at A.IrText.reading) stream.old fault stream.new) }
 {
-    match ctx.op_info(id) {
-        Some(info) => body_parse(stream, &info.format, info.isolated),
-        None => unreachable!(),
-    }
+    let (id, info) = led_id_parse(stream, ctx)?;
+    let pieces = body_parse(stream, info)?;
+    Ok((id, pieces))
 }
 
 /// The operation that was read, with its regions. What was made stays where memory is refused.

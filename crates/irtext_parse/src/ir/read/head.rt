@@ -1,17 +1,23 @@
 //! What stands in front of an operation, and its id.
-ghost use Rattle.std.specs.Prelude.{◌≡◌, cond, IsSome, IfOk};
+ghost use Rattle.std.specs.Prelude.{◌≡◌, cond, Some, IfOk};
 ghost use Rattle.irtext_base.specs.Answers.{Takes, DemandsOf};
+ghost use Rattle.irtext_base.specs.Format.{Accepted};
 ghost use Rattle.irtext_context.specs.DialectTable.{registered};
+ghost use Rattle.irtext_context.specs.Dialects.{known_of};
+ghost use Rattle.irtext_context.specs.Directives.{format_of};
 ghost use Rattle.irtext_base.specs.Faults.{id_of};
 ghost use Rattle.irtext_outcomes.specs.Readers.Parts.{lead_of, behind_lead, is_led};
 ghost use Rattle.irtext_read.specs.MustRead.{MayRead};
 ghost use Rattle.irtext_outcomes.specs.Readers.Operations.{led_id_at, Registers};
+ghost use Rattle.irtext_parse.specs.Readers.KnownIds.{id_in};
 
+use crate::ir::read::known::{known_op, shared};
 use irtext_base::base::OpId;
 use irtext_base::parsable::{CharStream, ParseResult, Place};
 use irtext_base::result::Cause;
 use irtext_base::text::{AttrText, IrText};
 use irtext_context::base::Context;
+use irtext_context::dialect::OpInfo;
 use irtext_read::irfmt::faults::{committed, next_is, refuse, refuse_at};
 use irtext_read::irfmt::parsers::{id_parse, skip_white_space};
 
@@ -52,40 +58,50 @@ fn demand_if<S: CharStream, X, A>(
     }
 }
 
-/// The id, where its operation is registered. `start` is where the operation begins, `at` where its id does.
-fn registered<S: CharStream, T: IrText<A>, A: AttrText>(
+/// The id with what is known of its operation, where that is registered. `start` is where the operation begins, `at` where its id does.
+#[cold]
+fn registered<'c, S: CharStream, T: IrText<A>, A: AttrText>(
     stream: &mut S,
-    ctx: &Context<T, A>,
+    ctx: &'c Context<T, A>,
     start: Place,
     at: Place,
     id: OpId,
-) -> ParseResult<OpId, A>
-    ensures { Registers S.view S.at ctx.now.dialects start at id stream.old result stream.new }
+) -> ParseResult<(OpId, &'c OpInfo), A>
+    ensures registers { Registers S.view S.at ctx.now.dialects start at id stream.old (id_in result) stream.new }
+    ensures known { IfOk result (λ op. registered ctx.now.dialects op.0 ≡ Some (known_of op.1.now)) }
+    ensures accepted { IfOk result (λ op. Accepted (format_of op.1.now.format)) }
 {
     if !ctx.has_dialect(&id.dialect) {
         return Err(refuse_at(stream, at, Cause::UnregisteredDialect(id.dialect)));
     }
-    if ctx.op_info(&id).is_none() {
-        return Err(refuse_at(stream, start, Cause::UnregisteredOp(id)));
+    match ctx.op_info(&id) {
+        Some(info) => Ok((id, info)),
+        None => Err(refuse_at(stream, start, Cause::UnregisteredOp(id))),
     }
-    Ok(id)
 }
 
-/// The id of a registered operation, behind what may stand in front of it.
-pub(crate) fn led_id_parse<S: CharStream, T: IrText<A>, A: AttrText>(
+/// The id of a registered operation, behind what may stand in front of it, and what is known of the operation. A registered id takes
+/// no memory.
+pub(crate) fn led_id_parse<'c, S: CharStream, T: IrText<A>, A: AttrText>(
     stream: &mut S,
-    ctx: &Context<T, A>,
-) -> ParseResult<OpId, A>
-    ensures read { MayRead S.view S.at id_of (led_id_at ctx.now.dialects) stream.old result stream.new }
-    ensures known { IfOk result (λ id. IsSome (registered ctx.now.dialects id)) }
+    ctx: &'c Context<T, A>,
+) -> ParseResult<(OpId, &'c OpInfo), A>
+    ensures read { MayRead S.view S.at (λ op. id_of op.0) (led_id_at ctx.now.dialects) stream.old result stream.new }
+    ensures known { IfOk result (λ op. registered ctx.now.dialects op.0 ≡ Some (known_of op.1.now)) }
+    ensures accepted { IfOk result (λ op. Accepted (format_of op.1.now.format)) }
 {
     if stream.has_failed() {
         return Err(refuse(stream, Cause::StreamFailed));
     }
     let start = stream.position();
     let led = lead_parse(stream);
-    let at = stream.position();
-    let answer = id_parse(stream);
-    let id = demand_if(stream, led, answer)?;
-    registered(stream, ctx, start, at, id)
+    match known_op(stream, ctx) {
+        Some((id, info)) => shared(stream, id, info),
+        None => {
+            let at = stream.position();
+            let answer = id_parse(stream);
+            let id = demand_if(stream, led, answer)?;
+            registered(stream, ctx, start, at, id)
+        }
+    }
 }

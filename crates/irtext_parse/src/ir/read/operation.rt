@@ -9,8 +9,7 @@ ghost use Rattle.irtext_outcomes.specs.Readers.Streams.{KeepsRest};
 ghost use Rattle.irtext_outcomes.specs.Promises.Section.{Faults};
 ghost use Rattle.irtext_outcomes.specs.Promises.Supported.{is_committed, OperationRefused};
 
-use crate::ir::read::body::{known_body_parse, make_read};
-use crate::ir::read::head::led_id_parse;
+use crate::ir::read::body::{make_read, pieces_parse};
 use crate::ir::read::mark::operation_mark_parse;
 use irtext_base::parsable::{CharStream, ParseResult};
 use irtext_base::text::{AttrText, IrText};
@@ -32,8 +31,7 @@ pub(crate) fn operation_parse<T: IrText<A>, A: AttrText, U>(
 {
     let loc = s.loc();
     let ctx = &mut *s.state.ctx;
-    let id = led_id_parse(&mut s.stream, ctx)?;
-    let pieces = known_body_parse(&mut s.stream, ctx, &id)?;
+    let (id, pieces) = pieces_parse(&mut s.stream, ctx)?;
     let op = make_read(s, id, pieces, loc)?;
     skip_white_space(&mut s.stream);
     operation_mark_parse(s, op)?;

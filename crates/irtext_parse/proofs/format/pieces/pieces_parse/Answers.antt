@@ -14,14 +14,14 @@ use Rattle.irtext_parse.proofs.format.pieces.pieces_parse.Goals as goal
 
 pub loop-directive-init : goal.loop-directive-init
 loop-directive-init g c = λ fine.
-    let outcome = pieces_after (attr_at g.A.IrText.reading) c.args.isolated (directives_of c.args.directives.now) in
+    let outcome = pieces_after (attr_at g.A.IrText.reading) c.args.info.now.isolated (directives_of c.args.directives.now) in
     let e : no_pieces ≡ pieces_of (record { attributes = c.new.result; regions = 0 }) = ap (λ es. with_attributes 0 (entries_of es)) (sym c.new.ensures) in
     starts alone (outcome no_pieces) (outcome (pieces_of (record { attributes = c.new.result; regions = 0 }))) c.args.stream.now fine (ap (λ p. outcome p c.args.stream.now.rest) e)
 
 pub returns-in_err-piece_parse : goal.returns-in_err-piece_parse
 returns-in_err-piece_parse g c = λ fine.
     let attr = attr_at g.A.IrText.reading in
-    let iso = c.args.isolated in
+    let iso = c.args.info.now.isolated in
     let found = pieces_of c.loop-directive.found in
     let ds = directives_of c.in-Some.rest.now in
     let e : c.loop-directive.left.now ≡ c.in-Some.directive.now ∷ c.in-Some.rest.now = c.in-Some.ensures.cases.0 in
@@ -34,7 +34,7 @@ returns-in_err-piece_parse g c = λ fine.
 pub loop-directive-preserved : goal.loop-directive-preserved
 loop-directive-preserved g c = λ fine.
     let attr = attr_at g.A.IrText.reading in
-    let iso = c.args.isolated in
+    let iso = c.args.info.now.isolated in
     let found = pieces_of c.loop-directive.found in
     let ds = directives_of c.in-Some.rest.now in
     let e : c.loop-directive.left.now ≡ c.in-Some.directive.now ∷ c.in-Some.rest.now = c.in-Some.ensures.cases.0 in

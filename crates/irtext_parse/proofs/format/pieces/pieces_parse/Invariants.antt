@@ -10,8 +10,8 @@ use Rattle.irtext_parse.proofs.format.pieces.pieces_parse.Given as goal
 -- what is left of the directives reads what is left of the text
 abbrev pub invariant-loop-directive : goal.invariant-loop-directive
 invariant-loop-directive g l =
-    l.fn.stream.failed ≡ false → Passed alone (pieces_after (attr_at g.A.IrText.reading) l.isolated (directives_of l.directives) no_pieces)
-    (pieces_after (attr_at g.A.IrText.reading) l.isolated (directives_of l.left) (pieces_of l.found)) l.fn.stream l.stream
+    l.fn.stream.failed ≡ false → Passed alone (pieces_after (attr_at g.A.IrText.reading) l.info.isolated (directives_of l.directives) no_pieces)
+    (pieces_after (attr_at g.A.IrText.reading) l.info.isolated (directives_of l.left) (pieces_of l.found)) l.fn.stream l.stream
 
 abbrev pub decreases-loop-directive : goal.decreases-loop-directive
 decreases-loop-directive g l = length l.left
