@@ -1,5 +1,5 @@
 -- What was appended piece by piece, as one text.
-use Rattle.std.proofs.Common.{◌≡◌, ◌++◌, ◌∙◌, ℕ, List, refl, ap, Result, Ok, Err, OnOk, IfErr, codes, ◌+◌, ◌*◌, ◌/◌, ◌%◌, replicate, take, ◌-◌, ◌≤◌, zero, suc, arith}
+use Rattle.std.proofs.Common.{◌≡◌, ◌++◌, ◌∙◌, ℕ, List, true≢false, refl, sym, ap, Result, Ok, Err, OnOk, IsOk, IfErr, codes, ◌+◌, ◌*◌, ◌/◌, ◌%◌, replicate, take, ◌-◌, ◌≤◌, zero, suc, arith}
 use Rattle.std.specs.Str.{IsAscii}
 use Rattle.std.proofs.lemmas.List.{append_assoc, replicate-append-replicate, take-replicate}
 use Rattle.std.specs.List.{slice_range}
@@ -15,6 +15,12 @@ use Rattle.irtext_print.specs.Errors.Located.{located_cause}
 pub then : {X E P Q : Type 0} (r : Result X E) → (P → Q) → OnOk r P → OnOk r Q
 then (Ok x) f p = f p
 then (Err e) f p = tt
+
+-- what follows behind a call whose answer was handed on
+pub behind : {X Y E F P Q : Type 0} (r : Result X E) (answer : Result Y F) → OnOk r (IsOk answer) → OnOk answer P → (P → Q) → OnOk r Q
+behind (Ok x) (Ok y) h p f = f p
+behind (Ok x) (Err e) h p f = absurd (true≢false (sym h))
+behind (Err e) answer h p f = tt
 
 -- what is known where a call was refused
 pub then-err : {X E : Type 0} {P Q : E → Type 0} (r : Result X E) → ((e : E) → P e → Q e) → IfErr r P → IfErr r Q

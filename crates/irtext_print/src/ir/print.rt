@@ -10,6 +10,7 @@ ghost use Rattle.irtext_print.specs.declared.printable.refusal.Refusal.TheVarian
 
 use crate::ir::print::concrete::print_concrete;
 use crate::location::print::fmt_known;
+use crate::printable::refusal::memory_alone;
 use crate::printable::state::State;
 use crate::printable::{Printable, Refusal};
 use irtext_base::location::Location;
@@ -128,10 +129,7 @@ pub fn print_root<T: IrText<A>, A: AttrText, U>(
 {
     print_concrete(ctx, op, state, f)?;
     fmt_mark(op.loc(ctx), op, state, f)?;
-    match fmt_section(ctx, state, f) {
-        Ok(()) => Ok(()),
-        Err(_) => Err(Refusal::Memory),
-    }
+    memory_alone(fmt_section(ctx, state, f))
 }
 
 impl<T: IrText<A>, A: AttrText, U> Printable<U, T, A> for Ptr<Operation> {

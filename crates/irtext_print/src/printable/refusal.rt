@@ -1,6 +1,7 @@
 //! Why a printing was refused.
 
-ghost use Rattle.std.specs.Prelude.{◌≡◌};
+ghost use Rattle.std.specs.Prelude.{◌≡◌, OnOk, IfErr, IsOk};
+ghost use Rattle.irtext_print.specs.declared.printable.refusal.Refusal.TheVariants as refusal;
 
 use std::alloc::AllocError;
 use std::fmt;
@@ -14,6 +15,17 @@ pub enum Refusal {
     Depth,
     /// The operation doesn't fit its format.
     Misfit,
+}
+
+/// The answer of a call that fails only where memory is refused.
+pub(crate) fn memory_alone(answer: fmt::Result) -> Result<(), Refusal>
+    ensures ok { OnOk result (IsOk answer) }
+    ensures refused { IfErr result (λ e. e ≡ refusal.Memory) }
+{
+    match answer {
+        Ok(()) => Ok(()),
+        Err(_) => Err(Refusal::Memory),
+    }
 }
 
 impl From<AllocError> for Refusal {

@@ -9,6 +9,7 @@ ghost use Rattle.irtext_print.specs.declared.printable.refusal.Refusal.TheVarian
 use crate::ir::print::pieces::{fmt_dictionary, fmt_keyed, fmt_symbol, fmt_word};
 use crate::ir::print::regions::{fmt_next_region, fmt_regions};
 use crate::printable::Refusal;
+use crate::printable::refusal::memory_alone;
 use crate::printable::state::State;
 use irtext_base::base::AttributeDict;
 use irtext_base::format::Directive;
@@ -21,10 +22,8 @@ fn behind(answer: fmt::Result, left: usize) -> Result<usize, Refusal>
     ensures left { IfOk result (λ n. n ≡ left) }
     ensures refused { IfErr result (λ e. e ≡ refusal.Memory) }
 {
-    match answer {
-        Ok(()) => Ok(left),
-        Err(_) => Err(Refusal::Memory),
-    }
+    memory_alone(answer)?;
+    Ok(left)
 }
 
 /// Appends what a directive writes, where so many regions are left, and answers how many are left then.

@@ -6,6 +6,7 @@ ghost use Rattle.irtext_print.specs.Printers.Printing.{width_of, indent_of};
 ghost use Rattle.irtext_grammar.specs.Spelling.Spell.{newline};
 ghost use Rattle.irtext_print.specs.declared.printable.refusal.Refusal.TheVariants as refusal;
 
+use crate::printable::refusal::memory_alone;
 use crate::printable::state::State;
 use crate::printable::{Refusal, fmt_indented_newline};
 
@@ -14,10 +15,7 @@ fn fmt_newline<U>(state: &State<U>, f: &mut String) -> Result<(), Refusal>
     ensures text { OnOk result (string_bytes f.new ≡ string_bytes f.old ++ newline (indent_of state.now)) }
     ensures refused { IfErr result (λ e. e ≡ refusal.Memory) }
 {
-    match fmt_indented_newline(state, f) {
-        Ok(()) => Ok(()),
-        Err(_) => Err(Refusal::Memory),
-    }
+    memory_alone(fmt_indented_newline(state, f))
 }
 
 /// Appends what stands between the braces where there is no block.

@@ -8,6 +8,7 @@ ghost use Rattle.irtext_print.specs.Printers.PieceText.{IsTooDeep};
 use crate::ir::print::concrete::fmt_id;
 use crate::ir::print::pieces::symbol_of;
 use crate::ir::print::regions::fmt_region;
+use crate::printable::refusal::memory_alone;
 use crate::printable::state::State;
 use crate::printable::{Printable, Refusal};
 use irtext_base::text::{AttrText, IrText};
@@ -94,10 +95,7 @@ pub fn print_typed_symb_op_header<T: IrText<A>, A: AttrText>(
 {
     print_symb_op_header(ctx, op, f)?;
     f.push_str(": ")?;
-    match ty.write_text(f) {
-        Ok(()) => Ok(()),
-        Err(_) => Err(Refusal::Memory),
-    }
+    memory_alone(ty.write_text(f))
 }
 
 /// Appends what [`region`] writes, and says why it is refused: [`Refusal::Misfit`] where the operation has no region or several,
