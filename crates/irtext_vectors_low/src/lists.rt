@@ -104,7 +104,12 @@ fn read(alloc: Global, stream: &mut TextStream, reader: Reader) -> Result<String
         Reader::Spaces => list_with_sep_parser(stream, ListSeparator::Char(' '), int_parse),
         Reader::Lines => list_with_sep_parser(stream, ListSeparator::Newline, int_parse),
     };
-    told(alloc, &answer, stream.locate(stream.position()), stream.peek())
+    told(
+        alloc,
+        &answer,
+        stream.locate(stream.position()),
+        stream.peek(),
+    )
 }
 
 /// What a reader answers on a text of its own.

@@ -209,10 +209,7 @@ fn a_stream_goes_by_slices(rt: HostRuntime) -> Result<(), Fail> {
     assert!(rt; !stream.accept("ab"));
     assert_eq!(rt; stream.peek(), Some('a'));
     let place = stream.position();
-    assert_eq!(rt;
-        stream.locate(place),
-        SourcePosition { line: 2, column: 4 }
-    );
+    assert_eq!(rt; stream.locate(place), SourcePosition { line: 2, column: 4 });
     Ok(())
 }
 
@@ -230,7 +227,10 @@ fn a_long_line_counts_characters(rt: HostRuntime) -> Result<(), Fail> {
     let place = stream.position();
     assert_eq!(rt;
         stream.locate(place),
-        SourcePosition { line: 2, column: 1100 }
+        SourcePosition {
+            line: 2,
+            column: 1100
+        }
     );
     Ok(())
 }
