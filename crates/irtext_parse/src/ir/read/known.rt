@@ -17,7 +17,8 @@ use irtext_read::irfmt::parsers::skip_identifier;
 use std::alloc::AllocError;
 use std::convert::AsStr;
 
-/// Passes an id as far as it is one of a registered operation, with what the context has of that where it is.
+/// Passes what may be an id, and looks it up: the id of a registered operation, as its dialect has it, with what is known of that.
+/// What is passed where none is found isn't told.
 fn look_up<'c, S: CharStream, T: IrText<A>, A: AttrText>(
     stream: &mut S,
     ctx: &'c Context<T, A>,
