@@ -33,6 +33,8 @@ const STEPS: &[&str] = &[
     "test",
     "Compilation error: invalid input program.\nParse error at line: 1, column: 1\nUnregistered dialect non_existant\n",
     "Compilation error: invalid input program.\nParse error at line: 1, column: 1\nUnexpected ` `, expected identifier\n",
+    "test z false",
+    "unknown",
 ];
 
 /// The id of an operation of the dialect `test`.
@@ -79,6 +81,16 @@ fn known(alloc: Global, ctx: &Ctx, name: &str) -> Result<String, Fail> {
         None => "unknown",
     };
     Ok(String::from_str(alloc, word)?)
+}
+
+/// What is known of an operation of the dialect `test` by the texts of its id: these, and whether its format has a symbol's name.
+fn found(alloc: Global, ctx: &Ctx, name: &str) -> Result<String, Fail> {
+    let (key, dialect) = ctx.dialect_named("test").ok_or("not registered")?;
+    let Some((id, info)) = dialect.op_named("test", name) else {
+        return Ok(String::from_str(alloc, "unknown")?);
+    };
+    let has_header = info.sym_name_key().is_some();
+    Ok(format!(in alloc; "{} {} {has_header}", key.as_str(), id.name.as_str())?)
 }
 
 /// What the registered dialect prints.
@@ -137,7 +149,9 @@ fn step(alloc: Global, ctx: &mut Ctx, number: usize) -> Result<String, Fail> {
         13 => read(alloc, ctx, "test"),
         14 => read(alloc, ctx, "test.x"),
         15 => read(alloc, ctx, "non_existant"),
-        _ => read(alloc, ctx, " test"),
+        16 => read(alloc, ctx, " test"),
+        17 => found(alloc, ctx, "z"),
+        _ => found(alloc, ctx, "y"),
     }
 }
 

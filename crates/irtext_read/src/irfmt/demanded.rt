@@ -14,13 +14,28 @@ use irtext_base::base::Identifier;
 use irtext_base::parsable::{CharStream, ParseResult};
 use irtext_base::result::Cause;
 
+/// The same as `text_demanded`, for texts that don't stand there whole.
+#[cold]
+#[inline(never)]
+fn text_missed<S: CharStream, A>(stream: &mut S, text: &str) -> ParseResult<(), A>
+    ensures { MustRead S.view S.at (λ u. u) (text_at (characters text.now)) stream.old result stream.new }
+{
+    let answer = text_parse(stream, text);
+    committed(stream, answer)
+}
+
 /// Reads a fixed text as `text_parse` does, with its faults committed.
 #[inline]
 pub fn text_demanded<S: CharStream, A>(stream: &mut S, text: &str) -> ParseResult<(), A>
     ensures { MustRead S.view S.at (λ u. u) (text_at (characters text.now)) stream.old result stream.new }
 {
-    let answer = text_parse(stream, text);
-    committed(stream, answer)
+    if stream.has_failed() {
+        return text_missed(stream, text);
+    }
+    if stream.accept(text) {
+        return Ok(());
+    }
+    text_missed(stream, text)
 }
 
 /// Reads an identifier as `identifier_parse` does, with its faults committed.
