@@ -1,7 +1,6 @@
 //! Reading of what a format's directives read, behind an operation's id.
 ghost use Rattle.std.specs.Prelude.{◌≡◌, false, IfOk, OnOk, [], ◌∷◌};
 ghost use Rattle.irtext_base.specs.Answers.{Commits, mapped};
-ghost use Rattle.irtext_context.specs.Directives.{directive_of, directives_of, format_of};
 ghost use Rattle.irtext_base.specs.Faults.{Unexpected, AnOperation};
 ghost use Rattle.irtext_base.specs.Format.{sym_name_key};
 ghost use Rattle.irtext_base.specs.Stream.{first_of};
@@ -9,8 +8,8 @@ ghost use Rattle.irtext_read.specs.AttrTexts.{attr_at};
 ghost use Rattle.irtext_grammar.specs.Graphs.Build.{put_all};
 ghost use Rattle.irtext_outcomes.specs.Readers.Parts.{symbol_at};
 ghost use Rattle.irtext_read.specs.MustRead.{MustRead};
-ghost use Rattle.irtext_outcomes.specs.Readers.Directives.{with_entries, with_regions, no_pieces, keyed_at, dictionary_at, region_at, regions_at, piece_after, pieces_after, body_at};
-ghost use Rattle.irtext_parse.specs.Readers.PiecesOf.{entry_of, pieces_of, Adds};
+ghost use Rattle.irtext_outcomes.specs.Readers.Directives.{with_entries, with_regions, keyed_at, dictionary_at, region_at, regions_at};
+ghost use Rattle.irtext_parse.specs.Readers.PiecesOf.{entry_of, pieces_of, Adds, ReadsDirective, ReadsDirectives, ReadsBody};
 ghost use Rattle.irtext_outcomes.specs.Readers.Streams.{itself, replaced};
 ghost use Rattle.irtext_grammar.specs.Contexts.Held.{entries_of};
 ghost use Rattle.irtext_grammar.specs.Grammar.Tree.{ident};
@@ -179,7 +178,7 @@ fn piece_parse<A: AttrText>(
     directive: &Directive,
     found: &mut Pieces<A>,
 ) -> ParseResult<(), A>
-    ensures { MustRead itself replaced (λ _. pieces_of found.new) (piece_after (attr_at A.IrText.reading) info.now.isolated (directive_of directive.now) (pieces_of found.old)) stream.old result stream.new }
+    ensures { ReadsDirective A.IrText.reading info.now directive.now found.old found.new stream.old result stream.new }
 {
     if stream.has_failed() {
         return Err(refuse(stream, Cause::StreamFailed));
@@ -205,7 +204,7 @@ fn pieces_parse<A: AttrText>(
     info: &OpInfo,
     directives: &[Directive],
 ) -> ParseResult<Pieces<A>, A>
-    ensures { stream.old.failed ≡ false → MustRead itself replaced pieces_of (pieces_after (attr_at A.IrText.reading) info.now.isolated (directives_of directives.now) no_pieces) stream.old result stream.new }
+    ensures { stream.old.failed ≡ false → ReadsDirectives A.IrText.reading info.now directives.now stream.old result stream.new }
 {
     let mut found = Pieces {
         attributes: AttributeDict::new(stream.allocator()),
@@ -228,7 +227,7 @@ pub(crate) fn body_parse<A: AttrText>(
     stream: &mut TextStream,
     info: &OpInfo,
 ) -> ParseResult<Pieces<A>, A>
-    ensures { MustRead itself replaced pieces_of (body_at (attr_at A.IrText.reading) info.now.isolated (format_of info.now.format)) stream.old result stream.new }
+    ensures { ReadsBody A.IrText.reading info.now stream.old result stream.new }
 {
     if stream.has_failed() {
         return Err(refuse(stream, Cause::StreamFailed));
