@@ -4,9 +4,10 @@
 Reads and prints texts of that many megabytes (10 where none is given) with the program of crates/irtext_bench, which `rt ci` or
 `rt run` in that folder builds. One text of roots has newlines, one has none. Best of five runs; the start of the program is taken
 off, and where a text is printed its reading too. Printing is done ten times in a run, so that it is not lost in the noise of
-reading. Then come lists of integers and of quoted texts as they are read, and a text that is printed between quotation marks, with
-a plain copy of the same bytes beside it. Last come the instructions of an item, with what it may take, counted by valgrind where it
-is there: they are the same on a busy machine."""
+reading. Then come lists of integers and of quoted texts as they are read, a text that is printed between quotation marks, with a
+plain copy of the same bytes beside it, positions at the end of a text, and locations that stand in one another a million deep. Last
+come the instructions of an item, with what it may take, counted by valgrind where it is there: they are the
+same on a busy machine."""
 import os
 import re
 import shutil
@@ -113,6 +114,21 @@ def fused(count):
     return "builtin.module @m\n{\n}!0\n\noutlined_attributes:\n!0 = @[fused[%s]], []\n" % places
 
 
+# How locations stand in one another: what stands in front of the inner one, and what behind it.
+NESTINGS = (
+    ("under names", 'name: "a", loc: (', ")"),
+    ("as callees", "callsite(", " at ?)"),
+    ("as callers", "callsite(? at ", ")"),
+    ("first in a row", "fused[", ", ?]"),
+    ("last in a row", "fused[?, ", "]"),
+)
+
+
+def nested(count, front, back):
+    """A root whose location stands in so many others."""
+    return "builtin.module @m\n{\n}!0\n\noutlined_attributes:\n!0 = @[%s?%s], []\n" % (front * count, back * count)
+
+
 def quoted(count):
     """One quoted text of so many bytes."""
     return '"%s"' % ("a line of plain characters " * (count // 27 + 1))[:count]
@@ -136,6 +152,13 @@ def print_positions(path, size):
         written(path, content)
         took = seconds(path, ["positions", "again"]) - seconds(path, ["positions"])
         print("Position at the end of %.1f MB, %s: %.0f ns" % (len(content.encode()) / 1e6, name, took * 1e3))
+
+
+def print_depths(path, depth):
+    """The time in which locations so deep in one another are read, printed and released under the default stack."""
+    for name, front, back in NESTINGS:
+        written(path, nested(depth, front, back))
+        print("Locations %d deep, %s: %.2f s" % (depth, name, seconds(path, ["roots", "print"])))
 
 
 def print_instructions(path):
@@ -181,6 +204,7 @@ def main():
             once = (seconds(path, [name] + ["again"] * PRINTS) - seconds(path, [name])) / PRINTS
             print("Text %s: %.0f MB/s" % (name, len(content) / 1e6 / once))
         print_positions(path, size)
+        print_depths(path, 1_000_000)
         if shutil.which("valgrind"):
             print_instructions(path)
 

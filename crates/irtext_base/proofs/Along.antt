@@ -3,6 +3,7 @@ use Rattle.std.proofs.Common.{◌≡◌, ℕ, ◌<◌, Bool, true, false, Some, 
 use Rattle.irtext_base.specs.Text.{Text, front, after}
 use Rattle.irtext_base.specs.Stream.{StreamView, first_of, advanced, advanced_by, behind}
 use Rattle.irtext_stream.proofs.Bytes.{first_some}
+pub use Rattle.irtext_stream.proofs.Slices.{front_after}
 
 -- one more character behind those taken
 advanced_behind : (v w : StreamView) (taken rest : Text) (c : ℕ) → w.rest ≡ c ∷ rest → w ≡ behind v taken w.rest → advanced w ≡ behind v (taken ++ (c ∷ [])) rest
@@ -10,11 +11,6 @@ advanced_behind v w taken rest c e b =
     let full : w ≡ behind v taken (c ∷ rest) = b ∙ ap (behind v taken) e in
     let flat : (v.passed ++ taken) ++ (c ∷ []) ≡ v.passed ++ (taken ++ (c ∷ [])) = append_assoc v.passed taken (c ∷ []) in
     ap advanced full ∙ ap (λ (p : Text). let r : StreamView = record { passed = p; rest = rest; failed = v.failed } in r) flat
-
--- the front and what is left of it make the text
-pub front_after : (p : ℕ → Bool) (text : Text) → front p text ++ after p text ≡ text
-front_after p [] = refl
-front_after p (c ∷ text) = elim (p c) as (λ b. cond b (c ∷ front p text) [] ++ cond b (after p text) (c ∷ text) ≡ c ∷ text) [ true ↦ ap (λ z. c ∷ z) (front_after p text) | false ↦ refl ]
 
 pub ruleset fronts = front_after
 

@@ -1,15 +1,14 @@
 -- Tests that decide whether two values look alike, and what they decide of the values' parts.
-use Rattle.std.proofs.Common.{◌≡◌, ◌∙◌, ◌==◌, ◌&&◌, ap, ap₂, refl, sym, ℕ, Bool, false, true≢false, Option, Some, None, List, [], ◌∷◌, map, String, Global, string_bytes}
+use Rattle.std.proofs.Common.{◌≡◌, ◌∙◌, ◌==◌, ◌&&◌, ap, ap₂, refl, sym, ℕ, Bool, false, true≢false, Option, Some, None, List, String, Global, string_bytes}
 use Rattle.std.proofs.lemmas.Bool.Decides.{Decides-and, Decides-at, Decides-like, Decides-eqb, Decides-int_eq}
-use Rattle.std.proofs.lemmas.Slice.Eq.{bytes_eq-Decides}
+use Rattle.std.proofs.lemmas.Slice.Eq.{bytes_eq-Decides, slice_eq-Decides}
 use Rattle.std.specs.Bool.{Decides}
 use Rattle.std.specs.Option.{option_eq}
 use Rattle.std.specs.Ordering.{int_eq}
 use Rattle.std.specs.Str.{bytes_eq}
 use lib.Pointwise.{pointwise}
-use Rattle.irtext_base.specs.contracts.location.SourcePartialEq.TheImpl as of_source
-use Rattle.irtext_base.specs.Locations.{AttrView, LocationView, LocationViews, src_pos, fused, named, call_site, unknown, location, location_view, in_row}
-use Rattle.irtext_base.specs.declared.location.Location.{Location}
+use Rattle.irtext_base.specs.Locations.{AttrView, given_names, ident, own, LocationView, LocationViews, src_pos, fused, named, call_site, unknown, no_location, location, same_source}
+use Rattle.irtext_base.specs.SameLocations.{same_position, same_attr, same_view, same_rows}
 use Rattle.irtext_base.specs.declared.location.Source.{Source}
 use Rattle.irtext_base.specs.declared.location.Source.TheVariants.{File, InMemory}
 use Rattle.irtext_stream.specs.declared.position.SourcePosition.{SourcePosition}
@@ -47,7 +46,7 @@ abbrev index_of : Source → ℕ
 index_of (File key) = key.index
 index_of InMemory = 0
 
-pub source_decides : (s t : Source) → Decides (of_source.ghosts.eq s t) (s ≡ t)
+pub source_decides : (s t : Source) → Decides (same_source s t) (s ≡ t)
 source_decides (File k) (File j) = same_inside (λ i. File (record { index = i })) (λ a c e. ap index_of e) (k.index == j.index) k.index j.index (Decides-eqb k.index j.index)
 source_decides (File k) InMemory = never (λ e. cc)
 source_decides InMemory (File j) = never (λ e. cc)
@@ -86,14 +85,49 @@ module _ {A : Type 0} where
   pub calls_decide : (r t : Bool) (a c b d : LocationView A) → Decides r (a ≡ c) → Decides t (b ≡ d) → Decides (r && t) (call_site a b ≡ call_site c d)
   calls_decide = λ r t a c b d. both (λ (a : LocationView A) b. let l : LocationView A = call_site a b in l) (λ a c b d e. (cc, cc)) r t a c b d
 
-module _ {A : Type 0} (E : Location A → Location A → Bool) where
-  abbrev pub IsAlike : Location A → Type 0
-  IsAlike k = (l : Location A) → Decides (E k l) (location_view k ≡ location_view l)
+module _ {A : Type 0} (E : A → A → Bool) (decides : (a b : A) → Decides (E a b) (a ≡ b)) where
+  attr_decides : (x y : AttrView A) → Decides (same_attr E x y) (x ≡ y)
+  attr_decides (given_names a) (given_names b) = same_inside given_names (λ v w e. cc) (pointwise (option_eq bytes_eq) a b) a b (slice_eq-Decides (options_decide bytes_eq bytes_eq-Decides) a b _ refl)
+  attr_decides (given_names a) (ident b) = never (λ e. cc)
+  attr_decides (given_names a) (own b) = never (λ e. cc)
+  attr_decides (ident a) (given_names b) = never (λ e. cc)
+  attr_decides (ident a) (ident b) = same_inside ident (λ v w e. cc) (bytes_eq a b) a b (bytes_eq-Decides a b)
+  attr_decides (ident a) (own b) = never (λ e. cc)
+  attr_decides (own a) (given_names b) = never (λ e. cc)
+  attr_decides (own a) (ident b) = never (λ e. cc)
+  attr_decides (own a) (own b) = same_inside own (λ v w e. cc) (E a b) a b (decides a b)
 
-  -- rows are equal where their locations are, one by one
-  pub rows_decide : (ks : List ((k : Location A) × IsAlike k)) (ls : List (Location A)) → Decides (pointwise E (map (λ e. e.0) ks) ls) (in_row (map location_view (map (λ e. e.0) ks)) ≡ in_row (map location_view ls))
-  rows_decide [] [] = (λ _. refl, λ _. refl)
-  rows_decide [] (l ∷ ls) = never (λ e. cc)
-  rows_decide (k ∷ ks) [] = never (λ e. cc)
-  rows_decide (k ∷ ks) (l ∷ ls) =
-      both location (λ a c b d e. (cc, cc)) (E k.0 l) (pointwise E (map (λ e. e.0) ks) ls) (location_view k.0) (location_view l) (in_row (map location_view (map (λ e. e.0) ks))) (in_row (map location_view ls)) (k.1 l) (rows_decide ks ls)
+  mutual
+    -- two locations are equal exactly where they look alike
+    pub view_decides : (v w : LocationView A) → Decides (same_view E v w) (v ≡ w)
+    view_decides (src_pos s p) (src_pos t q) = places_decide (same_source s t) (same_position p q) s t p q (source_decides s t) (position_decides p q)
+    view_decides (fused m ls) (fused n ks) = fused_decide (option_eq (same_attr E) m n) (same_rows E ls ks) m n ls ks (options_decide (same_attr E) attr_decides m n) (rows_decide ls ks)
+    view_decides (named a l) (named b k) = named_decide (bytes_eq a b) (same_view E l k) a b l k (bytes_eq-Decides a b) (view_decides l k)
+    view_decides (call_site a b) (call_site c d) = calls_decide (same_view E a c) (same_view E b d) a c b d (view_decides a c) (view_decides b d)
+    view_decides unknown unknown = (λ _. refl, λ _. refl)
+    view_decides (src_pos a1 b1) (fused a2 b2) = kinds_differ (src_pos a1 b1) (fused a2 b2) refl
+    view_decides (src_pos a1 b1) (named a2 b2) = kinds_differ (src_pos a1 b1) (named a2 b2) refl
+    view_decides (src_pos a1 b1) (call_site a2 b2) = kinds_differ (src_pos a1 b1) (call_site a2 b2) refl
+    view_decides (src_pos a1 b1) unknown = kinds_differ (src_pos a1 b1) unknown refl
+    view_decides (fused a1 b1) (src_pos a2 b2) = kinds_differ (fused a1 b1) (src_pos a2 b2) refl
+    view_decides (fused a1 b1) (named a2 b2) = kinds_differ (fused a1 b1) (named a2 b2) refl
+    view_decides (fused a1 b1) (call_site a2 b2) = kinds_differ (fused a1 b1) (call_site a2 b2) refl
+    view_decides (fused a1 b1) unknown = kinds_differ (fused a1 b1) unknown refl
+    view_decides (named a1 b1) (src_pos a2 b2) = kinds_differ (named a1 b1) (src_pos a2 b2) refl
+    view_decides (named a1 b1) (fused a2 b2) = kinds_differ (named a1 b1) (fused a2 b2) refl
+    view_decides (named a1 b1) (call_site a2 b2) = kinds_differ (named a1 b1) (call_site a2 b2) refl
+    view_decides (named a1 b1) unknown = kinds_differ (named a1 b1) unknown refl
+    view_decides (call_site a1 b1) (src_pos a2 b2) = kinds_differ (call_site a1 b1) (src_pos a2 b2) refl
+    view_decides (call_site a1 b1) (fused a2 b2) = kinds_differ (call_site a1 b1) (fused a2 b2) refl
+    view_decides (call_site a1 b1) (named a2 b2) = kinds_differ (call_site a1 b1) (named a2 b2) refl
+    view_decides (call_site a1 b1) unknown = kinds_differ (call_site a1 b1) unknown refl
+    view_decides unknown (src_pos a2 b2) = kinds_differ unknown (src_pos a2 b2) refl
+    view_decides unknown (fused a2 b2) = kinds_differ unknown (fused a2 b2) refl
+    view_decides unknown (named a2 b2) = kinds_differ unknown (named a2 b2) refl
+    view_decides unknown (call_site a2 b2) = kinds_differ unknown (call_site a2 b2) refl
+
+    rows_decide : (ls ks : LocationViews A) → Decides (same_rows E ls ks) (ls ≡ ks)
+    rows_decide no_location no_location = (λ _. refl, λ _. refl)
+    rows_decide no_location (location k ks) = never (λ e. cc)
+    rows_decide (location l ls) no_location = never (λ e. cc)
+    rows_decide (location l ls) (location k ks) = both location (λ a c b d e. (cc, cc)) (same_view E l k) (same_rows E ls ks) l k ls ks (view_decides l k) (rows_decide ls ks)

@@ -1,10 +1,5 @@
 pub mod Along
 pub mod Compose
-pub mod Dictionaries
-pub mod Drops
-pub mod KeptKeys
-pub mod Spliced
-pub mod FewEntries
 pub mod Characters
 pub mod Numbers
 pub mod Results
@@ -15,5 +10,11 @@ pub mod Sincere
 pub mod Scalars
 pub mod PathKeys
 pub mod LocationViews
+pub mod Released
+pub mod Waits
+pub mod Inside
+pub mod RowEnds
+pub mod SameEnds
 pub mod Moves
+pub mod Walks
 pub mod Equality

@@ -1,19 +1,19 @@
 -- A location in another context says the same text, and what paths were kept on the way can be taken back.
-use Rattle.std.proofs.Common.{◌≡◌, ◌∙◌, ap, ap₂, refl, sym, ℕ, ◌+◌, ◌<◌, ◌≤◌, suc, arith, Option, Some, None, List, [], ◌∷◌, ◌++◌, length, take, drop, get_or, map, position, append_assoc, true, false, ◌≢◌, Box, Vec, Global}
-use Rattle.std.proofs.Math.Seq.{drop-cons, take-append_seam}
+use Rattle.std.proofs.Common.{◌≡◌, ◌∙◌, ap, ap₂, refl, sym, ℕ, Option, Some, None, List, [], ◌∷◌, ◌++◌, length, take, position, append_assoc, true, false, ◌&&◌, ◌≢◌, fold}
+use Rattle.std.proofs.Math.Seq.{take-append_seam}
+use Rattle.std.proofs.lemmas.Bool.{false≢true}
 use Rattle.std.specs.Prelude.{slice_get}
 use Rattle.std.specs.Str.{bytes_eq}
-use Rattle.irtext_base.specs.Locations.{LocationOf, LocationsOf, LocationView, LocationViews, src_pos, fused, named, call_site, unknown, location, no_location, location_view, attr_view_in, in_row, row_sourced}
+use Rattle.irtext_base.specs.Locations.{LocationsOf, LocationView, LocationViews, src_pos, fused, named, call_site, unknown, location, no_location, location_view, is_plain, row_sourced}
 use Rattle.irtext_base.specs.Paths.{KeepsPaths, Written, path_of, path_index, with_path, found_or_last, is_known, are_known, row_known, written_with}
+use Rattle.irtext_base.specs.Walks.{taken, row_taken, made, joined, Reached, moving}
 use Rattle.irtext_base.specs.Moves.{path_kept, all_kept, row_kept, all_under, row_under, is_free, KeepsMore}
-use Rattle.irtext_base.specs.declared.base.attributes.AttrObj.{AttrObj}
 use Rattle.irtext_base.specs.declared.location.Location.{Location}
-use Rattle.irtext_base.specs.declared.location.Location.TheVariants.{Fused, CallSite, SrcPos}
+use Rattle.irtext_base.specs.declared.location.Location.TheVariants.{SrcPos}
 use Rattle.irtext_base.specs.declared.location.Source.{Source}
 use Rattle.irtext_base.specs.declared.location.Source.TheVariants.{File, InMemory}
 use Rattle.irtext_stream.specs.declared.position.SourcePosition.{SourcePosition}
-use Rattle.irtext_base.proofs.Drops.{none_left}
-use Rattle.irtext_base.proofs.LocationViews.{seen-src_pos, seen-fused, seen-call_site}
+use Rattle.irtext_base.proofs.LocationViews.{seen-src_pos}
 use Rattle.irtext_base.proofs.PathKeys.{within, path_found, path_known, paths_stay, stays_known, written_same, both_true}
 
 path_keeps : (paths : List (List ℕ)) (o : Option (List ℕ)) → KeepsPaths paths (path_kept paths o)
@@ -110,42 +110,34 @@ keeps_again {a} {b} {c} h k = record {
 pub taken_back : {old new : List (List ℕ)} → KeepsMore old new → take (length old) new ≡ old
 taken_back {old} h = rw h.with_more (take-append_seam old h.more)
 
--- these locations stand in front of a row
-abbrev pub in_front : {S A : Type 0} → List (LocationOf S A) → LocationsOf S A → LocationsOf S A
-in_front [] ls = ls
-in_front (k ∷ ks) ls = location k (in_front ks ls)
+-- each source on the way kept a path more, or none
+pub reached_keeps : (from old new : List (List ℕ)) → Reached (moving from) old new → KeepsMore old new
+reached_keeps from old new h = rw h.by_sources (by h.sources old)
+  where
+    by : (sources : List Source) (paths : List (List ℕ)) → KeepsMore paths (fold (moving from).after paths sources)
+    by [] paths = keeps_none paths
+    by (s ∷ sources) paths = keeps_again (keeps_path (path_of from s) refl) (by sources (path_kept paths (path_of from s)))
 
-in_front_last : {S A : Type 0} (ks : List (LocationOf S A)) (k : LocationOf S A) (ls : LocationsOf S A) → in_front (ks ++ k ∷ []) ls ≡ in_front ks (location k ls)
-in_front_last [] k ls = refl
-in_front_last (j ∷ ks) k ls = ap (location j) (in_front_last ks k ls)
+mutual
+  -- a location whose sources move is the location over the other paths
+  pub moving_taken : {A : Type 0} (from paths : List (List ℕ)) (l : LocationView A)
+      → taken (moving from) paths l ≡ record { known = are_known (length from) l; value = all_under paths (written_with from l); after = all_kept paths (written_with from l) }
+  moving_taken from paths (src_pos src pos) = refl
+  moving_taken from paths (fused metadata locations) = ap (made (fused metadata)) (moving_row_taken from paths locations)
+  moving_taken from paths (named name child) = ap (made (named name)) (moving_taken from paths child)
+  moving_taken from paths (call_site callee caller) =
+      ap (λ t. joined call_site t (λ u. taken (moving from) u caller)) (moving_taken from paths callee)
+      ∙ ap (λ t. record { known = are_known (length from) callee && t.known; value = call_site (all_under paths (written_with from callee)) t.value; after = t.after })
+      (moving_taken from (all_kept paths (written_with from callee)) caller)
+  moving_taken from paths unknown = refl
 
--- all of them make the row
-in_front_none : {S A : Type 0} (ks : List (LocationOf S A)) → in_front ks no_location ≡ in_row ks
-in_front_none [] = refl
-in_front_none (k ∷ ks) = ap (location k) (in_front_none ks)
-
--- the row of what is left begins with the location at this index
-pub one_left : {A : Type 0} (all : List (Location A)) (i : ℕ) (l : Location A) → i < length all → l ≡ get_or all i l
-    → in_row (map location_view (drop i all)) ≡ location (location_view l) (in_row (map location_view (drop (i + 1) all)))
-one_left all i l h e =
-    let next : suc i ≡ i + 1 = omega arith in
-    ap (λ k. in_row (map location_view k)) (drop-cons all i l h ∙ ap₂ (λ k n. k ∷ drop n all) (sym e) next)
-
--- where none is left, those that were moved are all
-pub all_moved : {A : Type 0} (from paths : List (List ℕ)) (all : List (Location A)) (i : ℕ) (moved : List (LocationView A)) (row : LocationViews A) → length all ≤ i
-    → in_front moved (row_under paths (row_sourced (path_of from) (in_row (map location_view (drop i all))))) ≡ row → in_row moved ≡ row
-all_moved from paths all i moved row h e =
-    sym (in_front_none moved) ∙ (ap (λ ls. in_front moved (row_under paths (row_sourced (path_of from) (in_row (map location_view ls))))) (sym (none_left all i h)) ∙ e)
-
-module _ {A : Type 0} (from paths later : List (List ℕ)) (row : LocationViews A) (one : LocationView A) (left : LocationViews A) where
-  -- what is kept for a row is what is kept for its first location and then for what is left
-  pub kept_on : row ≡ location one left → later ≡ all_kept paths (written_with from one) → row_kept later (row_sourced (path_of from) left) ≡ row_kept paths (row_sourced (path_of from) row)
-  kept_on e k = rw (e, k) refl
-
-  -- one location more is moved
-  pub moved_on : (moved more : List (LocationView A)) (last : LocationView A) → row ≡ location one left → later ≡ all_kept paths (written_with from one) → last ≡ all_under paths (written_with from one)
-      → more ≡ moved ++ last ∷ [] → in_front more (row_under later (row_sourced (path_of from) left)) ≡ in_front moved (row_under paths (row_sourced (path_of from) row))
-  moved_on moved more last e k v f = rw (e, f, k, v) (in_front_last moved (all_under paths (written_with from one)) (row_under (all_kept paths (written_with from one)) (row_sourced (path_of from) left)))
+  pub moving_row_taken : {A : Type 0} (from paths : List (List ℕ)) (ls : LocationViews A)
+      → row_taken (moving from) paths ls ≡ record { known = row_known (length from) ls; value = row_under paths (row_sourced (path_of from) ls); after = row_kept paths (row_sourced (path_of from) ls) }
+  moving_row_taken from paths no_location = refl
+  moving_row_taken from paths (location l ls) =
+      ap (λ t. joined location t (λ u. row_taken (moving from) u ls)) (moving_taken from paths l)
+      ∙ ap (λ t. record { known = are_known (length from) l && t.known; value = location (all_under paths (written_with from l)) t.value; after = t.after })
+      (moving_row_taken from (all_kept paths (written_with from l)) ls)
 
 -- a known file has a path that is kept
 file_is_kept : (A : Type 0) (from : List (List ℕ)) (src : Source) (pos : SourcePosition) → is_known (length from) src ≡ true → src ≢ InMemory → is_free {A = A} (src_pos (path_of from src) pos) ≡ false
@@ -163,24 +155,10 @@ module _ {A : Type 0} (from paths : List (List ℕ)) (l : Location A) where
       let look : location_view l ≡ src_pos src pos = ap location_view e ∙ seen-src_pos src pos in
       ap (λ v. is_free (written_with from v)) look ∙ file_is_kept A from src pos (sym (ap (are_known (length from)) look) ∙ h) outside
 
-  -- several locations, each of which is moved
-  pub fused_moved : (metadata : Box (Option (AttrObj A)) Global) (locations : Box (Vec (Location A) Global) Global) → l ≡ Fused metadata locations
-      → (m : Option (AttrObj A)) → m ≡ metadata.value → (ls : Vec (Location A) Global) → ls ≡ locations.value
-      → (moved : List (Location A)) → in_row (map location_view moved) ≡ row_under paths (row_sourced (path_of from) (in_row (map location_view ls.items)))
-      → fused (attr_view_in m) (in_row (map location_view moved)) ≡ all_under paths (written_with from (location_view l))
-  fused_moved metadata locations e m d ls v moved h =
-      ap₂ (λ x y. fused (attr_view_in x) y) d (h ∙ ap (λ k. row_under paths (row_sourced (path_of from) (in_row (map location_view k.items)))) v)
-      ∙ sym (ap (λ x. all_under paths (written_with from x)) (ap location_view e ∙ seen-fused metadata locations))
-
-  module _ (callee caller : Box (Location A) Global) (e : l ≡ CallSite callee caller) (a b : Location A) (d : a ≡ callee.value) (f : b ≡ caller.value)
-      (later : List (List ℕ)) (k : later ≡ all_kept paths (written_with from (location_view a))) where
-    look : call_site (location_view a) (location_view b) ≡ location_view l
-    look = ap₂ (λ x y. call_site (location_view x) (location_view y)) d f ∙ sym (ap location_view e ∙ seen-call_site callee caller)
-
-    -- a callee and a caller that are moved one after the other
-    pub call_site_moved : (v w : LocationView A) → v ≡ all_under paths (written_with from (location_view a)) → w ≡ all_under later (written_with from (location_view b))
-        → call_site v w ≡ all_under paths (written_with from (location_view l))
-    call_site_moved v w h i = ap₂ call_site h (i ∙ ap (λ p. all_under p (written_with from (location_view b))) k) ∙ ap (λ x. all_under paths (written_with from x)) look
-
-    pub call_site_kept : (last : List (List ℕ)) → last ≡ all_kept later (written_with from (location_view b)) → last ≡ all_kept paths (written_with from (location_view l))
-    call_site_kept last h = h ∙ (ap (λ p. all_kept p (written_with from (location_view b))) k ∙ ap (λ x. all_kept paths (written_with from x)) look)
+-- what has parts elsewhere in memory is not free
+pub nested_not_free : {A : Type 0} (from : List (List ℕ)) (v : LocationView A) → is_plain v ≡ false → is_free (written_with from v) ≡ false
+nested_not_free from (src_pos src pos) h = absurd (false≢true (sym h))
+nested_not_free from (fused metadata locations) h = refl
+nested_not_free from (named name child) h = refl
+nested_not_free from (call_site callee caller) h = refl
+nested_not_free from unknown h = absurd (false≢true (sym h))

@@ -16,3 +16,8 @@ at_err (Err e) p = p
 pub either_way : {X E P Q R : Type 0} (r : Result X E) → (P → R) → (Q → R) → OnOk r P → OnErr r Q → R
 either_way (Ok x) f g p q = f p
 either_way (Err e) f g p q = g q
+
+-- what follows from a fact that stands behind an answer that is Ok
+pub where_ok : {X E P Q : Type 0} (r : Result X E) → (P → Q) → OnOk r P → OnOk r Q
+where_ok (Ok x) f p = f p
+where_ok (Err e) f p = tt

@@ -1,8 +1,9 @@
 -- A location's one source, from how many were seen of it so far.
-use Rattle.std.proofs.Common.{◌≡◌, ◌≤◌, ◌∙◌, ap, arith, refl, Bool, true, false, cond, List, [], ◌∷◌, ◌++◌, length, length-append}
+use Rattle.std.proofs.Common.{◌≡◌, ◌<◌, ◌≤◌, ◌∙◌, ap, sym, subst, arith, refl, Bool, true, false, cond, List, [], ◌∷◌, ◌++◌, length, length-append}
 use Rattle.std.specs.List.{list_any}
 use Rattle.irtext_base.specs.declared.location.Source.{Source}
 use Rattle.irtext_base.specs.declared.location.sources.Seen.TheVariants.{Nothing, One, Several}
+use Rattle.irtext_base.specs.declared.location.sources.Seen.{Seen}
 use Rattle.irtext_base.specs.Locations.{LocationView, src_pos, fused, named, call_site, unknown, LocationViews, no_location, location, same_source, noted, all_noted, row_noted, only}
 use Rattle.irtext_base.specs.Seen.{seen_of, more_seen, all_seen, row_seen, one_seen}
 
@@ -44,6 +45,20 @@ only_is_one (s ∷ t ∷ more) = refl
 -- what is seen of the whole location gives its one source
 pub one_is_only : {A : Type 0} (l : LocationView A) → one_seen (all_seen Nothing l) ≡ only (all_noted [] l)
 one_is_only l = ap one_seen (seen_is_noted [] l) ∙ only_is_one (all_noted [] l)
+
+abbrev seen_as : List Source → Seen → Type 0
+seen_as found Nothing = found ≡ []
+seen_as found (One s) = 0 < length found
+seen_as found Several = 0 < length found
+
+seen_as_found : (found : List Source) → seen_as found (seen_of found)
+seen_as_found [] = refl
+seen_as_found (s ∷ []) = omega arith
+seen_as_found (s ∷ t ∷ more) = omega arith
+
+-- what is seen of the whole location says whether it mentions a source
+pub none_seen : {A : Type 0} (l : LocationView A) → seen_as (all_noted [] l) (all_seen Nothing l)
+none_seen l = subst (λ s. seen_as (all_noted [] l) s) (sym (seen_is_noted [] l)) (seen_as_found (all_noted [] l))
 
 -- noting one more source loses none
 grows : (found : List Source) (s : Source) → length found ≤ length (noted found s)

@@ -1,4 +1,5 @@
 pub mod Text
+pub mod Words
 pub mod Reading
 pub mod Format
 pub mod Causes
@@ -8,12 +9,14 @@ pub mod Places
 pub mod Quoted
 pub mod Answers
 pub mod Own
-pub mod Dictionary
-pub mod Others
-pub mod Entries
 pub mod Locations
 pub mod Seen
 pub mod Paths
 pub mod PathLends
 pub mod StableHash
 pub mod Moves
+pub mod Weights
+pub mod Waits
+pub mod Walks
+pub mod SameLeft
+pub mod SameLocations

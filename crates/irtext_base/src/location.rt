@@ -1,20 +1,27 @@
 //! Where operations, blocks and errors come from.
 ghost use Rattle.std.specs.Prelude.{◌≡◌, true, false};
+ghost use Rattle.std.specs.Cmp.{on_equiv, on_per};
 ghost use Rattle.irtext_base.specs.declared.location.Location.{Unknown};
-ghost use Rattle.irtext_base.specs.Locations.{out_of_memory};
+ghost use Rattle.irtext_base.specs.Locations.{out_of_memory, location_view};
+ghost use Rattle.irtext_base.specs.SameLocations.{same_view, fed_view, view_per, view_equiv, view_fed};
 
 mod copy;
+mod fed;
 mod files;
 mod hash;
 mod into_context;
 mod made;
 pub mod paths;
+mod release;
+mod same;
 pub mod sources;
+mod walk;
 
 use crate::base::AttrObj;
 use crate::parsable::SourcePosition;
 use crate::result::{Cause, Error, ErrorKind};
 pub use into_context::CloneIntoContext;
+use std::hash::{Hash, Hasher};
 
 /// The key of a path that a context keeps.
 #[derive(Clone, Copy, PartialEq, Eq, Hash, Debug)]
@@ -31,8 +38,10 @@ pub enum Source {
     InMemory,
 }
 
-/// Where something comes from.
-#[derive(PartialEq, Eq, Hash, Debug, Drop)]
+/// Where something comes from. Locations may stand inside one another however deep: a location is released, and its `sources` are
+/// found, by a loop. `==` and `Hash` take as much of the machine's stack as locations stand inside one another in places that
+/// aren't the last of what stands in a location, and `Debug` as much as they stand inside one another.
+#[derive(Debug)]
 #[cycle(location)]
 pub enum Location<A> {
     /// A place of a source.
@@ -57,6 +66,37 @@ pub enum Location<A> {
     },
     /// Not known.
     Unknown,
+}
+
+impl<A: PartialEq> PartialEq for Location<A> {
+    ghost eq = { λ k l. same_view A.eq (location_view k) (location_view l) };
+
+    ghost laws = { on_per location_view (view_per A.eq A.PartialEq.laws) };
+
+    fn eq(&self, other: &Self) -> bool {
+        same::is_same(self, other)
+    }
+}
+
+impl<A: Eq> Eq for Location<A> {
+    ghost laws = { on_equiv location_view (view_equiv A.eq A.Eq.laws) };
+}
+
+impl<A: Hash> Hash for Location<A> {
+    ghost hash_input = { λ l. fed_view A.hash_input (location_view l) };
+
+    ghost respects_eq = { λ k l h. view_fed A.eq A.hash_input A.respects_eq (location_view k) (location_view l) h };
+
+    fn hash<H: Hasher>(&self, state: &mut H) {
+        fed::feed(self, state);
+    }
+}
+
+impl<A: Drop> Drop for Location<A> {
+    /// Releases the location and what stands in it, by a loop that takes no memory.
+    fn drop(self) {
+        release::release(self);
+    }
 }
 
 /// The refusal of a call for want of memory.

@@ -15,8 +15,6 @@ use std::alloc::{AllocError, AllocFailed};
 use std::fmt;
 use std::fmt::Display;
 
-mod macros;
-
 /// What sort of mistake an error reports.
 #[derive(Clone, Copy, Debug, PartialEq, Eq)]
 pub enum ErrorKind {

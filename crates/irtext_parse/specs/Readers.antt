@@ -1,3 +1,4 @@
 -- What was read of an operation, as the code holds it.
 pub mod PiecesOf
 pub mod KnownIds
+pub mod Frames

@@ -1,5 +1,6 @@
 //! Locations from text.
 
+mod frame;
 mod made;
 pub mod nested;
 pub mod read;

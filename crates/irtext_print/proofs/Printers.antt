@@ -5,6 +5,7 @@ pub mod Calls
 pub mod Items
 pub mod PrintedSections
 pub mod Locations
+pub mod LocationParts
 pub mod PieceTexts
 pub mod OpPrinters
 pub mod PrintedOperations

@@ -13,3 +13,4 @@ pub mod OpPrinters
 pub mod ConcreteText
 pub mod OnePrinting
 pub mod FitFaults
+pub mod LocationParts

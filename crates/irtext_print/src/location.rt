@@ -1,3 +1,4 @@
 //! The texts of locations.
 
+mod parts;
 pub mod print;

@@ -1,5 +1,5 @@
 //! What prints itself with a context: the trait, the printing state with its guards, texts as a `Display`, and plain values.
-ghost use Rattle.std.specs.Prelude.{◌≡◌, List, ℕ, OnOk, Some, None, Option, ⊤, ◌++◌, replicate, string_bytes};
+ghost use Rattle.std.specs.Prelude.{◌≡◌, List, ℕ, OnOk, Some, None, Option, ⊤, ◌++◌, string_bytes};
 ghost use Rattle.irtext_print.specs.Printers.Printing.{indent_of};
 ghost use Rattle.irtext_grammar.specs.Spelling.Spell.{newline};
 ghost use Rattle.irtext_print.specs.Printers.Shown.{Shown};
@@ -53,14 +53,17 @@ pub trait Printable<U, T: IrText<A>, A: AttrText> {
 /// As many spaces as are appended at once.
 const SPACES: &str = "                                                                ";
 
-/// Appends as many spaces.
-pub(crate) fn fmt_spaces(count: u16, f: &mut String) -> fmt::Result
-    ensures { OnOk result (string_bytes f.new ≡ string_bytes f.old ++ replicate count 32) }
+/// A newline, and as many spaces as are appended with it.
+const NEWLINE: &str = "\n                                                                ";
+
+/// Appends a newline and so many spaces. It fails only where memory is refused.
+pub(crate) fn fmt_newline(indent: u16, f: &mut String) -> fmt::Result
+    ensures { OnOk result (string_bytes f.new ≡ string_bytes f.old ++ newline indent) }
 {
-    for _block in 0..count / 64 {
+    f.push_str(&NEWLINE[..1 + (indent % 64) as usize])?;
+    for _block in 0..indent / 64 {
         f.push_str(SPACES)?;
     }
-    f.push_str(&SPACES[..(count % 64) as usize])?;
     Ok(())
 }
 
@@ -68,6 +71,5 @@ pub(crate) fn fmt_spaces(count: u16, f: &mut String) -> fmt::Result
 pub fn fmt_indented_newline<U>(state: &State<U>, f: &mut String) -> fmt::Result
     ensures { OnOk result (string_bytes f.new ≡ string_bytes f.old ++ newline (indent_of state.now)) }
 {
-    f.push_str("\n")?;
-    fmt_spaces(state.current_indent(), f)
+    fmt_newline(state.current_indent(), f)
 }

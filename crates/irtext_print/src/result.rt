@@ -1,6 +1,6 @@
 //! How errors print themselves.
 ghost use Rattle.std.specs.Prelude.{◌≡◌, ◌++◌, OnOk, string_bytes};
-ghost use Rattle.irtext_print.specs.Errors.Located.{located_cause, located_error};
+ghost use Rattle.irtext_print.specs.Errors.Located.{located_error};
 
 use crate::location::print::fmt_known;
 use crate::printable::Printable;
@@ -11,7 +11,6 @@ use irtext_context::base::Context;
 use std::fmt;
 
 /// Appends an error's text behind its location, where that is known; an inner error is printed so too.
-#[cycle(error)]
 fn fmt_error<T: IrText<A>, A: AttrText>(
     error: &Error<A>,
     ctx: &Context<T, A>,
@@ -22,21 +21,9 @@ fn fmt_error<T: IrText<A>, A: AttrText>(
     fmt_known(&error.loc, "[", "] ", ctx, f)?;
     let kind = error.kind;
     write!(f, "Compilation error: {kind}.\n")?;
-    fmt_cause(&error.err, ctx, f)
-}
-
-/// Appends a cause's text.
-#[cycle(error)]
-fn fmt_cause<T: IrText<A>, A: AttrText>(
-    cause: &Cause<A>,
-    ctx: &Context<T, A>,
-    f: &mut String,
-) -> fmt::Result
-    ensures { OnOk result (string_bytes f.new ≡ string_bytes f.old ++ located_cause A.written ctx.now.paths cause.now) }
-{
-    match cause {
-        Cause::Nested(error) => fmt_error(error, ctx, f),
-        _ => {
+    match &error.err {
+        Cause::Nested(inner) => fmt_error(inner, ctx, f),
+        cause => {
             write!(f, "{cause}")?;
             Ok(())
         }

@@ -1,7 +1,8 @@
 -- A number grows by one digit after another; the numbers that are read of any type are those of the grammar.
-use Rattle.std.proofs.Common.{◌≡◌, ℕ, ℤ, pos, ◌+◌, ◌*◌, ◌^◌, ◌<◌, Bool, true, false, cond, nat_lt, ltb, Option, Some, None, Result, Ok, Err, [], ◌∷◌, ◌++◌, refl, sym, ◌∙◌, ap, arith, inl, inr}
+use Rattle.std.proofs.Common.{◌≡◌, ℕ, ℤ, pos, ◌+◌, ◌*◌, ◌^◌, Bool, true, false, cond, nat_lt, ltb, Option, Some, None, Result, Ok, Err, [], ◌∷◌, ◌++◌, length, get_or, take, drop, append-nil, append_assoc, refl, sym, ◌∙◌, ap, arith, inl, inr, ◌<◌}
 use Rattle.std.proofs.lemmas.Bool.Decides.{nat_tests}
 use Rattle.std.proofs.lemmas.Int.Digits.{digits_value_push}
+use Rattle.std.proofs.lemmas.List.{take_more, take-append-drop}
 use Rattle.std.proofs.lemmas.Str.{encode_ascii}
 use Rattle.std.specs.Char.{is_ascii_digit, digit_value}
 use Rattle.std.specs.Str.{encode_utf8_all}
@@ -34,6 +35,21 @@ appended-fitting r n d =
 -- one more digit
 pub value_in-push : (r : Radix) (digits : Text) (c : ℕ) → appended (base r) (value_in (base r) digits) (digit_value c) ≡ value_in (base r) (digits ++ (c ∷ []))
 value_in-push r digits c = appended-fitting r (digits_value (base r) digits) (digit_value c) ∙ ap fitting (sym (digits_value_push (base r) digits c))
+
+-- digits behind a number that doesn't fit are passed over
+value_in-none : (r : Radix) (digits more : Text) → value_in (base r) digits ≡ None → value_in (base r) (digits ++ more) ≡ None
+value_in-none r digits [] e = ap (value_in (base r)) (append-nil digits) ∙ e
+value_in-none r digits (c ∷ more) e =
+    ap (value_in (base r)) (sym (append_assoc digits (c ∷ []) more)) ∙ value_in-none r (digits ++ (c ∷ [])) more (sym (value_in-push r digits c) ∙ ap (λ v. appended (base r) v (digit_value c)) e)
+
+-- the number of the digits up to one, from the number of those before it
+pub value_in-next : (r : Radix) (digits : Text) (i n : ℕ) (v : Option ℕ) → i < length digits → value_in (base r) (take i digits) ≡ Some n → v ≡ appended (base r) (Some n) (digit_value (get_or digits i 0)) → value_in (base r) (take (i + 1) digits) ≡ v
+value_in-next r digits i n v l e a =
+    ap (value_in (base r)) (take_more digits i 0 l) ∙ (sym (value_in-push r (take i digits) (get_or digits i 0)) ∙ (ap (λ z. appended (base r) z (digit_value (get_or digits i 0))) e ∙ sym a))
+
+-- where the digits up to one don't fit, all don't
+pub value_in-stops : (r : Radix) (digits : Text) (i : ℕ) → value_in (base r) (take i digits) ≡ None → value_in (base r) digits ≡ None
+value_in-stops r digits i e = ap (value_in (base r)) (sym (take-append-drop i digits)) ∙ value_in-none r (take i digits) (drop i digits) e
 
 is_sign_ascii : (c : ℕ) → is_sign c ≡ true → c < 128
 is_sign_ascii c e = grind (arith, nat_tests)

@@ -1,5 +1,5 @@
 -- Digits behind what stands in front of them, and what is made of both.
-use Rattle.std.proofs.Common.{◌≡◌, ℕ, ℤ, ◌^◌, ◌<◌, ◌≤◌, Bool, true, false, cond, eqb, ltb, Option, Some, None, Err, List, [], ◌∷◌, ◌++◌, refl, sym, ◌∙◌, ap, subst, append-nil, arith, ◌⊎◌, inl, inr, codes}
+use Rattle.std.proofs.Common.{◌≡◌, ℕ, ℤ, ◌^◌, ◌≤◌, Bool, true, false, cond, eqb, ltb, Option, Some, None, Err, List, [], ◌∷◌, ◌++◌, refl, sym, ◌∙◌, ap, subst, append-nil, arith, ◌⊎◌, inl, inr, codes}
 use Rattle.std.proofs.lemmas.Bool.Decides.{nat_tests}
 use Rattle.std.proofs.lemmas.Str.{encode_ascii, encodes-append}
 use Rattle.std.specs.Char.{is_ascii_digit, is_ascii_hexdigit}
@@ -19,13 +19,7 @@ use Rattle.irtext_read.specs.Tokens.{sign_of, after_sign, fitting, text_at, spel
 use Rattle.irtext_read.specs.Integers.{within, within_of, signed_integer, hexadecimal_integer, signed_text, sign_text, no_digit_behind, sign_at, before_hexadecimal, hexadecimal_mark_at, ranged, numeral_at}
 use Rattle.irtext_read.proofs.Numbers.{encodes-sign}
 use Rattle.irtext_read.proofs.Steps.{Lens}
-use Rattle.irtext_read.proofs.Words.{encodes-front, encodes-front_digits}
-
-is_hexdigit_ascii : (c : ℕ) → is_ascii_hexdigit c ≡ true → c < 128
-is_hexdigit_ascii c e = grind (arith, nat_tests)
-
-pub encodes-front_hexadecimal : (text : Text) → encode_utf8_all (front is_ascii_hexdigit text) ≡ front is_ascii_hexdigit text
-encodes-front_hexadecimal = encodes-front is_ascii_hexdigit is_hexdigit_ascii
+use Rattle.irtext_read.proofs.Words.{encodes-front_digits}
 
 -- where what fits a type fits 64 bits, what doesn't fit these doesn't fit the type
 not_below : (n m : ℕ) → m ≤ 2 ^ 64 → ltb n (2 ^ 64) ≡ false → ltb n m ≡ false

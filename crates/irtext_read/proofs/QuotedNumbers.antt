@@ -3,25 +3,16 @@ use Rattle.std.proofs.Common.{◌≡◌, ℕ, ◌^◌, ◌<◌, true, false, con
 use Rattle.std.proofs.lemmas.Bool.Decides.{nat_tests}
 use Rattle.std.specs.Char.{is_ascii_hexdigit, digit_value}
 use Rattle.std.specs.Str.Parse.{digits_value}
-use Rattle.std.specs.Str.{encode_utf8_all}
 use lib.Utf8.{scalar}
-use Rattle.irtext_base.specs.Text.{Text, front}
+use Rattle.irtext_base.specs.Text.{Text}
 use Rattle.irtext_base.specs.Faults.{BadUnicodeEscape}
 use Rattle.irtext_base.specs.Answers.{Outcome, Read, Bad}
 use Rattle.irtext_read.specs.QuotedTexts.{character_of, named}
 use Rattle.irtext_read.specs.Digits.{fitting, value_in}
-use Rattle.irtext_read.proofs.Words.{encodes-front}
 
 -- the value of a hexadecimal digit
 pub hexdigit_below : (c : ℕ) → is_ascii_hexdigit c ≡ true → digit_value c < 16
 hexdigit_below c e = grind (arith, nat_tests)
-
-hexdigit_ascii : (c : ℕ) → is_ascii_hexdigit c ≡ true → c < 128
-hexdigit_ascii c e = grind (arith, nat_tests)
-
--- the bytes of hexadecimal digits
-pub encodes-front_hexdigits : (text : Text) → encode_utf8_all (front is_ascii_hexdigit text) ≡ front is_ascii_hexdigit text
-encodes-front_hexdigits = encodes-front is_ascii_hexdigit hexdigit_ascii
 
 -- a number that doesn't fit is no character's
 no_scalar : (n : ℕ) → ltb n (2 ^ 64) ≡ false → scalar n ≡ false

@@ -14,7 +14,8 @@ use Rattle.irtext_base.proofs.Compose.{takes_none, takes_fine, seen_after, takes
 use Rattle.irtext_read.specs.QuotedTexts.{is_plain, escape_of, character_of, closed, braced, unicode_at, unit_at, units_at}
 use Rattle.irtext_read.proofs.Spelling.{begins_the, takes_next}
 use Rattle.irtext_read.specs.Digits.{value_in}
-use Rattle.irtext_read.proofs.QuotedNumbers.{encodes-front_hexdigits, named_some, named_none}
+use Rattle.irtext_read.proofs.QuotedNumbers.{named_some, named_none}
+use Rattle.irtext_read.proofs.Words.{encodes-front_hexdigits}
 use Rattle.irtext_read.proofs.QuotedUnits.{unit_takes, never_missing, whole, whole_nil, whole_run, whole_unit, whole_bad, unit_unescaped, unit_unknown, unit_unicode, unicode_unopened, braced_none, braced_some, closed_open}
 
 -- the bytes of one more character

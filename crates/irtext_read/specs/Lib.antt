@@ -12,3 +12,4 @@ pub mod MustRead
 pub mod ListOutcomes
 pub mod AttrTexts
 pub mod QuotedBytes
+pub mod Reads

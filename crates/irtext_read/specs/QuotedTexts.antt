@@ -1,18 +1,15 @@
 -- Quoted texts: what a text is to their reader. A unit is an escape, or a character as it stands.
-use Rattle.std.specs.Prelude.{ℕ, Bool, cond, not, ◌&&◌, ◌==◌, Option, Some, None, [], ◌∷◌, ◌++◌, codes}
+use Rattle.std.specs.Prelude.{ℕ, cond, ◌==◌, Option, Some, None, [], ◌∷◌, ◌++◌, codes}
 use Rattle.std.specs.Char.{is_ascii_hexdigit}
 use Rattle.std.specs.Str.Parse.{digits_value}
 use lib.Utf8.{scalar}
 use Rattle.irtext_base.specs.Text.{Text, front, after}
+pub use Rattle.irtext_stream.specs.Text.{is_plain}
 use Rattle.irtext_base.specs.Stream.{first_of}
 use Rattle.irtext_base.specs.Faults.{Word, AHexadecimalDigit, AnEscapedCharacter, Unexpected, BadEscape, BadUnicodeEscape}
 use Rattle.irtext_base.specs.Answers.{Outcome, Read, Missing, Bad, prefixed, mapped}
 use Rattle.irtext_read.specs.Infix.{Reader, ◌▷◌}
 use Rattle.irtext_read.specs.Tokens.{word}
-
--- a character that stands for itself: neither a quotation mark nor a backslash
-abbrev pub is_plain : ℕ → Bool
-is_plain c = not (c == 34) && not (c == 92)
 
 -- the character that one behind a backslash stands for
 abbrev pub escape_of : ℕ → Option ℕ

@@ -1,1 +1,1 @@
-pub mod MarkPlaces
+pub mod NumberedPlaces

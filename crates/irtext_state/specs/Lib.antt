@@ -1,3 +1,3 @@
 pub mod States
-pub mod NotedMarks
+pub mod Numbered
 pub mod FromText

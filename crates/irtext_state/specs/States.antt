@@ -18,10 +18,10 @@ same_index i j = i == j
 abbrev pub marks_of : {T A U : Type 0} → State T A U → List (ℕ × Ptr Operation)
 marks_of s = s.marks
 
--- a mark was noted last, unless its index is noted already
-abbrev pub Marks : ℕ → Ptr Operation → Bool → List (ℕ × Ptr Operation) → List (ℕ × Ptr Operation) → Type 0
-Marks index op true old new = (lookup (same_index index) old ≡ None) × (new ≡ old ++ (index, op) ∷ [])
-Marks index op false old new = (lookup (same_index index) old ≡ None → ⊥) × (new ≡ old)
+-- an item was noted last under an index, unless that is noted already
+abbrev pub Notes : {X : Type 0} → ℕ → X → Bool → List (ℕ × X) → List (ℕ × X) → Type 0
+Notes index item true old new = (lookup (same_index index) old ≡ None) × (new ≡ old ++ (index, item) ∷ [])
+Notes index item false old new = (lookup (same_index index) old ≡ None → ⊥) × (new ≡ old)
 
 -- the place behind a text, in a source
 pub record LocatesAt {A : Type 0} (src : Source) (passed : Text) (location : Location A) : Type 0 where

@@ -1,6 +1,6 @@
 //! The stream of a text together with the state of its reading.
 
-mod marks;
+pub mod numbered;
 pub mod state;
 pub mod text;
 

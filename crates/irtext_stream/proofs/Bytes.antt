@@ -1,5 +1,5 @@
 -- A text in bytes, and its characters before and behind a place of it.
-use Rattle.std.proofs.Common.{◌≡◌, ℕ, ◌+◌, ◌-◌, ◌<◌, ◌≤◌, Bool, true, false, Some, None, List, [], ◌∷◌, ◌++◌, length, get_or, take, drop, refl, sym, ◌∙◌, ap, arith, ◌&&◌, length-drop, length-append, append_assoc}
+use Rattle.std.proofs.Common.{◌≡◌, ℕ, ◌+◌, ◌-◌, ◌<◌, ◌≤◌, Bool, true, Some, None, List, [], ◌∷◌, ◌++◌, length, get_or, take, drop, refl, sym, ◌∙◌, ap, arith, length-drop, length-append, append_assoc}
 use Rattle.std.proofs.lemmas.Str.{IsCharBoundary-from_drop, encodes-chars, encodes-append, scalars-chars, chars-nil, chars-append, chars-encodes, char_from_byte, IsUtf8-append}
 use Rattle.std.proofs.Math.Seq.{take-append-add, drop-append_seam, take-append_seam}
 use Rattle.std.proofs.lemmas.List.{drop_all, append-nil, take-append-drop, length-take-le, drop-drop, get_or-drop}

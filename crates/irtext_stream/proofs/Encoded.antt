@@ -64,11 +64,11 @@ pub encode_some : (c : ℕ) → 0 < length (encode_utf8 c)
 encode_some c = omega (arith, length-encode c, (len_utf8_bounds c).0)
 
 -- ---- bytes of characters beyond ASCII
-abbrev AllHigh : List ℕ → Type 0
+abbrev pub AllHigh : List ℕ → Type 0
 AllHigh [] = ⊤
 AllHigh (b ∷ bs) = (128 ≤ b) × AllHigh bs
 
-high_at : (bs : List ℕ) → AllHigh bs → (j : ℕ) → j < length bs → 128 ≤ get_or bs j 0
+pub high_at : (bs : List ℕ) → AllHigh bs → (j : ℕ) → j < length bs → 128 ≤ get_or bs j 0
 high_at [] a j h = absurd (omega arith)
 high_at (b ∷ bs) a zero h = a.0
 high_at (b ∷ bs) a (suc j) h = high_at bs a.1 j (omega arith)
@@ -78,7 +78,7 @@ long_high c true z = (omega arith, (omega arith, tt))
 long_high c false true = (omega arith, (omega arith, (omega arith, tt)))
 long_high c false false = (omega arith, (omega arith, (omega arith, (omega arith, tt))))
 
-high_bytes : (c : ℕ) → 128 ≤ c → AllHigh (encode_utf8 c)
+pub high_bytes : (c : ℕ) → 128 ≤ c → AllHigh (encode_utf8 c)
 unfolding lib.Utf8.encode
 high_bytes c h = rw (le-ltb c 128 h) (long_high c (ltb c 2048) (ltb c 65536))
 

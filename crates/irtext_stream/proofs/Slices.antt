@@ -17,6 +17,11 @@ use Rattle.irtext_stream.proofs.Lines.{rest_of}
 use Rattle.irtext_stream.proofs.Encoded.{encode_some}
 use Rattle.irtext_stream.proofs.Bytes.{first_some, one_more, next_by_byte, next_at_end}
 
+-- the front and what is left of it make the text
+pub front_after : (p : ℕ → Bool) (text : Text) → front p text ++ after p text ≡ text
+front_after p [] = refl
+front_after p (c ∷ text) = elim (p c) as (λ b. cond b (c ∷ front p text) [] ++ cond b (after p text) (c ∷ text) ≡ c ∷ text) [ true ↦ ap (λ z. c ∷ z) (front_after p text) | false ↦ refl ]
+
 -- the front of characters of a kind has come so far
 pub record Ahead (bytes : List ℕ) (from : ℕ) (kind : ℕ → Bool) (at : ℕ) : Type 0 where
   pub within : at ≤ length bytes

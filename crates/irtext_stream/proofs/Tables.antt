@@ -26,3 +26,4 @@ table_has class.HexadecimalDigit b h = alike_is _ _ (ascii (λ b. alike (marked 
 table_has class.Beginning b h = alike_is _ _ (ascii (λ b. alike (marked class.Beginning b) (has class.Beginning b)) refl b h)
 table_has class.Word b h = alike_is _ _ (ascii (λ b. alike (marked class.Word b) (has class.Word b)) refl b h)
 table_has class.Dotted b h = alike_is _ _ (ascii (λ b. alike (marked class.Dotted b) (has class.Dotted b)) refl b h)
+table_has class.Plain b h = alike_is _ _ (ascii (λ b. alike (marked class.Plain b) (has class.Plain b)) refl b h)

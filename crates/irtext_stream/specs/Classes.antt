@@ -1,7 +1,8 @@
 -- Classes of characters.
 use Rattle.std.specs.Prelude.{ℕ, Bool, ◌||◌, ◌==◌}
 use Rattle.std.specs.Char.{is_ascii_digit, is_ascii_hexdigit, is_whitespace}
-use Rattle.irtext_stream.specs.Text.{begins_word, in_word}
+use Rattle.irtext_stream.specs.Text.{front, after, begins_word, in_word, is_plain}
+use Rattle.irtext_stream.specs.Stream.{StreamView, behind}
 use Rattle.irtext_stream.specs.declared.class.Class.{Class}
 use Rattle.irtext_stream.specs.declared.class.Class.TheVariants as class
 
@@ -13,6 +14,7 @@ has class.HexadecimalDigit c = is_ascii_hexdigit c
 has class.Beginning c = begins_word c
 has class.Word c = in_word c
 has class.Dotted c = in_word c || c == 46
+has class.Plain c = is_plain c
 
 -- a class's bit in a table of bytes
 abbrev pub bit_of : Class → ℕ
@@ -22,3 +24,8 @@ bit_of class.HexadecimalDigit = 4
 bit_of class.Beginning = 8
 bit_of class.Word = 16
 bit_of class.Dotted = 32
+bit_of class.Plain = 64
+
+-- the stream behind the longest front of characters of a class
+abbrev pub behind_front : Class → StreamView → StreamView
+behind_front class v = behind v (front (has class) v.rest) (after (has class) v.rest)

@@ -13,6 +13,22 @@ use Rattle.irtext_stream.specs.declared.position.SourcePosition.{SourcePosition}
 abbrev pub StandsBehind : Place → Text → Type 0
 StandsBehind place passed = place.offset ≡ length (encode_utf8_all passed)
 
+-- this holds of the texts on both sides of an offset of a text
+abbrev pub AtOffset : ℕ → Text → (Text → Text → Type 0) → Type 0
+AtOffset offset text Holds = (passed rest : Text) → passed ++ rest ≡ text → offset ≡ length (encode_utf8_all passed) → Holds passed rest
+
+-- this holds of the texts on both sides of a place of a stream
+abbrev pub AtPlace : Place → StreamView → (Text → Text → Type 0) → Type 0
+AtPlace place v Holds = AtOffset place.offset (v.passed ++ v.rest) Holds
+
+-- this holds of the text before an earlier place of a stream and of what was passed since
+abbrev pub SincePlace : Place → StreamView → (Text → Text → Type 0) → Type 0
+SincePlace place v Holds = AtOffset place.offset v.passed Holds
+
+-- the place is one that the stream has passed
+abbrev pub HasPassed : Place → StreamView → Type 0
+HasPassed place v = (passed taken : Text) × (passed ++ taken ≡ v.passed) × StandsBehind place passed
+
 -- the place is one of the stream's
 pub record IsPlaceOf (place : Place) (v : StreamView) : Type 0 where
   pub passed : Text

@@ -37,3 +37,11 @@ after_failure v = record v { failed = true }
 -- the stream behind the characters taken
 abbrev pub behind : StreamView → Text → Text → StreamView
 behind v taken rest = record { passed = v.passed ++ taken; rest = rest; failed = v.failed }
+
+-- this text comes next, and of the stream behind it this holds
+abbrev pub Comes : Text → StreamView → (StreamView → Type 0) → Type 0
+Comes text v Holds = (rest : Text) × (v.rest ≡ text ++ rest) × Holds (behind v text rest)
+
+-- the stream at another place of its text
+abbrev pub moved : StreamView → Text → Text → StreamView
+moved v passed rest = record { passed = passed; rest = rest; failed = v.failed }

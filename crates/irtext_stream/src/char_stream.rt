@@ -1,10 +1,10 @@
 //! What readers ask of a stream of characters.
-ghost use Rattle.std.specs.Prelude.{◌≡◌, ℕ, List, ◌++◌, MatchBool, refl};
+ghost use Rattle.std.specs.Prelude.{◌≡◌, MatchBool, refl};
 ghost use Rattle.std.specs.Str.{chars, encode_utf8_all};
-ghost use Rattle.irtext_stream.specs.Text.{Text, front, after};
-ghost use Rattle.irtext_stream.specs.Classes.{has};
-ghost use Rattle.irtext_stream.specs.Stream.{StreamView, IsAt, first_of, advanced, after_failure, behind};
-ghost use Rattle.irtext_stream.specs.Places.{StandsBehind, IsPlaceOf};
+ghost use Rattle.irtext_stream.specs.Text.{BeginsOtherwise};
+ghost use Rattle.irtext_stream.specs.Classes.{behind_front};
+ghost use Rattle.irtext_stream.specs.Stream.{StreamView, IsAt, first_of, advanced, after_failure, Comes, moved};
+ghost use Rattle.irtext_stream.specs.Places.{StandsBehind, IsPlaceOf, AtPlace, SincePlace, HasPassed};
 
 use crate::class::Class;
 use crate::position::{Place, SourcePosition};
@@ -29,13 +29,13 @@ pub trait CharStream {
 
     /// Passes the longest front of characters of a class.
     fn skip(&mut self, class: Class)
-        ensures { self.new ≡ at self.old (behind (view self.old) (front (has class) (view self.old).rest) (after (has class) (view self.old).rest)) };
+        ensures { self.new ≡ at self.old (behind_front class (view self.old)) };
 
     /// Passes a text where the whole of it comes next, and answers whether it does.
     fn accept(&mut self, text: &str) -> bool
         ensures { MatchBool result
-            ((rest : Text) × ((view self.old).rest ≡ chars text.now ++ rest) × (self.new ≡ at self.old (behind (view self.old) (chars text.now) rest)))
-            (((rest : Text) → (view self.old).rest ≡ chars text.now ++ rest → ⊥) × (self.new ≡ self.old)) };
+            (Comes (chars text.now) (view self.old) (λ v. self.new ≡ at self.old v))
+            (BeginsOtherwise (chars text.now) (view self.old).rest × (self.new ≡ self.old)) };
 
     /// The place of the next character, or of the end.
     fn position(&self) -> Place
@@ -43,14 +43,12 @@ pub trait CharStream {
 
     /// The line and the column of a place that `position` gave on this stream.
     fn locate(&self, place: Place) -> SourcePosition
-        ensures { (passed rest : Text) → passed ++ rest ≡ (view self.now).passed ++ (view self.now).rest → StandsBehind place passed →
-            IsAt result.line result.column passed };
+        ensures { AtPlace place (view self.now) (λ passed rest. IsAt result.line result.column passed) };
 
     /// Goes to a place that `position` gave on this stream. A failed stream stays failed.
     fn reset(&mut self, place: Place)
         requires { IsPlaceOf place (view self.old) }
-        ensures { (passed rest : List ℕ) → passed ++ rest ≡ (view self.old).passed ++ (view self.old).rest → StandsBehind place passed →
-            self.new ≡ at self.old (record { passed = passed; rest = rest; failed = (view self.old).failed }) };
+        ensures { AtPlace place (view self.old) (λ passed rest. self.new ≡ at self.old (moved (view self.old) passed rest)) };
 
     /// Fails the stream: each reader refuses it from now on.
     fn fail(&mut self)
@@ -62,8 +60,8 @@ pub trait CharStream {
 
     /// The text between an earlier place and the next character.
     fn text_since(&self, place: Place) -> &str
-        requires { (passed taken : List ℕ) × (passed ++ taken ≡ (view self.now).passed) × StandsBehind place passed }
-        ensures { (passed taken : List ℕ) → passed ++ taken ≡ (view self.now).passed → StandsBehind place passed → result.now ≡ encode_utf8_all taken };
+        requires { HasPassed place (view self.now) }
+        ensures { SincePlace place (view self.now) (λ passed taken. result.now ≡ encode_utf8_all taken) };
 
     /// Where what a reader answers is allocated.
     fn allocator(&self) -> Global;

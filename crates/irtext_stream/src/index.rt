@@ -1,8 +1,8 @@
 //! The index of a text: where its lines begin, and how many characters begin before each block of it.
-ghost use Rattle.std.specs.Prelude.{◌≡◌, ◌<◌, ◌≤◌, ◌-◌, ◌+◌, ℕ, List, length, get_or, take, count_by, IfOk, ◌++◌};
-ghost use Rattle.std.specs.Str.{chars, encode_utf8_all};
-ghost use Rattle.irtext_stream.specs.Text.{Text};
+ghost use Rattle.std.specs.Prelude.{◌≡◌, ◌<◌, ◌≤◌, ◌-◌, ◌+◌, length, get_or, take, count_by, IfOk};
+ghost use Rattle.std.specs.Str.{chars};
 ghost use Rattle.irtext_stream.specs.Stream.{IsAt, cut};
+ghost use Rattle.irtext_stream.specs.Places.{AtOffset};
 ghost use Rattle.irtext_stream.specs.Index.{begins_character, entry_before, AreStarts, AreBlocks, Indexes};
 
 use crate::position::SourcePosition;
@@ -145,7 +145,8 @@ impl TextIndex {
         requires indexed { Indexes bytes.now self.now }
         requires order { start ≤ end }
         requires within { end ≤ length bytes.now }
-        ensures { count_by begins_character (take start bytes.now) + result ≡ count_by begins_character (take end bytes.now) }
+        ensures { count_by begins_character (take start bytes.now) + result
+            ≡ count_by begins_character (take end bytes.now) }
     {
         if self.single {
             return end - start;
@@ -160,7 +161,7 @@ impl TextIndex {
     pub(crate) fn position(&self, text: &str, offset: usize) -> SourcePosition
         requires indexed { Indexes text.now self.now }
         requires within { offset ≤ length text.now }
-        ensures { (passed rest : Text) → passed ++ rest ≡ chars text.now → offset ≡ length (encode_utf8_all passed) → IsAt result.line result.column passed }
+        ensures { AtOffset offset (chars text.now) (λ passed rest. IsAt result.line result.column passed) }
     {
         let line = line_at(&self.starts, offset);
         let start = entry_before(&self.starts, line);

@@ -1,11 +1,13 @@
 //! How far the characters of a class go.
-ghost use Rattle.std.specs.Prelude.{◌≡◌, ◌≤◌, ◌++◌, ℕ, List, MatchBool, length, take, drop};
+ghost use Rattle.std.specs.Prelude.{◌≡◌, ◌≤◌, MatchBool, length, take, drop};
 ghost use Rattle.std.specs.Str.{chars, IsUtf8};
+ghost use Rattle.irtext_stream.specs.Text.{BeginsOtherwise, is_plain};
 ghost use Rattle.irtext_stream.specs.Classes.{has};
 ghost use Rattle.irtext_stream.specs.Stream.{first_of};
 ghost use Rattle.irtext_stream.specs.Index.{Ends, ComesAt, width_of};
 
 use crate::class::Class;
+use memchr::memchr2;
 
 /// The character at an offset, by its bytes.
 pub(crate) fn decode(text: &str, at: usize) -> Option<char>
@@ -51,6 +53,9 @@ pub(crate) fn end_of(text: &str, from: usize, class: Class) -> usize
     requires rest_utf8 { IsUtf8 (drop from text.now) }
     ensures { Ends text.now from (has class) result }
 {
+    if let Class::Plain = class {
+        return end_of_plain(text, from);
+    }
     if width_at(text, from, class) == 0 {
         return from;
     }
@@ -82,13 +87,26 @@ fn end_of_run(text: &str, from: usize, class: Class) -> usize
     at
 }
 
+/// The same of plain characters. To these belong all past ASCII, so no character is looked at by itself.
+fn end_of_plain(text: &str, from: usize) -> usize
+    requires within { from ≤ length text.now }
+    requires passed_utf8 { IsUtf8 (take from text.now) }
+    requires rest_utf8 { IsUtf8 (drop from text.now) }
+    ensures { Ends text.now from is_plain result }
+{
+    match memchr2(b'"', b'\\', &text.as_bytes()[from..]) {
+        Some(n) => from + n,
+        None => text.len(),
+    }
+}
+
 /// Whether the whole of a text comes at an offset.
 #[inline(always)]
 pub(crate) fn comes_at(text: &str, at: usize, word: &str) -> bool
     requires within { at ≤ length text.now }
     requires passed_utf8 { IsUtf8 (take at text.now) }
     requires rest_utf8 { IsUtf8 (drop at text.now) }
-    ensures { MatchBool result (ComesAt text.now at word.now) ((rest : List ℕ) → chars (drop at text.now) ≡ chars word.now ++ rest → ⊥) }
+    ensures { MatchBool result (ComesAt text.now at word.now) (BeginsOtherwise (chars word.now) (chars (drop at text.now))) }
 {
     text.as_bytes()[at..].starts_with(word.as_bytes())
 }

@@ -1,10 +1,10 @@
 //! The stream of a text: its bytes, how far they were read, and the index by which its lines and columns are found.
-ghost use Rattle.std.specs.Prelude.{◌≡◌, ℕ, List, [], ◌++◌, IfOk, MatchBool, false};
+ghost use Rattle.std.specs.Prelude.{◌≡◌, [], IfOk, MatchBool, false};
 ghost use Rattle.std.specs.Str.{chars, encode_utf8_all};
-ghost use Rattle.irtext_stream.specs.Text.{front, after};
-ghost use Rattle.irtext_stream.specs.Classes.{has};
-ghost use Rattle.irtext_stream.specs.Stream.{StreamView, IsAt, first_of, advanced, after_failure, behind};
-ghost use Rattle.irtext_stream.specs.Places.{StandsBehind, IsPlaceOf};
+ghost use Rattle.irtext_stream.specs.Text.{BeginsOtherwise};
+ghost use Rattle.irtext_stream.specs.Classes.{behind_front};
+ghost use Rattle.irtext_stream.specs.Stream.{StreamView, IsAt, first_of, advanced, after_failure, Comes, moved};
+ghost use Rattle.irtext_stream.specs.Places.{StandsBehind, IsPlaceOf, AtPlace, SincePlace, HasPassed};
 
 use crate::class::Class;
 use crate::index::TextIndex;
@@ -32,10 +32,14 @@ impl Model for TextStream {
 
     ghost Value = { StreamView };
 
-    ghost view = { λ s. record { passed = chars (take s.offset (string_bytes s.text)); rest = chars (drop s.offset (string_bytes s.text)); failed = s.failed } };
+    ghost view = { λ s. record {
+      passed = chars (take s.offset (string_bytes s.text));
+      rest = chars (drop s.offset (string_bytes s.text));
+      failed = s.failed;
+    } };
 
-    ghost invariant = { λ s. (s.offset ≤ length (string_bytes s.text)) × IsUtf8 (take s.offset (string_bytes s.text)) × IsUtf8 (drop s.offset (string_bytes s.text))
-        × Indexes (string_bytes s.text) s.index };
+    ghost invariant = { λ s. (s.offset ≤ length (string_bytes s.text)) × IsUtf8 (take s.offset (string_bytes s.text))
+        × IsUtf8 (drop s.offset (string_bytes s.text)) × Indexes (string_bytes s.text) s.index };
 }
 
 impl TextStream {
@@ -96,7 +100,7 @@ impl TextStream {
     /// Passes the longest front of characters of a class.
     #[inline(always)]
     pub fn skip(&mut self, class: Class)
-        ensures { self.new ≡ behind self.old (front (has class) self.old.rest) (after (has class) self.old.rest) }
+        ensures { self.new ≡ behind_front class self.old }
     {
         self.offset = end_of(self.text.as_str(), self.offset, class);
     }
@@ -105,8 +109,8 @@ impl TextStream {
     #[inline(always)]
     pub fn accept(&mut self, text: &str) -> bool
         ensures { MatchBool result
-            ((rest : List ℕ) × (self.old.rest ≡ chars text.now ++ rest) × (self.new ≡ behind self.old (chars text.now) rest))
-            (((rest : List ℕ) → self.old.rest ≡ chars text.now ++ rest → ⊥) × (self.new ≡ self.old)) }
+            (Comes (chars text.now) self.old (λ v. self.new ≡ v))
+            (BeginsOtherwise (chars text.now) self.old.rest × (self.new ≡ self.old)) }
     {
         if !comes_at(self.text.as_str(), self.offset, text) {
             return false;
@@ -127,7 +131,7 @@ impl TextStream {
 
     /// The line and the column of a place that `position` gave on this stream.
     pub fn locate(&self, place: Place) -> SourcePosition
-        ensures { (passed rest : List ℕ) → passed ++ rest ≡ self.now.passed ++ self.now.rest → StandsBehind place passed → IsAt result.line result.column passed }
+        ensures { AtPlace place self.now (λ passed rest. IsAt result.line result.column passed) }
     {
         let offset = place.offset.min(self.text.len());
         self.index.position(self.text.as_str(), offset)
@@ -136,8 +140,7 @@ impl TextStream {
     /// Goes to a place that `position` gave on this stream. A failed stream stays failed.
     pub fn reset(&mut self, place: Place)
         requires { IsPlaceOf place self.old }
-        ensures { (passed rest : List ℕ) → passed ++ rest ≡ self.old.passed ++ self.old.rest → StandsBehind place passed →
-            self.new ≡ record { passed = passed; rest = rest; failed = self.old.failed } }
+        ensures { AtPlace place self.old (λ passed rest. self.new ≡ moved self.old passed rest) }
     {
         self.offset = place.offset;
     }
@@ -158,8 +161,8 @@ impl TextStream {
 
     /// The text between an earlier place and the next character.
     pub fn text_since(&self, place: Place) -> &str
-        requires { (passed taken : List ℕ) × (passed ++ taken ≡ self.now.passed) × StandsBehind place passed }
-        ensures { (passed taken : List ℕ) → passed ++ taken ≡ self.now.passed → StandsBehind place passed → result.now ≡ encode_utf8_all taken }
+        requires { HasPassed place self.now }
+        ensures { SincePlace place self.now (λ passed taken. result.now ≡ encode_utf8_all taken) }
     {
         &self.text.as_str()[place.offset..self.offset]
     }

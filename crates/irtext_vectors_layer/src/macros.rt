@@ -1,4 +1,4 @@
-//! What the macros make of a cause or a text: those of this layer, and those of the lowest crate.
+//! What the macros make of a cause or a text.
 use irtext_types::DemoAttr;
 use irtext_vectors_common::contexts::Ctx;
 use irtext_vectors_common::tables::differing_alone;
@@ -31,63 +31,37 @@ fn at(line: i32, column: i32) -> Location<DemoAttr> {
     }
 }
 
-/// The error of a line, as a macro of the crate makes it.
-macro_rules! made {
-    ($layer:ident, $alloc:expr, $number:expr) => {
-        match $number {
-            0 => Ok($layer::create_error!(at(4, 2), ErrorKind::InvalidInput, Cause::EmptyItem)),
-            1 => Ok($layer::verify_error!(at(4, 2), in $alloc; "located {}", 1)),
-            2 => Ok($layer::verify_error_noloc!(Cause::StreamFailed)),
-            3 => Ok($layer::input_error!(at(4, 2), Cause::BadSeparator)),
-            4 => Ok($layer::input_error_noloc!(in $alloc; "alone {}", 2)),
-            5 => Ok($layer::arg_error!(at(4, 2), Cause::Memory)),
-            _ => Ok($layer::arg_error_noloc!(in $alloc; "alone 3")),
-        }
-    };
-}
-
-/// The error of a line, as a macro of the crate answers it.
-macro_rules! answered {
-    ($layer:ident, $alloc:expr, $number:expr) => {
-        match $number {
-            0 => $layer::create_err!(at(4, 2), ErrorKind::InvalidInput, Cause::EmptyItem),
-            1 => $layer::verify_err!(at(4, 2), in $alloc; "located {}", 1),
-            2 => $layer::verify_err_noloc!(Cause::StreamFailed),
-            3 => $layer::input_err!(at(4, 2), Cause::BadSeparator),
-            4 => $layer::input_err_noloc!(in $alloc; "alone {}", 2),
-            5 => $layer::arg_err!(at(4, 2), Cause::Memory),
-            _ => $layer::arg_err_noloc!(in $alloc; "alone 3"),
-        }
-    };
-}
-
-/// The error of a line, as a macro of the text layer makes it.
+/// The error of a line, as a macro makes it.
 fn made(alloc: Global, number: usize) -> Answer {
-    made!(pliron_text, alloc, number)
+    match number {
+        0 => Ok(pliron_text::create_error!(at(4, 2), ErrorKind::InvalidInput, Cause::EmptyItem)),
+        1 => Ok(pliron_text::verify_error!(at(4, 2), in alloc; "located {}", 1)),
+        2 => Ok(pliron_text::verify_error_noloc!(Cause::StreamFailed)),
+        3 => Ok(pliron_text::input_error!(at(4, 2), Cause::BadSeparator)),
+        4 => Ok(pliron_text::input_error_noloc!(in alloc; "alone {}", 2)),
+        5 => Ok(pliron_text::arg_error!(at(4, 2), Cause::Memory)),
+        _ => Ok(pliron_text::arg_error_noloc!(in alloc; "alone 3")),
+    }
 }
 
-/// The error of a line, as a macro of the text layer answers it.
+/// The error of a line, as a macro answers it.
 fn answered(alloc: Global, number: usize) -> Answer {
-    answered!(pliron_text, alloc, number)
-}
-
-/// The error of a line, as a macro of the lowest crate makes it.
-fn made_below(alloc: Global, number: usize) -> Answer {
-    made!(irtext_base, alloc, number)
-}
-
-/// The error of a line, as a macro of the lowest crate answers it.
-fn answered_below(alloc: Global, number: usize) -> Answer {
-    answered!(irtext_base, alloc, number)
+    match number {
+        0 => pliron_text::create_err!(at(4, 2), ErrorKind::InvalidInput, Cause::EmptyItem),
+        1 => pliron_text::verify_err!(at(4, 2), in alloc; "located {}", 1),
+        2 => pliron_text::verify_err_noloc!(Cause::StreamFailed),
+        3 => pliron_text::input_err!(at(4, 2), Cause::BadSeparator),
+        4 => pliron_text::input_err_noloc!(in alloc; "alone {}", 2),
+        5 => pliron_text::arg_err!(at(4, 2), Cause::Memory),
+        _ => pliron_text::arg_err_noloc!(in alloc; "alone 3"),
+    }
 }
 
 /// What the macros of a set make for a line.
 fn of_set(alloc: Global, set: usize, number: usize) -> Answer {
     match set {
         0 => made(alloc, number),
-        1 => answered(alloc, number),
-        2 => made_below(alloc, number),
-        _ => answered_below(alloc, number),
+        _ => answered(alloc, number),
     }
 }
 
@@ -113,7 +87,7 @@ fn differing_of_set(alloc: Global, set: usize) -> Result<Option<usize>, Fail> {
 
 #[test]
 fn what_the_macros_make(rt: HostRuntime) -> Result<(), Fail> {
-    for set in 0..4 {
+    for set in 0..2 {
         assert_eq!(rt; differing_of_set(rt.alloc(), set)?, None);
     }
     Ok(())

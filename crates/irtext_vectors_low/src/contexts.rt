@@ -1,9 +1,10 @@
 //! Identifiers, dictionaries, and the objects of a context.
-use irtext_base::base::{AttrObj, AttributeDict, Identifier, OpId, Refusal};
+use irtext_base::base::{AttrObj, Identifier, OpId, Refusal};
 use irtext_base::location::Location;
 use irtext_base::result::Result as Answer;
 use irtext_context::base::context::making::Making;
 use irtext_context::base::{Operation, Ptr};
+use irtext_dict::base::AttributeDict;
 use irtext_types::DemoAttr;
 use irtext_vectors_common::contexts::{Ctx, named, with_context};
 use irtext_vectors_common::tables::differing;

@@ -1,6 +1,7 @@
 //! A dictionary of up to twenty keys and given names: they are put in, replaced and taken out, and stand in the order in which
 //! they came.
-use irtext_base::base::{AttrObj, AttributeDict, GIVEN_NAMES_KEY, Identifier};
+use irtext_base::base::{AttrObj, GIVEN_NAMES_KEY, Identifier};
+use irtext_dict::base::AttributeDict;
 use irtext_types::DemoAttr;
 use irtext_vectors_common::contexts::named;
 use irtext_vectors_common::tables::differing;

@@ -1,9 +1,10 @@
 //! Ids of operations made of texts, attributes that are set on an operation, and refusals as errors.
-use irtext_base::base::{AttrObj, AttributeDict, GIVEN_NAMES_KEY, Identifier, OpId, SYM_NAME_KEY};
+use irtext_base::base::{AttrObj, GIVEN_NAMES_KEY, Identifier, OpId, SYM_NAME_KEY};
 use irtext_base::location::Location;
 use irtext_base::result::{Error, Result as Answer};
 use irtext_context::base::context::making::Making;
 use irtext_context::base::{Context, Operation, Ptr};
+use irtext_dict::base::AttributeDict;
 use irtext_types::{DemoAttr, DemoType};
 use std::alloc::{AllocError, Global};
 use std::test::Fail;

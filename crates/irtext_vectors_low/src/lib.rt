@@ -16,6 +16,8 @@ mod lists;
 #[cfg(test)]
 mod locations;
 #[cfg(test)]
+mod nested;
+#[cfg(test)]
 mod numbers;
 #[cfg(test)]
 mod quoted;

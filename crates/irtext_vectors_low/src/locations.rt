@@ -1,10 +1,12 @@
 //! The sources, copies and hashes of locations, and the paths that a context keeps.
-use irtext_base::base::{AttrObj, AttributeDict, OpId};
+use crate::nested;
+use irtext_base::base::{AttrObj, OpId};
 use irtext_base::location::{CloneIntoContext, Location, Source};
 use irtext_base::parsable::SourcePosition;
 use irtext_context::base::context::making::Making;
 use irtext_context::base::{Context, Operation, Ptr};
 use irtext_context::location::erase_locations;
+use irtext_dict::base::AttributeDict;
 use irtext_types::DemoAttr;
 use irtext_vectors_common::contexts::{Ctx, named};
 use std::alloc::Global;
@@ -12,12 +14,12 @@ use std::hash::{DefaultHasher, Hash, Hasher};
 use std::test::Fail;
 
 /// The source of a file.
-fn file(ctx: &mut Ctx, path: &str) -> Result<Source, Fail> {
+pub fn file(ctx: &mut Ctx, path: &str) -> Result<Source, Fail> {
     Ok(Source::new_from_file(ctx, path).ok().ok_or("refused")?)
 }
 
 /// Line 1, column 2 of a source.
-fn at(src: Source) -> Location<DemoAttr> {
+pub fn at(src: Source) -> Location<DemoAttr> {
     Location::SrcPos {
         src,
         pos: SourcePosition { line: 1, column: 2 },
@@ -177,13 +179,15 @@ fn holds(alloc: Global, ctx: &mut Ctx, other: &mut Ctx, number: usize) -> Result
         4 => counted(alloc, ctx),
         5 => moved(ctx, other),
         6 => carried(alloc, ctx, other),
-        _ => erased(alloc, ctx),
+        7 => erased(alloc, ctx),
+        8 => nested::copied(alloc),
+        _ => nested::carried(alloc, ctx, other),
     }
 }
 
 /// The number of the first line that does not hold.
 fn differing(alloc: Global, ctx: &mut Ctx, other: &mut Ctx) -> Result<Option<usize>, Fail> {
-    for number in 0..8 {
+    for number in 0..10 {
         if !holds(alloc, ctx, other, number)? {
             return Ok(Some(number));
         }

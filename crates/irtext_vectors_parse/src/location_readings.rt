@@ -52,6 +52,15 @@ const OTHERS: &[(&str, &str)] = &[
     ),
 ];
 
+/// How many times what stands on both sides of a location is repeated in a text: four times as many locations nest.
+const DEPTH: usize = 25_000;
+
+/// What stands in front of a location in four others, one of each kind.
+const FRONT: &str = "name: \"a\", loc: (callsite(callsite(? at fused[?, ";
+
+/// What stands behind it.
+const BACK: &str = ", <in-memory>: line: 1, column: 1]) at ?))";
+
 /// The text that is printed of a location.
 fn printed(alloc: Global, ctx: &Ctx, location: &Location<DemoAttr>) -> Result<String, Fail> {
     Ok(format!(in alloc; "{}", location.disp(ctx))?)
@@ -85,6 +94,49 @@ fn locations_of_a_text(rt: HostRuntime) -> Result<(), Fail> {
     for text in SAME {
         assert_eq!(rt; again(rt.alloc(), text)?.as_str(), *text);
     }
+    Ok(())
+}
+
+/// A text between two others, each so many times.
+fn between(
+    alloc: Global,
+    depth: usize,
+    front: &str,
+    inside: &str,
+    back: &str,
+) -> Result<String, Fail> {
+    let mut text = String::new(alloc);
+    for _ in 0..depth {
+        text.push_str(front)?;
+    }
+    text.push_str(inside)?;
+    for _ in 0..depth {
+        text.push_str(back)?;
+    }
+    Ok(text)
+}
+
+/// Whether a location is read of a text.
+fn is_read(ctx: &mut Ctx, text: &str) -> bool {
+    parse_from_str(
+        |s| <Location<DemoAttr> as Parsable<DemoType, DemoAttr, ()>>::parse(s, ()),
+        ctx,
+        text,
+    )
+    .is_ok()
+}
+
+#[test]
+fn locations_deep_in_one_another(rt: HostRuntime) -> Result<(), Fail> {
+    let text = between(rt.alloc(), DEPTH, FRONT, "?", BACK)?;
+    assert!(rt; with_context(rt.alloc(), |_, ctx| Ok(is_read(ctx, text.as_str())))?);
+    Ok(())
+}
+
+#[test]
+fn a_fault_deep_in_locations(rt: HostRuntime) -> Result<(), Fail> {
+    let text = between(rt.alloc(), DEPTH, FRONT, "x", "")?;
+    assert!(rt; !with_context(rt.alloc(), |_, ctx| Ok(is_read(ctx, text.as_str())))?);
     Ok(())
 }
 

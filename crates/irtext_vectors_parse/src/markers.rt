@@ -1,7 +1,7 @@
 //! Items with white space round them, and the marker that may stand for one.
 use irtext_base::parsable::{ParseResult, TextStream};
 use irtext_parse::irfmt::outlined::outlined_marker_or;
-use irtext_read::irfmt::parsers::{int_parse, spaced};
+use irtext_read::irfmt::parsers::{bool_parse, int_parse, spaced};
 use irtext_types::DemoAttr;
 use irtext_vectors_common::answers::{behind, left};
 use std::alloc::Global;
@@ -12,6 +12,12 @@ const SPACED: &[&str] = &[
     "7|Some('x')",
     "line: 1, column: 4: Unexpected `x`, expected digit|Some('x')",
 ];
+
+/// A text, and what is said of the truth value with white space round it that it begins with: the place counts every character.
+const TRUTH: (&str, &str) = (
+    "\r\n\u{2028}x",
+    "line: 2, column: 2: Unexpected `x`, expected true or false!",
+);
 
 /// Texts, and what is said of the item or the marker in its place.
 const MARKED: &[(&str, &str)] = &[
@@ -26,6 +32,13 @@ const MARKED: &[(&str, &str)] = &[
 /// What an item with white space round it answers.
 fn read_spaced(alloc: Global, stream: &mut TextStream) -> Result<String, Fail> {
     let answer: ParseResult<i32, DemoAttr> = spaced(stream, int_parse);
+    behind(alloc, &answer, stream.peek())
+}
+
+/// What a truth value with white space round it answers.
+fn read_truth(alloc: Global, text: &str) -> Result<String, Fail> {
+    let mut stream = TextStream::new(alloc, text)?;
+    let answer: ParseResult<bool, DemoAttr> = spaced(&mut stream, bool_parse);
     behind(alloc, &answer, stream.peek())
 }
 
@@ -54,6 +67,7 @@ fn items_and_the_marker(rt: HostRuntime) -> Result<(), Fail> {
     for wanted in SPACED {
         assert_eq!(rt; read_spaced(rt.alloc(), &mut stream)?.as_str(), *wanted);
     }
+    assert_eq!(rt; read_truth(rt.alloc(), TRUTH.0)?.as_str(), TRUTH.1);
     for row in MARKED {
         assert_eq!(rt; read_marked(rt.alloc(), row.0)?.as_str(), row.1);
     }

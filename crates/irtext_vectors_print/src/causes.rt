@@ -1,9 +1,10 @@
 //! The texts of causes and of the small error types.
-use crate::errors::at;
+use crate::errors::{at, error};
 use irtext_base::base::{Identifier, OpId};
 use irtext_base::format::FormatFault;
+use irtext_base::location::Location;
 use irtext_base::parsable::{ParserNameTrackerError, SourcePosition, UnresolvedReference};
-use irtext_base::result::{Cause, Error, ErrorKind, Expected, StringError};
+use irtext_base::result::{Cause, ErrorKind, Expected, StringError};
 use irtext_print::ir::verify::{BasicBlockVerifyErr, DefUseVerifyErr};
 use irtext_read::irfmt::parsers::held;
 use irtext_types::DemoAttr;
@@ -137,7 +138,7 @@ fn of_operation(alloc: Global, number: usize) -> Result<Cause<DemoAttr>, Fail> {
 
 /// A cause that holds others.
 fn nested(alloc: Global) -> Result<Cause<DemoAttr>, Fail> {
-    let inner = irtext_base::arg_error_noloc!(Cause::Memory);
+    let inner = error(ErrorKind::InvalidArgument, Location::Unknown, Cause::Memory);
     let nested: Cause<DemoAttr> = Cause::Nested(Box::new(alloc, inner)?);
     Ok(Cause::Parse {
         at: SourcePosition { line: 1, column: 1 },
@@ -222,7 +223,7 @@ fn of_name(alloc: Global, number: usize) -> Result<String, Fail> {
 
 /// An error whose location is set once it is made.
 fn of_error(alloc: Global) -> Result<String, Fail> {
-    let mut error: Error<DemoAttr> = irtext_base::input_error_noloc!(Cause::EmptyItem);
+    let mut error = error(ErrorKind::InvalidInput, Location::Unknown, Cause::EmptyItem);
     let before = error.loc().is_unknown();
     error.set_loc(at(4, 2));
     let behind = error.loc().is_unknown();

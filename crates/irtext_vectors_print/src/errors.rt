@@ -23,6 +23,15 @@ pub(crate) fn at(line: i32, column: i32) -> Location<DemoAttr> {
     }
 }
 
+/// An error of a kind at a location.
+pub(crate) fn error(
+    kind: ErrorKind,
+    loc: Location<DemoAttr>,
+    err: Cause<DemoAttr>,
+) -> Error<DemoAttr> {
+    Error { kind, err, loc }
+}
+
 /// The text of an answer, with the locations of its error.
 fn shown(alloc: Global, ctx: &Ctx, answer: &Answer) -> Result<String, Fail> {
     Ok(format!(in alloc; "{}", answer.disp(ctx))?)
@@ -37,9 +46,11 @@ const INNER: &[&str] = &[
 
 /// An error in an error in another.
 fn third(alloc: Global) -> Result<Error<DemoAttr>, Fail> {
-    let first = irtext_base::input_error!(at(1, 2), Cause::EmptyItem);
-    let second = irtext_base::verify_error_noloc!(Cause::Nested(Box::new(alloc, first)?));
-    Ok(irtext_base::arg_error!(at(1, 1), Cause::Nested(Box::new(alloc, second)?)))
+    let first = error(ErrorKind::InvalidInput, at(1, 2), Cause::EmptyItem);
+    let second = Cause::Nested(Box::new(alloc, first)?);
+    let second = error(ErrorKind::VerificationFailed, Location::Unknown, second);
+    let third = Cause::Nested(Box::new(alloc, second)?);
+    Ok(error(ErrorKind::InvalidArgument, at(1, 1), third))
 }
 
 /// An error of a formatter in another.
@@ -72,12 +83,16 @@ const FAULTS: &[&str] = &[
 
 /// An error with its location.
 fn located() -> Error<DemoAttr> {
-    irtext_base::input_error!(at(4, 2), Cause::EmptyItem)
+    error(ErrorKind::InvalidInput, at(4, 2), Cause::EmptyItem)
 }
 
 /// An error without its location.
 fn alone() -> Error<DemoAttr> {
-    irtext_base::arg_error_noloc!(Cause::EmptyItem)
+    error(
+        ErrorKind::InvalidArgument,
+        Location::Unknown,
+        Cause::EmptyItem,
+    )
 }
 
 /// An answer that is a value.
@@ -87,7 +102,7 @@ fn good() -> Result<u8, Error<DemoAttr>> {
 
 /// An answer that is an error.
 fn bad() -> Result<u8, Error<DemoAttr>> {
-    irtext_base::input_err!(at(4, 2), Cause::BadSeparator)
+    Err(error(ErrorKind::InvalidInput, at(4, 2), Cause::BadSeparator))
 }
 
 /// The error, value or answer of a line, as that of a reading.

@@ -1,5 +1,5 @@
 //! Which operations fit their formats, and what is said of those that don't.
-use irtext_base::base::{AttrObj, AttributeDict, Identifier, OpId};
+use irtext_base::base::{AttrObj, Identifier, OpId};
 use irtext_base::format::OpFormat;
 use irtext_base::location::Location;
 use irtext_base::result::Result as Answer;
@@ -7,6 +7,7 @@ use irtext_context::base::context::making::Making;
 use irtext_context::base::operation::add_regions;
 use irtext_context::base::{Operation, Ptr};
 use irtext_context::dialect::{Dialect, DialectName};
+use irtext_dict::base::AttributeDict;
 use irtext_print::ir::print::fits::check_fits;
 use irtext_types::{Characters, DemoAttr};
 use irtext_vectors_common::contexts::{Ctx, named, with_context};

@@ -1,11 +1,13 @@
 //! Locations of each kind as texts, and errors behind theirs: files by the paths that the context keeps.
+use crate::errors::error;
 use irtext_base::base::{AttrObj, Identifier};
 use irtext_base::location::{Location, Source};
 use irtext_base::parsable::SourcePosition;
-use irtext_base::result::{Cause, Error};
+use irtext_base::result::{Cause, Error, ErrorKind};
 use irtext_print::printable::Disp;
 use irtext_types::{Characters, DemoAttr};
 use irtext_vectors_common::contexts::{Ctx, with_context};
+use irtext_vectors_common::nesting::{Nesting, nested};
 use std::alloc::Global;
 use std::test::Fail;
 
@@ -24,6 +26,18 @@ callsite(? at ?)
 ["/tmp/test.pliron": line: 1, column: 2] Compilation error: invalid input program.
 Test error
 "#;
+
+/// How deep locations are nested in one another: deeper than a call for each would fit on the stack.
+const DEPTH: usize = 100_000;
+
+/// Where one location stands in another, and what is printed in front of the inner one and behind it.
+const NESTED: &[(Nesting, &str, &str)] = &[
+    (Nesting::Child, "name: \"a\", loc: (", ")"),
+    (Nesting::Callee, "callsite(", " at ?)"),
+    (Nesting::Caller, "callsite(? at ", ")"),
+    (Nesting::First, "fused[", ", ?]"),
+    (Nesting::Last, "fused[?, ", "]"),
+];
 
 /// A place of a source.
 fn at(src: Source, line: i32, column: i32) -> Location<DemoAttr> {
@@ -97,20 +111,21 @@ fn location(alloc: Global, ctx: &mut Ctx, line: usize) -> Result<Location<DemoAt
 /// An error in a file.
 fn in_one_file(alloc: Global, ctx: &mut Ctx) -> Result<Error<DemoAttr>, Fail> {
     let place = in_file(ctx, "/tmp/test.pliron", 1, 2)?;
-    Ok(irtext_base::input_error!(place, in alloc; "Test error"))
+    let cause = Cause::of_text(format!(in alloc; "Test error"));
+    Ok(error(ErrorKind::InvalidInput, place, cause))
 }
 
 /// An error in a file, in another one.
 fn in_two_files(alloc: Global, ctx: &mut Ctx) -> Result<Error<DemoAttr>, Fail> {
     let inner = Box::new(alloc, in_one_file(alloc, ctx)?)?;
     let place = in_file(ctx, "/tmp/test.pliron", 1, 1)?;
-    Ok(irtext_base::input_error!(place, Cause::Nested(inner)))
+    Ok(error(ErrorKind::InvalidInput, place, Cause::Nested(inner)))
 }
 
 /// What the error in files prints.
 fn shown_error(alloc: Global, ctx: &mut Ctx) -> Result<String, Fail> {
-    let error = in_two_files(alloc, ctx)?;
-    error_text(alloc, ctx, &error)
+    let nested = in_two_files(alloc, ctx)?;
+    error_text(alloc, ctx, &nested)
 }
 
 /// What an error prints behind its location.
@@ -140,6 +155,42 @@ fn texts(alloc: Global, ctx: &mut Ctx) -> Result<String, Fail> {
         write!(text, "{shown}\n")?;
     }
     Ok(text)
+}
+
+/// The text of locations nested in one another.
+fn nested_text(alloc: Global, before: &str, behind: &str) -> Result<String, Fail> {
+    let mut text = String::new(alloc);
+    for _ in 0..DEPTH {
+        text.push_str(before)?;
+    }
+    text.push_str("?")?;
+    for _ in 0..DEPTH {
+        text.push_str(behind)?;
+    }
+    Ok(text)
+}
+
+/// What nested locations print.
+fn shown_nested(alloc: Global, ctx: &Ctx, nesting: Nesting) -> Result<String, Fail> {
+    let location = nested(alloc, nesting, DEPTH, Location::Unknown)?;
+    location_text(alloc, ctx, &location)
+}
+
+/// Whether each line of the table prints its text.
+fn nested_printed(alloc: Global, ctx: &mut Ctx) -> Result<bool, Fail> {
+    for (nesting, before, behind) in NESTED {
+        let shown = shown_nested(alloc, ctx, *nesting)?;
+        if shown != nested_text(alloc, before, behind)? {
+            return Ok(false);
+        }
+    }
+    Ok(true)
+}
+
+#[test]
+fn deep_locations_are_printed(rt: HostRuntime) -> Result<(), Fail> {
+    assert!(rt; with_context(rt.alloc(), nested_printed)?);
+    Ok(())
 }
 
 #[test]

@@ -1,8 +1,9 @@
 //! Roots that are printed by the call that says why it refuses.
 use crate::errors::at;
-use irtext_base::base::{AttrObj, AttributeDict, Identifier, OpId};
+use irtext_base::base::{AttrObj, Identifier, OpId};
 use irtext_context::base::context::making::Making;
 use irtext_context::base::{Operation, Ptr};
+use irtext_dict::base::AttributeDict;
 use irtext_print::ir::print::print_root;
 use irtext_print::printable::{RegionPrintDepthLimit, State};
 use irtext_types::DemoAttr;

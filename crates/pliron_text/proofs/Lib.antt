@@ -1,3 +1,4 @@
 pub mod RoundTrips
 pub mod KeptParts
+pub mod KeptLocations
 pub mod TextBack

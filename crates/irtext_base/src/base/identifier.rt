@@ -10,38 +10,69 @@ ghost use Rattle.std.specs.Str.{bytes_eq, chars};
 ghost use Rattle.std.proofs.Common.{rules, ap};
 ghost use Rattle.irtext_base.specs.Faults.{fault_of, name_refused, id_refused};
 ghost use Rattle.irtext_base.specs.Text.{begins_word, in_word, is_identifier, stranger};
+ghost use Rattle.irtext_base.specs.Words.{word_bytes};
 ghost use Rattle.irtext_base.specs.declared.location.Location.{Unknown};
 
 use crate::location::Location;
 use crate::result::{Cause, Error, ErrorKind, Expected};
+use arrayvec::ArrayString;
 use indexmap::Equivalent;
 use std::alloc::{AllocError, Global};
 use std::cmp::Ordering;
 use std::fmt;
 use std::hash::{Hash, Hasher};
 use std::marker::Model;
-use std::rc::RcStr;
+use std::rc::Rc;
 
 /// A name: a letter or `_`, then letters, digits and `_`, all ASCII. A clone shares the text and takes no memory: it is refused only
 /// where the counter of those that share it is full.
 #[derive(Drop)]
 pub struct Identifier {
-    text: RcStr,
+    text: Rc<Word>,
+}
+
+/// The text of an identifier: a short one takes no memory of its own.
+#[derive(Drop)]
+enum Word {
+    Short(ArrayString<24>),
+    Long(String),
 }
 
 impl Model for Identifier {
     ghost use Rattle.std.specs.Prelude.{ℕ, List, IsTrue};
     ghost use Rattle.std.specs.Coded.{coded_list, coded_ℕ};
-    ghost use Rattle.std.specs.Rc.{rc_str_bytes};
     ghost use Rattle.irtext_base.specs.Text.{is_identifier};
+    ghost use Rattle.irtext_base.specs.Words.{word_bytes};
 
     ghost Value = { List ℕ };
 
     ghost coded = { coded_list coded_ℕ };
 
-    ghost view = { λ i. rc_str_bytes i.text };
+    ghost view = { λ i. word_bytes i.text.value };
 
-    ghost invariant = { λ i. IsTrue (is_identifier (rc_str_bytes i.text)) };
+    ghost invariant = { λ i. IsTrue (is_identifier (word_bytes i.text.value)) };
+}
+
+impl Word {
+    /// The word of a text. Only a long one asks for memory.
+    fn of(alloc: Global, text: &str) -> Result<Word, AllocError>
+        ensures { IfOk result (λ word. word_bytes word ≡ text.now) }
+    {
+        if let Ok(short) = ArrayString::from(text) {
+            return Ok(Word::Short(short));
+        }
+        let long = String::from_str(alloc, text)?;
+        Ok(Word::Long(long))
+    }
+
+    fn as_str(&self) -> &str
+        ensures { result.now ≡ word_bytes self.now }
+    {
+        match self {
+            Word::Short(text) => text.as_str(),
+            Word::Long(text) => text.as_str(),
+        }
+    }
 }
 
 fn begins_word(b: u8) -> bool
@@ -151,8 +182,10 @@ impl Identifier {
         requires { IsTrue (is_identifier text.now) }
         ensures { IfOk result (λ i. i ≡ text.now) }
     {
-        let text = RcStr::from_str(alloc, text)?;
-        Ok(Identifier { text })
+        let word = Word::of(alloc, text)?;
+        Ok(Identifier {
+            text: Rc::new(alloc, word)?,
+        })
     }
 
     /// The text of the identifier.

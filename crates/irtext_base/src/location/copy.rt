@@ -1,13 +1,28 @@
 //! Copies of locations.
-ghost use Rattle.std.specs.Prelude.{◌≡◌, false, map, IfOk, IfErr, OnErr};
+ghost use Rattle.std.specs.Prelude.{◌≡◌, false, IfOk, IfErr, OnErr};
 ghost use Rattle.irtext_base.specs.Locations.{location_view, is_plain, out_of_memory};
 
-use crate::location::made::{call_site, fused, named};
-use crate::location::{Location, out_of_memory};
+use crate::location::walk::{NewSources, Walk};
+use crate::location::{Location, Source, out_of_memory};
 use crate::text::AttrText;
 use std::alloc::{AllocError, Global};
 
-#[cycle(copy)]
+/// Each source stays as it is.
+struct SameSources;
+
+impl NewSources for SameSources {
+    ghost use Rattle.irtext_base.specs.Walks.{same_sources};
+
+    type State = ();
+
+    ghost rule = { λ _. same_sources };
+
+    fn new_source(&self, source: Source, _state: &mut ()) -> Result<Source, AllocError> {
+        Ok(source)
+    }
+}
+
+/// A copy of the location, which takes no memory where no part of the location stands elsewhere in memory.
 fn copy_location<A: AttrText>(
     alloc: Global,
     location: &Location<A>,
@@ -20,38 +35,15 @@ fn copy_location<A: AttrText>(
             src: *src,
             pos: *pos,
         }),
-        Location::Fused {
-            metadata,
-            locations,
-        } => {
-            let locations = copy_locations(alloc, locations)?;
-            fused(alloc, metadata, locations)
-        }
-        Location::Named { name, child_loc } => {
-            let child = copy_location(alloc, child_loc)?;
-            named(alloc, name, child)
-        }
-        Location::CallSite { callee, caller } => {
-            let callee = copy_location(alloc, callee)?;
-            let caller = copy_location(alloc, caller)?;
-            call_site(alloc, callee, caller)
-        }
         Location::Unknown => Ok(Location::Unknown),
+        _ => {
+            let walk = Walk {
+                alloc,
+                sources: &SameSources,
+            };
+            walk.copy(location, &mut ())
+        }
     }
-}
-
-#[cycle(copy)]
-fn copy_locations<A: AttrText>(
-    alloc: Global,
-    locations: &Vec<Location<A>>,
-) -> Result<Vec<Location<A>>, AllocError>
-    ensures { IfOk result (λ copies. map location_view copies.items ≡ map location_view locations.now.items) }
-{
-    let mut copies = Vec::with_capacity(alloc, locations.len())?;
-    for location in locations {
-        copies.push(copy_location(alloc, location)?)?;
-    }
-    Ok(copies)
 }
 
 impl<A: AttrText> Location<A> {

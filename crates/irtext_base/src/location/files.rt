@@ -47,20 +47,34 @@ impl Source {
 fn are_among<A>(location: &Location<A>, count: usize) -> bool
     ensures { result ≡ are_known count (location_view location.now) }
 {
-    match location {
-        Location::SrcPos { src, .. } => src.is_among(count),
-        Location::Fused { locations, .. } => all_among(locations, count),
-        Location::Named { child_loc, .. } => are_among(child_loc, count),
-        Location::CallSite { callee, caller } => {
-            are_among(callee, count) && are_among(caller, count)
+    let mut next = location;
+    loop {
+        match next {
+            Location::SrcPos { src, .. } => return src.is_among(count),
+            Location::Fused { locations, .. } => {
+                let Some((last, others)) = locations.split_last() else {
+                    return true;
+                };
+                if !all_among(others, count) {
+                    return false;
+                }
+                next = last;
+            }
+            Location::Named { child_loc, .. } => next = child_loc,
+            Location::CallSite { callee, caller } => {
+                if !are_among(callee, count) {
+                    return false;
+                }
+                next = caller;
+            }
+            Location::Unknown => return true,
         }
-        Location::Unknown => true,
     }
 }
 
 #[cycle(known)]
-fn all_among<A>(locations: &Vec<Location<A>>, count: usize) -> bool
-    ensures { result ≡ row_known count (in_row (map location_view locations.now.items)) }
+fn all_among<A>(locations: &[Location<A>], count: usize) -> bool
+    ensures { result ≡ row_known count (in_row (map location_view locations.now)) }
 {
     for location in locations {
         if !are_among(location, count) {
@@ -71,7 +85,8 @@ fn all_among<A>(locations: &Vec<Location<A>>, count: usize) -> bool
 }
 
 impl Paths {
-    /// Whether the paths of all files that a location mentions are kept.
+    /// Whether the paths of all files that a location mentions are kept. It takes as much of the machine's stack as locations stand
+    /// inside one another in places that aren't the last of what stands in a location.
     pub fn contain<A>(&self, location: &Location<A>) -> bool
         ensures { result ≡ are_known (length self.now) (location_view location.now) }
     {

@@ -1,11 +1,11 @@
 //! Sources, positions and locations for another context, under its keys for the same paths.
-ghost use Rattle.std.specs.Prelude.{◌≡◌, ◌≢◌, false, map, length, Ok, IfOk, IfErr, OnOk, OnErr, IsTrue};
-ghost use Rattle.irtext_base.specs.Locations.{location_view, in_row, row_sourced, out_of_memory};
-ghost use Rattle.irtext_base.specs.Paths.{path_of, is_known, are_known, row_known, written_with};
-ghost use Rattle.irtext_base.specs.Moves.{source_under, path_kept, all_under, all_kept, row_under, row_kept, is_free, KeepsMore};
+ghost use Rattle.std.specs.Prelude.{◌≡◌, ◌≢◌, false, length, Ok, IfOk, IfErr, OnOk, OnErr, IsTrue};
+ghost use Rattle.irtext_base.specs.Locations.{location_view, out_of_memory};
+ghost use Rattle.irtext_base.specs.Paths.{path_of, is_known, are_known, written_with};
+ghost use Rattle.irtext_base.specs.Moves.{source_under, path_kept, all_under, all_kept, is_free, KeepsMore};
 
-use crate::location::made::{call_site, fused, named};
 use crate::location::paths::{HasPaths, Paths};
+use crate::location::walk::{NewSources, Walk};
 use crate::location::{Location, Source, out_of_memory};
 use crate::parsable::SourcePosition;
 use crate::text::AttrText;
@@ -24,8 +24,19 @@ fn move_source(source: Source, from: &Paths, to: &mut Paths) -> Result<Source, A
     }
 }
 
+impl NewSources for Paths {
+    ghost use Rattle.irtext_base.specs.Walks.{moving};
+
+    type State = Paths;
+
+    ghost rule = { moving };
+
+    fn new_source(&self, source: Source, to: &mut Paths) -> Result<Source, AllocError> {
+        move_source(source, self, to)
+    }
+}
+
 /// The location over the other paths, of which there may be more also where memory is refused.
-#[cycle(moved)]
 fn move_location<A: AttrText>(
     location: &Location<A>,
     from: &Paths,
@@ -37,48 +48,20 @@ fn move_location<A: AttrText>(
     ensures more { KeepsMore to.old to.new }
     ensures free { OnErr result (is_free (written_with from.now (location_view location.now)) ≡ false) }
 {
-    let alloc = to.allocator();
     match location {
         Location::SrcPos { src, pos } => {
             let src = move_source(*src, from, to)?;
             Ok(Location::SrcPos { src, pos: *pos })
         }
-        Location::Fused {
-            metadata,
-            locations,
-        } => {
-            let locations = move_locations(locations, from, to)?;
-            fused(alloc, metadata, locations)
-        }
-        Location::Named { name, child_loc } => {
-            let child = move_location(child_loc, from, to)?;
-            named(alloc, name, child)
-        }
-        Location::CallSite { callee, caller } => {
-            let callee = move_location(callee, from, to)?;
-            let caller = move_location(caller, from, to)?;
-            call_site(alloc, callee, caller)
-        }
         Location::Unknown => Ok(Location::Unknown),
+        _ => {
+            let walk = Walk {
+                alloc: to.allocator(),
+                sources: from,
+            };
+            walk.copy(location, to)
+        }
     }
-}
-
-#[cycle(moved)]
-fn move_locations<A: AttrText>(
-    locations: &Vec<Location<A>>,
-    from: &Paths,
-    to: &mut Paths,
-) -> Result<Vec<Location<A>>, AllocError>
-    requires { IsTrue (row_known (length from.now) (in_row (map location_view locations.now.items))) }
-    ensures ok { IfOk result (λ moved. in_row (map location_view moved.items) ≡ row_under to.old (row_sourced (path_of from.now) (in_row (map location_view locations.now.items)))) }
-    ensures kept { OnOk result (to.new ≡ row_kept to.old (row_sourced (path_of from.now) (in_row (map location_view locations.now.items)))) }
-    ensures more { KeepsMore to.old to.new }
-{
-    let mut moved = Vec::with_capacity(to.allocator(), locations.len())?;
-    for location in locations {
-        moved.push(move_location(location, from, to)?)?;
-    }
-    Ok(moved)
 }
 
 /// The location over the other paths. Where memory is refused, these are as they were.

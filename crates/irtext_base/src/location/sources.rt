@@ -1,13 +1,15 @@
 //! The sources that a location mentions.
-ghost use Rattle.std.specs.Prelude.{◌≡◌, ◌<◌, IfOk, IfErr, OnOk, OnErr, length, map};
+ghost use Rattle.std.specs.Prelude.{◌≡◌, ◌<◌, ◌+◌, [], false, IfOk, IfErr, IsTrue, OnOk, OnErr, length, map};
 ghost use Rattle.std.specs.List.{list_any};
-ghost use Rattle.irtext_base.specs.Locations.{location_view, same_source, noted, all_noted, row_noted, in_row, sources, source, out_of_memory};
+ghost use Rattle.irtext_base.specs.Locations.{location_view, same_source, noted, all_noted, in_row, sources, source, out_of_memory};
+ghost use Rattle.irtext_base.specs.Waits.{wait_noted, left_noted, wait_weight, left_weight};
+ghost use Rattle.irtext_base.specs.Weights.{weight_of};
 ghost use Rattle.irtext_base.specs.Seen.{more_seen, all_seen, row_seen, one_seen};
 
 use crate::location::{Location, Source, out_of_memory};
 use std::alloc::{AllocError, Global};
 
-fn is_same(a: Source, b: Source) -> bool
+pub(super) fn is_same_source(a: Source, b: Source) -> bool
     ensures { result ≡ same_source a b }
 {
     a == b
@@ -16,7 +18,7 @@ fn is_same(a: Source, b: Source) -> bool
 fn is_found(found: &[Source], source: Source) -> bool
     ensures { result ≡ list_any (same_source source) found.now }
 {
-    found.iter().any(|other| is_same(source, *other))
+    found.iter().any(|other| is_same_source(source, *other))
 }
 
 fn note_source(found: &mut Vec<Source>, source: Source) -> Result<(), AllocError>
@@ -30,35 +32,65 @@ fn note_source(found: &mut Vec<Source>, source: Source) -> Result<(), AllocError
     Ok(())
 }
 
-#[cycle(sources)]
-#[tactic(auto, using(crate::proofs::Sources::all_grow))]
-fn note_sources<A>(location: &Location<A>, found: &mut Vec<Source>) -> Result<(), AllocError>
-    ensures ok { OnOk result (found.new.items ≡ all_noted found.old.items (location_view location.now)) }
-    ensures err { OnErr result (0 < length (all_noted found.old.items (location_view location.now))) }
-{
-    match location {
-        Location::SrcPos { src, .. } => note_source(found, *src),
-        Location::Fused { locations, .. } => note_all_sources(locations, found),
-        Location::Named { child_loc, .. } => note_sources(child_loc, found),
-        Location::CallSite { callee, caller } => {
-            note_sources(callee, found)?;
-            note_sources(caller, found)
-        }
-        Location::Unknown => Ok(()),
-    }
+/// What is still to be looked through: one location, or several in a row.
+#[derive_where(Clone, Copy)]
+enum Waits<'a, A> {
+    One(&'a Location<A>),
+    Row(&'a [Location<A>]),
 }
 
-#[cycle(sources)]
-#[tactic(auto, using(crate::proofs::Sources::row_grow))]
-fn note_all_sources<A>(
-    locations: &Vec<Location<A>>,
+/// Notes the source of a location that is a place, or puts what stands in the location on top of what waits.
+fn note_one<'a, A>(
+    location: &'a Location<A>,
+    waits: &mut Vec<Waits<'a, A>>,
     found: &mut Vec<Source>,
 ) -> Result<(), AllocError>
-    ensures ok { OnOk result (found.new.items ≡ row_noted found.old.items (in_row (map location_view locations.now.items))) }
-    ensures err { OnErr result (0 < length (row_noted found.old.items (in_row (map location_view locations.now.items)))) }
+    ensures noted { OnOk result (left_noted found.new.items waits.new.items ≡ left_noted (all_noted found.old.items (location_view location.now)) waits.old.items) }
+    ensures less { OnOk result (left_weight waits.new.items ≡ left_weight waits.old.items + weight_of location.now) }
 {
-    for location in locations {
-        note_sources(location, found)?;
+    match location {
+        Location::SrcPos { src, .. } => note_source(found, *src)?,
+        Location::Fused { locations, .. } => waits.push(Waits::Row(locations))?,
+        Location::Named { child_loc, .. } => waits.push(Waits::One(child_loc))?,
+        Location::CallSite { callee, caller } => {
+            waits.push(Waits::One(caller))?;
+            waits.push(Waits::One(callee))?;
+        }
+        Location::Unknown => {}
+    }
+    Ok(())
+}
+
+fn note_next<'a, A>(
+    next: Waits<'a, A>,
+    waits: &mut Vec<Waits<'a, A>>,
+    found: &mut Vec<Source>,
+) -> Result<(), AllocError>
+    ensures noted { OnOk result (left_noted found.new.items waits.new.items ≡ left_noted (wait_noted found.old.items next.entry) waits.old.items) }
+    ensures less { OnOk result (left_weight waits.new.items < left_weight waits.old.items + wait_weight next.entry) }
+{
+    let locations = match next {
+        Waits::One(location) => return note_one(location, waits, found),
+        Waits::Row(locations) => locations,
+    };
+    let Some((first, others)) = locations.split_first() else {
+        return Ok(());
+    };
+    waits.push(Waits::Row(others))?;
+    note_one(first, waits, found)
+}
+
+fn note_sources<A>(
+    alloc: Global,
+    location: &Location<A>,
+    found: &mut Vec<Source>,
+) -> Result<(), AllocError>
+    ensures { OnOk result (found.new.items ≡ all_noted found.old.items (location_view location.now)) }
+{
+    let mut waits = Vec::new(alloc);
+    waits.push(Waits::One(location))?;
+    while let Some(next) = waits.pop() {
+        note_next(next, &mut waits, found)?;
     }
     Ok(())
 }
@@ -78,7 +110,7 @@ impl Seen {
         match self {
             Seen::Nothing => Seen::One(source),
             Seen::One(first) => {
-                if is_same(source, first) {
+                if is_same_source(source, first) {
                     self
                 } else {
                     Seen::Several
@@ -102,18 +134,31 @@ impl Seen {
 fn see_sources<A>(location: &Location<A>, seen: Seen) -> Seen
     ensures { result ≡ all_seen seen (location_view location.now) }
 {
-    match location {
-        Location::SrcPos { src, .. } => seen.with(*src),
-        Location::Fused { locations, .. } => see_all_sources(locations, seen),
-        Location::Named { child_loc, .. } => see_sources(child_loc, seen),
-        Location::CallSite { callee, caller } => see_sources(caller, see_sources(callee, seen)),
-        Location::Unknown => seen,
+    let mut next = location;
+    let mut seen = seen;
+    loop {
+        match next {
+            Location::SrcPos { src, .. } => return seen.with(*src),
+            Location::Fused { locations, .. } => {
+                let Some((last, others)) = locations.split_last() else {
+                    return seen;
+                };
+                seen = see_all_sources(others, seen);
+                next = last;
+            }
+            Location::Named { child_loc, .. } => next = child_loc,
+            Location::CallSite { callee, caller } => {
+                seen = see_sources(callee, seen);
+                next = caller;
+            }
+            Location::Unknown => return seen,
+        }
     }
 }
 
 #[cycle(seen)]
-fn see_all_sources<A>(locations: &Vec<Location<A>>, seen: Seen) -> Seen
-    ensures { result ≡ row_seen seen (in_row (map location_view locations.now.items)) }
+fn see_all_sources<A>(locations: &[Location<A>], seen: Seen) -> Seen
+    ensures { result ≡ row_seen seen (in_row (map location_view locations.now)) }
 {
     let mut seen = seen;
     for location in locations {
@@ -123,7 +168,16 @@ fn see_all_sources<A>(locations: &Vec<Location<A>>, seen: Seen) -> Seen
 }
 
 impl<A> Location<A> {
-    /// The source that the location mentions, where it mentions exactly one distinct source. It takes no memory.
+    #[tactic(auto, using(crate::proofs::Sources::none_seen))]
+    fn mentions_none(&self) -> bool
+        ensures none { IsTrue result → sources self.now ≡ [] }
+        ensures some { result ≡ false → 0 < length (sources self.now) }
+    {
+        matches!(see_sources(self, Seen::Nothing), Seen::Nothing)
+    }
+
+    /// The source that the location mentions, where it mentions exactly one distinct source. It takes no memory; it takes as much
+    /// of the machine's stack as locations stand inside one another in places that aren't the last of what stands in a location.
     #[tactic(auto, using(crate::proofs::Sources::one_is_only))]
     pub fn source(&self) -> Option<Source>
         ensures { result ≡ source self.now }
@@ -133,15 +187,16 @@ impl<A> Location<A> {
 
     /// The distinct sources of the location, in the order in which it first mentions them. What its metadata
     /// mentions doesn't count. It is refused only for want of memory, by `Memory`, an error of kind invalid argument, and never
-    /// where the location mentions no source.
+    /// where the location mentions no source. Only where memory was refused does it take the machine's stack as `source` does.
     pub fn sources(&self, alloc: Global) -> crate::result::Result<Vec<Source>, A>
         ensures ok { IfOk result (λ found. found.items ≡ sources self.now) }
         ensures err { IfErr result (λ e. e ≡ out_of_memory) }
         ensures some { OnErr result (0 < length (sources self.now)) }
     {
         let mut found = Vec::new(alloc);
-        match note_sources(self, &mut found) {
+        match note_sources(alloc, self, &mut found) {
             Ok(()) => Ok(found),
+            Err(_) if self.mentions_none() => Ok(Vec::new(alloc)),
             Err(_) => Err(out_of_memory()),
         }
     }

@@ -1,6 +1,6 @@
 //! Operations.
 ghost use Rattle.std.specs.Prelude.{◌≡◌, ◌<◌, ◌≤◌, ℕ, Some, None, false, IsSome, IfErr, OnOk, OnErr, option_map, length, slice_get};
-ghost use Rattle.irtext_base.specs.Dictionary.{is_reserved_for, RefusesEntry};
+ghost use Rattle.irtext_dict.specs.Dictionary.{is_reserved_for, RefusesEntry};
 ghost use Rattle.irtext_context.specs.Arena as arena;
 ghost use Rattle.irtext_context.specs.Room.{HasRoom};
 ghost use Rattle.irtext_context.specs.Context.{store_of, operation_of, with_region, with_attribute, Edits, operation, regions_in, before, EditsOperation, KeepsOlder};
@@ -9,9 +9,10 @@ mod make;
 
 use crate::base::arena::Arena;
 use crate::base::{Context, Ptr, Region};
-use irtext_base::base::{AttrObj, AttributeDict, Identifier, OpId, Refusal};
+use irtext_base::base::{AttrObj, Identifier, OpId, Refusal};
 use irtext_base::location::Location;
 use irtext_base::text::{AttrText, IrText};
+use irtext_dict::base::AttributeDict;
 pub use make::add_regions;
 use std::alloc::AllocError;
 

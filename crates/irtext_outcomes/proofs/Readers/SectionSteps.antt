@@ -1,5 +1,5 @@
 -- A section read entry by entry, and applied entry by entry.
-use Rattle.std.proofs.Common.{◌≡◌, ap₂, ℕ, Bool, true, false, cond, not, ◌&&◌, ◌||◌, ◌==◌, List, Option, Some, None, [], ◌∷◌, ◌++◌, refl, sym, ◌∙◌, ap, subst, append-nil, is_some, true≢false, Result, Ok, Err, OnOk, IsSome, IsTrue, ◌↔◌, ◌<◌, length, arith}
+use Rattle.std.proofs.Common.{◌≡◌, ap₂, ℕ, Bool, true, false, cond, not, ◌&&◌, ◌||◌, ◌==◌, List, Option, Some, None, [], ◌∷◌, ◌++◌, refl, sym, ◌∙◌, ap, subst, append-nil, is_some, true≢false, Result, Ok, Err, IfOk, IsSome, IsTrue, ◌↔◌, ◌<◌, length, arith}
 use Rattle.std.proofs.lemmas.Bool.Decides.{nat_tests}
 use Rattle.std.specs.Map.{lookup}
 use Rattle.std.specs.Result.{is_err}
@@ -15,7 +15,7 @@ use Rattle.irtext_context.specs.declared.base.operation.Operation.{Operation}
 use Rattle.irtext_base.specs.Locations.{AttrView, location_view}
 use Rattle.irtext_base.specs.declared.location.Location.{Location}
 use Rattle.irtext_base.specs.declared.parsable.fault.ParseFault.{ParseFault}
-use Rattle.irtext_state.specs.States.{same_index}
+use Rattle.irtext_state.specs.States.{same_index, Notes}
 use Rattle.irtext_outcomes.specs.Readers.Parts.{index_at}
 use Rattle.irtext_outcomes.specs.Readers.Marks.{may_follow}
 use Rattle.irtext_outcomes.specs.Readers.Section.{content_at, known_index, entry_at, may_have, Entries}
@@ -79,10 +79,11 @@ none_there false (Some x) e = absurd (true≢false (sym e))
 pub entry_new : {A X Y : Type 0} (attr : Text → Outcome (AttrView A)) (marks : List (ℕ × X)) (es : List (ℕ × Y)) (text : Text) (e : ℕ × Option (Written A)) (taken rest : Text) → entry_at attr (may_follow marks es) text ≡ Read e taken rest → lookup (same_index e.0) es ≡ None
 entry_new attr marks es text e taken rest h = none_there (is_some (lookup (same_index e.0) marks)) (lookup (same_index e.0) es) (entry_known attr (may_follow marks es) text e taken rest h)
 
--- what holds of a success, where there is one
-pub succeeded : {X E : Type 0} (r : Result X E) (P : Type 0) → is_err r ≡ false → OnOk r P → P
-succeeded (Ok x) P e h = h
-succeeded (Err x) P e h = absurd (true≢false e)
+-- where a new index was noted without a refusal, its item stands behind the others
+pub newly_noted : {X E : Type 0} (r : Result Bool E) (index : ℕ) (item : X) (old new : List (ℕ × X)) → is_err r ≡ false → IfOk r (λ noting. Notes index item noting old new) → lookup (same_index index) old ≡ None → new ≡ old ++ ((index, item) ∷ [])
+newly_noted (Ok true) index item old new e h none = h.1
+newly_noted (Ok false) index item old new e h none = absurd (h.0 none)
+newly_noted (Err x) index item old new e h none = absurd (true≢false e)
 
 -- ---- entries over paths
 module _ {A : Type 0} where

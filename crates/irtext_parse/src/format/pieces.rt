@@ -16,12 +16,13 @@ ghost use Rattle.irtext_grammar.specs.Grammar.Tree.{ident};
 
 use crate::format::entries::{Entry, dictionary_parse, keyed_parse};
 use crate::format::region::{region_parse, regions_parse};
-use irtext_base::base::{AttrObj, AttributeDict, Identifier, Refusal};
+use irtext_base::base::{AttrObj, Identifier, Refusal};
 use irtext_base::format::{Directive, OpFormat};
 use irtext_base::parsable::{CharStream, ParseFault, ParseResult, TextStream};
 use irtext_base::result::{Cause, Expected};
 use irtext_base::text::AttrText;
 use irtext_context::dialect::OpInfo;
+use irtext_dict::base::AttributeDict;
 use irtext_read::irfmt::demanded::{symbol_demanded, text_demanded};
 use irtext_read::irfmt::faults::{commit, out_of_memory, refuse, unexpected};
 use irtext_read::irfmt::parsers::skip_white_space;

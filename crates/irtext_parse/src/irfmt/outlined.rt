@@ -16,7 +16,6 @@ ghost use Rattle.irtext_outcomes.specs.Readers.Streams.{itself, replaced, KeepsR
 pub use crate::irfmt::marker::{OUTLINED_ATTR_MARKER, outlined_marker_or};
 use crate::location::nested::location_demanded;
 use crate::parsable::out_of_memory;
-use indexmap::IndexMap;
 use irtext_base::location::Location;
 use irtext_base::parsable::{CharStream, ParseResult, TextStream};
 use irtext_base::result::Cause;
@@ -26,10 +25,11 @@ use irtext_read::irfmt::demanded::{index_demanded, spaced_text_demanded, text_de
 use irtext_read::irfmt::faults::{next_is, refuse, refuse_at};
 use irtext_read::irfmt::parsers::skip_white_space;
 use irtext_state::parsable::StateStream;
+use irtext_state::parsable::numbered::Numbered;
 use irtext_state::parsable::state::Noting;
 
 /// What the entries of a section say, by the index of their marks: a location, where they give one.
-type Entries<A> = IndexMap<usize, Option<Location<A>>>;
+type Entries<A> = Numbered<Option<Location<A>>>;
 
 /// Whether an entry may have this index.
 fn may_follow<T: IrText<A>, A: AttrText, U>(
@@ -37,9 +37,9 @@ fn may_follow<T: IrText<A>, A: AttrText, U>(
     entries: &Entries<A>,
     index: usize,
 ) -> bool
-    ensures { result ≡ may_follow (marks_of s.now.state) entries.now.entries index }
+    ensures { result ≡ may_follow (marks_of s.now.state) entries.now index }
 {
-    s.state.marked(index).is_some() && !entries.contains_key(&index)
+    s.state.marked(index).is_some() && !entries.contains(index)
 }
 
 /// The index of an entry: one that a mark has and that no earlier entry had.
@@ -48,7 +48,7 @@ fn entry_index<T: IrText<A>, A: AttrText, U>(
     entries: &Entries<A>,
 ) -> ParseResult<usize, A>
     ensures state { s.new.state ≡ s.old.state }
-    ensures read { MustRead itself replaced (λ i. i) (λ text. known_index (may_follow (marks_of s.old.state) entries.now.entries) (index_at text)) s.old.stream result s.new.stream }
+    ensures read { MustRead itself replaced (λ i. i) (λ text. known_index (may_follow (marks_of s.old.state) entries.now) (index_at text)) s.old.stream result s.new.stream }
 {
     let at = s.stream.position();
     let index = index_demanded(&mut s.stream)?;
@@ -108,7 +108,7 @@ fn entry_read<T: IrText<A>, A: AttrText, U>(
     ensures rest { KeepsRest s.old.state s.new.state }
     ensures marks { marks_of s.new.state ≡ marks_of s.old.state }
     ensures adds { AddsPaths s.old.state.ctx.now s.new.state.ctx.now }
-    ensures read { MustReadOver known_entry entry_over (entry_at (attr_at A.IrText.reading) (may_follow (marks_of s.old.state) entries.now.entries)) s.new.state.ctx.now.paths s.old.stream result s.new.stream }
+    ensures read { MustReadOver known_entry entry_over (entry_at (attr_at A.IrText.reading) (may_follow (marks_of s.old.state) entries.now)) s.new.state.ctx.now.paths s.old.stream result s.new.stream }
     ensures paths { IfOk result (λ e. s.new.state.ctx.now.paths ≡ given_kept s.old.state.ctx.now.paths (given_over s.new.state.ctx.now.paths e.1)) }
 {
     let index = entry_index(s, entries)?;
@@ -128,12 +128,12 @@ fn entry_parse<T: IrText<A>, A: AttrText, U>(
     ensures adds { AddsPaths s.old.state.ctx.now s.new.state.ctx.now }
     ensures shorter { OnOk result (length s.new.stream.rest < length s.old.stream.rest) }
     ensures fine { OnOk result (s.new.stream.failed ≡ s.old.stream.failed) }
-    ensures read { OnOk result (ReadsEntry (attr_at A.IrText.reading) (marks_of s.old.state) s.old.state.ctx.now.paths s.new.state.ctx.now.paths entries.old.entries s.old.stream entries.new.entries s.new.stream) }
-    ensures missed { s.old.stream.failed ≡ false → IfErr result (λ fault. Faults true (RefusedAs (entry_at (attr_at A.IrText.reading) (may_follow (marks_of s.old.state) entries.old.entries) s.old.stream.rest)) s.old.stream fault) }
+    ensures read { OnOk result (ReadsEntry (attr_at A.IrText.reading) (marks_of s.old.state) s.old.state.ctx.now.paths s.new.state.ctx.now.paths entries.old s.old.stream entries.new s.new.stream) }
+    ensures missed { s.old.stream.failed ≡ false → IfErr result (λ fault. Faults true (RefusedAs (entry_at (attr_at A.IrText.reading) (may_follow (marks_of s.old.state) entries.old) s.old.stream.rest)) s.old.stream fault) }
     ensures refused { IfErr result (λ fault. CommittedRefusal s.old.stream fault s.new.stream) }
 {
     let entry = entry_read(s, entries)?;
-    if entries.insert(entry.0, entry.1).is_err() {
+    if entries.note(entry.0, entry.1).is_err() {
         return Err(out_of_memory(s));
     }
     skip_white_space(&mut s.stream);
@@ -149,12 +149,12 @@ fn entries_parse<T: IrText<A>, A: AttrText, U>(
     ensures marks { marks_of s.new.state ≡ marks_of s.old.state }
     ensures adds { AddsPaths s.old.state.ctx.now s.new.state.ctx.now }
     ensures fine { OnOk result (s.new.stream.failed ≡ s.old.stream.failed) }
-    ensures read { IfOk result (λ entries. ReadsEntries (attr_at A.IrText.reading) (indices_of (marks_of s.old.state)) s.new.state.ctx.now.paths entries.entries s.old.stream s.new.stream) }
+    ensures read { IfOk result (λ entries. ReadsEntries (attr_at A.IrText.reading) (indices_of (marks_of s.old.state)) s.new.state.ctx.now.paths entries s.old.stream s.new.stream) }
     ensures missed { s.old.stream.failed ≡ false → IfErr result (λ fault. Faults true (EntriesRefused (attr_at A.IrText.reading) (indices_of (marks_of s.old.state)) s.old.stream.rest) s.old.stream fault) }
     ensures refused { IfErr result (λ fault. CommittedRefusal s.old.stream fault s.new.stream) }
-    ensures paths { IfOk result (λ entries. s.new.state.ctx.now.paths ≡ entries_kept s.old.state.ctx.now.paths (entries_over s.new.state.ctx.now.paths entries.entries)) }
+    ensures paths { IfOk result (λ entries. s.new.state.ctx.now.paths ≡ entries_kept s.old.state.ctx.now.paths (entries_over s.new.state.ctx.now.paths entries)) }
 {
-    let mut entries = IndexMap::new(s.stream.allocator());
+    let mut entries = Numbered::new(s.stream.allocator());
     while next_is(&s.stream, '!') {
         entry_parse(s, &mut entries)?;
     }
@@ -206,7 +206,7 @@ fn apply<T: IrText<A>, A: AttrText, U>(s: &mut StateStream<'_, T, A, U>, entries
     ensures stream { s.new.stream ≡ s.old.stream }
     ensures rest { KeepsRest s.old.state s.new.state }
     ensures marks { marks_of s.new.state ≡ marks_of s.old.state }
-    ensures applied { AppliesAll (marks_of s.old.state) entries.entries s.old.state.ctx.now s.new.state.ctx.now }
+    ensures applied { AppliesAll (marks_of s.old.state) entries s.old.state.ctx.now s.new.state.ctx.now }
 {
     let mut entries = entries;
     while let Some((index, location)) = entries.pop() {

@@ -11,12 +11,11 @@ use std::alloc::{AllocError, Global};
 
 fn fused<A: Drop>(
     alloc: Global,
-    metadata: Option<AttrObj<A>>,
+    metadata: Box<Option<AttrObj<A>>>,
     locations: Vec<Location<A>>,
 ) -> Result<Location<A>, AllocError>
-    ensures { IfOk result (λ l. location_view l ≡ fused (attr_view_in metadata) (in_row (map location_view locations.items))) }
+    ensures { IfOk result (λ l. location_view l ≡ fused (attr_view_in metadata.value) (in_row (map location_view locations.items))) }
 {
-    let metadata = Box::new(alloc, metadata)?;
     let locations = Box::new(alloc, locations)?;
     Ok(Location::Fused {
         metadata,
@@ -64,10 +63,10 @@ fn answered<A>(
 /// Several locations as one.
 pub(crate) fn fused_made<A: Drop>(
     stream: &mut TextStream,
-    metadata: Option<AttrObj<A>>,
+    metadata: Box<Option<AttrObj<A>>>,
     locations: Vec<Location<A>>,
 ) -> ParseResult<Location<A>, A>
-    ensures { Makes (fused (attr_view_in metadata) (in_row (map location_view locations.items))) stream.old result stream.new }
+    ensures { Makes (fused (attr_view_in metadata.value) (in_row (map location_view locations.items))) stream.old result stream.new }
 {
     let made = fused(stream.allocator(), metadata, locations);
     answered(stream, made)

@@ -1,16 +1,18 @@
 //! Reading of locations of every kind. The context keeps the paths of their files from then on.
-ghost use Rattle.std.specs.Prelude.{◌≡◌, ◌<◌, ℕ, List, false, IsTrue, IfOk, OnOk, length, string_bytes};
+ghost use Rattle.std.specs.Prelude.{◌≡◌, false, IfOk, string_bytes};
 ghost use Rattle.irtext_base.specs.Text.{begins};
-ghost use Rattle.irtext_base.specs.Answers.{mapped};
 ghost use Rattle.irtext_base.specs.Locations.{attr_view, attr_view_in};
-ghost use Rattle.irtext_base.specs.Moves.{all_kept, row_kept};
+ghost use Rattle.irtext_base.specs.Moves.{all_kept};
 ghost use Rattle.irtext_read.specs.AttrTexts.{attr_at};
-ghost use Rattle.irtext_outcomes.specs.Readers.Locations.{begins_source, begins_location, metadata_at, name_at, row_at, fused_at, named_at, call_site_at, location_within, more_within, location_at};
+ghost use Rattle.irtext_outcomes.specs.Readers.Locations.{begins_source, begins_location, metadata_at, name_at, location_within, location_at};
 ghost use Rattle.irtext_read.specs.MustRead.{MustRead};
 ghost use Rattle.irtext_grammar.specs.Contexts.Held.{location_over};
-ghost use Rattle.irtext_outcomes.specs.Readers.NewPaths.{AddsPaths, MayReadOver, MustReadWithin, MustReadInside, known_location, known_row, row_over, joined_rows, PushesRow};
+ghost use Rattle.irtext_outcomes.specs.Readers.NewPaths.{AddsPaths, MayReadOver, MustReadWithin, known_location, PushesRow};
 ghost use Rattle.irtext_outcomes.specs.Readers.Streams.{itself, replaced};
+ghost use Rattle.irtext_parse.specs.Readers.Frames.{progress_over, progress_kept, fused_opening_at, call_site_head_at, ReadsProgress, ReadsBehind, ReadsOpening};
+ghost use Rattle.irtext_parse.specs.declared.location.frame.Frame.TheVariants.{Fused};
 
+use crate::location::frame::{Frame, Progress};
 use crate::location::made::{call_site_made, fused_made, named_made};
 use crate::location::source::{place_demanded, quoted_demanded};
 use irtext_base::base::AttrObj;
@@ -71,8 +73,7 @@ fn metadata_demanded<A: AttrText>(stream: &mut TextStream) -> ParseResult<Option
 
 /// A name, and what stands in front of the location that it names.
 fn name_demanded<A>(stream: &mut TextStream) -> ParseResult<String, A>
-    ensures read { MustRead itself replaced (λ s. string_bytes s) name_at stream.old result stream.new }
-    ensures shorter { OnOk result (length stream.new.rest < length stream.old.rest) }
+    ensures { MustRead itself replaced (λ s. string_bytes s) name_at stream.old result stream.new }
 {
     text_demanded(stream, "name")?;
     spaced_text_demanded(stream, ":")?;
@@ -99,107 +100,129 @@ fn push_location<A: Drop>(
     Ok(())
 }
 
-/// The locations found and those behind them, as long as `,` follows.
-#[cycle(locations)]
-fn more_demanded<T: IrText<A>, A: AttrText>(
-    stream: &mut TextStream,
-    ctx: &mut Context<T, A>,
-    mut found: Vec<Location<A>>,
-) -> ParseResult<Vec<Location<A>>, A>
-    requires known { IsTrue (known_row (length ctx.old.paths) found) }
-    requires fine { stream.old.failed ≡ false }
-    ensures adds { AddsPaths ctx.old ctx.new }
-    ensures read { MustReadWithin known_row row_over (λ depth text. mapped (joined_rows (row_over ctx.old.paths found)) (more_within (attr_at A.IrText.reading) depth text)) ctx.new.paths stream.old result stream.new }
-    ensures paths { IfOk result (λ ls. (before : List (List ℕ)) → ctx.old.paths ≡ row_kept before (row_over ctx.old.paths found) → ctx.new.paths ≡ row_kept before (row_over ctx.new.paths ls)) }
-{
-    while next_is(stream, ',') {
-        text_demanded(stream, ",")?;
-        skip_white_space(stream);
-        let location = location_demanded(stream, ctx)?;
-        push_location(stream, &mut found, location)?;
-    }
-    Ok(found)
-}
-
-/// Locations with `,` between.
-#[cycle(locations)]
-fn row_demanded<T: IrText<A>, A: AttrText>(
-    stream: &mut TextStream,
-    ctx: &mut Context<T, A>,
-) -> ParseResult<Vec<Location<A>>, A>
-    ensures adds { AddsPaths ctx.old ctx.new }
-    ensures read { MustReadWithin known_row row_over (λ depth. row_at (location_within (attr_at A.IrText.reading) depth) (more_within (attr_at A.IrText.reading) depth)) ctx.new.paths stream.old result stream.new }
-    ensures paths { IfOk result (λ ls. ctx.new.paths ≡ row_kept ctx.old.paths (row_over ctx.new.paths ls)) }
-{
-    if stream.has_failed() {
-        return Err(refuse(stream, Cause::StreamFailed));
-    }
-    let mut found = Vec::new(stream.allocator());
-    if !begins_location(stream) {
-        return Ok(found);
-    }
-    let location = location_demanded(stream, ctx)?;
-    push_location(stream, &mut found, location)?;
-    more_demanded(stream, ctx, found)
-}
-
-/// Several locations as one.
-#[cycle(locations)]
-fn fused_demanded<T: IrText<A>, A: AttrText>(
-    stream: &mut TextStream,
-    ctx: &mut Context<T, A>,
-) -> ParseResult<Location<A>, A>
-    ensures adds { AddsPaths ctx.old ctx.new }
-    ensures read { MustReadInside known_location location_over (λ depth. fused_at (location_within (attr_at A.IrText.reading) depth) (more_within (attr_at A.IrText.reading) depth) (attr_at A.IrText.reading)) ctx.new.paths stream.old result stream.new }
-    ensures paths { IfOk result (λ l. ctx.new.paths ≡ all_kept ctx.old.paths (location_over ctx.new.paths l)) }
+/// Several locations as one, up to the first.
+fn fused_opened<A: AttrText>(stream: &mut TextStream) -> ParseResult<Progress<A>, A>
+    ensures { ReadsProgress (fused_opening_at (attr_at A.IrText.reading)) stream.old result stream.new }
 {
     text_demanded(stream, "fused")?;
     skip_white_space(stream);
     let metadata = metadata_demanded(stream)?;
+    let Ok(metadata) = Box::new(stream.allocator(), metadata) else {
+        return Err(out_of_memory(stream));
+    };
     text_demanded(stream, "[")?;
     skip_white_space(stream);
-    let locations = row_demanded(stream, ctx)?;
+    let locations = Vec::new(stream.allocator());
+    if begins_location(stream) {
+        return Ok(Progress::Inside(Frame::Fused {
+            metadata,
+            locations,
+        }));
+    }
     text_demanded(stream, "]")?;
-    fused_made(stream, metadata, locations)
+    let location = fused_made(stream, metadata, locations)?;
+    Ok(Progress::Whole(location))
 }
 
-/// A name for a location.
-#[cycle(locations)]
-fn named_demanded<T: IrText<A>, A: AttrText>(
-    stream: &mut TextStream,
-    ctx: &mut Context<T, A>,
-) -> ParseResult<Location<A>, A>
-    ensures adds { AddsPaths ctx.old ctx.new }
-    ensures read { MustReadInside known_location location_over (λ depth. named_at (location_within (attr_at A.IrText.reading) depth) (more_within (attr_at A.IrText.reading) depth)) ctx.new.paths stream.old result stream.new }
-    ensures paths { IfOk result (λ l. ctx.new.paths ≡ all_kept ctx.old.paths (location_over ctx.new.paths l)) }
-{
-    let name = name_demanded(stream)?;
-    let child = location_demanded(stream, ctx)?;
-    text_demanded(stream, ")")?;
-    named_made(stream, name, child)
-}
-
-/// A callee's location with its caller's.
-#[cycle(locations)]
-fn call_site_demanded<T: IrText<A>, A: AttrText>(
-    stream: &mut TextStream,
-    ctx: &mut Context<T, A>,
-) -> ParseResult<Location<A>, A>
-    ensures adds { AddsPaths ctx.old ctx.new }
-    ensures read { MustReadInside known_location location_over (λ depth. call_site_at (location_within (attr_at A.IrText.reading) depth) (more_within (attr_at A.IrText.reading) depth)) ctx.new.paths stream.old result stream.new }
-    ensures paths { IfOk result (λ l. ctx.new.paths ≡ all_kept ctx.old.paths (location_over ctx.new.paths l)) }
+/// What stands in front of a callee's location.
+fn call_site_head<A>(stream: &mut TextStream) -> ParseResult<(), A>
+    ensures { MustRead itself replaced (λ u. u) call_site_head_at stream.old result stream.new }
 {
     text_demanded(stream, "callsite")?;
-    spaced_text_demanded(stream, "(")?;
-    let callee = location_demanded(stream, ctx)?;
-    spaced_text_demanded(stream, "at")?;
-    let caller = location_demanded(stream, ctx)?;
-    spaced_text_demanded(stream, ")")?;
-    call_site_made(stream, callee, caller)
+    spaced_text_demanded(stream, "(")
+}
+
+/// A location, which must stand there, up to the first that stands in it.
+fn location_opened<T: IrText<A>, A: AttrText>(
+    stream: &mut TextStream,
+    ctx: &mut Context<T, A>,
+) -> ParseResult<Progress<A>, A>
+    ensures adds { AddsPaths ctx.old ctx.new }
+    ensures read { ReadsOpening A.IrText.reading ctx.new.paths stream.old result stream.new }
+    ensures paths { IfOk result (λ p. ctx.new.paths ≡ progress_kept ctx.old.paths (progress_over ctx.new.paths p)) }
+{
+    if stream.has_failed() {
+        return Err(refuse(stream, Cause::StreamFailed));
+    }
+    if begins_source(stream) {
+        let place = place_demanded(stream, ctx)?;
+        return Ok(Progress::Whole(place));
+    }
+    if next_is(stream, 'f') {
+        return fused_opened(stream);
+    }
+    if next_is(stream, 'n') {
+        let name = name_demanded(stream)?;
+        return Ok(Progress::Inside(Frame::Named(name)));
+    }
+    if next_is(stream, 'c') {
+        call_site_head(stream)?;
+        return Ok(Progress::Inside(Frame::Callee));
+    }
+    if next_is(stream, '?') {
+        text_demanded(stream, "?")?;
+        return Ok(Progress::Whole(Location::Unknown));
+    }
+    let fault = unexpected(stream, Expected::Location);
+    Err(commit(stream, fault))
+}
+
+/// What stands behind a location in a row: `,` in front of one more, or the row's end.
+fn row_behind<A: AttrText>(
+    stream: &mut TextStream,
+    metadata: Box<Option<AttrObj<A>>>,
+    mut locations: Vec<Location<A>>,
+    location: Location<A>,
+) -> ParseResult<Progress<A>, A>
+    requires fine { stream.old.failed ≡ false }
+    ensures { ReadsBehind (Fused metadata locations) location stream.old result stream.new }
+{
+    push_location(stream, &mut locations, location)?;
+    if next_is(stream, ',') {
+        text_demanded(stream, ",")?;
+        skip_white_space(stream);
+        return Ok(Progress::Inside(Frame::Fused {
+            metadata,
+            locations,
+        }));
+    }
+    text_demanded(stream, "]")?;
+    let location = fused_made(stream, metadata, locations)?;
+    Ok(Progress::Whole(location))
+}
+
+/// What stands behind a location in another, up to that one's end or to the next that stands in it.
+fn location_behind<A: AttrText>(
+    stream: &mut TextStream,
+    frame: Frame<A>,
+    location: Location<A>,
+) -> ParseResult<Progress<A>, A>
+    requires fine { stream.old.failed ≡ false }
+    ensures { ReadsBehind frame location stream.old result stream.new }
+{
+    match frame {
+        Frame::Named(name) => {
+            text_demanded(stream, ")")?;
+            let location = named_made(stream, name, location)?;
+            Ok(Progress::Whole(location))
+        }
+        Frame::Callee => {
+            spaced_text_demanded(stream, "at")?;
+            Ok(Progress::Inside(Frame::Caller(location)))
+        }
+        Frame::Caller(callee) => {
+            spaced_text_demanded(stream, ")")?;
+            let location = call_site_made(stream, callee, location)?;
+            Ok(Progress::Whole(location))
+        }
+        Frame::Fused {
+            metadata,
+            locations,
+        } => row_behind(stream, metadata, locations, location),
+    }
 }
 
 /// A location, which must stand there.
-#[cycle(locations)]
 pub(crate) fn location_demanded<T: IrText<A>, A: AttrText>(
     stream: &mut TextStream,
     ctx: &mut Context<T, A>,
@@ -208,27 +231,29 @@ pub(crate) fn location_demanded<T: IrText<A>, A: AttrText>(
     ensures read { MustReadWithin known_location location_over (location_within (attr_at A.IrText.reading)) ctx.new.paths stream.old result stream.new }
     ensures paths { IfOk result (λ l. ctx.new.paths ≡ all_kept ctx.old.paths (location_over ctx.new.paths l)) }
 {
-    if stream.has_failed() {
-        return Err(refuse(stream, Cause::StreamFailed));
+    let mut frames = Vec::new(stream.allocator());
+    let mut progress = location_opened(stream, ctx)?;
+    loop {
+        match progress {
+            Progress::Whole(location) => {
+                let Some(frame) = frames.pop() else {
+                    return Ok(location);
+                };
+                progress = location_behind(stream, frame, location)?;
+            }
+            Progress::Inside(frame) => {
+                if begins_source(stream) {
+                    let place = place_demanded(stream, ctx)?;
+                    progress = location_behind(stream, frame, place)?;
+                } else {
+                    let Ok(()) = frames.push(frame) else {
+                        return Err(out_of_memory(stream));
+                    };
+                    progress = location_opened(stream, ctx)?;
+                }
+            }
+        }
     }
-    if begins_source(stream) {
-        return place_demanded(stream, ctx);
-    }
-    if next_is(stream, 'f') {
-        return fused_demanded(stream, ctx);
-    }
-    if next_is(stream, 'n') {
-        return named_demanded(stream, ctx);
-    }
-    if next_is(stream, 'c') {
-        return call_site_demanded(stream, ctx);
-    }
-    if next_is(stream, '?') {
-        text_demanded(stream, "?")?;
-        return Ok(Location::Unknown);
-    }
-    let fault = unexpected(stream, Expected::Location);
-    Err(commit(stream, fault))
 }
 
 /// A location, which may be missing.

@@ -1,5 +1,5 @@
 -- What was appended piece by piece, as one text.
-use Rattle.std.proofs.Common.{◌≡◌, ◌++◌, ◌∙◌, ℕ, List, true≢false, refl, sym, ap, Result, Ok, Err, OnOk, IsOk, IfErr, codes, ◌+◌, ◌*◌, ◌/◌, ◌%◌, replicate, take, ◌-◌, ◌≤◌, zero, suc, arith}
+use Rattle.std.proofs.Common.{◌≡◌, ◌∷◌, ◌++◌, ◌∙◌, ℕ, List, true≢false, refl, sym, ap, Result, Ok, Err, OnOk, IsOk, IfErr, codes, ◌+◌, ◌*◌, replicate, take, ◌-◌, ◌≤◌, zero, suc, arith}
 use Rattle.std.specs.Str.{IsAscii}
 use Rattle.std.proofs.lemmas.List.{append_assoc, replicate-append-replicate, take-replicate}
 use Rattle.std.specs.List.{slice_range}
@@ -43,19 +43,12 @@ located_cause-plain {A = A} written paths cause none = elim cause as (λ z. ((e 
   | _ ↦ λ n. refl
 ] none
 
--- one more block of spaces
-pub spaces-more : (blocks : ℕ) (old now new : List ℕ) → now ≡ old ++ replicate (64 * blocks) 32 → new ≡ now ++ replicate 64 32 → new ≡ old ++ replicate (64 * (blocks + 1)) 32
-spaces-more blocks old now new p q =
-    let sizes : 64 * blocks + 64 ≡ 64 * (blocks + 1) = omega arith in
-    q ∙ ap (λ z. z ++ replicate 64 32) p ∙ append_assoc old (replicate (64 * blocks) 32) (replicate 64 32)
-    ∙ ap (λ z. old ++ z) (replicate-append-replicate (64 * blocks) 64 32 ∙ ap (λ n. replicate n 32) sizes)
-
--- the blocks, and the spaces that are left
-pub spaces-all : (count : ℕ) (old now new : List ℕ) → now ≡ old ++ replicate (64 * (count / 64)) 32 → new ≡ now ++ replicate (count % 64) 32 → new ≡ old ++ replicate count 32
-spaces-all count old now new p q =
-    let sizes : 64 * (count / 64) + count % 64 ≡ count = omega arith in
-    q ∙ ap (λ z. z ++ replicate (count % 64) 32) p ∙ append_assoc old (replicate (64 * (count / 64)) 32) (replicate (count % 64) 32)
-    ∙ ap (λ z. old ++ z) (replicate-append-replicate (64 * (count / 64)) (count % 64) 32 ∙ ap (λ n. replicate n 32) sizes)
+-- a newline and spaces, and one more block of spaces
+pub newline-more : (first blocks : ℕ) (old now new : List ℕ) → now ≡ old ++ 10 ∷ replicate (first + 64 * blocks) 32 → new ≡ now ++ replicate 64 32 → new ≡ old ++ 10 ∷ replicate (first + 64 * (blocks + 1)) 32
+newline-more first blocks old now new p q =
+    let sizes : first + 64 * blocks + 64 ≡ first + 64 * (blocks + 1) = omega arith in
+    q ∙ ap (λ z. z ++ replicate 64 32) p ∙ append_assoc old (10 ∷ replicate (first + 64 * blocks) 32) (replicate 64 32)
+    ∙ ap (λ z. old ++ 10 ∷ z) (replicate-append-replicate (first + 64 * blocks) 64 32 ∙ ap (λ n. replicate n 32) sizes)
 
 -- each of so many spaces is ASCII
 pub spaces-ascii : (n : ℕ) → IsAscii (replicate n 32)
@@ -63,8 +56,13 @@ spaces-ascii zero i = omega arith
 spaces-ascii (suc n) zero = omega arith
 spaces-ascii (suc n) (suc i) = spaces-ascii n i
 
--- a slice of spaces
-pub spaces-slice : (n : ℕ) → n ≤ 64 → slice_range {X = ℕ} (replicate 64 32) 0 n ≡ replicate n 32
-spaces-slice n few =
-    let size : n - 0 ≡ n = omega arith in
-    ap (λ k. take k (replicate 64 32)) size ∙ take-replicate n 64 32 few
+-- so is a newline in front of them
+pub newline-ascii : (n : ℕ) → IsAscii (10 ∷ replicate n 32)
+newline-ascii n zero = omega arith
+newline-ascii n (suc i) = spaces-ascii n i
+
+-- a slice of a newline and spaces
+pub newline-slice : (n : ℕ) → n ≤ 64 → slice_range {X = ℕ} (10 ∷ replicate 64 32) 0 (1 + n) ≡ 10 ∷ replicate n 32
+newline-slice n few =
+    let size : 1 + n - 0 ≡ suc n = omega arith in
+    ap (λ k. take k (10 ∷ replicate 64 32)) size ∙ ap (λ z. 10 ∷ z) (take-replicate n 64 32 few)

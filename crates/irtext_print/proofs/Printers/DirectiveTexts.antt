@@ -1,13 +1,26 @@
 -- What directives write, one behind the other, as it is appended.
-use Rattle.std.proofs.Common.{◌≡◌, ◌++◌, ◌∙◌, ℕ, List, ◌∷◌, Bool, refl, sym, ap}
+use Rattle.std.proofs.Common.{◌≡◌, ◌≤◌, ◌++◌, ◌∙◌, ℕ, List, ◌∷◌, Bool, refl, sym, ap, arith}
 use Rattle.std.specs.Str.{encode_utf8_all}
 use Rattle.irtext_context.specs.Directives.{directive_of, directives_of}
+use Rattle.irtext_base.specs.Format as format
 use Rattle.irtext_base.specs.Format.{Directive}
 use Rattle.irtext_base.specs.Text.{Text}
 use Rattle.irtext_base.specs.declared.format.Directive as code
-use Rattle.irtext_print.specs.Printers.PieceText.{directive_text, directives_text, left_behind}
+use Rattle.irtext_print.specs.Printers.PieceText.{directive_text, directives_text, left_behind, RefusesRegions}
+use Rattle.irtext_print.specs.Printers.Shown.{Shown}
+use Rattle.irtext_print.specs.declared.printable.refusal.Refusal.{Refusal}
 use Rattle.irtext_grammar.specs.Grammar.Tree.{Attribute}
 use Rattle.irtext_print.proofs.Printers.Locations.{more}
+
+-- a directive leaves no more regions than there were
+pub fewer_left : (next left all : ℕ) (d : Directive) → next ≡ left_behind left d → left ≤ all → next ≤ all
+fewer_left next left all (format.region i) e h = omega (arith, e, h)
+fewer_left next left all format.regions e h = omega (arith, e, h)
+fewer_left next left all d e h = omega (arith, e, h)
+
+-- a refusal to write some of the regions is one to write all of them
+pub some_refused : {U : Type 0} (some all : ℕ) (s : Shown U) (refusal : Refusal) → some ≤ all → RefusesRegions some s refusal → RefusesRegions all s refusal
+some_refused some all s refusal few h = λ other. let is = h other in (is.0, (omega (arith, few, is.1.0), is.1.1))
 
 -- one directive more
 pub directive_more : {A : Type 0} (written : A → Text) (is_outlined : A → Bool) (ds : List Directive) (es : List (Text × Attribute A)) (r : Text)

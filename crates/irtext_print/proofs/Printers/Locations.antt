@@ -81,7 +81,7 @@ next_written texts text cons items i x first now between next all l e p q h =
     item_written first (text x) (texts (drop (i + 1) items)) now between next all p q (ap (λ z. now ++ encode_utf8_all (left_text first z)) (sym left) ∙ h)
 
 -- a text between two words, if there is one
-framed_bytes : (a c : Text) → list_all is_ascii a ≡ true → list_all is_ascii c ≡ true → (known : Option Text) → framed a c known ≡ encode_utf8_all (between a c known)
+pub framed_bytes : (a c : Text) → list_all is_ascii a ≡ true → list_all is_ascii c ≡ true → (known : Option Text) → framed a c known ≡ encode_utf8_all (between a c known)
 framed_bytes a c i k None = refl
 framed_bytes a c i k (Some l) = sym (append_assoc a (encode_utf8_all l) c) ∙ enclosed a l c [] a (a ++ encode_utf8_all l) ((a ++ encode_utf8_all l) ++ c) i k refl refl refl
 

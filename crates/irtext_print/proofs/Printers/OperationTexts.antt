@@ -1,5 +1,5 @@
 -- The concrete text of an operation that fits its format is its id and what its directives write.
-use Rattle.std.proofs.Common.{◌≡◌, ◌++◌, ◌∙◌, ◌+◌, ◌-◌, ◌&&◌, not, ℕ, zero, suc, List, [], ◌∷◌, Bool, true, false, true≢false, cond, map, filter, length, refl, sym, ap, Option, Some, None, codes, replicate, unwrap_or, arith}
+use Rattle.std.proofs.Common.{◌≡◌, ◌<◌, subst, is_some, ◌++◌, ◌∙◌, ◌+◌, ◌-◌, ◌&&◌, not, ℕ, zero, suc, List, [], ◌∷◌, Bool, true, false, true≢false, cond, map, filter, length, refl, sym, ap, Option, Some, None, codes, replicate, unwrap_or, arith}
 use Rattle.std.specs.Prelude.{⊤, filter_map}
 use Rattle.std.proofs.lemmas.List.{append_assoc}
 use Rattle.std.proofs.lemmas.Option.{none-some}
@@ -20,17 +20,20 @@ use Rattle.irtext_context.specs.declared.base.region.Region.{Region}
 use Rattle.irtext_base.proofs.Characters.{and_left}
 use Rattle.irtext_print.specs.Printers.ConcreteText.{concrete_text, directives_in}
 use Rattle.irtext_grammar.specs.Graphs.Graph.{GraphOp, Printing, lookup, outlined, inline, entries, written_keys, part_of, body_of, tree_regions}
-use Rattle.irtext_print.specs.Printers.PieceText.{is_key_written, dictionary_entries, entry_text, rows_text, inline_text_in, spaced_if, symbol_text, symbol_in, repeated, region_text, directives_text}
-use Rattle.irtext_print.specs.Printers.PrintedOperation.{is_supported, is_printed, is_printed_in, fits_directives, fits_format, regions_fit, has_named_keys, symbol_fits, covers_all, none_outlined, levels}
+use Rattle.irtext_print.specs.Printers.PieceText.{RefusesRegions, is_key_written, dictionary_entries, entry_text, rows_text, inline_text_in, spaced_if, symbol_text, symbol_in, repeated, region_text, directives_text}
+use Rattle.irtext_print.specs.Printers.PrintedOperation.{is_supported, is_printed, is_printed_in, fits_directives, fits_format, regions_fit, has_named_keys, symbol_fits, covers_all, none_outlined, levels, Refuses}
 use Rattle.irtext_print.specs.Printers.Shown.{Shown}
 use Rattle.irtext_grammar.specs.Spelling.Spell.{joins_left, piece, parts, body, entry, attribute, joined, joined_from, comma, region_texts}
 use Rattle.irtext_grammar.specs.Contexts.Held.{entries_of, empty_regions}
 use Rattle.irtext_grammar.specs.Grammar.Tree as tree
 use Rattle.irtext_grammar.specs.Grammar.Tree.{Attribute, given_names, ident, own, Part}
+use Rattle.irtext_print.specs.declared.printable.refusal.Refusal.{Refusal}
+use Rattle.irtext_print.specs.declared.printable.refusal.Refusal.TheVariants.{Memory, Depth, Misfit}
 use Rattle.irtext_print.specs.declared.printable.state.RegionPrintDepthLimit.{RegionPrintDepthLimit}
 use Rattle.irtext_print.specs.declared.printable.state.RegionPrintDepthLimit.TheVariants.{Unlimited, Max}
 use Rattle.irtext_print.proofs.Printers.FitsTests.{counted, written_key}
 use Rattle.irtext_print.proofs.Printers.Locations.{more}
+use Rattle.irtext_print.proofs.Printers.RootParts.{there}
 
 -- the same text so many times, joined by nothing
 joined_repeated : (n : ℕ) (r : Text) → joined [] (replicate n r) ≡ repeated n r
@@ -117,10 +120,6 @@ module _ {T A U : Type 0} (L : Language ⊤ T A) (C : Printing T A) (s : Shown U
   texts_are (Max (suc n)) (x ∷ rs) m = ap (λ z. region_text (record s { limit = Max (suc n) }) ∷ z) (texts_are (Max (suc n)) rs (m + 0))
 
   module _ (op : OperationView T A) (ds : List Directive) (known : directives_in (C.format_of (id_of op.id)) ≡ Some ds) where
-    -- an operation is printed where it fits
-    pub printed_is : is_printed C op ≡ fits_directives C ds (entries_of op.attributes) (length op.regions)
-    printed_is = ap (λ f. fits_format C f (entries_of op.attributes) (length op.regions)) (custom_is (C.format_of (id_of op.id)) ds known)
-
     -- its concrete text
     pub concrete_is : list_all is_supported ds ≡ true → concrete_text L C op s ≡ id_text op.id ++ directives_text L.owns.written C.own_outlined ds (entries_of op.attributes) (region_text s) (length op.regions) ds
     concrete_is w =
@@ -151,25 +150,53 @@ given_of C o op id es n ds stands i a r k = record {
   known = k;
 }
 
-module _ {T A U : Type 0} (L : Language ⊤ T A) (C : Printing T A) (s : Shown U) (op : OperationView T A) (id : OpId) (es : List (Text × AttrObj A)) (n : ℕ) (ds : List Directive) (given : Given C op id es n ds) where
+-- the same, of an operation that is live
+pub record GivenLive {T A : Type 0} (C : Printing T A) (o : Option (OperationView T A)) (id : OpId) (es : List (Text × AttrObj A)) (n : ℕ) (ds : List Directive) : Type 0 where
+  pub view : OperationView T A
+  pub stands : o ≡ Some view
+  pub given : Given C view id es n ds
+
+pub given_live : {T A : Type 0} (C : Printing T A) (o : Option (OperationView T A)) (id : OpId) (es : List (Text × AttrObj A)) (n : ℕ) (ds : List Directive) → is_some o ≡ true
+    → option_map (λ op. op.id) o ≡ Some id → option_map (λ op. op.attributes) o ≡ Some es → n ≡ length (regions_in o) → directives_in (C.format_of (id_of id)) ≡ Some ds → GivenLive C o id es n ds
+given_live C o id es n ds live i a r k = let v = there o live in record { view = v.0; stands = v.1; given = given_of C o v.0 id es n ds v.1 i a r k }
+
+module _ {T A : Type 0} (C : Printing T A) (op : OperationView T A) (id : OpId) (es : List (Text × AttrObj A)) (n : ℕ) (ds : List Directive) (given : Given C op id es n ds) where
   own_directives : directives_in (C.format_of (id_of op.id)) ≡ Some ds
   own_directives = ap (λ i. directives_in (C.format_of (id_of i))) given.same_id ∙ given.known
 
   -- whether it is printed
   pub given_printed : is_printed C op ≡ fits_directives C ds (entries_of es) n
-  given_printed = printed_is L C s op ds own_directives ∙ ap (λ z. fits_directives C ds (entries_of z) (length op.regions)) given.same_attributes ∙ ap (fits_directives C ds (entries_of es)) given.same_count
+  given_printed =
+      ap (λ f. fits_format C f (entries_of op.attributes) (length op.regions)) (custom_is (C.format_of (id_of op.id)) ds own_directives)
+      ∙ ap (λ z. fits_directives C ds (entries_of z) (length op.regions)) given.same_attributes ∙ ap (fits_directives C ds (entries_of es)) given.same_count
 
+module _ {T A U : Type 0} (L : Language ⊤ T A) (C : Printing T A) (s : Shown U) (op : OperationView T A) (id : OpId) (es : List (Text × AttrObj A)) (n : ℕ) (ds : List Directive) (given : Given C op id es n ds) where
   -- its concrete text is appended
   pub concrete_appended : (old mid new : List ℕ) → fits_directives C ds (entries_of es) n ≡ true → mid ≡ old ++ encode_utf8_all (id_text id)
       → new ≡ mid ++ encode_utf8_all (directives_text L.owns.written C.own_outlined ds (entries_of es) (region_text s) n ds) → new ≡ old ++ encode_utf8_all (concrete_text L C op s)
   concrete_appended old mid new h p q =
       let w = and_left (list_all is_supported ds) (regions_fit ds n && (has_named_keys (entries_of es) ds && (symbol_fits (entries_of es) ds && (covers_all C ds (entries_of es) && none_outlined C (entries_of es))))) h in
       let is : concrete_text L C op s ≡ id_text id ++ directives_text L.owns.written C.own_outlined ds (entries_of es) (region_text s) n ds
-      = concrete_is L C s op ds own_directives w ∙ ap (λ i. id_text i ++ directives_text L.owns.written C.own_outlined ds (entries_of op.attributes) (region_text s) (length op.regions) ds) given.same_id
+      = concrete_is L C s op ds (own_directives C op id es n ds given) w ∙ ap (λ i. id_text i ++ directives_text L.owns.written C.own_outlined ds (entries_of op.attributes) (region_text s) (length op.regions) ds) given.same_id
       ∙ ap (λ z. id_text id ++ directives_text L.owns.written C.own_outlined ds (entries_of z) (region_text s) (length op.regions) ds) given.same_attributes
       ∙ ap (λ k. id_text id ++ directives_text L.owns.written C.own_outlined ds (entries_of es) (region_text s) k ds) given.same_count in
       more old mid new (id_text id) (directives_text L.owns.written C.own_outlined ds (entries_of es) (region_text s) n ds) p q ∙ ap (λ t. old ++ encode_utf8_all t) (sym is)
 
-  -- an operation that is there is printed where it fits
-  pub printed_in : (o : Option (OperationView T A)) → o ≡ Some op → is_printed_in C o ≡ fits_directives C ds (entries_of es) n
-  printed_in o stands = ap (is_printed_in C) stands ∙ given_printed
+-- whether an operation that is live is printed
+pub live_printed : {T A : Type 0} (C : Printing T A) (o : Option (OperationView T A)) (id : OpId) (es : List (Text × AttrObj A)) (n : ℕ) (ds : List Directive) → GivenLive C o id es n ds → is_printed_in C o ≡ fits_directives C ds (entries_of es) n
+live_printed C o id es n ds live = ap (is_printed_in C) live.stands ∙ given_printed C live.view id es n ds live.given
+
+-- tests of a refusal
+abbrev is_depth : Refusal → Bool
+is_depth Depth = true
+is_depth _ = false
+
+abbrev is_misfit : Refusal → Bool
+is_misfit Misfit = true
+is_misfit _ = false
+
+-- a refusal to write its regions is one to print it
+pub regions_refused : {T A U : Type 0} (C : Printing T A) (o : Option (OperationView T A)) (n : ℕ) (s : Shown U) (refusal : Refusal) → n ≡ length (regions_in o) → RefusesRegions n s refusal → Refuses C o s refusal
+regions_refused C o n s Memory count h = tt
+regions_refused C o n s Depth count h = let is = h (λ e. true≢false (ap is_depth e)) in (subst (λ k. 0 < k) count is.1.0, is.1.1)
+regions_refused C o n s Misfit count h = absurd (true≢false (sym (ap is_depth (h (λ e. true≢false (ap is_misfit e))).0)))

@@ -19,7 +19,7 @@ use Rattle.irtext_base.specs.declared.location.Location.{Location}
 use Rattle.irtext_print.specs.Printers.ConcreteText.{concrete_of, concrete_text, printed_concrete, debugging, debug_text}
 use Rattle.irtext_grammar.specs.Graphs.Graph.{Graph, Printing, Limit, Entry, is_elided, mark_at, marks_in_regions, entries_of_regions, own_entry, outlined, outlined_entries}
 use Rattle.irtext_grammar.specs.Spelling.Locations.{known_text}
-use Rattle.irtext_print.specs.Printers.PrintedOperation.{printed, levels, is_printed, is_printed_in, is_supported, fits_format, regions_fit, has_named_keys, symbol_fits, covers_all, none_outlined, mark_text, gathered_at, entry_at, entry_text, section_text, root_text}
+use Rattle.irtext_print.specs.Printers.PrintedOperation.{printed, levels, is_printed, is_printed_in, is_supported, fits_format, regions_fit, has_named_keys, symbol_fits, covers_all, none_outlined, mark_text, gathered_at, entry_at, entry_text, section_text, root_text, alone_text}
 use Rattle.irtext_print.specs.Printers.OnePrinting.{ConcretePrinted, RootPrinted}
 use Rattle.irtext_print.specs.Printers.Printing.{gathered_of, with_gathered}
 use Rattle.irtext_grammar.specs.Spelling.Section.{text, section}
@@ -30,7 +30,7 @@ use Rattle.irtext_grammar.specs.Grammar.Tree.{Attribute}
 use Rattle.irtext_print.specs.Printers.Appended.{Writes, text_of}
 use Rattle.irtext_print.proofs.Printers.Locations.{more}
 use Rattle.irtext_print.proofs.Printers.OperationTexts.{seen}
-use Rattle.irtext_print.proofs.Printers.RootParts.{none, plain_mark, plain_section, plain_gathered, known}
+use Rattle.irtext_print.proofs.Printers.RootParts.{none, plain_mark, plain_section, plain_gathered, plain_alone, known}
 
 -- a claim under a test, and of the entries of an empty list
 writes-cond : {U : Type 0} (b : Bool) (x : Option (List ℕ × Shown U)) (after : Shown U) (old new : List ℕ) → (b ≡ true → Writes x after old new) → Writes (cond b x None) after old new
@@ -191,6 +191,29 @@ root_appended L C ctx p location s first second last old now then new concrete a
       text = more old now new (concrete_text L C op s) (mark_text op.loc (length s.gathered) ++ section_text L.owns.written ctx (s.gathered ++ gathered_at op.loc p)) concrete.text
           (more now then new (mark_text op.loc (length s.gathered)) (section_text L.owns.written ctx (s.gathered ++ gathered_at op.loc p)) marks sections);
       state = left ∙ ap (λ z. with_gathered z []) gathered ∙ ap (λ z. with_gathered z []) kept;
+    }
+
+-- a concrete text, and the mark and the section of this operation alone
+pub alone_appended : {T A U : Type 0} (L : Language ⊤ T A) (C : Printing T A) (ctx : ContextView T A) (p : Ptr Operation) (location : Location A) (s left : Shown U) (old now new : List ℕ)
+    → ConcretePrinted L C ctx p s old left now → option_map (λ o. o.loc) (operation ctx p) ≡ Some location → left.gathered ≡ []
+    → new ≡ now ++ encode_utf8_all (alone_text (known_text L.owns.written ctx.paths location)) → RootPrinted L C ctx p s old left new
+alone_appended L C ctx p location s left old now new concrete at empty written =
+    let op = concrete.view in
+    let l = known_text L.owns.written ctx.paths op.loc in
+    let nothing : s.gathered ≡ [] = sym (ap gathered_of concrete.state) ∙ empty in
+    let located : op.loc ≡ location = seen (λ z. z.loc) (operation ctx p) op location concrete.stands at in
+    let is = known L.owns.written ctx.paths p op.loc in
+    let section : section_text L.owns.written ctx (gathered_at op.loc p) ≡ plain_section l = ap (section_text L.owns.written ctx) is.gathered ∙ gathered_section L C ctx p op s l concrete.stands refl in
+    let alone : mark_text op.loc (length s.gathered) ++ section_text L.owns.written ctx (s.gathered ++ gathered_at op.loc p) ≡ alone_text l
+    = ap (λ z. mark_text op.loc (length z) ++ section_text L.owns.written ctx (z ++ gathered_at op.loc p)) nothing
+    ∙ ap (λ z. z ++ section_text L.owns.written ctx (gathered_at op.loc p)) is.mark ∙ ap (λ z. plain_mark l ++ z) section ∙ plain_alone l in
+    record {
+      view = op;
+      stands = concrete.stands;
+      fits = concrete.fits;
+      text = more old now new (concrete_text L C op s) (mark_text op.loc (length s.gathered) ++ section_text L.owns.written ctx (s.gathered ++ gathered_at op.loc p)) concrete.text
+          (written ∙ ap (λ z. now ++ encode_utf8_all (alone_text (known_text L.owns.written ctx.paths z))) (sym located) ∙ ap (λ z. now ++ encode_utf8_all z) (sym alone));
+      state = concrete.state ∙ ap (with_gathered s) nothing;
     }
 
 module _ {T A U : Type 0} (L : Language ⊤ T A) (C : Printing T A) (ctx : ContextView T A) (p : Ptr Operation) (s t : Shown U) (old new : List ℕ) where

@@ -1,5 +1,5 @@
 -- Regions without blocks, as they are written.
-use Rattle.std.proofs.Common.{◌≡◌, ◌++◌, ◌∙◌, ◌+◌, ℕ, zero, suc, List, [], Bool, false, cond, refl, sym, ap, codes, replicate}
+use Rattle.std.proofs.Common.{◌≡◌, ◌++◌, ◌∙◌, ◌+◌, ℕ, zero, suc, List, [], Bool, false, cond, refl, sym, ap, codes}
 use Rattle.std.proofs.lemmas.Str.{IsAscii-append}
 use Rattle.std.specs.Str.{IsAscii, encode_utf8_all}
 use Rattle.irtext_print.specs.Printers.PieceText.{region_text, repeated, spaced}
@@ -7,17 +7,14 @@ use Rattle.irtext_print.specs.Printers.Shown.{Shown}
 use Rattle.irtext_grammar.specs.Spelling.Spell.{newline}
 use Rattle.irtext_print.specs.declared.printable.state.RegionPrintDepthLimit.{RegionPrintDepthLimit}
 use Rattle.irtext_print.specs.declared.printable.state.RegionPrintDepthLimit.TheVariants.{Unlimited, Max}
-use Rattle.irtext_print.proofs.Printers.Appended.{spaces-ascii}
+use Rattle.irtext_print.proofs.Printers.Appended.{newline-ascii}
 use Rattle.irtext_grammar.proofs.Lists.Ascii.{ascii-from, encodes-ascii}
 use Rattle.irtext_print.proofs.Printers.Locations.{worded, more}
 
-ascii-newline : (k : ℕ) → IsAscii (newline k)
-ascii-newline k = IsAscii-append (codes "\n") (replicate k 32) (ascii-from (codes "\n") refl) (spaces-ascii k)
-
 ascii-shown : (i j : ℕ) → IsAscii (newline i ++ (codes "{" ++ (newline j ++ (newline i ++ codes "}"))))
-ascii-shown i j = IsAscii-append (newline i) (codes "{" ++ (newline j ++ (newline i ++ codes "}"))) (ascii-newline i)
+ascii-shown i j = IsAscii-append (newline i) (codes "{" ++ (newline j ++ (newline i ++ codes "}"))) (newline-ascii i)
     (IsAscii-append (codes "{") (newline j ++ (newline i ++ codes "}")) (ascii-from (codes "{") refl)
-    (IsAscii-append (newline j) (newline i ++ codes "}") (ascii-newline j) (IsAscii-append (newline i) (codes "}") (ascii-newline i) (ascii-from (codes "}") refl))))
+    (IsAscii-append (newline j) (newline i ++ codes "}") (newline-ascii j) (IsAscii-append (newline i) (codes "}") (newline-ascii i) (ascii-from (codes "}") refl))))
 
 ascii-limited : {U : Type 0} (s : Shown U) (limit : RegionPrintDepthLimit) → IsAscii (region_text (record s { limit = limit }))
 ascii-limited s Unlimited = ascii-shown s.indent (s.indent + s.width)

@@ -5,7 +5,10 @@ use Rattle.irtext_base.specs.Text.{Text}
 use Rattle.irtext_base.specs.Faults.{id_of}
 use Rattle.irtext_base.specs.Format as format
 use Rattle.irtext_base.specs.Format.{Directive, count, keys, is_dictionary}
+use Rattle.irtext_base.specs.declared.base.attributes.AttrObj.{AttrObj}
+use Rattle.irtext_base.specs.declared.format.Directive as code
 use Rattle.irtext_context.specs.Context.{OperationView}
+use Rattle.irtext_context.specs.Directives.{directives_of}
 use Rattle.irtext_grammar.specs.Contexts.Held.{entries_of}
 use Rattle.irtext_grammar.specs.Grammar.Tree.{Attribute}
 use Rattle.irtext_grammar.specs.Graphs.Graph.{Printing, lookup, outlined}
@@ -56,9 +59,13 @@ module _ {A : Type 0} where
   abbrev pub missing_key : List (Text × Attribute A) → List Directive → Option Text
   missing_key es ds = find (λ k. not (is_some (lookup k es))) (keys ds)
 
+  -- the key of the first attribute that none of the directives writes by its key
+  abbrev pub first_unwritten : List Directive → List (Text × Attribute A) → Option Text
+  first_unwritten ds es = first_key (λ e. not (is_key_written e.0 ds)) es
+
   -- the key of the first attribute that no directive writes
   abbrev pub unwritten_key : List Directive → List (Text × Attribute A) → Option Text
-  unwritten_key ds es = cond (count is_dictionary ds == 0) (first_key (λ e. not (is_key_written e.0 ds)) es) None
+  unwritten_key ds es = cond (count is_dictionary ds == 0) (first_unwritten ds es) None
 
   -- the key of the first attribute that is outlined
   abbrev pub outlined_key : (A → Bool) → List (Text × Attribute A) → Option Text
@@ -75,6 +82,10 @@ module _ {A : Type 0} where
   IsPartFault is_outlined ds es n (fault.UnwrittenAttribute key) = unwritten_key ds es ≡ Some key.now
   IsPartFault is_outlined ds es n (fault.OutlinedAttribute key) = outlined_key is_outlined es ≡ Some key.now
 
+  -- the first reason why directives do not write these attributes and so many regions
+  abbrev pub IsFirstOfParts : (A → Bool) → List code.Directive → List (Text × AttrObj A) → ℕ → FitFault → Type 0
+  IsFirstOfParts is_outlined ds attributes n reason = IsFirst (IsPartFault is_outlined (directives_of ds) (entries_of attributes) n) reason
+
 module _ {T A : Type 0} (C : Printing T A) (op : OperationView T A) where
   -- the operation's format has directives, of which the reason is true
   abbrev pub HasPartFault : FitFault → Type 0
@@ -85,3 +96,7 @@ module _ {T A : Type 0} (C : Printing T A) (op : OperationView T A) where
   IsFault fault.NotRegistered = C.format_of (id_of op.id) ≡ None
   IsFault fault.Canonical = C.format_of (id_of op.id) ≡ Some format.canonical
   IsFault reason = HasPartFault reason
+
+-- the first reason why what stands under a pointer does not fit its format
+abbrev pub IsFirstOf : {T A : Type 0} → Printing T A → Option (OperationView T A) → FitFault → Type 0
+IsFirstOf C o reason = (op : _) → o ≡ Some op → IsFirst (IsFault C op) reason

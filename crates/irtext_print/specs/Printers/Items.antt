@@ -15,10 +15,14 @@ pub record Place (U : Type 0) : Type 0 where
   pub state : Shown U
   pub text : String Global
 
+-- what stands in front of an item was appended: nothing in front of the first, else the separator
+abbrev pub Separates : {U : Type 0} → Bool → ListSeparator → Shown U → String Global → String Global → Type 0
+Separates first sep s old new = MatchBool first (new ≡ old) (string_bytes new ≡ string_bytes old ++ separator_text sep s)
+
 -- an item is written by one call, behind a separator where it is not the first
 pub record WritesItem {U X : Type 0} (call : X → Shown U → String Global → Shown U → String Global → Type 0) (sep : ListSeparator) (p : Place U) (x : X) (q : Place U) : Type 0 where
   pub between : String Global
-  pub separated : MatchBool p.first (between ≡ p.text) (string_bytes between ≡ string_bytes p.text ++ separator_text sep p.state)
+  pub separated : Separates p.first sep p.state p.text between
   pub called : call x p.state between q.state q.text
   pub next : q.first ≡ false
 
@@ -35,6 +39,14 @@ pub record PrintsItem {U X C : Type 0} (prints : X → C → Shown U → String 
 -- a clone of the iterator gives the items xs and then nothing
 abbrev pub CloneGives : {I X : Type 0} → (I → I → Type 0) → (I → Option X → I → Type 0) → I → List X → Type 0
 CloneGives {I} is_clone steps i xs = (j : I) × is_clone i j × Drains steps j xs
+
+-- the iterator gives items, and they are written in their order
+abbrev pub WritesGiven : {I U X : Type 0} → (I → Option X → I → Type 0) → (X → Shown U → String Global → Shown U → String Global → Type 0) → I → ListSeparator → Shown U → String Global → Shown U → String Global → Type 0
+WritesGiven {X = X} steps call i sep s b t d = (xs : List X) × Drains steps i xs × WritesItems call sep xs s b t d
+
+-- the same of a clone of the iterator
+abbrev pub WritesCloned : {I U X : Type 0} → (I → I → Type 0) → (I → Option X → I → Type 0) → (X → Shown U → String Global → Shown U → String Global → Type 0) → I → ListSeparator → Shown U → String Global → Shown U → String Global → Type 0
+WritesCloned {X = X} is_clone steps call i sep s b t d = (xs : List X) × CloneGives is_clone steps i xs × WritesItems call sep xs s b t d
 
 -- the texts of the items, with separators between
 abbrev pub items_text : {U X : Type 0} → (X → List ℕ) → ListSeparator → Shown U → Bool → List X → List ℕ

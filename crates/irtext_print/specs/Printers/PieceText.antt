@@ -1,5 +1,5 @@
 -- For callers: what is written of an operation's attributes and regions by the directives of its format.
-use Rattle.std.specs.Prelude.{◌≡◌, ◌≢◌, ℕ, zero, suc, ◌+◌, ◌-◌, ◌≤◌, ◌^◌, ◌==◌, Bool, false, cond, not, List, [], ◌∷◌, ◌++◌, map, filter, Option, Some, None, IsSome, codes, ⊤}
+use Rattle.std.specs.Prelude.{◌≡◌, ◌≢◌, ℕ, zero, suc, ◌+◌, ◌-◌, ◌<◌, ◌≤◌, ◌^◌, ◌==◌, ◌&&◌, Bool, false, cond, not, List, [], ◌∷◌, ◌++◌, map, filter, Option, Some, None, IsSome, codes, ⊤}
 use Rattle.std.specs.List.{list_any}
 use Rattle.irtext_base.specs.Text.{Text, begins}
 use Rattle.irtext_base.specs.Format as format
@@ -68,6 +68,14 @@ module _ {A : Type 0} where
   symbol_in (Some (given_names ns)) = None
   symbol_in (Some (own a)) = None
 
+  -- the symbol's name behind `@`, where the attribute under its key is an identifier
+  abbrev pub header_text : List (Text × Attribute A) → Text
+  header_text es = symbol_text (symbol_in (lookup sym_name_key es))
+
+  -- the dictionary writes this entry: no other directive does, and it is not outlined
+  abbrev pub is_listed : (A → Bool) → List Directive → Text × Attribute A → Bool
+  is_listed is_outlined ds e = not (outlined (outlining is_outlined) e.1) && not (is_key_written e.0 ds)
+
   -- the entries that the dictionary writes: those that no other directive writes and that are not outlined
   abbrev pub dictionary_entries : (A → Bool) → List Directive → List (Text × Attribute A) → List (Text × Attribute A)
   dictionary_entries is_outlined ds es = filter (λ e. not (is_key_written e.0 ds)) (inline (outlining is_outlined) es)
@@ -76,6 +84,10 @@ module _ {A : Type 0} where
     -- an entry
     abbrev pub entry_text : Text × Attribute A → Text
     entry_text e = e.0 ++ (codes ": " ++ attribute (words written) e.1)
+
+    -- an entry, behind `, ` where it is not the first
+    abbrev pub next_text : Bool → Text × Attribute A → Text
+    next_text first e = cond first [] comma ++ entry_text e
 
     -- entries with `, ` between them
     abbrev pub rows_text : List (Text × Attribute A) → Text
@@ -91,12 +103,24 @@ module _ {A : Type 0} where
       inline_text_in None = None
       inline_text_in (Some a) = Some (inline_text a)
 
+      -- what is written of the attribute under a key, behind a space, where it is there
+      abbrev pub keyed_text : Text → List (Text × Attribute A) → Text
+      keyed_text k es = spaced_if (inline_text_in (lookup k es))
+
+      -- the entries of the dictionary, with `, ` between them
+      abbrev pub listed_text : List Directive → List (Text × Attribute A) → Text
+      listed_text ds es = rows_text (dictionary_entries is_outlined ds es)
+
+      -- the dictionary, behind a space
+      abbrev pub dictionary_text : List Directive → List (Text × Attribute A) → Text
+      dictionary_text ds es = codes " [" ++ (listed_text ds es ++ codes "]")
+
       -- what a directive writes, where so many regions with this text are left
       abbrev pub directive_text : List Directive → List (Text × Attribute A) → Text → ℕ → Directive → Text
       directive_text ds es r n (format.word s) = word_text s
-      directive_text ds es r n (format.attribute k) = spaced_if (inline_text_in (lookup k es))
-      directive_text ds es r n format.dictionary = codes " [" ++ (rows_text (dictionary_entries is_outlined ds es) ++ codes "]")
-      directive_text ds es r n format.header = symbol_text (symbol_in (lookup sym_name_key es))
+      directive_text ds es r n (format.attribute k) = keyed_text k es
+      directive_text ds es r n format.dictionary = dictionary_text ds es
+      directive_text ds es r n format.header = header_text es
       directive_text ds es r n (format.region i) = cond (n == 0) [] (spaced r)
       directive_text ds es r n format.regions = spaced (repeated n r)
       directive_text ds es r n _ = []
@@ -117,6 +141,10 @@ region_text s = elim (lowered s.limit) [
 abbrev pub IsTooDeep : {U : Type 0} → Shown U → Type 0
 IsTooDeep s = IsSome (lowered s.limit) × (2 ^ 16 ≤ s.indent + s.width)
 
--- what a refusal to write regions says: memory may be refused at any time, but all else only where they are too deep
+-- what a refusal to write a region says: memory may be refused at any time, but all else only where it is too deep
 abbrev pub RefusesRegion : {U : Type 0} → Shown U → Refusal → Type 0
 RefusesRegion s refusal = refusal ≢ Memory → (refusal ≡ Depth) × IsTooDeep s
+
+-- the same of so many regions: there are some, and they are too deep
+abbrev pub RefusesRegions : {U : Type 0} → ℕ → Shown U → Refusal → Type 0
+RefusesRegions n s refusal = refusal ≢ Memory → (refusal ≡ Depth) × ((0 < n) × IsTooDeep s)

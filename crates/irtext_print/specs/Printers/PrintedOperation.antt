@@ -1,6 +1,6 @@
 -- For callers: the operations that are printed so far, and their texts: those that fit their format, where that names no value, block or type,
 -- and no attribute is outlined.
-use Rattle.std.specs.Prelude.{◌≡◌, ℕ, suc, Bool, true, false, cond, not, ◌&&◌, ◌||◌, ◌==◌, nat_lt, List, [], ◌∷◌, ◌++◌, length, Option, Some, None, is_some, codes, decimal, ⊤}
+use Rattle.std.specs.Prelude.{◌≡◌, ℕ, suc, Bool, true, false, cond, not, ◌&&◌, ◌||◌, ◌==◌, ◌<◌, nat_lt, List, [], ◌∷◌, ◌++◌, length, Option, Some, None, is_some, codes, decimal, ⊤}
 use Rattle.std.specs.List.{list_all}
 use Rattle.std.specs.Option.{option_map}
 use Rattle.std.specs.Str.{encode_utf8_all}
@@ -12,7 +12,10 @@ use Rattle.irtext_base.specs.Format.{Format, Directive, same_text, has, count, k
 use Rattle.irtext_base.specs.Own.{Language, texts_of, unplaced}
 use Rattle.irtext_base.specs.declared.text.AttrText as attr_text
 use Rattle.irtext_base.specs.declared.text.IrText as ir_text
-use Rattle.irtext_context.specs.Context.{ContextView, OperationView, operation}
+use Rattle.irtext_base.specs.declared.base.attributes.AttrObj.{AttrObj}
+use Rattle.irtext_base.specs.declared.format.Directive as code
+use Rattle.irtext_context.specs.Directives.{directives_of}
+use Rattle.irtext_context.specs.Context.{ContextView, OperationView, operation, regions_in}
 use Rattle.irtext_context.specs.declared.base.arena.Ptr.{Ptr}
 use Rattle.irtext_context.specs.declared.base.operation.Operation.{Operation}
 use Rattle.irtext_base.specs.declared.location.Location.{Location, Unknown}
@@ -21,7 +24,7 @@ use Rattle.irtext_grammar.specs.Graphs.Graph.{Printing, Limit, lookup, outlined,
 use Rattle.irtext_grammar.specs.Spelling.Locations.{known_text}
 use Rattle.irtext_print.specs.Errors.Located.{between}
 use Rattle.irtext_grammar.specs.Spelling.Section.{text}
-use Rattle.irtext_print.specs.Printers.PieceText.{IsTooDeep}
+use Rattle.irtext_print.specs.Printers.PieceText.{IsTooDeep, outlining}
 use Rattle.irtext_print.specs.Printers.Shown.{Shown}
 use Rattle.irtext_grammar.specs.Contexts.Held.{entries_of, graph_of}
 use Rattle.irtext_grammar.specs.Grammar.Tree.{Attribute, ident}
@@ -87,11 +90,15 @@ module _ {T A : Type 0} (C : Printing T A) where
   is_printed_in None = false
   is_printed_in (Some op) = is_printed op
 
-  -- what a refusal says: memory may be refused at any time, but all else only for this reason
+  -- what a refusal says: memory may be refused at any time, but all else only for this reason, and depth only of regions that are there
   abbrev pub Refuses : {U : Type 0} → Option (OperationView T A) → Shown U → Refusal → Type 0
   Refuses op s Memory = ⊤
-  Refuses op s Depth = IsTooDeep s
+  Refuses op s Depth = (0 < length (regions_in op)) × IsTooDeep s
   Refuses op s Misfit = is_printed_in op ≡ false
+
+-- directives write all of these attributes and so many regions, and nothing that is not there
+abbrev pub fits_parts : {A : Type 0} → (A → Bool) → List code.Directive → List (Text × AttrObj A) → ℕ → Bool
+fits_parts is_outlined ds attributes n = fits_directives (outlining is_outlined) (directives_of ds) (entries_of attributes) n
 
 module _ {A : Type 0} where
   -- the mark behind an operation whose location is known
@@ -103,6 +110,10 @@ module _ {A : Type 0} where
   abbrev pub gathered_at : Location A → Ptr Operation → List (Ptr Operation)
   gathered_at Unknown p = []
   gathered_at _ p = p ∷ []
+
+-- the mark and the section of an operation that is marked alone, where its location is known
+abbrev pub alone_text : Option Text → Text
+alone_text location = between (codes " !0\n\noutlined_attributes:\n!0 = @[") (codes "], []\n") location
 
 -- an entry without attributes: its index, and its location where that is known
 abbrev pub entry_text : ℕ → Option Text → Text

@@ -56,30 +56,6 @@ module _ {U : Type 0} where
   abbrev pub guard_name : IndentGuard U → GName
   guard_name g = g.state.ghost_name
 
-  -- the state behind an indentation's guard
-  abbrev pub guard_state : IndentGuard U → Shown U
-  guard_state g = g.state.now
-
-  -- the indentation that comes back
-  abbrev pub guard_saved : IndentGuard U → ℕ
-  guard_saved g = g.saved
-
-  -- the guard over another state
-  abbrev pub with_guard_state : IndentGuard U → Shown U → IndentGuard U
-  with_guard_state g s = record g { state = record g.state { now = s } }
-
   -- the name of the reference in a region's guard
   abbrev pub depth_name : RegionDepthGuard U → GName
   depth_name g = g.state.ghost_name
-
-  -- the state behind it
-  abbrev pub depth_state : RegionDepthGuard U → Shown U
-  depth_state g = g.state.now
-
-  -- the limit that comes back
-  abbrev pub depth_saved : RegionDepthGuard U → RegionPrintDepthLimit
-  depth_saved g = g.saved
-
-  -- the guard over another state
-  abbrev pub with_depth_state : RegionDepthGuard U → Shown U → RegionDepthGuard U
-  with_depth_state g s = record g { state = record g.state { now = s } }

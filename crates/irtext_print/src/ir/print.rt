@@ -1,9 +1,9 @@
 //! Printing of roots.
-ghost use Rattle.std.specs.Prelude.{◌≡◌, ◌++◌, [], OnOk, IfErr, IsSome, IsTrue, string_bytes, codes, decimal, length};
-ghost use Rattle.irtext_print.specs.Printers.Appended.{AppendsText, Writes};
+ghost use Rattle.std.specs.Prelude.{◌≡◌, ◌++◌, [], OnOk, IfErr, IsSome, IsTrue, codes, decimal, length};
+ghost use Rattle.irtext_print.specs.Printers.Appended.{AppendsText};
 ghost use Rattle.irtext_context.specs.Context.{operation};
 ghost use Rattle.irtext_grammar.specs.Spelling.Locations.{known_text};
-ghost use Rattle.irtext_print.specs.Printers.OnePrinting.{PrintsRoot};
+ghost use Rattle.irtext_print.specs.Printers.OnePrinting.{PrintsRoot, WritesRoot, root_gives};
 ghost use Rattle.irtext_print.specs.Printers.PrintedOperation as printed;
 ghost use Rattle.irtext_print.specs.Printers.Printing.{gathered_of, with_gathered};
 ghost use Rattle.irtext_print.specs.declared.printable.refusal.Refusal.TheVariants as refusal;
@@ -113,6 +113,23 @@ fn fmt_section<T: IrText<A>, A: AttrText, U>(
     fmt_entries(ctx, &gathered, f)
 }
 
+/// Appends the mark and the section of an operation where no other is marked. It fails only where memory is refused.
+fn fmt_alone<T: IrText<A>, A: AttrText>(
+    ctx: &Context<T, A>,
+    location: &Location<A>,
+    f: &mut String,
+) -> fmt::Result
+    ensures { OnOk result (AppendsText f.old (printed.alone_text (known_text A.written ctx.now.paths location.now)) f.new) }
+{
+    fmt_known(
+        location,
+        " !0\n\noutlined_attributes:\n!0 = @[",
+        "], []\n",
+        ctx,
+        f,
+    )
+}
+
 /// Appends the text of a root, with its mark behind those that were gathered before and the section of all that was gathered. What
 /// `Printable` appends of it is the same; this call says why it was refused. What was written until then stays.
 pub fn print_root<T: IrText<A>, A: AttrText, U>(
@@ -124,18 +141,23 @@ pub fn print_root<T: IrText<A>, A: AttrText, U>(
     requires live { IsSome (operation ctx.now op) }
     ensures prints { OnOk result (PrintsRoot T.IrText.own A.IrText.own A.AttrText.own A.eq ctx.now op state.old f.old state.new f.new) }
     ensures fits { OnOk result (IsTrue (printed.is_printed_in (printed.printing_in A.AttrText.own A.eq ctx.now) (operation ctx.now op))) }
-    ensures text { OnOk result (Writes (printed.printed (printed.language_in T.IrText.own A.IrText.own ctx.now) (printed.printing_in A.AttrText.own A.eq ctx.now) ctx.now op state.old) state.new (string_bytes f.old) (string_bytes f.new)) }
+    ensures text { OnOk result (WritesRoot T.IrText.own A.IrText.own A.AttrText.own A.eq ctx.now op state.old f.old state.new f.new) }
     ensures refused { IfErr result (printed.Refuses (printed.printing_in A.AttrText.own A.eq ctx.now) (operation ctx.now op) state.old) }
 {
     print_concrete(ctx, op, state, f)?;
-    fmt_mark(op.loc(ctx), op, state, f)?;
+    let location = op.loc(ctx);
+    // nothing else was gathered: the section has this entry alone
+    if !state.has_gathered() {
+        return memory_alone(fmt_alone(ctx, location, f));
+    }
+    fmt_mark(location, op, state, f)?;
     memory_alone(fmt_section(ctx, state, f))
 }
 
 impl<T: IrText<A>, A: AttrText, U> Printable<U, T, A> for Ptr<Operation> {
     ghost can_print = { λ op ctx. IsSome (operation ctx op) };
 
-    ghost gives = { λ op ctx s. printed.printed (printed.language_in T.IrText.own A.IrText.own ctx) (printed.printing_in A.AttrText.own A.eq ctx) ctx op s };
+    ghost gives = { λ op ctx s. root_gives T.IrText.own A.IrText.own A.AttrText.own A.eq ctx op s };
 
     ghost prints = { λ op ctx s b t d. PrintsRoot T.IrText.own A.IrText.own A.AttrText.own A.eq ctx op s b t d };
 

@@ -1,15 +1,15 @@
 //! Printing of locations: files by the paths that a context keeps for them.
-ghost use Rattle.std.specs.Prelude.{◌≡◌, ◌<◌, ◌^◌, ◌++◌, Some, OnOk, cond, [], codes, map, option_copied, string_bytes};
+ghost use Rattle.std.specs.Prelude.{◌≡◌, ◌<◌, ◌^◌, ◌++◌, Some, OnOk, codes, option_copied, string_bytes};
 ghost use Rattle.std.specs.Int.Signed.{mag};
 ghost use Rattle.std.specs.Str.{encode_utf8_all};
 ghost use Rattle.irtext_print.specs.Printers.Appended.{AppendsText};
 ghost use Rattle.irtext_base.specs.Causes.{position_text};
-ghost use Rattle.irtext_base.specs.Locations.{attr_view_in, location_view, in_row, row_sourced};
+ghost use Rattle.irtext_base.specs.Locations.{attr_view_in};
 ghost use Rattle.irtext_base.specs.Paths.{path_of};
-ghost use Rattle.irtext_grammar.specs.Spelling.Locations.{source_text, metadata_text, location_text, known_text, row_texts};
+ghost use Rattle.irtext_grammar.specs.Spelling.Locations.{source_text, metadata_text, location_text, known_text};
 ghost use Rattle.irtext_print.specs.Errors.Located.{framed};
-ghost use Rattle.irtext_grammar.specs.Spelling.Spell.{joined, comma};
 
+use crate::location::parts::{Part, fmt_part};
 use crate::printable::Printable;
 use crate::printable::attributes::fmt_attr;
 use crate::printable::state::State;
@@ -68,18 +68,11 @@ fn fmt_position(pos: &SourcePosition, f: &mut String) -> fmt::Result
     Ok(())
 }
 
-/// Appends `, `, but not in front of the first item.
-fn fmt_comma(first: bool, f: &mut String) -> fmt::Result
-    ensures { OnOk result (string_bytes f.new ≡ string_bytes f.old ++ cond first [] comma) }
-{
-    if !first {
-        f.push_str(", ")?;
-    }
-    Ok(())
-}
-
 /// Appends an attribute between `<` and `>`, if there is one.
-fn fmt_metadata<A: AttrText>(metadata: &Option<AttrObj<A>>, f: &mut String) -> fmt::Result
+pub(super) fn fmt_metadata<A: AttrText>(
+    metadata: &Option<AttrObj<A>>,
+    f: &mut String,
+) -> fmt::Result
     ensures { OnOk result (AppendsText f.old (metadata_text A.written (attr_view_in metadata.now)) f.new) }
 {
     if let Some(attr) = metadata {
@@ -91,7 +84,7 @@ fn fmt_metadata<A: AttrText>(metadata: &Option<AttrObj<A>>, f: &mut String) -> f
 }
 
 /// Appends a source, a line and a column.
-fn fmt_place<T: IrText<A>, A: AttrText>(
+pub(super) fn fmt_place<T: IrText<A>, A: AttrText>(
     src: Source,
     pos: &SourcePosition,
     ctx: &Context<T, A>,
@@ -104,8 +97,8 @@ fn fmt_place<T: IrText<A>, A: AttrText>(
     fmt_position(pos, f)
 }
 
-/// Appends the text of a location. It fails only where memory is refused; what was written until then stays.
-#[cycle(printed)]
+/// Appends the text of a location. It fails only where memory is refused; what was written until then stays. It doesn't recurse:
+/// what surrounds a location that stands inside waits in memory of the context's allocator.
 pub(crate) fn fmt_location<T: IrText<A>, A: AttrText>(
     location: &Location<A>,
     ctx: &Context<T, A>,
@@ -113,40 +106,12 @@ pub(crate) fn fmt_location<T: IrText<A>, A: AttrText>(
 ) -> fmt::Result
     ensures { OnOk result (AppendsText f.old (location_text A.written ctx.now.paths location.now) f.new) }
 {
-    match location {
-        Location::SrcPos { src, pos } => fmt_place(*src, pos, ctx, f),
-        Location::Fused {
-            metadata,
-            locations,
-        } => {
-            f.push_str("fused")?;
-            fmt_metadata(metadata, f)?;
-            f.push_str("[")?;
-            fmt_locations(locations, ctx, f)?;
-            f.push_str("]")?;
-            Ok(())
-        }
-        Location::Named { name, child_loc } => {
-            f.push_str("name: ")?;
-            fmt_quoted(name.as_str(), f)?;
-            f.push_str(", loc: (")?;
-            fmt_location(child_loc, ctx, f)?;
-            f.push_str(")")?;
-            Ok(())
-        }
-        Location::CallSite { callee, caller } => {
-            f.push_str("callsite(")?;
-            fmt_location(callee, ctx, f)?;
-            f.push_str(" at ")?;
-            fmt_location(caller, ctx, f)?;
-            f.push_str(")")?;
-            Ok(())
-        }
-        Location::Unknown => {
-            f.push_str("?")?;
-            Ok(())
-        }
+    let mut waiting = Vec::new(ctx.allocator());
+    let mut next = Some(Part::Whole(location));
+    while let Some(part) = next {
+        next = fmt_part(part, ctx, &mut waiting, f)?;
     }
+    Ok(())
 }
 
 /// Appends the text of a location between these two, where the location is known. It fails only where memory is refused.
@@ -165,24 +130,6 @@ pub(crate) fn fmt_known<T: IrText<A>, A: AttrText>(
     f.push_str(before)?;
     fmt_location(location, ctx, f)?;
     f.push_str(after)?;
-    Ok(())
-}
-
-/// Appends the texts of locations with `, ` between.
-#[cycle(printed)]
-fn fmt_locations<T: IrText<A>, A: AttrText>(
-    locations: &Vec<Location<A>>,
-    ctx: &Context<T, A>,
-    f: &mut String,
-) -> fmt::Result
-    ensures { OnOk result (AppendsText f.old (joined comma (row_texts A.written (row_sourced (path_of ctx.now.paths) (in_row (map location_view locations.now.items))))) f.new) }
-{
-    let mut first = true;
-    for location in locations {
-        fmt_comma(first, f)?;
-        fmt_location(location, ctx, f)?;
-        first = false;
-    }
     Ok(())
 }
 

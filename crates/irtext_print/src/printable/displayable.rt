@@ -23,7 +23,7 @@ pub struct Displayable<'a, X: Printable<(), T, A>, T: IrText<A>, A: AttrText> {
 }
 
 impl<'a, X: Printable<(), T, A>, T: IrText<A>, A: AttrText> Displayable<'a, X, T, A> {
-    ghost use Rattle.irtext_print.specs.Printers.Shows.{shown_by};
+    ghost use Rattle.irtext_print.specs.Printers.Shows.{shown_by, ShownOnce};
 
     /// The field says only that a proof exists; this hands it out.
     fn can_be_printed(&self)
@@ -33,7 +33,7 @@ impl<'a, X: Printable<(), T, A>, T: IrText<A>, A: AttrText> Displayable<'a, X, T
     /// Appends the text. A `Display` can promise no more than a text that its value gives; this call promises what the value's
     /// printing may do as well, as where a closure prints. It fails where that printing does; what was written until then stays.
     pub fn append_to(&self, f: &mut String) -> fmt::Result
-        ensures prints { OnOk result ((t : Shown (Unit {0})) × X.prints self.now.value.now self.now.ctx.now (fresh self.now.indent_width self.now.current_indent self.now.limit) f.old t f.new) }
+        ensures prints { OnOk result (ShownOnce X.prints self.now f.old f.new) }
         ensures text { OnOk result (IfSome (shown_by X.gives self.now) (λ text. string_bytes f.new ≡ string_bytes f.old ++ text)) }
     {
         let mut state = State::with_layout(
@@ -75,7 +75,8 @@ pub trait Disp<T: IrText<A>, A: AttrText>: Printable<(), T, A> {
     where
         Self: Sized,
         requires { Self.can_print self.now ctx.now }
-        ensures text { shown_by Self.gives result ≡ text_of (Self.gives self.now ctx.now (fresh state.now.width state.now.indent state.now.limit)) }
+        ensures text { shown_by Self.gives result ≡ text_of
+            (Self.gives self.now ctx.now (fresh state.now.width state.now.indent state.now.limit)) }
         ensures shows { Displays result self.now ctx.now (fresh state.now.width state.now.indent state.now.limit) };
 }
 

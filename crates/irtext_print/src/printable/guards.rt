@@ -5,7 +5,7 @@ ghost use mir.Syntax.{named};
 ghost use Rattle.irtext_print.specs.contracts.printable.state.State.{the_row};
 ghost use Rattle.irtext_print.specs.contracts.printable.guards.IndentGuard as indent_guard;
 ghost use Rattle.irtext_print.specs.contracts.printable.guards.RegionDepthGuard as depth_guard;
-ghost use Rattle.irtext_print.specs.Printers.Printing.{with_indent, with_limit, guard_state, guard_saved, with_guard_state, depth_state, depth_saved, with_depth_state};
+ghost use Rattle.irtext_print.specs.Printers.Printing.{with_indent, with_limit};
 
 use crate::printable::state::{RegionPrintDepthLimit, State};
 use std::ops::{Deref, DerefMut};
@@ -26,7 +26,7 @@ pub struct RegionDepthGuard<'a, U> {
 
 impl<U> Drop for IndentGuard<'_, U> {
     fn drop(self)
-        ensures { self.exit.0.now ≡ with_indent (guard_state self.entry) (guard_saved self.entry) }
+        ensures { self.exit.0.now ≡ with_indent self.entry.state.now self.entry.saved }
     {
         let IndentGuard { state, saved } = self;
         state.current_indent = saved;
@@ -36,21 +36,22 @@ impl<U> Drop for IndentGuard<'_, U> {
 impl<U> Deref for IndentGuard<'_, U> {
     type Target = State<U>;
 
-    ghost deref_gives = { λ p x. x ≡ guard_state p };
+    ghost deref_gives = { λ p x. x ≡ p.state.now };
 
     fn deref(&self) -> &State<U>
-        ensures { result.now ≡ guard_state self.now }
+        ensures { result.now ≡ self.now.state.now }
     {
         self.state
     }
 }
 
 impl<U> DerefMut for IndentGuard<'_, U> {
-    ghost deref_mut_gives = { λ p x. x ≡ guard_state p };
+    ghost deref_mut_gives = { λ p x. x ≡ p.state.now };
 
     fn deref_mut(&mut self) -> &mut State<U>
-        ensures* writes_back { sem 𝓛 (follows (indent_guard.the_row (record { mir = named 1; lft = [] }) U.row) (the_row U.row) self.entry.ghost_name result.ghost_name (with_guard_state self.old)) }
-        ensures value { result.now ≡ guard_state self.old }
+        ensures* writes_back { sem 𝓛 (follows (indent_guard.the_row (record { mir = named 1; lft = [] }) U.row) (the_row U.row)
+            self.entry.ghost_name result.ghost_name (λ s. record self.old { state = record self.old.state { now = s } })) }
+        ensures value { result.now ≡ self.old.state.now }
     {
         self.state
     }
@@ -58,7 +59,7 @@ impl<U> DerefMut for IndentGuard<'_, U> {
 
 impl<U> Drop for RegionDepthGuard<'_, U> {
     fn drop(self)
-        ensures { self.exit.0.now ≡ with_limit (depth_state self.entry) (depth_saved self.entry) }
+        ensures { self.exit.0.now ≡ with_limit self.entry.state.now self.entry.saved }
     {
         let RegionDepthGuard { state, saved } = self;
         state.limit = saved;
@@ -68,21 +69,22 @@ impl<U> Drop for RegionDepthGuard<'_, U> {
 impl<U> Deref for RegionDepthGuard<'_, U> {
     type Target = State<U>;
 
-    ghost deref_gives = { λ p x. x ≡ depth_state p };
+    ghost deref_gives = { λ p x. x ≡ p.state.now };
 
     fn deref(&self) -> &State<U>
-        ensures { result.now ≡ depth_state self.now }
+        ensures { result.now ≡ self.now.state.now }
     {
         self.state
     }
 }
 
 impl<U> DerefMut for RegionDepthGuard<'_, U> {
-    ghost deref_mut_gives = { λ p x. x ≡ depth_state p };
+    ghost deref_mut_gives = { λ p x. x ≡ p.state.now };
 
     fn deref_mut(&mut self) -> &mut State<U>
-        ensures* writes_back { sem 𝓛 (follows (depth_guard.the_row (record { mir = named 1; lft = [] }) U.row) (the_row U.row) self.entry.ghost_name result.ghost_name (with_depth_state self.old)) }
-        ensures value { result.now ≡ depth_state self.old }
+        ensures* writes_back { sem 𝓛 (follows (depth_guard.the_row (record { mir = named 1; lft = [] }) U.row) (the_row U.row)
+            self.entry.ghost_name result.ghost_name (λ s. record self.old { state = record self.old.state { now = s } })) }
+        ensures value { result.now ≡ self.old.state.now }
     {
         self.state
     }

@@ -4,7 +4,7 @@ ghost use Rattle.irtext_print.specs.Printers.Printing.{indent_of};
 ghost use Rattle.irtext_grammar.specs.Spelling.Spell.{newline};
 
 use crate::printable::state::State;
-use crate::printable::{Printable, fmt_spaces};
+use crate::printable::{Printable, fmt_newline};
 use irtext_base::text::{AttrText, IrText};
 use irtext_context::base::Context;
 use std::fmt;
@@ -40,7 +40,6 @@ impl<T: IrText<A>, A: AttrText, U> Printable<U, T, A> for IndentedNl {
     ghost gives = { λ line _ s. Some (newline line.indent, s) };
 
     fn fmt(&self, _ctx: &Context<T, A>, _state: &mut State<U>, f: &mut String) -> fmt::Result {
-        f.push_str("\n")?;
-        fmt_spaces(self.indent, f)
+        fmt_newline(self.indent, f)
     }
 }

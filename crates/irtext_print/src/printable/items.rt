@@ -1,9 +1,8 @@
 //! The items of an iterator, with separators between.
-ghost use Rattle.std.specs.Prelude.{◌≡◌, ◌++◌, List, MatchBool, OnOk, string_bytes};
-ghost use Rattle.std.specs.Iterator.{Drains, HoldsAlong, IsFinite};
+ghost use Rattle.std.specs.Prelude.{◌≡◌, OnOk};
+ghost use Rattle.std.specs.Iterator.{HoldsAlong, IsFinite};
 ghost use Rattle.std.specs.List.{All};
-ghost use Rattle.irtext_print.specs.Printers.Items.{WritesItems, PrintsItem};
-ghost use Rattle.irtext_print.specs.Printers.Separator.{separator_text};
+ghost use Rattle.irtext_print.specs.Printers.Items.{WritesGiven, PrintsItem, Separates};
 
 use crate::printable::state::State;
 use crate::printable::{ListSeparator, Printable};
@@ -19,7 +18,7 @@ pub(crate) fn fmt_between<T: IrText<A>, A: AttrText, U>(
     state: &mut State<U>,
     f: &mut String,
 ) -> fmt::Result
-    ensures text { OnOk result (MatchBool first (f.new ≡ f.old) (string_bytes f.new ≡ string_bytes f.old ++ separator_text sep state.old)) }
+    ensures text { OnOk result (Separates first sep state.old f.old f.new) }
     ensures state { OnOk result (state.new ≡ state.old) }
 {
     if first {
@@ -41,7 +40,8 @@ where
     I::Item: Printable<U, T, A> + Drop,
     requires runs { I.can_next iter × IsFinite (I.remaining iter) }
     requires printable { HoldsAlong I.next_gives iter (All (λ x. I.Item.can_print x ctx.now)) }
-    ensures { OnOk result ((xs : List I.Item) × Drains I.next_gives iter xs × WritesItems (PrintsItem I.Item.prints I.Item.gives ctx.now) sep xs state.old f.old state.new f.new) }
+    ensures { OnOk result (WritesGiven I.next_gives
+        (PrintsItem I.Item.prints I.Item.gives ctx.now) iter sep state.old f.old state.new f.new) }
 {
     let mut first = true;
     for item in iter {

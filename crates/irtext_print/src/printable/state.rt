@@ -1,8 +1,8 @@
 //! The printing state: its layout, how deep regions are printed, what was gathered, and the caller's data.
-ghost use Rattle.std.specs.Prelude.{◌≡◌, ◌+◌, ◌-◌, ◌<◌, ◌≤◌, ◌^◌, [], OnOk, OnErr, IfOk, IfSome, OnSome, IfNone, Some, None, ◌∷◌, ◌++◌, IsOk, IsSome, length, ◌↔◌, ◌≢◌};
+ghost use Rattle.std.specs.Prelude.{◌≡◌, ◌+◌, ◌-◌, ◌<◌, ◌≤◌, ◌^◌, ◌==◌, [], not, OnOk, OnErr, IfOk, IfSome, OnSome, IfNone, Some, None, ◌∷◌, ◌++◌, IsOk, IsSome, length, ◌↔◌, ◌≢◌};
 ghost use Rattle.std.specs.Borrow.{sem, Lends, RestsIfErr, RestsIfNone};
 ghost use Rattle.irtext_print.specs.contracts.printable.state.State.{the_row};
-ghost use Rattle.irtext_print.specs.Printers.Printing.{width_of, indent_of, limit_of, gathered_of, data_of, with_indent, with_limit, with_data, with_gathered, lowered, guard_name, guard_state, guard_saved, depth_name, depth_state, depth_saved};
+ghost use Rattle.irtext_print.specs.Printers.Printing.{width_of, indent_of, limit_of, gathered_of, data_of, with_indent, with_limit, with_data, with_gathered, lowered, guard_name, depth_name};
 
 use crate::printable::guards::{IndentGuard, RegionDepthGuard};
 use irtext_context::base::{Operation, Ptr};
@@ -35,7 +35,13 @@ impl<U> Model for State<U> {
 
     ghost Value = { Shown U };
 
-    ghost view = { λ s. record { width = s.indent_width; indent = s.current_indent; limit = s.limit; gathered = s.gathered.items; aux = s.aux_data } };
+    ghost view = { λ s. record {
+      width = s.indent_width;
+      indent = s.current_indent;
+      limit = s.limit;
+      gathered = s.gathered.items;
+      aux = s.aux_data;
+    } };
 }
 
 impl<U> State<U> {
@@ -111,6 +117,13 @@ impl<U> State<U> {
         Ok(place)
     }
 
+    /// Whether an operation was gathered.
+    pub(crate) fn has_gathered(&self) -> bool
+        ensures { result ≡ not (length (gathered_of self.now) == 0) }
+    {
+        !self.gathered.is_empty()
+    }
+
     /// Takes out what was gathered.
     pub(crate) fn take_gathered(&mut self, alloc: Global) -> Vec<Ptr<Operation>>
         ensures taken { result.items ≡ gathered_of self.old }
@@ -122,10 +135,10 @@ impl<U> State<U> {
     /// One level of regions deeper, until the guard is dropped. `None` where the region must be elided; then nothing changes.
     pub fn enter_region(&mut self) -> Option<RegionDepthGuard<'_, U>>
         ensures* unchanged_at_none { sem 𝓛 (RestsIfNone (the_row U.row) self.entry depth_name result (λ n. n ≡ self.old)) }
-        ensures same_reference { IfSome result (λ g. depth_name g ≡ self.entry.ghost_name) }
-        ensures saved { IfSome result (λ g. depth_saved g ≡ limit_of self.old) }
-        ensures state { IfSome result (λ g. depth_state g ≡ with_limit self.old (limit_of (depth_state g))) }
-        ensures limit { IfSome result (λ g. lowered (limit_of self.old) ≡ Some (limit_of (depth_state g))) }
+        ensures same_reference { IfSome result (λ g. g.state.ghost_name ≡ self.entry.ghost_name) }
+        ensures saved { IfSome result (λ g. g.saved ≡ limit_of self.old) }
+        ensures state { IfSome result (λ g. g.state.now ≡ with_limit self.old (limit_of g.state.now)) }
+        ensures limit { IfSome result (λ g. lowered (limit_of self.old) ≡ Some (limit_of g.state.now)) }
         ensures none { IfNone result (lowered (limit_of self.old) ≡ None) }
     {
         let saved = self.limit;
@@ -165,9 +178,9 @@ impl<U> State<U> {
     /// One indentation more, until the guard is dropped. It fails where the spaces don't fit 16 bits, and then changes nothing.
     pub fn indent(&mut self) -> Result<IndentGuard<'_, U>, fmt::Error>
         ensures* unchanged_at_err { sem 𝓛 (RestsIfErr (the_row U.row) self.entry guard_name result (λ n. n ≡ self.old)) }
-        ensures same_reference { IfOk result (λ g. guard_name g ≡ self.entry.ghost_name) }
-        ensures saved { IfOk result (λ g. guard_saved g ≡ indent_of self.old) }
-        ensures state { IfOk result (λ g. guard_state g ≡ with_indent self.old (indent_of self.old + width_of self.old)) }
+        ensures same_reference { IfOk result (λ g. g.state.ghost_name ≡ self.entry.ghost_name) }
+        ensures saved { IfOk result (λ g. g.saved ≡ indent_of self.old) }
+        ensures state { IfOk result (λ g. g.state.now ≡ with_indent self.old (indent_of self.old + width_of self.old)) }
         ensures succeeds { IsOk result ↔ (indent_of self.old + width_of self.old < 2 ^ 16) }
     {
         let saved = self.current_indent;

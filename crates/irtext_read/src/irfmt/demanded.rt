@@ -1,9 +1,9 @@
 //! Tokens that must stand where they are read: a missing one is a committed fault, which leaves the stream failed.
-ghost use Rattle.irtext_base.specs.Answers.{NeedsNoMemory, unless_failed};
 ghost use Rattle.irtext_base.specs.Faults.{characters};
 ghost use Rattle.irtext_read.specs.Tokens.{text_at, identifier_at, number_at, integer_at};
 ghost use Rattle.irtext_read.specs.Demanded.{spaced_at, index_at, symbol_at, braces_at};
 ghost use Rattle.irtext_read.specs.MustRead.{MustRead};
+ghost use Rattle.irtext_read.specs.Reads.{SparesMemory};
 
 use crate::irfmt::faults::{committed, refuse};
 use crate::irfmt::parsers::class::skip_white_space;
@@ -50,7 +50,7 @@ pub fn identifier_demanded<S: CharStream, A>(stream: &mut S) -> ParseResult<Iden
 /// Reads a number below 2 ^ 64 as `int_parse` does, with its faults committed.
 pub fn usize_demanded<S: CharStream, A>(stream: &mut S) -> ParseResult<usize, A>
     ensures read { MustRead S.view S.at (λ n. n) number_at stream.old result stream.new }
-    ensures spares { NeedsNoMemory (unless_failed (S.view stream.old).failed (number_at (S.view stream.old).rest)) result }
+    ensures spares { SparesMemory S.view number_at stream.old result }
 {
     let answer = int_parse(stream);
     committed(stream, answer)
@@ -59,13 +59,14 @@ pub fn usize_demanded<S: CharStream, A>(stream: &mut S) -> ParseResult<usize, A>
 /// Reads an integer of 32 bits as `int_parse` does, with its faults committed.
 pub fn i32_demanded<S: CharStream, A>(stream: &mut S) -> ParseResult<i32, A>
     ensures read { MustRead S.view S.at (λ z. z) integer_at stream.old result stream.new }
-    ensures spares { NeedsNoMemory (unless_failed (S.view stream.old).failed (integer_at (S.view stream.old).rest)) result }
+    ensures spares { SparesMemory S.view integer_at stream.old result }
 {
     let answer = int_parse(stream);
     committed(stream, answer)
 }
 
 /// Reads a fixed text with white space round it.
+#[inline(always)]
 pub fn spaced_text_demanded<S: CharStream, A>(stream: &mut S, text: &str) -> ParseResult<(), A>
     ensures { MustRead S.view S.at (λ u. u) (spaced_at (characters text.now)) stream.old result stream.new }
 {
@@ -79,6 +80,7 @@ pub fn spaced_text_demanded<S: CharStream, A>(stream: &mut S, text: &str) -> Par
 }
 
 /// Reads `!` and an index.
+#[inline(always)]
 pub fn index_demanded<S: CharStream, A>(stream: &mut S) -> ParseResult<usize, A>
     ensures { MustRead S.view S.at (λ n. n) index_at stream.old result stream.new }
 {

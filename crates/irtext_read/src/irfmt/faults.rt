@@ -1,12 +1,12 @@
 //! Faults of readers, and tests of the next character.
-ghost use Rattle.std.specs.Prelude.{◌≡◌, ℕ, List, [], ◌++◌, true};
+ghost use Rattle.std.specs.Prelude.{◌≡◌, [], true};
 ghost use Rattle.irtext_base.specs.Text.{begins};
 ghost use Rattle.irtext_base.specs.Reading.{the};
 ghost use Rattle.irtext_base.specs.Stream.{IsAt, first_of, after_failure};
-ghost use Rattle.irtext_base.specs.Places.{StandsBehind};
 ghost use Rattle.irtext_base.specs.Faults.{fault_of, demand_of, Unexpected};
 ghost use Rattle.irtext_base.specs.Answers.{StarvesHere, Commits, Passes, Demands, DemandsOf};
 ghost use Rattle.irtext_read.specs.Tokens.{has};
+ghost use Rattle.irtext_stream.specs.Places.{AtPlace};
 
 use irtext_base::parsable::{CharStream, Class, ParseFault, ParseResult, Place, SourcePosition};
 use irtext_base::result::{Cause, Expected};
@@ -66,7 +66,7 @@ pub fn refuse<S: CharStream, A>(stream: &mut S, cause: Cause<A>) -> ParseFault<A
 pub fn refuse_at<S: CharStream, A>(stream: &mut S, place: Place, cause: Cause<A>) -> ParseFault<A>
     ensures cause { result.cause ≡ cause }
     ensures committed { result.committed ≡ true }
-    ensures at { (passed rest : List ℕ) → passed ++ rest ≡ (S.view stream.old).passed ++ (S.view stream.old).rest → StandsBehind place passed → IsAt result.pos.line result.pos.column passed }
+    ensures at { AtPlace place (S.view stream.old) (λ passed rest. IsAt result.pos.line result.pos.column passed) }
     ensures left { stream.new ≡ S.at stream.old (after_failure (S.view stream.old)) }
 {
     let pos = stream.locate(place);

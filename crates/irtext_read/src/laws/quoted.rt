@@ -13,5 +13,6 @@ pub fn quoted_comes_back()
 
 /// Where no quotation mark comes, units mean what the first of them means, and then what those behind it mean.
 pub fn unit_by_unit()
-    ensures { (text : List ℕ) → begins (the 34) text ≡ false → units_at [] text ≡ followed (unit_at text) (λ c rest. mapped (λ cs. c ∷ cs) (units_at [] rest)) }
+    ensures { (text : List ℕ) → begins (the 34) text ≡ false →
+        units_at [] text ≡ followed (unit_at text) (λ c rest. mapped (λ cs. c ∷ cs) (units_at [] rest)) }
 {}

@@ -4,10 +4,10 @@ ghost use Rattle.std.specs.Str.{encode_utf8_all};
 ghost use Rattle.std.specs.Map.{lookup};
 ghost use Rattle.irtext_base.specs.Stream.{StreamView, IsAt, first_of, advanced, after_failure};
 ghost use Rattle.irtext_base.specs.Places.{StandsBehind, IsPlaceOf};
-ghost use Rattle.irtext_state.specs.States.{marks_of, same_index, LocatesAt, Marks};
+ghost use Rattle.irtext_state.specs.States.{marks_of, same_index, LocatesAt, Notes};
 ghost use Rattle.irtext_base.specs.declared.location.Location.{Location};
 
-use crate::parsable::marks::NotedMarks;
+use crate::parsable::numbered::Numbered;
 use irtext_base::location::{Location, Source};
 use irtext_base::parsable::{CharStream, Class, ParseResult, Place, SourcePosition, TextStream};
 use irtext_base::text::{AttrText, IrText};
@@ -25,7 +25,7 @@ pub struct State<'c, T, A, U> {
     /// The caller's own.
     pub aux_data: U,
     // the operations that carry a mark for which no section was read yet
-    marks: NotedMarks,
+    marks: Numbered<Ptr<Operation>>,
 }
 
 impl<'c, T: IrText<A>, A: AttrText, U> State<'c, T, A, U> {
@@ -37,7 +37,7 @@ impl<'c, T: IrText<A>, A: AttrText, U> State<'c, T, A, U> {
         ensures aux_data { result.aux_data ≡ aux_data }
         ensures fresh { marks_of result ≡ [] }
     {
-        let marks = NotedMarks::new(ctx.allocator());
+        let marks = Numbered::new(ctx.allocator());
         State {
             ctx,
             src,
@@ -50,7 +50,7 @@ impl<'c, T: IrText<A>, A: AttrText, U> State<'c, T, A, U> {
     pub fn marked(&self, index: usize) -> Option<Ptr<Operation>>
         ensures { result ≡ lookup (same_index index) (marks_of self.now) }
     {
-        self.marks.get(index)
+        self.marks.get(index).copied()
     }
 
     /// Whether a mark is noted.
@@ -72,7 +72,7 @@ pub trait Noting {
 
     /// Notes the mark of an operation; false, and nothing is noted, where the index is noted already.
     fn mark(&mut self, index: usize, op: Ptr<Operation>) -> Result<bool, AllocError>
-        ensures marks { IfOk result (λ noting. Marks index op noting (noted self.old) (noted self.new)) }
+        ensures marks { IfOk result (λ noting. Notes index op noting (noted self.old) (noted self.new)) }
         ensures err { OnErr result (noted self.new ≡ noted self.old) };
 
     /// How many marks are noted.
@@ -93,7 +93,7 @@ impl<'c, T: IrText<A>, A: AttrText, U> Noting for State<'c, T, A, U> {
         ensures ctx { self.new.ctx.now ≡ self.old.ctx.now }
         ensures src { self.new.src ≡ self.old.src }
         ensures aux_data { self.new.aux_data ≡ self.old.aux_data }
-        ensures marks { IfOk result (λ noted. Marks index op noted (marks_of self.old) (marks_of self.new)) }
+        ensures marks { IfOk result (λ noted. Notes index op noted (marks_of self.old) (marks_of self.new)) }
         ensures err { OnErr result (marks_of self.new ≡ marks_of self.old) }
     {
         self.marks.note(index, op)

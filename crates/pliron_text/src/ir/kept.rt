@@ -14,11 +14,12 @@ ghost use Rattle.irtext_outcomes.specs.Promises.KeptRoot.{AllHold, IsKept, RowHo
 ghost use Rattle.irtext_outcomes.specs.Promises.LocationsBack.{AllFit, RowFit};
 ghost use Rattle.irtext_outcomes.specs.Promises.PrintedBack.{Fits32};
 
-use irtext_base::base::{AttrObj, AttributeDict, Identifier, OpId};
+use irtext_base::base::{AttrObj, Identifier, OpId};
 use irtext_base::location::{Location, Source};
 use irtext_base::parsable::SourcePosition;
 use irtext_base::text::{AttrText, IrText};
 use irtext_context::base::{Context, Operation, Ptr};
+use irtext_dict::base::AttributeDict;
 
 /// An identifier is the text of one.
 fn identifier_kept(name: &Identifier)
@@ -98,38 +99,47 @@ fn source_kept<T: IrText<A>, A: AttrText>(src: Source, ctx: &Context<T, A>)
     }
 }
 
-/// A location's paths and names are UTF-8, its numbers fit, and the names in its attributes are identifiers.
+/// A location's paths and names are UTF-8, its numbers fit, and the names in its attributes are identifiers. It takes as much of the
+/// machine's stack as locations stand inside one another in places that aren't the last of what stands in a location.
 #[cycle(kept)]
 fn location_kept<T: IrText<A>, A: AttrText>(location: &Location<A>, ctx: &Context<T, A>)
     ensures fits { AllFit (location_over ctx.now.paths location.now) }
     ensures holds { AllHold IsSpellableAttr (location_over ctx.now.paths location.now) }
 {
-    match location {
-        Location::SrcPos { src, pos } => {
-            source_kept(*src, ctx);
-            position_fits(pos);
+    let mut next = location;
+    loop {
+        match next {
+            Location::SrcPos { src, pos } => {
+                source_kept(*src, ctx);
+                position_fits(pos);
+                return;
+            }
+            Location::Fused {
+                metadata,
+                locations,
+            } => {
+                metadata_kept(metadata);
+                let Some((last, others)) = locations.split_last() else {
+                    return;
+                };
+                locations_kept(others, ctx);
+                next = last;
+            }
+            Location::Named { name: _, child_loc } => next = child_loc,
+            Location::CallSite { callee, caller } => {
+                location_kept(callee, ctx);
+                next = caller;
+            }
+            Location::Unknown => return,
         }
-        Location::Fused {
-            metadata,
-            locations,
-        } => {
-            metadata_kept(metadata);
-            locations_kept(locations, ctx);
-        }
-        Location::Named { name: _, child_loc } => location_kept(child_loc, ctx),
-        Location::CallSite { callee, caller } => {
-            location_kept(callee, ctx);
-            location_kept(caller, ctx);
-        }
-        Location::Unknown => {}
     }
 }
 
 /// The same of each location in a list.
 #[cycle(kept)]
-fn locations_kept<T: IrText<A>, A: AttrText>(locations: &Vec<Location<A>>, ctx: &Context<T, A>)
-    ensures fits { RowFit (row_sourced (path_of ctx.now.paths) (in_row (map location_view locations.now.items))) }
-    ensures holds { RowHold IsSpellableAttr (row_sourced (path_of ctx.now.paths) (in_row (map location_view locations.now.items))) }
+fn locations_kept<T: IrText<A>, A: AttrText>(locations: &[Location<A>], ctx: &Context<T, A>)
+    ensures fits { RowFit (row_sourced (path_of ctx.now.paths) (in_row (map location_view locations.now))) }
+    ensures holds { RowHold IsSpellableAttr (row_sourced (path_of ctx.now.paths) (in_row (map location_view locations.now))) }
 {
     for location in locations {
         location_kept(location, ctx);

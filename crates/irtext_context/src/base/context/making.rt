@@ -7,9 +7,10 @@ ghost use Rattle.irtext_context.specs.Context.{operation, before, KeepsOlder, Al
 use crate::base::operation::{OperationData, push_region, reserve_region};
 use crate::base::region::RegionData;
 use crate::base::{Context, Operation, Ptr, Region};
-use irtext_base::base::{AttributeDict, OpId};
+use irtext_base::base::OpId;
 use irtext_base::location::{Location, PathKey};
 use irtext_base::text::{AttrText, IrText};
+use irtext_dict::base::AttributeDict;
 use std::alloc::AllocError;
 
 /// What makes objects, and gives them back, as a context does.

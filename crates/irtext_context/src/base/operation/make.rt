@@ -8,11 +8,12 @@ ghost use Rattle.irtext_base.specs.declared.location.Location.{Unknown};
 use crate::base::context::making::Making;
 use crate::base::{Context, Operation, Ptr};
 use crate::dialect::invalid;
-use irtext_base::base::{AttributeDict, OpId};
+use irtext_base::base::OpId;
 use irtext_base::location::Location;
 use irtext_base::result;
 use irtext_base::result::{Cause, ErrorKind};
 use irtext_base::text::{AttrText, IrText};
+use irtext_dict::base::AttributeDict;
 use std::alloc::AllocError;
 
 /// Adds as many empty regions to an operation. Those that were added stay where memory is refused or a counter is full.

@@ -7,8 +7,8 @@ ghost use Rattle.irtext_context.specs.Directives.{directives_of};
 ghost use Rattle.irtext_base.specs.Faults.{id_of};
 ghost use Rattle.irtext_print.specs.Printers.ConcreteText as concrete;
 ghost use Rattle.irtext_grammar.specs.Contexts.Formats.{format_of};
-ghost use Rattle.irtext_print.specs.Printers.OnePrinting.{PrintsConcrete};
-ghost use Rattle.irtext_print.specs.Printers.PrintedOperation.{Refuses, language_in, printing_in};
+ghost use Rattle.irtext_print.specs.Printers.OnePrinting.{PrintsConcrete, concrete_gives};
+ghost use Rattle.irtext_print.specs.Printers.PrintedOperation.{Refuses, printing_in};
 ghost use Rattle.irtext_print.specs.declared.printable.refusal.Refusal.TheVariants as refusal;
 
 use crate::ir::print::directives::fmt_directives;
@@ -82,7 +82,7 @@ pub struct OpObj {
 impl<T: IrText<A>, A: AttrText, U> Printable<U, T, A> for OpObj {
     ghost can_print = { λ obj ctx. IsSome (operation ctx obj.op) };
 
-    ghost gives = { λ obj ctx s. concrete.printed_concrete (language_in T.IrText.own A.IrText.own ctx) (printing_in A.AttrText.own A.eq ctx) ctx obj.op s };
+    ghost gives = { λ obj ctx s. concrete_gives T.IrText.own A.IrText.own A.AttrText.own A.eq ctx obj.op s };
 
     ghost prints = { λ obj ctx s b t d. PrintsConcrete T.IrText.own A.IrText.own A.AttrText.own A.eq ctx obj.op s b t d };
 

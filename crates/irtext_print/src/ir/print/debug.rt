@@ -1,10 +1,9 @@
 //! An operation's text for those who debug: regions are elided, and nothing is told of marks.
-ghost use Rattle.std.specs.Prelude.{◌≡◌, ◌≢◌, ◌++◌, OnOk, IfErr, IsSome, IfSome, false, string_bytes};
+ghost use Rattle.std.specs.Prelude.{OnOk, IfErr, IsSome};
 ghost use Rattle.irtext_context.specs.Context.{operation};
-ghost use Rattle.irtext_print.specs.Printers.ConcreteText as concrete;
-ghost use Rattle.irtext_print.specs.Printers.OnePrinting.{PrintsConcrete};
-ghost use Rattle.irtext_print.specs.Printers.PrintedOperation.{is_printed_in, language_in, printing_in};
-ghost use Rattle.irtext_print.specs.declared.printable.refusal.Refusal.TheVariants as refusal;
+ghost use Rattle.irtext_print.specs.Printers.ConcreteText.{debugging};
+ghost use Rattle.irtext_print.specs.Printers.OnePrinting.{PrintsElided, WritesElided, elided_gives};
+ghost use Rattle.irtext_print.specs.Printers.PrintedOperation.{Refuses, printing_in};
 
 use crate::ir::print::concrete::print_concrete;
 use crate::printable::Refusal;
@@ -20,8 +19,8 @@ fn fmt_dbg<T: IrText<A>, A: AttrText>(
     f: &mut String,
 ) -> Result<(), Refusal>
     requires live { IsSome (operation ctx.now op) }
-    ensures prints { OnOk result (PrintsConcrete T.IrText.own A.IrText.own A.AttrText.own A.eq ctx.now op concrete.debugging f.old concrete.debugging f.new) }
-    ensures refused { IfErr result (λ e. e ≢ refusal.Memory → (e ≡ refusal.Misfit) × (is_printed_in (printing_in A.AttrText.own A.eq ctx.now) (operation ctx.now op) ≡ false)) }
+    ensures prints { OnOk result (PrintsElided T.IrText.own A.IrText.own A.AttrText.own A.eq ctx.now op f.old f.new) }
+    ensures refused { IfErr result (Refuses (printing_in A.AttrText.own A.eq ctx.now) (operation ctx.now op) debugging) }
 {
     let mut state = State::new(ctx.allocator(), ());
     state.set_region_print_depth_limit(RegionPrintDepthLimit::Max(0));
@@ -36,8 +35,8 @@ pub fn print_dbg<T: IrText<A>, A: AttrText>(
     f: &mut String,
 ) -> fmt::Result
     requires live { IsSome (operation ctx.now op) }
-    ensures prints { OnOk result (PrintsConcrete T.IrText.own A.IrText.own A.AttrText.own A.eq ctx.now op concrete.debugging f.old concrete.debugging f.new) }
-    ensures defined { OnOk result (IfSome (concrete.debug_text (language_in T.IrText.own A.IrText.own ctx.now) (printing_in A.AttrText.own A.eq ctx.now) ctx.now op) (λ text. string_bytes f.new ≡ string_bytes f.old ++ text)) }
+    ensures prints { OnOk result (PrintsElided T.IrText.own A.IrText.own A.AttrText.own A.eq ctx.now op f.old f.new) }
+    ensures defined { OnOk result (WritesElided T.IrText.own A.IrText.own A.AttrText.own A.eq ctx.now op f.old f.new) }
 {
     fmt_dbg(ctx, op, f)?;
     Ok(())
@@ -54,7 +53,7 @@ pub struct OpDbg<'a, T: IrText<A>, A: AttrText> {
 }
 
 impl<T: IrText<A>, A: AttrText> fmt::Display for OpDbg<'_, T, A> {
-    ghost output = { λ d. concrete.debug_text (language_in T.IrText.own A.IrText.own d.ctx.now) (printing_in A.AttrText.own A.eq d.ctx.now) d.ctx.now d.op };
+    ghost output = { λ d. elided_gives T.IrText.own A.IrText.own A.AttrText.own A.eq d.ctx.now d.op };
 
     fn fmt<W: fmt::Write>(&self, f: &mut fmt::Formatter<W>) -> fmt::Result {
         if !self.ctx.contains_operation(self.op) {
@@ -67,7 +66,7 @@ impl<T: IrText<A>, A: AttrText> fmt::Display for OpDbg<'_, T, A> {
 }
 
 impl<T: IrText<A>, A: AttrText> fmt::Debug for OpDbg<'_, T, A> {
-    ghost debug_output = { λ d. concrete.debug_text (language_in T.IrText.own A.IrText.own d.ctx.now) (printing_in A.AttrText.own A.eq d.ctx.now) d.ctx.now d.op };
+    ghost debug_output = { λ d. elided_gives T.IrText.own A.IrText.own A.AttrText.own A.eq d.ctx.now d.op };
 
     fn fmt<W: fmt::Write>(&self, f: &mut fmt::Formatter<W>) -> fmt::Result {
         fmt::Display::fmt(self, f)

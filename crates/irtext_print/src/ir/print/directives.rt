@@ -11,9 +11,9 @@ use crate::ir::print::regions::{fmt_next_region, fmt_regions};
 use crate::printable::Refusal;
 use crate::printable::refusal::memory_alone;
 use crate::printable::state::State;
-use irtext_base::base::AttributeDict;
 use irtext_base::format::Directive;
 use irtext_base::text::AttrText;
+use irtext_dict::base::AttributeDict;
 use std::fmt;
 
 /// A number, behind a call that fails only where memory is refused.
@@ -35,10 +35,12 @@ fn fmt_directive<A: AttrText, U>(
     state: &mut State<U>,
     f: &mut String,
 ) -> Result<usize, Refusal>
-    ensures text { OnOk result (AppendsText f.old (pieces.directive_text A.IrText.written A.outlined (directives_of directives.now) (entries_of attributes.now) (pieces.region_text state.old) left (directive_of directive.now)) f.new) }
+    ensures text { OnOk result (AppendsText f.old (pieces.directive_text A.IrText.written A.outlined
+        (directives_of directives.now) (entries_of attributes.now) (pieces.region_text state.old) left
+        (directive_of directive.now)) f.new) }
     ensures left { IfOk result (λ n. n ≡ pieces.left_behind left (directive_of directive.now)) }
     ensures state { state.new ≡ state.old }
-    ensures refused { IfErr result (pieces.RefusesRegion state.old) }
+    ensures refused { IfErr result (pieces.RefusesRegions left state.old) }
 {
     match directive {
         Directive::Literal(word) => behind(fmt_word(word.as_str(), f), left),
@@ -63,9 +65,11 @@ pub(crate) fn fmt_directives<A: AttrText, U>(
     state: &mut State<U>,
     f: &mut String,
 ) -> Result<(), Refusal>
-    ensures text { OnOk result (AppendsText f.old (pieces.directives_text A.IrText.written A.outlined (directives_of directives.now) (entries_of attributes.now) (pieces.region_text state.old) regions (directives_of directives.now)) f.new) }
+    ensures text { OnOk result (AppendsText f.old (pieces.directives_text A.IrText.written A.outlined
+        (directives_of directives.now) (entries_of attributes.now) (pieces.region_text state.old) regions
+        (directives_of directives.now)) f.new) }
     ensures state { state.new ≡ state.old }
-    ensures refused { IfErr result (pieces.RefusesRegion state.old) }
+    ensures refused { IfErr result (pieces.RefusesRegions regions state.old) }
 {
     let mut left = regions;
     for directive in directives {

@@ -4,17 +4,18 @@ ghost use Rattle.std.specs.List.{list_all};
 ghost use Rattle.irtext_context.specs.Directives.{directive_of, directives_of};
 ghost use Rattle.irtext_base.specs.Format as format;
 ghost use Rattle.irtext_base.specs.Format.{count, region_places};
-ghost use Rattle.irtext_context.specs.Context.{OperationView, operation};
+ghost use Rattle.irtext_context.specs.Context.{operation};
 ghost use Rattle.irtext_print.specs.Printers.FitFaults as faults;
-ghost use Rattle.irtext_print.specs.Printers.PieceText.{outlining, is_key_written};
+ghost use Rattle.irtext_print.specs.Printers.PieceText.{outlining};
 ghost use Rattle.irtext_print.specs.Printers.PrintedOperation as printed;
 ghost use Rattle.irtext_grammar.specs.Contexts.Held.{entries_of};
 
 use crate::ir::print::pieces::{is_key_written, is_outlined, symbol_of};
-use irtext_base::base::{AttributeDict, Identifier};
+use irtext_base::base::Identifier;
 use irtext_base::format::{Directive, OpFormat};
 use irtext_base::text::{AttrText, IrText};
 use irtext_context::base::{Context, Operation, Ptr};
+use irtext_dict::base::AttributeDict;
 use std::fmt;
 use std::fmt::Display;
 
@@ -173,7 +174,7 @@ fn first_unwritten<'c, A: AttrText>(
     attributes: &'c AttributeDict<A>,
     directives: &[Directive],
 ) -> Option<&'c Identifier>
-    ensures { option_copied result ≡ faults.first_key (λ e. not (is_key_written e.0 (directives_of directives.now))) (entries_of attributes.now) }
+    ensures { option_copied result ≡ faults.first_unwritten (directives_of directives.now) (entries_of attributes.now) }
 {
     for (key, _attr) in attributes.iter() {
         if !is_key_written(directives, key.as_str()) {
@@ -215,8 +216,8 @@ pub(crate) fn check_parts<'c, A: AttrText>(
     attributes: &'c AttributeDict<A>,
     regions: usize,
 ) -> Result<(), FitFault<'c>>
-    ensures fits { is_ok result ≡ printed.fits_directives (outlining A.outlined) (directives_of directives.now) (entries_of attributes.now) regions }
-    ensures fault { IfErr result (faults.IsFirst (faults.IsPartFault A.outlined (directives_of directives.now) (entries_of attributes.now) regions)) }
+    ensures fits { is_ok result ≡ printed.fits_parts A.outlined directives.now attributes.now regions }
+    ensures fault { IfErr result (faults.IsFirstOfParts A.outlined directives.now attributes.now regions) }
 {
     if !all_supported(directives) {
         return Err(FitFault::Unsupported);
@@ -250,7 +251,7 @@ pub fn check_fits<'c, T: IrText<A>, A: AttrText>(
 ) -> Result<(), FitFault<'c>>
     requires live { IsSome (operation ctx.now op) }
     ensures fits { is_ok result ≡ printed.is_printed_in (printed.printing_in A.AttrText.own A.eq ctx.now) (operation ctx.now op) }
-    ensures fault { (view : OperationView T A) → operation ctx.now op ≡ Some view → IfErr result (faults.IsFirst (faults.IsFault (printed.printing_in A.AttrText.own A.eq ctx.now) view)) }
+    ensures fault { IfErr result (faults.IsFirstOf (printed.printing_in A.AttrText.own A.eq ctx.now) (operation ctx.now op)) }
 {
     let Some(info) = ctx.op_info(op.get_opid(ctx)) else {
         return Err(FitFault::NotRegistered);

@@ -11,9 +11,10 @@ ghost use Rattle.irtext_grammar.specs.Spelling.Spell as spell;
 ghost use Rattle.irtext_grammar.specs.Contexts.Held.{attribute_of, entries_of};
 
 use crate::printable::attributes::fmt_attr;
-use irtext_base::base::{AttrObj, AttributeDict, Identifier};
+use irtext_base::base::{AttrObj, Identifier};
 use irtext_base::format::Directive;
 use irtext_base::text::AttrText;
+use irtext_dict::base::AttributeDict;
 use std::fmt;
 
 /// Whether no space stands before a word that begins with this character.
@@ -72,7 +73,7 @@ pub(crate) fn fmt_keyed<A: AttrText>(
     key: &Identifier,
     f: &mut String,
 ) -> fmt::Result
-    ensures { OnOk result (AppendsText f.old (pieces.spaced_if (pieces.inline_text_in A.IrText.written A.outlined (graph.lookup key.now (entries_of attributes.now)))) f.new) }
+    ensures { OnOk result (AppendsText f.old (pieces.keyed_text A.IrText.written A.outlined key.now (entries_of attributes.now)) f.new) }
 {
     let Some(attr) = attributes.get(key) else {
         return Ok(());
@@ -103,7 +104,7 @@ pub(crate) fn symbol_of<A: AttrText>(attributes: &AttributeDict<A>) -> Option<&I
 
 /// Appends the symbol's name behind a space and `@`, where it is there.
 pub(crate) fn fmt_symbol<A: AttrText>(attributes: &AttributeDict<A>, f: &mut String) -> fmt::Result
-    ensures { OnOk result (AppendsText f.old (pieces.symbol_text (pieces.symbol_in (graph.lookup sym_name_key (entries_of attributes.now)))) f.new) }
+    ensures { OnOk result (AppendsText f.old (pieces.header_text (entries_of attributes.now)) f.new) }
 {
     let Some(symbol) = symbol_of(attributes) else {
         return Ok(());
@@ -133,7 +134,7 @@ pub(crate) fn is_key_written(directives: &[Directive], key: &str) -> bool
 
 /// Whether the dictionary writes an entry: no other directive does, and it is not outlined.
 fn is_listed<A: AttrText>(directives: &[Directive], key: &Identifier, attr: &AttrObj<A>) -> bool
-    ensures { result ≡ (not (graph.outlined (pieces.outlining A.outlined) (attribute_of attr.now)) && not (pieces.is_key_written key.now (directives_of directives.now))) }
+    ensures { result ≡ pieces.is_listed A.outlined (directives_of directives.now) (key.now, attribute_of attr.now) }
 {
     !is_outlined(attr) && !is_key_written(directives, key.as_str())
 }
@@ -145,7 +146,7 @@ fn fmt_entry<A: AttrText>(
     attr: &AttrObj<A>,
     f: &mut String,
 ) -> fmt::Result
-    ensures { OnOk result (AppendsText f.old (cond first [] spell.comma ++ pieces.entry_text A.IrText.written (key.now, attribute_of attr.now)) f.new) }
+    ensures { OnOk result (AppendsText f.old (pieces.next_text A.IrText.written first (key.now, attribute_of attr.now)) f.new) }
 {
     if !first {
         f.push_str(", ")?;
@@ -161,7 +162,8 @@ fn fmt_entries<A: AttrText>(
     directives: &[Directive],
     f: &mut String,
 ) -> fmt::Result
-    ensures { OnOk result (AppendsText f.old (pieces.rows_text A.IrText.written (pieces.dictionary_entries A.outlined (directives_of directives.now) (entries_of attributes.now))) f.new) }
+    ensures { OnOk result (AppendsText f.old
+        (pieces.listed_text A.IrText.written A.outlined (directives_of directives.now) (entries_of attributes.now)) f.new) }
 {
     let mut first = true;
     for (key, attr) in attributes.iter() {
@@ -179,7 +181,8 @@ pub(crate) fn fmt_dictionary<A: AttrText>(
     directives: &[Directive],
     f: &mut String,
 ) -> fmt::Result
-    ensures { OnOk result (AppendsText f.old (codes " [" ++ (pieces.rows_text A.IrText.written (pieces.dictionary_entries A.outlined (directives_of directives.now) (entries_of attributes.now)) ++ codes "]")) f.new) }
+    ensures { OnOk result (AppendsText f.old
+        (pieces.dictionary_text A.IrText.written A.outlined (directives_of directives.now) (entries_of attributes.now)) f.new) }
 {
     f.push_str(" [")?;
     fmt_entries(attributes, directives, f)?;

@@ -57,7 +57,7 @@ pub(crate) fn fmt_next_region<U>(
     ensures text { OnOk result (AppendsText f.old (cond (left == 0) [] (pieces.spaced (pieces.region_text state.old))) f.new) }
     ensures left { IfOk result (λ n. n ≡ left - 1) }
     ensures state { state.new ≡ state.old }
-    ensures refused { IfErr result (pieces.RefusesRegion state.old) }
+    ensures refused { IfErr result (pieces.RefusesRegions left state.old) }
 {
     if left == 0 {
         return Ok(0);
@@ -76,7 +76,7 @@ pub(crate) fn fmt_regions<U>(
     ensures text { OnOk result (AppendsText f.old (pieces.spaced (pieces.repeated count (pieces.region_text state.old))) f.new) }
     ensures left { IfOk result (λ n. n ≡ 0) }
     ensures state { state.new ≡ state.old }
-    ensures refused { IfErr result (pieces.RefusesRegion state.old) }
+    ensures refused { IfErr result (pieces.RefusesRegions count state.old) }
 {
     f.push_str(" ")?;
     for _index in 0..count {

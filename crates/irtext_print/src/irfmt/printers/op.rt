@@ -1,7 +1,7 @@
 //! Printers of an operation's parts: its header, with a type too, and its one region.
-ghost use Rattle.std.specs.Prelude.{◌≡◌, OnOk, IfErr, IsSome, string_bytes};
+ghost use Rattle.std.specs.Prelude.{◌≡◌, OnOk, IfErr, IsSome};
 ghost use Rattle.irtext_context.specs.Context.{operation};
-ghost use Rattle.irtext_print.specs.Printers.OnePrinting.{PartPrinted, PartWritten};
+ghost use Rattle.irtext_print.specs.Printers.OnePrinting.{PrintsPart, WritesPart};
 ghost use Rattle.irtext_print.specs.Printers.OpPrinters as parts;
 ghost use Rattle.irtext_print.specs.Printers.PieceText.{IsTooDeep};
 
@@ -68,7 +68,7 @@ pub fn print_symb_op_header<T: IrText<A>, A: AttrText>(
     f: &mut String,
 ) -> Result<(), Refusal>
     requires live { IsSome (operation ctx.now op) }
-    ensures prints { OnOk result (PartWritten parts.header_of ctx.now op (string_bytes f.old) (string_bytes f.new)) }
+    ensures prints { OnOk result (WritesPart parts.header_of ctx.now op f.old f.new) }
     ensures refused { IfErr result (parts.RefusesPart ⊥ parts.header_of ctx.now op) }
 {
     let id = op.get_opid(ctx);
@@ -90,7 +90,7 @@ pub fn print_typed_symb_op_header<T: IrText<A>, A: AttrText>(
     f: &mut String,
 ) -> Result<(), Refusal>
     requires live { IsSome (operation ctx.now op) }
-    ensures prints { OnOk result (PartWritten (parts.typed_header_of (T.written ty.now)) ctx.now op (string_bytes f.old) (string_bytes f.new)) }
+    ensures prints { OnOk result (WritesPart (parts.typed_header_of (T.written ty.now)) ctx.now op f.old f.new) }
     ensures refused { IfErr result (parts.RefusesPart ⊥ (parts.typed_header_of (T.written ty.now)) ctx.now op) }
 {
     print_symb_op_header(ctx, op, f)?;
@@ -108,7 +108,7 @@ pub fn print_region<T: IrText<A>, A: AttrText, U>(
     f: &mut String,
 ) -> Result<(), Refusal>
     requires live { IsSome (operation ctx.now op) }
-    ensures prints { OnOk result (PartPrinted (parts.region_of state.old) ctx.now op state.old (string_bytes f.old) state.new (string_bytes f.new)) }
+    ensures prints { OnOk result (PrintsPart (parts.region_of state.old) ctx.now op state.old f.old state.new f.new) }
     ensures state { state.new ≡ state.old }
     ensures refused { IfErr result (parts.RefusesPart (IsTooDeep state.old) (parts.region_of state.old) ctx.now op) }
 {
@@ -123,7 +123,7 @@ impl<T: IrText<A>, A: AttrText, U> Printable<U, T, A> for SymbHeader {
 
     ghost gives = { λ h ctx s. parts.printed_part parts.header_of ctx h.op s };
 
-    ghost prints = { λ h ctx s b t d. PartPrinted parts.header_of ctx h.op s (string_bytes b) t (string_bytes d) };
+    ghost prints = { λ h ctx s b t d. PrintsPart parts.header_of ctx h.op s b t d };
 
     fn fmt(&self, ctx: &Context<T, A>, _state: &mut State<U>, f: &mut String) -> fmt::Result {
         print_symb_op_header(ctx, self.op, f)?;
@@ -136,7 +136,7 @@ impl<T: IrText<A>, A: AttrText, U> Printable<U, T, A> for TypedSymbHeader<'_, T>
 
     ghost gives = { λ h ctx s. parts.printed_part (parts.typed_header_of (T.written h.ty.now)) ctx h.op s };
 
-    ghost prints = { λ h ctx s b t d. PartPrinted (parts.typed_header_of (T.written h.ty.now)) ctx h.op s (string_bytes b) t (string_bytes d) };
+    ghost prints = { λ h ctx s b t d. PrintsPart (parts.typed_header_of (T.written h.ty.now)) ctx h.op s b t d };
 
     fn fmt(&self, ctx: &Context<T, A>, _state: &mut State<U>, f: &mut String) -> fmt::Result {
         print_typed_symb_op_header(ctx, self.op, self.ty, f)?;
@@ -149,7 +149,7 @@ impl<T: IrText<A>, A: AttrText, U> Printable<U, T, A> for OneRegion {
 
     ghost gives = { λ r ctx s. parts.printed_part (parts.region_of s) ctx r.op s };
 
-    ghost prints = { λ r ctx s b t d. PartPrinted (parts.region_of s) ctx r.op s (string_bytes b) t (string_bytes d) };
+    ghost prints = { λ r ctx s b t d. PrintsPart (parts.region_of s) ctx r.op s b t d };
 
     fn fmt(&self, ctx: &Context<T, A>, state: &mut State<U>, f: &mut String) -> fmt::Result {
         print_region(ctx, self.op, state, f)?;

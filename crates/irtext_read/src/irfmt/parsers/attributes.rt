@@ -34,7 +34,8 @@ pub(crate) enum Lead {
 fn take_word<S: CharStream>(stream: &mut S, word: &str) -> bool
     requires { list_all in_dotted word.now ≡ true }
     ensures { MatchBool result
-        ((leads word.now (S.view stream.old).rest ≡ true) × Takes S.view S.at word.now (after in_dotted (S.view stream.old).rest) stream.old stream.new)
+        ((leads word.now (S.view stream.old).rest ≡ true)
+        × Takes S.view S.at word.now (after in_dotted (S.view stream.old).rest) stream.old stream.new)
         ((leads word.now (S.view stream.old).rest ≡ false) × (stream.new ≡ stream.old)) }
 {
     let place = stream.position();
@@ -81,7 +82,8 @@ fn names<S: CharStream, A: Drop>(stream: &mut S) -> ParseResult<Vec<Option<Ident
 
 /// Given names between brackets, behind their word.
 fn given_names<S: CharStream, A: Drop>(stream: &mut S) -> ParseResult<Vec<Option<Identifier>>, A>
-    ensures { (S.view stream.old).failed ≡ false → MustRead S.view S.at (λ names. names.items) bracketed_names_at stream.old result stream.new }
+    ensures { (S.view stream.old).failed ≡ false →
+        MustRead S.view S.at (λ names. names.items) bracketed_names_at stream.old result stream.new }
 {
     skip_white_space(stream);
     text_demanded(stream, "[")?;

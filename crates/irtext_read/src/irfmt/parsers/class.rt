@@ -1,8 +1,7 @@
 //! Classes of characters, and the front of a text that is of one class.
 ghost use Rattle.std.specs.Char.{is_whitespace};
-ghost use Rattle.irtext_base.specs.Text.{front, after, after_space};
-ghost use Rattle.irtext_base.specs.Answers.{Takes};
 ghost use Rattle.irtext_read.specs.Tokens.{has};
+ghost use Rattle.irtext_read.specs.Reads.{TakesFront};
 
 use irtext_base::parsable::CharStream;
 pub use irtext_base::parsable::Class;
@@ -11,7 +10,7 @@ pub use irtext_base::parsable::Class;
 #[inline]
 #[tactic(auto, using(irtext_base::proofs::Along::fronts))]
 pub fn skip_class<S: CharStream>(stream: &mut S, class: Class)
-    ensures { Takes S.view S.at (front (has class) (S.view stream.old).rest) (after (has class) (S.view stream.old).rest) stream.old stream.new }
+    ensures { TakesFront S.view S.at (has class) stream.old stream.new }
 {
     stream.skip(class);
 }
@@ -19,7 +18,7 @@ pub fn skip_class<S: CharStream>(stream: &mut S, class: Class)
 /// Passes white space, on a failed stream too.
 #[inline]
 pub fn skip_white_space<S: CharStream>(stream: &mut S)
-    ensures { Takes S.view S.at (front is_whitespace (S.view stream.old).rest) (after_space (S.view stream.old).rest) stream.old stream.new }
+    ensures { TakesFront S.view S.at is_whitespace stream.old stream.new }
 {
     skip_class(stream, Class::WhiteSpace)
 }

@@ -1,15 +1,17 @@
 //! The reader of digits in a radix.
-ghost use Rattle.std.specs.Prelude.{◌≡◌, ℕ, List, ◌++◌, ◌⊎◌, true, Option};
+ghost use Rattle.std.specs.Prelude.{◌≡◌, true, Some};
 ghost use Rattle.std.specs.Char.{digit_value};
+ghost use Rattle.std.specs.List.{list_all};
 ghost use Rattle.std.specs.Str.{encode_utf8_all};
-ghost use Rattle.irtext_base.specs.Text.{front, after};
-ghost use Rattle.irtext_base.specs.Places.{StandsBehind};
+ghost use Rattle.irtext_base.specs.Text.{front};
 ghost use Rattle.irtext_base.specs.Faults.{NumberRange};
-ghost use Rattle.irtext_base.specs.Answers.{Takes, StarvesHere, FailsBehind};
 ghost use Rattle.irtext_read.specs.Digits.{base, is_digit_in, appended, value_in};
+ghost use Rattle.irtext_read.specs.Tokens.{has};
+ghost use Rattle.irtext_stream.specs.Places.{SincePlace, HasPassed};
+ghost use Rattle.irtext_read.specs.Reads.{TakesFront, StarvesOrFails};
 
 use crate::irfmt::faults::{out_of_memory, refuse_at};
-use crate::irfmt::parsers::class::Class;
+use crate::irfmt::parsers::class::{Class, skip_class};
 use irtext_base::parsable::{CharStream, ParseFault, Place};
 use irtext_base::result::Cause;
 
@@ -27,14 +29,21 @@ impl Radix {
     pub fn has(self, c: char) -> bool
         ensures { result ≡ is_digit_in self c }
     {
+        self.class().has(c)
+    }
+
+    /// The class of the radix's digits.
+    fn class(self) -> Class
+        ensures { has result ≡ is_digit_in self }
+    {
         match self {
-            Radix::Decimal => Class::Digit.has(c),
-            Radix::Hexadecimal => Class::HexadecimalDigit.has(c),
+            Radix::Decimal => Class::Digit,
+            Radix::Hexadecimal => Class::HexadecimalDigit,
         }
     }
 
     /// How many digits there are.
-    fn base(self) -> u32
+    fn base(self) -> u64
         ensures { result ≡ base self }
     {
         match self {
@@ -44,31 +53,49 @@ impl Radix {
     }
 }
 
-/// The number with one more digit behind it, where it fits 64 bits.
-fn append_digit(number: Option<u64>, radix: Radix, c: char) -> Option<u64>
-    requires { is_digit_in radix c ≡ true }
-    ensures { result ≡ appended (base radix) number (digit_value c) }
+/// What a digit of the radix stands for.
+fn digit_value(digit: u8, radix: Radix) -> u8
+    requires { is_digit_in radix digit ≡ true }
+    ensures { result ≡ digit_value digit }
 {
-    let base = radix.base();
-    let digit = c.to_digit(base)?;
-    number?.checked_mul(base as u64)?.checked_add(digit as u64)
+    match radix {
+        // a letter's place in the alphabet, in both cases
+        Radix::Hexadecimal if b'9' < digit => digit % 32 + 9,
+        _ => digit - b'0',
+    }
+}
+
+/// The number with one more digit behind it, where it fits 64 bits.
+#[inline(always)]
+fn append_digit(number: u64, radix: Radix, digit: u8) -> Option<u64>
+    requires { is_digit_in radix digit ≡ true }
+    ensures { result ≡ appended (base radix) (Some number) (digit_value digit) }
+{
+    number
+        .checked_mul(radix.base())?
+        .checked_add(digit_value(digit, radix) as u64)
+}
+
+/// The number that digits write, where it fits 64 bits.
+fn value_of(digits: &[u8], radix: Radix) -> Option<u64>
+    requires { list_all (is_digit_in radix) digits.now ≡ true }
+    ensures { result ≡ value_in (base radix) digits.now }
+{
+    let mut number = 0;
+    for digit in digits {
+        number = append_digit(number, radix, *digit)?;
+    }
+    Some(number)
 }
 
 /// Passes digits, as far as they go, and answers the number that they write, where it fits 64 bits.
-#[tactic(auto, using(irtext_base::proofs::Along::fronts))]
 pub fn take_digits<S: CharStream>(stream: &mut S, radix: Radix) -> Option<u64>
     ensures value { result ≡ value_in (base radix) (front (is_digit_in radix) (S.view stream.old).rest) }
-    ensures takes { Takes S.view S.at (front (is_digit_in radix) (S.view stream.old).rest) (after (is_digit_in radix) (S.view stream.old).rest) stream.old stream.new }
+    ensures takes { TakesFront S.view S.at (is_digit_in radix) stream.old stream.new }
 {
-    let mut number = Some(0);
-    while let Some(c) = stream.peek() {
-        if !radix.has(c) {
-            break;
-        }
-        let _ = stream.take();
-        number = append_digit(number, radix, c);
-    }
-    number
+    let place = stream.position();
+    skip_class(stream, radix.class());
+    value_of(stream.text_since(place).as_bytes(), radix)
 }
 
 /// The fault of a number that doesn't fit, at the place where it began. Where there is no memory for its text, that is the fault, where
@@ -76,9 +103,9 @@ pub fn take_digits<S: CharStream>(stream: &mut S, radix: Radix) -> Option<u64>
 #[cold]
 #[inline(never)]
 pub fn out_of_range<S: CharStream, A>(stream: &mut S, place: Place) -> ParseFault<A>
-    requires { (passed taken : List ℕ) × (passed ++ taken ≡ (S.view stream.old).passed) × StandsBehind place passed }
-    ensures { (passed taken : List ℕ) → passed ++ taken ≡ (S.view stream.old).passed → StandsBehind place passed →
-        StarvesHere S.view S.at stream.old result stream.new ⊎ FailsBehind S.view S.at (NumberRange (encode_utf8_all taken)) passed stream.old result stream.new }
+    requires { HasPassed place (S.view stream.old) }
+    ensures { SincePlace place (S.view stream.old) (λ passed taken.
+        StarvesOrFails S.view S.at (NumberRange (encode_utf8_all taken)) passed stream.old result stream.new) }
 {
     match String::from_str(stream.allocator(), stream.text_since(place)) {
         Ok(text) => refuse_at(stream, place, Cause::NumberRange(text)),

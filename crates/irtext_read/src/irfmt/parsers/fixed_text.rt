@@ -1,10 +1,11 @@
 //! The reader of fixed texts, a format's literals among them.
 ghost use Rattle.std.specs.Prelude.{◌≡◌, IfOk, false};
-ghost use Rattle.irtext_base.specs.Answers.{Answers, NeedsNoMemory, unless_failed};
+ghost use Rattle.irtext_base.specs.Answers.{Answers, NeedsNoMemory};
 ghost use Rattle.irtext_base.specs.Faults.{Unexpected, Word, characters, demand_of};
 ghost use Rattle.irtext_base.specs.Stream.{first_of};
 ghost use Rattle.irtext_read.specs.Spelled.{Spells, Misses};
 ghost use Rattle.irtext_read.specs.Tokens.{text_at};
+ghost use Rattle.irtext_read.specs.Reads.{ReadsAs, SparesMemory};
 
 use crate::irfmt::faults::{commit, next_is, out_of_memory, refuse, unexpected};
 use irtext_base::parsable::{CharStream, ParseFault, ParseResult};
@@ -74,8 +75,8 @@ fn spelled_parse<S: CharStream, A>(stream: &mut S, text: &str) -> ParseResult<()
 /// more than 24 bytes is copied for the fault; where there is no memory for it, that is the fault.
 #[inline]
 pub fn text_parse<S: CharStream, A>(stream: &mut S, text: &str) -> ParseResult<(), A>
-    ensures answers { Answers S.view S.at (λ u. u) (unless_failed (S.view stream.old).failed (text_at (characters text.now) (S.view stream.old).rest)) stream.old result stream.new }
-    ensures spares { NeedsNoMemory (unless_failed (S.view stream.old).failed (text_at (characters text.now) (S.view stream.old).rest)) result }
+    ensures answers { ReadsAs S.view S.at (λ u. u) (text_at (characters text.now)) stream.old result stream.new }
+    ensures spares { SparesMemory S.view (text_at (characters text.now)) stream.old result }
 {
     if stream.has_failed() {
         return Err(refuse(stream, Cause::StreamFailed));

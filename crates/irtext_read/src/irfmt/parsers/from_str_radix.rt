@@ -1,5 +1,5 @@
 //! Number types that are read from a text.
-ghost use Rattle.std.specs.Prelude.{◌≡◌, ◌≤◌, ◌^◌, ℕ, ℤ, pos, Bool, List, Result, true, false};
+ghost use Rattle.std.specs.Prelude.{◌≡◌, ◌<◌, ◌≤◌, ◌^◌, ◌+◌, ◌≤ℤ◌, ◌<ℤ◌, neg_ℤ, ℕ, ℤ, pos, Bool, cond, IfSome, List, Result, true, false};
 ghost use Rattle.std.specs.Int.{w8, w16, w32, w64};
 ghost use Rattle.std.specs.Option.{option_map};
 ghost use Rattle.std.specs.Str.Parse.{ExplainsSignedError, ExplainsUnsignedError, ParsesSigned, ParsesUnsigned};
@@ -139,6 +139,29 @@ impl FromStrRadix for usize {
     ghost narrow = { elim [ true ↦ lit≤ tt | false ↦ lit≤ tt ] };
 }
 
+/// The integer of a magnitude, where it is one of so many that fit; behind a minus one more fits.
+fn signed(negative: bool, magnitude: u64, limit: u64) -> Option<i64>
+    requires some { 0 < limit }
+    requires fits { limit ≤ 2 ^ 63 }
+    ensures value { result ≡ within (λ negative. cond negative (limit + 1) limit) negative magnitude }
+    ensures low { IfSome result (λ z. neg_ℤ (pos limit) ≤ℤ z) }
+    ensures high { IfSome result (λ z. z <ℤ pos limit) }
+{
+    if negative {
+        if magnitude > limit {
+            return None;
+        }
+        if magnitude == 0 {
+            return Some(0);
+        }
+        return Some(-1 - (magnitude - 1) as i64);
+    }
+    if magnitude >= limit {
+        return None;
+    }
+    Some(magnitude as i64)
+}
+
 impl FromStrRadix for i8 {
     ghost number = { λ z. z };
 
@@ -151,16 +174,7 @@ impl FromStrRadix for i8 {
     }
 
     fn from_magnitude(negative: bool, magnitude: u64) -> Option<i8> {
-        if negative {
-            if magnitude > 128 {
-                return None;
-            }
-            return Some((0 - magnitude as i64) as i8);
-        }
-        if magnitude > 127 {
-            return None;
-        }
-        Some(magnitude as i8)
+        Some(signed(negative, magnitude, 128)? as i8)
     }
 
     ghost narrow = { elim [ true ↦ lit≤ tt | false ↦ lit≤ tt ] };
@@ -178,16 +192,7 @@ impl FromStrRadix for i16 {
     }
 
     fn from_magnitude(negative: bool, magnitude: u64) -> Option<i16> {
-        if negative {
-            if magnitude > 32768 {
-                return None;
-            }
-            return Some((0 - magnitude as i64) as i16);
-        }
-        if magnitude > 32767 {
-            return None;
-        }
-        Some(magnitude as i16)
+        Some(signed(negative, magnitude, 32768)? as i16)
     }
 
     ghost narrow = { elim [ true ↦ lit≤ tt | false ↦ lit≤ tt ] };
@@ -205,16 +210,7 @@ impl FromStrRadix for i32 {
     }
 
     fn from_magnitude(negative: bool, magnitude: u64) -> Option<i32> {
-        if negative {
-            if magnitude > 2147483648 {
-                return None;
-            }
-            return Some((0 - magnitude as i64) as i32);
-        }
-        if magnitude > 2147483647 {
-            return None;
-        }
-        Some(magnitude as i32)
+        Some(signed(negative, magnitude, 2147483648)? as i32)
     }
 
     ghost narrow = { elim [ true ↦ lit≤ tt | false ↦ lit≤ tt ] };
@@ -232,19 +228,7 @@ impl FromStrRadix for i64 {
     }
 
     fn from_magnitude(negative: bool, magnitude: u64) -> Option<i64> {
-        if negative {
-            if magnitude > 9223372036854775808 {
-                return None;
-            }
-            if magnitude == 0 {
-                return Some(0);
-            }
-            return Some(-1 - (magnitude - 1) as i64);
-        }
-        if magnitude > 9223372036854775807 {
-            return None;
-        }
-        Some(magnitude as i64)
+        signed(negative, magnitude, 9223372036854775808)
     }
 
     ghost narrow = { elim [ true ↦ lit≤ tt | false ↦ lit≤ tt ] };
@@ -262,19 +246,7 @@ impl FromStrRadix for isize {
     }
 
     fn from_magnitude(negative: bool, magnitude: u64) -> Option<isize> {
-        if negative {
-            if magnitude > 9223372036854775808 {
-                return None;
-            }
-            if magnitude == 0 {
-                return Some(0);
-            }
-            return Some(-1 - (magnitude - 1) as isize);
-        }
-        if magnitude > 9223372036854775807 {
-            return None;
-        }
-        Some(magnitude as isize)
+        Some(signed(negative, magnitude, 9223372036854775808)? as isize)
     }
 
     ghost narrow = { elim [ true ↦ lit≤ tt | false ↦ lit≤ tt ] };

@@ -1,6 +1,6 @@
 //! The reader of hexadecimal numbers.
-ghost use Rattle.irtext_base.specs.Answers.{Answers, NeedsNoMemory, unless_failed};
 ghost use Rattle.irtext_read.specs.Integers.{hexadecimal_mark_at, hex_int_at};
+ghost use Rattle.irtext_read.specs.Reads.{ReadsAs, SparesMemory};
 
 use crate::irfmt::faults::{begins, commit_unexpected};
 use crate::irfmt::parsers::class::Class;
@@ -13,8 +13,8 @@ use irtext_base::result::Expected;
 
 /// `0x`, in front of a hexadecimal digit.
 fn mark_parse<S: CharStream, A>(stream: &mut S) -> ParseResult<(), A>
-    ensures answers { Answers S.view S.at (λ u. u) (unless_failed (S.view stream.old).failed (hexadecimal_mark_at (S.view stream.old).rest)) stream.old result stream.new }
-    ensures spares { NeedsNoMemory (unless_failed (S.view stream.old).failed (hexadecimal_mark_at (S.view stream.old).rest)) result }
+    ensures answers { ReadsAs S.view S.at (λ u. u) hexadecimal_mark_at stream.old result stream.new }
+    ensures spares { SparesMemory S.view hexadecimal_mark_at stream.old result }
 {
     text_parse(stream, "0x")?;
     if begins(stream, Class::HexadecimalDigit) {
@@ -28,8 +28,8 @@ fn mark_parse<S: CharStream, A>(stream: &mut S) -> ParseResult<(), A>
 /// a hexadecimal digit is expected, committed. A number that doesn't fit its type is refused at its beginning. An uncommitted fault
 /// leaves the stream where it was, a committed one leaves it failed.
 pub fn hex_int_parse<S: CharStream, N: FromStrRadix, A>(stream: &mut S) -> ParseResult<N, A>
-    ensures answers { Answers S.view S.at N.number (unless_failed (S.view stream.old).failed (hex_int_at N.below (S.view stream.old).rest)) stream.old result stream.new }
-    ensures spares { NeedsNoMemory (unless_failed (S.view stream.old).failed (hex_int_at N.below (S.view stream.old).rest)) result }
+    ensures answers { ReadsAs S.view S.at N.number (hex_int_at N.below) stream.old result stream.new }
+    ensures spares { SparesMemory S.view (hex_int_at N.below) stream.old result }
 {
     let place = stream.position();
     mark_parse(stream)?;

@@ -1,10 +1,10 @@
 //! The reader of identifiers.
 ghost use Rattle.std.specs.Prelude.{◌≡◌, true};
 ghost use Rattle.std.specs.Bool.{MatchBool};
-ghost use Rattle.irtext_base.specs.Answers.{Answers, Takes, unless_failed};
 ghost use Rattle.irtext_base.specs.Faults.{demand_of};
-ghost use Rattle.irtext_base.specs.Text.{begins, front, after, begins_word, in_word};
+ghost use Rattle.irtext_base.specs.Text.{begins, begins_word, in_word};
 ghost use Rattle.irtext_read.specs.Tokens.{word_at, identifier_at};
+ghost use Rattle.irtext_read.specs.Reads.{TakesFront, ReadsAs};
 
 use crate::irfmt::faults::{begins, out_of_memory, refuse, unexpected};
 use crate::irfmt::parsers::class::{Class, skip_class};
@@ -18,7 +18,7 @@ pub fn word_parse<S: CharStream, A>(
     stream: &mut S,
     expected: Expected,
 ) -> ParseResult<Identifier, A>
-    ensures { Answers S.view S.at (λ name. name) (unless_failed (S.view stream.old).failed (word_at (demand_of expected) (S.view stream.old).rest)) stream.old result stream.new }
+    ensures { ReadsAs S.view S.at (λ name. name) (word_at (demand_of expected)) stream.old result stream.new }
 {
     if stream.has_failed() {
         return Err(refuse(stream, Cause::StreamFailed));
@@ -37,7 +37,7 @@ pub fn word_parse<S: CharStream, A>(
 /// Reads an identifier, as long as it goes. Where none begins, it answers an uncommitted fault.
 #[inline]
 pub fn identifier_parse<S: CharStream, A>(stream: &mut S) -> ParseResult<Identifier, A>
-    ensures { Answers S.view S.at (λ name. name) (unless_failed (S.view stream.old).failed (identifier_at (S.view stream.old).rest)) stream.old result stream.new }
+    ensures { ReadsAs S.view S.at (λ name. name) identifier_at stream.old result stream.new }
 {
     word_parse(stream, Expected::Identifier)
 }
@@ -46,7 +46,7 @@ pub fn identifier_parse<S: CharStream, A>(stream: &mut S) -> ParseResult<Identif
 /// goes on a failed stream too.
 pub fn skip_identifier<S: CharStream>(stream: &mut S) -> bool
     ensures { MatchBool result
-        ((begins begins_word (S.view stream.old).rest ≡ true) × Takes S.view S.at (front in_word (S.view stream.old).rest) (after in_word (S.view stream.old).rest) stream.old stream.new)
+        ((begins begins_word (S.view stream.old).rest ≡ true) × TakesFront S.view S.at in_word stream.old stream.new)
         (stream.new ≡ stream.old) }
 {
     if begins(stream, Class::Beginning) {

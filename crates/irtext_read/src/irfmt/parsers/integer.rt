@@ -2,9 +2,10 @@
 ghost use Rattle.std.specs.Prelude.{◌≡◌, string_bytes};
 ghost use Rattle.std.specs.Option.{option_map};
 ghost use Rattle.irtext_base.specs.Stream.{first_of};
-ghost use Rattle.irtext_base.specs.Answers.{Answers, NeedsNoMemory, Takes, unless_failed};
+ghost use Rattle.irtext_base.specs.Answers.{Takes};
 ghost use Rattle.irtext_read.specs.Tokens.{sign_of, after_sign};
 ghost use Rattle.irtext_read.specs.Integers.{within_of, sign_text, sign_at, int_at, number_text_at};
+ghost use Rattle.irtext_read.specs.Reads.{ReadsAs, SparesMemory};
 
 use crate::irfmt::faults::{begins, commit, out_of_memory, refuse, unexpected};
 use crate::irfmt::parsers::class::{Class, skip_class};
@@ -28,9 +29,10 @@ fn take_sign<S: CharStream>(stream: &mut S) -> Option<char>
 }
 
 /// Reads `+`, `-` or no sign, in front of a digit.
+#[inline(always)]
 fn sign_parse<S: CharStream, A>(stream: &mut S) -> ParseResult<Option<char>, A>
-    ensures answers { Answers S.view S.at sign_text (unless_failed (S.view stream.old).failed (sign_at (S.view stream.old).rest)) stream.old result stream.new }
-    ensures spares { NeedsNoMemory (unless_failed (S.view stream.old).failed (sign_at (S.view stream.old).rest)) result }
+    ensures answers { ReadsAs S.view S.at sign_text sign_at stream.old result stream.new }
+    ensures spares { SparesMemory S.view sign_at stream.old result }
 {
     if stream.has_failed() {
         return Err(refuse(stream, Cause::StreamFailed));
@@ -58,8 +60,8 @@ pub(crate) fn number_of<N: FromStrRadix>(negative: bool, magnitude: Option<u64>)
 /// beginning; behind `-` no number fits an unsigned type. An uncommitted fault leaves the stream where it was, a committed one
 /// leaves it failed.
 pub fn int_parse<S: CharStream, N: FromStrRadix, A>(stream: &mut S) -> ParseResult<N, A>
-    ensures answers { Answers S.view S.at N.number (unless_failed (S.view stream.old).failed (int_at N.below (S.view stream.old).rest)) stream.old result stream.new }
-    ensures spares { NeedsNoMemory (unless_failed (S.view stream.old).failed (int_at N.below (S.view stream.old).rest)) result }
+    ensures answers { ReadsAs S.view S.at N.number (int_at N.below) stream.old result stream.new }
+    ensures spares { SparesMemory S.view (int_at N.below) stream.old result }
 {
     let place = stream.position();
     let sign = sign_parse(stream)?;
@@ -74,7 +76,7 @@ pub fn int_parse<S: CharStream, N: FromStrRadix, A>(stream: &mut S) -> ParseResu
 /// a digit is expected, uncommitted where nothing was read and committed behind a sign. An uncommitted fault leaves the stream where
 /// it was, a committed one leaves it failed.
 pub fn number_as_string_parse<S: CharStream, A>(stream: &mut S) -> ParseResult<String, A>
-    ensures { Answers S.view S.at (λ text. string_bytes text) (unless_failed (S.view stream.old).failed (number_text_at (S.view stream.old).rest)) stream.old result stream.new }
+    ensures { ReadsAs S.view S.at (λ text. string_bytes text) number_text_at stream.old result stream.new }
 {
     let place = stream.position();
     let _ = sign_parse(stream)?;

@@ -1,10 +1,9 @@
 //! Readers of lists, over any item. An item keeps the rules of faults: a value stands in front of the text or a later part of it, an
 //! uncommitted fault leaves the stream as it was, and a committed one leaves it failed.
-ghost use Rattle.std.specs.Prelude.{◌≡◌, ℕ, List, [], ◌++◌, MatchResult};
+ghost use Rattle.std.specs.Prelude.{◌≡◌, []};
 ghost use Rattle.std.specs.Bool.{MatchBool};
-ghost use Rattle.irtext_base.specs.Text.{Text};
-ghost use Rattle.irtext_base.specs.Places.{StandsBehind};
 ghost use Rattle.irtext_read.specs.Lists.{AlwaysKeepsRules, Calls, KeepsRules, UnlessFailed, Items, SpacedItems, Separated, TailAfter, Delimited, WithSeparator, Spaced, character_of, listed};
+ghost use Rattle.irtext_stream.specs.Places.{SincePlace, HasPassed};
 
 use crate::irfmt::faults::{
     begins, commit, commit_unexpected, next_is, out_of_memory, pass, refuse, unexpected,
@@ -16,8 +15,8 @@ use irtext_base::result::{Cause, Expected};
 
 /// Whether no character was taken since an earlier place.
 fn is_still_at<S: CharStream>(stream: &S, place: Place) -> bool
-    requires { (passed taken : Text) × (passed ++ taken ≡ (S.view stream.now).passed) × StandsBehind place passed }
-    ensures { (passed taken : Text) → passed ++ taken ≡ (S.view stream.now).passed → StandsBehind place passed → MatchBool result (taken ≡ []) (taken ≡ [] → ⊥) }
+    requires { HasPassed place (S.view stream.now) }
+    ensures { SincePlace place (S.view stream.now) (λ passed taken. MatchBool result (taken ≡ []) (taken ≡ [] → ⊥)) }
 {
     stream.text_since(place).is_empty()
 }
@@ -135,7 +134,8 @@ pub fn list_parser<S: CharStream, X: Drop, A: Drop, F: FnMut(&mut S) -> ParseRes
 where
     requires callable { F.IsAlwaysCallable item }
     requires rules { AlwaysKeepsRules S.view S.at (λ r. r) F.FnMut }
-    ensures answers { UnlessFailed S.view S.at (Separated S.view S.at (Calls (λ r. r) F.FnMut) sep item) (S.view stream.old).failed stream.old (listed result) stream.new }
+    ensures answers { UnlessFailed S.view S.at (Separated S.view S.at (Calls (λ r. r) F.FnMut) sep item)
+        (S.view stream.old).failed stream.old (listed result) stream.new }
     ensures kept { KeepsRules S.view S.at stream.old result stream.new }
 {
     if stream.has_failed() {
@@ -155,7 +155,8 @@ pub fn delimited_list_parser<
 where
     requires callable { F.IsAlwaysCallable item }
     requires rules { AlwaysKeepsRules S.view S.at (λ r. r) F.FnMut }
-    ensures answers { UnlessFailed S.view S.at (Delimited S.view S.at (Calls (λ r. r) F.FnMut) left right sep item) (S.view stream.old).failed stream.old (listed result) stream.new }
+    ensures answers { UnlessFailed S.view S.at (Delimited S.view S.at (Calls (λ r. r) F.FnMut) left right sep item)
+        (S.view stream.old).failed stream.old (listed result) stream.new }
     ensures kept { KeepsRules S.view S.at stream.old result stream.new }
 {
     if stream.has_failed() {
@@ -186,7 +187,8 @@ pub fn list_with_sep_parser<
 where
     requires callable { F.IsAlwaysCallable item }
     requires rules { AlwaysKeepsRules S.view S.at (λ r. r) F.FnMut }
-    ensures answers { UnlessFailed S.view S.at (WithSeparator S.view S.at (Calls (λ r. r) F.FnMut) (character_of sep) item) (S.view stream.old).failed stream.old (listed result) stream.new }
+    ensures answers { UnlessFailed S.view S.at (WithSeparator S.view S.at (Calls (λ r. r) F.FnMut) (character_of sep) item)
+        (S.view stream.old).failed stream.old (listed result) stream.new }
     ensures kept { KeepsRules S.view S.at stream.old result stream.new }
 {
     if stream.has_failed() {
@@ -212,7 +214,8 @@ pub fn zero_or_more_parser<
 where
     requires callable { F.IsAlwaysCallable item }
     requires rules { AlwaysKeepsRules S.view S.at (λ r. r) F.FnMut }
-    ensures answers { UnlessFailed S.view S.at (SpacedItems S.view S.at (Calls (λ r. r) F.FnMut) item) (S.view stream.old).failed stream.old (listed result) stream.new }
+    ensures answers { UnlessFailed S.view S.at (SpacedItems S.view S.at (Calls (λ r. r) F.FnMut) item)
+        (S.view stream.old).failed stream.old (listed result) stream.new }
     ensures kept { KeepsRules S.view S.at stream.old result stream.new }
 {
     if stream.has_failed() {
@@ -231,7 +234,8 @@ pub fn spaced<S: CharStream, X: Drop, A: Drop, F: FnMut(&mut S) -> ParseResult<X
 where
     requires callable { F.IsAlwaysCallable item }
     requires rules { AlwaysKeepsRules S.view S.at (λ r. r) F.FnMut }
-    ensures answers { UnlessFailed S.view S.at (Spaced S.view S.at (Calls (λ r. r) F.FnMut) item) (S.view stream.old).failed stream.old result stream.new }
+    ensures answers { UnlessFailed S.view S.at (Spaced S.view S.at (Calls (λ r. r) F.FnMut) item)
+        (S.view stream.old).failed stream.old result stream.new }
     ensures kept { KeepsRules S.view S.at stream.old result stream.new }
 {
     if stream.has_failed() {

@@ -1,7 +1,7 @@
 //! The reader of operations' ids.
-ghost use Rattle.irtext_base.specs.Answers.{Answers, unless_failed};
 ghost use Rattle.irtext_base.specs.Faults.{id_of};
 ghost use Rattle.irtext_read.specs.Tokens.{id_at};
+ghost use Rattle.irtext_read.specs.Reads.{ReadsAs};
 
 use crate::irfmt::faults::committed;
 use crate::irfmt::parsers::fixed_text::text_parse;
@@ -13,7 +13,7 @@ use irtext_base::result::Expected;
 /// Reads an operation's id: its dialect, `.` and its name there, with nothing between. Where no dialect begins, it answers an uncommitted fault.
 #[tactic(auto, unfolding(crate::specs::Tokens::id_at))]
 pub fn id_parse<S: CharStream, A>(stream: &mut S) -> ParseResult<OpId, A>
-    ensures { Answers S.view S.at id_of (unless_failed (S.view stream.old).failed (id_at (S.view stream.old).rest)) stream.old result stream.new }
+    ensures { ReadsAs S.view S.at id_of id_at stream.old result stream.new }
 {
     let dialect = word_parse(stream, Expected::Operation)?;
     let dot = text_parse(stream, ".");

@@ -1,50 +1,32 @@
 //! The reader of quoted texts.
-ghost use Rattle.std.specs.Prelude.{◌≡◌, ℕ, List, [], ◌++◌, ◌⊎◌, false, codes, IfOk, MatchResult, string_bytes};
+ghost use Rattle.std.specs.Prelude.{◌≡◌, [], ◌++◌, false, codes, IfOk, MatchResult, string_bytes};
 ghost use Rattle.std.specs.Str.{encode_utf8_all};
-ghost use Rattle.irtext_base.specs.Text.{front, after, begins};
-ghost use Rattle.irtext_base.specs.Stream.{first_of};
+ghost use Rattle.irtext_base.specs.Text.{front, begins};
 ghost use Rattle.irtext_base.specs.Places.{StandsBehind};
-ghost use Rattle.irtext_base.specs.Faults.{demand_of, Unexpected, BadUnicodeEscape};
-ghost use Rattle.irtext_base.specs.Answers.{Answers, Takes, Starves, StarvesHere, FailsBehind, Commits, mapped, demanded, unless_failed};
+ghost use Rattle.irtext_base.specs.Faults.{BadUnicodeEscape};
+ghost use Rattle.irtext_base.specs.Answers.{Answers, Takes, Starves, mapped, demanded};
 ghost use Rattle.irtext_read.specs.QuotedTexts.{is_plain, escape_of, character_of, unit_at, units_at, quoted_at};
+ghost use Rattle.irtext_stream.specs.Places.{AtPlace, SincePlace, HasPassed};
+ghost use Rattle.irtext_read.specs.Reads.{TakesFront, ReadsAs, StarvesOrFails};
 
 use crate::irfmt::faults::{begins, commit_unexpected, next_is, out_of_memory, refuse_at};
-use crate::irfmt::parsers::class::Class;
+use crate::irfmt::parsers::class::{Class, skip_class};
 use crate::irfmt::parsers::digits::{Radix, take_digits};
 use crate::irfmt::parsers::fixed_text::text_parse;
 use irtext_base::parsable::{CharStream, ParseFault, ParseResult, Place};
 use irtext_base::result::{Cause, Expected};
 
-/// Whether the character stands for itself in a quoted text.
-fn is_plain(c: char) -> bool
-    ensures { result ≡ is_plain c }
-{
-    c != '"' && c != '\\'
-}
-
-/// Passes characters that stand for themselves, as far as they go.
-#[tactic(auto, using(irtext_base::proofs::Along::fronts))]
-fn skip_plain<S: CharStream>(stream: &mut S)
-    ensures { Takes S.view S.at (front is_plain (S.view stream.old).rest) (after is_plain (S.view stream.old).rest) stream.old stream.new }
-{
-    while let Some(c) = stream.peek() {
-        if !is_plain(c) {
-            break;
-        }
-        let _ = stream.take();
-    }
-}
-
 /// Appends characters that stand for themselves to the text, as far as they go. Only memory can be refused.
 fn append_plain<S: CharStream, A>(stream: &mut S, text: &mut String) -> ParseResult<(), A>
     requires { (S.view stream.old).failed ≡ false }
-    ensures value { IfOk result (λ _. string_bytes text.new ≡ string_bytes text.old ++ encode_utf8_all (front is_plain (S.view stream.old).rest)) }
+    ensures value { IfOk result (λ _.
+        string_bytes text.new ≡ string_bytes text.old ++ encode_utf8_all (front is_plain (S.view stream.old).rest)) }
     ensures stream { MatchResult result
-        (λ _. Takes S.view S.at (front is_plain (S.view stream.old).rest) (after is_plain (S.view stream.old).rest) stream.old stream.new)
+        (λ _. TakesFront S.view S.at is_plain stream.old stream.new)
         (λ fault. Starves S.view S.at stream.old fault stream.new) }
 {
     let place = stream.position();
-    skip_plain(stream);
+    skip_class(stream, Class::Plain);
     match text.push_str(stream.text_since(place)) {
         Ok(()) => Ok(()),
         Err(_) => Err(out_of_memory(stream)),
@@ -67,9 +49,9 @@ fn character(number: Option<u64>) -> Option<char>
 #[cold]
 #[inline(never)]
 fn no_character<S: CharStream, A>(stream: &mut S, escape: Place, digits: Place) -> ParseFault<A>
-    requires { (passed taken : List ℕ) × (passed ++ taken ≡ (S.view stream.old).passed) × StandsBehind digits passed }
-    ensures { (before rest passed taken : List ℕ) → before ++ rest ≡ (S.view stream.old).passed ++ (S.view stream.old).rest → StandsBehind escape before → passed ++ taken ≡ (S.view stream.old).passed → StandsBehind digits passed →
-        StarvesHere S.view S.at stream.old result stream.new ⊎ FailsBehind S.view S.at (BadUnicodeEscape (encode_utf8_all taken)) before stream.old result stream.new }
+    requires { HasPassed digits (S.view stream.old) }
+    ensures { AtPlace escape (S.view stream.old) (λ before rest. SincePlace digits (S.view stream.old) (λ passed taken.
+        StarvesOrFails S.view S.at (BadUnicodeEscape (encode_utf8_all taken)) before stream.old result stream.new)) }
 {
     match String::from_str(stream.allocator(), stream.text_since(digits)) {
         Ok(text) => refuse_at(stream, escape, Cause::BadUnicodeEscape(text)),
@@ -81,7 +63,8 @@ fn no_character<S: CharStream, A>(stream: &mut S, escape: Place, digits: Place) 
 /// from its backslash on.
 fn unicode_parse<S: CharStream, A>(stream: &mut S, escape: Place) -> ParseResult<char, A>
     requires { (S.view stream.old).failed ≡ false }
-    ensures { (before : S) → Takes S.view S.at (codes "\\u") (S.view stream.old).rest before stream.old → StandsBehind escape (S.view before).passed →
+    ensures { (before : S) → Takes S.view S.at (codes "\\u") (S.view stream.old).rest before stream.old →
+        StandsBehind escape (S.view before).passed →
         Answers S.view S.at (λ c. c) (unit_at (S.view before).rest) before result stream.new }
 {
     if !next_is(stream, '{') {
@@ -147,7 +130,8 @@ fn unit_parse<S: CharStream, A>(stream: &mut S) -> ParseResult<char, A>
 /// Reads units up to the first quotation mark that stands outside of a unit, and that mark.
 fn units_parse<S: CharStream, A>(stream: &mut S) -> ParseResult<String, A>
     requires { (S.view stream.old).failed ≡ false }
-    ensures { Answers S.view S.at (λ s. string_bytes s) (mapped encode_utf8_all (demanded (units_at [] (S.view stream.old).rest))) stream.old result stream.new }
+    ensures { Answers S.view S.at (λ s. string_bytes s)
+        (mapped encode_utf8_all (demanded (units_at [] (S.view stream.old).rest))) stream.old result stream.new }
 {
     let mut text = String::new(stream.allocator());
     append_plain(stream, &mut text)?;
@@ -168,7 +152,7 @@ fn units_parse<S: CharStream, A>(stream: &mut S) -> ParseResult<String, A>
 /// Where no quotation mark begins it, the fault is uncommitted and the stream stands where it stood. Else a fault is committed:
 /// `BadEscape` and `BadUnicodeEscape` stand at the escape's backslash, and `Unexpected` where a character is missing.
 pub fn quoted_string_parse<S: CharStream, A>(stream: &mut S) -> ParseResult<String, A>
-    ensures { Answers S.view S.at (λ s. string_bytes s) (unless_failed (S.view stream.old).failed (mapped encode_utf8_all (quoted_at (S.view stream.old).rest))) stream.old result stream.new }
+    ensures { ReadsAs S.view S.at (λ s. string_bytes s) (λ text. mapped encode_utf8_all (quoted_at text)) stream.old result stream.new }
 {
     text_parse(stream, "\"")?;
     units_parse(stream)

@@ -1,6 +1,6 @@
 //! The reader of truth values.
-ghost use Rattle.irtext_base.specs.Answers.{Answers, NeedsNoMemory, unless_failed};
 ghost use Rattle.irtext_read.specs.Integers.{bool_at};
+ghost use Rattle.irtext_read.specs.Reads.{ReadsAs, SparesMemory};
 
 use crate::irfmt::faults::{next_is, refuse, unexpected};
 use crate::irfmt::parsers::fixed_text::text_parse;
@@ -12,8 +12,8 @@ use irtext_base::result::{Cause, Expected};
 /// the stream where it was, a committed one leaves it failed.
 #[tactic(auto, unfolding(crate::specs::Integers::bool_at))]
 pub fn bool_parse<S: CharStream, A>(stream: &mut S) -> ParseResult<bool, A>
-    ensures answers { Answers S.view S.at (λ b. b) (unless_failed (S.view stream.old).failed (bool_at (S.view stream.old).rest)) stream.old result stream.new }
-    ensures spares { NeedsNoMemory (unless_failed (S.view stream.old).failed (bool_at (S.view stream.old).rest)) result }
+    ensures answers { ReadsAs S.view S.at (λ b. b) bool_at stream.old result stream.new }
+    ensures spares { SparesMemory S.view bool_at stream.old result }
 {
     if stream.has_failed() {
         return Err(refuse(stream, Cause::StreamFailed));

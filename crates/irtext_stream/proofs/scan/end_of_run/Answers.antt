@@ -1,8 +1,8 @@
-use Rattle.std.proofs.Common.{◌≡◌, ◌∙◌, ◌+◌, cond, sym, ap, arith, drop}
+use Rattle.std.proofs.Common.{◌≡◌, ◌∙◌, cond, sym, ap, arith, drop}
 use Rattle.std.specs.Str.{chars}
 use Rattle.irtext_stream.specs.Classes.{has}
 use Rattle.irtext_stream.specs.Index.{width_of}
-use Rattle.irtext_stream.proofs.Slices.{Ahead, ahead_none, ahead_more, ahead_ends, byte_width, no_width}
+use Rattle.irtext_stream.proofs.Slices.{ahead_more, ahead_ends, byte_width, no_width}
 use Rattle.irtext_stream.proofs.scan.end_of_run.Goals as goal
 
 pub returns-then-not-has_byte : goal.returns-then-not-has_byte

@@ -13,10 +13,10 @@ invariant-loop-s g l = record {
   rest : KeepsRest l.fn.s.state l.s.state;
   marks : marks_of l.s.state ≡ marks_of l.fn.s.state;
   adds : AddsPaths l.fn.s.state.ctx.now l.s.state.ctx.now;
-  kept : l.s.state.ctx.now.paths ≡ entries_kept l.fn.s.state.ctx.now.paths (entries_over l.s.state.ctx.now.paths l.entries.entries);
+  kept : l.s.state.ctx.now.paths ≡ entries_kept l.fn.s.state.ctx.now.paths (entries_over l.s.state.ctx.now.paths l.entries);
   fine : l.s.stream.failed ≡ l.fn.s.stream.failed;
   moves : Moves l.fn.s.stream l.s.stream;
-  so_far : EntriesSoFar (attr_at g.A.IrText.reading) (marks_of l.fn.s.state) l.s.state.ctx.now.paths l.entries.entries l.fn.s.stream.rest l.s.stream.rest;
+  so_far : EntriesSoFar (attr_at g.A.IrText.reading) (marks_of l.fn.s.state) l.s.state.ctx.now.paths l.entries l.fn.s.stream.rest l.s.stream.rest;
 }
 
 abbrev pub decreases-loop-s : goal.decreases-loop-s

@@ -40,12 +40,12 @@ returns-clause-read g c =
       heading = a.taken;
       behind = c.spaced_text_demanded.new.stream.rest;
       head = a.is;
-      entries = c.in_ok-entries.entries.entries;
+      entries = c.in_ok-entries.entries;
       middle = middle;
       adds = c.in_ok-entries.ensures.adds;
       kept = c.in_ok-entries.ensures.paths;
-      stand = subst (λ v. AllEntries attr (indices_of marks) (entries_over middle.paths c.in_ok-entries.entries.entries) c.spaced_text_demanded.new.stream.rest v.rest) (sym stream) r.stand;
+      stand = subst (λ v. AllEntries attr (indices_of marks) (entries_over middle.paths c.in_ok-entries.entries) c.spaced_text_demanded.new.stream.rest v.rest) (sym stream) r.stand;
       moves = subst (λ v. Moves c.args.s.now.stream v) (sym stream) (moves_more (moves_taken a.taken c.spaced_text_demanded.new.stream.rest a.takes) r.moves);
-      applied = rw c.truncate_marks.ensures.ctx (subst (λ m. AppliesAll m c.in_ok-entries.entries.entries middle c.apply.new.s.state.ctx.now) c.in_ok-entries.ensures.marks c.apply.ensures.applied);
+      applied = rw c.truncate_marks.ensures.ctx (subst (λ m. AppliesAll m c.in_ok-entries.entries middle c.apply.new.s.state.ctx.now) c.in_ok-entries.ensures.marks c.apply.ensures.applied);
       fresh = c.truncate_marks.ensures.marks;
     }

@@ -13,26 +13,19 @@ one_byte bs cs o b same f u l e h =
     let next : Some b ≡ first_of (chars (drop o bs)) = ap Some is ∙ next_by_byte bs o u within (omega (arith, is, h)) in
     (next, one_more bs o 1 b (omega arith) f u next (sym (ap length (encode_ascii b h))))
 
-pub invariant_of-self : goal.invariant_of-self
-invariant_of-self c =
+-- the byte at the offset is the next character
+next : (c : goal.After-self-1) → (Some c.in-Some.b.now ≡ first_of (chars (drop c.self.inside.offset (string_bytes c.self.inside.text)))) × OneMore (string_bytes c.self.inside.text) c.self.inside.offset 1 c.in-Some.b.now
+next c =
     let i = c.self.inside in
     let v = c.self.invariant in
     let h = c.in-Some.ensures.lookup in
-    let m = one_byte (string_bytes i.text) c.as_bytes.result.now i.offset c.in-Some.b.now c.as_bytes.ensures.value v.1 v.2 h.3.0 (h.3.1 0) c.if-b-lt128.true in
-    (m.1.within, m.1.passed_utf8, m.1.rest_utf8, v.3)
+    one_byte (string_bytes i.text) c.as_bytes.result.now i.offset c.in-Some.b.now c.as_bytes.ensures.value v.1 v.2 h.3.0 (h.3.1 0) c.if-b-lt128.true
+
+pub invariant_of-self : goal.invariant_of-self
+invariant_of-self c = let m = (next c).1 in (m.within, m.passed_utf8, m.rest_utf8, c.self.invariant.3)
 
 pub returns-in-Some-clause-value : goal.returns-in-Some-clause-value
-returns-in-Some-clause-value c =
-    let i = c.self.inside in
-    let v = c.self.invariant in
-    let h = c.in-Some.ensures.lookup in
-    let m = one_byte (string_bytes i.text) c.as_bytes.result.now i.offset c.in-Some.b.now c.as_bytes.ensures.value v.1 v.2 h.3.0 (h.3.1 0) c.if-b-lt128.true in
-    m.0 ∙ ap (λ v. first_of v.rest) c.self.view_is
+returns-in-Some-clause-value c = (next c).0 ∙ ap (λ v. first_of v.rest) c.self.view_is
 
 pub returns-in-Some-clause-after : goal.returns-in-Some-clause-after
-returns-in-Some-clause-after c =
-    let i = c.self.inside in
-    let v = c.self.invariant in
-    let h = c.in-Some.ensures.lookup in
-    let m = one_byte (string_bytes i.text) c.as_bytes.result.now i.offset c.in-Some.b.now c.as_bytes.ensures.value v.1 v.2 h.3.0 (h.3.1 0) c.if-b-lt128.true in
-    rw (← c.self.view_is) (m.1.advances i.failed)
+returns-in-Some-clause-after c = rw (← c.self.view_is) ((next c).1.advances c.self.inside.failed)

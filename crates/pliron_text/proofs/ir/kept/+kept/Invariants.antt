@@ -1,11 +1,22 @@
-use Rattle.std.proofs.Common.{drop, map}
-use Rattle.irtext_base.specs.Locations.{location_view, in_row, row_sourced}
-use Rattle.irtext_base.specs.Paths.{path_of}
-use Rattle.pliron_text.proofs.KeptParts.{RowIsKept}
+use Rattle.std.proofs.Common.{◌≤◌, drop}
+use Rattle.irtext_base.specs.Weights.{weight_of, weight_all}
+use Rattle.pliron_text.proofs.KeptLocations.{WholeIsKept, ManyAreKept}
 use Rattle.pliron_text.proofs.ir.kept.+kept.Given as goal
+
+abbrev pub decreases-location_kept : goal.decreases-location_kept
+decreases-location_kept g l = weight_of l.location.now
+
+abbrev pub decreases-locations_kept : goal.decreases-locations_kept
+decreases-locations_kept g l = weight_all l.locations.now
+
+-- once it is known of what is left, it is known of the whole
+abbrev pub invariant-location_kept-loop-next : goal.invariant-location_kept-loop-next
+invariant-location_kept-loop-next g l = record {
+  kept : WholeIsKept l.ctx.paths l.next → WholeIsKept l.ctx.paths l.fn.location;
+  inside : weight_of l.next ≤ weight_of l.fn.location;
+}
 
 -- once it is known of the locations that are left, it is known of all
 abbrev pub invariant-locations_kept-loop-location : goal.invariant-locations_kept-loop-location
 invariant-locations_kept-loop-location g l =
-    RowIsKept (row_sourced (path_of l.ctx.paths) (in_row (map location_view (drop l.location-index l.location-items))))
-    → RowIsKept (row_sourced (path_of l.ctx.paths) (in_row (map location_view l.location-items)))
+    ManyAreKept l.ctx.paths (drop l.location-index l.locations) → ManyAreKept l.ctx.paths l.locations

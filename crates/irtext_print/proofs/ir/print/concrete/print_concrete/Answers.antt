@@ -2,39 +2,38 @@ use Rattle.std.proofs.Common.{◌∙◌, not, sym, ap, string_bytes, option_map}
 use Rattle.irtext_context.specs.Context.{operation}
 use Rattle.irtext_context.specs.Directives.{directives_of}
 use Rattle.irtext_print.specs.Printers.PrintedOperation.{language_in, printing_in}
-use Rattle.irtext_print.proofs.Printers.Appended.{then}
-use Rattle.irtext_print.proofs.Printers.RootParts.{there}
-use Rattle.irtext_print.proofs.Printers.OperationTexts.{given_of, given_printed, printed_in, concrete_appended}
+use Rattle.irtext_print.proofs.Printers.Appended.{then, then-err}
+use Rattle.irtext_print.proofs.Printers.OperationTexts.{given_live, given_printed, live_printed, concrete_appended, regions_refused}
 use Rattle.irtext_print.proofs.ir.print.concrete.print_concrete.Goals as goal
 
 pub returns-then-is_err-clause-refused : goal.returns-then-is_err-clause-refused
 returns-then-is_err-clause-refused g c =
     let C = printing_in {T = g.row.T.Denot} g.A.AttrText g.A.PartialEq.eq c.args.ctx.now in
-    let L = language_in g.T.IrText g.A.IrText c.args.ctx.now in
-    let o = operation c.args.ctx.now c.args.op in
-    let v = there o c.requires.live in
     let ds = directives_of c.in-Some.directives.now in
-    let given = given_of C o v.0 c.get_opid-id.result.now c.attributes-attributes.result.now c.num_regions-regions.result ds v.1 c.get_opid-id.ensures c.attributes-attributes.ensures c.num_regions-regions.ensures
+    let live = given_live C (operation c.args.ctx.now c.args.op) c.get_opid-id.result.now c.attributes-attributes.result.now c.num_regions-regions.result ds c.requires.live c.get_opid-id.ensures c.attributes-attributes.ensures c.num_regions-regions.ensures
     (sym c.directives_in.ensures ∙ ap (option_map (λ ds. directives_of ds.now)) c.in-Some.is) in
-    printed_in L C c.args.state.now v.0 c.get_opid-id.result.now c.attributes-attributes.result.now c.num_regions-regions.result ds given o v.1 ∙ (sym c.check_parts.ensures.fits ∙ c.is_err.ensures.negation ∙ ap not c.if-is_err.true)
+    live_printed C (operation c.args.ctx.now c.args.op) c.get_opid-id.result.now c.attributes-attributes.result.now c.num_regions-regions.result ds live ∙ (sym c.check_parts.ensures.fits ∙ c.is_err.ensures.negation ∙ ap not c.if-is_err.true)
 
 pub returns-clause-prints : goal.returns-clause-prints
 returns-clause-prints g c =
     let C = printing_in {T = g.row.T.Denot} g.A.AttrText g.A.PartialEq.eq c.args.ctx.now in
     let L = language_in g.T.IrText g.A.IrText c.args.ctx.now in
-    let o = operation c.args.ctx.now c.args.op in
-    let v = there o c.requires.live in
     let ds = directives_of c.in-Some.directives.now in
-    let given = given_of C o v.0 c.get_opid-id.result.now c.attributes-attributes.result.now c.num_regions-regions.result ds v.1 c.get_opid-id.ensures c.attributes-attributes.ensures c.num_regions-regions.ensures
+    let live = given_live C (operation c.args.ctx.now c.args.op) c.get_opid-id.result.now c.attributes-attributes.result.now c.num_regions-regions.result ds c.requires.live c.get_opid-id.ensures c.attributes-attributes.ensures c.num_regions-regions.ensures
     (sym c.directives_in.ensures ∙ ap (option_map (λ ds. directives_of ds.now)) c.in-Some.is) in
     let fits = sym c.check_parts.ensures.fits ∙ c.is_err.ensures.negation ∙ ap not c.if-is_err.false in
     then c.fmt_directives.result
     (λ p. record {
-      view = v.0;
-      stands = v.1;
-      fits = given_printed L C c.args.state.now v.0 c.get_opid-id.result.now c.attributes-attributes.result.now c.num_regions-regions.result ds given ∙ fits;
-      text = concrete_appended L C c.args.state.now v.0 c.get_opid-id.result.now c.attributes-attributes.result.now c.num_regions-regions.result ds given (string_bytes c.args.f.now) (string_bytes c.fmt_id.new.f) (string_bytes c.fmt_directives.new.f)
+      view = live.view;
+      stands = live.stands;
+      fits = given_printed C live.view c.get_opid-id.result.now c.attributes-attributes.result.now c.num_regions-regions.result ds live.given ∙ fits;
+      text = concrete_appended L C c.args.state.now live.view c.get_opid-id.result.now c.attributes-attributes.result.now c.num_regions-regions.result ds live.given (string_bytes c.args.f.now) (string_bytes c.fmt_id.new.f) (string_bytes c.fmt_directives.new.f)
           fits c.in_ok-fmt_id.ensures.text p;
       state = c.fmt_directives.ensures.state;
     })
     c.fmt_directives.ensures.text
+
+pub returns-clause-refused : goal.returns-clause-refused
+returns-clause-refused g c =
+    let C = printing_in {T = g.row.T.Denot} g.A.AttrText g.A.PartialEq.eq c.args.ctx.now in
+    then-err c.fmt_directives.result (λ e. regions_refused C (operation c.args.ctx.now c.args.op) c.num_regions-regions.result c.args.state.now e c.num_regions-regions.ensures) c.fmt_directives.ensures.refused

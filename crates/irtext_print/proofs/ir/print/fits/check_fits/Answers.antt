@@ -6,12 +6,12 @@ use Rattle.irtext_context.specs.Directives.{directives_of, format_of}
 use Rattle.irtext_context.specs.declared.dialect.OpInfo.{OpInfo}
 use Rattle.irtext_base.specs.Faults.{id_of}
 use Rattle.irtext_base.specs.Format as format
-use Rattle.irtext_print.specs.Printers.ConcreteText.{debugging, directives_in}
-use Rattle.irtext_print.specs.Printers.PrintedOperation.{language_in, printing_in}
+use Rattle.irtext_print.specs.Printers.ConcreteText.{directives_in}
+use Rattle.irtext_print.specs.Printers.PrintedOperation.{printing_in}
 use Rattle.irtext_print.proofs.Printers.Appended.{then-err}
 use Rattle.irtext_print.proofs.Printers.FitFaults.{printed_by}
 use Rattle.irtext_print.proofs.Printers.FirstFaults.{first_unregistered, first_canonical, first_fault}
-use Rattle.irtext_print.proofs.Printers.OperationTexts.{given_of, printed_in}
+use Rattle.irtext_print.proofs.Printers.OperationTexts.{given_of, given_live, live_printed}
 use Rattle.irtext_print.proofs.Printers.RootParts.{there}
 use Rattle.irtext_print.proofs.ir.print.fits.check_fits.Goals as goal
 
@@ -41,21 +41,22 @@ returns-in_default-clause-fault g c = λ view stands.
 pub returns-in-Custom-clause-fits : goal.returns-in-Custom-clause-fits
 returns-in-Custom-clause-fits g c =
     let C = printing_in {T = g.row.T.Denot} g.A.AttrText g.A.PartialEq.eq c.args.ctx.now in
-    let L = language_in g.T.IrText g.A.IrText c.args.ctx.now in
     let o = operation c.args.ctx.now c.args.op in
-    let v = there o c.requires.live in
     let ds = directives_of c.deref.result.now in
     let known : C.format_of (id_of c.get_opid.result.now) ≡ Some (format.custom ds) =
     ap (option_map (λ (known : Known). known.format)) (sym c.op_info.ensures.found ∙ ap (option_map (λ (info : Bor OpInfo). known_of info.now)) c.in-Some.is) ∙ ap (λ z. Some (format_of z)) c.in-Custom.is ∙ ap (λ items. Some (format.custom (directives_of items))) (sym c.deref.ensures.value) in
-    let given = given_of C o v.0 c.get_opid.result.now c.attributes.result.now c.num_regions.result ds v.1 c.get_opid.ensures c.attributes.ensures c.num_regions.ensures (ap directives_in known) in
-    c.check_parts.ensures.fits ∙ sym (printed_in L C debugging v.0 c.get_opid.result.now c.attributes.result.now c.num_regions.result ds given o v.1)
+    let live = given_live C o c.get_opid.result.now c.attributes.result.now c.num_regions.result ds c.requires.live c.get_opid.ensures c.attributes.ensures c.num_regions.ensures (ap directives_in known) in
+    c.check_parts.ensures.fits ∙ sym (live_printed C o c.get_opid.result.now c.attributes.result.now c.num_regions.result ds live)
 
 pub returns-in-Custom-clause-fault : goal.returns-in-Custom-clause-fault
-returns-in-Custom-clause-fault g c = λ view stands.
+returns-in-Custom-clause-fault g c =
     let C = printing_in {T = g.row.T.Denot} g.A.AttrText g.A.PartialEq.eq c.args.ctx.now in
     let o = operation c.args.ctx.now c.args.op in
     let ds = directives_of c.deref.result.now in
     let known : C.format_of (id_of c.get_opid.result.now) ≡ Some (format.custom ds) =
     ap (option_map (λ (known : Known). known.format)) (sym c.op_info.ensures.found ∙ ap (option_map (λ (info : Bor OpInfo). known_of info.now)) c.in-Some.is) ∙ ap (λ z. Some (format_of z)) c.in-Custom.is ∙ ap (λ items. Some (format.custom (directives_of items))) (sym c.deref.ensures.value) in
+    then-err c.check_parts.result
+    (λ reason first. λ view stands.
     let given = given_of C o view c.get_opid.result.now c.attributes.result.now c.num_regions.result ds stands c.get_opid.ensures c.attributes.ensures c.num_regions.ensures (ap directives_in known) in
-    then-err c.check_parts.result (first_fault C view c.get_opid.result.now c.attributes.result.now c.num_regions.result ds given known) c.check_parts.ensures.fault
+    first_fault C view c.get_opid.result.now c.attributes.result.now c.num_regions.result ds given known reason first)
+    c.check_parts.ensures.fault

@@ -1,7 +1,9 @@
-use Rattle.std.proofs.Common.{◌≡◌, true, false, sym, ◌∙◌, ap, subst}
+use Rattle.std.proofs.Common.{◌≡◌, Bool, List, ℕ, sym, ◌∙◌, ap, subst}
+use Rattle.std.specs.Str.{chars}
 use Rattle.irtext_base.specs.Text.{begins, in_dotted}
-use Rattle.irtext_base.specs.Answers.{Takes}
+use Rattle.irtext_base.specs.Answers.{Stands, Takes}
 use Rattle.irtext_base.proofs.Compose.{seen_after, takes_stands}
+use Rattle.irtext_stream.specs.Stream.{Comes}
 use Rattle.irtext_read.proofs.Attributes.{dotted_bytes, leads_not, leads_less, leads_whole}
 use Rattle.irtext_read.proofs.SetBack.{set_back, set_within}
 use Rattle.irtext_read.proofs.Steps.{Lens, lens}
@@ -12,6 +14,19 @@ use Rattle.irtext_read.proofs.irfmt.parsers.attributes.take_word.Goals as goal
 abbrev stream : (g : given.Over) → Lens g.row.S.Denot
 stream g = let m = g.met.S.CharStream in lens g.S.CharStream.view g.S.CharStream.at m.view_at m.at_view m.at_at
 
+-- the word was passed, and whether a dotted word goes on behind it
+record Accepted {S : Type 0} (l : Lens S) (word : List ℕ) (goes_on : Bool) (old mid : S) : Type 0 where
+  pub rest : List ℕ
+  pub takes : Takes l.view l.at word rest old mid
+  pub stands : Stands l.view l.at (l.view old).failed old mid
+  pub next : begins in_dotted rest ≡ goes_on
+
+accepted : {S : Type 0} (l : Lens S) (word : List ℕ) (goes_on : Bool) (old mid : S) → chars word ≡ word → Comes (chars word) (l.view old) (λ v. mid ≡ l.at old v) → goes_on ≡ begins in_dotted (l.view mid).rest → Accepted l word goes_on old mid
+accepted l word goes_on old mid e h b =
+    let k = subst (λ w. Comes w (l.view old) (λ v. mid ≡ l.at old v)) e h in
+    let t : Takes l.view l.at word k.0 old mid = record { is = k.2; same = sym k.1 } in
+    record { rest = k.0; takes = t; stands = takes_stands l.view l.at l.view_at l.at_at old mid word k.0 t; next = sym (b ∙ ap (λ v. begins in_dotted v.rest) (seen_after l.view l.at l.view_at l.at_at old mid word k.0 t)) }
+
 pub returns-then-not-accept : goal.returns-then-not-accept
 returns-then-not-accept g c =
     (leads_not c.args.word.now ((stream g).view c.args.stream.now).rest (rw (dotted_bytes c.args.word.now c.utf8.word c.requires) at c.if-not-accept.ensures.0), c.if-not-accept.ensures.1)
@@ -19,33 +34,22 @@ returns-then-not-accept g c =
 pub returns-then-not-begins : goal.returns-then-not-begins
 returns-then-not-begins g c =
     let l = stream g in
-    let old = c.args.stream.now in
-    let mid = c.accept.new.self in
     let word = c.args.word.now in
-    let h = rw (dotted_bytes word c.utf8.word c.requires) at c.if-not-accept.ensures in
-    let k : Takes l.view l.at word h.0 old mid = record { is = h.2; same = sym h.1 } in
-    let e : begins in_dotted h.0 ≡ false = sym (c.if-not-begins.ensures ∙ ap (λ z. begins in_dotted z.rest) (seen_after l.view l.at l.view_at l.at_at old mid word h.0 k)) in
-    let w = leads_whole word (l.view old).rest h.0 h.1 c.requires e in
-    (w.0, subst (λ z. Takes l.view l.at word z old mid) w.1 k)
+    let a = accepted l word _ c.args.stream.now c.accept.new.self (dotted_bytes word c.utf8.word c.requires) c.if-not-accept.ensures c.if-not-begins.ensures in
+    let w = leads_whole word (l.view c.args.stream.now).rest a.rest (sym a.takes.same) c.requires a.next in
+    (w.0, subst (λ z. Takes l.view l.at word z c.args.stream.now c.accept.new.self) w.1 a.takes)
 
 pub reset-requires : goal.reset-requires
 reset-requires g c =
     let l = stream g in
-    let old = c.args.stream.now in
-    let mid = c.accept.new.self in
-    let word = c.args.word.now in
-    let h = rw (dotted_bytes word c.utf8.word c.requires) at c.if-not-accept.ensures in
-    let k : Takes l.view l.at word h.0 old mid = record { is = h.2; same = sym h.1 } in
-    record { passed = (l.view old).passed; rest = (l.view old).rest; same = set_within l old mid (takes_stands l.view l.at l.view_at l.at_at old mid word h.0 k); stands = c.position-place.ensures }
+    let old = l.view c.args.stream.now in
+    let a = accepted l c.args.word.now _ c.args.stream.now c.accept.new.self (dotted_bytes c.args.word.now c.utf8.word c.requires) c.if-not-accept.ensures c.if-not-begins.ensures in
+    record { passed = old.passed; rest = old.rest; same = set_within l c.args.stream.now c.accept.new.self a.stands; stands = c.position-place.ensures }
 
 pub returns : goal.returns
 returns g c =
     let l = stream g in
     let old = c.args.stream.now in
-    let mid = c.accept.new.self in
-    let word = c.args.word.now in
-    let h = rw (dotted_bytes word c.utf8.word c.requires) at c.if-not-accept.ensures in
-    let k : Takes l.view l.at word h.0 old mid = record { is = h.2; same = sym h.1 } in
-    let e : begins in_dotted h.0 ≡ true = sym (c.if-not-begins.ensures ∙ ap (λ z. begins in_dotted z.rest) (seen_after l.view l.at l.view_at l.at_at old mid word h.0 k)) in
-    let s = takes_stands l.view l.at l.view_at l.at_at old mid word h.0 k in
-    (leads_less word (l.view old).rest h.0 h.1 e, set_back l old mid c.reset.new.self s (c.reset.ensures (l.view old).passed (l.view old).rest (set_within l old mid s) c.position-place.ensures))
+    let a = accepted l c.args.word.now _ old c.accept.new.self (dotted_bytes c.args.word.now c.utf8.word c.requires) c.if-not-accept.ensures c.if-not-begins.ensures in
+    let back = c.reset.ensures (l.view old).passed (l.view old).rest (set_within l old c.accept.new.self a.stands) c.position-place.ensures in
+    (leads_less c.args.word.now (l.view old).rest a.rest (sym a.takes.same) a.next, set_back l old c.accept.new.self c.reset.new.self a.stands back)

@@ -4,7 +4,8 @@ use Rattle.std.specs.Char.{is_ascii_hexdigit}
 use Rattle.std.specs.Option.{option_map}
 use Rattle.irtext_base.specs.Text.{front}
 use Rattle.irtext_read.specs.Integers.{hexadecimal_integer, hexadecimal_mark_at, hex_int_at}
-use Rattle.irtext_read.proofs.Numerals.{marked, hexadecimal_made, mark_at-encodes, encodes-front_hexadecimal, lead_refused, number_since, number_read, number_refused, number_spares}
+use Rattle.irtext_read.proofs.Words.{encodes-front_hexdigits}
+use Rattle.irtext_read.proofs.Numerals.{marked, hexadecimal_made, mark_at-encodes, lead_refused, number_since, number_read, number_refused, number_spares}
 use Rattle.irtext_read.proofs.Sparing.{lead_spares}
 use Rattle.irtext_read.proofs.Steps.{Lens, lens}
 use Rattle.irtext_read.proofs.irfmt.parsers.hexadecimal.hex_int_parse.Given as given
@@ -30,7 +31,7 @@ unfolding hex_int_at
 returns-in-None-clause-answers g c =
     let n = marked (stream g) c.args.stream.now c.mark_parse.new.stream c.take_digits-magnitude.new.stream c.in_ok-mark_parse.ensures.answers c.take_digits-magnitude.ensures.takes in
     let made = hexadecimal_made g.N.FromStrRadix.below g.met.N.FromStrRadix.narrow tt (front is_ascii_hexdigit ((stream g).view c.mark_parse.new.stream).rest) c.take_digits-magnitude.result _ (sym (ap (option_map g.N.FromStrRadix.number) c.in-None.is) ∙ c.number_of.ensures) c.take_digits-magnitude.ensures.value in
-    number_refused (stream g) n (hexadecimal_integer g.N.FromStrRadix.below) c.out_of_range.new.stream c.out_of_range.result made (mark_at-encodes ((stream g).view c.args.stream.now).rest _) encodes-front_hexadecimal c.position-place.ensures c.out_of_range.ensures
+    number_refused (stream g) n (hexadecimal_integer g.N.FromStrRadix.below) c.out_of_range.new.stream c.out_of_range.result made (mark_at-encodes ((stream g).view c.args.stream.now).rest _) encodes-front_hexdigits c.position-place.ensures c.out_of_range.ensures
 
 pub returns-in-None-clause-spares : goal.returns-in-None-clause-spares
 unfolding hex_int_at

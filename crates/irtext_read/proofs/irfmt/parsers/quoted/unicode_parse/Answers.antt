@@ -33,7 +33,7 @@ returns-in_default g c = λ before k p.
     let s = sym (ap (λ v. v.passed) (seen_after g.S.CharStream.view g.S.CharStream.at m.view_at m.at_at c.take.new.self c.take_digits-number.new.stream _ _ c.take_digits-number.ensures.takes)) in
     let w = set_within (lens g.S.CharStream.view g.S.CharStream.at m.view_at m.at_view m.at_at) before c.take_digits-number.new.stream (takes_stands g.S.CharStream.view g.S.CharStream.at m.view_at m.at_at _ _ _ _ h.takes) in
     unnamed g.S.CharStream.view g.S.CharStream.at m.view_at m.at_view m.at_at before c.take.new.self c.take_digits-number.new.stream c.no_character.new.stream c.no_character.result h (sym c.next_is-2.ensures ∙ c.if-not-next_is-2.false) e
-    (fine_before g.S.CharStream.view g.S.CharStream.at m.view_at m.at_at before c.args.stream.now (codes "\\u") _ k c.requires) (c.no_character.ensures _ _ _ (front is_ascii_hexdigit (g.S.CharStream.view c.take.new.self).rest) w p s c.position-digits.ensures)
+    (fine_before g.S.CharStream.view g.S.CharStream.at m.view_at m.at_at before c.args.stream.now (codes "\\u") _ k c.requires) (c.no_character.ensures _ _ w p _ (front is_ascii_hexdigit (g.S.CharStream.view c.take.new.self).rest) s c.position-digits.ensures)
 
 pub returns : goal.returns
 returns g c = λ before k p.

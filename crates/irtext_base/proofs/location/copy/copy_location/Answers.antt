@@ -1,0 +1,16 @@
+use Rattle.std.proofs.Common.{◌∙◌, ap}
+use Rattle.std.proofs.lemmas.Result.{IfOk-weaker}
+use Rattle.irtext_base.specs.Locations.{location_view}
+use Rattle.irtext_base.proofs.LocationViews.{nested_not_plain}
+use Rattle.irtext_base.proofs.Results.{at_err}
+use Rattle.irtext_base.proofs.Walks.{same_taken}
+use Rattle.irtext_base.proofs.location.copy.copy_location.Goals as goal
+
+pub copy-requires : goal.copy-requires
+copy-requires g c = ap (λ t. t.known) (same_taken tt (location_view c.args.location.now))
+
+pub returns-in_default : goal.returns-in_default
+returns-in_default g c = record {
+  ok = IfOk-weaker c.copy.result _ _ (λ l h. ap (λ t. t.value) (h ∙ same_taken tt (location_view c.args.location.now))) c.copy.ensures.ok;
+  err = at_err c.copy.result (nested_not_plain c.args.location.now c.in_default.not-SrcPos c.in_default.not-Unknown);
+}

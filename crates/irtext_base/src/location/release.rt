@@ -1,0 +1,125 @@
+//! The release of a location by a loop that takes no memory, so that a location may be nested however deep. What waits hangs in
+//! the first place of the location that waits before it.
+ghost use Rattle.std.specs.Prelude.{◌≡◌, ◌+◌, ◌<◌, IfSome};
+ghost use Rattle.irtext_base.specs.Weights.{weight_of, waiting_of, weight_all, waiting_all, left_of, parts_weight, parts_waiting};
+
+use crate::base::AttrObj;
+use crate::location::Location;
+use std::mem;
+
+/// The locations that stood in one that was taken apart, and what else its place needs.
+enum Parts<A> {
+    Leaf,
+    Many(Box<Option<AttrObj<A>>>, Box<Vec<Location<A>>>),
+    One(Box<Location<A>>),
+    Two(Box<Location<A>>, Box<Location<A>>),
+}
+
+impl<A> Location<A> {
+    fn into_parts(self) -> Parts<A>
+        ensures weight { parts_weight result ≡ weight_of self }
+        ensures waiting { parts_waiting result ≡ waiting_of self }
+    {
+        match self {
+            Location::SrcPos { src: _, pos: _ } => Parts::Leaf,
+            Location::Fused {
+                metadata,
+                locations,
+            } => Parts::Many(metadata, locations),
+            Location::Named { name: _, child_loc } => Parts::One(child_loc),
+            Location::CallSite { callee, caller } => Parts::Two(callee, caller),
+            Location::Unknown => Parts::Leaf,
+        }
+    }
+}
+
+/// The last of several locations, and what waits behind it.
+fn take_last<A: Drop>(
+    metadata: Box<Option<AttrObj<A>>>,
+    locations: Box<Vec<Location<A>>>,
+) -> Option<(Location<A>, Location<A>)>
+    ensures { IfSome result (λ both. left_of both.0 both.1 < 1 + waiting_all locations.value.items) }
+{
+    let mut locations = locations;
+    let Some(last) = locations.pop() else {
+        Box::into_inner(locations).destroy_empty();
+        return None;
+    };
+    if locations.is_empty() {
+        Box::into_inner(locations).destroy_empty();
+        return Some((Location::Unknown, last));
+    }
+    Some((
+        last,
+        Location::Fused {
+            metadata,
+            locations,
+        },
+    ))
+}
+
+/// The next of what waits, and what waits behind it.
+fn take_next<A: Drop>(rest: Location<A>) -> Option<(Location<A>, Location<A>)>
+    ensures { IfSome result (λ both. left_of both.0 both.1 < waiting_of rest) }
+{
+    match rest.into_parts() {
+        Parts::Leaf => None,
+        Parts::One(child) => Some((Box::into_inner(child), Location::Unknown)),
+        Parts::Two(callee, caller) => Some((Box::into_inner(caller), Box::into_inner(callee))),
+        Parts::Many(metadata, locations) => take_last(metadata, locations),
+    }
+}
+
+/// The first of several locations, with the others and what waited waiting behind it.
+fn enter<A: Drop>(
+    metadata: Box<Option<AttrObj<A>>>,
+    locations: Box<Vec<Location<A>>>,
+    rest: Location<A>,
+) -> (Location<A>, Location<A>)
+    ensures { left_of result.0 result.1 < 1 + weight_all locations.value.items + waiting_of rest }
+{
+    let mut locations = locations;
+    if locations.is_empty() {
+        Box::into_inner(locations).destroy_empty();
+        return (Location::Unknown, rest);
+    }
+    let first = mem::replace(&mut locations[0], rest);
+    (
+        first,
+        Location::Fused {
+            metadata,
+            locations,
+        },
+    )
+}
+
+/// What is let go behind a location, and what waits behind that.
+fn step<A: Drop>(next: Location<A>, rest: Location<A>) -> Option<(Location<A>, Location<A>)>
+    ensures { IfSome result (λ both. left_of both.0 both.1 < left_of next rest) }
+{
+    match next.into_parts() {
+        Parts::Leaf => take_next(rest),
+        Parts::One(child) => Some((Box::into_inner(child), rest)),
+        Parts::Two(callee, caller) => {
+            let mut callee = callee;
+            let next = mem::replace(&mut *callee, rest);
+            Some((next, Location::CallSite { callee, caller }))
+        }
+        Parts::Many(metadata, locations) => Some(enter(metadata, locations, rest)),
+    }
+}
+
+/// Lets a location go.
+pub(super) fn release<A: Drop>(location: Location<A>) {
+    let mut next = location;
+    let mut rest = Location::Unknown;
+    loop {
+        match step(next, rest) {
+            Some((location, others)) => {
+                next = location;
+                rest = others;
+            }
+            None => return,
+        }
+    }
+}

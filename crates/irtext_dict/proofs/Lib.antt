@@ -1,0 +1,5 @@
+pub mod Dictionaries
+pub mod Drops
+pub mod KeptKeys
+pub mod Spliced
+pub mod FewEntries

@@ -1,0 +1,3 @@
+pub mod Dictionary
+pub mod Others
+pub mod Entries

@@ -1,0 +1,105 @@
+-- What is seen of an object that was made, and that what is older stands as it did.
+use Rattle.std.proofs.Common.{◌≡◌, ◌≤◌, ◌+◌, ℕ, refl, ap, subst, arith, None, List, [], map, length}
+use Rattle.irtext_graph.specs.Arena as arena
+use Rattle.irtext_graph.specs.declared.arena.Arena.{Arena}
+use Rattle.irtext_graph.specs.declared.arena.Entry.{Entry}
+use Rattle.irtext_graph.specs.declared.arena.Ptr.{Ptr}
+use Rattle.irtext_graph.specs.declared.nest.Nest.{Nest}
+use Rattle.irtext_graph.specs.declared.object.Operation.{Operation}
+use Rattle.irtext_graph.specs.declared.object.BasicBlock.{BasicBlock}
+use Rattle.irtext_graph.specs.declared.object.Region.{Region}
+use Rattle.irtext_graph.specs.declared.objects.Objects.{Objects}
+use Rattle.irtext_graph.specs.declared.objects.BlockData.{BlockData}
+use Rattle.irtext_graph.specs.declared.objects.OperationData.{OperationData}
+use Rattle.irtext_graph.specs.declared.objects.RegionData.{RegionData}
+use Rattle.irtext_graph.specs.Store.{store_of, object_of, before, Inserts}
+use Rattle.irtext_graph.specs.Content.{node_of, typed, operation_content, block_content, region_content}
+use Rattle.irtext_graph.specs.Graph.{GraphView, graph_of, fresh, numbered, MakesRegion, MakesBlock, MakesOperation, KeepsOlder}
+use Rattle.irtext_graph.proofs.Stores.{inserts_seen, inserted-keeps, store_same}
+
+module _ {O B T : Type 0} where
+  pub same_keeps : (m : ℕ) (old new : GraphView O B T) → new ≡ old → KeepsOlder m old new
+  same_keeps m old new e = record {
+    operations = λ q. ap (λ (g : GraphView O B T). before m g.operations q) e;
+    blocks = λ q. ap (λ (g : GraphView O B T). before m g.blocks q) e;
+    regions = λ q. ap (λ (g : GraphView O B T). before m g.regions q) e;
+    made = let k = ap (λ (g : GraphView O B T). g.made) e in omega (arith, k);
+    values = let k = ap (λ (g : GraphView O B T). g.values) e in omega (arith, k);
+  }
+
+  pub regions_same : (m v : ℕ) (x : Objects O B T) (after : Arena (Nest Operation BasicBlock RegionData)) → after.slots.items ≡ x.regions.slots.items → after.free ≡ x.regions.free → graph_of m v (record x { regions = after }) ≡ graph_of m v x
+  regions_same m v x after e f = rw (store_same (node_of region_content) x.regions after e f) refl
+
+  pub blocks_same : (m v : ℕ) (x : Objects O B T) (after : Arena (Nest Region Operation (BlockData B T))) → after.slots.items ≡ x.blocks.slots.items → after.free ≡ x.blocks.free → graph_of m v (record x { blocks = after }) ≡ graph_of m v x
+  blocks_same m v x after e f = rw (store_same (node_of block_content) x.blocks after e f) refl
+
+  pub region_made : (m v : ℕ) (x : Objects O B T) (after : Arena (Nest Operation BasicBlock RegionData)) (p : Ptr Region) (e : Entry (Nest Operation BasicBlock RegionData)) → arena.Inserts x.regions after p e
+      → e.born ≡ m → e.content.parent ≡ None → e.content.children.items ≡ [] → MakesRegion (graph_of m v x) (graph_of (m + 1) v (record x { regions = after })) p
+  region_made m v x after p e i born none empty = record {
+    regions = subst (λ o. Inserts (store_of (node_of region_content) x.regions) (store_of (node_of region_content) after) p o) same (inserts_seen (node_of region_content) x.regions after p e i);
+    operations = refl;
+    blocks = refl;
+    made = refl;
+    values = refl;
+  }
+    where
+      same : object_of (node_of region_content) e ≡ record { born = m; content = fresh (record {}) }
+      same = rw (born, none, empty) refl
+
+  pub region-keeps : (m : ℕ) (old new : GraphView O B T) (p : Ptr Region) → m ≤ old.made → MakesRegion old new p → KeepsOlder m old new
+  region-keeps m old new p up k = record {
+    operations = λ q. ap (λ s. before m s q) k.operations;
+    blocks = λ q. ap (λ s. before m s q) k.blocks;
+    regions = inserted-keeps m old.regions new.regions p _ up k.regions;
+    made = let c = k.made in omega (arith, c);
+    values = let c = k.values in omega (arith, c);
+  }
+
+  pub block_made : (m v n : ℕ) (x : Objects O B T) (after : Arena (Nest Region Operation (BlockData B T))) (p : Ptr BasicBlock) (e : Entry (Nest Region Operation (BlockData B T))) (value : B) (types : List T) → arena.Inserts x.blocks after p e
+      → e.born ≡ m → e.content.parent ≡ None → e.content.children.items ≡ [] → e.content.data.data ≡ value → map typed e.content.data.arguments.items ≡ numbered v types → n ≡ v + length types
+      → MakesBlock (graph_of m v x) (graph_of (m + 1) n (record x { blocks = after })) p value types
+  block_made m v n x after p e value types i born none empty same_value numbers count = record {
+    blocks = subst (λ o. Inserts (store_of (node_of block_content) x.blocks) (store_of (node_of block_content) after) p o) same (inserts_seen (node_of block_content) x.blocks after p e i);
+    operations = refl;
+    regions = refl;
+    made = refl;
+    values = count;
+  }
+    where
+      same : object_of (node_of block_content) e ≡ record { born = m; content = fresh (record { data_of = value; arguments = numbered v types }) }
+      same = rw (born, none, empty, same_value, numbers) refl
+
+  pub block-keeps : (m : ℕ) (old new : GraphView O B T) (p : Ptr BasicBlock) (value : B) (types : List T) → m ≤ old.made → MakesBlock old new p value types → KeepsOlder m old new
+  block-keeps m old new p value types up k = record {
+    operations = λ q. ap (λ s. before m s q) k.operations;
+    blocks = inserted-keeps m old.blocks new.blocks p _ up k.blocks;
+    regions = λ q. ap (λ s. before m s q) k.regions;
+    made = let c = k.made in omega (arith, c);
+    values = let c = k.values in omega (arith, c);
+  }
+
+  pub operations_same : (m v : ℕ) (x : Objects O B T) (after : Arena (Nest BasicBlock Region (OperationData O T))) → after.slots.items ≡ x.operations.slots.items → after.free ≡ x.operations.free → graph_of m v (record x { operations = after }) ≡ graph_of m v x
+  operations_same m v x after e f = rw (store_same (node_of operation_content) x.operations after e f) refl
+
+  pub operation_made : (m v n : ℕ) (x : Objects O B T) (after : Arena (Nest BasicBlock Region (OperationData O T))) (p : Ptr Operation) (e : Entry (Nest BasicBlock Region (OperationData O T))) (value : O) (types : List T) → arena.Inserts x.operations after p e
+      → e.born ≡ m → e.content.parent ≡ None → e.content.children.items ≡ [] → e.content.data.data ≡ value → e.content.data.operands.items ≡ [] → e.content.data.successors.items ≡ [] → map typed e.content.data.results.items ≡ numbered v types → n ≡ v + length types
+      → MakesOperation (graph_of m v x) (graph_of (m + 1) n (record x { operations = after })) p value types
+  operation_made m v n x after p e value types i born none empty same_value no_operands no_successors numbers count = record {
+    operations = subst (λ o. Inserts (store_of (node_of operation_content) x.operations) (store_of (node_of operation_content) after) p o) same (inserts_seen (node_of operation_content) x.operations after p e i);
+    blocks = refl;
+    regions = refl;
+    made = refl;
+    values = count;
+  }
+    where
+      same : object_of (node_of operation_content) e ≡ record { born = m; content = fresh (record { data_of = value; operands = []; successors = []; results = numbered v types }) }
+      same = rw (born, none, empty, same_value, no_operands, no_successors, numbers) refl
+
+  pub operation-keeps : (m : ℕ) (old new : GraphView O B T) (p : Ptr Operation) (value : O) (types : List T) → m ≤ old.made → MakesOperation old new p value types → KeepsOlder m old new
+  operation-keeps m old new p value types up k = record {
+    operations = inserted-keeps m old.operations new.operations p _ up k.operations;
+    blocks = λ q. ap (λ s. before m s q) k.blocks;
+    regions = λ q. ap (λ s. before m s q) k.regions;
+    made = let c = k.made in omega (arith, c);
+    values = let c = k.values in omega (arith, c);
+  }

@@ -1,0 +1,374 @@
+-- What is always true of the objects stays true.
+use Rattle.std.proofs.Common.{◌≡◌, ◌≢◌, ◌<◌, ◌+◌, ◌⊎◌, ◌∙◌, ℕ, refl, sym, ap, arith, inl, inr, Option, Some, None, [], map, length, slice_get}
+use Rattle.std.specs.Option.{option_map}
+use Rattle.irtext_graph.specs.Arena.{get, found, HasFew, Inserts}
+use Rattle.irtext_graph.specs.declared.arena.Arena.{Arena}
+use Rattle.irtext_graph.specs.declared.arena.Entry.{Entry}
+use Rattle.irtext_graph.specs.declared.arena.Ptr.{Ptr}
+use Rattle.irtext_graph.specs.declared.nest.Nest.{Nest}
+use Rattle.irtext_graph.specs.declared.object.Operation.{Operation}
+use Rattle.irtext_graph.specs.declared.object.BasicBlock.{BasicBlock}
+use Rattle.irtext_graph.specs.declared.object.Region.{Region}
+use Rattle.irtext_graph.specs.declared.object.Object.{Object}
+use Rattle.irtext_graph.specs.declared.object.Object.TheVariants.{TheOperation, TheBlock, TheRegion}
+use Rattle.irtext_graph.specs.declared.object.Value.{Value}
+use Rattle.irtext_graph.specs.declared.object.Value.TheVariants.{Result, Argument}
+use Rattle.irtext_graph.specs.declared.objects.Objects.{Objects}
+use Rattle.irtext_graph.specs.declared.objects.OperationData.{OperationData}
+use Rattle.irtext_graph.specs.declared.objects.BlockData.{BlockData}
+use Rattle.irtext_graph.specs.declared.objects.RegionData.{RegionData}
+use Rattle.irtext_graph.specs.declared.objects.Operand.{Operand}
+use Rattle.irtext_graph.specs.declared.objects.Successor.{Successor}
+use Rattle.irtext_graph.specs.declared.objects.Site.{Site}
+use Rattle.irtext_graph.specs.Chained.{Chained}
+use Rattle.irtext_graph.proofs.Chains.{reframed}
+use Rattle.irtext_graph.specs.Nest.{parent_in, children_in, datum_in}
+use Rattle.irtext_graph.specs.Objects.{up, kids, IsForest, SameData, SamePlaces, eq_ptr, eq_object}
+use Rattle.irtext_graph.proofs.Same.{ptr_tells, object_tells}
+use Rattle.irtext_graph.proofs.Nests.{told, renested}
+use Rattle.irtext_graph.specs.Uses.{operand_in, successor_in, result_in, argument_in, preds_in, first_of, operand_at, successor_at, head_at, preds_at, val, block_val, value_of, prev_of, next_of, block_of, prev_block_of, next_block_of, AreUsesLinked, ArePredsLinked, eq_site, eq_value}
+use Rattle.irtext_graph.specs.Sound.{IsSound}
+use Rattle.irtext_graph.proofs.Arenas.{older_empty, older_later, older_inserted, older_same, new_view, was_none}
+use Rattle.irtext_graph.proofs.Linked.{site_tells, value_tells}
+
+-- without uses the lists are linked
+pub chained_empty : {U D : Type 0} {val : U → Option D} {prv nxt : U → Option U} {heads : D → Option (Option U)} → ((u : U) → val u ≡ None) → ((d : D) → heads d ≡ None) → Chained val prv nxt heads
+chained_empty none no_heads = record {
+  rank = λ u. 0;
+  bound = 0;
+  next_ok = λ u w d e n. let k = none u in absurd (cc);
+  prev_ok = λ u w d e n. let k = none u in absurd (cc);
+  first_ok = λ u d e n. let k = none u in absurd (cc);
+  head_ok = λ d u e. let k = no_heads d in absurd (cc);
+  stands = λ u d e. let k = none u in absurd (cc);
+  below = λ u d e. let k = none u in absurd (cc);
+}
+
+module _ {O T : Type 0} where
+  -- what the data of an object say of its links
+  abbrev operands_of : Option (ℕ × OperationData O T) → ℕ → Option Operand
+  operands_of None i = None
+  operands_of (Some d) i = slice_get d.1.operands.items i
+
+  abbrev successors_of : Option (ℕ × OperationData O T) → ℕ → Option Successor
+  successors_of None i = None
+  successors_of (Some d) i = slice_get d.1.successors.items i
+
+  abbrev results_of : Option (ℕ × OperationData O T) → ℕ → Option (Option Site)
+  results_of None i = None
+  results_of (Some d) i = first_of (slice_get d.1.results.items i)
+
+  operands_is : (e : Option (Entry (Nest BasicBlock Region (OperationData O T)))) (i : ℕ) → operand_in e i ≡ operands_of (datum_in e) i
+  operands_is None i = refl
+  operands_is (Some e) i = refl
+
+  successors_is : (e : Option (Entry (Nest BasicBlock Region (OperationData O T)))) (i : ℕ) → successor_in e i ≡ successors_of (datum_in e) i
+  successors_is None i = refl
+  successors_is (Some e) i = refl
+
+  results_is : (e : Option (Entry (Nest BasicBlock Region (OperationData O T)))) (i : ℕ) → first_of (result_in e i) ≡ results_of (datum_in e) i
+  results_is None i = refl
+  results_is (Some e) i = refl
+
+module _ {B T : Type 0} where
+  abbrev arguments_of : Option (ℕ × BlockData B T) → ℕ → Option (Option Site)
+  arguments_of None i = None
+  arguments_of (Some d) i = first_of (slice_get d.1.arguments.items i)
+
+  abbrev first_pred_of : Option (ℕ × BlockData B T) → Option (Option Site)
+  first_pred_of None = None
+  first_pred_of (Some d) = Some d.1.preds
+
+  arguments_is : (e : Option (Entry (Nest Region Operation (BlockData B T)))) (i : ℕ) → first_of (argument_in e i) ≡ arguments_of (datum_in e) i
+  arguments_is None i = refl
+  arguments_is (Some e) i = refl
+
+  first_pred_is : (e : Option (Entry (Nest Region Operation (BlockData B T)))) → preds_in e ≡ first_pred_of (datum_in e)
+  first_pred_is None = refl
+  first_pred_is (Some e) = refl
+
+module _ {O B T : Type 0} where
+  pub sound_empty : (x : Objects O B T) → x.operations.slots.items ≡ [] → x.blocks.slots.items ≡ [] → x.regions.slots.items ≡ [] → IsSound 0 x
+  sound_empty x eo eb er = record {
+    forest = record {
+      down = λ k i c e. let n = childless k in let m : slice_get (kids x k) i ≡ None = ap (λ cs. slice_get cs i) n in absurd (cc);
+      listed = λ c k e. let n = alone c in absurd (cc);
+      once = λ k i j c e f. let n = childless k in let m : slice_get (kids x k) i ≡ None = ap (λ cs. slice_get cs i) n in absurd (cc);
+      ends = λ o. (1, alone o);
+    };
+    uses = chained_empty (λ u. ap value_of (operand_none u)) head_none;
+    preds = chained_empty (λ u. ap block_of (successor_none u)) preds_none;
+    all_used = λ u l. let n = operand_none u in let m = rw n at l in absurd (cc);
+    all_targets = λ u l. let n = successor_none u in let m = rw n at l in absurd (cc);
+    few_operations = few x.operations eo;
+    few_blocks = few x.blocks eb;
+    few_regions = few x.regions er;
+    older_operations = older_empty 0 x.operations eo;
+    older_blocks = older_empty 0 x.blocks eb;
+    older_regions = older_empty 0 x.regions er;
+  }
+    where
+      few : {X : Type 0} (a : Arena X) → a.slots.items ≡ [] → HasFew a
+      few a e = let k : length a.slots.items ≡ 0 = ap length e in omega (arith, k)
+
+      none : {X K : Type 0} (a : Arena X) (p : Ptr K) → a.slots.items ≡ [] → get a p ≡ None
+      none a p e = ap (λ xs. found (slice_get xs p.index) p.generation) e
+
+      childless : (o : Object) → kids x o ≡ []
+      childless (TheOperation p) = ap (λ e. map TheRegion (children_in e)) (none x.operations p eo)
+      childless (TheBlock p) = ap (λ e. map TheOperation (children_in e)) (none x.blocks p eb)
+      childless (TheRegion p) = ap (λ e. map TheBlock (children_in e)) (none x.regions p er)
+
+      alone : (o : Object) → up x o ≡ None
+      alone (TheOperation p) = ap (λ e. option_map TheBlock (parent_in e)) (none x.operations p eo)
+      alone (TheBlock p) = ap (λ e. option_map TheRegion (parent_in e)) (none x.blocks p eb)
+      alone (TheRegion p) = ap (λ e. option_map TheOperation (parent_in e)) (none x.regions p er)
+
+      operand_none : (u : Site) → operand_at x u ≡ None
+      operand_none u = ap (λ e. operand_in e u.index) (none x.operations u.op eo)
+
+      successor_none : (u : Site) → successor_at x u ≡ None
+      successor_none u = ap (λ e. successor_in e u.index) (none x.operations u.op eo)
+
+      head_none : (v : Value) → head_at x v ≡ None
+      head_none (Result p i) = ap (λ e. first_of (result_in e i)) (none x.operations p eo)
+      head_none (Argument p i) = ap (λ e. first_of (argument_in e i)) (none x.blocks p eb)
+
+      preds_none : (b : Ptr BasicBlock) → preds_at x b ≡ None
+      preds_none b = ap preds_in (none x.blocks b eb)
+
+  module _ (x y : Objects O B T) (s : SameData x y) where
+    pub same_operand : (u : Site) → operand_at y u ≡ operand_at x u
+    same_operand u = operands_is (get y.operations u.op) u.index ∙ ap (λ d. operands_of d u.index) (s.operation_data u.op) ∙ sym (operands_is (get x.operations u.op) u.index)
+
+    pub same_successor : (u : Site) → successor_at y u ≡ successor_at x u
+    same_successor u = successors_is (get y.operations u.op) u.index ∙ ap (λ d. successors_of d u.index) (s.operation_data u.op) ∙ sym (successors_is (get x.operations u.op) u.index)
+
+    pub same_head : (v : Value) → head_at y v ≡ head_at x v
+    same_head (Result p i) = results_is (get y.operations p) i ∙ ap (λ d. results_of d i) (s.operation_data p) ∙ sym (results_is (get x.operations p) i)
+    same_head (Argument p i) = arguments_is (get y.blocks p) i ∙ ap (λ d. arguments_of d i) (s.block_data p) ∙ sym (arguments_is (get x.blocks p) i)
+
+    pub same_preds : (b : Ptr BasicBlock) → preds_at y b ≡ preds_at x b
+    same_preds b = first_pred_is (get y.blocks b) ∙ ap first_pred_of (s.block_data b) ∙ sym (first_pred_is (get x.blocks b))
+
+    pub uses_kept : AreUsesLinked x → AreUsesLinked y
+    uses_kept c = reframed eq_site site_tells eq_value value_tells c (record {
+      vals = λ u. ap value_of (same_operand u);
+      prevs = λ u d e. ap prev_of (same_operand u);
+      nexts = λ u d e. ap next_of (same_operand u);
+      same_heads = λ d. inl (same_head d);
+    })
+
+    pub preds_kept : ArePredsLinked x → ArePredsLinked y
+    preds_kept c = reframed eq_site site_tells eq_ptr ptr_tells c (record {
+      vals = λ u. ap block_of (same_successor u);
+      prevs = λ u d e. ap prev_block_of (same_successor u);
+      nexts = λ u d e. ap next_block_of (same_successor u);
+      same_heads = λ d. inl (same_preds d);
+    })
+
+    -- another forest of the same objects
+    pub sound_moved : (made : ℕ) → IsSound made x → IsForest y → SamePlaces x y → IsSound made y
+    sound_moved made i f p = record {
+      forest = f;
+      uses = uses_kept i.uses;
+      preds = preds_kept i.preds;
+      all_used = λ u l. rw (same_operand u) (i.all_used u (rw (same_operand u) at l));
+      all_targets = λ u l. rw (same_successor u) (i.all_targets u (rw (same_successor u) at l));
+      few_operations = let n = p.operation_places.len in let m = i.few_operations in omega (arith, n, m);
+      few_blocks = let n = p.block_places.len in let m = i.few_blocks in omega (arith, n, m);
+      few_regions = let n = p.region_places.len in let m = i.few_regions in omega (arith, n, m);
+      older_operations = p.operation_places.age made i.older_operations;
+      older_blocks = p.block_places.age made i.older_blocks;
+      older_regions = p.region_places.age made i.older_regions;
+    }
+
+  -- a region came that stands nowhere and holds none
+  module _ (x : Objects O B T) (made : ℕ) (after : Arena (Nest Operation BasicBlock RegionData)) (p : Ptr Region) (e : Entry (Nest Operation BasicBlock RegionData)) (i : Inserts x.regions after p e) (none : e.content.parent ≡ None) (empty : e.content.children.items ≡ []) where
+    abbrev with_region : Objects O B T
+    with_region = record x { regions = after }
+
+    region_up : (q : Object) → up with_region q ≡ up x q
+    region_up (TheOperation q) = refl
+    region_up (TheBlock q) = refl
+    region_up (TheRegion q) = new_view (λ s. option_map TheOperation (parent_in s)) x.regions after p e i (ap (option_map TheOperation) none) q
+
+    region_kids : (q : Object) → kids with_region q ≡ kids x q
+    region_kids (TheOperation q) = refl
+    region_kids (TheBlock q) = refl
+    region_kids (TheRegion q) = new_view (λ s. map TheBlock (children_in s)) x.regions after p e i (ap (map TheBlock) empty) q
+
+    pub sound_region : IsSound made x → e.born < made + 1 → HasFew after → IsSound (made + 1) (record x { regions = after })
+    sound_region s young few = record {
+      forest = renested eq_object object_tells s.forest region_kids region_up;
+      uses = s.uses;
+      preds = s.preds;
+      all_used = s.all_used;
+      all_targets = s.all_targets;
+      few_operations = s.few_operations;
+      few_blocks = s.few_blocks;
+      few_regions = few;
+      older_operations = older_later made (made + 1) x.operations s.older_operations (omega arith);
+      older_blocks = older_later made (made + 1) x.blocks s.older_blocks (omega arith);
+      older_regions = older_inserted made (made + 1) x.regions after p e s.older_regions (omega arith) young i.updates;
+    }
+
+  -- a block came that stands nowhere, holds none and is used nowhere
+  module _ (x : Objects O B T) (made : ℕ) (after : Arena (Nest Region Operation (BlockData B T))) (p : Ptr BasicBlock) (e : Entry (Nest Region Operation (BlockData B T))) (i : Inserts x.blocks after p e) (none : e.content.parent ≡ None) (empty : e.content.children.items ≡ [])
+      (unused : (j : ℕ) (u : Site) → first_of (slice_get e.content.data.arguments.items j) ≢ Some (Some u)) (no_preds : e.content.data.preds ≡ None) where
+    abbrev with_block : Objects O B T
+    with_block = record x { blocks = after }
+
+    block_up : (q : Object) → up with_block q ≡ up x q
+    block_up (TheOperation q) = refl
+    block_up (TheBlock q) = new_view (λ s. option_map TheRegion (parent_in s)) x.blocks after p e i (ap (option_map TheRegion) none) q
+    block_up (TheRegion q) = refl
+
+    block_kids : (q : Object) → kids with_block q ≡ kids x q
+    block_kids (TheOperation q) = refl
+    block_kids (TheBlock q) = new_view (λ s. map TheOperation (children_in s)) x.blocks after p e i (ap (map TheOperation) empty) q
+    block_kids (TheRegion q) = refl
+
+    was : get x.blocks p ≡ None
+    was = was_none x.blocks after p e i
+
+    block_heads : AreUsesLinked x → (d : Value) → (head_at with_block d ≡ head_at x d) ⊎ (((u : Site) → val x u ≡ Some d → ⊥) × ((u : Site) → head_at with_block d ≡ Some (Some u) → ⊥))
+    block_heads c (Result q j) = inl refl
+    block_heads c (Argument q j) = elim (told ptr_tells q p) [
+      | inr ne ↦ inl (ap (λ s. first_of (argument_in s j)) (i.updates.others q ne))
+      | inl same ↦ inr (
+        λ u used.
+            let h = c.stands u (Argument q j) used in
+            let n : head_at x (Argument q j) ≡ None = ap (λ q. first_of (argument_in (get x.blocks q) j)) same ∙ ap (λ s. first_of (argument_in s j)) was in
+            let k = h.1 in
+            cc,
+        λ u f. unused j u (sym (ap (λ q. first_of (argument_in (get after q) j)) same ∙ ap (λ s. first_of (argument_in s j)) i.updates.changed) ∙ f),
+      )
+    ]
+
+    block_preds : ArePredsLinked x → (b : Ptr BasicBlock) → (preds_at with_block b ≡ preds_at x b) ⊎ (((u : Site) → block_val x u ≡ Some b → ⊥) × ((u : Site) → preds_at with_block b ≡ Some (Some u) → ⊥))
+    block_preds c q = elim (told ptr_tells q p) [
+      | inr ne ↦ inl (ap preds_in (i.updates.others q ne))
+      | inl same ↦ inr (
+        λ u used.
+            let h = c.stands u q used in
+            let n : preds_at x q ≡ None = ap (λ q. preds_in (get x.blocks q)) same ∙ ap preds_in was in
+            let k = h.1 in
+            cc,
+        λ u f.
+            let g : Some e.content.data.preds ≡ Some (Some u) = sym (ap (λ q. preds_in (get after q)) same ∙ ap preds_in i.updates.changed) ∙ f in
+            let m = no_preds in
+            cc,
+      )
+    ]
+
+    pub sound_block : IsSound made x → e.born < made + 1 → HasFew after → IsSound (made + 1) (record x { blocks = after })
+    sound_block s young few = record {
+      forest = renested eq_object object_tells s.forest block_kids block_up;
+      uses = reframed eq_site site_tells eq_value value_tells s.uses (record { vals = λ u. refl; prevs = λ u d f. refl; nexts = λ u d f. refl; same_heads = block_heads s.uses });
+      preds = reframed eq_site site_tells eq_ptr ptr_tells s.preds (record { vals = λ u. refl; prevs = λ u d f. refl; nexts = λ u d f. refl; same_heads = block_preds s.preds });
+      all_used = s.all_used;
+      all_targets = s.all_targets;
+      few_operations = s.few_operations;
+      few_blocks = few;
+      few_regions = s.few_regions;
+      older_operations = older_later made (made + 1) x.operations s.older_operations (omega arith);
+      older_blocks = older_inserted made (made + 1) x.blocks after p e s.older_blocks (omega arith) young i.updates;
+      older_regions = older_later made (made + 1) x.regions s.older_regions (omega arith);
+    }
+
+  -- an operation came that stands nowhere, holds none, uses nothing and is used nowhere
+  module _ (x : Objects O B T) (made : ℕ) (after : Arena (Nest BasicBlock Region (OperationData O T))) (p : Ptr Operation) (e : Entry (Nest BasicBlock Region (OperationData O T))) (i : Inserts x.operations after p e) (none : e.content.parent ≡ None) (empty : e.content.children.items ≡ [])
+      (no_operands : e.content.data.operands.items ≡ []) (no_successors : e.content.data.successors.items ≡ []) (unused : (j : ℕ) (u : Site) → first_of (slice_get e.content.data.results.items j) ≢ Some (Some u)) where
+    abbrev with_operation : Objects O B T
+    with_operation = record x { operations = after }
+
+    operation_up : (q : Object) → up with_operation q ≡ up x q
+    operation_up (TheOperation q) = new_view (λ s. option_map TheBlock (parent_in s)) x.operations after p e i (ap (option_map TheBlock) none) q
+    operation_up (TheBlock q) = refl
+    operation_up (TheRegion q) = refl
+
+    operation_kids : (q : Object) → kids with_operation q ≡ kids x q
+    operation_kids (TheOperation q) = new_view (λ s. map TheRegion (children_in s)) x.operations after p e i (ap (map TheRegion) empty) q
+    operation_kids (TheBlock q) = refl
+    operation_kids (TheRegion q) = refl
+
+    operand_kept : (u : Site) → operand_at with_operation u ≡ operand_at x u
+    operand_kept u = new_view (λ s. operand_in s u.index) x.operations after p e i (ap (λ os. slice_get os u.index) no_operands) u.op
+
+    successor_kept : (u : Site) → successor_at with_operation u ≡ successor_at x u
+    successor_kept u = new_view (λ s. successor_in s u.index) x.operations after p e i (ap (λ os. slice_get os u.index) no_successors) u.op
+
+    operation_heads : AreUsesLinked x → (d : Value) → (head_at with_operation d ≡ head_at x d) ⊎ (((u : Site) → val x u ≡ Some d → ⊥) × ((u : Site) → head_at with_operation d ≡ Some (Some u) → ⊥))
+    operation_heads c (Argument q j) = inl refl
+    operation_heads c (Result q j) = elim (told ptr_tells q p) [
+      | inr ne ↦ inl (ap (λ s. first_of (result_in s j)) (i.updates.others q ne))
+      | inl same ↦ inr (
+        λ u used.
+            let h = c.stands u (Result q j) used in
+            let n : head_at x (Result q j) ≡ None = ap (λ q. first_of (result_in (get x.operations q) j)) same ∙ ap (λ s. first_of (result_in s j)) (was_none x.operations after p e i) in
+            let k = h.1 in
+            cc,
+        λ u f. unused j u (sym (ap (λ q. first_of (result_in (get after q) j)) same ∙ ap (λ s. first_of (result_in s j)) i.updates.changed) ∙ f),
+      )
+    ]
+
+    pub sound_operation : IsSound made x → e.born < made + 1 → HasFew after → IsSound (made + 1) (record x { operations = after })
+    sound_operation s young few = record {
+      forest = renested eq_object object_tells s.forest operation_kids operation_up;
+      uses = reframed eq_site site_tells eq_value value_tells s.uses (record {
+        vals = λ u. ap value_of (operand_kept u);
+        prevs = λ u d f. ap prev_of (operand_kept u);
+        nexts = λ u d f. ap next_of (operand_kept u);
+        same_heads = operation_heads s.uses;
+      });
+      preds = reframed eq_site site_tells eq_ptr ptr_tells s.preds (record {
+        vals = λ u. ap block_of (successor_kept u);
+        prevs = λ u d f. ap prev_block_of (successor_kept u);
+        nexts = λ u d f. ap next_block_of (successor_kept u);
+        same_heads = λ d. inl refl;
+      });
+      all_used = λ u l. rw (operand_kept u) (s.all_used u (rw (operand_kept u) at l));
+      all_targets = λ u l. rw (successor_kept u) (s.all_targets u (rw (successor_kept u) at l));
+      few_operations = few;
+      few_blocks = s.few_blocks;
+      few_regions = s.few_regions;
+      older_operations = older_inserted made (made + 1) x.operations after p e s.older_operations (omega arith) young i.updates;
+      older_blocks = older_later made (made + 1) x.blocks s.older_blocks (omega arith);
+      older_regions = older_later made (made + 1) x.regions s.older_regions (omega arith);
+    }
+
+  -- nothing changed but how much room there is
+  pub sound_same : (made : ℕ) (x y : Objects O B T) → y.operations.slots.items ≡ x.operations.slots.items → y.blocks.slots.items ≡ x.blocks.slots.items → y.regions.slots.items ≡ x.regions.slots.items → IsSound made x → IsSound made y
+  sound_same made x y eo eb er s = record {
+    forest = renested eq_object object_tells s.forest same_kids same_up;
+    uses = uses_kept x y same_data s.uses;
+    preds = preds_kept x y same_data s.preds;
+    all_used = λ u l. rw (same_operand x y same_data u) (s.all_used u (rw (same_operand x y same_data u) at l));
+    all_targets = λ u l. rw (same_successor x y same_data u) (s.all_targets u (rw (same_successor x y same_data u) at l));
+    few_operations = few x.operations y.operations eo s.few_operations;
+    few_blocks = few x.blocks y.blocks eb s.few_blocks;
+    few_regions = few x.regions y.regions er s.few_regions;
+    older_operations = older_same made x.operations y.operations eo s.older_operations;
+    older_blocks = older_same made x.blocks y.blocks eb s.older_blocks;
+    older_regions = older_same made x.regions y.regions er s.older_regions;
+  }
+    where
+      found_same : {X K V : Type 0} (view : Option (Entry X) → V) (a b : Arena X) (p : Ptr K) → b.slots.items ≡ a.slots.items → view (get b p) ≡ view (get a p)
+      found_same view a b p e = ap (λ xs. view (found (slice_get xs p.index) p.generation)) e
+
+      few : {X : Type 0} (a b : Arena X) → b.slots.items ≡ a.slots.items → HasFew a → HasFew b
+      few a b e f = let n = ap length e in omega (arith, n, f)
+
+      same_kids : (q : Object) → kids y q ≡ kids x q
+      same_kids (TheOperation q) = found_same (λ s. map TheRegion (children_in s)) x.operations y.operations q eo
+      same_kids (TheBlock q) = found_same (λ s. map TheOperation (children_in s)) x.blocks y.blocks q eb
+      same_kids (TheRegion q) = found_same (λ s. map TheBlock (children_in s)) x.regions y.regions q er
+
+      same_up : (q : Object) → up y q ≡ up x q
+      same_up (TheOperation q) = found_same (λ s. option_map TheBlock (parent_in s)) x.operations y.operations q eo
+      same_up (TheBlock q) = found_same (λ s. option_map TheRegion (parent_in s)) x.blocks y.blocks q eb
+      same_up (TheRegion q) = found_same (λ s. option_map TheOperation (parent_in s)) x.regions y.regions q er
+
+      same_data : SameData x y
+      same_data = record { operation_data = λ q. found_same datum_in x.operations y.operations q eo; block_data = λ q. found_same datum_in x.blocks y.blocks q eb }

@@ -1,0 +1,133 @@
+-- What the view says of an object is what the arenas hold.
+use Rattle.std.proofs.Common.{◌≡◌, ◌∙◌, ◌++◌, ◌∷◌, ℕ, refl, sym, ap, Option, Some, None, List, [], map, Result, Ok, Err, OnOk, OnErr}
+use Rattle.std.specs.Option.{option_map}
+use Rattle.irtext_graph.specs.Arena as arena
+use Rattle.irtext_graph.specs.Arena.{KeepsPlaces}
+use Rattle.irtext_graph.specs.declared.arena.Arena.{Arena}
+use Rattle.irtext_graph.specs.declared.arena.Entry.{Entry}
+use Rattle.irtext_graph.specs.declared.arena.Slot.{Slot}
+use Rattle.irtext_graph.specs.declared.arena.Slot.TheVariants.{Vacant, Full}
+use Rattle.irtext_graph.specs.declared.arena.Ptr.{Ptr}
+use Rattle.irtext_graph.specs.declared.nest.Nest.{Nest}
+use Rattle.irtext_graph.specs.declared.object.Object.{Object}
+use Rattle.irtext_graph.specs.declared.object.Object.TheVariants.{TheOperation, TheBlock, TheRegion}
+use Rattle.irtext_graph.specs.declared.objects.Objects.{Objects}
+use Rattle.irtext_graph.specs.Store.{Store, store_of, cell_of, get, object_of}
+use Rattle.irtext_graph.specs.Content.{Node, node_of, nodes, Content.{AnOperation, ABlock, ARegion}, operation_content, block_content, region_content}
+use Rattle.irtext_graph.specs.Nested.{Within}
+use Rattle.irtext_graph.proofs.Nests.{climb-same}
+use Rattle.irtext_graph.specs.Nest.{parent_in, children_in, datum_in}
+use Rattle.irtext_graph.specs.Objects.{up, kids, what, Lives, SameNodes}
+use Rattle.irtext_graph.specs.Objects as objects
+use Rattle.irtext_graph.specs.Graph.{SamePlaces, graph_of, parent_of, children_of, content_of, parent, children, content, Stands, IsInside, CanInsert, KeepsObjects, Appends}
+use Rattle.irtext_graph.proofs.Stores.{get_seen, generation_seen, length_seen}
+
+module _ {P C D E : Type 0} (see : D → E) where
+  parent_seen : {K : Type 0} (a : Arena (Nest P C D)) (p : Ptr K) → parent_of (get (store_of (node_of see) a) p) ≡ parent_in (arena.get a p)
+  parent_seen a p = ap parent_of (get_seen (node_of see) a p) ∙ go (arena.get a p)
+    where
+      go : (e : Option (Entry (Nest P C D))) → parent_of (option_map (object_of (node_of see)) e) ≡ parent_in e
+      go None = refl
+      go (Some e) = refl
+
+  children_seen : {K : Type 0} (a : Arena (Nest P C D)) (p : Ptr K) → children_of (get (store_of (node_of see) a) p) ≡ children_in (arena.get a p)
+  children_seen a p = ap children_of (get_seen (node_of see) a p) ∙ go (arena.get a p)
+    where
+      go : (e : Option (Entry (Nest P C D))) → children_of (option_map (object_of (node_of see)) e) ≡ children_in e
+      go None = refl
+      go (Some e) = refl
+
+  content_seen : {K V : Type 0} (f : ℕ → E → V) (a : Arena (Nest P C D)) (p : Ptr K) → option_map (λ d. f d.0 d.1) (content_of (get (store_of (node_of see) a) p)) ≡ option_map (λ d. f d.0 (see d.1)) (datum_in (arena.get a p))
+  content_seen {V = V} f a p = ap (λ e. option_map (λ d. f d.0 d.1) (content_of e)) (get_seen (node_of see) a p) ∙ go (arena.get a p)
+    where
+      go : (e : Option (Entry (Nest P C D))) → option_map (λ d. f d.0 d.1) (content_of (option_map (object_of (node_of see)) e)) ≡ option_map (λ d. f d.0 (see d.1)) (datum_in e)
+      go None = refl
+      go (Some e) = refl
+
+  places_seen : (a b : Arena (Nest P C D)) → KeepsPlaces a b → SamePlaces (store_of (node_of see) a) (store_of (node_of see) b)
+  places_seen a b k = record {
+    generations = λ i. generation_seen (node_of see) b i ∙ k.generations i ∙ sym (generation_seen (node_of see) a i);
+    free = k.free;
+    len = length_seen (node_of see) b.slots.items ∙ k.len ∙ sym (length_seen (node_of see) a.slots.items);
+  }
+
+store_is : {P C D E : Type 0} (see : D → E) (a b : Arena (Nest P C D)) → nodes b ≡ nodes a → store_of (node_of see) b ≡ store_of (node_of see) a
+store_is {P} {C} {D} {E} see a b e = seen_through b ∙ ap through e ∙ sym (seen_through a)
+  where
+    node_through : Node P C D → Node P C E
+    node_through n = record { parent = n.parent; children = n.children; content = see n.content }
+
+    through : Store (Node P C D) → Store (Node P C E)
+    through s = record { cells = map (λ c. record { generation = c.generation; object = option_map (object_of node_through) c.object }) s.cells; free = s.free }
+
+    seen_through : (a : Arena (Nest P C D)) → store_of (node_of see) a ≡ through (nodes a)
+    seen_through a = ap (λ cs. record { cells = cs; free = arena.free_place a }) (go a.slots.items)
+      where
+        go : (xs : List (Slot (Nest P C D))) → map (cell_of (node_of see)) xs ≡ map (λ c. record { generation = c.generation; object = option_map (object_of node_through) c.object }) (map (cell_of (node_of (λ d. d))) xs)
+        go [] = refl
+        go (Vacant g n ∷ xs) = ap (λ cs. cell_of (node_of see) (Vacant g n) ∷ cs) (go xs)
+        go (Full g o ∷ xs) = ap (λ cs. cell_of (node_of see) (Full g o) ∷ cs) (go xs)
+
+module _ {O B T : Type 0} where
+  pub up_seen : (m v : ℕ) (x : Objects O B T) (o : Object) → parent (graph_of m v x) o ≡ up x o
+  up_seen m v x (TheOperation p) = ap (option_map TheBlock) (parent_seen operation_content x.operations p)
+  up_seen m v x (TheBlock p) = ap (option_map TheRegion) (parent_seen block_content x.blocks p)
+  up_seen m v x (TheRegion p) = ap (option_map TheOperation) (parent_seen region_content x.regions p)
+
+  pub kids_seen : (m v : ℕ) (x : Objects O B T) (o : Object) → children (graph_of m v x) o ≡ kids x o
+  kids_seen m v x (TheOperation p) = ap (map TheRegion) (children_seen operation_content x.operations p)
+  kids_seen m v x (TheBlock p) = ap (map TheOperation) (children_seen block_content x.blocks p)
+  kids_seen m v x (TheRegion p) = ap (map TheBlock) (children_seen region_content x.regions p)
+
+  pub what_seen : (m v : ℕ) (x : Objects O B T) (o : Object) → content (graph_of m v x) o ≡ what x o
+  what_seen m v x (TheOperation p) = content_seen operation_content AnOperation x.operations p
+  what_seen m v x (TheBlock p) = content_seen block_content ABlock x.blocks p
+  what_seen m v x (TheRegion p) = content_seen region_content ARegion x.regions p
+
+  pub lives_at : (m v : ℕ) (x : Objects O B T) (o : Object) → Stands (graph_of m v x) o → Lives x o
+  lives_at m v x o l = rw (what_seen m v x o) at l
+
+  pub within_seen : (m v : ℕ) (x : Objects O B T) (o q : Object) → Within (up x) o q → IsInside (graph_of m v x) o q
+  within_seen m v x o q w = (w.0, climb-same (up x) (parent (graph_of m v x)) (up_seen m v x) w.0 (Some q) ∙ w.1)
+
+  pub within_at : (m v : ℕ) (x : Objects O B T) (o q : Object) → IsInside (graph_of m v x) o q → Within (up x) o q
+  within_at m v x o q w = (w.0, sym (climb-same (up x) (parent (graph_of m v x)) (up_seen m v x) w.0 (Some q)) ∙ w.1)
+
+  pub can_seen : (m v : ℕ) (x : Objects O B T) (k c : Object) → objects.CanInsert x k c → CanInsert (graph_of m v x) k c
+  can_seen m v x k c a = record { free = up_seen m v x c ∙ a.free; apart = λ w. a.apart (within_at m v x c k w) }
+
+  pub can_at : (m v : ℕ) (x : Objects O B T) (k c : Object) → CanInsert (graph_of m v x) k c → objects.CanInsert x k c
+  can_at m v x k c a = record { free = sym (up_seen m v x c) ∙ a.free; apart = λ w. a.apart (within_seen m v x c k w) }
+
+  pub keeps_seen : (m v : ℕ) (x y : Objects O B T) → ((q : Object) → what y q ≡ what x q) → objects.SamePlaces x y → KeepsObjects (graph_of m v x) (graph_of m v y)
+  keeps_seen m v x y w p = record {
+    contents = λ q. what_seen m v y q ∙ w q ∙ sym (what_seen m v x q);
+    operation_places = places_seen operation_content x.operations y.operations p.operation_places;
+    block_places = places_seen block_content x.blocks y.blocks p.block_places;
+    region_places = places_seen region_content x.regions y.regions p.region_places;
+    made = refl;
+    values = refl;
+  }
+
+  pub appends_seen : (m v : ℕ) (x y : Objects O B T) (k c : Object) → objects.SamePlaces x y → objects.Appends x y k c → Appends (graph_of m v x) (graph_of m v y) k c
+  appends_seen m v x y k c p a = record {
+    here = kids_seen m v y k ∙ a.here ∙ ap (λ xs. xs ++ c ∷ []) (sym (kids_seen m v x k));
+    others = λ o ne. kids_seen m v y o ∙ a.others o ne ∙ sym (kids_seen m v x o);
+    parent_here = up_seen m v y c ∙ a.up_here;
+    parents = λ o ne. up_seen m v y o ∙ a.ups o ne ∙ sym (up_seen m v x o);
+    objects = keeps_seen m v x y a.whats p;
+  }
+
+  pub moved_seen : (m v : ℕ) (x y : Objects O B T) (k c : Object) {E : Type 0} (r : Result (Unit {0}) E) → objects.SamePlaces x y → OnOk r (objects.Appends x y k c) → OnOk r (Appends (graph_of m v x) (graph_of m v y) k c)
+  moved_seen m v x y k c (Ok u) p a = appends_seen m v x y k c p a
+  moved_seen m v x y k c (Err e) p a = a
+
+  pub same_seen : (m v : ℕ) (x y : Objects O B T) → SameNodes x y → graph_of m v y ≡ graph_of m v x
+  same_seen m v x y s = rw (store_is operation_content x.operations y.operations s.same_operations, store_is block_content x.blocks y.blocks s.same_blocks, store_is region_content x.regions y.regions s.same_regions) refl
+
+  pub refused_seen : (m v : ℕ) (x y : Objects O B T) {E : Type 0} (r : Result (Unit {0}) E) → OnErr r (SameNodes x y) → OnErr r (graph_of m v y ≡ graph_of m v x)
+  refused_seen m v x y (Ok u) s = s
+  refused_seen m v x y (Err e) s = same_seen m v x y s
+
+  pub lives_seen : (m v : ℕ) (x : Objects O B T) (o : Object) → Lives x o → Stands (graph_of m v x) o
+  lives_seen m v x o l = rw (what_seen m v x o) l

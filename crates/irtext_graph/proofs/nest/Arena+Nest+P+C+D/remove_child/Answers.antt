@@ -1,0 +1,28 @@
+use Rattle.std.proofs.Common.{◌≡◌, ap, arith, refl, length}
+use Rattle.irtext_graph.specs.Nest.{kids, children_in, parent_in, datum_in}
+use Rattle.irtext_graph.proofs.Arenas.{replaced, same_view, places_kept, stood}
+use Rattle.irtext_graph.proofs.Children.{links_with}
+use Rattle.std.proofs.lemmas.List.Edits.{length-remove}
+use Rattle.irtext_graph.proofs.nest.Arena+Nest+P+C+D.remove_child.Goals as goal
+
+pub returns-clause-places : goal.returns-clause-places
+returns-clause-places g c = places_kept c.args.self.now c.args.p c.content_mut.result.now _ c.content_mut.ensures.value
+
+pub returns-clause-ups : goal.returns-clause-ups
+returns-clause-ups g c = λ q. same_view parent_in (replaced c.args.self.now c.args.p c.content_mut.result.now _ c.content_mut.ensures.value) (λ b. refl) q
+
+pub returns-clause-data : goal.returns-clause-data
+returns-clause-data g c = λ q. same_view datum_in (replaced c.args.self.now c.args.p c.content_mut.result.now _ c.content_mut.ensures.value) (λ b. refl) q
+
+pub returns-clause-others : goal.returns-clause-others
+returns-clause-others g c = λ q ne. ap children_in ((replaced c.args.self.now c.args.p c.content_mut.result.now _ c.content_mut.ensures.value).others q ne)
+
+pub returns-clause-less : goal.returns-clause-less
+returns-clause-less g c =
+    let x = c.content_mut.result.now in
+    let k = links_with c.args.self.now c.args.p x (record x { children = c.remove.new.self }) c.content_mut.ensures.value in
+    let r = stood c.args.self.now c.args.p x c.content_mut.ensures.value in
+    let here : length (kids c.args.self.now c.args.p) ≡ length x.children.items = ap (λ e. length (children_in e)) r.1 in
+    let n = length-remove x.children.items c.args.i (omega (arith, here, c.requires.within)) in
+    let m = ap length c.remove.ensures.items in
+    omega (arith, k, n, m)

@@ -1,0 +1,121 @@
+-- What an arena holds under its pointers, and which pointer comes next.
+use Rattle.std.specs.Prelude.{◌≡◌, ◌≢◌, ◌<◌, ◌≤◌, ◌+◌, ◌==◌, ℕ, Bool, true, false, length, Option, Some, None, slice_get, if◌then◌else◌, nat_lt, unwrap_or}
+use Rattle.irtext_graph.specs.declared.arena.Slot.{Slot}
+use Rattle.irtext_graph.specs.declared.arena.Slot.TheVariants.{Vacant, Full}
+use Rattle.irtext_graph.specs.declared.arena.Entry.{Entry}
+use Rattle.irtext_graph.specs.declared.arena.Arena.{Arena}
+use Rattle.irtext_graph.specs.declared.arena.Ptr.{Ptr}
+
+module _ {X : Type 0} where
+  -- the last generation that a place handed out
+  abbrev pub generation_of : Slot X → ℕ
+  generation_of (Vacant g _) = g
+  generation_of (Full g _) = g
+
+  -- the object of a place
+  abbrev pub held : Slot X → Option (Entry X)
+  held (Vacant _ _) = None
+  held (Full _ x) = Some x
+
+  -- the object of a place, under a generation
+  abbrev pub content : Slot X → ℕ → Option (Entry X)
+  content (Vacant _ _) g = None
+  content (Full h x) g = (if h == g then Some x else None)
+
+  -- the same where there may be no such place
+  abbrev pub found : Option (Slot X) → ℕ → Option (Entry X)
+  found None g = None
+  found (Some s) g = content s g
+
+  -- the last generation handed out where there may be no such place: 0
+  abbrev pub drawn : Option (Slot X) → ℕ
+  drawn None = 0
+  drawn (Some s) = generation_of s
+
+  -- an object stands at the place
+  abbrev pub is_full : Slot X → Bool
+  is_full (Vacant _ _) = false
+  is_full (Full _ _) = true
+
+  -- the place is free, and its generations are not used up
+  abbrev pub is_usable : Option (Slot X) → Bool
+  is_usable None = false
+  is_usable (Some (Vacant g _)) = nat_lt g 4294967294
+  is_usable (Some (Full _ _)) = false
+
+  -- the object under a pointer
+  abbrev pub get : {K : Type 0} → Arena X → Ptr K → Option (Entry X)
+  get a p = found (slice_get a.slots.items p.index) p.generation
+
+  -- how far a place's generations have come
+  abbrev pub generation_at : Arena X → ℕ → ℕ
+  generation_at a i = drawn (slice_get a.slots.items i)
+
+  -- the place that was given back last, where it can be used again
+  abbrev pub free_place : Arena X → Option ℕ
+  free_place a = (if is_usable (slice_get a.slots.items a.free) then Some a.free else None)
+
+  -- the place that the next object takes: that one, or else a new one
+  abbrev pub next_index : Arena X → ℕ
+  next_index a = unwrap_or (free_place a) (length a.slots.items)
+
+  -- no place counts as far as the greatest `u32`
+  abbrev pub HasFew : Arena X → Type 0
+  HasFew a = length a.slots.items ≤ 4294967294
+
+  -- the arena has this under the pointer, and what it had under every other
+  pub record Updates {K : Type 0} (old new : Arena X) (p : Ptr K) (x : Option (Entry X)) : Type 0 where
+    pub changed : get new p ≡ x
+    pub others : (q : Ptr K) → q ≢ p → get new q ≡ get old q
+
+  -- an object came to stand at the next place, under the next generation of that place
+  pub record Inserts {K : Type 0} (old new : Arena X) (p : Ptr K) (x : Entry X) : Type 0 where
+    pub place : p.index ≡ next_index old
+    pub next : p.generation ≡ generation_at old p.index + 1
+    pub drawn_here : generation_at new p.index ≡ p.generation
+    pub drawn_elsewhere : (i : ℕ) → i ≢ p.index → generation_at new i ≡ generation_at old i
+    pub updates : Updates old new p (Some x)
+    pub none_free : free_place old ≡ None → free_place new ≡ None
+
+  -- the object, if it was made before the mark
+  abbrev pub older : ℕ → Option (Entry X) → Option (Entry X)
+  older mark None = None
+  older mark (Some x) = (if nat_lt x.born mark then Some x else None)
+
+  -- an object that is no older than the mark stands at the place
+  abbrev pub IsNew : ℕ → Option (Slot X) → Type 0
+  IsNew mark None = ⊥
+  IsNew mark (Some (Vacant _ _)) = ⊥
+  IsNew mark (Some (Full _ x)) = mark ≤ x.born
+
+  -- an object stands at the place
+  abbrev pub IsFull : Option (Slot X) → Type 0
+  IsFull None = ⊥
+  IsFull (Some (Vacant _ _)) = ⊥
+  IsFull (Some (Full _ _)) = Unit {0}
+
+  -- the place is free
+  abbrev pub IsVacant : Option (Slot X) → Type 0
+  IsVacant None = ⊥
+  IsVacant (Some (Vacant _ _)) = Unit {0}
+  IsVacant (Some (Full _ _)) = ⊥
+
+  -- the object with another content
+  abbrev pub filled : Entry X → X → Entry X
+  filled o x = record o { content = x }
+
+  -- the place with another content of its object
+  abbrev pub with_content : Slot X → X → Slot X
+  with_content (Vacant g next) x = Vacant g next
+  with_content (Full g o) x = Full g (filled o x)
+
+  -- every object is older than the mark
+  abbrev pub AreOlder : ℕ → Arena X → Type 0
+  AreOlder mark a = (i g : ℕ) (o : Entry X) → found (slice_get a.slots.items i) g ≡ Some o → o.born < mark
+
+  -- the places are as they were: what they handed out, which comes next, and how old the objects are
+  pub record KeepsPlaces (old new : Arena X) : Type 0 where
+    pub generations : (i : ℕ) → generation_at new i ≡ generation_at old i
+    pub free : free_place new ≡ free_place old
+    pub len : length new.slots.items ≡ length old.slots.items
+    pub age : (mark : ℕ) → AreOlder mark old → AreOlder mark new

@@ -1,0 +1,12 @@
+pub mod Arena
+pub mod Store
+pub mod Nest
+pub mod Nested
+pub mod Content
+pub mod Objects
+pub mod Chained
+pub mod Graph
+pub mod Uses
+pub mod Defines
+pub mod Sound
+pub mod Lending

@@ -1,0 +1,46 @@
+-- What an arena of nested objects holds under its pointers.
+use Rattle.std.specs.Prelude.{ℕ, List, [], length, Option, Some, None, sum_by}
+use Rattle.irtext_graph.specs.declared.arena.Slot.{Slot}
+use Rattle.irtext_graph.specs.declared.arena.Slot.TheVariants.{Vacant, Full}
+use Rattle.irtext_graph.specs.declared.arena.Entry.{Entry}
+use Rattle.irtext_graph.specs.declared.arena.Arena.{Arena}
+use Rattle.irtext_graph.specs.declared.arena.Ptr.{Ptr}
+use Rattle.irtext_graph.specs.declared.nest.Nest.{Nest}
+use Rattle.irtext_graph.specs.Arena.{get}
+
+module _ {P C D : Type 0} where
+  -- what an object stands in, where there is one
+  abbrev pub parent_in : Option (Entry (Nest P C D)) → Option (Ptr P)
+  parent_in None = None
+  parent_in (Some x) = x.content.parent
+
+  -- what stands in an object, in order, where there is one
+  abbrev pub children_in : Option (Entry (Nest P C D)) → List (Ptr C)
+  children_in None = []
+  children_in (Some x) = x.content.children.items
+
+  -- how many objects were made before an object, and its data
+  abbrev pub datum_in : Option (Entry (Nest P C D)) → Option (ℕ × D)
+  datum_in None = None
+  datum_in (Some x) = Some (x.born, x.content.data)
+
+  -- what the object under a pointer stands in
+  abbrev pub up : {K : Type 0} → Arena (Nest P C D) → Ptr K → Option (Ptr P)
+  up a p = parent_in (get a p)
+
+  -- what stands in the object under a pointer
+  abbrev pub kids : {K : Type 0} → Arena (Nest P C D) → Ptr K → List (Ptr C)
+  kids a p = children_in (get a p)
+
+  -- the age and the data of the object under a pointer
+  abbrev pub datum : {K : Type 0} → Arena (Nest P C D) → Ptr K → Option (ℕ × D)
+  datum a p = datum_in (get a p)
+
+  -- how many children the object of a place has
+  abbrev pub size : Slot (Nest P C D) → ℕ
+  size (Vacant _ _) = 0
+  size (Full _ x) = length x.content.children.items
+
+  -- how many children there are in all
+  abbrev pub links : Arena (Nest P C D) → ℕ
+  links a = sum_by size a.slots.items

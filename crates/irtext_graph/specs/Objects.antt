@@ -1,0 +1,133 @@
+-- The objects of three arenas as one forest.
+use Rattle.std.specs.Prelude.{◌++◌, ◌∷◌, ◌≡◌, ◌≢◌, ◌<◌, ◌+◌, ◌&&◌, eqb, Bool, true, false, ℕ, List, [], Option, Some, None, map, IsSome, nat_lt}
+use Rattle.std.specs.Option.{option_map}
+use Rattle.irtext_graph.specs.declared.arena.Ptr.{Ptr}
+use Rattle.irtext_graph.specs.declared.object.Object.{Object}
+use Rattle.irtext_graph.specs.declared.object.Object.TheVariants.{TheOperation, TheBlock, TheRegion}
+use Rattle.irtext_graph.specs.declared.objects.Objects.{Objects}
+use Rattle.irtext_graph.specs.Content.{Content, Content.{AnOperation, ABlock, ARegion}, operation_content, block_content, region_content, nodes}
+use Rattle.irtext_graph.specs.Nested.{Nested, Within}
+use Rattle.irtext_graph.specs.Nest.{up as parent_at, kids as children_at, links as links_of, datum}
+use Rattle.irtext_graph.specs.Arena.{KeepsPlaces}
+use Rattle.irtext_graph.specs.declared.object.Operation.{Operation}
+use Rattle.irtext_graph.specs.declared.object.BasicBlock.{BasicBlock}
+
+-- whether two pointers are the same
+abbrev pub eq_ptr : {K : Type 0} → Ptr K → Ptr K → Bool
+eq_ptr p q = eqb p.index q.index && eqb p.generation q.generation
+
+-- whether two names of objects name one object
+abbrev pub eq_object : Object → Object → Bool
+eq_object (TheOperation p) (TheOperation q) = eq_ptr p q
+eq_object (TheBlock p) (TheBlock q) = eq_ptr p q
+eq_object (TheRegion p) (TheRegion q) = eq_ptr p q
+eq_object _ _ = false
+
+-- an object of this kind can hold one of that kind
+abbrev pub Fits : Object → Object → Type 0
+Fits (TheOperation _) (TheRegion _) = Unit {0}
+Fits (TheRegion _) (TheBlock _) = Unit {0}
+Fits (TheBlock _) (TheOperation _) = Unit {0}
+Fits _ _ = ⊥
+
+module _ {O B T : Type 0} where
+  -- what an object stands in
+  abbrev pub up : Objects O B T → Object → Option Object
+  up x (TheOperation p) = option_map TheBlock (parent_at x.operations p)
+  up x (TheBlock p) = option_map TheRegion (parent_at x.blocks p)
+  up x (TheRegion p) = option_map TheOperation (parent_at x.regions p)
+
+  -- what stands in an object, in order
+  abbrev pub kids : Objects O B T → Object → List Object
+  kids x (TheOperation p) = map TheRegion (children_at x.operations p)
+  kids x (TheBlock p) = map TheOperation (children_at x.blocks p)
+  kids x (TheRegion p) = map TheBlock (children_at x.regions p)
+
+  -- when an object was made, and what it is
+  abbrev pub what : Objects O B T → Object → Option (Content O B T)
+  what x (TheOperation p) = option_map (λ d. AnOperation d.0 (operation_content d.1)) (datum x.operations p)
+  what x (TheBlock p) = option_map (λ d. ABlock d.0 (block_content d.1)) (datum x.blocks p)
+  what x (TheRegion p) = option_map (λ d. ARegion d.0 (region_content d.1)) (datum x.regions p)
+
+  -- the object is there
+  abbrev pub Lives : Objects O B T → Object → Type 0
+  Lives x o = IsSome (what x o)
+
+  -- how many objects stand in another
+  abbrev pub links : Objects O B T → ℕ
+  links x = links_of x.operations + links_of x.blocks + links_of x.regions
+
+  -- an object is as it was
+  pub record SameAt (old new : Objects O B T) (o : Object) : Type 0 where
+    pub same_up : up new o ≡ up old o
+    pub same_kids : kids new o ≡ kids old o
+    pub same_what : what new o ≡ what old o
+
+  -- no object stands there
+  pub record IsGone (x : Objects O B T) (o : Object) : Type 0 where
+    pub gone_up : up x o ≡ None
+    pub gone_kids : kids x o ≡ []
+    pub gone_what : what x o ≡ None
+
+  -- the objects are a forest
+  abbrev pub IsForest : Objects O B T → Type 0
+  IsForest x = Nested (kids x) (up x)
+
+  -- c came to stand last in k
+  pub record Appends (old new : Objects O B T) (k c : Object) : Type 0 where
+    pub here : kids new k ≡ kids old k ++ c ∷ []
+    pub others : (x : Object) → x ≢ k → kids new x ≡ kids old x
+    pub up_here : up new c ≡ Some k
+    pub ups : (x : Object) → x ≢ c → up new x ≡ up old x
+    pub whats : (x : Object) → what new x ≡ what old x
+
+  -- c stands nowhere, and k is not inside it
+  pub record CanInsert (x : Objects O B T) (k c : Object) : Type 0 where
+    pub free : up x c ≡ None
+    pub apart : Within (up x) c k → ⊥
+
+  -- the arenas hold the same
+  pub record SameNodes (old new : Objects O B T) : Type 0 where
+    pub same_operations : nodes new.operations ≡ nodes old.operations
+    pub same_blocks : nodes new.blocks ≡ nodes old.blocks
+    pub same_regions : nodes new.regions ≡ nodes old.regions
+
+  -- the data of all objects are as they were, links included
+  pub record SameData (old new : Objects O B T) : Type 0 where
+    pub operation_data : (p : Ptr Operation) → datum new.operations p ≡ datum old.operations p
+    pub block_data : (p : Ptr BasicBlock) → datum new.blocks p ≡ datum old.blocks p
+
+  -- the places of all arenas are as they were
+  pub record SamePlaces (old new : Objects O B T) : Type 0 where
+    pub operation_places : KeepsPlaces old.operations new.operations
+    pub block_places : KeepsPlaces old.blocks new.blocks
+    pub region_places : KeepsPlaces old.regions new.regions
+
+  -- how many objects were made before an object
+  abbrev pub born_of : Content O B T → ℕ
+  born_of (AnOperation b _) = b
+  born_of (ABlock b _) = b
+  born_of (ARegion b _) = b
+
+  -- whether there is an object that was made before m
+  abbrev pub is_older : ℕ → Option (Content O B T) → Bool
+  is_older m None = false
+  is_older m (Some k) = nat_lt (born_of k) m
+
+  -- whether the object was made before m
+  abbrev pub stays : ℕ → Objects O B T → Object → Bool
+  stays m x o = is_older m (what x o)
+
+  -- what was made before m is as it was
+  pub record KeepsOlder (m : ℕ) (old new : Objects O B T) : Type 0 where
+    pub same : (o : Object) → stays m old o ≡ true → SameAt old new o
+    pub age : (o : Object) → stays m new o ≡ stays m old o
+
+  -- the object c, which had no children and stood in k, is gone
+  pub record Drops (old new : Objects O B T) (k c : Object) : Type 0 where
+    pub forest : IsForest new
+    pub gone : IsGone new c
+    pub parent : up new k ≡ up old k
+    pub same : what new k ≡ what old k
+    pub others : (q : Object) → q ≢ k → q ≢ c → SameAt old new q
+    pub fewer : links new < links old

@@ -1,0 +1,95 @@
+-- An arena as its callers see it: the objects under their pointers, how far the places' generations have come, and the place that comes next.
+use Rattle.std.specs.Prelude.{◌≡◌, ◌≢◌, ◌+◌, ◌==◌, if◌then◌else◌, ℕ, Bool, List, length, Option, Some, None, map, slice_get, is_some, count_by, unwrap_or}
+use Rattle.std.specs.Option.{option_map}
+use Rattle.irtext_graph.specs.Arena as arena
+use Rattle.irtext_graph.specs.Arena.{older}
+use Rattle.irtext_graph.specs.declared.arena.Slot.{Slot}
+use Rattle.irtext_graph.specs.declared.arena.Slot.TheVariants.{Vacant, Full}
+use Rattle.irtext_graph.specs.declared.arena.Arena.{Arena}
+use Rattle.irtext_graph.specs.declared.arena.Entry.{Entry}
+use Rattle.irtext_graph.specs.declared.arena.Ptr.{Ptr}
+
+-- a place: the last generation that it handed out, and the object that stands there
+pub record Cell (X : Type 0) : Type 0 where
+  pub generation : ℕ
+  pub object : Option (Entry X)
+
+-- the objects of one kind: their places, and the place that was given back last, where it can be used again
+pub record Store (X : Type 0) : Type 0 where
+  pub cells : List (Cell X)
+  pub free : Option ℕ
+
+module _ {X Y : Type 0} (see : X → Y) where
+  -- an object, with its content as `see` shows it
+  abbrev pub object_of : Entry X → Entry Y
+  object_of o = record { born = o.born; content = see o.content }
+
+  -- a place, with the content of its object as `see` shows it
+  abbrev pub cell_of : Slot X → Cell Y
+  cell_of (Vacant g _) = record { generation = g; object = None }
+  cell_of (Full g o) = record { generation = g; object = Some (object_of o) }
+
+  -- an arena, with the contents of its objects as `see` shows them
+  abbrev pub store_of : Arena X → Store Y
+  store_of a = record { cells = map cell_of a.slots.items; free = arena.free_place a }
+
+module _ {X : Type 0} where
+  -- the object of a place, under a generation
+  abbrev pub object_in : Option (Cell X) → ℕ → Option (Entry X)
+  object_in None g = None
+  object_in (Some c) g = (if c.generation == g then c.object else None)
+
+  -- the object under a pointer
+  abbrev pub get : {K : Type 0} → Store X → Ptr K → Option (Entry X)
+  get s p = object_in (slice_get s.cells p.index) p.generation
+
+  -- the last generation handed out where there may be no such place: 0
+  abbrev pub drawn : Option (Cell X) → ℕ
+  drawn None = 0
+  drawn (Some c) = c.generation
+
+  -- how far a place's generations have come
+  abbrev pub generation_at : Store X → ℕ → ℕ
+  generation_at s i = drawn (slice_get s.cells i)
+
+  -- the place that the next object takes: the one given back last, or else a new one
+  abbrev pub next_index : Store X → ℕ
+  next_index s = unwrap_or s.free (length s.cells)
+
+  -- an object stands at the place
+  abbrev pub is_full : Cell X → Bool
+  is_full c = is_some c.object
+
+  -- how many objects stand
+  abbrev pub count : Store X → ℕ
+  count s = count_by is_full s.cells
+
+  -- the object under one pointer changed, or went, and none other
+  pub record Updates {K : Type 0} (old new : Store X) (p : Ptr K) (x : Option (Entry X)) : Type 0 where
+    pub changed : get new p ≡ x
+    pub others : (q : Ptr K) → q ≢ p → get new q ≡ get old q
+
+  -- an object came to stand at the next place, under the next generation of that place
+  pub record Inserts {K : Type 0} (old new : Store X) (p : Ptr K) (x : Entry X) : Type 0 where
+    pub place : p.index ≡ next_index old
+    pub next : p.generation ≡ generation_at old p.index + 1
+    pub drawn_here : generation_at new p.index ≡ p.generation
+    pub drawn_elsewhere : (i : ℕ) → i ≢ p.index → generation_at new i ≡ generation_at old i
+    pub updates : Updates old new p (Some x)
+    pub none_free : old.free ≡ None → new.free ≡ None
+
+  -- the content of one object changed, and nothing else
+  pub record Edits {K : Type 0} (old new : Store X) (p : Ptr K) (change : X → X) : Type 0 where
+    pub updates : Updates old new p (option_map (object_of change) (get old p))
+    pub generations : (i : ℕ) → generation_at new i ≡ generation_at old i
+    pub free : new.free ≡ old.free
+    pub len : length new.cells ≡ length old.cells
+
+  -- what stood under a pointer when as many objects were made as the mark says
+  abbrev pub before : {K : Type 0} → ℕ → Store X → Ptr K → Option (Entry X)
+  before mark s p = older mark (get s p)
+
+  -- what is older than the mark stands as it did, and all else is gone; no generation is handed out again
+  pub record Returns (K : Type 0) (mark : ℕ) (old new : Store X) : Type 0 where
+    pub at : (p : Ptr K) → get new p ≡ before mark old p
+    pub generations : (i : ℕ) → generation_at new i ≡ generation_at old i

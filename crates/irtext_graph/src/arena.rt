@@ -1,0 +1,258 @@
+//! Arenas: objects of one kind, under pointers of a place and a generation.
+ghost use Rattle.std.specs.Prelude.{◌≡◌, ◌≢◌, ◌<◌, ◌≤◌, ◌+◌, ◌↔◌, ℕ, Some, None, [], IsSome, IsTrue, IfOk, IfSome, OnErr, option_copied, option_map, length, slice_get, count_by, set};
+ghost use Rattle.std.specs.Borrow.{Lends, sem};
+
+use std::alloc::{AllocError, Global};
+use std::marker::PhantomData;
+use std::mem;
+
+/// A pointer to an object of kind K of a context: a place, and a generation, so that no two objects of a kind ever have the
+/// same pointer.
+#[derive_where(Clone, Copy, PartialEq, Eq, Hash, Debug)]
+pub struct Ptr<K> {
+    // the place, from 0
+    pub(crate) index: u32,
+    pub(crate) generation: u32,
+    pub(crate) of: PhantomData<K>,
+}
+
+impl<K> Ptr<K> {
+    /// The place, counted from 1.
+    pub fn place(self) -> u64
+        ensures { result ≡ self.index + 1 }
+    {
+        self.index as u64 + 1
+    }
+
+    /// Which of the objects that stood at the place in turn, counted from 1.
+    pub fn generation(self) -> u32
+        ensures { result ≡ self.generation }
+    {
+        self.generation
+    }
+}
+
+/// An object, and how many objects of its context were made before it.
+#[derive(Drop)]
+pub(crate) struct Entry<X> {
+    pub(crate) born: u64,
+    pub(crate) content: X,
+}
+
+/// A place: the last generation that it handed out, and the next free place or its object.
+#[derive(Drop)]
+pub(crate) enum Slot<X> {
+    Vacant(u32, u32),
+    Full(u32, Entry<X>),
+}
+
+// how many places there can be, so that each counts below the greatest `u32`
+const MOST_PLACES: usize = 4294967294;
+
+/// The objects of one kind.
+#[derive(Drop)]
+pub(crate) struct Arena<X> {
+    pub(crate) slots: Vec<Slot<X>>,
+    // the place that was given back last, where it is one that can be used again
+    pub(crate) free: u32,
+}
+
+impl<X> Slot<X> {
+    ghost use Rattle.irtext_graph.specs.contracts.arena.Slot.{the_row};
+    ghost use Rattle.irtext_graph.specs.declared.arena.Slot.TheVariants.{Full};
+    ghost use Rattle.irtext_graph.specs.Arena.{held, generation_of, with_content};
+
+    fn content_mut(&mut self) -> &mut X
+        requires { IsSome (held self.old) }
+        ensures* lends { sem 𝓛 (Lends (the_row X.row) X.row self.entry result (with_content self.old)) }
+        ensures value { option_map (λ o. o.content) (held self.old) ≡ Some result.now }
+    {
+        match self {
+            Slot::Full(_, object) => &mut object.content,
+            Slot::Vacant(_, _) => unreachable!(),
+        }
+    }
+}
+
+impl<X: Drop> Arena<X> {
+    ghost use Rattle.irtext_graph.specs.declared.arena.Ptr.{Ptr};
+    ghost use Rattle.irtext_graph.specs.declared.arena.Slot.TheVariants.{Vacant};
+    ghost use Rattle.irtext_graph.specs.Arena.{get, generation_at, next_index, free_place, Updates, Inserts, HasFew, found, older, is_full, IsNew, IsFull, IsVacant};
+    ghost use Rattle.irtext_graph.specs.Lending.{LendsContent};
+
+    /// An arena without objects.
+    pub(crate) fn new(alloc: Global) -> Arena<X>
+        ensures { result.slots.items ≡ [] }
+    {
+        Arena {
+            slots: Vec::new(alloc),
+            free: u32::MAX,
+        }
+    }
+
+    /// Stores an object. Its place is the one that was given back last, or else the next new one, and its generation the next of
+    /// that place. Memory is refused, or no place is left: then nothing changes.
+    pub(crate) fn insert<K>(&mut self, born: u64, content: X) -> Result<Ptr<K>, AllocError>
+        ensures inserts { IfOk result (λ p. Inserts self.old self.new p (record { born = born; content = content })) }
+        ensures few { HasFew self.old → HasFew self.new }
+        ensures err { OnErr result (self.new.slots.items ≡ self.old.slots.items) }
+        ensures err_free { OnErr result (self.new.free ≡ self.old.free) }
+    {
+        let object = Entry { born, content };
+        let index = self.free;
+        if (index as usize) < self.slots.len() {
+            if let Slot::Vacant(last, next) = &self.slots[index as usize] {
+                let last = *last;
+                let next = *next;
+                if last < u32::MAX - 1 {
+                    self.free = next;
+                    self.slots[index as usize] = Slot::Full(last + 1, object);
+                    return Ok(Ptr {
+                        index,
+                        generation: last + 1,
+                        of: PhantomData,
+                    });
+                }
+            }
+        }
+        let index = self.slots.len();
+        if index >= MOST_PLACES {
+            return Err(AllocError);
+        }
+        match self.slots.push(Slot::Full(1, object)) {
+            Ok(()) => Ok(Ptr {
+                index: index as u32,
+                generation: 1,
+                of: PhantomData,
+            }),
+            Err(_) => Err(AllocError),
+        }
+    }
+
+    /// The object under a pointer.
+    pub(crate) fn get<K>(&self, p: Ptr<K>) -> Option<&Entry<X>>
+        ensures { option_copied result ≡ get self.now p }
+    {
+        match self.slots.get(p.index as usize) {
+            Some(Slot::Full(generation, object)) => {
+                if *generation == p.generation {
+                    Some(object)
+                } else {
+                    None
+                }
+            }
+            _ => None,
+        }
+    }
+
+    /// Whether an object stands under a pointer.
+    pub(crate) fn contains<K>(&self, p: Ptr<K>) -> bool
+        ensures { IsTrue result ↔ IsSome (get self.now p) }
+    {
+        self.get(p).is_some()
+    }
+
+    /// The content of an object.
+    pub(crate) fn content<K>(&self, p: Ptr<K>) -> &X
+        requires { IsSome (get self.now p) }
+        ensures { option_map (λ o. o.content) (get self.now p) ≡ Some result.now }
+    {
+        match &self.slots[p.index as usize] {
+            Slot::Full(_, object) => &object.content,
+            Slot::Vacant(_, _) => unreachable!(),
+        }
+    }
+
+    /// The content of an object, for writing.
+    pub(crate) fn content_mut<K>(&mut self, p: Ptr<K>) -> &mut X
+        requires { IsSome (get self.old p) }
+        ensures* lends { sem 𝓛 (LendsContent X.row self.entry p.index result) }
+        ensures value { option_map (λ o. o.content) (get self.old p) ≡ Some result.now }
+    {
+        self.slots[p.index as usize].content_mut()
+    }
+
+    /// Takes the object under a pointer out. Its place is the next that is handed out, unless its generations are used up.
+    pub(crate) fn remove<K>(&mut self, p: Ptr<K>) -> Option<X>
+        ensures value { result ≡ option_map (λ o. o.content) (get self.old p) }
+        ensures updates { Updates self.old self.new p None }
+        ensures generations { (i : ℕ) → generation_at self.new i ≡ generation_at self.old i }
+        ensures next { IsSome (get self.old p) → p.generation < 4294967294 → free_place self.new ≡ Some p.index }
+        ensures stored { IsSome (get self.old p) → self.new.slots.items ≡ set self.old.slots.items p.index (Vacant p.generation self.old.free) }
+        ensures same { get self.old p ≡ None → self.new.slots.items ≡ self.old.slots.items }
+    {
+        if !self.contains(p) {
+            return None;
+        }
+        let free = self.free;
+        match mem::replace(
+            &mut self.slots[p.index as usize],
+            Slot::Vacant(p.generation, free),
+        ) {
+            Slot::Full(_, object) => {
+                if p.generation < u32::MAX - 1 {
+                    self.free = p.index;
+                }
+                Some(object.content)
+            }
+            Slot::Vacant(_, _) => unreachable!(),
+        }
+    }
+
+    /// Whether an object that is no older than the mark stands at a place.
+    fn is_new(&self, index: usize, mark: u64) -> bool
+        requires { index < length self.now.slots.items }
+        ensures { IsTrue result ↔ IsNew mark (slice_get self.now.slots.items index) }
+    {
+        match &self.slots[index] {
+            Slot::Full(_, object) => mark <= object.born,
+            Slot::Vacant(_, _) => false,
+        }
+    }
+
+    /// Takes the object at a place out.
+    fn vacate_at(&mut self, index: u32)
+        requires { IsFull (slice_get self.old.slots.items index) }
+        ensures here { IsVacant (slice_get self.new.slots.items index) }
+        ensures generations { generation_at self.new index ≡ generation_at self.old index }
+        ensures elsewhere { (i : ℕ) → i ≢ index → slice_get self.new.slots.items i ≡ slice_get self.old.slots.items i }
+        ensures len { length self.new.slots.items ≡ length self.old.slots.items }
+    {
+        let generation = match &self.slots[index as usize] {
+            Slot::Full(generation, _) => *generation,
+            Slot::Vacant(_, _) => unreachable!(),
+        };
+        let free = self.free;
+        self.slots[index as usize] = Slot::Vacant(generation, free);
+        if generation < u32::MAX - 1 {
+            self.free = index;
+        }
+    }
+
+    /// Takes every object out that is no older than the mark. It takes no memory.
+    pub(crate) fn vacate_since(&mut self, mark: u64)
+        requires { HasFew self.old }
+        ensures few { HasFew self.new }
+        ensures at { (i g : ℕ) → found (slice_get self.new.slots.items i) g ≡ older mark (found (slice_get self.old.slots.items i) g) }
+        ensures generations { (i : ℕ) → generation_at self.new i ≡ generation_at self.old i }
+    {
+        for index in 0..self.slots.len() {
+            if self.is_new(index, mark) {
+                self.vacate_at(index as u32);
+            }
+        }
+    }
+
+    /// How many objects there are.
+    pub(crate) fn count(&self) -> usize
+        ensures { result ≡ count_by is_full self.now.slots.items }
+    {
+        let mut n = 0;
+        for i in 0..self.slots.len() {
+            if let Slot::Full(_, _) = &self.slots[i] {
+                n += 1;
+            }
+        }
+        n
+    }
+}

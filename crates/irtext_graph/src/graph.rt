@@ -1,0 +1,145 @@
+//! The graph: what its callers can do with it.
+ghost use Rattle.std.specs.Prelude.{◌≡◌, ◌↔◌, Some, IsSome, IsTrue, OnOk, OnErr, length, slice_get, ◌<◌, ℕ};
+ghost use Rattle.irtext_graph.specs.Graph.{empty, parent, children, content, Stands, IsInside, CanInsert, Appends, Unlinks, IsNew, KeepsOlder, num_live};
+ghost use Rattle.irtext_graph.specs.Objects.{Fits};
+
+use crate::arena::Arena;
+use crate::object::Object;
+use crate::objects::Objects;
+use std::alloc::{AllocError, Global};
+use std::marker::Model;
+
+/// Operations with data of type O, blocks with data of type B, values with types of type T, and regions: how they nest, and
+/// who uses which value and which block.
+#[derive(Drop)]
+pub struct Graph<O, B, T> {
+    pub(crate) objects: Objects<O, B, T>,
+    pub(crate) made: u64,
+    pub(crate) values: u64,
+    pub(crate) alloc: Global,
+}
+
+impl<O, B, T> Model for Graph<O, B, T> {
+    ghost use Rattle.irtext_graph.specs.Graph.{GraphView, graph_of};
+    ghost use Rattle.irtext_graph.specs.Sound.{IsSound};
+
+    ghost Value = { GraphView O B T };
+
+    ghost view = { λ g. graph_of g.made g.values g.objects };
+
+    ghost invariant = { λ g. IsSound g.made g.objects };
+}
+
+impl<O: Drop, B: Drop, T: Drop> Graph<O, B, T> {
+    /// A graph without objects. It takes no memory yet.
+    pub fn new(alloc: Global) -> Graph<O, B, T>
+        ensures { result ≡ empty }
+    {
+        Graph {
+            objects: Objects {
+                operations: Arena::new(alloc),
+                blocks: Arena::new(alloc),
+                regions: Arena::new(alloc),
+            },
+            made: 0,
+            values: 0,
+            alloc,
+        }
+    }
+
+    /// How many objects were made, those that are gone among them.
+    pub fn made(&self) -> u64
+        ensures { result ≡ self.now.made }
+    {
+        self.made
+    }
+
+    /// How many operations, blocks and regions stand.
+    pub fn num_live(&self) -> u64
+        ensures { result ≡ num_live self.now }
+    {
+        let operations = self.objects.operations.count() as u64;
+        let blocks = self.objects.blocks.count() as u64;
+        let regions = self.objects.regions.count() as u64;
+        operations + blocks + regions
+    }
+
+    /// Whether an object stands in the graph.
+    pub fn contains(&self, o: Object) -> bool
+        ensures { IsTrue result ↔ Stands self.now o }
+    {
+        self.objects.contains(o)
+    }
+
+    /// What an object stands in.
+    pub fn get_parent(&self, o: Object) -> Option<Object>
+        requires { Stands self.now o }
+        ensures { result ≡ parent self.now o }
+    {
+        self.objects.parent_of(o)
+    }
+
+    /// How many objects stand directly in an object.
+    pub fn num_children(&self, o: Object) -> usize
+        requires { Stands self.now o }
+        ensures { result ≡ length (children self.now o) }
+    {
+        self.objects.child_count(o)
+    }
+
+    /// The object that stands in an object at an index.
+    pub fn get_child(&self, o: Object, i: usize) -> Object
+        requires stands { Stands self.now o }
+        requires within { i < length (children self.now o) }
+        ensures { slice_get (children self.now o) i ≡ Some result }
+    {
+        self.objects.child_at(o, i)
+    }
+
+    /// Whether q is o, or stands somewhere in o. It takes as long as q stands deep.
+    pub fn is_inside(&self, o: Object, q: Object) -> bool
+        requires { Stands self.now q }
+        ensures { IsTrue result ↔ IsInside self.now o q }
+    {
+        self.objects.is_inside(o, q)
+    }
+
+    /// Whether c stands nowhere and k is not inside it: the condition of `insert_at_back`.
+    pub fn can_insert_at_back(&self, k: Object, c: Object) -> bool
+        requires holder { Stands self.now k }
+        requires stands { Stands self.now c }
+        ensures { IsTrue result ↔ CanInsert self.now k c }
+    {
+        self.objects.can_insert(k, c)
+    }
+
+    /// Puts c last into k. Where memory is refused nothing changes.
+    pub fn insert_at_back(&mut self, k: Object, c: Object) -> Result<(), AllocError>
+        requires holder { Stands self.old k }
+        requires stands { Stands self.old c }
+        requires fits { Fits k c }
+        requires can { CanInsert self.old k c }
+        ensures ok { OnOk result (Appends self.old self.new k c) }
+        ensures err { OnErr result (self.new ≡ self.old) }
+        ensures kept { (m : ℕ) → IsNew m self.old k → IsNew m self.old c → KeepsOlder m self.old self.new }
+    {
+        self.objects.insert_last(k, c)
+    }
+
+    /// The index at which c stands in its parent k. It takes as long as c stands away from the end.
+    pub fn find_index_in_parent(&self, k: Object, c: Object) -> usize
+        requires { parent self.now c ≡ Some k }
+        ensures { slice_get (children self.now k) result ≡ Some c }
+    {
+        self.objects.index_in(k, c)
+    }
+
+    /// Takes an object out of what it stands in, if it stands in anything. What stands in it stays there. It takes no memory.
+    pub fn unlink(&mut self, c: Object)
+        requires { Stands self.old c }
+        ensures unlinks { Unlinks self.old self.new c }
+        ensures kept { (m : ℕ) → IsNew m self.old c → ((k : _) → parent self.old c ≡ Some k → IsNew m self.old k) → KeepsOlder m self.old self.new }
+    {
+        self.objects.unlink(c);
+    }
+}

@@ -1,0 +1,100 @@
+//! Objects with what they stand in and what stands in them.
+ghost use Rattle.std.specs.Prelude.{◌≡◌, ◌≢◌, ◌<◌, ◌≤◌, ◌+◌, ◌++◌, ◌∷◌, ℕ, Some, None, [], IsSome, OnOk, OnErr, length, slice_get};
+
+use crate::arena::{Arena, Ptr};
+use std::alloc::AllocError;
+
+/// An object's parent, of kind P, its children in order, of kind C, and its data.
+#[derive(Drop)]
+pub(crate) struct Nest<P, C, D> {
+    pub(crate) parent: Option<Ptr<P>>,
+    pub(crate) children: Vec<Ptr<C>>,
+    pub(crate) data: D,
+}
+
+impl<P, C, D: Drop> Arena<Nest<P, C, D>> {
+    ghost use Rattle.std.specs.List.{remove};
+    ghost use Rattle.irtext_graph.specs.declared.arena.Ptr.{Ptr};
+    ghost use Rattle.irtext_graph.specs.Arena.{get, KeepsPlaces};
+    ghost use Rattle.irtext_graph.specs.Nest.{up, kids, datum, links};
+    ghost use Rattle.irtext_graph.specs.Content.{nodes};
+
+    /// What an object stands in.
+    pub(crate) fn parent_of<K>(&self, p: Ptr<K>) -> Option<Ptr<P>>
+        requires { IsSome (get self.now p) }
+        ensures { up self.now p ≡ result }
+    {
+        self.content(p).parent
+    }
+
+    /// Says what an object stands in.
+    pub(crate) fn set_parent<K>(&mut self, p: Ptr<K>, parent: Option<Ptr<P>>)
+        requires { IsSome (get self.old p) }
+        ensures here { up self.new p ≡ parent }
+        ensures others { (q : Ptr K) → q ≢ p → up self.new q ≡ up self.old q }
+        ensures kids { (q : Ptr K) → kids self.new q ≡ kids self.old q }
+        ensures data { (q : Ptr K) → datum self.new q ≡ datum self.old q }
+        ensures links { links self.new ≡ links self.old }
+        ensures places { KeepsPlaces self.old self.new }
+    {
+        self.content_mut(p).parent = parent;
+    }
+
+    /// Puts a child last into an object's list. Where memory is refused nothing changes.
+    pub(crate) fn push_child<K>(&mut self, p: Ptr<K>, c: Ptr<C>) -> Result<(), AllocError>
+        requires { IsSome (get self.old p) }
+        ensures here { OnOk result (kids self.new p ≡ kids self.old p ++ c ∷ []) }
+        ensures err { OnErr result (kids self.new p ≡ kids self.old p) }
+        ensures refused { OnErr result (nodes self.new ≡ nodes self.old) }
+        ensures others { (q : Ptr K) → q ≢ p → kids self.new q ≡ kids self.old q }
+        ensures ups { (q : Ptr K) → up self.new q ≡ up self.old q }
+        ensures data { (q : Ptr K) → datum self.new q ≡ datum self.old q }
+        ensures places { KeepsPlaces self.old self.new }
+    {
+        match self.content_mut(p).children.push(c) {
+            Ok(()) => Ok(()),
+            Err(_) => Err(AllocError),
+        }
+    }
+
+    /// How many children an object has.
+    pub(crate) fn child_count<K>(&self, p: Ptr<K>) -> usize
+        requires { IsSome (get self.now p) }
+        ensures { result ≡ length (kids self.now p) }
+    {
+        self.content(p).children.len()
+    }
+
+    /// The child at an index.
+    pub(crate) fn child_at<K>(&self, p: Ptr<K>, i: usize) -> Ptr<C>
+        requires live { IsSome (get self.now p) }
+        requires within { i < length (kids self.now p) }
+        ensures { slice_get (kids self.now p) i ≡ Some result }
+    {
+        self.content(p).children[i]
+    }
+
+    /// Takes the child at an index out of an object's list.
+    pub(crate) fn remove_child<K>(&mut self, p: Ptr<K>, i: usize)
+        requires live { IsSome (get self.old p) }
+        requires within { i < length (kids self.old p) }
+        ensures here { kids self.new p ≡ remove (kids self.old p) i }
+        ensures less { links self.new < links self.old }
+        ensures others { (q : Ptr K) → q ≢ p → kids self.new q ≡ kids self.old q }
+        ensures ups { (q : Ptr K) → up self.new q ≡ up self.old q }
+        ensures data { (q : Ptr K) → datum self.new q ≡ datum self.old q }
+        ensures places { KeepsPlaces self.old self.new }
+    {
+        self.content_mut(p).children.remove(i);
+    }
+
+    /// Takes an object out. Its children stay.
+    pub(crate) fn vacate<K>(&mut self, p: Ptr<K>)
+        ensures gone { get self.new p ≡ None }
+        ensures others { (q : Ptr K) → q ≢ p → get self.new q ≡ get self.old q }
+        ensures links { links self.new ≤ links self.old }
+        ensures len { length self.new.slots.items ≡ length self.old.slots.items }
+    {
+        self.remove(p);
+    }
+}

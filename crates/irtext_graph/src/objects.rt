@@ -1,0 +1,222 @@
+//! Operations, blocks and regions, each in an arena of its own, as objects of one forest.
+ghost use Rattle.std.specs.Prelude.{◌≡◌, ◌≢◌, ◌<◌, ◌≤◌, ◌+◌, ◌++◌, ◌∷◌, ℕ, Some, None, [], IsSome, IsTrue, OnOk, OnErr, length, slice_get, ◌↔◌};
+
+use crate::arena::{Arena, Ptr};
+use crate::nest::Nest;
+use crate::object::{BasicBlock, Object, Operation, Region, Value};
+use std::alloc::AllocError;
+
+/// The place of an operand or of a successor: an operation, and an index.
+#[derive(Clone, Copy, PartialEq, Eq, Debug)]
+pub(crate) struct Site {
+    pub(crate) op: Ptr<Operation>,
+    pub(crate) index: usize,
+}
+
+/// A use of a value, linked with the value's other uses in its own place.
+#[derive(Clone, Copy, Debug)]
+pub(crate) struct Operand {
+    pub(crate) value: Value,
+    pub(crate) linked: bool,
+    pub(crate) prev: Option<Site>,
+    pub(crate) next: Option<Site>,
+}
+
+/// A use of a block, linked with the block's other uses in its own place.
+#[derive(Clone, Copy, Debug)]
+pub(crate) struct Successor {
+    pub(crate) block: Ptr<BasicBlock>,
+    pub(crate) linked: bool,
+    pub(crate) prev: Option<Site>,
+    pub(crate) next: Option<Site>,
+}
+
+/// What a value is: its type, its number, and the first of its uses.
+#[derive(Drop)]
+pub(crate) struct Definition<T> {
+    pub(crate) of_type: T,
+    pub(crate) number: u64,
+    pub(crate) first: Option<Site>,
+}
+
+/// What there is of an operation beside its place in the forest.
+#[derive(Drop)]
+pub(crate) struct OperationData<O, T> {
+    pub(crate) data: O,
+    pub(crate) operands: Vec<Operand>,
+    pub(crate) successors: Vec<Successor>,
+    pub(crate) results: Vec<Definition<T>>,
+}
+
+/// What there is of a block beside its place in the forest.
+#[derive(Drop)]
+pub(crate) struct BlockData<B, T> {
+    pub(crate) data: B,
+    pub(crate) arguments: Vec<Definition<T>>,
+    pub(crate) preds: Option<Site>,
+}
+
+/// What there is of a region beside its place in the forest: nothing.
+#[derive(Drop)]
+pub(crate) struct RegionData {}
+
+/// All objects.
+#[derive(Drop)]
+pub(crate) struct Objects<O, B, T> {
+    pub(crate) operations: Arena<Nest<BasicBlock, Region, OperationData<O, T>>>,
+    pub(crate) blocks: Arena<Nest<Region, Operation, BlockData<B, T>>>,
+    pub(crate) regions: Arena<Nest<Operation, BasicBlock, RegionData>>,
+}
+
+impl<O: Drop, B: Drop, T: Drop> Objects<O, B, T> {
+    ghost use Rattle.std.specs.List.{remove};
+    ghost use Rattle.irtext_graph.specs.Objects.{up, kids, what, Lives, links, SameAt, SameNodes, SamePlaces, SameData, stays, IsGone, Appends, Fits};
+
+    /// Whether an object is there.
+    pub(crate) fn contains(&self, o: Object) -> bool
+        ensures { IsTrue result ↔ Lives self.now o }
+    {
+        match o {
+            Object::TheOperation(p) => self.operations.contains(p),
+            Object::TheBlock(p) => self.blocks.contains(p),
+            Object::TheRegion(p) => self.regions.contains(p),
+        }
+    }
+
+    /// What an object stands in.
+    pub(crate) fn parent_of(&self, o: Object) -> Option<Object>
+        requires { Lives self.now o }
+        ensures { result ≡ up self.now o }
+    {
+        match o {
+            Object::TheOperation(p) => match self.operations.parent_of(p) {
+                Some(b) => Some(Object::TheBlock(b)),
+                None => None,
+            },
+            Object::TheBlock(p) => match self.blocks.parent_of(p) {
+                Some(r) => Some(Object::TheRegion(r)),
+                None => None,
+            },
+            Object::TheRegion(p) => match self.regions.parent_of(p) {
+                Some(q) => Some(Object::TheOperation(q)),
+                None => None,
+            },
+        }
+    }
+
+    /// Says that an object stands nowhere.
+    pub(crate) fn clear_parent(&mut self, o: Object)
+        requires { Lives self.old o }
+        ensures here { up self.new o ≡ None }
+        ensures others { (q : _) → q ≢ o → up self.new q ≡ up self.old q }
+        ensures kids { (q : _) → kids self.new q ≡ kids self.old q }
+        ensures data { (q : _) → what self.new q ≡ what self.old q }
+        ensures links { links self.new ≡ links self.old }
+        ensures places { SamePlaces self.old self.new }
+        ensures all_data { SameData self.old self.new }
+    {
+        match o {
+            Object::TheOperation(p) => self.operations.set_parent(p, None),
+            Object::TheBlock(p) => self.blocks.set_parent(p, None),
+            Object::TheRegion(p) => self.regions.set_parent(p, None),
+        }
+    }
+
+    /// Takes an object out of its arena.
+    pub(crate) fn vacate(&mut self, o: Object)
+        ensures gone { what self.new o ≡ None }
+        ensures gone_up { up self.new o ≡ None }
+        ensures gone_kids { kids self.new o ≡ [] }
+        ensures others { (q : _) → q ≢ o → SameAt self.old self.new q }
+        ensures links { links self.new ≤ links self.old }
+    {
+        match o {
+            Object::TheOperation(p) => self.operations.vacate(p),
+            Object::TheBlock(p) => self.blocks.vacate(p),
+            Object::TheRegion(p) => self.regions.vacate(p),
+        }
+    }
+
+    /// Puts c last into the list of k, and says that it stands there. Where memory is refused nothing changes.
+    pub(crate) fn append(&mut self, k: Object, c: Object) -> Result<(), AllocError>
+        requires holder { Lives self.old k }
+        requires lives { Lives self.old c }
+        requires fits { Fits k c }
+        ensures ok { OnOk result (Appends self.old self.new k c) }
+        ensures err { OnErr result ((q : _) → SameAt self.old self.new q) }
+        ensures refused { OnErr result (SameNodes self.old self.new) }
+        ensures places { SamePlaces self.old self.new }
+        ensures data { SameData self.old self.new }
+    {
+        match (k, c) {
+            (Object::TheOperation(p), Object::TheRegion(r)) => {
+                match self.operations.push_child(p, r) {
+                    Ok(()) => {
+                        self.regions.set_parent(r, Some(p));
+                        Ok(())
+                    }
+                    Err(e) => Err(e),
+                }
+            }
+            (Object::TheRegion(p), Object::TheBlock(r)) => match self.regions.push_child(p, r) {
+                Ok(()) => {
+                    self.blocks.set_parent(r, Some(p));
+                    Ok(())
+                }
+                Err(e) => Err(e),
+            },
+            (Object::TheBlock(p), Object::TheOperation(r)) => match self.blocks.push_child(p, r) {
+                Ok(()) => {
+                    self.operations.set_parent(r, Some(p));
+                    Ok(())
+                }
+                Err(e) => Err(e),
+            },
+            _ => unreachable!(),
+        }
+    }
+
+    /// How many objects stand directly in an object.
+    pub(crate) fn child_count(&self, o: Object) -> usize
+        requires { Lives self.now o }
+        ensures { result ≡ length (kids self.now o) }
+    {
+        match o {
+            Object::TheOperation(p) => self.operations.child_count(p),
+            Object::TheBlock(p) => self.blocks.child_count(p),
+            Object::TheRegion(p) => self.regions.child_count(p),
+        }
+    }
+
+    /// The child of an object at an index.
+    pub(crate) fn child_at(&self, o: Object, i: usize) -> Object
+        requires lives { Lives self.now o }
+        requires within { i < length (kids self.now o) }
+        ensures { slice_get (kids self.now o) i ≡ Some result }
+    {
+        match o {
+            Object::TheOperation(p) => Object::TheRegion(self.operations.child_at(p, i)),
+            Object::TheBlock(p) => Object::TheOperation(self.blocks.child_at(p, i)),
+            Object::TheRegion(p) => Object::TheBlock(self.regions.child_at(p, i)),
+        }
+    }
+
+    /// Takes the child at an index out of an object's list.
+    pub(crate) fn remove_child(&mut self, k: Object, i: usize)
+        requires live { Lives self.old k }
+        requires within { i < length (kids self.old k) }
+        ensures here { kids self.new k ≡ remove (kids self.old k) i }
+        ensures less { links self.new < links self.old }
+        ensures others { (q : _) → q ≢ k → kids self.new q ≡ kids self.old q }
+        ensures ups { (q : _) → up self.new q ≡ up self.old q }
+        ensures data { (q : _) → what self.new q ≡ what self.old q }
+        ensures places { SamePlaces self.old self.new }
+        ensures all_data { SameData self.old self.new }
+    {
+        match k {
+            Object::TheOperation(p) => self.operations.remove_child(p, i),
+            Object::TheBlock(p) => self.blocks.remove_child(p, i),
+            Object::TheRegion(p) => self.regions.remove_child(p, i),
+        }
+    }
+}

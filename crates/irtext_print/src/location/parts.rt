@@ -1,0 +1,133 @@
+//! The text of a location, part by part: what stands behind a location inside of another waits until that one is written. So one
+//! loop writes them all, however deep they are nested.
+ghost use Rattle.std.specs.Prelude.{◌≡◌, ◌++◌, IfOk, OnOk, Some, cond, [], ◌∷◌, string_bytes};
+ghost use Rattle.irtext_grammar.specs.Spelling.Spell.{comma};
+ghost use Rattle.irtext_print.specs.declared.location.parts.Part.TheVariants.{Whole};
+ghost use Rattle.irtext_print.specs.Printers.LocationParts.{WritesPart};
+
+use crate::location::print::{fmt_metadata, fmt_place};
+use irtext_base::location::Location;
+use irtext_base::text::{AttrText, IrText};
+use irtext_context::base::Context;
+use irtext_read::printable::fmt_quoted;
+use std::alloc::AllocError;
+use std::fmt;
+
+/// What is still to be written of a location's text.
+#[derive_where(Clone, Copy)]
+pub(super) enum Part<'l, A> {
+    /// A location.
+    Whole(&'l Location<A>),
+    /// The locations of a row from here on, and its bracket.
+    Row {
+        left: &'l [Location<A>],
+        first: bool,
+    },
+    /// The caller of a callee that was written.
+    Caller(&'l Location<A>),
+    /// A parenthesis.
+    Closing,
+}
+
+/// Appends `, `, but not in front of the first item.
+fn fmt_comma(first: bool, f: &mut String) -> fmt::Result
+    ensures { OnOk result (string_bytes f.new ≡ string_bytes f.old ++ cond first [] comma) }
+{
+    if !first {
+        f.push_str(", ")?;
+    }
+    Ok(())
+}
+
+/// Keeps a part until this location is written, which comes next.
+fn inside<'l, A>(
+    location: &'l Location<A>,
+    behind: Part<'l, A>,
+    waiting: &mut Vec<Part<'l, A>>,
+) -> Result<Option<Part<'l, A>>, fmt::Error>
+    ensures next { IfOk result (λ next. next ≡ Some (Whole location.entry)) }
+    ensures waiting { OnOk result (waiting.new.items ≡ waiting.old.items ++ behind.entry ∷ []) }
+{
+    match waiting.push(behind) {
+        Ok(()) => Ok(Some(Part::Whole(location))),
+        Err(refused) => Err(AllocError::from(refused).into()),
+    }
+}
+
+/// Appends a location up to the first one inside of it, and says what comes next.
+fn fmt_whole<'l, T: IrText<A>, A: AttrText>(
+    location: &'l Location<A>,
+    ctx: &Context<T, A>,
+    waiting: &mut Vec<Part<'l, A>>,
+    f: &mut String,
+) -> Result<Option<Part<'l, A>>, fmt::Error>
+    ensures { IfOk result (WritesPart A.written ctx.now.paths (Whole location.entry) waiting.old f.old waiting.new f.new) }
+{
+    match location {
+        Location::SrcPos { src, pos } => {
+            fmt_place(*src, pos, ctx, f)?;
+            Ok(waiting.pop())
+        }
+        Location::Fused {
+            metadata,
+            locations,
+        } => {
+            f.push_str("fused")?;
+            fmt_metadata(metadata, f)?;
+            f.push_str("[")?;
+            Ok(Some(Part::Row {
+                left: locations,
+                first: true,
+            }))
+        }
+        Location::Named { name, child_loc } => {
+            f.push_str("name: ")?;
+            fmt_quoted(name.as_str(), f)?;
+            f.push_str(", loc: (")?;
+            inside(child_loc, Part::Closing, waiting)
+        }
+        Location::CallSite { callee, caller } => {
+            f.push_str("callsite(")?;
+            inside(callee, Part::Caller(caller), waiting)
+        }
+        Location::Unknown => {
+            f.push_str("?")?;
+            Ok(waiting.pop())
+        }
+    }
+}
+
+/// Appends a part up to the first location inside of it, which is then the next part, and keeps what waits behind that. Where there
+/// is none, the part that waited last is the next. It fails only where memory is refused.
+pub(super) fn fmt_part<'l, T: IrText<A>, A: AttrText>(
+    part: Part<'l, A>,
+    ctx: &Context<T, A>,
+    waiting: &mut Vec<Part<'l, A>>,
+    f: &mut String,
+) -> Result<Option<Part<'l, A>>, fmt::Error>
+    ensures { IfOk result (WritesPart A.written ctx.now.paths part.entry waiting.old f.old waiting.new f.new) }
+{
+    match part {
+        Part::Whole(location) => fmt_whole(location, ctx, waiting, f),
+        Part::Row { left, first } => {
+            let Some((location, others)) = left.split_first() else {
+                f.push_str("]")?;
+                return Ok(waiting.pop());
+            };
+            fmt_comma(first, f)?;
+            let behind = Part::Row {
+                left: others,
+                first: false,
+            };
+            inside(location, behind, waiting)
+        }
+        Part::Caller(caller) => {
+            f.push_str(" at ")?;
+            inside(caller, Part::Closing, waiting)
+        }
+        Part::Closing => {
+            f.push_str(")")?;
+            Ok(waiting.pop())
+        }
+    }
+}

@@ -1,0 +1,105 @@
+//! What can be put where, and what is seen of it.
+ghost use Rattle.irtext_graph.specs.Objects.{Fits};
+
+use irtext_graph::graph::Graph;
+use irtext_graph::object::Object;
+use std::alloc::{AllocError, Global};
+use std::test::Fail;
+
+/// Puts c last into k where that can be done, and says whether it could.
+fn put(graph: &mut Graph<u32, u32, u8>, k: Object, c: Object) -> Result<bool, AllocError>
+    requires { Fits k c }
+{
+    if !graph.contains(k) || !graph.contains(c) {
+        return Ok(false);
+    }
+    if !graph.can_insert_at_back(k, c) {
+        return Ok(false);
+    }
+    graph.insert_at_back(k, c)?;
+    Ok(true)
+}
+
+/// Whether c stands directly in k, at an index.
+fn stands_at(graph: &Graph<u32, u32, u8>, k: Object, c: Object, index: usize) -> bool {
+    if !graph.contains(k) || !graph.contains(c) {
+        return false;
+    }
+    if graph.get_parent(c) != Some(k) || index >= graph.num_children(k) {
+        return false;
+    }
+    graph.get_child(k, index) == c && graph.find_index_in_parent(k, c) == index
+}
+
+/// An operation that holds a region that holds a block that holds two operations, of which the first is taken out again.
+fn nests(graph: &mut Graph<u32, u32, u8>, alloc: Global) -> Result<bool, AllocError> {
+    let outer = graph.make_operation(1, Vec::new(alloc))?;
+    let region = graph.make_region()?;
+    let block = graph.make_block(2, Vec::new(alloc))?;
+    let first = graph.make_operation(3, Vec::new(alloc))?;
+    let second = graph.make_operation(4, Vec::new(alloc))?;
+    let module = Object::TheOperation(outer);
+    let inner = Object::TheOperation(first);
+    let last = Object::TheOperation(second);
+    let body = Object::TheBlock(block);
+    let one = put(graph, Object::TheRegion(region), body)?;
+    let two = put(graph, module, Object::TheRegion(region))?;
+    let three = put(graph, body, inner)?;
+    let four = put(graph, body, last)?;
+    let into_itself = put(graph, body, module)?;
+    let twice = put(graph, body, inner)?;
+    let all = one && two && three && four && !into_itself && !twice;
+    let listed = stands_at(graph, body, inner, 0) && stands_at(graph, body, last, 1);
+    let deep = graph.contains(last)
+        && graph.is_inside(module, last)
+        && !graph.is_inside(inner, last);
+    if graph.contains(inner) {
+        graph.unlink(inner);
+    }
+    let closed = stands_at(graph, body, last, 0) && !stands_at(graph, body, inner, 0);
+    let counted = graph.num_live() == 5 && graph.made() == 5;
+    let places = second.place() == 3 && second.generation() == 1 && block.place() == 1;
+    Ok(all && listed && deep && closed && counted && places)
+}
+
+/// A chain of operations, regions and blocks, each in the next; the inner ones are made first.
+fn nests_deep(
+    graph: &mut Graph<u32, u32, u8>,
+    alloc: Global,
+    depth: usize,
+) -> Result<bool, AllocError> {
+    let mut inner = Object::TheOperation(graph.make_operation(0, Vec::new(alloc))?);
+    let mut all = true;
+    for _ in 0..depth {
+        let block = Object::TheBlock(graph.make_block(0, Vec::new(alloc))?);
+        let region = Object::TheRegion(graph.make_region()?);
+        let outer = Object::TheOperation(graph.make_operation(0, Vec::new(alloc))?);
+        if let Object::TheOperation(p) = inner {
+            let one = put(graph, block, Object::TheOperation(p))?;
+            let two = put(graph, region, block)?;
+            let three = put(graph, outer, region)?;
+            all = all && one && two && three;
+        }
+        inner = outer;
+    }
+    Ok(all)
+}
+
+#[test]
+fn each_call_once(rt: HostRuntime) -> Result<(), Fail> {
+    let alloc = rt.alloc();
+    let mut graph = Graph::new(alloc);
+    let done = nests(&mut graph, alloc).ok() == Some(true);
+    assert!(rt; done);
+    Ok(())
+}
+
+#[test]
+fn a_million_levels(rt: HostRuntime) -> Result<(), Fail> {
+    let alloc = rt.alloc();
+    let mut graph = Graph::new(alloc);
+    let done = nests_deep(&mut graph, alloc, 333334).ok() == Some(true);
+    assert!(rt; done);
+    assert!(rt; graph.num_live() == 1000003);
+    Ok(())
+}
