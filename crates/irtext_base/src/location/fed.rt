@@ -44,7 +44,9 @@ fn feed_fused<A: Hash, H: Hasher>(
     locations: &[Location<A>],
     state: &mut H,
 )
-    ensures { state.new ≡ fold H.write state.old (fed.isize (pos 1) ++ (fed.option (attr_writes A.hash_input) (attr_view_in metadata.now) ++ fed.usize (row_len (in_row (map location_view locations.now))))) }
+    ensures { state.new ≡ fold H.write state.old (fed.isize (pos 1) ++
+        (fed.option (attr_writes A.hash_input) (attr_view_in metadata.now) ++
+        fed.usize (row_len (in_row (map location_view locations.now))))) }
 {
     state.write_isize(1);
     feed_metadata(metadata, state);

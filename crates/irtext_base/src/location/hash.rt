@@ -65,7 +65,9 @@ fn hash_fused<A: AttrText, H: Hasher>(
     locations: &[Location<A>],
     state: &mut H,
 )
-    ensures { state.new ≡ fold H.write state.old (fed.u8 1 ++ (metadata_writes A.hash_input (attr_view_in metadata.now) ++ fed.u64 (row_len (in_row (map location_view locations.now))))) }
+    ensures { state.new ≡ fold H.write state.old (fed.u8 1 ++
+        (metadata_writes A.hash_input (attr_view_in metadata.now) ++
+        fed.u64 (row_len (in_row (map location_view locations.now))))) }
 {
     state.write_u8(1);
     hash_metadata(metadata, state);

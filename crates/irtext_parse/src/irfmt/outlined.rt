@@ -48,7 +48,9 @@ fn entry_index<T: IrText<A>, A: AttrText, U>(
     entries: &Entries<A>,
 ) -> ParseResult<usize, A>
     ensures state { s.new.state ≡ s.old.state }
-    ensures read { MustRead itself replaced (λ i. i) (λ text. known_index (may_follow (marks_of s.old.state) entries.now) (index_at text)) s.old.stream result s.new.stream }
+    ensures read { MustRead itself replaced (λ i. i)
+        (λ text. known_index (may_follow (marks_of s.old.state) entries.now) (index_at text))
+        s.old.stream result s.new.stream }
 {
     let at = s.stream.position();
     let index = index_demanded(&mut s.stream)?;
@@ -64,7 +66,8 @@ fn entry_location<T: IrText<A>, A: AttrText>(
     ctx: &mut Context<T, A>,
 ) -> ParseResult<Option<Location<A>>, A>
     ensures adds { AddsPaths ctx.old ctx.new }
-    ensures read { MustReadOver known_given given_over (entry_location_at (attr_at A.IrText.reading)) ctx.new.paths stream.old result stream.new }
+    ensures read { MustReadOver known_given given_over (entry_location_at (attr_at A.IrText.reading))
+        ctx.new.paths stream.old result stream.new }
     ensures paths { IfOk result (λ given. ctx.new.paths ≡ given_kept ctx.old.paths (given_over ctx.new.paths given)) }
 {
     if stream.has_failed() {
@@ -108,8 +111,11 @@ fn entry_read<T: IrText<A>, A: AttrText, U>(
     ensures rest { KeepsRest s.old.state s.new.state }
     ensures marks { marks_of s.new.state ≡ marks_of s.old.state }
     ensures adds { AddsPaths s.old.state.ctx.now s.new.state.ctx.now }
-    ensures read { MustReadOver known_entry entry_over (entry_at (attr_at A.IrText.reading) (may_follow (marks_of s.old.state) entries.now)) s.new.state.ctx.now.paths s.old.stream result s.new.stream }
-    ensures paths { IfOk result (λ e. s.new.state.ctx.now.paths ≡ given_kept s.old.state.ctx.now.paths (given_over s.new.state.ctx.now.paths e.1)) }
+    ensures read { MustReadOver known_entry entry_over
+        (entry_at (attr_at A.IrText.reading) (may_follow (marks_of s.old.state) entries.now))
+        s.new.state.ctx.now.paths s.old.stream result s.new.stream }
+    ensures paths { IfOk result (λ e.
+        s.new.state.ctx.now.paths ≡ given_kept s.old.state.ctx.now.paths (given_over s.new.state.ctx.now.paths e.1)) }
 {
     let index = entry_index(s, entries)?;
     let ctx = &mut *s.state.ctx;
@@ -128,8 +134,11 @@ fn entry_parse<T: IrText<A>, A: AttrText, U>(
     ensures adds { AddsPaths s.old.state.ctx.now s.new.state.ctx.now }
     ensures shorter { OnOk result (length s.new.stream.rest < length s.old.stream.rest) }
     ensures fine { OnOk result (s.new.stream.failed ≡ s.old.stream.failed) }
-    ensures read { OnOk result (ReadsEntry (attr_at A.IrText.reading) (marks_of s.old.state) s.old.state.ctx.now.paths s.new.state.ctx.now.paths entries.old s.old.stream entries.new s.new.stream) }
-    ensures missed { s.old.stream.failed ≡ false → IfErr result (λ fault. Faults true (RefusedAs (entry_at (attr_at A.IrText.reading) (may_follow (marks_of s.old.state) entries.old) s.old.stream.rest)) s.old.stream fault) }
+    ensures read { OnOk result (ReadsEntry (attr_at A.IrText.reading) (marks_of s.old.state)
+        s.old.state.ctx.now.paths s.new.state.ctx.now.paths entries.old s.old.stream entries.new s.new.stream) }
+    ensures missed { s.old.stream.failed ≡ false → IfErr result (λ fault. Faults true
+        (RefusedAs (entry_at (attr_at A.IrText.reading) (may_follow (marks_of s.old.state) entries.old)
+        s.old.stream.rest)) s.old.stream fault) }
     ensures refused { IfErr result (λ fault. CommittedRefusal s.old.stream fault s.new.stream) }
 {
     let entry = entry_read(s, entries)?;
@@ -149,10 +158,15 @@ fn entries_parse<T: IrText<A>, A: AttrText, U>(
     ensures marks { marks_of s.new.state ≡ marks_of s.old.state }
     ensures adds { AddsPaths s.old.state.ctx.now s.new.state.ctx.now }
     ensures fine { OnOk result (s.new.stream.failed ≡ s.old.stream.failed) }
-    ensures read { IfOk result (λ entries. ReadsEntries (attr_at A.IrText.reading) (indices_of (marks_of s.old.state)) s.new.state.ctx.now.paths entries s.old.stream s.new.stream) }
-    ensures missed { s.old.stream.failed ≡ false → IfErr result (λ fault. Faults true (EntriesRefused (attr_at A.IrText.reading) (indices_of (marks_of s.old.state)) s.old.stream.rest) s.old.stream fault) }
+    ensures read { IfOk result (λ entries.
+        ReadsEntries (attr_at A.IrText.reading) (indices_of (marks_of s.old.state))
+        s.new.state.ctx.now.paths entries s.old.stream s.new.stream) }
+    ensures missed { s.old.stream.failed ≡ false → IfErr result (λ fault. Faults true
+        (EntriesRefused (attr_at A.IrText.reading) (indices_of (marks_of s.old.state)) s.old.stream.rest) s.old.stream fault) }
     ensures refused { IfErr result (λ fault. CommittedRefusal s.old.stream fault s.new.stream) }
-    ensures paths { IfOk result (λ entries. s.new.state.ctx.now.paths ≡ entries_kept s.old.state.ctx.now.paths (entries_over s.new.state.ctx.now.paths entries)) }
+    ensures paths { IfOk result (λ entries.
+        s.new.state.ctx.now.paths ≡ entries_kept
+        s.old.state.ctx.now.paths (entries_over s.new.state.ctx.now.paths entries)) }
 {
     let mut entries = Numbered::new(s.stream.allocator());
     while next_is(&s.stream, '!') {
@@ -221,7 +235,8 @@ pub(crate) fn section_parse<T: IrText<A>, A: AttrText, U>(
     ensures lent { s.new.state.ctx.ghost_name ≡ s.old.state.ctx.ghost_name }
     ensures rest { KeepsRest s.old.state s.new.state }
     ensures read { OnOk result (ReadsSection (attr_at A.IrText.reading) s.old s.new) }
-    ensures missed { s.old.stream.failed ≡ false → IfErr result (λ fault. Faults true (SectionRefused (attr_at A.IrText.reading) (indices_of (marks_of s.old.state)) s.old.stream.rest) s.old.stream fault) }
+    ensures missed { s.old.stream.failed ≡ false → IfErr result (λ fault. Faults true
+        (SectionRefused (attr_at A.IrText.reading) (indices_of (marks_of s.old.state)) s.old.stream.rest) s.old.stream fault) }
     ensures refused { IfErr result (λ fault. CommittedRefusal s.old.stream fault s.new.stream) }
     ensures marks { OnErr result (marks_of s.new.state ≡ marks_of s.old.state) }
     ensures adds { OnErr result (AddsPaths s.old.state.ctx.now s.new.state.ctx.now) }
