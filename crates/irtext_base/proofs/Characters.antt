@@ -1,6 +1,6 @@
 -- Characters and splits of texts.
-use Rattle.std.specs.Prelude.{◌≡◌, ℕ, zero, suc, ◌<◌, Bool, true, false, cond, not, ◌==◌, ◌&&◌, ◌||◌, [], ◌∷◌, ◌++◌, codes, refl}
-use Rattle.std.proofs.Common.{inl, inr, sym, ◌∙◌, ap, true≢false, arith, ⊎_elim, eq-or-lt_of_le, le_of_suc-le-suc}
+use Rattle.std.specs.Prelude.{◌≡◌, ℕ, ◌<◌, Bool, true, false, cond, not, ◌==◌, ◌&&◌, ◌||◌, [], ◌∷◌, ◌++◌, codes, refl}
+use Rattle.std.proofs.Common.{inl, inr, sym, ◌∙◌, ap, true≢false, arith}
 use Rattle.std.proofs.lemmas.Bool.Decides.{nat_tests}
 use Rattle.std.specs.Char.{is_whitespace}
 use Rattle.std.specs.List.{list_all}

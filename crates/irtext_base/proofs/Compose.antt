@@ -2,7 +2,7 @@
 use Rattle.std.proofs.Common.{◌≡◌, Bool, true, false, Result, Ok, Err, [], ◌++◌, refl, sym, ◌∙◌, ap, subst, append_assoc, append-nil, ◌⊎◌, inl, inr}
 use Rattle.irtext_base.specs.Text.{Text}
 use Rattle.irtext_base.specs.Stream.{StreamView, IsAt, behind, after_failure}
-use Rattle.irtext_base.specs.Faults.{Fault, Memory, fault_of}
+use Rattle.irtext_base.specs.Faults.{Fault, fault_of}
 use Rattle.irtext_base.specs.Answers.{Outcome, Read, Missing, Bad, Takes, Stands, Starves, FailsBehind, StarvesHere, Commits, Demands, DemandsOf, Answers, Gives, Refuses, demanded, prefixed, mapped, followed, unless_failed}
 use Rattle.irtext_base.specs.declared.parsable.fault.ParseFault.{ParseFault}
 

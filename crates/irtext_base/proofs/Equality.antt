@@ -105,26 +105,7 @@ module _ {A : Type 0} (E : A → A → Bool) (decides : (a b : A) → Decides (E
     view_decides (named a l) (named b k) = named_decide (bytes_eq a b) (same_view E l k) a b l k (bytes_eq-Decides a b) (view_decides l k)
     view_decides (call_site a b) (call_site c d) = calls_decide (same_view E a c) (same_view E b d) a c b d (view_decides a c) (view_decides b d)
     view_decides unknown unknown = (λ _. refl, λ _. refl)
-    view_decides (src_pos a1 b1) (fused a2 b2) = kinds_differ (src_pos a1 b1) (fused a2 b2) refl
-    view_decides (src_pos a1 b1) (named a2 b2) = kinds_differ (src_pos a1 b1) (named a2 b2) refl
-    view_decides (src_pos a1 b1) (call_site a2 b2) = kinds_differ (src_pos a1 b1) (call_site a2 b2) refl
-    view_decides (src_pos a1 b1) unknown = kinds_differ (src_pos a1 b1) unknown refl
-    view_decides (fused a1 b1) (src_pos a2 b2) = kinds_differ (fused a1 b1) (src_pos a2 b2) refl
-    view_decides (fused a1 b1) (named a2 b2) = kinds_differ (fused a1 b1) (named a2 b2) refl
-    view_decides (fused a1 b1) (call_site a2 b2) = kinds_differ (fused a1 b1) (call_site a2 b2) refl
-    view_decides (fused a1 b1) unknown = kinds_differ (fused a1 b1) unknown refl
-    view_decides (named a1 b1) (src_pos a2 b2) = kinds_differ (named a1 b1) (src_pos a2 b2) refl
-    view_decides (named a1 b1) (fused a2 b2) = kinds_differ (named a1 b1) (fused a2 b2) refl
-    view_decides (named a1 b1) (call_site a2 b2) = kinds_differ (named a1 b1) (call_site a2 b2) refl
-    view_decides (named a1 b1) unknown = kinds_differ (named a1 b1) unknown refl
-    view_decides (call_site a1 b1) (src_pos a2 b2) = kinds_differ (call_site a1 b1) (src_pos a2 b2) refl
-    view_decides (call_site a1 b1) (fused a2 b2) = kinds_differ (call_site a1 b1) (fused a2 b2) refl
-    view_decides (call_site a1 b1) (named a2 b2) = kinds_differ (call_site a1 b1) (named a2 b2) refl
-    view_decides (call_site a1 b1) unknown = kinds_differ (call_site a1 b1) unknown refl
-    view_decides unknown (src_pos a2 b2) = kinds_differ unknown (src_pos a2 b2) refl
-    view_decides unknown (fused a2 b2) = kinds_differ unknown (fused a2 b2) refl
-    view_decides unknown (named a2 b2) = kinds_differ unknown (named a2 b2) refl
-    view_decides unknown (call_site a2 b2) = kinds_differ unknown (call_site a2 b2) refl
+    view_decides v w = kinds_differ v w refl
 
     rows_decide : (ls ks : LocationViews A) → Decides (same_rows E ls ks) (ls ≡ ks)
     rows_decide no_location no_location = (λ _. refl, λ _. refl)

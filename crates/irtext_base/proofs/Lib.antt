@@ -18,3 +18,5 @@ pub mod SameEnds
 pub mod Moves
 pub mod Walks
 pub mod Equality
+pub mod Visits
+pub mod Feeds

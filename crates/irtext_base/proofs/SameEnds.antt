@@ -66,6 +66,12 @@ module _ {A : Type 0} (E : A → A → Bool) where
   pub rows_next : (ls ks : List (Location A)) (i : ℕ) (l k : Location A) → i < length ls → i < length ks → l ≡ get_or ls i l → k ≡ get_or ks i k → rows (drop i ls) (drop i ks) ≡ (views l k && rows (drop (i + 1) ls) (drop (i + 1) ks))
   rows_next ls ks i l k h g d e = ap₂ (same_rows E) (first_left ls i l h d) (first_left ks i k g e)
 
+  -- the same where it was looked whether the first of each are equal, and all that are looked at so far decide nothing
+  pub rows_on : (ls ks : List (Location A)) (i : ℕ) (l k : Location A) (looked alike : Bool) → i < length ls → i < length ks → l ≡ get_or ls i l → k ≡ get_or ks i k → looked ≡ views l k → looked ≡ alike
+      → rows (drop i ls) (drop i ks) ≡ rows ls ks → (alike && rows (drop (i + 1) ls) (drop (i + 1) ks)) ≡ rows ls ks
+  rows_on ls ks i l k looked alike h g d e by found before =
+      ap (λ b. b && rows (drop (i + 1) ls) (drop (i + 1) ks)) (sym found ∙ by) ∙ (sym (rows_next ls ks i l k h g d e) ∙ before)
+
   -- several locations as one and several others, with equal metadata
   pub fused_same : (k : Location A) (n : Box (Option (AttrObj A)) Global) (some : Box (Vec (Location A) Global) Global) (ls ks : List (Location A)) (v w : Option (AttrObj A)) → k ≡ Fused n some → ks ≡ some.value.items → w ≡ n.value
       → option_eq (same_attr E) (attr_view_in v) (attr_view_in w) ≡ true → same_view E (several v ls) (location_view k) ≡ rows ls ks

@@ -20,3 +20,5 @@ pub mod Waits
 pub mod Walks
 pub mod SameLeft
 pub mod SameLocations
+pub mod Visits
+pub mod Feeds

@@ -99,14 +99,9 @@ module _ {X : Type 0} (D : X → X → Bool) where
 module _ {A : Type 0} (E : A → A → Bool) (p : IsPartialEquivalence E) where
   attr_symm : (a b : AttrView A) → same_attr E a b ≡ same_attr E b a
   attr_symm (given_names a) (given_names b) = names_equiv.symm a b
-  attr_symm (given_names a) (ident b) = refl
-  attr_symm (given_names a) (own b) = refl
-  attr_symm (ident a) (given_names b) = refl
   attr_symm (ident a) (ident b) = nat_list_eq_equiv.symm a b
-  attr_symm (ident a) (own b) = refl
-  attr_symm (own a) (given_names b) = refl
-  attr_symm (own a) (ident b) = refl
   attr_symm (own a) (own b) = p.symm a b
+  attr_symm a b = refl
 
   attr_trans : (a b c : AttrView A) → same_attr E a b ≡ true → same_attr E b c ≡ true → same_attr E a c ≡ true
   attr_trans (given_names a) (given_names b) (given_names c) h g = (partial_equiv_from_equiv names_equiv).trans a b c h g
@@ -132,26 +127,7 @@ module _ {A : Type 0} (E : A → A → Bool) (p : IsPartialEquivalence E) where
     view_symm (named a l) (named b k) = ap₂ ◌&&◌ (nat_list_eq_equiv.symm a b) (view_symm l k)
     view_symm (call_site a b) (call_site c d) = ap₂ ◌&&◌ (view_symm a c) (view_symm b d)
     view_symm unknown unknown = refl
-    view_symm (src_pos s p) (fused n ks) = refl
-    view_symm (src_pos s p) (named b k) = refl
-    view_symm (src_pos s p) (call_site c d) = refl
-    view_symm (src_pos s p) unknown = refl
-    view_symm (fused m ls) (src_pos t q) = refl
-    view_symm (fused m ls) (named b k) = refl
-    view_symm (fused m ls) (call_site c d) = refl
-    view_symm (fused m ls) unknown = refl
-    view_symm (named a l) (src_pos t q) = refl
-    view_symm (named a l) (fused n ks) = refl
-    view_symm (named a l) (call_site c d) = refl
-    view_symm (named a l) unknown = refl
-    view_symm (call_site a b) (src_pos t q) = refl
-    view_symm (call_site a b) (fused n ks) = refl
-    view_symm (call_site a b) (named c l) = refl
-    view_symm (call_site a b) unknown = refl
-    view_symm unknown (src_pos t q) = refl
-    view_symm unknown (fused n ks) = refl
-    view_symm unknown (named b k) = refl
-    view_symm unknown (call_site c d) = refl
+    view_symm k l = refl
 
     rows_symm : (ls ks : LocationViews A) → same_rows E ls ks ≡ same_rows E ks ls
     rows_symm no_location no_location = refl

@@ -20,13 +20,21 @@ pub fn equal_where_alike<A: AttrText>()
 
 /// What is equal feeds a hasher alike.
 pub fn equal_ones_hash_alike<A: AttrText>()
-    ensures sources { (s t : Source) → ⟦<Source as PartialEq>⟧.eq s t ≡ true → ⟦<Source as Hash>⟧.hash_input s ≡ ⟦<Source as Hash>⟧.hash_input t }
-    ensures attributes { (x y : AttrObj A) → ⟦<AttrObj<A> as PartialEq>⟧.eq x y ≡ true → ⟦<AttrObj<A> as Hash>⟧.hash_input x ≡ ⟦<AttrObj<A> as Hash>⟧.hash_input y }
-    ensures locations { (k l : Location A) → ⟦<Location<A> as PartialEq>⟧.eq k l ≡ true → ⟦<Location<A> as Hash>⟧.hash_input k ≡ ⟦<Location<A> as Hash>⟧.hash_input l }
+    ensures sources { (s t : Source) → ⟦<Source as PartialEq>⟧.eq s t ≡ true →
+        ⟦<Source as Hash>⟧.hash_input s ≡ ⟦<Source as Hash>⟧.hash_input t }
+    ensures attributes { (x y : AttrObj A) → ⟦<AttrObj<A> as PartialEq>⟧.eq x y ≡ true →
+        ⟦<AttrObj<A> as Hash>⟧.hash_input x ≡ ⟦<AttrObj<A> as Hash>⟧.hash_input y }
+    ensures locations { (k l : Location A) → ⟦<Location<A> as PartialEq>⟧.eq k l ≡ true →
+        ⟦<Location<A> as Hash>⟧.hash_input k ≡ ⟦<Location<A> as Hash>⟧.hash_input l }
 {}
 
 /// The hash of a source or a location that is made from the texts of paths is the same in any two contexts that keep their paths.
 pub fn stable_hashes_agree<A: AttrText>()
-    ensures sources { (paths others : List (List ℕ)) (s t : Source) → IsTrue (is_known (length paths) s) → IsTrue (is_known (length others) t) → path_of paths s ≡ path_of others t → source_writes paths s ≡ source_writes others t }
-    ensures locations { (paths others : List (List ℕ)) (k l : LocationView A) → IsTrue (are_known (length paths) k) → IsTrue (are_known (length others) l) → written_with paths k ≡ written_with others l → location_writes A.hash_input paths k ≡ location_writes A.hash_input others l }
+    ensures sources { (paths others : List (List ℕ)) (s t : Source) →
+        IsTrue (is_known (length paths) s) → IsTrue (is_known (length others) t) →
+        path_of paths s ≡ path_of others t → source_writes paths s ≡ source_writes others t }
+    ensures locations { (paths others : List (List ℕ)) (k l : LocationView A) →
+        IsTrue (are_known (length paths) k) → IsTrue (are_known (length others) l) →
+        written_with paths k ≡ written_with others l →
+        location_writes A.hash_input paths k ≡ location_writes A.hash_input others l }
 {}

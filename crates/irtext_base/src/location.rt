@@ -15,6 +15,7 @@ pub mod paths;
 mod release;
 mod same;
 pub mod sources;
+mod visit;
 mod walk;
 
 use crate::base::AttrObj;

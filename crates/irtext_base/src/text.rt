@@ -20,7 +20,8 @@ pub trait IrText<A>: Sized + Drop + Eq {
     /// Reads a value where the stream stands. Where none begins, the fault is uncommitted and the stream is as it was; a text that is
     /// bad further on, want of memory and a stream that had failed are committed faults, and the stream has failed.
     fn read(stream: &mut TextStream) -> ParseResult<Self, A>
-        ensures { Answers (λ s. s) (λ s v. v) (λ x. x) (unless_failed stream.old.failed (reading stream.old.rest)) stream.old result stream.new };
+        ensures { Answers (λ s. s) (λ s v. v) (λ x. x)
+            (unless_failed stream.old.failed (reading stream.old.rest)) stream.old result stream.new };
 
     /// Appends the value's text. It fails only where memory was refused.
     fn write_text(&self, f: &mut String) -> fmt::Result

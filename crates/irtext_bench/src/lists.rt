@@ -20,11 +20,7 @@ fn told<X: Drop>(
 /// Reads a list of integers with commas between. It tells how many there were.
 pub fn numbers(alloc: Global, text: &str) -> Result<String, AllocError> {
     let mut stream = TextStream::new(alloc, text)?;
-    let items: ParseResult<Vec<i64>, DemoAttr> = list_parser(
-        &mut stream,
-        ',',
-        |s: &mut TextStream| int_parse(s),
-    );
+    let items: ParseResult<Vec<i64>, DemoAttr> = list_parser(&mut stream, ',', int_parse);
     told(alloc, items, text.len())
 }
 
@@ -34,7 +30,7 @@ pub fn strings(alloc: Global, text: &str) -> Result<String, AllocError> {
     let items: ParseResult<Vec<String>, DemoAttr> = list_parser(
         &mut stream,
         ',',
-        |s: &mut TextStream| quoted_string_parse(s),
+        quoted_string_parse,
     );
     told(alloc, items, text.len())
 }

@@ -3,7 +3,7 @@ use Rattle.std.specs.Prelude.{ℕ, Bool, true, false, not, ◌&&◌, ◌||◌, �
 use Rattle.std.specs.List.{list_all, filter_map}
 use Rattle.std.specs.Str.{chars}
 use Rattle.irtext_base.specs.Format as format
-use Rattle.irtext_base.specs.Format.{Format, Directive, has, is_operands, is_successors, is_regions, is_dictionary, is_header, is_any_region, keys, continuings, followers, disjoint}
+use Rattle.irtext_base.specs.Format.{Format, Directive, has, is_operands, is_successors, is_regions, is_dictionary, is_header, is_any_region, keys, continuings, followers, disjoint, distinct, same_text, given_names_key}
 use Rattle.irtext_base.specs.Text.{Text}
 use Rattle.irtext_base.specs.declared.format.Directive as code
 use Rattle.irtext_base.specs.declared.format.Directive.TheVariants as step
@@ -110,3 +110,7 @@ keeps rule.ListsEnd d ds = disjoint (continuings d) (followers ds)
 abbrev pub all_keep : Rule → List Directive → Bool
 all_keep r [] = true
 all_keep r (d ∷ ds) = keeps r d ds && all_keep r ds
+
+-- no key is named twice, and none is the one of given names
+abbrev pub free_keys : List Directive → Bool
+free_keys ds = distinct same_text (keys ds) && not (has same_text given_names_key (keys ds))

@@ -13,7 +13,8 @@ use irtext_base::format::{FormatFault, OpFormat};
 /// Whether a format reads uniquely. `Canonical` does. Of directives it answers the first of the conditions `C1` to `C8` that they
 /// fail. It takes no memory.
 pub fn check_format(format: &OpFormat) -> Result<(), FormatFault>
-    ensures { MatchResult result (λ _. first_fault (format_of format.now) ≡ 0) (λ fault. first_fault (format_of format.now) ≡ condition_number fault) }
+    ensures { MatchResult result (λ _. first_fault (format_of format.now) ≡ 0)
+        (λ fault. first_fault (format_of format.now) ≡ condition_number fault) }
 {
     match format {
         OpFormat::Canonical => Ok(()),

@@ -128,14 +128,9 @@ module _ {X : Type 0} where
   pub older_same : (mark : ℕ) (a b : Arena X) → b.slots.items ≡ a.slots.items → AreOlder mark a → AreOlder mark b
   older_same mark a b e h i g y f = h i g y (sym (ap (λ xs. found (slice_get xs i) g) e) ∙ f)
 
-  from_older : (mark : ℕ) (s : Option (Entry X)) (y : Entry X) → older mark s ≡ Some y → s ≡ Some y
+  pub from_older : (mark : ℕ) (s : Option (Entry X)) (y : Entry X) → older mark s ≡ Some y → s ≡ Some y
   from_older mark None y e = absurd (cc)
   from_older mark (Some x) y e = ap Some (cond_some (nat_lt x.born mark) x y e).1
-
-  -- the objects of an arena after those since a mark went
-  pub older_vacated : (made mark : ℕ) (a b : Arena X) → AreOlder made a
-      → ((i g : ℕ) → found (slice_get b.slots.items i) g ≡ older mark (found (slice_get a.slots.items i) g)) → AreOlder made b
-  older_vacated made mark a b h at i g y f = h i g y (from_older mark (found (slice_get a.slots.items i) g) y (sym (at i g) ∙ f))
 
   -- an arena without slots has no object
   pub older_empty : (mark : ℕ) (a : Arena X) → a.slots.items ≡ [] → AreOlder mark a

@@ -1,15 +1,12 @@
 -- How deep an object stands, counted with as many steps as there are places.
-use Rattle.std.specs.Prelude.{◌+◌, ℕ, suc, Option, length}
+use Rattle.std.specs.Prelude.{ℕ, suc, Option}
 use Rattle.irtext_graph.specs.declared.object.Object.{Object}
 use Rattle.irtext_graph.specs.declared.objects.Objects.{Objects}
 use Rattle.irtext_graph.specs.Objects.{up}
+use Rattle.irtext_graph.specs.Preorder.{slots}
 use Rattle.irtext_graph.proofs.Rank.{depth}
 
 module _ {O B T : Type 0} where
-  -- the places of all arenas
-  abbrev pub slots : Objects O B T → ℕ
-  slots x = length x.operations.slots.items + length x.blocks.slots.items + length x.regions.slots.items
-
   -- how deep an object stands
   abbrev pub depth_of : Objects O B T → Option Object → ℕ
   depth_of x o = depth (up x) (suc (slots x)) o

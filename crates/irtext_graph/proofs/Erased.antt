@@ -8,10 +8,11 @@ use Rattle.irtext_graph.specs.declared.objects.Objects.{Objects}
 use Rattle.irtext_graph.specs.Nested.{climb, Within}
 use Rattle.irtext_graph.proofs.Nests.{told, seen, some_eq, renested, climb-none}
 use Rattle.irtext_graph.proofs.Inside.{within_self, within_on, alone, carried, fewer_ways}
-use Rattle.irtext_graph.specs.Objects.{up, kids, what, Lives, SameAt, IsGone, IsForest, Drops, Appends, KeepsOlder, stays, is_older, eq_object}
+use Rattle.irtext_graph.specs.Objects.{up, kids, what, Lives, SameAt, IsGone, IsForest, Drops, Appends, KeepsOlder, stays, is_older, eq_object, SameDatum, Sheds}
 use Rattle.irtext_graph.specs.Content.{Content, Content.{AnOperation, ABlock, ARegion}, operation_content, block_content, region_content}
 use Rattle.irtext_graph.proofs.Same.{object_tells}
 use Rattle.irtext_graph.proofs.Places.{parent_lives}
+use Rattle.irtext_graph.proofs.Kept.{datum_self, datum_on, sheds_on, sheds_none, places_self}
 use Rattle.std.specs.Option.{option_map}
 use Rattle.irtext_graph.specs.Arena.{get}
 use Rattle.irtext_graph.specs.Nest.{parent_in, datum_in}
@@ -49,6 +50,8 @@ module _ {O B T : Type 0} where
     pub inside : (q : Object) → Within (up x) o q → Within (up x0) o q
     pub done : (q : Object) → Within (up x0) o q → (Within (up x) o q) ⊎ IsGone x q
     pub kept : (q : Object) → (Within (up x0) o q → ⊥) → SameAt x0 x q
+    pub kept_data : (q : Object) → (Within (up x0) o q → ⊥) → SameDatum x0 x q
+    pub sheds : Sheds x0 x
     pub at_inside : Within (up x) o at
     pub at_lives : Lives x at
     pub leaf : kids x at ≡ []
@@ -61,6 +64,8 @@ module _ {O B T : Type 0} where
     inside = λ q w. w;
     done = λ q w. inl w;
     kept = λ q n. record { same_up = refl; same_kids = refl; same_what = refl };
+    kept_data = λ q n. datum_self x q;
+    sheds = sheds_none (places_self x);
     at_inside = w;
     at_lives = a;
     leaf = e;
@@ -137,6 +142,8 @@ module _ {O B T : Type 0} where
           let nc : q ≢ c = λ s. out (rw s (v.inside c v.at_inside)) in
           let nk : q ≢ k = λ s. out (rw s (v.inside k k_inside)) in
           same_on (v.kept q out) (d.others q nk nc);
+      kept_data = λ q out. datum_on (v.kept_data q out) (d.kept_data q (λ s. out (rw s (v.inside c v.at_inside))));
+      sheds = sheds_on v.sheds d.sheds;
       at_inside = within_on (up y) o k at (still k k_not_c k_inside) w;
       at_lives = l;
       leaf = leaf;
@@ -160,6 +167,9 @@ module _ {O B T : Type 0} where
         | inr h ↦ gone_on h (others q ne)
       ]
     ]
+
+    pub end_data : ((q : Object) → q ≢ o → SameDatum x x4 q) → (q : Object) → (Within (up x0) o q → ⊥) → SameDatum x0 x4 q
+    end_data d q out = datum_on (v.kept_data q out) (d q (λ e. out (rw e (within_self (up x0) o))))
 
     pub end_kept : (q : Object) → (Within (up x0) o q → ⊥) → SameAt x0 x4 q
     end_kept q out = same_on (v.kept q out) (others q (λ e. out (rw e (within_self (up x0) o))))

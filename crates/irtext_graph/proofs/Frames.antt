@@ -26,7 +26,7 @@ map_same f one (x ∷ xs) (y ∷ ys) e =
     let t : map f xs ≡ map f ys = cc in
     rw (one x y h, map_same f one xs ys t) refl
 
-option_same : {X Y : Type 0} (f : X → Y) → ((a b : X) → f a ≡ f b → a ≡ b) → (x y : Option X) → option_map f x ≡ option_map f y → x ≡ y
+pub option_same : {X Y : Type 0} (f : X → Y) → ((a b : X) → f a ≡ f b → a ≡ b) → (x y : Option X) → option_map f x ≡ option_map f y → x ≡ y
 option_same f one None None e = refl
 option_same f one None (Some y) e = absurd (cc)
 option_same f one (Some x) None e = absurd (cc)
@@ -101,7 +101,7 @@ module _ {O B T : Type 0} where
     pub contents : (q : Object) → content h q ≡ content g q
     pub same : (q : Object) → (IsNew m g q) ⊎ ((parent h q ≡ parent g q) × (children h q ≡ children g q))
 
-  new_operation : (m : ℕ) (g : GraphView O B T) (p : Ptr Operation) → IsNew m g (TheOperation p) → before m g.operations p ≡ None
+  pub new_operation : (m : ℕ) (g : GraphView O B T) (p : Ptr Operation) → IsNew m g (TheOperation p) → before m g.operations p ≡ None
   new_operation m g p n = older_none m (get g.operations p) (λ d e. let k : is_older m (content g (TheOperation p)) ≡ nat_lt d.0 m = ap (λ c. is_older m (option_map as_operation c)) e in sym k ∙ n)
 
   new_block : (m : ℕ) (g : GraphView O B T) (p : Ptr BasicBlock) → IsNew m g (TheBlock p) → before m g.blocks p ≡ None
@@ -113,32 +113,38 @@ module _ {O B T : Type 0} where
   still_new : (m : ℕ) (g h : GraphView O B T) (q : Object) → content h q ≡ content g q → IsNew m g q → IsNew m h q
   still_new m g h q e n = ap (is_older m) e ∙ n
 
-  pub framed_keeps : (m : ℕ) (g h : GraphView O B T) → Framed m g h → g.made ≤ h.made → g.values ≤ h.values → KeepsOlder m g h
-  framed_keeps m g h f made values = record {
-    operations = λ p. elim (f.same (TheOperation p)) [
-      | inl n ↦ new_operation m h p (still_new m g h (TheOperation p) (f.contents (TheOperation p)) n) ∙ sym (new_operation m g p n)
+  -- each object is no older than the mark, or as it was
+  pub stood_keeps : (m : ℕ) (g h : GraphView O B T)
+      → ((q : Object) → (IsNew m g q × IsNew m h q) ⊎ ((parent h q ≡ parent g q) × (children h q ≡ children g q) × (content h q ≡ content g q)))
+      → g.made ≤ h.made → g.values ≤ h.values → KeepsOlder m g h
+  stood_keeps m g h f made values = record {
+    operations = λ p. elim (f (TheOperation p)) [
+      | inl n ↦ new_operation m h p n.1 ∙ sym (new_operation m g p n.0)
       | inr s ↦ ap (older m) (entry_same (get h.operations p) (get g.operations p)
           (option_same TheBlock block_same (parent_of (get h.operations p)) (parent_of (get g.operations p)) s.0)
           (map_same TheRegion region_same (children_of (get h.operations p)) (children_of (get g.operations p)) s.1)
-          (operation_content_same g h p (f.contents (TheOperation p))))
+          (operation_content_same g h p s.2))
     ];
-    blocks = λ p. elim (f.same (TheBlock p)) [
-      | inl n ↦ new_block m h p (still_new m g h (TheBlock p) (f.contents (TheBlock p)) n) ∙ sym (new_block m g p n)
+    blocks = λ p. elim (f (TheBlock p)) [
+      | inl n ↦ new_block m h p n.1 ∙ sym (new_block m g p n.0)
       | inr s ↦ ap (older m) (entry_same (get h.blocks p) (get g.blocks p)
           (option_same TheRegion region_same (parent_of (get h.blocks p)) (parent_of (get g.blocks p)) s.0)
           (map_same TheOperation operation_same (children_of (get h.blocks p)) (children_of (get g.blocks p)) s.1)
-          (block_content_same g h p (f.contents (TheBlock p))))
+          (block_content_same g h p s.2))
     ];
-    regions = λ p. elim (f.same (TheRegion p)) [
-      | inl n ↦ new_region m h p (still_new m g h (TheRegion p) (f.contents (TheRegion p)) n) ∙ sym (new_region m g p n)
+    regions = λ p. elim (f (TheRegion p)) [
+      | inl n ↦ new_region m h p n.1 ∙ sym (new_region m g p n.0)
       | inr s ↦ ap (older m) (entry_same (get h.regions p) (get g.regions p)
           (option_same TheOperation operation_same (parent_of (get h.regions p)) (parent_of (get g.regions p)) s.0)
           (map_same TheBlock block_same (children_of (get h.regions p)) (children_of (get g.regions p)) s.1)
-          (region_content_same g h p (f.contents (TheRegion p))))
+          (region_content_same g h p s.2))
     ];
     made = made;
     values = values;
   }
+
+  pub framed_keeps : (m : ℕ) (g h : GraphView O B T) → Framed m g h → g.made ≤ h.made → g.values ≤ h.values → KeepsOlder m g h
+  framed_keeps m g h f made values = stood_keeps m g h (λ q. elim (f.same q) [ inl n ↦ inl (n, still_new m g h q (f.contents q) n) | inr s ↦ inr (s.0, s.1, f.contents q) ]) made values
 
   pub appended-keeps : (m : ℕ) (g h : GraphView O B T) (k c : Object) → IsNew m g k → IsNew m g c → Appends g h k c → KeepsOlder m g h
   appended-keeps m g h k c nk nc a = framed_keeps m g h (record {

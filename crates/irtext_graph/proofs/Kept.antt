@@ -1,13 +1,18 @@
 -- Steps that leave the places and the data as they were, one behind the other.
-use Rattle.std.proofs.Common.{◌∙◌, ℕ, refl, Option, Some, None, IsSome}
+use Rattle.std.proofs.Common.{◌≡◌, ◌≢◌, ◌∙◌, inl, inr, sym, ap, length, ℕ, refl, Option, Some, None, IsSome}
 use Rattle.std.specs.Option.{option_map}
-use Rattle.irtext_graph.specs.Arena.{KeepsPlaces}
+use Rattle.irtext_graph.specs.Arena.{get, generation_at, KeepsPlaces, ShedsPlaces}
 use Rattle.irtext_graph.specs.declared.arena.Arena.{Arena}
 use Rattle.irtext_graph.specs.declared.arena.Entry.{Entry}
 use Rattle.irtext_graph.specs.declared.nest.Nest.{Nest}
 use Rattle.irtext_graph.specs.declared.objects.Objects.{Objects}
 use Rattle.irtext_graph.specs.Nest.{datum_in}
-use Rattle.irtext_graph.specs.Objects.{SamePlaces, SameData}
+use Rattle.irtext_graph.specs.Objects.{SamePlaces, SameData, SameDatum, Sheds, Renumbers, Appends, IsForest, eq_object}
+use Rattle.irtext_graph.specs.declared.object.Object.{Object}
+use Rattle.irtext_graph.specs.declared.arena.Ptr.{Ptr}
+use Rattle.irtext_graph.proofs.Pointers.{ptr_or}
+use Rattle.irtext_graph.proofs.Nests.{renested}
+use Rattle.irtext_graph.proofs.Same.{object_tells}
 
 keeps_on : {X : Type 0} {a b c : Arena X} → KeepsPlaces a b → KeepsPlaces b c → KeepsPlaces a c
 keeps_on h k = record {
@@ -20,6 +25,28 @@ keeps_on h k = record {
 keeps_self : {X : Type 0} (a : Arena X) → KeepsPlaces a a
 keeps_self a = record { generations = λ i. refl; free = refl; len = refl; age = λ m o. o }
 
+shed_on : {X : Type 0} {a b c : Arena X} → ShedsPlaces a b → ShedsPlaces b c → ShedsPlaces a c
+shed_on h k = record { generations = λ i. k.generations i ∙ h.generations i; len = k.len ∙ h.len; age = λ m o. k.age m (h.age m o) }
+
+shed_none : {X : Type 0} {a b : Arena X} → KeepsPlaces a b → ShedsPlaces a b
+shed_none h = record { generations = h.generations; len = h.len; age = h.age }
+
+pub shed_self : {X : Type 0} (a : Arena X) → ShedsPlaces a a
+shed_self a = record { generations = λ i. refl; len = refl; age = λ m o. o }
+
+-- one object goes
+pub shed_one : {X K : Type 0} (a b : Arena X) (p : Ptr K) → ((i : ℕ) → generation_at b i ≡ generation_at a i) → length b.slots.items ≡ length a.slots.items → get b p ≡ None → ((q : Ptr K) → q ≢ p → get b q ≡ get a q) → ShedsPlaces a b
+shed_one {X} {K} a b p generations len gone others = record {
+  generations = generations;
+  len = len;
+  age = λ m old i g o e.
+      let q : Ptr K = record { index = i; generation = g; of = p.of } in
+      elim (ptr_or q p) [
+        | inl s ↦ absurd (let f : get b q ≡ None = ap (get b) s ∙ gone in cc)
+        | inr n ↦ old i g o (sym (others q n) ∙ e)
+      ];
+}
+
 module _ {O B T : Type 0} where
   pub places_on : {x y z : Objects O B T} → SamePlaces x y → SamePlaces y z → SamePlaces x z
   places_on h k = record {
@@ -31,8 +58,61 @@ module _ {O B T : Type 0} where
   pub places_self : (x : Objects O B T) → SamePlaces x x
   places_self x = record { operation_places = keeps_self x.operations; block_places = keeps_self x.blocks; region_places = keeps_self x.regions }
 
+  pub sheds_on : {x y z : Objects O B T} → Sheds x y → Sheds y z → Sheds x z
+  sheds_on h k = record {
+    operation_places = shed_on h.operation_places k.operation_places;
+    block_places = shed_on h.block_places k.block_places;
+    region_places = shed_on h.region_places k.region_places;
+  }
+
+  -- what keeps its places loses none
+  pub sheds_none : {x y : Objects O B T} → SamePlaces x y → Sheds x y
+  sheds_none h = record {
+    operation_places = shed_none h.operation_places;
+    block_places = shed_none h.block_places;
+    region_places = shed_none h.region_places;
+  }
+
+  pub datum_at : {x y : Objects O B T} → SameData x y → (q : Object) → SameDatum x y q
+  datum_at h q = record { operation = λ p e. h.operation_data p; block = λ p e. h.block_data p }
+
+  pub datum_on : {x y z : Objects O B T} {q : Object} → SameDatum x y q → SameDatum y z q → SameDatum x z q
+  datum_on h k = record { operation = λ p e. k.operation p e ∙ h.operation p e; block = λ p e. k.block p e ∙ h.block p e }
+
+  pub datum_self : (x : Objects O B T) (q : Object) → SameDatum x x q
+  datum_self x q = record { operation = λ p e. refl; block = λ p e. refl }
+
   pub data_on : {x y z : Objects O B T} → SameData x y → SameData y z → SameData x z
   data_on h k = record { operation_data = λ p. k.operation_data p ∙ h.operation_data p; block_data = λ p. k.block_data p ∙ h.block_data p }
+
+module _ {O B T : Type 0} where
+  pub same_self : (x : Objects O B T) → Renumbers x x
+  same_self x = record {
+    at = λ q. record { same_up = refl; same_kids = refl; same_what = refl };
+    as_many = refl;
+    places = places_self x;
+    all_data = record { operation_data = λ p. refl; block_data = λ p. refl };
+  }
+
+  pub same_then : {x y z : Objects O B T} → Renumbers x y → Renumbers y z → Renumbers x z
+  same_then h k = record {
+    at = λ q. record { same_up = (k.at q).same_up ∙ (h.at q).same_up; same_kids = (k.at q).same_kids ∙ (h.at q).same_kids; same_what = (k.at q).same_what ∙ (h.at q).same_what };
+    as_many = k.as_many ∙ h.as_many;
+    places = places_on h.places k.places;
+    all_data = data_on h.all_data k.all_data;
+  }
+
+  pub forest_then : {x y : Objects O B T} → IsForest x → Renumbers x y → IsForest y
+  forest_then s h = renested eq_object object_tells s (λ q. (h.at q).same_kids) (λ q. (h.at q).same_up)
+
+  pub appends_then : {x y z : Objects O B T} {k c : Object} → Appends x y k c → Renumbers y z → Appends x z k c
+  appends_then {k = k} {c = c} a h = record {
+    here = (h.at k).same_kids ∙ a.here;
+    others = λ q n. (h.at q).same_kids ∙ a.others q n;
+    up_here = (h.at c).same_up ∙ a.up_here;
+    ups = λ q n. (h.at q).same_up ∙ a.ups q n;
+    whats = λ q. (h.at q).same_what ∙ a.whats q;
+  }
 
 -- an object that has data is there, and the other way round
 pub datum_there : {P C D V : Type 0} (f : ℕ × D → V) (e : Option (Entry (Nest P C D))) → IsSome e → IsSome (option_map f (datum_in e))

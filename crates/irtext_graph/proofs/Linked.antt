@@ -1,31 +1,31 @@
 -- Tests of equality for uses and values, what a use tells of its place, and lists with another item at one index.
-use Rattle.std.proofs.Common.{◌≡◌, ◌∙◌, ℕ, zero, suc, Bool, true, false, refl, sym, ap, Option, Some, None, IsSome, cond, List, [], ◌∷◌, slice_get, set, map, get_or, option_map}
+use Rattle.std.proofs.Common.{◌≡◌, ◌≢◌, ◌∙◌, inl, inr, Bool, true, false, refl, sym, ap, Option, Some, None, IsSome, cond, option_map, ℕ, zero, suc, List, [], ◌∷◌, set, map, get_or}
 use Rattle.std.proofs.lemmas.Bool.{eqb-true, eq-eqb}
-use Rattle.irtext_graph.specs.declared.arena.Ptr.{Ptr}
-use Rattle.irtext_graph.specs.declared.object.Operation.{Operation}
-use Rattle.irtext_graph.specs.declared.object.BasicBlock.{BasicBlock}
-use Rattle.irtext_graph.specs.declared.objects.Site.{Site}
-use Rattle.irtext_graph.specs.declared.objects.Operand.{Operand}
-use Rattle.irtext_graph.specs.declared.objects.Successor.{Successor}
-use Rattle.irtext_graph.specs.declared.objects.Definition.{Definition}
+use Rattle.irtext_graph.specs.declared.object.Defined.{Defined}
+use Rattle.irtext_graph.specs.declared.object.Defined.TheVariants.{OfValue, OfBlock}
+use Rattle.irtext_graph.specs.declared.object.Site.{Site}
+use Rattle.irtext_graph.specs.declared.object.Site.TheVariants.{AtOperand, AtSuccessor}
+use Rattle.irtext_graph.specs.declared.objects.Links.{Links}
+use Rattle.irtext_graph.specs.declared.objects.Use.{Use}
+use Rattle.irtext_graph.specs.declared.objects.Objects.{Objects}
 use Rattle.irtext_graph.specs.declared.object.Value.{Value}
 use Rattle.irtext_graph.specs.declared.object.Value.TheVariants.{Result, Argument}
 use Rattle.irtext_graph.proofs.Same.{both, all, ptr_tells}
-use Rattle.irtext_graph.proofs.Nests.{Tells, some_eq}
-use Rattle.irtext_graph.specs.Content.{typed}
-use Rattle.irtext_graph.specs.Uses.{eq_site, eq_value, value_of, block_of}
+use Rattle.irtext_graph.proofs.Nests.{Tells, told}
+use Rattle.irtext_graph.specs.Uses.{eq_site, eq_value, eq_defined, use_at, def_of, relinked, either}
 
-pub site_same : (w u : Site) → w.op ≡ u.op → w.index ≡ u.index → w ≡ u
-site_same w u e f = go w.op w.index u.op u.index e f
-  where
-    go : (p : Ptr Operation) (i : ℕ) (q : Ptr Operation) (j : ℕ) → p ≡ q → i ≡ j → ◌≡◌ {A = Site} (record { op = p; index = i }) (record { op = q; index = j })
-    go p i q j e f = rw (e, f) refl
+site_is : (u : Site) → eq_site u u ≡ true
+site_is (AtOperand p i) = all _ _ (ptr_tells.same p) (eq-eqb i i refl)
+site_is (AtSuccessor p i) = all _ _ (ptr_tells.same p) (eq-eqb i i refl)
+
+site_sound : (u w : Site) → eq_site u w ≡ true → u ≡ w
+site_sound (AtOperand p i) (AtOperand q j) e = let k = both _ _ e in rw (ptr_tells.sound p q k.0, eqb-true i j k.1) refl
+site_sound (AtSuccessor p i) (AtSuccessor q j) e = let k = both _ _ e in rw (ptr_tells.sound p q k.0, eqb-true i j k.1) refl
+site_sound (AtOperand p i) (AtSuccessor q j) e = absurd (cc)
+site_sound (AtSuccessor p i) (AtOperand q j) e = absurd (cc)
 
 pub site_tells : Tells eq_site
-site_tells = record {
-  same = λ x. all _ _ (ptr_tells.same x.op) (eq-eqb x.index x.index refl);
-  sound = λ x y p. let q = both _ _ p in site_same x y (ptr_tells.sound x.op y.op q.0) (eqb-true _ _ q.1);
-}
+site_tells = record { same = site_is; sound = site_sound }
 
 value_same : (v : Value) → eq_value v v ≡ true
 value_same (Result p i) = all _ _ (ptr_tells.same p) (eq-eqb i i refl)
@@ -37,43 +37,44 @@ value_sound (Argument p i) (Argument q j) e = let k = both _ _ e in rw (ptr_tell
 value_sound (Result p i) (Argument q j) e = absurd (cc)
 value_sound (Argument p i) (Result q j) e = absurd (cc)
 
-pub value_tells : Tells eq_value
+value_tells : Tells eq_value
 value_tells = record { same = value_same; sound = value_sound }
 
--- an operand that uses a value is there
-pub there : (o : Option Operand) (v : Value) → value_of o ≡ Some v → IsSome o
-there None v p = absurd (cc)
-there (Some o) v p = refl
+defined_same : (d : Defined) → eq_defined d d ≡ true
+defined_same (OfValue v) = value_same v
+defined_same (OfBlock b) = ptr_tells.same b
 
--- an operand that uses something uses the value that it names
-pub used_value : (o : Option Operand) (p : Operand) → o ≡ Some p → IsSome (value_of o) → value_of o ≡ Some p.value
-used_value o p e h = ap value_of e ∙ go p.linked (rw e at h)
+defined_sound : (d e : Defined) → eq_defined d e ≡ true → d ≡ e
+defined_sound (OfValue v) (OfValue w) e = ap OfValue (value_sound v w e)
+defined_sound (OfBlock b) (OfBlock c) e = ap OfBlock (ptr_tells.sound b c e)
+defined_sound (OfValue v) (OfBlock c) e = absurd (cc)
+defined_sound (OfBlock b) (OfValue w) e = absurd (cc)
+
+pub defined_tells : Tells eq_defined
+defined_tells = record { same = defined_same; sound = defined_sound }
+
+-- a use that is in a use list is there
+pub there : (o : Option (Use Defined)) (d : Defined) → def_of o ≡ Some d → IsSome o
+there None d p = absurd (cc)
+there (Some o) d p = refl
+
+-- a use that is in a use list uses what it names
+pub used_def : (o : Option (Use Defined)) (p : Use Defined) → o ≡ Some p → IsSome (def_of o) → def_of o ≡ Some p.def
+used_def o p e h = ap def_of e ∙ go p.links.linked (rw e at h)
   where
-    go : (t : Bool) → IsSome (cond t (Some p.value) None) → cond t (Some p.value) None ≡ Some p.value
+    go : (t : Bool) → IsSome (cond t (Some p.def) None) → cond t (Some p.def) None ≡ Some p.def
     go true h = refl
     go false h = absurd (cc)
 
--- a successor that uses a block is there
-pub block_there : (o : Option Successor) (b : Ptr BasicBlock) → block_of o ≡ Some b → IsSome o
-block_there None b p = absurd (cc)
-block_there (Some o) b p = refl
+-- other links are seen alike whichever kind of use has them
+pub either_relinked : {D : Type 0} (f : D → Defined) (l : Links) (o : Option (Use D)) → option_map (either f) (option_map (relinked l) o) ≡ option_map (relinked l) (option_map (either f) o)
+either_relinked f l None = refl
+either_relinked f l (Some u) = refl
 
--- a successor that uses something uses the block that it names
-pub used_block : (o : Option Successor) (p : Successor) → o ≡ Some p → IsSome (block_of o) → block_of o ≡ Some p.block
-used_block o p e h = ap block_of e ∙ go p.linked (rw e at h)
-  where
-    go : (t : Bool) → IsSome (cond t (Some p.block) None) → cond t (Some p.block) None ≡ Some p.block
-    go true h = refl
-    go false h = absurd (cc)
-
--- a list that is seen as the same with another item at one index
-pub map_set_seen : {X Y : Type 0} (f : X → Y) (xs : List X) (i : ℕ) (y : X) → option_map f (slice_get xs i) ≡ Some (f y) → map f (set xs i y) ≡ map f xs
-map_set_seen f [] i y e = refl
-map_set_seen f (x ∷ xs) zero y e = ap (λ z. z ∷ map f xs) (sym (some_eq e))
-map_set_seen f (x ∷ xs) (suc i) y e = ap (λ zs. f x ∷ zs) (map_set_seen f xs i y e)
-
--- definitions are seen as the same with another first use of one
-pub first_seen : {T : Type 0} (ds : List (Definition T)) (i : ℕ) (d : Definition T) (h : Option Site) → d ≡ get_or ds i d → map typed (set ds i (record d { first = h })) ≡ map typed ds
-first_seen [] i d h e = refl
-first_seen (x ∷ xs) zero d h e = ap (λ z. typed z ∷ map typed xs) e
-first_seen (x ∷ xs) (suc i) d h e = ap (λ zs. typed x ∷ zs) (first_seen xs i d h e)
+-- where a use got other links, what does not read them is as it was
+pub relinked_same : {O B T V : Type 0} (x y : Objects O B T) (u : Site) (l : Links) (o : Use Defined) (view : Option (Use Defined) → V) → use_at x u ≡ Some o → use_at y u ≡ option_map (relinked l) (use_at x u) → ((w : Site) → w ≢ u → use_at y w ≡ use_at x w)
+    → view (Some (relinked l o)) ≡ view (Some o) → (s : Site) → view (use_at y s) ≡ view (use_at x s)
+relinked_same x y u l o view read here others same s = elim (told site_tells s u) [
+  | inl e ↦ ap (λ s. view (use_at y s)) e ∙ ap view (here ∙ ap (option_map (relinked l)) read) ∙ same ∙ sym (ap view read) ∙ sym (ap (λ s. view (use_at x s)) e)
+  | inr ne ↦ ap view (others s ne)
+]

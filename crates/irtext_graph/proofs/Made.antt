@@ -1,5 +1,5 @@
 -- What is seen of an object that was made, and that what is older stands as it did.
-use Rattle.std.proofs.Common.{◌≡◌, ◌≤◌, ◌+◌, ℕ, refl, ap, subst, arith, None, List, [], map, length}
+use Rattle.std.proofs.Common.{◌≡◌, ◌≤◌, ◌+◌, ℕ, refl, sym, ap, subst, arith, ◌∙◌, None, List, [], map, length, Result, Ok, Err, OnErr}
 use Rattle.irtext_graph.specs.Arena as arena
 use Rattle.irtext_graph.specs.declared.arena.Arena.{Arena}
 use Rattle.irtext_graph.specs.declared.arena.Entry.{Entry}
@@ -14,8 +14,16 @@ use Rattle.irtext_graph.specs.declared.objects.OperationData.{OperationData}
 use Rattle.irtext_graph.specs.declared.objects.RegionData.{RegionData}
 use Rattle.irtext_graph.specs.Store.{store_of, object_of, before, Inserts}
 use Rattle.irtext_graph.specs.Content.{node_of, typed, operation_content, block_content, region_content}
-use Rattle.irtext_graph.specs.Graph.{GraphView, graph_of, fresh, numbered, MakesRegion, MakesBlock, MakesOperation, KeepsOlder}
+use Rattle.irtext_graph.specs.declared.object.Value.{Value}
+use Rattle.irtext_graph.specs.Linking.{IsBlank}
+use Rattle.irtext_graph.specs.Graph.{GraphView, graph_of, seen, fresh, numbered, MakesRegion, MakesBlock, MakesOperation, KeepsOlder}
 use Rattle.irtext_graph.proofs.Stores.{inserts_seen, inserted-keeps, store_same}
+use Rattle.irtext_graph.proofs.Linkings.{unlinked_defs}
+
+-- what holds in any case holds of a refusal
+pub on_err : {A E P : Type 0} (r : Result A E) → P → OnErr r P
+on_err (Ok a) p = tt
+on_err (Err e) p = p
 
 module _ {O B T : Type 0} where
   pub same_keeps : (m : ℕ) (old new : GraphView O B T) → new ≡ old → KeepsOlder m old new
@@ -81,10 +89,10 @@ module _ {O B T : Type 0} where
   pub operations_same : (m v : ℕ) (x : Objects O B T) (after : Arena (Nest BasicBlock Region (OperationData O T))) → after.slots.items ≡ x.operations.slots.items → after.free ≡ x.operations.free → graph_of m v (record x { operations = after }) ≡ graph_of m v x
   operations_same m v x after e f = rw (store_same (node_of operation_content) x.operations after e f) refl
 
-  pub operation_made : (m v n : ℕ) (x : Objects O B T) (after : Arena (Nest BasicBlock Region (OperationData O T))) (p : Ptr Operation) (e : Entry (Nest BasicBlock Region (OperationData O T))) (value : O) (types : List T) → arena.Inserts x.operations after p e
-      → e.born ≡ m → e.content.parent ≡ None → e.content.children.items ≡ [] → e.content.data.data ≡ value → e.content.data.operands.items ≡ [] → e.content.data.successors.items ≡ [] → map typed e.content.data.results.items ≡ numbered v types → n ≡ v + length types
-      → MakesOperation (graph_of m v x) (graph_of (m + 1) n (record x { operations = after })) p value types
-  operation_made m v n x after p e value types i born none empty same_value no_operands no_successors numbers count = record {
+  pub operation_made : (m v n : ℕ) (x : Objects O B T) (after : Arena (Nest BasicBlock Region (OperationData O T))) (p : Ptr Operation) (e : Entry (Nest BasicBlock Region (OperationData O T))) (value : O) (types : List T)
+      (operands : List Value) (successors : List (Ptr BasicBlock)) → arena.Inserts x.operations after p e → e.born ≡ m → IsBlank e.content value types v operands successors → n ≡ v + length types
+      → MakesOperation (graph_of m v x) (graph_of (m + 1) n (record x { operations = after })) p value types operands successors
+  operation_made m v n x after p e value types operands successors i born b count = record {
     operations = subst (λ o. Inserts (store_of (node_of operation_content) x.operations) (store_of (node_of operation_content) after) p o) same (inserts_seen (node_of operation_content) x.operations after p e i);
     blocks = refl;
     regions = refl;
@@ -92,11 +100,24 @@ module _ {O B T : Type 0} where
     values = count;
   }
     where
-      same : object_of (node_of operation_content) e ≡ record { born = m; content = fresh (record { data_of = value; operands = []; successors = []; results = numbered v types }) }
-      same = rw (born, none, empty, same_value, no_operands, no_successors, numbers) refl
+      named_operands : map (λ u. u.def) e.content.data.operands.items ≡ operands
+      named_operands = ap (map (λ u. u.def)) b.operand_uses ∙ unlinked_defs operands
 
-  pub operation-keeps : (m : ℕ) (old new : GraphView O B T) (p : Ptr Operation) (value : O) (types : List T) → m ≤ old.made → MakesOperation old new p value types → KeepsOlder m old new
-  operation-keeps m old new p value types up k = record {
+      named_successors : map (λ u. u.def) e.content.data.successors.items ≡ successors
+      named_successors = ap (map (λ u. u.def)) b.successor_uses ∙ unlinked_defs successors
+
+      same : object_of (node_of operation_content) e ≡ record { born = m; content = fresh (record { data_of = value; operands = operands; successors = successors; results = numbered v types }) }
+      same = rw (born, b.parent, b.children, b.value_is, named_operands, named_successors, b.results.values) refl
+
+  -- the same where only the use lists differ
+  pub operation_made_seen : (m v n : ℕ) (x y z : Objects O B T) (p : Ptr Operation) (value : O) (types : List T) (operands : List Value) (successors : List (Ptr BasicBlock)) → seen z ≡ seen y
+      → MakesOperation (graph_of m v x) (graph_of (m + 1) n y) p value types operands successors → MakesOperation (graph_of m v x) (graph_of (m + 1) n z) p value types operands successors
+  operation_made_seen m v n x y z p value types operands successors same k =
+      subst (λ g. MakesOperation (graph_of m v x) g p value types operands successors) (ap (λ (g : GraphView O B T). record g { made = m + 1; values = n }) (sym same)) k
+
+  pub operation-keeps : (m : ℕ) (old new : GraphView O B T) (p : Ptr Operation) (value : O) (types : List T) (operands : List Value) (successors : List (Ptr BasicBlock)) → m ≤ old.made
+      → MakesOperation old new p value types operands successors → KeepsOlder m old new
+  operation-keeps m old new p value types operands successors up k = record {
     operations = inserted-keeps m old.operations new.operations p _ up k.operations;
     blocks = λ q. ap (λ s. before m s q) k.blocks;
     regions = λ q. ap (λ s. before m s q) k.regions;

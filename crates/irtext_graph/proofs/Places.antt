@@ -17,7 +17,8 @@ use Rattle.irtext_graph.specs.Arena.{get, found}
 use Rattle.irtext_graph.specs.Nest.{parent_in, children_in, datum_in}
 use Rattle.irtext_graph.specs.declared.nest.Nest.{Nest}
 use Rattle.irtext_graph.specs.Objects.{up, kids, Lives, IsForest}
-use Rattle.irtext_graph.proofs.Depth.{slots, depth_of}
+use Rattle.irtext_graph.specs.Preorder.{slots}
+use Rattle.irtext_graph.proofs.Depth.{depth_of}
 use Rattle.irtext_graph.specs.Content.{Content.{AnOperation, ABlock, ARegion}, operation_content, block_content, region_content}
 use Rattle.irtext_graph.proofs.Counts.{entry-low}
 

@@ -17,19 +17,23 @@ use Rattle.irtext_graph.specs.declared.objects.Objects.{Objects}
 use Rattle.irtext_graph.specs.declared.objects.OperationData.{OperationData}
 use Rattle.irtext_graph.specs.declared.objects.BlockData.{BlockData}
 use Rattle.irtext_graph.specs.declared.objects.RegionData.{RegionData}
-use Rattle.irtext_graph.specs.declared.objects.Operand.{Operand}
-use Rattle.irtext_graph.specs.declared.objects.Successor.{Successor}
-use Rattle.irtext_graph.specs.declared.objects.Site.{Site}
+use Rattle.irtext_graph.specs.declared.objects.Use.{Use}
+use Rattle.irtext_graph.specs.declared.object.Defined.{Defined}
+use Rattle.irtext_graph.specs.declared.object.Defined.TheVariants.{OfValue, OfBlock}
+use Rattle.irtext_graph.specs.declared.object.Site.{Site}
+use Rattle.irtext_graph.specs.declared.object.Site.TheVariants.{AtOperand, AtSuccessor}
 use Rattle.irtext_graph.specs.Chained.{Chained}
 use Rattle.irtext_graph.proofs.Chains.{reframed}
 use Rattle.irtext_graph.specs.Nest.{parent_in, children_in, datum_in}
-use Rattle.irtext_graph.specs.Objects.{up, kids, IsForest, SameData, SamePlaces, eq_ptr, eq_object}
+use Rattle.irtext_graph.specs.Objects.{up, kids, IsForest, SameData, SamePlaces, eq_object, SameDatum}
 use Rattle.irtext_graph.proofs.Same.{ptr_tells, object_tells}
 use Rattle.irtext_graph.proofs.Nests.{told, renested}
-use Rattle.irtext_graph.specs.Uses.{operand_in, successor_in, result_in, argument_in, preds_in, first_of, operand_at, successor_at, head_at, preds_at, val, block_val, value_of, prev_of, next_of, block_of, prev_block_of, next_block_of, AreUsesLinked, ArePredsLinked, eq_site, eq_value}
+use Rattle.irtext_graph.specs.Uses.{operand_in, successor_in, result_in, argument_in, preds_in, first_of, use_at, head_at, val, def_of, prev_of, next_of, either, AreUsesLinked, eq_site, eq_defined}
+use Rattle.irtext_graph.specs.Erasing.{user, owner}
+use Rattle.irtext_graph.proofs.Kept.{datum_at}
 use Rattle.irtext_graph.specs.Sound.{IsSound}
 use Rattle.irtext_graph.proofs.Arenas.{older_empty, older_later, older_inserted, older_same, new_view, was_none}
-use Rattle.irtext_graph.proofs.Linked.{site_tells, value_tells}
+use Rattle.irtext_graph.proofs.Linked.{site_tells, defined_tells}
 
 -- without uses the lists are linked
 pub chained_empty : {U D : Type 0} {val : U → Option D} {prv nxt : U → Option U} {heads : D → Option (Option U)} → ((u : U) → val u ≡ None) → ((d : D) → heads d ≡ None) → Chained val prv nxt heads
@@ -44,13 +48,28 @@ chained_empty none no_heads = record {
   below = λ u d e. let k = none u in absurd (cc);
 }
 
+-- where an object came, the list of what is used is as it was, or nothing used it and its list is empty
+pub new_head : {U D X K : Type 0} (used : U → Option D) (a after : Arena X) (p : Ptr K) (e : Entry X) → Inserts a after p e → (f : Option (Entry X) → Option (Option U)) → f None ≡ None → ((u : U) → f (Some e) ≢ Some (Some u))
+    → (d : D) (q : Ptr K) → ((u : U) → used u ≡ Some d → (h : Option U) × (f (get a q) ≡ Some h)) → (f (get after q) ≡ f (get a q)) ⊎ (((u : U) → used u ≡ Some d → ⊥) × ((u : U) → f (get after q) ≡ Some (Some u) → ⊥))
+new_head used a after p e i f none empty d q stands = elim (told ptr_tells q p) [
+  | inr ne ↦ inl (ap f (i.updates.others q ne))
+  | inl same ↦ inr (
+    λ u is.
+        let h = stands u is in
+        let n : f (get a q) ≡ None = ap (λ q. f (get a q)) same ∙ ap f (was_none a after p e i) ∙ none in
+        let k = h.1 in
+        cc,
+    λ u g. empty u (sym (ap (λ q. f (get after q)) same ∙ ap f i.updates.changed) ∙ g),
+  )
+]
+
 module _ {O T : Type 0} where
   -- what the data of an object say of its links
-  abbrev operands_of : Option (ℕ × OperationData O T) → ℕ → Option Operand
+  abbrev operands_of : Option (ℕ × OperationData O T) → ℕ → Option (Use Value)
   operands_of None i = None
   operands_of (Some d) i = slice_get d.1.operands.items i
 
-  abbrev successors_of : Option (ℕ × OperationData O T) → ℕ → Option Successor
+  abbrev successors_of : Option (ℕ × OperationData O T) → ℕ → Option (Use (Ptr BasicBlock))
   successors_of None i = None
   successors_of (Some d) i = slice_get d.1.successors.items i
 
@@ -96,10 +115,8 @@ module _ {O B T : Type 0} where
       once = λ k i j c e f. let n = childless k in let m : slice_get (kids x k) i ≡ None = ap (λ cs. slice_get cs i) n in absurd (cc);
       ends = λ o. (1, alone o);
     };
-    uses = chained_empty (λ u. ap value_of (operand_none u)) head_none;
-    preds = chained_empty (λ u. ap block_of (successor_none u)) preds_none;
-    all_used = λ u l. let n = operand_none u in let m = rw n at l in absurd (cc);
-    all_targets = λ u l. let n = successor_none u in let m = rw n at l in absurd (cc);
+    uses = chained_empty (λ u. ap def_of (use_none u)) head_none;
+    all_used = λ u l. let n = use_none u in let m = rw n at l in absurd (cc);
     few_operations = few x.operations eo;
     few_blocks = few x.blocks eb;
     few_regions = few x.regions er;
@@ -124,47 +141,38 @@ module _ {O B T : Type 0} where
       alone (TheBlock p) = ap (λ e. option_map TheRegion (parent_in e)) (none x.blocks p eb)
       alone (TheRegion p) = ap (λ e. option_map TheOperation (parent_in e)) (none x.regions p er)
 
-      operand_none : (u : Site) → operand_at x u ≡ None
-      operand_none u = ap (λ e. operand_in e u.index) (none x.operations u.op eo)
+      use_none : (u : Site) → use_at x u ≡ None
+      use_none (AtOperand p i) = ap (λ e. option_map (either OfValue) (operand_in e i)) (none x.operations p eo)
+      use_none (AtSuccessor p i) = ap (λ e. option_map (either OfBlock) (successor_in e i)) (none x.operations p eo)
 
-      successor_none : (u : Site) → successor_at x u ≡ None
-      successor_none u = ap (λ e. successor_in e u.index) (none x.operations u.op eo)
+      head_none : (d : Defined) → head_at x d ≡ None
+      head_none (OfValue (Result p i)) = ap (λ e. first_of (result_in e i)) (none x.operations p eo)
+      head_none (OfValue (Argument b i)) = ap (λ e. first_of (argument_in e i)) (none x.blocks b eb)
+      head_none (OfBlock b) = ap preds_in (none x.blocks b eb)
 
-      head_none : (v : Value) → head_at x v ≡ None
-      head_none (Result p i) = ap (λ e. first_of (result_in e i)) (none x.operations p eo)
-      head_none (Argument p i) = ap (λ e. first_of (argument_in e i)) (none x.blocks p eb)
+  -- what the data of one object say of a use that it makes, and of the uses of what it defines
+  pub use_same : (x y : Objects O B T) (u : Site) → SameDatum x y (user u) → use_at y u ≡ use_at x u
+  use_same x y (AtOperand p i) s = ap (option_map (either OfValue)) (operands_is (get y.operations p) i ∙ ap (λ d. operands_of d i) (s.operation p refl) ∙ sym (operands_is (get x.operations p) i))
+  use_same x y (AtSuccessor p i) s = ap (option_map (either OfBlock)) (successors_is (get y.operations p) i ∙ ap (λ d. successors_of d i) (s.operation p refl) ∙ sym (successors_is (get x.operations p) i))
 
-      preds_none : (b : Ptr BasicBlock) → preds_at x b ≡ None
-      preds_none b = ap preds_in (none x.blocks b eb)
+  pub head_same : (x y : Objects O B T) (d : Defined) → SameDatum x y (owner d) → head_at y d ≡ head_at x d
+  head_same x y (OfValue (Result p i)) s = results_is (get y.operations p) i ∙ ap (λ d. results_of d i) (s.operation p refl) ∙ sym (results_is (get x.operations p) i)
+  head_same x y (OfValue (Argument b i)) s = arguments_is (get y.blocks b) i ∙ ap (λ d. arguments_of d i) (s.block b refl) ∙ sym (arguments_is (get x.blocks b) i)
+  head_same x y (OfBlock b) s = first_pred_is (get y.blocks b) ∙ ap first_pred_of (s.block b refl) ∙ sym (first_pred_is (get x.blocks b))
 
   module _ (x y : Objects O B T) (s : SameData x y) where
-    pub same_operand : (u : Site) → operand_at y u ≡ operand_at x u
-    same_operand u = operands_is (get y.operations u.op) u.index ∙ ap (λ d. operands_of d u.index) (s.operation_data u.op) ∙ sym (operands_is (get x.operations u.op) u.index)
+    pub same_use : (u : Site) → use_at y u ≡ use_at x u
+    same_use u = use_same x y u (datum_at s (user u))
 
-    pub same_successor : (u : Site) → successor_at y u ≡ successor_at x u
-    same_successor u = successors_is (get y.operations u.op) u.index ∙ ap (λ d. successors_of d u.index) (s.operation_data u.op) ∙ sym (successors_is (get x.operations u.op) u.index)
-
-    pub same_head : (v : Value) → head_at y v ≡ head_at x v
-    same_head (Result p i) = results_is (get y.operations p) i ∙ ap (λ d. results_of d i) (s.operation_data p) ∙ sym (results_is (get x.operations p) i)
-    same_head (Argument p i) = arguments_is (get y.blocks p) i ∙ ap (λ d. arguments_of d i) (s.block_data p) ∙ sym (arguments_is (get x.blocks p) i)
-
-    pub same_preds : (b : Ptr BasicBlock) → preds_at y b ≡ preds_at x b
-    same_preds b = first_pred_is (get y.blocks b) ∙ ap first_pred_of (s.block_data b) ∙ sym (first_pred_is (get x.blocks b))
+    pub same_head : (d : Defined) → head_at y d ≡ head_at x d
+    same_head d = head_same x y d (datum_at s (owner d))
 
     pub uses_kept : AreUsesLinked x → AreUsesLinked y
-    uses_kept c = reframed eq_site site_tells eq_value value_tells c (record {
-      vals = λ u. ap value_of (same_operand u);
-      prevs = λ u d e. ap prev_of (same_operand u);
-      nexts = λ u d e. ap next_of (same_operand u);
+    uses_kept c = reframed eq_site site_tells eq_defined defined_tells c (record {
+      vals = λ u. ap def_of (same_use u);
+      prevs = λ u d e. ap prev_of (same_use u);
+      nexts = λ u d e. ap next_of (same_use u);
       same_heads = λ d. inl (same_head d);
-    })
-
-    pub preds_kept : ArePredsLinked x → ArePredsLinked y
-    preds_kept c = reframed eq_site site_tells eq_ptr ptr_tells c (record {
-      vals = λ u. ap block_of (same_successor u);
-      prevs = λ u d e. ap prev_block_of (same_successor u);
-      nexts = λ u d e. ap next_block_of (same_successor u);
-      same_heads = λ d. inl (same_preds d);
     })
 
     -- another forest of the same objects
@@ -172,9 +180,7 @@ module _ {O B T : Type 0} where
     sound_moved made i f p = record {
       forest = f;
       uses = uses_kept i.uses;
-      preds = preds_kept i.preds;
-      all_used = λ u l. rw (same_operand u) (i.all_used u (rw (same_operand u) at l));
-      all_targets = λ u l. rw (same_successor u) (i.all_targets u (rw (same_successor u) at l));
+      all_used = λ u l. rw (same_use u) (i.all_used u (rw (same_use u) at l));
       few_operations = let n = p.operation_places.len in let m = i.few_operations in omega (arith, n, m);
       few_blocks = let n = p.block_places.len in let m = i.few_blocks in omega (arith, n, m);
       few_regions = let n = p.region_places.len in let m = i.few_regions in omega (arith, n, m);
@@ -202,9 +208,7 @@ module _ {O B T : Type 0} where
     sound_region s young few = record {
       forest = renested eq_object object_tells s.forest region_kids region_up;
       uses = s.uses;
-      preds = s.preds;
       all_used = s.all_used;
-      all_targets = s.all_targets;
       few_operations = s.few_operations;
       few_blocks = s.few_blocks;
       few_regions = few;
@@ -229,46 +233,16 @@ module _ {O B T : Type 0} where
     block_kids (TheBlock q) = new_view (λ s. map TheOperation (children_in s)) x.blocks after p e i (ap (map TheOperation) empty) q
     block_kids (TheRegion q) = refl
 
-    was : get x.blocks p ≡ None
-    was = was_none x.blocks after p e i
-
-    block_heads : AreUsesLinked x → (d : Value) → (head_at with_block d ≡ head_at x d) ⊎ (((u : Site) → val x u ≡ Some d → ⊥) × ((u : Site) → head_at with_block d ≡ Some (Some u) → ⊥))
-    block_heads c (Result q j) = inl refl
-    block_heads c (Argument q j) = elim (told ptr_tells q p) [
-      | inr ne ↦ inl (ap (λ s. first_of (argument_in s j)) (i.updates.others q ne))
-      | inl same ↦ inr (
-        λ u used.
-            let h = c.stands u (Argument q j) used in
-            let n : head_at x (Argument q j) ≡ None = ap (λ q. first_of (argument_in (get x.blocks q) j)) same ∙ ap (λ s. first_of (argument_in s j)) was in
-            let k = h.1 in
-            cc,
-        λ u f. unused j u (sym (ap (λ q. first_of (argument_in (get after q) j)) same ∙ ap (λ s. first_of (argument_in s j)) i.updates.changed) ∙ f),
-      )
-    ]
-
-    block_preds : ArePredsLinked x → (b : Ptr BasicBlock) → (preds_at with_block b ≡ preds_at x b) ⊎ (((u : Site) → block_val x u ≡ Some b → ⊥) × ((u : Site) → preds_at with_block b ≡ Some (Some u) → ⊥))
-    block_preds c q = elim (told ptr_tells q p) [
-      | inr ne ↦ inl (ap preds_in (i.updates.others q ne))
-      | inl same ↦ inr (
-        λ u used.
-            let h = c.stands u q used in
-            let n : preds_at x q ≡ None = ap (λ q. preds_in (get x.blocks q)) same ∙ ap preds_in was in
-            let k = h.1 in
-            cc,
-        λ u f.
-            let g : Some e.content.data.preds ≡ Some (Some u) = sym (ap (λ q. preds_in (get after q)) same ∙ ap preds_in i.updates.changed) ∙ f in
-            let m = no_preds in
-            cc,
-      )
-    ]
+    block_heads : AreUsesLinked x → (d : Defined) → (head_at with_block d ≡ head_at x d) ⊎ (((u : Site) → val x u ≡ Some d → ⊥) × ((u : Site) → head_at with_block d ≡ Some (Some u) → ⊥))
+    block_heads c (OfValue (Result q j)) = inl refl
+    block_heads c (OfValue (Argument q j)) = new_head (val x) x.blocks after p e i (λ s. first_of (argument_in s j)) refl (unused j) (OfValue (Argument q j)) q (λ u. c.stands u (OfValue (Argument q j)))
+    block_heads c (OfBlock q) = new_head (val x) x.blocks after p e i preds_in refl (λ u f. let n = no_preds in cc) (OfBlock q) q (λ u. c.stands u (OfBlock q))
 
     pub sound_block : IsSound made x → e.born < made + 1 → HasFew after → IsSound (made + 1) (record x { blocks = after })
     sound_block s young few = record {
       forest = renested eq_object object_tells s.forest block_kids block_up;
-      uses = reframed eq_site site_tells eq_value value_tells s.uses (record { vals = λ u. refl; prevs = λ u d f. refl; nexts = λ u d f. refl; same_heads = block_heads s.uses });
-      preds = reframed eq_site site_tells eq_ptr ptr_tells s.preds (record { vals = λ u. refl; prevs = λ u d f. refl; nexts = λ u d f. refl; same_heads = block_preds s.preds });
+      uses = reframed eq_site site_tells eq_defined defined_tells s.uses (record { vals = λ u. refl; prevs = λ u d f. refl; nexts = λ u d f. refl; same_heads = block_heads s.uses });
       all_used = s.all_used;
-      all_targets = s.all_targets;
       few_operations = s.few_operations;
       few_blocks = few;
       few_regions = s.few_regions;
@@ -277,75 +251,12 @@ module _ {O B T : Type 0} where
       older_regions = older_later made (made + 1) x.regions s.older_regions (omega arith);
     }
 
-  -- an operation came that stands nowhere, holds none, uses nothing and is used nowhere
-  module _ (x : Objects O B T) (made : ℕ) (after : Arena (Nest BasicBlock Region (OperationData O T))) (p : Ptr Operation) (e : Entry (Nest BasicBlock Region (OperationData O T))) (i : Inserts x.operations after p e) (none : e.content.parent ≡ None) (empty : e.content.children.items ≡ [])
-      (no_operands : e.content.data.operands.items ≡ []) (no_successors : e.content.data.successors.items ≡ []) (unused : (j : ℕ) (u : Site) → first_of (slice_get e.content.data.results.items j) ≢ Some (Some u)) where
-    abbrev with_operation : Objects O B T
-    with_operation = record x { operations = after }
-
-    operation_up : (q : Object) → up with_operation q ≡ up x q
-    operation_up (TheOperation q) = new_view (λ s. option_map TheBlock (parent_in s)) x.operations after p e i (ap (option_map TheBlock) none) q
-    operation_up (TheBlock q) = refl
-    operation_up (TheRegion q) = refl
-
-    operation_kids : (q : Object) → kids with_operation q ≡ kids x q
-    operation_kids (TheOperation q) = new_view (λ s. map TheRegion (children_in s)) x.operations after p e i (ap (map TheRegion) empty) q
-    operation_kids (TheBlock q) = refl
-    operation_kids (TheRegion q) = refl
-
-    operand_kept : (u : Site) → operand_at with_operation u ≡ operand_at x u
-    operand_kept u = new_view (λ s. operand_in s u.index) x.operations after p e i (ap (λ os. slice_get os u.index) no_operands) u.op
-
-    successor_kept : (u : Site) → successor_at with_operation u ≡ successor_at x u
-    successor_kept u = new_view (λ s. successor_in s u.index) x.operations after p e i (ap (λ os. slice_get os u.index) no_successors) u.op
-
-    operation_heads : AreUsesLinked x → (d : Value) → (head_at with_operation d ≡ head_at x d) ⊎ (((u : Site) → val x u ≡ Some d → ⊥) × ((u : Site) → head_at with_operation d ≡ Some (Some u) → ⊥))
-    operation_heads c (Argument q j) = inl refl
-    operation_heads c (Result q j) = elim (told ptr_tells q p) [
-      | inr ne ↦ inl (ap (λ s. first_of (result_in s j)) (i.updates.others q ne))
-      | inl same ↦ inr (
-        λ u used.
-            let h = c.stands u (Result q j) used in
-            let n : head_at x (Result q j) ≡ None = ap (λ q. first_of (result_in (get x.operations q) j)) same ∙ ap (λ s. first_of (result_in s j)) (was_none x.operations after p e i) in
-            let k = h.1 in
-            cc,
-        λ u f. unused j u (sym (ap (λ q. first_of (result_in (get after q) j)) same ∙ ap (λ s. first_of (result_in s j)) i.updates.changed) ∙ f),
-      )
-    ]
-
-    pub sound_operation : IsSound made x → e.born < made + 1 → HasFew after → IsSound (made + 1) (record x { operations = after })
-    sound_operation s young few = record {
-      forest = renested eq_object object_tells s.forest operation_kids operation_up;
-      uses = reframed eq_site site_tells eq_value value_tells s.uses (record {
-        vals = λ u. ap value_of (operand_kept u);
-        prevs = λ u d f. ap prev_of (operand_kept u);
-        nexts = λ u d f. ap next_of (operand_kept u);
-        same_heads = operation_heads s.uses;
-      });
-      preds = reframed eq_site site_tells eq_ptr ptr_tells s.preds (record {
-        vals = λ u. ap block_of (successor_kept u);
-        prevs = λ u d f. ap prev_block_of (successor_kept u);
-        nexts = λ u d f. ap next_block_of (successor_kept u);
-        same_heads = λ d. inl refl;
-      });
-      all_used = λ u l. rw (operand_kept u) (s.all_used u (rw (operand_kept u) at l));
-      all_targets = λ u l. rw (successor_kept u) (s.all_targets u (rw (successor_kept u) at l));
-      few_operations = few;
-      few_blocks = s.few_blocks;
-      few_regions = s.few_regions;
-      older_operations = older_inserted made (made + 1) x.operations after p e s.older_operations (omega arith) young i.updates;
-      older_blocks = older_later made (made + 1) x.blocks s.older_blocks (omega arith);
-      older_regions = older_later made (made + 1) x.regions s.older_regions (omega arith);
-    }
-
   -- nothing changed but how much room there is
   pub sound_same : (made : ℕ) (x y : Objects O B T) → y.operations.slots.items ≡ x.operations.slots.items → y.blocks.slots.items ≡ x.blocks.slots.items → y.regions.slots.items ≡ x.regions.slots.items → IsSound made x → IsSound made y
   sound_same made x y eo eb er s = record {
     forest = renested eq_object object_tells s.forest same_kids same_up;
     uses = uses_kept x y same_data s.uses;
-    preds = preds_kept x y same_data s.preds;
-    all_used = λ u l. rw (same_operand x y same_data u) (s.all_used u (rw (same_operand x y same_data u) at l));
-    all_targets = λ u l. rw (same_successor x y same_data u) (s.all_targets u (rw (same_successor x y same_data u) at l));
+    all_used = λ u l. rw (same_use x y same_data u) (s.all_used u (rw (same_use x y same_data u) at l));
     few_operations = few x.operations y.operations eo s.few_operations;
     few_blocks = few x.blocks y.blocks eb s.few_blocks;
     few_regions = few x.regions y.regions er s.few_regions;

@@ -11,13 +11,13 @@ use Rattle.irtext_graph.specs.declared.arena.Arena.{Arena}
 use Rattle.irtext_graph.specs.declared.arena.Ptr.{Ptr}
 use Rattle.irtext_graph.specs.Arena as arena
 use Rattle.irtext_graph.specs.Arena.{older}
-use Rattle.irtext_graph.specs.Store.{Cell, Store, object_of, cell_of, store_of, object_in, get, drawn, generation_at, next_index, is_full, count, Updates, Inserts, Edits, before, Returns}
+use Rattle.irtext_graph.specs.Store.{Cell, Store, object_of, cell_of, store_of, mapped, object_in, get, drawn, generation_at, next_index, is_full, count, Updates, Inserts, Edits, before, Returns}
 use Rattle.irtext_graph.proofs.Pointers.{ptr_or}
 use Rattle.irtext_graph.specs.Lending.{with_content_at}
 use Rattle.irtext_graph.proofs.Arenas.{Edited, edited, lent, stands}
 
 module _ {X Y : Type 0} (see : X → Y) where
-  held : (s : Option (Slot X)) (g : ℕ) → object_in (option_map (cell_of see) s) g ≡ option_map (object_of see) (arena.found s g)
+  pub held : (s : Option (Slot X)) (g : ℕ) → object_in (option_map (cell_of see) s) g ≡ option_map (object_of see) (arena.found s g)
   held None g = refl
   held (Some (Vacant h n)) g = go (h == g) None
     where
@@ -30,9 +30,13 @@ module _ {X Y : Type 0} (see : X → Y) where
       go true = refl
       go false = refl
 
+  -- the object of a place, under a generation
+  pub found_seen : (a : Arena X) (i g : ℕ) → object_in (slice_get (store_of see a).cells i) g ≡ option_map (object_of see) (arena.found (slice_get a.slots.items i) g)
+  found_seen a i g = ap (λ s. object_in s g) (slice_get-map (cell_of see) a.slots.items i) ∙ held (slice_get a.slots.items i) g
+
   -- the object under a pointer
   pub get_seen : {K : Type 0} (a : Arena X) (p : Ptr K) → get (store_of see a) p ≡ option_map (object_of see) (arena.get a p)
-  get_seen a p = ap (λ s. object_in s p.generation) (slice_get-map (cell_of see) a.slots.items p.index) ∙ held (slice_get a.slots.items p.index) p.generation
+  get_seen a p = found_seen a p.index p.generation
 
   drawn_seen : (s : Option (Slot X)) → drawn (option_map (cell_of see) s) ≡ arena.drawn s
   drawn_seen None = refl
@@ -155,10 +159,10 @@ module _ {X Y : Type 0} (see : X → Y) where
       go (Some o) k = ap (λ b. cond b (Some o) None) (lt-ltb o.born mark (k o refl))
 
   -- a roll-back
-  pub returns_seen : {K : Type 0} (mark : ℕ) (a b : Arena X) → ((i g : ℕ) → arena.found (slice_get b.slots.items i) g ≡ older mark (arena.found (slice_get a.slots.items i) g))
+  pub returns_seen : {K : Type 0} (mark : ℕ) (a b : Arena X) → ((p : Ptr K) → arena.get b p ≡ older mark (arena.get a p))
       → ((i : ℕ) → arena.generation_at b i ≡ arena.generation_at a i) → Returns K mark (store_of see a) (store_of see b)
   returns_seen mark a b at gens = record {
-    at = λ p. get_seen b p ∙ ap (option_map (object_of see)) (at p.index p.generation) ∙ sym (older_seen mark (arena.get a p)) ∙ sym (ap (older mark) (get_seen a p));
+    at = λ p. get_seen b p ∙ ap (option_map (object_of see)) (at p) ∙ sym (older_seen mark (arena.get a p)) ∙ sym (ap (older mark) (get_seen a p));
     generations = λ i. generation_seen b i ∙ gens i ∙ sym (generation_seen a i);
   }
 
@@ -203,3 +207,24 @@ module _ {X : Type 0} where
   -- a roll-back keeps what is older than its mark
   pub returned-keeps : {K : Type 0} (m mark : ℕ) (old new : Store X) → m ≤ mark → Returns K mark old new → (q : Ptr K) → before m new q ≡ before m old q
   returned-keeps m mark old new up r q = ap (older m) (r.at q) ∙ older_older m mark (get old q) up
+
+-- an arena that is seen through two views, one behind the other
+pub mapped_seen : {X Y Z : Type 0} (see : X → Y) (f : Y → Z) (a : Arena X) → mapped f (store_of see a) ≡ store_of (λ x. f (see x)) a
+mapped_seen {X} see f a = ap (λ cs. record { cells = cs; free = arena.free_place a }) (go a.slots.items)
+  where
+    go : (xs : List (Slot X)) → map (λ c. record { generation = c.generation; object = option_map (object_of f) c.object }) (map (cell_of see) xs) ≡ map (cell_of (λ x. f (see x))) xs
+    go [] = refl
+    go (Vacant g n ∷ xs) = ap (λ cs. cell_of (λ x. f (see x)) (Vacant g n) ∷ cs) (go xs)
+    go (Full g o ∷ xs) = ap (λ cs. cell_of (λ x. f (see x)) (Full g o) ∷ cs) (go xs)
+
+-- the object under a pointer in a store with other contents
+pub get_mapped : {X Y K : Type 0} (f : X → Y) (s : Store X) (p : Ptr K) → get (mapped f s) p ≡ option_map (object_of f) (get s p)
+get_mapped {X} {Y} f s p = ap (λ c. object_in c p.generation) (slice_get-map (λ (c : Cell X). record { generation = c.generation; object = option_map (object_of f) c.object }) s.cells p.index) ∙ go (slice_get s.cells p.index)
+  where
+    go : (c : Option (Cell X)) → object_in (option_map (λ c. record { generation = c.generation; object = option_map (object_of f) c.object }) c) p.generation ≡ option_map (object_of f) (object_in c p.generation)
+    go None = refl
+    go (Some c) = cases (c.generation == p.generation)
+      where
+        cases : (t : Bool) → cond t (option_map (object_of f) c.object) None ≡ option_map (object_of f) (cond t c.object None)
+        cases true = refl
+        cases false = refl

@@ -1,18 +1,16 @@
 -- What the view says of an object is what the arenas hold.
-use Rattle.std.proofs.Common.{◌≡◌, ◌∙◌, ◌++◌, ◌∷◌, ℕ, refl, sym, ap, Option, Some, None, List, [], map, Result, Ok, Err, OnOk, OnErr}
+use Rattle.std.proofs.Common.{◌≡◌, ◌∙◌, ◌++◌, ◌∷◌, ℕ, refl, sym, ap, Option, Some, None, [], map, Result, Ok, Err, OnOk, OnErr}
 use Rattle.std.specs.Option.{option_map}
 use Rattle.irtext_graph.specs.Arena as arena
 use Rattle.irtext_graph.specs.Arena.{KeepsPlaces}
 use Rattle.irtext_graph.specs.declared.arena.Arena.{Arena}
 use Rattle.irtext_graph.specs.declared.arena.Entry.{Entry}
-use Rattle.irtext_graph.specs.declared.arena.Slot.{Slot}
-use Rattle.irtext_graph.specs.declared.arena.Slot.TheVariants.{Vacant, Full}
 use Rattle.irtext_graph.specs.declared.arena.Ptr.{Ptr}
 use Rattle.irtext_graph.specs.declared.nest.Nest.{Nest}
 use Rattle.irtext_graph.specs.declared.object.Object.{Object}
 use Rattle.irtext_graph.specs.declared.object.Object.TheVariants.{TheOperation, TheBlock, TheRegion}
 use Rattle.irtext_graph.specs.declared.objects.Objects.{Objects}
-use Rattle.irtext_graph.specs.Store.{Store, store_of, cell_of, get, object_of}
+use Rattle.irtext_graph.specs.Store.{store_of, get, object_of, mapped}
 use Rattle.irtext_graph.specs.Content.{Node, node_of, nodes, Content.{AnOperation, ABlock, ARegion}, operation_content, block_content, region_content}
 use Rattle.irtext_graph.specs.Nested.{Within}
 use Rattle.irtext_graph.proofs.Nests.{climb-same}
@@ -20,7 +18,7 @@ use Rattle.irtext_graph.specs.Nest.{parent_in, children_in, datum_in}
 use Rattle.irtext_graph.specs.Objects.{up, kids, what, Lives, SameNodes}
 use Rattle.irtext_graph.specs.Objects as objects
 use Rattle.irtext_graph.specs.Graph.{SamePlaces, graph_of, parent_of, children_of, content_of, parent, children, content, Stands, IsInside, CanInsert, KeepsObjects, Appends}
-use Rattle.irtext_graph.proofs.Stores.{get_seen, generation_seen, length_seen}
+use Rattle.irtext_graph.proofs.Stores.{get_seen, generation_seen, length_seen, mapped_seen}
 
 module _ {P C D E : Type 0} (see : D → E) where
   parent_seen : {K : Type 0} (a : Arena (Nest P C D)) (p : Ptr K) → parent_of (get (store_of (node_of see) a) p) ≡ parent_in (arena.get a p)
@@ -44,7 +42,7 @@ module _ {P C D E : Type 0} (see : D → E) where
       go None = refl
       go (Some e) = refl
 
-  places_seen : (a b : Arena (Nest P C D)) → KeepsPlaces a b → SamePlaces (store_of (node_of see) a) (store_of (node_of see) b)
+  pub places_seen : (a b : Arena (Nest P C D)) → KeepsPlaces a b → SamePlaces (store_of (node_of see) a) (store_of (node_of see) b)
   places_seen a b k = record {
     generations = λ i. generation_seen (node_of see) b i ∙ k.generations i ∙ sym (generation_seen (node_of see) a i);
     free = k.free;
@@ -52,21 +50,10 @@ module _ {P C D E : Type 0} (see : D → E) where
   }
 
 store_is : {P C D E : Type 0} (see : D → E) (a b : Arena (Nest P C D)) → nodes b ≡ nodes a → store_of (node_of see) b ≡ store_of (node_of see) a
-store_is {P} {C} {D} {E} see a b e = seen_through b ∙ ap through e ∙ sym (seen_through a)
+store_is {P} {C} {D} {E} see a b e = sym (mapped_seen (node_of (λ d. d)) through b) ∙ ap (mapped through) e ∙ mapped_seen (node_of (λ d. d)) through a
   where
-    node_through : Node P C D → Node P C E
-    node_through n = record { parent = n.parent; children = n.children; content = see n.content }
-
-    through : Store (Node P C D) → Store (Node P C E)
-    through s = record { cells = map (λ c. record { generation = c.generation; object = option_map (object_of node_through) c.object }) s.cells; free = s.free }
-
-    seen_through : (a : Arena (Nest P C D)) → store_of (node_of see) a ≡ through (nodes a)
-    seen_through a = ap (λ cs. record { cells = cs; free = arena.free_place a }) (go a.slots.items)
-      where
-        go : (xs : List (Slot (Nest P C D))) → map (cell_of (node_of see)) xs ≡ map (λ c. record { generation = c.generation; object = option_map (object_of node_through) c.object }) (map (cell_of (node_of (λ d. d))) xs)
-        go [] = refl
-        go (Vacant g n ∷ xs) = ap (λ cs. cell_of (node_of see) (Vacant g n) ∷ cs) (go xs)
-        go (Full g o ∷ xs) = ap (λ cs. cell_of (node_of see) (Full g o) ∷ cs) (go xs)
+    through : Node P C D → Node P C E
+    through n = record { parent = n.parent; children = n.children; content = see n.content }
 
 module _ {O B T : Type 0} where
   pub up_seen : (m v : ℕ) (x : Objects O B T) (o : Object) → parent (graph_of m v x) o ≡ up x o

@@ -3,7 +3,8 @@ use Rattle.std.proofs.Common.{◌≡◌, ◌<◌, ◌-◌, suc, Some, arith}
 use Rattle.irtext_graph.specs.declared.object.Object.{Object}
 use Rattle.irtext_graph.specs.declared.objects.Objects.{Objects}
 use Rattle.irtext_graph.specs.Objects.{up, IsForest}
-use Rattle.irtext_graph.proofs.Depth.{slots, depth_of}
+use Rattle.irtext_graph.specs.Preorder.{slots}
+use Rattle.irtext_graph.proofs.Depth.{depth_of}
 use Rattle.irtext_graph.proofs.Rank.{depth-le}
 use Rattle.irtext_graph.proofs.Places.{one_deeper}
 

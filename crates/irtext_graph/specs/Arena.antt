@@ -1,10 +1,15 @@
 -- What an arena holds under its pointers, and which pointer comes next.
-use Rattle.std.specs.Prelude.{◌≡◌, ◌≢◌, ◌<◌, ◌≤◌, ◌+◌, ◌==◌, ℕ, Bool, true, false, length, Option, Some, None, slice_get, if◌then◌else◌, nat_lt, unwrap_or}
+use Rattle.std.specs.Prelude.{◌≡◌, ◌≢◌, ◌<◌, ◌≤◌, ◌+◌, ◌==◌, ◌⊎◌, ℕ, Bool, true, false, length, Option, Some, None, slice_get, if◌then◌else◌, nat_lt, unwrap_or}
 use Rattle.irtext_graph.specs.declared.arena.Slot.{Slot}
 use Rattle.irtext_graph.specs.declared.arena.Slot.TheVariants.{Vacant, Full}
 use Rattle.irtext_graph.specs.declared.arena.Entry.{Entry}
 use Rattle.irtext_graph.specs.declared.arena.Arena.{Arena}
 use Rattle.irtext_graph.specs.declared.arena.Ptr.{Ptr}
+
+-- there is a number, and it is not below the mark
+abbrev pub AtLeast : ℕ → Option ℕ → Type 0
+AtLeast mark None = ⊥
+AtLeast mark (Some n) = mark ≤ n
 
 module _ {X : Type 0} where
   -- the last generation that a place handed out
@@ -82,23 +87,17 @@ module _ {X : Type 0} where
   older mark None = None
   older mark (Some x) = (if nat_lt x.born mark then Some x else None)
 
-  -- an object that is no older than the mark stands at the place
-  abbrev pub IsNew : ℕ → Option (Slot X) → Type 0
-  IsNew mark None = ⊥
-  IsNew mark (Some (Vacant _ _)) = ⊥
-  IsNew mark (Some (Full _ x)) = mark ≤ x.born
+  -- how many objects were made before an object, where there is one
+  abbrev pub born_in : Option (Entry X) → Option ℕ
+  born_in None = None
+  born_in (Some x) = Some x.born
 
-  -- an object stands at the place
-  abbrev pub IsFull : Option (Slot X) → Type 0
-  IsFull None = ⊥
-  IsFull (Some (Vacant _ _)) = ⊥
-  IsFull (Some (Full _ _)) = Unit {0}
-
-  -- the place is free
-  abbrev pub IsVacant : Option (Slot X) → Type 0
-  IsVacant None = ⊥
-  IsVacant (Some (Vacant _ _)) = Unit {0}
-  IsVacant (Some (Full _ _)) = ⊥
+  -- each object stands as it did, or was no older than the mark and is gone
+  pub record Sheds (mark : ℕ) (old new : Arena X) : Type 0 where
+    pub at : (i g : ℕ) → (found (slice_get new.slots.items i) g ≡ found (slice_get old.slots.items i) g)
+        ⊎ ((found (slice_get new.slots.items i) g ≡ None) × AtLeast mark (born_in (found (slice_get old.slots.items i) g)))
+    pub generations : (i : ℕ) → generation_at new i ≡ generation_at old i
+    pub few : HasFew old → HasFew new
 
   -- the object with another content
   abbrev pub filled : Entry X → X → Entry X
@@ -112,6 +111,12 @@ module _ {X : Type 0} where
   -- every object is older than the mark
   abbrev pub AreOlder : ℕ → Arena X → Type 0
   AreOlder mark a = (i g : ℕ) (o : Entry X) → found (slice_get a.slots.items i) g ≡ Some o → o.born < mark
+
+  -- no generation comes again, there are as many places, and no object is younger
+  pub record ShedsPlaces (old new : Arena X) : Type 0 where
+    pub generations : (i : ℕ) → generation_at new i ≡ generation_at old i
+    pub len : length new.slots.items ≡ length old.slots.items
+    pub age : (mark : ℕ) → AreOlder mark old → AreOlder mark new
 
   -- the places are as they were: what they handed out, which comes next, and how old the objects are
   pub record KeepsPlaces (old new : Arena X) : Type 0 where

@@ -45,8 +45,8 @@ typed d = record { of_type = d.of_type; number = d.number }
 abbrev pub operation_content : {O T : Type 0} → OperationData O T → OperationContent O T
 operation_content d = record {
   data_of = d.data;
-  operands = map (λ o. o.value) d.operands.items;
-  successors = map (λ s. s.block) d.successors.items;
+  operands = map (λ u. u.def) d.operands.items;
+  successors = map (λ u. u.def) d.successors.items;
   results = map typed d.results.items;
 }
 

@@ -1,7 +1,7 @@
 -- New values: their types, their numbers, and that nothing uses them.
 use Rattle.std.specs.Prelude.{◌≡◌, ◌≢◌, ℕ, List, map, Some, slice_get}
 use Rattle.irtext_graph.specs.declared.objects.Definition.{Definition}
-use Rattle.irtext_graph.specs.declared.objects.Site.{Site}
+use Rattle.irtext_graph.specs.declared.object.Site.{Site}
 use Rattle.irtext_graph.specs.Content.{typed}
 use Rattle.irtext_graph.specs.Graph.{numbered}
 use Rattle.irtext_graph.specs.Uses.{first_of}

@@ -8,9 +8,10 @@ use Rattle.irtext_graph.specs.declared.object.Operation.{Operation}
 use Rattle.irtext_graph.specs.declared.object.BasicBlock.{BasicBlock}
 use Rattle.irtext_graph.specs.declared.object.Region.{Region}
 use Rattle.irtext_graph.specs.declared.object.Object.{Object}
+use Rattle.irtext_graph.specs.declared.object.Value.{Value}
 use Rattle.irtext_graph.specs.declared.object.Object.TheVariants.{TheOperation, TheBlock, TheRegion}
 use Rattle.irtext_graph.specs.declared.objects.Objects.{Objects}
-use Rattle.irtext_graph.specs.Nested.{Within}
+use Rattle.irtext_graph.specs.Nested.{Within, climb}
 use Rattle.irtext_graph.specs.Objects.{is_older}
 use Rattle.irtext_graph.specs.Store.{Store, store_of, get, generation_at, before, Inserts, count}
 use Rattle.irtext_graph.specs.Content.{Typed, Node, node_of, Content, Content.{AnOperation, ABlock, ARegion}, OperationContent, operation_content, BlockContent, block_content, RegionContent, region_content}
@@ -92,6 +93,10 @@ module _ {O B T : Type 0} where
   children g (TheBlock p) = map TheOperation (children_of (get g.blocks p))
   children g (TheRegion p) = map TheBlock (children_of (get g.regions p))
 
+  -- what stands so many levels round an object: at level 1 what it stands in
+  abbrev pub ancestor : GraphView O B T → ℕ → Object → Option Object
+  ancestor g n o = climb (parent g) n (Some o)
+
   -- when an object was made, and what it is
   abbrev pub content : GraphView O B T → Object → Option (Content O B T)
   content g (TheOperation p) = option_map (λ d. AnOperation d.0 d.1) (content_of (get g.operations p))
@@ -156,9 +161,10 @@ module _ {O B T : Type 0} where
     pub made : new.made ≡ old.made + 1
     pub values : new.values ≡ old.values + length types
 
-  -- an operation with these results, which uses nothing, came to stand under a new pointer
-  pub record MakesOperation (old new : GraphView O B T) (p : Ptr Operation) (value : O) (types : List T) : Type 0 where
-    pub operations : Inserts old.operations new.operations p (record { born = old.made; content = fresh (record { data_of = value; operands = []; successors = []; results = numbered old.values types }) })
+  -- an operation with these results, which uses these values and blocks, came to stand under a new pointer
+  pub record MakesOperation (old new : GraphView O B T) (p : Ptr Operation) (value : O) (types : List T)
+      (operands : List Value) (successors : List (Ptr BasicBlock)) : Type 0 where
+    pub operations : Inserts old.operations new.operations p (record { born = old.made; content = fresh (record { data_of = value; operands = operands; successors = successors; results = numbered old.values types }) })
     pub blocks : new.blocks ≡ old.blocks
     pub regions : new.regions ≡ old.regions
     pub made : new.made ≡ old.made + 1

@@ -8,5 +8,14 @@ pub mod Chained
 pub mod Graph
 pub mod Uses
 pub mod Defines
+pub mod Log
 pub mod Sound
+pub mod Preorder
+pub mod Erasing
 pub mod Lending
+pub mod GraphLends
+pub mod Parts
+pub mod Values
+pub mod Used
+pub mod Linking
+pub mod Back

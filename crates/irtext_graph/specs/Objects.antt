@@ -8,7 +8,7 @@ use Rattle.irtext_graph.specs.declared.objects.Objects.{Objects}
 use Rattle.irtext_graph.specs.Content.{Content, Content.{AnOperation, ABlock, ARegion}, operation_content, block_content, region_content, nodes}
 use Rattle.irtext_graph.specs.Nested.{Nested, Within}
 use Rattle.irtext_graph.specs.Nest.{up as parent_at, kids as children_at, links as links_of, datum}
-use Rattle.irtext_graph.specs.Arena.{KeepsPlaces}
+use Rattle.irtext_graph.specs.Arena.{KeepsPlaces, ShedsPlaces}
 use Rattle.irtext_graph.specs.declared.object.Operation.{Operation}
 use Rattle.irtext_graph.specs.declared.object.BasicBlock.{BasicBlock}
 
@@ -97,6 +97,17 @@ module _ {O B T : Type 0} where
     pub operation_data : (p : Ptr Operation) → datum new.operations p ≡ datum old.operations p
     pub block_data : (p : Ptr BasicBlock) → datum new.blocks p ≡ datum old.blocks p
 
+  -- the data of an object are as they were, links included
+  pub record SameDatum (old new : Objects O B T) (q : Object) : Type 0 where
+    pub operation : (p : Ptr Operation) → q ≡ TheOperation p → datum new.operations p ≡ datum old.operations p
+    pub block : (p : Ptr BasicBlock) → q ≡ TheBlock p → datum new.blocks p ≡ datum old.blocks p
+
+  -- objects may have gone, but no generation of a place comes again
+  pub record Sheds (old new : Objects O B T) : Type 0 where
+    pub operation_places : ShedsPlaces old.operations new.operations
+    pub block_places : ShedsPlaces old.blocks new.blocks
+    pub region_places : ShedsPlaces old.regions new.regions
+
   -- the places of all arenas are as they were
   pub record SamePlaces (old new : Objects O B T) : Type 0 where
     pub operation_places : KeepsPlaces old.operations new.operations
@@ -130,4 +141,13 @@ module _ {O B T : Type 0} where
     pub parent : up new k ≡ up old k
     pub same : what new k ≡ what old k
     pub others : (q : Object) → q ≢ k → q ≢ c → SameAt old new q
+    pub kept_data : (q : Object) → q ≢ c → SameDatum old new q
+    pub sheds : Sheds old new
     pub fewer : links new < links old
+
+  -- all is as it was, places and links of uses included
+  pub record Renumbers (old new : Objects O B T) : Type 0 where
+    pub at : (q : Object) → SameAt old new q
+    pub as_many : links new ≡ links old
+    pub places : SamePlaces old new
+    pub all_data : SameData old new

@@ -1,21 +1,25 @@
 -- What is always true of the objects of a graph.
-use Rattle.std.specs.Prelude.{IsSome, ℕ}
+use Rattle.std.specs.Prelude.{ℕ, List}
+use Rattle.irtext_graph.specs.declared.log.Made.{Made}
 use Rattle.irtext_graph.specs.declared.objects.Objects.{Objects}
-use Rattle.irtext_graph.specs.declared.objects.Site.{Site}
 use Rattle.irtext_graph.specs.Arena.{HasFew, AreOlder}
+use Rattle.irtext_graph.specs.Log.{IsLogged}
 use Rattle.irtext_graph.specs.Objects.{IsForest}
-use Rattle.irtext_graph.specs.Uses.{operand_at, successor_at, val, block_val, AreUsesLinked, ArePredsLinked}
+use Rattle.irtext_graph.specs.Uses.{AreUsesLinked, AreAllUsed}
 
--- the objects are a forest, each operand and each successor is linked with the uses of what it names, and every object is older than the mark
+-- the objects are a forest, each operand and each successor is in the use list of what it names, and every object is older than the mark
 pub record IsSound {O B T : Type 0} (made : ℕ) (x : Objects O B T) : Type 0 where
   pub forest : IsForest x
   pub uses : AreUsesLinked x
-  pub preds : ArePredsLinked x
-  pub all_used : (u : Site) → IsSome (operand_at x u) → IsSome (val x u)
-  pub all_targets : (u : Site) → IsSome (successor_at x u) → IsSome (block_val x u)
+  pub all_used : AreAllUsed x
   pub few_operations : HasFew x.operations
   pub few_blocks : HasFew x.blocks
   pub few_regions : HasFew x.regions
   pub older_operations : AreOlder made x.operations
   pub older_blocks : AreOlder made x.blocks
   pub older_regions : AreOlder made x.regions
+
+-- the objects are sound, and the list of what was made has them all
+pub record IsKept {O B T : Type 0} (made : ℕ) (log : List Made) (x : Objects O B T) : Type 0 where
+  pub sound : IsSound made x
+  pub logged : IsLogged made log x

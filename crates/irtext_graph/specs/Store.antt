@@ -33,6 +33,13 @@ module _ {X Y : Type 0} (see : X → Y) where
   abbrev pub store_of : Arena X → Store Y
   store_of a = record { cells = map cell_of a.slots.items; free = arena.free_place a }
 
+  -- a store with the contents of its objects as `see` shows them
+  abbrev pub mapped : Store X → Store Y
+  mapped s = record {
+    cells = map (λ c. record { generation = c.generation; object = option_map object_of c.object }) s.cells;
+    free = s.free;
+  }
+
 module _ {X : Type 0} where
   -- the object of a place, under a generation
   abbrev pub object_in : Option (Cell X) → ℕ → Option (Entry X)

@@ -1,5 +1,5 @@
--- The two kinds of use lists: operands of values, and successors of blocks.
-use Rattle.std.specs.Prelude.{ℕ, Bool, false, eqb, ◌&&◌, cond, Option, Some, None, slice_get}
+-- The use lists of values and of blocks, as they stand in the arenas.
+use Rattle.std.specs.Prelude.{ℕ, Bool, false, eqb, ◌&&◌, cond, Option, Some, None, IsSome, option_map, slice_get}
 use Rattle.irtext_graph.specs.declared.arena.Entry.{Entry}
 use Rattle.irtext_graph.specs.declared.arena.Ptr.{Ptr}
 use Rattle.irtext_graph.specs.declared.nest.Nest.{Nest}
@@ -8,9 +8,12 @@ use Rattle.irtext_graph.specs.declared.object.BasicBlock.{BasicBlock}
 use Rattle.irtext_graph.specs.declared.object.Region.{Region}
 use Rattle.irtext_graph.specs.declared.object.Value.{Value}
 use Rattle.irtext_graph.specs.declared.object.Value.TheVariants.{Result, Argument}
-use Rattle.irtext_graph.specs.declared.objects.Site.{Site}
-use Rattle.irtext_graph.specs.declared.objects.Operand.{Operand}
-use Rattle.irtext_graph.specs.declared.objects.Successor.{Successor}
+use Rattle.irtext_graph.specs.declared.object.Defined.{Defined}
+use Rattle.irtext_graph.specs.declared.object.Defined.TheVariants.{OfValue, OfBlock}
+use Rattle.irtext_graph.specs.declared.object.Site.{Site}
+use Rattle.irtext_graph.specs.declared.object.Site.TheVariants.{AtOperand, AtSuccessor}
+use Rattle.irtext_graph.specs.declared.objects.Links.{Links}
+use Rattle.irtext_graph.specs.declared.objects.Use.{Use}
 use Rattle.irtext_graph.specs.declared.objects.Objects.{Objects}
 use Rattle.irtext_graph.specs.declared.objects.OperationData.{OperationData}
 use Rattle.irtext_graph.specs.declared.objects.BlockData.{BlockData}
@@ -24,7 +27,9 @@ use Rattle.irtext_graph.specs.Objects.{eq_ptr}
 
 -- whether two places of uses are the same
 abbrev pub eq_site : Site → Site → Bool
-eq_site x y = eq_ptr x.op y.op && eqb x.index y.index
+eq_site (AtOperand p i) (AtOperand q j) = eq_ptr p q && eqb i j
+eq_site (AtSuccessor p i) (AtSuccessor q j) = eq_ptr p q && eqb i j
+eq_site _ _ = false
 
 -- whether two values are the same
 abbrev pub eq_value : Value → Value → Bool
@@ -32,35 +37,38 @@ eq_value (Result p i) (Result q j) = eq_ptr p q && eqb i j
 eq_value (Argument p i) (Argument q j) = eq_ptr p q && eqb i j
 eq_value _ _ = false
 
--- the value that an operand uses, where it is in the value's list
-abbrev pub value_of : Option Operand → Option Value
-value_of None = None
-value_of (Some o) = cond o.linked (Some o.value) None
+-- whether the same is used
+abbrev pub eq_defined : Defined → Defined → Bool
+eq_defined (OfValue v) (OfValue w) = eq_value v w
+eq_defined (OfBlock b) (OfBlock c) = eq_ptr b c
+eq_defined _ _ = false
 
--- the use before an operand in its list
-abbrev pub prev_of : Option Operand → Option Site
+-- a use with other links
+abbrev pub relinked : {D : Type 0} → Links → Use D → Use D
+relinked l u = record { def = u.def; links = l }
+
+-- a use of another
+abbrev pub renamed : {D : Type 0} → D → Use D → Use D
+renamed d u = record { def = d; links = u.links }
+
+-- a use of values alone, or of blocks alone, as a use of either
+abbrev pub either : {D : Type 0} → (D → Defined) → Use D → Use Defined
+either f u = record { def = f u.def; links = u.links }
+
+-- what a use uses, where it is in a use list
+abbrev pub def_of : Option (Use Defined) → Option Defined
+def_of None = None
+def_of (Some u) = cond u.links.linked (Some u.def) None
+
+-- the use before a use in its list
+abbrev pub prev_of : Option (Use Defined) → Option Site
 prev_of None = None
-prev_of (Some o) = o.prev
+prev_of (Some u) = u.links.prev
 
--- the use behind an operand in its list
-abbrev pub next_of : Option Operand → Option Site
+-- the use behind a use in its list
+abbrev pub next_of : Option (Use Defined) → Option Site
 next_of None = None
-next_of (Some o) = o.next
-
--- the block that a successor uses, where it is in the block's list
-abbrev pub block_of : Option Successor → Option (Ptr BasicBlock)
-block_of None = None
-block_of (Some o) = cond o.linked (Some o.block) None
-
--- the use before a successor in its list
-abbrev pub prev_block_of : Option Successor → Option Site
-prev_block_of None = None
-prev_block_of (Some o) = o.prev
-
--- the use behind a successor in its list
-abbrev pub next_block_of : Option Successor → Option Site
-next_block_of None = None
-next_block_of (Some o) = o.next
+next_of (Some u) = u.links.next
 
 module _ {T : Type 0} where
   -- the first use of a definition that is there
@@ -70,12 +78,12 @@ module _ {T : Type 0} where
 
 module _ {O T : Type 0} where
   -- an operand of an operation that is there
-  abbrev pub operand_in : Option (Entry (Nest BasicBlock Region (OperationData O T))) → ℕ → Option Operand
+  abbrev pub operand_in : Option (Entry (Nest BasicBlock Region (OperationData O T))) → ℕ → Option (Use Value)
   operand_in None i = None
   operand_in (Some e) i = slice_get e.content.data.operands.items i
 
   -- a successor of an operation that is there
-  abbrev pub successor_in : Option (Entry (Nest BasicBlock Region (OperationData O T))) → ℕ → Option Successor
+  abbrev pub successor_in : Option (Entry (Nest BasicBlock Region (OperationData O T))) → ℕ → Option (Use (Ptr BasicBlock))
   successor_in None i = None
   successor_in (Some e) i = slice_get e.content.data.successors.items i
 
@@ -104,51 +112,33 @@ module _ {B T : Type 0} where
   preds_in (Some e) = Some e.content.data.preds
 
 module _ {O B T : Type 0} where
-  -- the operand at a place
-  abbrev pub operand_at : Objects O B T → Site → Option Operand
-  operand_at x u = operand_in (get x.operations u.op) u.index
+  -- the use at a place
+  abbrev pub use_at : Objects O B T → Site → Option (Use Defined)
+  use_at x (AtOperand p i) = option_map (either OfValue) (operand_in (get x.operations p) i)
+  use_at x (AtSuccessor p i) = option_map (either OfBlock) (successor_in (get x.operations p) i)
 
-  -- the successor at a place
-  abbrev pub successor_at : Objects O B T → Site → Option Successor
-  successor_at x u = successor_in (get x.operations u.op) u.index
+  -- the first use of a value or of a block that is there
+  abbrev pub head_at : Objects O B T → Defined → Option (Option Site)
+  head_at x (OfValue (Result p i)) = first_of (result_in (get x.operations p) i)
+  head_at x (OfValue (Argument b i)) = first_of (argument_in (get x.blocks b) i)
+  head_at x (OfBlock b) = preds_in (get x.blocks b)
 
-  -- the first use of a value that is there
-  abbrev pub head_at : Objects O B T → Value → Option (Option Site)
-  head_at x (Result p i) = first_of (result_in (get x.operations p) i)
-  head_at x (Argument p i) = first_of (argument_in (get x.blocks p) i)
+  -- what the use at a place uses, where it is in a use list
+  abbrev pub val : Objects O B T → Site → Option Defined
+  val x u = def_of (use_at x u)
 
-  -- the first use of a block that is there
-  abbrev pub preds_at : Objects O B T → Ptr BasicBlock → Option (Option Site)
-  preds_at x b = preds_in (get x.blocks b)
-
-  -- the value that the operand at a place uses, where it is in the value's list
-  abbrev pub val : Objects O B T → Site → Option Value
-  val x u = value_of (operand_at x u)
-
-  -- the use before the operand at a place
+  -- the use before the use at a place
   abbrev pub prv : Objects O B T → Site → Option Site
-  prv x u = prev_of (operand_at x u)
+  prv x u = prev_of (use_at x u)
 
-  -- the use behind the operand at a place
+  -- the use behind the use at a place
   abbrev pub nxt : Objects O B T → Site → Option Site
-  nxt x u = next_of (operand_at x u)
+  nxt x u = next_of (use_at x u)
 
-  -- the block that the successor at a place uses, where it is in the block's list
-  abbrev pub block_val : Objects O B T → Site → Option (Ptr BasicBlock)
-  block_val x u = block_of (successor_at x u)
-
-  -- the use before the successor at a place
-  abbrev pub block_prv : Objects O B T → Site → Option Site
-  block_prv x u = prev_block_of (successor_at x u)
-
-  -- the use behind the successor at a place
-  abbrev pub block_nxt : Objects O B T → Site → Option Site
-  block_nxt x u = next_block_of (successor_at x u)
-
-  -- the operands of each value are linked
+  -- the uses of each value and of each block are linked
   abbrev pub AreUsesLinked : Objects O B T → Type 0
   AreUsesLinked x = Chained (val x) (prv x) (nxt x) (head_at x)
 
-  -- the successors of each block are linked
-  abbrev pub ArePredsLinked : Objects O B T → Type 0
-  ArePredsLinked x = Chained (block_val x) (block_prv x) (block_nxt x) (preds_at x)
+  -- every use is in a use list
+  abbrev pub AreAllUsed : Objects O B T → Type 0
+  AreAllUsed x = (u : Site) → IsSome (use_at x u) → IsSome (val x u)

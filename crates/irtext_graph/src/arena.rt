@@ -77,7 +77,7 @@ impl<X> Slot<X> {
 impl<X: Drop> Arena<X> {
     ghost use Rattle.irtext_graph.specs.declared.arena.Ptr.{Ptr};
     ghost use Rattle.irtext_graph.specs.declared.arena.Slot.TheVariants.{Vacant};
-    ghost use Rattle.irtext_graph.specs.Arena.{get, generation_at, next_index, free_place, Updates, Inserts, HasFew, found, older, is_full, IsNew, IsFull, IsVacant};
+    ghost use Rattle.irtext_graph.specs.Arena.{get, generation_at, next_index, free_place, Updates, Inserts, HasFew, born_in, is_full, AtLeast, Sheds};
     ghost use Rattle.irtext_graph.specs.Lending.{LendsContent};
 
     /// An arena without objects.
@@ -199,48 +199,28 @@ impl<X: Drop> Arena<X> {
         }
     }
 
-    /// Whether an object that is no older than the mark stands at a place.
-    fn is_new(&self, index: usize, mark: u64) -> bool
-        requires { index < length self.now.slots.items }
-        ensures { IsTrue result ↔ IsNew mark (slice_get self.now.slots.items index) }
+    /// How many objects were made before the object under a pointer.
+    pub(crate) fn born<K>(&self, p: Ptr<K>) -> Option<u64>
+        ensures { result ≡ born_in (get self.now p) }
     {
-        match &self.slots[index] {
-            Slot::Full(_, object) => mark <= object.born,
-            Slot::Vacant(_, _) => false,
+        match self.get(p) {
+            Some(object) => Some(object.born),
+            None => None,
         }
     }
 
-    /// Takes the object at a place out.
-    fn vacate_at(&mut self, index: u32)
-        requires { IsFull (slice_get self.old.slots.items index) }
-        ensures here { IsVacant (slice_get self.new.slots.items index) }
-        ensures generations { generation_at self.new index ≡ generation_at self.old index }
-        ensures elsewhere { (i : ℕ) → i ≢ index → slice_get self.new.slots.items i ≡ slice_get self.old.slots.items i }
-        ensures len { length self.new.slots.items ≡ length self.old.slots.items }
+    /// Takes the object under a pointer out, if it is no older than the mark. It takes no memory.
+    pub(crate) fn remove_since<K>(&mut self, p: Ptr<K>, mark: u64)
+        ensures sheds { Sheds mark self.old self.new }
+        ensures gone { AtLeast mark (born_in (get self.new p)) → ⊥ }
     {
-        let generation = match &self.slots[index as usize] {
-            Slot::Full(generation, _) => *generation,
-            Slot::Vacant(_, _) => unreachable!(),
+        let Some(born) = self.born(p) else {
+            return;
         };
-        let free = self.free;
-        self.slots[index as usize] = Slot::Vacant(generation, free);
-        if generation < u32::MAX - 1 {
-            self.free = index;
+        if born < mark {
+            return;
         }
-    }
-
-    /// Takes every object out that is no older than the mark. It takes no memory.
-    pub(crate) fn vacate_since(&mut self, mark: u64)
-        requires { HasFew self.old }
-        ensures few { HasFew self.new }
-        ensures at { (i g : ℕ) → found (slice_get self.new.slots.items i) g ≡ older mark (found (slice_get self.old.slots.items i) g) }
-        ensures generations { (i : ℕ) → generation_at self.new i ≡ generation_at self.old i }
-    {
-        for index in 0..self.slots.len() {
-            if self.is_new(index, mark) {
-                self.vacate_at(index as u32);
-            }
-        }
+        self.remove(p);
     }
 
     /// How many objects there are.

@@ -1,5 +1,5 @@
 //! The forest that the objects are: what can be put where, what comes off, and what goes with all inside.
-ghost use Rattle.std.specs.Prelude.{◌≡◌, ◌≢◌, ◌<◌, ◌≤◌, ◌↔◌, ℕ, Some, None, [], IsSome, IsTrue, OnOk, OnErr, slice_get, true, false};
+ghost use Rattle.std.specs.Prelude.{◌≡◌, ◌≢◌, ◌<◌, ◌≤◌, ◌↔◌, ◌∷◌, ℕ, Some, None, [], IsSome, IsTrue, OnOk, OnErr, slice_get, true, false};
 
 use crate::object::Object;
 use crate::objects::Objects;
@@ -15,7 +15,8 @@ fn same_object(o: Object, c: Object) -> bool
 impl<O: Drop, B: Drop, T: Drop> Objects<O, B, T> {
     ghost use Rattle.std.specs.List.{remove};
     ghost use Rattle.irtext_graph.specs.Nested.{Within};
-    ghost use Rattle.irtext_graph.specs.Objects.{up, kids, what, Lives, links, SameAt, SameNodes, SamePlaces, SameData, stays, IsGone, IsForest, Appends, Fits, CanInsert, KeepsOlder, Drops};
+    ghost use Rattle.irtext_graph.specs.Objects.{up, kids, what, Lives, links, SameAt, SameNodes, SamePlaces, SameData, stays, IsGone, IsForest, Appends, Fits, CanInsert, KeepsOlder, Drops, Renumbers, SameDatum, Sheds};
+    ghost use Rattle.irtext_graph.specs.Preorder.{left};
 
     /// Whether c stands nowhere and k is not inside it.
     pub(crate) fn can_insert(&self, k: Object, c: Object) -> bool
@@ -68,19 +69,39 @@ impl<O: Drop, B: Drop, T: Drop> Objects<O, B, T> {
         ensures data { SameData self.old self.new }
         ensures kept { (m : ℕ) → stays m self.old k ≡ false → stays m self.old c ≡ false → KeepsOlder m self.old self.new }
     {
+        let count = self.child_count(k);
         match self.append(k, c) {
-            Ok(()) => Ok(()),
+            Ok(()) => {
+                self.note(c, count);
+                Ok(())
+            }
             Err(e) => Err(e),
         }
     }
 
-    /// Where an object stands in its parent's list, which is searched from its end.
+    /// Notes for each child of k from an index on at which index it stands.
+    fn renumber(&mut self, k: Object, from: usize)
+        requires forest { IsForest self.old }
+        requires lives { Lives self.old k }
+        ensures { Renumbers self.old self.new }
+    {
+        for index in from..self.child_count(k) {
+            let c = self.child_at(k, index);
+            self.note(c, index);
+        }
+    }
+
+    /// Where an object stands in its parent's list: at the index that was noted, or else the list is searched from its end.
     pub(crate) fn index_in(&self, k: Object, c: Object) -> usize
         requires forest { IsForest self.now }
         requires stands { up self.now c ≡ Some k }
         ensures { slice_get (kids self.now k) result ≡ Some c }
     {
         let mut i = self.child_count(k);
+        let noted = self.noted(c);
+        if noted < i && same_object(self.child_at(k, noted), c) {
+            return noted;
+        }
         while i > 0 {
             i -= 1;
             if same_object(self.child_at(k, i), c) {
@@ -88,6 +109,25 @@ impl<O: Drop, B: Drop, T: Drop> Objects<O, B, T> {
             }
         }
         unreachable!()
+    }
+
+    /// Takes c, which stands in k at an index, out of the list of k.
+    fn unlist(&mut self, k: Object, i: usize, c: Object)
+        requires forest { IsForest self.old }
+        requires stands { up self.old c ≡ Some k }
+        requires at { slice_get (kids self.old k) i ≡ Some c }
+        ensures forest { IsForest self.new }
+        ensures free { up self.new c ≡ None }
+        ensures ups { (q : _) → q ≢ c → up self.new q ≡ up self.old q }
+        ensures here { kids self.new k ≡ remove (kids self.old k) i }
+        ensures kids { (q : _) → q ≢ k → kids self.new q ≡ kids self.old q }
+        ensures data { (q : _) → what self.new q ≡ what self.old q }
+        ensures less { links self.new < links self.old }
+        ensures places { SamePlaces self.old self.new }
+        ensures all_data { SameData self.old self.new }
+    {
+        self.remove_child(k, i);
+        self.clear_parent(c);
     }
 
     /// Takes an object out of what it stands in.
@@ -107,9 +147,36 @@ impl<O: Drop, B: Drop, T: Drop> Objects<O, B, T> {
     {
         if let Some(k) = self.parent_of(c) {
             let i = self.index_in(k, c);
-            self.remove_child(k, i);
-            self.clear_parent(c);
+            self.unlist(k, i, c);
+            self.renumber(k, i);
         }
+    }
+
+    /// The object behind q among all inside o, where an object comes before what stands in it.
+    pub(crate) fn after(&self, o: Object, q: Object) -> Option<Object>
+        requires forest { IsForest self.now }
+        requires lives { Lives self.now q }
+        requires inside { Within (up self.now) o q }
+        ensures next { left self.now o (Some q) ≡ q ∷ left self.now o result }
+        ensures found { (r : _) → result ≡ Some r → Within (up self.now) o r }
+        ensures lives { (r : _) → result ≡ Some r → Lives self.now r }
+    {
+        if self.child_count(q) > 0 {
+            return Some(self.child_at(q, 0));
+        }
+        let mut at = q;
+        while !same_object(at, o) {
+            let Some(k) = self.parent_of(at) else {
+                unreachable!();
+            };
+            let count = self.child_count(k);
+            let i = self.index_in(k, at) + 1;
+            if i < count {
+                return Some(self.child_at(k, i));
+            }
+            at = k;
+        }
+        None
     }
 
     /// The last child of the last child and so on of an object, until one has none.
@@ -154,6 +221,8 @@ impl<O: Drop, B: Drop, T: Drop> Objects<O, B, T> {
         ensures forest { IsForest self.new }
         ensures gone { (q : _) → Within (up self.old) o q → IsGone self.new q }
         ensures kept { (q : _) → (Within (up self.old) o q → ⊥) → SameAt self.old self.new q }
+        ensures kept_data { (q : _) → (Within (up self.old) o q → ⊥) → SameDatum self.old self.new q }
+        ensures sheds { Sheds self.old self.new }
     {
         let mut at = self.innermost(o);
         while !same_object(at, o) {
@@ -170,6 +239,10 @@ impl<O: Drop, B: Drop, T: Drop> Objects<O, B, T> {
         ensures forest { IsForest self.new }
         ensures gone { (q : _) → Within (up self.old) o q → IsGone self.new q }
         ensures kept { (q : _) → (Within (up self.old) o q → ⊥) → up self.old o ≢ Some q → SameAt self.old self.new q }
+        ensures parent { (k : _) → up self.old o ≡ Some k → up self.new k ≡ up self.old k }
+        ensures whats { (q : _) → (Within (up self.old) o q → ⊥) → what self.new q ≡ what self.old q }
+        ensures data { (q : _) → (Within (up self.old) o q → ⊥) → SameDatum self.old self.new q }
+        ensures sheds { Sheds self.old self.new }
         ensures left { (k : _) (i : ℕ) → up self.old o ≡ Some k → slice_get (kids self.old k) i ≡ Some o → kids self.new k ≡ remove (kids self.old k) i }
     {
         self.unlink(o);

@@ -1,9 +1,14 @@
 //! The graph: what its callers can do with it.
-ghost use Rattle.std.specs.Prelude.{◌≡◌, ◌↔◌, Some, IsSome, IsTrue, OnOk, OnErr, length, slice_get, ◌<◌, ℕ};
+ghost use Rattle.std.specs.Prelude.{◌≡◌, ◌↔◌, Some, IsSome, IfSome, IsTrue, OnOk, OnErr, length, slice_get, ◌<◌, ℕ};
 ghost use Rattle.irtext_graph.specs.Graph.{empty, parent, children, content, Stands, IsInside, CanInsert, Appends, Unlinks, IsNew, KeepsOlder, num_live};
+ghost use Rattle.irtext_graph.specs.Nested.{Nested};
+ghost use Rattle.irtext_graph.specs.Back.{AllOlder, IsClosedBelow};
 ghost use Rattle.irtext_graph.specs.Objects.{Fits};
+ghost use Rattle.irtext_graph.specs.Erasing.{DropsUses, CanErase, Erases};
+ghost use Rattle.irtext_graph.specs.declared.object.Object.TheVariants.{TheOperation};
 
 use crate::arena::Arena;
+use crate::log::Made;
 use crate::object::Object;
 use crate::objects::Objects;
 use std::alloc::{AllocError, Global};
@@ -14,6 +19,8 @@ use std::marker::Model;
 #[derive(Drop)]
 pub struct Graph<O, B, T> {
     pub(crate) objects: Objects<O, B, T>,
+    // what was made, in the order of making; objects that are gone may be in it
+    pub(crate) log: Vec<Made>,
     pub(crate) made: u64,
     pub(crate) values: u64,
     pub(crate) alloc: Global,
@@ -21,13 +28,13 @@ pub struct Graph<O, B, T> {
 
 impl<O, B, T> Model for Graph<O, B, T> {
     ghost use Rattle.irtext_graph.specs.Graph.{GraphView, graph_of};
-    ghost use Rattle.irtext_graph.specs.Sound.{IsSound};
+    ghost use Rattle.irtext_graph.specs.Sound.{IsKept};
 
     ghost Value = { GraphView O B T };
 
     ghost view = { λ g. graph_of g.made g.values g.objects };
 
-    ghost invariant = { λ g. IsSound g.made g.objects };
+    ghost invariant = { λ g. IsKept g.made g.log.items g.objects };
 }
 
 impl<O: Drop, B: Drop, T: Drop> Graph<O, B, T> {
@@ -41,15 +48,18 @@ impl<O: Drop, B: Drop, T: Drop> Graph<O, B, T> {
                 blocks: Arena::new(alloc),
                 regions: Arena::new(alloc),
             },
+            log: Vec::new(alloc),
             made: 0,
             values: 0,
             alloc,
         }
     }
 
-    /// How many objects were made, those that are gone among them.
+    /// How many objects were made, those that are gone among them. All that stand are older, so this is a mark for `roll_back`.
     pub fn made(&self) -> u64
-        ensures { result ≡ self.now.made }
+        ensures value { result ≡ self.now.made }
+        ensures older { AllOlder result self.now }
+        ensures closed { IsClosedBelow result self.now }
     {
         self.made
     }
@@ -71,12 +81,23 @@ impl<O: Drop, B: Drop, T: Drop> Graph<O, B, T> {
         self.objects.contains(o)
     }
 
-    /// What an object stands in.
+    /// What an object stands in, which is there too.
     pub fn get_parent(&self, o: Object) -> Option<Object>
         requires { Stands self.now o }
-        ensures { result ≡ parent self.now o }
+        ensures parent { result ≡ parent self.now o }
+        ensures stands { IfSome result (λ k. Stands self.now k) }
     {
         self.objects.parent_of(o)
+    }
+
+    /// What always holds of the nesting: each object is listed once by what it stands in, which is there and of the kind that
+    /// holds it, and by nothing else; and no object stands inside itself. The call does nothing: its contract says so.
+    pub fn keeps_nesting(&self)
+        ensures forest { Nested (children self.now) (parent self.now) }
+        ensures holders { (c k : _) → parent self.now c ≡ Some k → Stands self.now k }
+        ensures kinds { (k c : _) (i : ℕ) → slice_get (children self.now k) i ≡ Some c → Fits k c }
+    {
+        let _objects = &self.objects;
     }
 
     /// How many objects stand directly in an object.
@@ -91,7 +112,8 @@ impl<O: Drop, B: Drop, T: Drop> Graph<O, B, T> {
     pub fn get_child(&self, o: Object, i: usize) -> Object
         requires stands { Stands self.now o }
         requires within { i < length (children self.now o) }
-        ensures { slice_get (children self.now o) i ≡ Some result }
+        ensures child { slice_get (children self.now o) i ≡ Some result }
+        ensures fits { Fits o result }
     {
         self.objects.child_at(o, i)
     }
@@ -126,7 +148,7 @@ impl<O: Drop, B: Drop, T: Drop> Graph<O, B, T> {
         self.objects.insert_last(k, c)
     }
 
-    /// The index at which c stands in its parent k. It takes as long as c stands away from the end.
+    /// The index at which c stands in its parent k, which is noted with c, so that nothing is searched.
     pub fn find_index_in_parent(&self, k: Object, c: Object) -> usize
         requires { parent self.now c ≡ Some k }
         ensures { slice_get (children self.now k) result ≡ Some c }
@@ -134,12 +156,47 @@ impl<O: Drop, B: Drop, T: Drop> Graph<O, B, T> {
         self.objects.index_in(k, c)
     }
 
-    /// Takes an object out of what it stands in, if it stands in anything. What stands in it stays there. It takes no memory.
+    /// Takes an object out of what it stands in, if it stands in anything. What stands in it stays there. It takes no memory, and as
+    /// long as there are children behind it.
     pub fn unlink(&mut self, c: Object)
         requires { Stands self.old c }
         ensures unlinks { Unlinks self.old self.new c }
         ensures kept { (m : ℕ) → IsNew m self.old c → ((k : _) → parent self.old c ≡ Some k → IsNew m self.old k) → KeepsOlder m self.old self.new }
     {
         self.objects.unlink(c);
+    }
+
+    /// Whether each use of a value or of a block inside o is made inside o: the condition of `erase`. It takes no memory, and as long as
+    /// there are objects inside o and uses of what they define, each use as long as its operation stands deep.
+    pub fn can_erase(&self, o: Object) -> bool
+        requires { Stands self.now o }
+        ensures { IsTrue result ↔ CanErase self.now o }
+    {
+        self.objects.can_erase(o)
+    }
+
+    /// Drops what the operations inside o use, o among them: they have no operands and no successors then. All else is as it was.
+    /// It takes no memory, and as long as there are objects inside o and uses in them.
+    pub fn drop_all_uses(&mut self, o: Object)
+        requires { Stands self.old o }
+        ensures drops { DropsUses self.old self.new o }
+        ensures kept { (m : ℕ) → ((p : _) → IsInside self.old o (TheOperation p) → IsNew m self.old (TheOperation p))
+            → KeepsOlder m self.old self.new }
+    {
+        self.objects.drop_all_uses(o);
+    }
+
+    /// Takes an object with all that stands in it out of the graph and of what it stands in. Nothing outside of it may use what it
+    /// defines (`CanErase`). Their places are free then, and no generation comes again. It takes no memory, and as long as there are
+    /// objects inside o and uses in them, and children behind o in its parent.
+    pub fn erase(&mut self, o: Object)
+        requires stands { Stands self.old o }
+        requires can { CanErase self.old o }
+        ensures erases { Erases self.old self.new o }
+        ensures kept { (m : ℕ) → ((q : _) → IsInside self.old o q → IsNew m self.old q)
+            → ((k : _) → parent self.old o ≡ Some k → IsNew m self.old k) → KeepsOlder m self.old self.new }
+    {
+        self.objects.drop_all_uses(o);
+        self.objects.erase(o);
     }
 }

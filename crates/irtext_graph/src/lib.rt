@@ -2,12 +2,18 @@
 #![tactic(auto)]
 
 pub mod arena;
+mod back;
+mod erasing;
 mod forest;
 pub mod graph;
+pub mod held;
+mod linking;
 mod links;
+mod log;
 mod making;
 mod nest;
 pub mod object;
 mod objects;
-mod preds;
+mod parts;
 mod uses;
+mod using;

@@ -1,57 +1,126 @@
 //! The links of uses, as they stand in the arenas of operations and of blocks.
-ghost use Rattle.std.specs.Prelude.{◌≡◌, ◌≢◌, ℕ, Some, None, IsSome, option_map};
+ghost use Rattle.std.specs.Prelude.{◌≡◌, ◌≢◌, ◌↔◌, ◌<◌, ℕ, Some, None, IsSome, option_map};
 
 use crate::arena::{Arena, Ptr};
 use crate::nest::Nest;
-use crate::object::{BasicBlock, Operation, Region};
-use crate::objects::{BlockData, Operand, OperationData, Site, Successor};
+use crate::object::{BasicBlock, Operation, Region, Site, Value};
+use crate::objects::{BlockData, Links, OperationData, Use};
 
 impl<O: Drop, T: Drop> Arena<Nest<BasicBlock, Region, OperationData<O, T>>> {
     ghost use Rattle.irtext_graph.specs.declared.arena.Ptr.{Ptr};
     ghost use Rattle.irtext_graph.specs.declared.object.Operation.{Operation};
-    ghost use Rattle.irtext_graph.specs.Arena.{get};
-    ghost use Rattle.irtext_graph.specs.Uses.{operand_in, successor_in, result_in, first_of, operations_seen as seen};
+    ghost use Rattle.irtext_graph.specs.Arena.{get, KeepsPlaces};
+    ghost use Rattle.irtext_graph.specs.Uses.{operand_in, successor_in, result_in, first_of, relinked, renamed, operations_seen as seen};
+    ghost use Rattle.irtext_graph.specs.Used.{operations_bare, uses_left};
+    ghost use Rattle.irtext_graph.specs.Erasing.{without_uses_in};
+    ghost use Rattle.irtext_graph.specs.Store.{Edits};
+    ghost use Rattle.irtext_graph.specs.declared.object.Defined.TheVariants.{OfValue, OfBlock};
 
-    /// The operand at a place.
-    pub(crate) fn operand(&self, u: Site) -> Operand
-        requires { IsSome (operand_in (get self.now u.op) u.index) }
-        ensures { operand_in (get self.now u.op) u.index ≡ Some result }
+    /// The operand of an operation at an index.
+    pub(crate) fn operand(&self, p: Ptr<Operation>, i: usize) -> Use<Value>
+        requires { IsSome (operand_in (get self.now p) i) }
+        ensures { operand_in (get self.now p) i ≡ Some result }
     {
-        self.content(u.op).data.operands[u.index]
+        self.content(p).data.operands[i]
     }
 
-    /// Writes the links of an operand. It names its value as before.
-    pub(crate) fn set_operand(&mut self, u: Site, o: Operand)
-        requires there { IsSome (operand_in (get self.old u.op) u.index) }
-        requires same { option_map (λ o. o.value) (operand_in (get self.old u.op) u.index) ≡ Some o.value }
-        ensures here { operand_in (get self.new u.op) u.index ≡ Some o }
-        ensures others { (w : _) → w ≢ u → operand_in (get self.new w.op) w.index ≡ operand_in (get self.old w.op) w.index }
+    /// How many operands an operation has.
+    pub(crate) fn operand_count(&self, p: Ptr<Operation>) -> usize
+        requires { IsSome (get self.now p) }
+        ensures { (i : ℕ) → IsSome (operand_in (get self.now p) i) ↔ i < result }
+    {
+        self.content(p).data.operands.len()
+    }
+
+    /// How many successors an operation has.
+    pub(crate) fn successor_count(&self, p: Ptr<Operation>) -> usize
+        requires { IsSome (get self.now p) }
+        ensures { (i : ℕ) → IsSome (successor_in (get self.now p) i) ↔ i < result }
+    {
+        self.content(p).data.successors.len()
+    }
+
+    /// How many results an operation has.
+    pub(crate) fn result_count(&self, p: Ptr<Operation>) -> usize
+        requires { IsSome (get self.now p) }
+        ensures { (i : ℕ) → IsSome (first_of (result_in (get self.now p) i)) ↔ i < result }
+    {
+        self.content(p).data.results.len()
+    }
+
+    /// Drops what an operation uses.
+    pub(crate) fn clear_uses(&mut self, p: Ptr<Operation>)
+        requires { IsSome (get self.old p) }
+        ensures operands { (i : ℕ) → operand_in (get self.new p) i ≡ None }
+        ensures successors { (i : ℕ) → successor_in (get self.new p) i ≡ None }
+        ensures others { (q : Ptr Operation) → q ≢ p → get self.new q ≡ get self.old q }
+        ensures results { (q : Ptr Operation) (i : ℕ) → result_in (get self.new q) i ≡ result_in (get self.old q) i }
+        ensures edits { Edits (seen self.old) (seen self.new) p without_uses_in }
+        ensures places { KeepsPlaces self.old self.new }
+    {
+        let node = self.content_mut(p);
+        node.data.operands.clear();
+        node.data.successors.clear();
+    }
+
+    /// Writes the links of an operand.
+    pub(crate) fn link_operand(&mut self, p: Ptr<Operation>, i: usize, links: Links)
+        requires { IsSome (operand_in (get self.old p) i) }
+        ensures here { operand_in (get self.new p) i ≡ option_map (relinked links) (operand_in (get self.old p) i) }
+        ensures others { (q : Ptr Operation) (j : ℕ) → (q ≡ p → j ≢ i) → operand_in (get self.new q) j ≡ operand_in (get self.old q) j }
         ensures results { (q : Ptr Operation) (i : ℕ) → result_in (get self.new q) i ≡ result_in (get self.old q) i }
         ensures successors { (q : Ptr Operation) (i : ℕ) → successor_in (get self.new q) i ≡ successor_in (get self.old q) i }
         ensures seen { seen self.new ≡ seen self.old }
     {
-        self.content_mut(u.op).data.operands[u.index] = o;
+        self.content_mut(p).data.operands[i].links = links;
     }
 
-    /// The successor at a place.
-    pub(crate) fn successor(&self, u: Site) -> Successor
-        requires { IsSome (successor_in (get self.now u.op) u.index) }
-        ensures { successor_in (get self.now u.op) u.index ≡ Some result }
+    /// Writes the value that an operand names. Its links stay.
+    pub(crate) fn set_operand(&mut self, p: Ptr<Operation>, i: usize, d: Value)
+        requires { IsSome (operand_in (get self.old p) i) }
+        ensures here { operand_in (get self.new p) i ≡ option_map (renamed d) (operand_in (get self.old p) i) }
+        ensures others { (q : Ptr Operation) (j : ℕ) → (q ≡ p → j ≢ i) → operand_in (get self.new q) j ≡ operand_in (get self.old q) j }
+        ensures results { (q : Ptr Operation) (i : ℕ) → result_in (get self.new q) i ≡ result_in (get self.old q) i }
+        ensures successors { (q : Ptr Operation) (i : ℕ) → successor_in (get self.new q) i ≡ successor_in (get self.old q) i }
+        ensures bare { operations_bare self.new ≡ operations_bare self.old }
+        ensures fewer { (o : _) → operand_in (get self.old p) i ≡ Some o → o.def ≢ d →
+            uses_left (OfValue o.def) (seen self.new) < uses_left (OfValue o.def) (seen self.old) }
     {
-        self.content(u.op).data.successors[u.index]
+        self.content_mut(p).data.operands[i].def = d;
     }
 
-    /// Writes the links of a successor. It names its block as before.
-    pub(crate) fn set_successor(&mut self, u: Site, o: Successor)
-        requires there { IsSome (successor_in (get self.old u.op) u.index) }
-        requires same { option_map (λ o. o.block) (successor_in (get self.old u.op) u.index) ≡ Some o.block }
-        ensures here { successor_in (get self.new u.op) u.index ≡ Some o }
-        ensures others { (w : _) → w ≢ u → successor_in (get self.new w.op) w.index ≡ successor_in (get self.old w.op) w.index }
+    /// The successor of an operation at an index.
+    pub(crate) fn successor(&self, p: Ptr<Operation>, i: usize) -> Use<Ptr<BasicBlock>>
+        requires { IsSome (successor_in (get self.now p) i) }
+        ensures { successor_in (get self.now p) i ≡ Some result }
+    {
+        self.content(p).data.successors[i]
+    }
+
+    /// Writes the links of a successor.
+    pub(crate) fn link_successor(&mut self, p: Ptr<Operation>, i: usize, links: Links)
+        requires { IsSome (successor_in (get self.old p) i) }
+        ensures here { successor_in (get self.new p) i ≡ option_map (relinked links) (successor_in (get self.old p) i) }
+        ensures others { (q : Ptr Operation) (j : ℕ) → (q ≡ p → j ≢ i) → successor_in (get self.new q) j ≡ successor_in (get self.old q) j }
         ensures results { (q : Ptr Operation) (i : ℕ) → result_in (get self.new q) i ≡ result_in (get self.old q) i }
         ensures operands { (q : Ptr Operation) (i : ℕ) → operand_in (get self.new q) i ≡ operand_in (get self.old q) i }
         ensures seen { seen self.new ≡ seen self.old }
     {
-        self.content_mut(u.op).data.successors[u.index] = o;
+        self.content_mut(p).data.successors[i].links = links;
+    }
+
+    /// Writes the block that a successor names. Its links stay.
+    pub(crate) fn set_successor(&mut self, p: Ptr<Operation>, i: usize, d: Ptr<BasicBlock>)
+        requires { IsSome (successor_in (get self.old p) i) }
+        ensures here { successor_in (get self.new p) i ≡ option_map (renamed d) (successor_in (get self.old p) i) }
+        ensures others { (q : Ptr Operation) (j : ℕ) → (q ≡ p → j ≢ i) → successor_in (get self.new q) j ≡ successor_in (get self.old q) j }
+        ensures results { (q : Ptr Operation) (i : ℕ) → result_in (get self.new q) i ≡ result_in (get self.old q) i }
+        ensures operands { (q : Ptr Operation) (i : ℕ) → operand_in (get self.new q) i ≡ operand_in (get self.old q) i }
+        ensures bare { operations_bare self.new ≡ operations_bare self.old }
+        ensures fewer { (o : _) → successor_in (get self.old p) i ≡ Some o → o.def ≢ d →
+            uses_left (OfBlock o.def) (seen self.new) < uses_left (OfBlock o.def) (seen self.old) }
+    {
+        self.content_mut(p).data.successors[i].def = d;
     }
 
     /// The first use of a result.
@@ -80,6 +149,14 @@ impl<B: Drop, T: Drop> Arena<Nest<Region, Operation, BlockData<B, T>>> {
     ghost use Rattle.irtext_graph.specs.declared.object.BasicBlock.{BasicBlock};
     ghost use Rattle.irtext_graph.specs.Arena.{get};
     ghost use Rattle.irtext_graph.specs.Uses.{argument_in, preds_in, first_of, blocks_seen as seen};
+
+    /// How many arguments a block has.
+    pub(crate) fn argument_count(&self, b: Ptr<BasicBlock>) -> usize
+        requires { IsSome (get self.now b) }
+        ensures { (i : ℕ) → IsSome (first_of (argument_in (get self.now b) i)) ↔ i < result }
+    {
+        self.content(b).data.arguments.len()
+    }
 
     /// The first use of an argument.
     pub(crate) fn first_argument(&self, p: Ptr<BasicBlock>, i: usize) -> Option<Site>

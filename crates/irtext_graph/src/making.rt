@@ -1,12 +1,16 @@
 //! How objects are made.
-ghost use Rattle.std.specs.Prelude.{◌≡◌, ◌≤◌, ◌+◌, ℕ, Some, None, IfOk, OnErr, length};
-ghost use Rattle.irtext_graph.specs.Graph.{MakesRegion, MakesBlock, MakesOperation, KeepsOlder};
+ghost use Rattle.std.specs.Prelude.{◌≡◌, ◌≤◌, ◌+◌, ℕ, Some, None, IfOk, OnErr, length, slice_get};
+ghost use Rattle.irtext_graph.specs.Graph.{MakesRegion, MakesBlock, MakesOperation, KeepsOlder, Stands};
+ghost use Rattle.irtext_graph.specs.Parts.{ValueStands};
+ghost use Rattle.irtext_graph.specs.Linking.{IsBlank};
 ghost use Rattle.irtext_graph.specs.Defines.{Defines};
 
 use crate::arena::Ptr;
 use crate::graph::Graph;
+use crate::linking::{Side, unlinked_uses};
+use crate::log::{make_room, note};
 use crate::nest::Nest;
-use crate::object::{BasicBlock, Operation, Region};
+use crate::object::{BasicBlock, Object, Operation, Region, Value};
 use crate::objects::{BlockData, Definition, OperationData, RegionData};
 use std::alloc::{AllocError, Global};
 
@@ -32,7 +36,42 @@ fn definitions<T: Drop>(
     Ok(defined)
 }
 
+/// An operation with this data that stands nowhere, holds no region, and names these values and these blocks without being in
+/// their use lists, with results of these types, numbered from a number on, which nothing uses. It takes all memory that the
+/// operation needs, and none for an empty list.
+fn blank_operation<O: Drop, T: Drop>(
+    alloc: Global,
+    value: O,
+    types: Vec<T>,
+    from: u64,
+    operands: &[Value],
+    successors: &[Ptr<BasicBlock>],
+) -> Result<Nest<BasicBlock, Region, OperationData<O, T>>, AllocError>
+    requires { from + length types.items ≤ 18446744073709551615 }
+    ensures { IfOk result (λ n. IsBlank n value types.items from operands.now successors.now) }
+{
+    let results = definitions(alloc, types, from)?;
+    let operands = unlinked_uses(alloc, operands)?;
+    let successors = unlinked_uses(alloc, successors)?;
+    Ok(Nest {
+        parent: None,
+        children: Vec::new(alloc),
+        noted: 0,
+        data: OperationData {
+            data: value,
+            operands,
+            successors,
+            results,
+        },
+    })
+}
+
 impl<O: Drop, B: Drop, T: Drop> Graph<O, B, T> {
+    ghost use Rattle.irtext_graph.specs.declared.arena.Ptr.{Ptr};
+    ghost use Rattle.irtext_graph.specs.declared.object.BasicBlock.{BasicBlock};
+    ghost use Rattle.irtext_graph.specs.declared.object.Value.{Value};
+    ghost use Rattle.irtext_graph.specs.declared.object.Object.TheVariants.{TheBlock};
+
     /// Makes a region that stands nowhere and holds no block. Where memory is refused, or a counter is full, nothing changes.
     pub fn make_region(&mut self) -> Result<Ptr<Region>, AllocError>
         ensures made { IfOk result (λ p. MakesRegion self.old self.new p) }
@@ -46,9 +85,12 @@ impl<O: Drop, B: Drop, T: Drop> Graph<O, B, T> {
         let region = Nest {
             parent: None,
             children: Vec::new(self.alloc),
+            noted: 0,
             data: RegionData {},
         };
+        make_room(&mut self.log)?;
         let p = self.objects.regions.insert(made, region)?;
+        note(&mut self.log, made, Object::TheRegion(p));
         self.made = made + 1;
         Ok(p)
     }
@@ -72,22 +114,33 @@ impl<O: Drop, B: Drop, T: Drop> Graph<O, B, T> {
         let block = Nest {
             parent: None,
             children: Vec::new(self.alloc),
+            noted: 0,
             data: BlockData {
                 data: value,
                 arguments,
                 preds: None,
             },
         };
+        make_room(&mut self.log)?;
         let p = self.objects.blocks.insert(made, block)?;
+        note(&mut self.log, made, Object::TheBlock(p));
         self.made = made + 1;
         self.values = next;
         Ok(p)
     }
 
-    /// Makes an operation with this data that stands nowhere, holds no region and uses nothing, with results of these types, which
-    /// draw the next numbers of values. Where memory is refused, or a counter is full, nothing changes.
-    pub fn make_operation(&mut self, value: O, types: Vec<T>) -> Result<Ptr<Operation>, AllocError>
-        ensures made { IfOk result (λ p. MakesOperation self.old self.new p value types.items) }
+    /// Makes an operation with this data that stands nowhere, holds no region, and uses these values and these blocks, with results
+    /// of these types, which draw the next numbers of values. Where memory is refused, or a counter is full, nothing changes.
+    pub fn make_operation(
+        &mut self,
+        value: O,
+        types: Vec<T>,
+        operands: &[Value],
+        successors: &[Ptr<BasicBlock>],
+    ) -> Result<Ptr<Operation>, AllocError>
+        requires operands { (i : ℕ) (v : Value) → slice_get operands.now i ≡ Some v → ValueStands self.old v }
+        requires successors { (i : ℕ) (b : Ptr BasicBlock) → slice_get successors.now i ≡ Some b → Stands self.old (TheBlock b) }
+        ensures made { IfOk result (λ p. MakesOperation self.old self.new p value types.items operands.now successors.now) }
         ensures err { OnErr result (self.new ≡ self.old) }
         ensures kept { (m : ℕ) → m ≤ self.old.made → KeepsOlder m self.old self.new }
     {
@@ -99,18 +152,13 @@ impl<O: Drop, B: Drop, T: Drop> Graph<O, B, T> {
         if made == u64::MAX {
             return Err(AllocError);
         }
-        let results = definitions(self.alloc, types, values)?;
-        let operation = Nest {
-            parent: None,
-            children: Vec::new(self.alloc),
-            data: OperationData {
-                data: value,
-                operands: Vec::new(self.alloc),
-                successors: Vec::new(self.alloc),
-                results,
-            },
-        };
-        let p = self.objects.operations.insert(made, operation)?;
+        let blank = blank_operation(self.alloc, value, types, values, operands, successors)?;
+        make_room(&mut self.log)?;
+        let p = self.objects.operations.insert(made, blank)?;
+        note(&mut self.log, made, Object::TheOperation(p));
+        self.objects.attach_all(Side::Operands, p, operands.len());
+        self.objects
+            .attach_all(Side::Successors, p, successors.len());
         self.made = made + 1;
         self.values = next;
         Ok(p)

@@ -9,13 +9,15 @@ use std::alloc::AllocError;
 pub(crate) struct Nest<P, C, D> {
     pub(crate) parent: Option<Ptr<P>>,
     pub(crate) children: Vec<Ptr<C>>,
+    // the index in the parent's list as it was noted last: it is tried first, and nothing rests on it
+    pub(crate) noted: usize,
     pub(crate) data: D,
 }
 
 impl<P, C, D: Drop> Arena<Nest<P, C, D>> {
     ghost use Rattle.std.specs.List.{remove};
     ghost use Rattle.irtext_graph.specs.declared.arena.Ptr.{Ptr};
-    ghost use Rattle.irtext_graph.specs.Arena.{get, KeepsPlaces};
+    ghost use Rattle.irtext_graph.specs.Arena.{get, KeepsPlaces, ShedsPlaces};
     ghost use Rattle.irtext_graph.specs.Nest.{up, kids, datum, links};
     ghost use Rattle.irtext_graph.specs.Content.{nodes};
 
@@ -38,6 +40,25 @@ impl<P, C, D: Drop> Arena<Nest<P, C, D>> {
         ensures places { KeepsPlaces self.old self.new }
     {
         self.content_mut(p).parent = parent;
+    }
+
+    /// The index in its parent's list that was noted for an object last.
+    pub(crate) fn noted<K>(&self, p: Ptr<K>) -> usize
+        requires { IsSome (get self.now p) }
+    {
+        self.content(p).noted
+    }
+
+    /// Notes an index for an object. Nothing is seen of it.
+    pub(crate) fn note<K>(&mut self, p: Ptr<K>, index: usize)
+        requires { IsSome (get self.old p) }
+        ensures ups { (q : Ptr K) → up self.new q ≡ up self.old q }
+        ensures kids { (q : Ptr K) → kids self.new q ≡ kids self.old q }
+        ensures data { (q : Ptr K) → datum self.new q ≡ datum self.old q }
+        ensures links { links self.new ≡ links self.old }
+        ensures places { KeepsPlaces self.old self.new }
+    {
+        self.content_mut(p).noted = index;
     }
 
     /// Puts a child last into an object's list. Where memory is refused nothing changes.
@@ -93,7 +114,7 @@ impl<P, C, D: Drop> Arena<Nest<P, C, D>> {
         ensures gone { get self.new p ≡ None }
         ensures others { (q : Ptr K) → q ≢ p → get self.new q ≡ get self.old q }
         ensures links { links self.new ≤ links self.old }
-        ensures len { length self.new.slots.items ≡ length self.old.slots.items }
+        ensures sheds { ShedsPlaces self.old self.new }
     {
         self.remove(p);
     }

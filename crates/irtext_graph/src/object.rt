@@ -1,4 +1,4 @@
-//! The kinds of objects, objects of any kind, and values.
+//! The kinds of objects, objects of any kind, values, and the places where something is used.
 use crate::arena::Ptr;
 
 /// The kind of operations, for pointers to them.
@@ -26,4 +26,18 @@ pub enum Object {
 pub enum Value {
     Result(Ptr<Operation>, usize),
     Argument(Ptr<BasicBlock>, usize),
+}
+
+/// What operations use: a value, as an operand, or a block, as a successor.
+#[derive(Clone, Copy, PartialEq, Eq, Hash, Debug)]
+pub enum Defined {
+    OfValue(Value),
+    OfBlock(Ptr<BasicBlock>),
+}
+
+/// The place of a use: an operand or a successor of an operation, by its index.
+#[derive(Clone, Copy, PartialEq, Eq, Hash, Debug)]
+pub enum Site {
+    AtOperand(Ptr<Operation>, usize),
+    AtSuccessor(Ptr<Operation>, usize),
 }

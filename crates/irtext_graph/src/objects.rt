@@ -3,32 +3,22 @@ ghost use Rattle.std.specs.Prelude.{◌≡◌, ◌≢◌, ◌<◌, ◌≤◌, �
 
 use crate::arena::{Arena, Ptr};
 use crate::nest::Nest;
-use crate::object::{BasicBlock, Object, Operation, Region, Value};
+use crate::object::{BasicBlock, Object, Operation, Region, Site, Value};
 use std::alloc::AllocError;
 
-/// The place of an operand or of a successor: an operation, and an index.
-#[derive(Clone, Copy, PartialEq, Eq, Debug)]
-pub(crate) struct Site {
-    pub(crate) op: Ptr<Operation>,
-    pub(crate) index: usize,
-}
-
-/// A use of a value, linked with the value's other uses in its own place.
+/// Where a use stands in a use list: whether it is in it, and the uses before and behind it there.
 #[derive(Clone, Copy, Debug)]
-pub(crate) struct Operand {
-    pub(crate) value: Value,
+pub(crate) struct Links {
     pub(crate) linked: bool,
     pub(crate) prev: Option<Site>,
     pub(crate) next: Option<Site>,
 }
 
-/// A use of a block, linked with the block's other uses in its own place.
+/// A use: what is used, and the links with its other uses.
 #[derive(Clone, Copy, Debug)]
-pub(crate) struct Successor {
-    pub(crate) block: Ptr<BasicBlock>,
-    pub(crate) linked: bool,
-    pub(crate) prev: Option<Site>,
-    pub(crate) next: Option<Site>,
+pub(crate) struct Use<D> {
+    pub(crate) def: D,
+    pub(crate) links: Links,
 }
 
 /// What a value is: its type, its number, and the first of its uses.
@@ -43,8 +33,8 @@ pub(crate) struct Definition<T> {
 #[derive(Drop)]
 pub(crate) struct OperationData<O, T> {
     pub(crate) data: O,
-    pub(crate) operands: Vec<Operand>,
-    pub(crate) successors: Vec<Successor>,
+    pub(crate) operands: Vec<Use<Value>>,
+    pub(crate) successors: Vec<Use<Ptr<BasicBlock>>>,
     pub(crate) results: Vec<Definition<T>>,
 }
 
@@ -70,7 +60,7 @@ pub(crate) struct Objects<O, B, T> {
 
 impl<O: Drop, B: Drop, T: Drop> Objects<O, B, T> {
     ghost use Rattle.std.specs.List.{remove};
-    ghost use Rattle.irtext_graph.specs.Objects.{up, kids, what, Lives, links, SameAt, SameNodes, SamePlaces, SameData, stays, IsGone, Appends, Fits};
+    ghost use Rattle.irtext_graph.specs.Objects.{up, kids, what, Lives, links, SameAt, SameNodes, SamePlaces, SameData, stays, IsGone, Appends, Fits, Renumbers, SameDatum, Sheds};
 
     /// Whether an object is there.
     pub(crate) fn contains(&self, o: Object) -> bool
@@ -122,12 +112,37 @@ impl<O: Drop, B: Drop, T: Drop> Objects<O, B, T> {
         }
     }
 
+    /// The index in its parent's list that was noted for an object last.
+    pub(crate) fn noted(&self, o: Object) -> usize
+        requires { Lives self.now o }
+    {
+        match o {
+            Object::TheOperation(p) => self.operations.noted(p),
+            Object::TheBlock(p) => self.blocks.noted(p),
+            Object::TheRegion(p) => self.regions.noted(p),
+        }
+    }
+
+    /// Notes the index at which an object stands in its parent's list.
+    pub(crate) fn note(&mut self, o: Object, index: usize)
+        requires { Lives self.old o }
+        ensures { Renumbers self.old self.new }
+    {
+        match o {
+            Object::TheOperation(p) => self.operations.note(p, index),
+            Object::TheBlock(p) => self.blocks.note(p, index),
+            Object::TheRegion(p) => self.regions.note(p, index),
+        }
+    }
+
     /// Takes an object out of its arena.
     pub(crate) fn vacate(&mut self, o: Object)
         ensures gone { what self.new o ≡ None }
         ensures gone_up { up self.new o ≡ None }
         ensures gone_kids { kids self.new o ≡ [] }
         ensures others { (q : _) → q ≢ o → SameAt self.old self.new q }
+        ensures data { (q : _) → q ≢ o → SameDatum self.old self.new q }
+        ensures sheds { Sheds self.old self.new }
         ensures links { links self.new ≤ links self.old }
     {
         match o {

@@ -1,151 +1,201 @@
-//! The uses of values: each operand is linked with the other uses of its value in its own place.
-ghost use Rattle.std.specs.Prelude.{◌≡◌, ◌≢◌, Some, None, IsSome, option_map};
+//! Use lists: each use of a value or of a block is linked with the other uses of it in its own place.
+ghost use Rattle.std.specs.Prelude.{◌≡◌, ◌≢◌, ◌<◌, Some, None, IsSome, option_map};
 
-use crate::object::Value;
-use crate::objects::{Objects, Operand, Site};
+use crate::object::{Defined, Site, Value};
+use crate::objects::{Links, Objects, Use};
 
 impl<O: Drop, B: Drop, T: Drop> Objects<O, B, T> {
     ghost use Rattle.irtext_graph.specs.Graph.{seen};
-    ghost use Rattle.irtext_graph.specs.Uses.{operand_at, successor_at, head_at, preds_at, val, prv, nxt, AreUsesLinked};
+    ghost use Rattle.irtext_graph.specs.Uses.{use_at, head_at, val, prv, nxt, relinked, renamed, AreUsesLinked, AreAllUsed};
+    ghost use Rattle.irtext_graph.specs.Used.{bare, uses_left, CanName};
 
-    /// The first use of a value.
-    pub(crate) fn head_of(&self, v: Value) -> Option<Site>
-        requires { IsSome (head_at self.now v) }
-        ensures { head_at self.now v ≡ Some result }
+    /// The use at a place.
+    pub(crate) fn use_of(&self, u: Site) -> Use<Defined>
+        requires { IsSome (use_at self.now u) }
+        ensures { use_at self.now u ≡ Some result }
     {
-        match v {
-            Value::Result(p, i) => self.operations.first_result(p, i),
-            Value::Argument(b, i) => self.blocks.first_argument(b, i),
+        match u {
+            Site::AtOperand(p, i) => {
+                let o = self.operations.operand(p, i);
+                Use {
+                    def: Defined::OfValue(o.def),
+                    links: o.links,
+                }
+            }
+            Site::AtSuccessor(p, i) => {
+                let o = self.operations.successor(p, i);
+                Use {
+                    def: Defined::OfBlock(o.def),
+                    links: o.links,
+                }
+            }
         }
     }
 
-    /// Writes the first use of a value.
-    fn set_head(&mut self, v: Value, h: Option<Site>)
-        requires { IsSome (head_at self.old v) }
-        ensures here { head_at self.new v ≡ Some h }
-        ensures others { (w : _) → w ≢ v → head_at self.new w ≡ head_at self.old w }
-        ensures operands { (u : _) → operand_at self.new u ≡ operand_at self.old u }
-        ensures successors { (w : _) → successor_at self.new w ≡ successor_at self.old w }
-        ensures preds { (b : _) → preds_at self.new b ≡ preds_at self.old b }
+    /// Writes the links of a use.
+    fn set_links(&mut self, u: Site, links: Links)
+        requires { IsSome (use_at self.old u) }
+        ensures here { use_at self.new u ≡ option_map (relinked links) (use_at self.old u) }
+        ensures others { (w : _) → w ≢ u → use_at self.new w ≡ use_at self.old w }
+        ensures heads { (d : _) → head_at self.new d ≡ head_at self.old d }
         ensures seen { seen self.new ≡ seen self.old }
     {
-        match v {
-            Value::Result(p, i) => self.operations.set_first_result(p, i, h),
-            Value::Argument(b, i) => self.blocks.set_first_argument(b, i, h),
+        match u {
+            Site::AtOperand(p, i) => self.operations.link_operand(p, i, links),
+            Site::AtSuccessor(p, i) => self.operations.link_successor(p, i, links),
         }
     }
 
-    /// Writes the links of an operand. It names its value as before.
-    fn set_operand(&mut self, u: Site, o: Operand)
-        requires there { IsSome (operand_at self.old u) }
-        requires same { option_map (λ o. o.value) (operand_at self.old u) ≡ Some o.value }
-        ensures here { operand_at self.new u ≡ Some o }
-        ensures others { (w : _) → w ≢ u → operand_at self.new w ≡ operand_at self.old w }
-        ensures heads { (v : _) → head_at self.new v ≡ head_at self.old v }
-        ensures successors { (w : _) → successor_at self.new w ≡ successor_at self.old w }
-        ensures preds { (b : _) → preds_at self.new b ≡ preds_at self.old b }
+    /// Writes what a use names. Its links stay.
+    fn set_def(&mut self, u: Site, d: Defined)
+        requires there { IsSome (use_at self.old u) }
+        requires names { CanName u d }
+        ensures here { use_at self.new u ≡ option_map (renamed d) (use_at self.old u) }
+        ensures others { (w : _) → w ≢ u → use_at self.new w ≡ use_at self.old w }
+        ensures heads { (e : _) → head_at self.new e ≡ head_at self.old e }
+        ensures bare { bare self.new ≡ bare self.old }
+        ensures fewer { (e : _) → option_map (λ o. o.def) (use_at self.old u) ≡ Some e → e ≢ d →
+            uses_left e (seen self.new).operations < uses_left e (seen self.old).operations }
+    {
+        match (u, d) {
+            (Site::AtOperand(p, i), Defined::OfValue(v)) => self.operations.set_operand(p, i, v),
+            (Site::AtSuccessor(p, i), Defined::OfBlock(b)) => self
+                .operations
+                .set_successor(p, i, b),
+            _ => unreachable!(),
+        }
+    }
+
+    /// The first use of a value or of a block.
+    pub(crate) fn head_of(&self, d: Defined) -> Option<Site>
+        requires { IsSome (head_at self.now d) }
+        ensures { head_at self.now d ≡ Some result }
+    {
+        match d {
+            Defined::OfValue(Value::Result(p, i)) => self.operations.first_result(p, i),
+            Defined::OfValue(Value::Argument(b, i)) => self.blocks.first_argument(b, i),
+            Defined::OfBlock(b) => self.blocks.first_pred(b),
+        }
+    }
+
+    /// Writes the first use of a value or of a block.
+    fn set_head(&mut self, d: Defined, h: Option<Site>)
+        requires { IsSome (head_at self.old d) }
+        ensures here { head_at self.new d ≡ Some h }
+        ensures others { (e : _) → e ≢ d → head_at self.new e ≡ head_at self.old e }
+        ensures uses { (u : _) → use_at self.new u ≡ use_at self.old u }
         ensures seen { seen self.new ≡ seen self.old }
     {
-        self.operations.set_operand(u, o);
+        match d {
+            Defined::OfValue(Value::Result(p, i)) => self.operations.set_first_result(p, i, h),
+            Defined::OfValue(Value::Argument(b, i)) => self.blocks.set_first_argument(b, i, h),
+            Defined::OfBlock(b) => self.blocks.set_first_pred(b, h),
+        }
     }
 
     /// Writes the link backwards of a use, where there is one.
     fn set_prev_of(&mut self, w: Option<Site>, p: Option<Site>)
-        requires { (s : _) → w ≡ Some s → IsSome (operand_at self.old s) }
+        requires { (s : _) → w ≡ Some s → IsSome (use_at self.old s) }
         ensures here { (s : _) → w ≡ Some s → prv self.new s ≡ p }
         ensures others { (s : _) → w ≢ Some s → prv self.new s ≡ prv self.old s }
         ensures values { (s : _) → val self.new s ≡ val self.old s }
         ensures nexts { (s : _) → nxt self.new s ≡ nxt self.old s }
-        ensures heads { (v : _) → head_at self.new v ≡ head_at self.old v }
-        ensures sites { (s : _) → IsSome (operand_at self.old s) → IsSome (operand_at self.new s) }
-        ensures successors { (s : _) → successor_at self.new s ≡ successor_at self.old s }
-        ensures preds { (b : _) → preds_at self.new b ≡ preds_at self.old b }
+        ensures heads { (d : _) → head_at self.new d ≡ head_at self.old d }
+        ensures sites { (s : _) → IsSome (use_at self.old s) → IsSome (use_at self.new s) }
         ensures seen { seen self.new ≡ seen self.old }
     {
         if let Some(s) = w {
-            let o = self.operations.operand(s);
-            let linked = Operand { prev: p, ..o };
-            self.set_operand(s, linked);
+            let links = self.use_of(s).links;
+            self.set_links(s, Links { prev: p, ..links });
         }
     }
 
-    /// Writes the link forwards of a use, or the first use of v where there is none.
-    fn set_next_of(&mut self, w: Option<Site>, v: Value, n: Option<Site>)
-        requires sites { (s : _) → w ≡ Some s → IsSome (operand_at self.old s) }
-        requires stands { IsSome (head_at self.old v) }
+    /// Writes the link forwards of a use, or the first use of d where there is none.
+    fn set_next_of(&mut self, w: Option<Site>, d: Defined, n: Option<Site>)
+        requires sites { (s : _) → w ≡ Some s → IsSome (use_at self.old s) }
+        requires stands { IsSome (head_at self.old d) }
         ensures here { (s : _) → w ≡ Some s → nxt self.new s ≡ n }
         ensures others { (s : _) → w ≢ Some s → nxt self.new s ≡ nxt self.old s }
         ensures values { (s : _) → val self.new s ≡ val self.old s }
         ensures prevs { (s : _) → prv self.new s ≡ prv self.old s }
-        ensures head { w ≡ None → head_at self.new v ≡ Some n }
-        ensures head_kept { (s : _) → w ≡ Some s → head_at self.new v ≡ head_at self.old v }
-        ensures heads { (e : _) → e ≢ v → head_at self.new e ≡ head_at self.old e }
-        ensures successors { (s : _) → successor_at self.new s ≡ successor_at self.old s }
-        ensures preds { (b : _) → preds_at self.new b ≡ preds_at self.old b }
+        ensures head { w ≡ None → head_at self.new d ≡ Some n }
+        ensures head_kept { (s : _) → w ≡ Some s → head_at self.new d ≡ head_at self.old d }
+        ensures heads { (e : _) → e ≢ d → head_at self.new e ≡ head_at self.old e }
         ensures seen { seen self.new ≡ seen self.old }
     {
         match w {
             Some(s) => {
-                let o = self.operations.operand(s);
-                let linked = Operand { next: n, ..o };
-                self.set_operand(s, linked);
+                let links = self.use_of(s).links;
+                self.set_links(s, Links { next: n, ..links });
             }
-            None => self.set_head(v, n),
+            None => self.set_head(d, n),
         }
     }
 
-    /// Puts an operand that is in no list at the head of the list of the value that it names.
+    /// Puts a use that is in no list at the head of the list of what it names.
     pub(crate) fn attach(&mut self, u: Site)
         requires linked { AreUsesLinked self.old }
-        requires there { IsSome (operand_at self.old u) }
+        requires there { IsSome (use_at self.old u) }
         requires free { val self.old u ≡ None }
-        requires stands { (o : _) → operand_at self.old u ≡ Some o → IsSome (head_at self.old o.value) }
+        requires stands { (o : _) → use_at self.old u ≡ Some o → IsSome (head_at self.old o.def) }
         ensures linked { AreUsesLinked self.new }
-        ensures used { (o : _) → operand_at self.old u ≡ Some o → val self.new u ≡ Some o.value }
+        ensures used { (o : _) → use_at self.old u ≡ Some o → val self.new u ≡ Some o.def }
         ensures kept { (w : _) → w ≢ u → val self.new w ≡ val self.old w }
-        ensures successors { (s : _) → successor_at self.new s ≡ successor_at self.old s }
-        ensures preds { (b : _) → preds_at self.new b ≡ preds_at self.old b }
         ensures seen { seen self.new ≡ seen self.old }
     {
-        let o = self.operations.operand(u);
-        let v = o.value;
-        let h = self.head_of(v);
-        self.set_operand(
+        let d = self.use_of(u).def;
+        let h = self.head_of(d);
+        self.set_links(
             u,
-            Operand {
-                value: v,
+            Links {
                 linked: true,
                 prev: None,
                 next: h,
             },
         );
         self.set_prev_of(h, Some(u));
-        self.set_head(v, Some(u));
+        self.set_head(d, Some(u));
     }
 
-    /// Takes an operand out of its list. It still names its value.
+    /// Takes a use out of its list. It still names what it named.
     pub(crate) fn detach(&mut self, u: Site)
         requires linked { AreUsesLinked self.old }
         requires used { IsSome (val self.old u) }
         ensures linked { AreUsesLinked self.new }
         ensures gone { val self.new u ≡ None }
         ensures kept { (w : _) → w ≢ u → val self.new w ≡ val self.old w }
-        ensures successors { (s : _) → successor_at self.new s ≡ successor_at self.old s }
-        ensures preds { (b : _) → preds_at self.new b ≡ preds_at self.old b }
         ensures seen { seen self.new ≡ seen self.old }
     {
-        let o = self.operations.operand(u);
-        let v = o.value;
-        self.set_operand(
+        let o = self.use_of(u);
+        self.set_links(
             u,
-            Operand {
-                value: v,
+            Links {
                 linked: false,
                 prev: None,
                 next: None,
             },
         );
-        self.set_prev_of(o.next, o.prev);
-        self.set_next_of(o.prev, v, o.next);
+        self.set_prev_of(o.links.next, o.links.prev);
+        self.set_next_of(o.links.prev, o.def, o.links.next);
+    }
+
+    /// Takes a use out of its list, and makes it a use of e.
+    pub(crate) fn redirect(&mut self, u: Site, e: Defined)
+        requires linked { AreUsesLinked self.old }
+        requires all_used { AreAllUsed self.old }
+        requires used { IsSome (val self.old u) }
+        requires names { CanName u e }
+        requires stands { IsSome (head_at self.old e) }
+        ensures linked { AreUsesLinked self.new }
+        ensures all_used { AreAllUsed self.new }
+        ensures here { val self.new u ≡ Some e }
+        ensures others { (w : _) → w ≢ u → val self.new w ≡ val self.old w }
+        ensures bare { bare self.new ≡ bare self.old }
+        ensures fewer { (d : _) → val self.old u ≡ Some d → d ≢ e →
+            uses_left d (seen self.new).operations < uses_left d (seen self.old).operations }
+    {
+        self.detach(u);
+        self.set_def(u, e);
+        self.attach(u);
     }
 }

@@ -1,6 +1,5 @@
--- Locations: they are read back, a bound on their nesting changes nothing, and steps of their readers.
+-- Locations: they are read back, and a bound on their nesting changes nothing.
 pub mod Begins
-pub mod Rows
 pub mod Integers
 pub mod GivesBack
 pub mod RestLengths

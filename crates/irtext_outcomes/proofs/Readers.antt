@@ -5,6 +5,7 @@ pub mod Honest
 pub mod NeverFailed
 pub mod Leads
 pub mod PlainStream
+pub mod PartSteps
 pub mod OperationNeverFailed
 pub mod EntryIndices
 pub mod FirstMissing

@@ -1,6 +1,4 @@
--- Steps of the readers of formats.
-pub mod PieceSteps
 -- An id that is found by its text.
 pub mod KnownIds
-pub mod FrameOutcomes
-pub mod FrameSteps
+-- An operation whose id and pieces were read.
+pub mod OperationReads

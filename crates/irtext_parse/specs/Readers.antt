@@ -1,4 +1,1 @@
--- What was read of an operation, as the code holds it.
-pub mod PiecesOf
 pub mod KnownIds
-pub mod Frames

@@ -5,7 +5,6 @@ ghost use Rattle.irtext_base.specs.Answers.{StarvesHere};
 ghost use Rattle.irtext_outcomes.specs.Readers.Streams.{itself, replaced};
 
 mod locations;
-mod texts;
 mod tokens;
 
 pub use irtext_base::parsable::{

@@ -1,5 +1,5 @@
 -- A number grows by one digit after another; the numbers that are read of any type are those of the grammar.
-use Rattle.std.proofs.Common.{◌≡◌, ℕ, ℤ, pos, ◌+◌, ◌*◌, ◌^◌, Bool, true, false, cond, nat_lt, ltb, Option, Some, None, Result, Ok, Err, [], ◌∷◌, ◌++◌, length, get_or, take, drop, append-nil, append_assoc, refl, sym, ◌∙◌, ap, arith, inl, inr, ◌<◌}
+use Rattle.std.proofs.Common.{◌≡◌, ℕ, ℤ, pos, ◌+◌, ◌*◌, ◌^◌, Bool, true, false, cond, nat_lt, ltb, Option, Some, None, Result, Ok, Err, [], ◌∷◌, ◌++◌, length, get_or, take, drop, append-nil, append_assoc, refl, sym, ◌∙◌, ap, subst, arith, inl, inr, ◌<◌}
 use Rattle.std.proofs.lemmas.Bool.Decides.{nat_tests}
 use Rattle.std.proofs.lemmas.Int.Digits.{digits_value_push}
 use Rattle.std.proofs.lemmas.List.{take_more, take-append-drop}
@@ -10,14 +10,16 @@ use Rattle.std.specs.Str.Parse.{digits_value}
 use Rattle.irtext_base.specs.Text.{Text, begins, front, after}
 use Rattle.irtext_base.specs.Reading.{the}
 use Rattle.irtext_base.specs.Stream.{StreamView}
-use Rattle.irtext_base.specs.Answers.{Outcome, Read, Missing, Bad, Answers, DemandsOf, demanded, mapped, unless_failed}
+use Rattle.irtext_base.specs.Answers.{Outcome, Read, Missing, Bad, Answers, DemandsOf, NeedsNoMemory, demanded, mapped, unless_failed}
 use Rattle.irtext_base.specs.declared.parsable.fault.ParseFault.{ParseFault}
 use Rattle.irtext_base.proofs.Compose.{answers_demanded}
 use Rattle.irtext_read.specs.Digits.{base, fitting, appended, value_in}
 use Rattle.irtext_read.specs.Integers.{unsigned_below, signed_below, integer_by, within, ranged, no_digit_behind, numeral_at, signed_integer, int_at}
 use Rattle.irtext_read.specs.MustRead.{MustRead}
+use Rattle.irtext_read.specs.Reads.{SparesMemory}
 use Rattle.irtext_read.specs.Tokens.{is_sign, sign_of, after_sign, value_of, negated, numbered, no_digit, number_at, integer_of, integered, no_integer, integer_at}
 use Rattle.irtext_read.specs.declared.irfmt.parsers.digits.Radix.{Radix}
+use Rattle.irtext_read.proofs.Sparing.{demanded_spares, unmapped_spares}
 use Rattle.irtext_read.specs.declared.irfmt.parsers.digits.Radix.TheVariants as radix
 
 -- a number that doesn't fit fits no better with one more digit
@@ -162,3 +164,15 @@ module _ {S A : Type 0} (view : S → StreamView) (at : S → StreamView → S) 
     integer_must a r h d =
         let k = answers_demanded view at view_at at_at (λ z. z) (unless_failed (view old).failed (int_at (signed_below 32) (view old).rest)) old mid new a r h d in
         record { answers = rw (integer_is (view old).rest) at k }
+
+    -- where it stands, no memory is asked for
+    pub number_spares : (a r : Result ℕ (ParseFault A)) → SparesMemory view (int_at (unsigned_below 64)) old a → DemandsOf view at a mid r new → SparesMemory view number_at old r
+    number_spares a r h d =
+        let k = demanded_spares view at mid new (unless_failed (view old).failed (int_at (unsigned_below 64) (view old).rest)) a r h d in
+        unmapped_spares ℕ pos (view old).failed (number_at (view old).rest) r (subst (λ o. NeedsNoMemory (unless_failed (view old).failed o) r) (number_is (view old).rest) k)
+
+    -- the same of a signed one
+    pub integer_spares : (a r : Result ℤ (ParseFault A)) → SparesMemory view (int_at (signed_below 32)) old a → DemandsOf view at a mid r new → SparesMemory view integer_at old r
+    integer_spares a r h d =
+        let k = demanded_spares view at mid new (unless_failed (view old).failed (int_at (signed_below 32) (view old).rest)) a r h d in
+        subst (λ o. NeedsNoMemory (unless_failed (view old).failed o) r) (integer_is (view old).rest) k

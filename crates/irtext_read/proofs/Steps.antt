@@ -3,14 +3,16 @@ use Rattle.std.proofs.Common.{◌≡◌, ℕ, Bool, true, false, Result, Ok, Err
 use Rattle.std.specs.Char.{is_whitespace}
 use Rattle.irtext_base.specs.Text.{Text, begins, front, after}
 use Rattle.irtext_base.specs.Reading.{the}
-use Rattle.irtext_base.specs.Stream.{StreamView, advanced}
+use Rattle.irtext_base.specs.Stream.{StreamView, advanced, behind}
 use Rattle.irtext_base.specs.Answers.{Outcome, Read, Missing, Bad, Takes, Starves, StarvesHere, Refuses, Answers, Gives, DemandsOf, demanded, prefixed, mapped, followed, unless_failed}
 use Rattle.irtext_base.specs.declared.parsable.fault.ParseFault.{ParseFault}
 use Rattle.irtext_base.proofs.Compose.{takes_none, takes_fine, seen_after, takes_more, answers_after, answers_demanded, starves_behind, refuses_first, refuses_mapped_demanded}
+use Rattle.irtext_base.proofs.Along.{front_after}
+use Rattle.irtext_stream.specs.Classes.{behind_space}
 use Rattle.irtext_read.specs.Tokens.{space_at, text_at}
 use Rattle.irtext_read.specs.MustRead.{MustRead, MayRead}
 use Rattle.irtext_read.proofs.Grammar.{text_at-literal}
-use Rattle.irtext_read.proofs.Spelling.{prefixed-prefixed, begins_the, takes_next}
+use Rattle.irtext_read.proofs.Spelling.{prefixed-prefixed, begins_the, takes_next, whole_gives}
 
 -- where nothing was taken, what follows is demanded
 prefixed-none : {X : Type 0} (o : Outcome X) → prefixed [] o ≡ demanded o
@@ -51,11 +53,6 @@ pub mapped_mapped : {X Y V : Type 0} (f : Y → V) (g : X → Y) (h : X → V) (
 mapped_mapped f g h (Read x taken rest) e = ap (λ y. Read y taken rest) (e x)
 mapped_mapped f g h (Missing cause) e = refl
 mapped_mapped f g h (Bad cause upto) e = refl
-
-pub mapped_as : {X Y : Type 0} (f g : X → Y) (o : Outcome X) → ((x : X) → f x ≡ g x) → mapped f o ≡ mapped g o
-mapped_as f g (Read x taken rest) e = ap (λ y. Read y taken rest) (e x)
-mapped_as f g (Missing cause) e = refl
-mapped_as f g (Bad cause upto) e = refl
 
 -- a stream's view, and the rules that it keeps
 pub record Lens (S : Type 0) : Type 0 where
@@ -172,6 +169,18 @@ module _ {S : Type 0} (l : Lens S) where
   read_demanded false (Read y t r) s new x h = h
   read_demanded false (Missing cause) s new x h = h
   read_demanded false (Bad cause upto) s new x h = h
+
+  -- white space was passed, and behind it the whole of a fixed text
+  pub spaced_whole : {V : Type 0} (k : Unit {0} → Text → Outcome V) (word rest : Text) (old new : S) → (l.view old).failed ≡ false → after is_whitespace (l.view old).rest ≡ word ++ rest → new ≡ l.at old (behind (behind_space (l.view old)) word rest) → Passed (λ t. followed (space_at t) (λ _ u. followed (text_at word u) k)) (k tt) old new
+  spaced_whole k word rest old new f e n =
+      let out : Text → Outcome _ = λ t. followed (space_at t) (λ _ u. followed (text_at word u) k) in
+      let v = behind_space (l.view old) in
+      let mid = l.at old v in
+      let seen = l.view_at old v in
+      let p = spaced {new = mid} (λ _ u. followed (text_at word u) k) (starts out out old f refl) (record { is = refl; same = front_after is_whitespace (l.view old).rest }) in
+      let there : new ≡ l.at mid (behind (l.view mid) word rest) = n ∙ (sym (l.at_at old v (behind v word rest)) ∙ ap (λ w. l.at mid (behind w word rest)) (sym seen)) in
+      let g = whole_gives l.view l.at l.view_at l.at_view l.at_at word rest mid new (ap (λ w. w.rest) seen ∙ e) there in
+      passed out (text_at word (l.view mid).rest) false k old mid new p.taken tt p.fine p.takes p.so_far (read_demanded false (text_at word (l.view mid).rest) mid new tt g)
 
   begun : {X V : Type 0} (b : Bool) (o : Outcome X) (k : X → Text → Outcome V) (s new : S) (x : X) → Gives l.view l.at (unless_failed b o) s x new → demanded (unless_failed b (followed o k)) ≡ unless_failed b (followed o k)
   begun true o k s new x h = refl

@@ -1,5 +1,6 @@
 //! The program of the refused requests: one call for each word, in which a request for memory is refused from outside, and what
-//! its caller sees then. It ends with status 0 and the call's text, with 1 where memory was refused, and with 3 where anything else came of it.
+//! its caller sees then. It ends with status 0 and the call's text, with 1 where memory was refused, and with 3 where anything
+//! else came of it.
 #![tactic(auto)]
 
 mod locating;
@@ -30,6 +31,15 @@ pub enum Fault {
 impl From<AllocError> for Fault {
     fn from(_: AllocError) -> Fault {
         Fault::Memory
+    }
+}
+
+impl From<io::Error> for Fault {
+    fn from(error: io::Error) -> Fault {
+        match error.kind() {
+            io::ErrorKind::OutOfMemory => Fault::Memory,
+            _ => Fault::Wrong,
+        }
     }
 }
 
@@ -95,36 +105,28 @@ fn named_call(rt: &HostRuntime) -> io::Result<Option<Call>> {
 }
 
 /// The text of the call that the words name.
-fn answer(rt: &HostRuntime) -> io::Result<Result<String, Fault>> {
+fn answer(rt: &HostRuntime) -> Result<String, Fault> {
     let text = io::read_to_string(rt.alloc(), rt.reader())?;
     match named_call(rt)? {
-        Some(call) => Ok(call.answer(rt.alloc(), text.as_str())),
-        None => Ok(Err(Fault::Wrong)),
+        Some(call) => call.answer(rt.alloc(), text.as_str()),
+        None => Err(Fault::Wrong),
     }
 }
 
-/// Writes the text, or says why there is none.
-fn status(rt: &HostRuntime) -> io::Result<u8> {
-    match answer(rt)? {
-        Ok(text) => {
-            rt.stdout().write_all(text.as_bytes())?;
-            Ok(0)
-        }
-        Err(Fault::Memory) => {
-            let _ = eprintln!(rt; "Out of memory");
-            Ok(1)
-        }
-        Err(Fault::Wrong) => Ok(3),
-    }
+/// Writes the text, if there is one.
+fn write_answer(rt: &HostRuntime) -> Result<(), Fault> {
+    let text = answer(rt)?;
+    rt.stdout().write_all(text.as_bytes())?;
+    Ok(())
 }
 
 fn main(rt: HostRuntime) -> ExitCode {
-    match status(&rt) {
-        Ok(status) => ExitCode::from(status),
-        Err(e) if e.kind() == io::ErrorKind::OutOfMemory => {
+    match write_answer(&rt) {
+        Ok(()) => ExitCode::from(0),
+        Err(Fault::Memory) => {
             let _ = eprintln!(rt; "Out of memory");
             ExitCode::from(1)
         }
-        Err(_) => ExitCode::from(3),
+        Err(Fault::Wrong) => ExitCode::from(3),
     }
 }

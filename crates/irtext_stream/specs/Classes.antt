@@ -29,3 +29,7 @@ bit_of class.Plain = 64
 -- the stream behind the longest front of characters of a class
 abbrev pub behind_front : Class → StreamView → StreamView
 behind_front class v = behind v (front (has class) v.rest) (after (has class) v.rest)
+
+-- the stream behind the white space that comes next
+abbrev pub behind_space : StreamView → StreamView
+behind_space v = behind_front class.WhiteSpace v

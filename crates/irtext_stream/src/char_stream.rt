@@ -2,7 +2,7 @@
 ghost use Rattle.std.specs.Prelude.{◌≡◌, MatchBool, refl};
 ghost use Rattle.std.specs.Str.{chars, encode_utf8_all};
 ghost use Rattle.irtext_stream.specs.Text.{BeginsOtherwise};
-ghost use Rattle.irtext_stream.specs.Classes.{behind_front};
+ghost use Rattle.irtext_stream.specs.Classes.{behind_front, behind_space};
 ghost use Rattle.irtext_stream.specs.Stream.{StreamView, IsAt, first_of, advanced, after_failure, Comes, moved};
 ghost use Rattle.irtext_stream.specs.Places.{StandsBehind, IsPlaceOf, AtPlace, SincePlace, HasPassed};
 
@@ -36,6 +36,13 @@ pub trait CharStream {
         ensures { MatchBool result
             (Comes (chars text.now) (view self.old) (λ v. self.new ≡ at self.old v))
             (BeginsOtherwise (chars text.now) (view self.old).rest × (self.new ≡ self.old)) };
+
+    /// Passes white space and a text behind it, where the whole of the text comes there, and answers whether it does. Where it
+    /// doesn't, the stream stays in front of the white space.
+    fn accept_spaced(&mut self, text: &str) -> bool
+        ensures { MatchBool result
+            (Comes (chars text.now) (behind_space (view self.old)) (λ v. self.new ≡ at self.old v))
+            (BeginsOtherwise (chars text.now) (behind_space (view self.old)).rest × (self.new ≡ self.old)) };
 
     /// The place of the next character, or of the end.
     fn position(&self) -> Place
@@ -102,6 +109,11 @@ impl CharStream for TextStream {
     #[inline(always)]
     fn accept(&mut self, text: &str) -> bool {
         self.accept(text)
+    }
+
+    #[inline(always)]
+    fn accept_spaced(&mut self, text: &str) -> bool {
+        self.accept_spaced(text)
     }
 
     #[inline(always)]

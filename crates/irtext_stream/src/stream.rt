@@ -2,7 +2,7 @@
 ghost use Rattle.std.specs.Prelude.{◌≡◌, [], IfOk, MatchBool, false};
 ghost use Rattle.std.specs.Str.{chars, encode_utf8_all};
 ghost use Rattle.irtext_stream.specs.Text.{BeginsOtherwise};
-ghost use Rattle.irtext_stream.specs.Classes.{behind_front};
+ghost use Rattle.irtext_stream.specs.Classes.{behind_front, behind_space};
 ghost use Rattle.irtext_stream.specs.Stream.{StreamView, IsAt, first_of, advanced, after_failure, Comes, moved};
 ghost use Rattle.irtext_stream.specs.Places.{StandsBehind, IsPlaceOf, AtPlace, SincePlace, HasPassed};
 
@@ -116,6 +116,22 @@ impl TextStream {
             return false;
         }
         self.offset += text.len();
+        true
+    }
+
+    /// Passes white space and a text behind it, where the whole of the text comes there, and answers whether it does. Where it
+    /// doesn't, the stream stays in front of the white space.
+    #[inline(always)]
+    pub fn accept_spaced(&mut self, text: &str) -> bool
+        ensures { MatchBool result
+            (Comes (chars text.now) (behind_space self.old) (λ v. self.new ≡ v))
+            (BeginsOtherwise (chars text.now) (behind_space self.old).rest × (self.new ≡ self.old)) }
+    {
+        let from = end_of(self.text.as_str(), self.offset, Class::WhiteSpace);
+        if !comes_at(self.text.as_str(), from, text) {
+            return false;
+        }
+        self.offset = from + text.len();
         true
     }
 

@@ -7,6 +7,8 @@ use Rattle.irtext_context.specs.Dialects.{Table, with_op}
 use Rattle.irtext_context.specs.DialectTable.{dialect_or_new, with_dialect}
 use Rattle.irtext_base.specs.declared.base.identifier.OpId.{OpId}
 use Rattle.irtext_base.specs.declared.result.Cause.{Cause, Memory, WrongDialect}
+use Rattle.irtext_types.specs.declared.dialects.Demo.{Demo}
+use Rattle.irtext_types.specs.declared.dialects.Demo.TheVariants as demo
 
 -- an operation: its id, the directives of its format, and whether it is isolated from above
 pub record DemoOp : Type 0 where
@@ -45,6 +47,13 @@ scope_op = record { id = id_with (codes "test") (codes "scope"); directives = sc
 -- `test.nop`, which is its id alone
 abbrev pub nop_op : DemoOp
 nop_op = record { id = id_with (codes "test") (codes "nop"); directives = []; isolated = false }
+
+-- the operation that is meant
+abbrev pub demo_op : Demo → DemoOp
+demo_op demo.Module = module_op
+demo_op demo.Function = function_op
+demo_op demo.Scope = scope_op
+demo_op demo.Nop = nop_op
 
 -- the operations, in the order in which they are registered
 abbrev pub demo_operations : List DemoOp

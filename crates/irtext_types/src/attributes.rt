@@ -77,7 +77,8 @@ impl DottedWord for AttrWord {
 
 /// Reads a quoted text.
 fn characters_parse<A>(stream: &mut TextStream) -> ParseResult<Characters, A>
-    ensures { Answers (λ s. s) (λ s v. v) (λ c. c) (unless_failed stream.old.failed (characters_at stream.old.rest)) stream.old result stream.new }
+    ensures { Answers (λ s. s) (λ s v. v) (λ c. c)
+        (unless_failed stream.old.failed (characters_at stream.old.rest)) stream.old result stream.new }
 {
     match quoted_string_parse(stream) {
         Ok(text) => Ok(Characters::new(text)),

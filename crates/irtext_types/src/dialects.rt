@@ -6,7 +6,7 @@ ghost use Rattle.irtext_context.specs.Directives.{directive_of, format_of};
 ghost use Rattle.irtext_base.specs.Format.{custom, word};
 ghost use Rattle.irtext_base.specs.Text.{is_identifier};
 ghost use Rattle.irtext_base.specs.declared.location.Location.{Unknown};
-ghost use Rattle.irtext_types.specs.DemoDialects.{demo_operations, id_with, module_directives, function_directives, scope_directives, module_op, function_op, scope_op, nop_op, with_operation, with_demo, with_all, Refuses, RefusesOne};
+ghost use Rattle.irtext_types.specs.DemoDialects.{demo_operations, demo_op, with_demo, with_all, Refuses, RefusesOne};
 
 use irtext_base::base::{Identifier, OpId};
 use irtext_base::format::{Directive, OpFormat};
@@ -28,14 +28,42 @@ fn out_of_memory<A>() -> Error<A>
     }
 }
 
-/// A symbol's name, and a region.
-fn module_format(alloc: Global) -> Result<OpFormat, AllocError>
-    ensures { IfOk result (λ f. format_of f ≡ custom module_directives) }
+/// The operations of the demo dialects.
+#[derive(Clone, Copy)]
+enum Demo {
+    /// `builtin.module`.
+    Module,
+    /// `builtin.func`.
+    Function,
+    /// `test.scope`.
+    Scope,
+    /// `test.nop`.
+    Nop,
+}
+
+/// The names of the operation's dialect and of the operation, and whether it is isolated from above.
+fn row(demo: Demo) -> (&'static str, &'static str, bool)
+    ensures dialect { result.0.now ≡ (demo_op demo).id.dialect }
+    ensures name { result.1.now ≡ (demo_op demo).id.name }
+    ensures isolated { result.2 ≡ (demo_op demo).isolated }
+    ensures names { IsTrue (is_identifier result.0.now) × IsTrue (is_identifier result.1.now) }
 {
-    let mut directives = Vec::new(alloc);
-    directives.push(Directive::SymbolHeader)?;
-    directives.push(Directive::Region(0))?;
-    Ok(OpFormat::Custom(directives))
+    match demo {
+        Demo::Module => ("builtin", "module", true),
+        Demo::Function => ("builtin", "func", true),
+        Demo::Scope => ("test", "scope", false),
+        Demo::Nop => ("test", "nop", false),
+    }
+}
+
+/// The id of the operation.
+fn id(alloc: Global, demo: Demo) -> Result<OpId, AllocError>
+    ensures { IfOk result (λ id. id ≡ (demo_op demo).id) }
+{
+    let (dialect, name, _) = row(demo);
+    let dialect = Identifier::from_word(alloc, dialect)?;
+    let name = Identifier::from_word(alloc, name)?;
+    Ok(OpId { dialect, name })
 }
 
 /// A colon.
@@ -45,112 +73,46 @@ fn colon(alloc: Global) -> Result<Directive, AllocError>
     Ok(Directive::Literal(String::from_str(alloc, ":")?))
 }
 
-/// A symbol's name, its type behind `:`, and a region.
-fn function_format(alloc: Global) -> Result<OpFormat, AllocError>
-    ensures { IfOk result (λ f. format_of f ≡ custom function_directives) }
+/// The format of the operation, with memory of its own.
+fn op_format(alloc: Global, demo: Demo) -> Result<OpFormat, AllocError>
+    ensures { IfOk result (λ f. format_of f ≡ custom (demo_op demo).directives) }
 {
     let mut directives = Vec::new(alloc);
-    directives.push(Directive::SymbolHeader)?;
-    directives.push(colon(alloc)?)?;
-    let key = Identifier::from_word(alloc, "builtin_func_type")?;
-    directives.push(Directive::Attr(key))?;
-    directives.push(Directive::Region(0))?;
+    match demo {
+        Demo::Module => {
+            directives.push(Directive::SymbolHeader)?;
+            directives.push(Directive::Region(0))?;
+        }
+        Demo::Function => {
+            directives.push(Directive::SymbolHeader)?;
+            directives.push(colon(alloc)?)?;
+            let key = Identifier::from_word(alloc, "builtin_func_type")?;
+            directives.push(Directive::Attr(key))?;
+            directives.push(Directive::Region(0))?;
+        }
+        Demo::Scope => directives.push(Directive::Region(0))?,
+        Demo::Nop => {}
+    }
     Ok(OpFormat::Custom(directives))
 }
 
-/// A region.
-fn scope_format(alloc: Global) -> Result<OpFormat, AllocError>
-    ensures { IfOk result (λ f. format_of f ≡ custom scope_directives) }
-{
-    let mut directives = Vec::new(alloc);
-    directives.push(Directive::Region(0))?;
-    Ok(OpFormat::Custom(directives))
-}
-
-/// The id of an operation.
-fn id(alloc: Global, dialect: &str, name: &str) -> Result<OpId, AllocError>
-    requires dialect { IsTrue (is_identifier dialect.now) }
-    requires name { IsTrue (is_identifier name.now) }
-    ensures { IfOk result (λ id. id ≡ id_with dialect.now name.now) }
-{
-    let dialect = Identifier::from_word(alloc, dialect)?;
-    let name = Identifier::from_word(alloc, name)?;
-    Ok(OpId { dialect, name })
-}
-
-/// Registers an operation with its dialect. Where it is refused the dialect may stay, without the operation.
-fn add<T: IrText<A>, A: AttrText>(
-    ctx: &mut Context<T, A>,
-    id: OpId,
-    format: OpFormat,
-    isolated: bool,
-) -> Answer<(), A>
-    ensures ok { OnOk result (ctx.new ≡ record ctx.old { dialects = with_operation ctx.old.dialects id (format_of format) isolated }) }
+/// Registers the operation with its dialect. Where it is refused the dialect may stay, without the operation.
+fn add<T: IrText<A>, A: AttrText>(ctx: &mut Context<T, A>, demo: Demo) -> Answer<(), A>
+    ensures ok { OnOk result (ctx.new.dialects ≡ with_demo ctx.old.dialects (demo_op demo)) }
     ensures rest { ctx.new ≡ record ctx.old { dialects = ctx.new.dialects } }
     ensures kind { IfErr result (λ e. (e.kind ≡ ErrorKind.InvalidArgument) × (e.loc ≡ Unknown)) }
-    ensures refused { IfErr result (λ e. (e.err ≡ Cause.Memory) ⊎ IsRefusedBy (dialect_or_new ctx.old.dialects id.dialect).name id format e.err) }
+    ensures refused { IfErr result (λ e. Refuses ctx.old.dialects (demo_op demo) e.err) }
 {
+    let alloc = ctx.allocator();
+    let (Ok(id), Ok(format)) = (id(alloc, demo), op_format(alloc, demo)) else {
+        return Err(out_of_memory());
+    };
     let Ok(name) = id.dialect.clone() else {
         return Err(out_of_memory());
     };
+    let (_, _, isolated) = row(demo);
     let dialect = Dialect::register(ctx, &DialectName::from(name))?;
     dialect.add_op(id, format, isolated)
-}
-
-/// Registers `builtin.module`.
-fn add_module<T: IrText<A>, A: AttrText>(ctx: &mut Context<T, A>) -> Answer<(), A>
-    ensures ok { OnOk result (ctx.new.dialects ≡ with_demo ctx.old.dialects module_op) }
-    ensures rest { ctx.new ≡ record ctx.old { dialects = ctx.new.dialects } }
-    ensures kind { IfErr result (λ e. (e.kind ≡ ErrorKind.InvalidArgument) × (e.loc ≡ Unknown)) }
-    ensures refused { IfErr result (λ e. Refuses ctx.old.dialects module_op e.err) }
-{
-    let alloc = ctx.allocator();
-    let (Ok(id), Ok(format)) = (id(alloc, "builtin", "module"), module_format(alloc)) else {
-        return Err(out_of_memory());
-    };
-    add(ctx, id, format, true)
-}
-
-/// Registers `builtin.func`.
-fn add_function<T: IrText<A>, A: AttrText>(ctx: &mut Context<T, A>) -> Answer<(), A>
-    ensures ok { OnOk result (ctx.new.dialects ≡ with_demo ctx.old.dialects function_op) }
-    ensures rest { ctx.new ≡ record ctx.old { dialects = ctx.new.dialects } }
-    ensures kind { IfErr result (λ e. (e.kind ≡ ErrorKind.InvalidArgument) × (e.loc ≡ Unknown)) }
-    ensures refused { IfErr result (λ e. Refuses ctx.old.dialects function_op e.err) }
-{
-    let alloc = ctx.allocator();
-    let (Ok(id), Ok(format)) = (id(alloc, "builtin", "func"), function_format(alloc)) else {
-        return Err(out_of_memory());
-    };
-    add(ctx, id, format, true)
-}
-
-/// Registers `test.scope`.
-fn add_scope<T: IrText<A>, A: AttrText>(ctx: &mut Context<T, A>) -> Answer<(), A>
-    ensures ok { OnOk result (ctx.new.dialects ≡ with_demo ctx.old.dialects scope_op) }
-    ensures rest { ctx.new ≡ record ctx.old { dialects = ctx.new.dialects } }
-    ensures kind { IfErr result (λ e. (e.kind ≡ ErrorKind.InvalidArgument) × (e.loc ≡ Unknown)) }
-    ensures refused { IfErr result (λ e. Refuses ctx.old.dialects scope_op e.err) }
-{
-    let alloc = ctx.allocator();
-    let (Ok(id), Ok(format)) = (id(alloc, "test", "scope"), scope_format(alloc)) else {
-        return Err(out_of_memory());
-    };
-    add(ctx, id, format, false)
-}
-
-/// Registers `test.nop`, whose format is empty.
-fn add_nop<T: IrText<A>, A: AttrText>(ctx: &mut Context<T, A>) -> Answer<(), A>
-    ensures ok { OnOk result (ctx.new.dialects ≡ with_demo ctx.old.dialects nop_op) }
-    ensures rest { ctx.new ≡ record ctx.old { dialects = ctx.new.dialects } }
-    ensures kind { IfErr result (λ e. (e.kind ≡ ErrorKind.InvalidArgument) × (e.loc ≡ Unknown)) }
-    ensures refused { IfErr result (λ e. Refuses ctx.old.dialects nop_op e.err) }
-{
-    let alloc = ctx.allocator();
-    let Ok(id) = id(alloc, "test", "nop") else {
-        return Err(out_of_memory());
-    };
-    add(ctx, id, OpFormat::Custom(Vec::new(alloc)), false)
 }
 
 /// Registers the operations `builtin.module`, `builtin.func`, `test.scope` and `test.nop` of the demo dialects with their formats, and
@@ -163,8 +125,8 @@ pub fn register_demo<T: IrText<A>, A: AttrText>(ctx: &mut Context<T, A>) -> Answ
     ensures kind { IfErr result (λ e. (e.kind ≡ ErrorKind.InvalidArgument) × (e.loc ≡ Unknown)) }
     ensures refused { IfErr result (λ e. RefusesOne ctx.old.dialects demo_operations e.err) }
 {
-    add_module(ctx)?;
-    add_function(ctx)?;
-    add_scope(ctx)?;
-    add_nop(ctx)
+    add(ctx, Demo::Module)?;
+    add(ctx, Demo::Function)?;
+    add(ctx, Demo::Scope)?;
+    add(ctx, Demo::Nop)
 }

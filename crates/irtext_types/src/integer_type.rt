@@ -54,7 +54,8 @@ impl fmt::Display for IntegerType {
 
 /// Reads `si`, `ui` or `i`.
 fn signedness_parse<A>(stream: &mut TextStream) -> ParseResult<Signedness, A>
-    ensures { Answers (λ s. s) (λ s v. v) (λ k. k) (unless_failed stream.old.failed (signedness_at stream.old.rest)) stream.old result stream.new }
+    ensures { Answers (λ s. s) (λ s v. v) (λ k. k)
+        (unless_failed stream.old.failed (signedness_at stream.old.rest)) stream.old result stream.new }
 {
     if stream.has_failed() {
         return Err(refuse(stream, Cause::StreamFailed));
@@ -76,7 +77,8 @@ fn signedness_parse<A>(stream: &mut TextStream) -> ParseResult<Signedness, A>
 
 /// Reads a width in decimal digits, as far as they go. One that is none is refused at its first digit.
 fn width_parse<A>(stream: &mut TextStream) -> ParseResult<Width, A>
-    ensures { Answers (λ s. s) (λ s v. v) (λ w. w) (unless_failed stream.old.failed (width_at stream.old.rest)) stream.old result stream.new }
+    ensures { Answers (λ s. s) (λ s v. v) (λ w. w)
+        (unless_failed stream.old.failed (width_at stream.old.rest)) stream.old result stream.new }
 {
     if stream.has_failed() {
         return Err(refuse(stream, Cause::StreamFailed));
@@ -101,7 +103,8 @@ fn width_if(number: Option<u64>) -> Option<Width>
 
 /// Reads an integer type: `si`, `ui` or `i`, and a width in decimal digits, with nothing between.
 pub fn integer_type_parse<A>(stream: &mut TextStream) -> ParseResult<IntegerType, A>
-    ensures { Answers (λ s. s) (λ s v. v) (λ t. t) (unless_failed stream.old.failed (integer_type_at stream.old.rest)) stream.old result stream.new }
+    ensures { Answers (λ s. s) (λ s v. v) (λ t. t)
+        (unless_failed stream.old.failed (integer_type_at stream.old.rest)) stream.old result stream.new }
 {
     let kind = signedness_parse(stream)?;
     let width = width_parse(stream);

@@ -28,7 +28,9 @@ pub trait DottedWord: Copy {
 fn unregistered<A>(stream: &mut TextStream, place: Place, refusal: &str) -> ParseFault<A>
     requires { (passed taken : List ℕ) × (passed ++ taken ≡ stream.old.passed) × StandsBehind place passed }
     ensures { (passed taken : List ℕ) → passed ++ taken ≡ stream.old.passed → StandsBehind place passed →
-        StarvesHere (λ s. s) (λ s v. v) stream.old result stream.new ⊎ FailsBehind (λ s. s) (λ s v. v) (OwnText (refusal.now ++ encode_utf8_all taken)) passed stream.old result stream.new }
+        StarvesHere (λ s. s) (λ s v. v) stream.old result stream.new ⊎
+        FailsBehind (λ s. s) (λ s v. v)
+        (OwnText (refusal.now ++ encode_utf8_all taken)) passed stream.old result stream.new }
 {
     let word = stream.text_since(place);
     match format!(in stream.allocator(); "{refusal}{word}") {
@@ -43,7 +45,9 @@ pub fn dotted_parse<W: DottedWord, A>(
     refusal: &str,
     expected: Expected,
 ) -> ParseResult<W, A>
-    ensures { Answers (λ s. s) (λ s v. v) (λ w. w) (unless_failed stream.old.failed (dotted_at W.word refusal.now (demand_of expected) stream.old.rest)) stream.old result stream.new }
+    ensures { Answers (λ s. s) (λ s v. v) (λ w. w)
+        (unless_failed stream.old.failed (dotted_at W.word refusal.now (demand_of expected) stream.old.rest))
+        stream.old result stream.new }
 {
     if stream.has_failed() {
         return Err(refuse(stream, Cause::StreamFailed));

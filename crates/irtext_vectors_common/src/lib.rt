@@ -1,4 +1,5 @@
-//! What the crates of tests share: contexts of the demo types, streams over them, what an answer says as a text, tables of such texts, formats, and locations nested deep.
+//! What the crates of tests share: contexts of the demo types, streams over them, what an answer says as a text, tables of such
+//! texts, formats, and locations nested deep.
 #![tactic(auto)]
 
 pub mod answers;

@@ -31,13 +31,26 @@ fn stands_at(graph: &Graph<u32, u32, u8>, k: Object, c: Object, index: usize) ->
     graph.get_child(k, index) == c && graph.find_index_in_parent(k, c) == index
 }
 
+/// Takes an object out with all that stands in it, where nothing outside uses what it defines, and says whether it could.
+fn erased(graph: &mut Graph<u32, u32, u8>, o: Object) -> bool {
+    if !graph.contains(o) {
+        return false;
+    }
+    graph.drop_all_uses(o);
+    if !graph.can_erase(o) {
+        return false;
+    }
+    graph.erase(o);
+    true
+}
+
 /// An operation that holds a region that holds a block that holds two operations, of which the first is taken out again.
 fn nests(graph: &mut Graph<u32, u32, u8>, alloc: Global) -> Result<bool, AllocError> {
-    let outer = graph.make_operation(1, Vec::new(alloc))?;
+    let outer = graph.make_operation(1, Vec::new(alloc), &[], &[])?;
     let region = graph.make_region()?;
     let block = graph.make_block(2, Vec::new(alloc))?;
-    let first = graph.make_operation(3, Vec::new(alloc))?;
-    let second = graph.make_operation(4, Vec::new(alloc))?;
+    let first = graph.make_operation(3, Vec::new(alloc), &[], &[])?;
+    let second = graph.make_operation(4, Vec::new(alloc), &[], &[])?;
     let module = Object::TheOperation(outer);
     let inner = Object::TheOperation(first);
     let last = Object::TheOperation(second);
@@ -59,21 +72,23 @@ fn nests(graph: &mut Graph<u32, u32, u8>, alloc: Global) -> Result<bool, AllocEr
     let closed = stands_at(graph, body, last, 0) && !stands_at(graph, body, inner, 0);
     let counted = graph.num_live() == 5 && graph.made() == 5;
     let places = second.place() == 3 && second.generation() == 1 && block.place() == 1;
-    Ok(all && listed && deep && closed && counted && places)
+    let gone = erased(graph, body) && !graph.contains(last) && graph.contains(inner);
+    let left = graph.num_live() == 3 && graph.made() == 5;
+    Ok(all && listed && deep && closed && counted && places && gone && left)
 }
 
-/// A chain of operations, regions and blocks, each in the next; the inner ones are made first.
+/// A chain of operations, regions and blocks, each in the next; the inner ones are made first. It goes with its outermost one.
 fn nests_deep(
     graph: &mut Graph<u32, u32, u8>,
     alloc: Global,
     depth: usize,
 ) -> Result<bool, AllocError> {
-    let mut inner = Object::TheOperation(graph.make_operation(0, Vec::new(alloc))?);
+    let mut inner = Object::TheOperation(graph.make_operation(0, Vec::new(alloc), &[], &[])?);
     let mut all = true;
     for _ in 0..depth {
         let block = Object::TheBlock(graph.make_block(0, Vec::new(alloc))?);
         let region = Object::TheRegion(graph.make_region()?);
-        let outer = Object::TheOperation(graph.make_operation(0, Vec::new(alloc))?);
+        let outer = Object::TheOperation(graph.make_operation(0, Vec::new(alloc), &[], &[])?);
         if let Object::TheOperation(p) = inner {
             let one = put(graph, block, Object::TheOperation(p))?;
             let two = put(graph, region, block)?;
@@ -82,7 +97,22 @@ fn nests_deep(
         }
         inner = outer;
     }
-    Ok(all)
+    Ok(all && graph.num_live() == graph.made() && erased(graph, inner))
+}
+
+/// A block with so many operations, which goes with them.
+fn holds_many(
+    graph: &mut Graph<u32, u32, u8>,
+    alloc: Global,
+    count: usize,
+) -> Result<bool, AllocError> {
+    let block = Object::TheBlock(graph.make_block(0, Vec::new(alloc))?);
+    let mut all = true;
+    for _ in 0..count {
+        let p = graph.make_operation(0, Vec::new(alloc), &[], &[])?;
+        all = put(graph, block, Object::TheOperation(p))? && all;
+    }
+    Ok(all && erased(graph, block) && graph.num_live() == 0)
 }
 
 #[test]
@@ -100,6 +130,15 @@ fn a_million_levels(rt: HostRuntime) -> Result<(), Fail> {
     let mut graph = Graph::new(alloc);
     let done = nests_deep(&mut graph, alloc, 333334).ok() == Some(true);
     assert!(rt; done);
-    assert!(rt; graph.num_live() == 1000003);
+    assert!(rt; graph.made() == 1000003 && graph.num_live() == 0);
+    Ok(())
+}
+
+#[test]
+fn a_hundred_thousand_in_one_block(rt: HostRuntime) -> Result<(), Fail> {
+    let alloc = rt.alloc();
+    let mut graph = Graph::new(alloc);
+    let done = holds_many(&mut graph, alloc, 100000).ok() == Some(true);
+    assert!(rt; done);
     Ok(())
 }

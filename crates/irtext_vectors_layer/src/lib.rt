@@ -2,10 +2,4 @@
 #![tactic(auto)]
 
 #[cfg(test)]
-mod apart;
-#[cfg(test)]
-mod dialects;
-#[cfg(test)]
-mod handed_on;
-#[cfg(test)]
-mod macros;
+mod tests;

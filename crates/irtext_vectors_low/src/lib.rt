@@ -2,24 +2,4 @@
 #![tactic(auto)]
 
 #[cfg(test)]
-mod contexts;
-#[cfg(test)]
-mod demo;
-#[cfg(test)]
-mod dictionaries;
-#[cfg(test)]
-mod edges;
-#[cfg(test)]
-mod formats;
-#[cfg(test)]
-mod lists;
-#[cfg(test)]
-mod locations;
-#[cfg(test)]
-mod nested;
-#[cfg(test)]
-mod numbers;
-#[cfg(test)]
-mod quoted;
-#[cfg(test)]
-mod streams;
+mod tests;

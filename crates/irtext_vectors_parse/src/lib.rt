@@ -2,8 +2,4 @@
 #![tactic(auto)]
 
 #[cfg(test)]
-mod location_readings;
-#[cfg(test)]
-mod markers;
-#[cfg(test)]
-mod values;
+mod tests;

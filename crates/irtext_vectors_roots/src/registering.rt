@@ -19,8 +19,15 @@ pub fn register_operation<T: IrText<A>, A: AttrText>(
     format: OpFormat,
     isolated: bool,
 ) -> Result<(), A>
-    ensures ok { OnOk result (ctx.new ≡ record ctx.old { dialects = with_dialect ctx.old.dialects name.now (with_op (dialect_or_new ctx.old.dialects name.now) id (format_of format) isolated) }) }
-    ensures err { OnErr result ((ctx.new ≡ ctx.old) ⊎ (ctx.new ≡ record ctx.old { dialects = with_dialect ctx.old.dialects name.now (dialect_or_new ctx.old.dialects name.now) })) }
+    ensures ok { OnOk result (ctx.new ≡ record ctx.old {
+      dialects = with_dialect ctx.old.dialects name.now
+          (with_op (dialect_or_new ctx.old.dialects name.now) id (format_of format) isolated);
+    }) }
+    ensures err { OnErr result ((ctx.new ≡ ctx.old) ⊎
+        (ctx.new ≡ record ctx.old {
+          dialects = with_dialect ctx.old.dialects name.now
+              (dialect_or_new ctx.old.dialects name.now);
+        })) }
 {
     let dialect = Dialect::register(ctx, name)?;
     dialect.add_op(id, format, isolated)

@@ -51,7 +51,9 @@ pub fn reads_back<T: IrText<A>, A: AttrText>()
     ensures { (formats : Id → Option Format) (width n : ℕ) (t : Tree ⊤ T A) (f : List ℕ) →
         let l = unplaced (texts_of T.reading T.written) (texts_of A.reading A.written) formats in
         Writable l t → Behind t.own.mark f →
-        (read : Tree ℕ T A) × (u : List ℕ) × reads (language (texts_of T.reading T.written) (texts_of A.reading A.written) formats) read (spelled l width n t ++ f) u
+        (read : Tree ℕ T A) × (u : List ℕ) ×
+        reads (language (texts_of T.reading T.written) (texts_of A.reading A.written) formats) read
+        (spelled l width n t ++ f) u
         × (bare read ≡ t) × (after_space u ≡ after_space f) }
 {}
 
@@ -59,7 +61,8 @@ pub fn reads_back<T: IrText<A>, A: AttrText>()
 /// and else each operand and successor holds the definition that the two passes look up.
 pub fn placeholders_are_two_passes<T, A, X>()
     ensures { (isolated : Id → Bool) (t : Tree ℕ T A) (es : List (Entry ℕ A X)) →
-        AgreesWith (failures_of isolated t es) (bound same_text [] [] (root_script isolated t es)) (read (Ok fresh_tracker) (events (root_script isolated t es))) }
+        AgreesWith (failures_of isolated t es) (bound same_text [] [] (root_script isolated t es))
+        (read (Ok fresh_tracker) (events (root_script isolated t es))) }
 {}
 
 /// The same of any part that is read by itself, as of regions under a parent.
@@ -70,16 +73,19 @@ pub fn parts_alone()
 /// A use means a definition, in a tree that a text reads as and its section, exactly where the operation that is built there has
 /// that definition as that operand or successor. Formats are accepted.
 pub fn uses_are_built<T: IrText<A>, A: AttrText, X>()
-    ensures { (formats : Id → Option Format) (isolated : Id → Bool) (first : ℕ → X) (es : List (Entry ℕ A X)) (t : Tree ℕ T A) (text rest : List ℕ) →
+    ensures { (formats : Id → Option Format) (isolated : Id → Bool) (first : ℕ → X)
+        (es : List (Entry ℕ A X)) (t : Tree ℕ T A) (text rest : List ℕ) →
         ((id : Id) (format : Format) → formats id ≡ Some format → Accepted format) →
         reads (language (texts_of T.reading T.written) (texts_of A.reading A.written) formats) t text rest →
-        (u : User) (p : Place) → In (u, p) (bound same_text [] [] (root_script isolated t es)) ↔ In (u, p) (links (build isolated first es t)) }
+        (u : User) (p : Place) → In (u, p) (bound same_text [] [] (root_script isolated t es)) ↔
+        In (u, p) (links (build isolated first es t)) }
 {}
 
 /// Where nothing is wrong with a tree that a text reads as and its section, each operand and each successor that is built holds a
 /// definition. Formats are accepted.
 pub fn operands_are_there<T: IrText<A>, A: AttrText, X>()
-    ensures { (formats : Id → Option Format) (isolated : Id → Bool) (first : ℕ → X) (es : List (Entry ℕ A X)) (t : Tree ℕ T A) (text rest : List ℕ) →
+    ensures { (formats : Id → Option Format) (isolated : Id → Bool) (first : ℕ → X)
+        (es : List (Entry ℕ A X)) (t : Tree ℕ T A) (text rest : List ℕ) →
         ((id : Id) (format : Format) → formats id ≡ Some format → Accepted format) →
         reads (language (texts_of T.reading T.written) (texts_of A.reading A.written) formats) t text rest →
         failures_of isolated t es ≡ [] → Linked (build isolated first es t) }
@@ -88,8 +94,10 @@ pub fn operands_are_there<T: IrText<A>, A: AttrText, X>()
 /// Printed names of distinct values differ, and of distinct blocks, whatever their given names and labels.
 pub fn printed_names_differ()
     ensures values { (g h : Option (List ℕ)) (m n : ℕ) → m < 2 ^ 64 → n < 2 ^ 64 → value_name g m ≡ value_name h n → m ≡ n }
-    ensures blocks { (l k : Option (List ℕ)) (b c : ℕ × ℕ) → b.0 < 2 ^ 64 → b.1 < 2 ^ 64 → c.0 < 2 ^ 64 → c.1 < 2 ^ 64 → block_name l b ≡ block_name k c → (b.0 ≡ c.0) × (b.1 ≡ c.1) }
-    ensures between { (g l : Option (List ℕ)) (n : ℕ) (b : ℕ × ℕ) → n < 2 ^ 64 → b.0 < 2 ^ 64 → b.1 < 2 ^ 64 → value_name g n ≡ block_name l b → ⊥ }
+    ensures blocks { (l k : Option (List ℕ)) (b c : ℕ × ℕ) → b.0 < 2 ^ 64 → b.1 < 2 ^ 64 → c.0 < 2 ^ 64 →
+        c.1 < 2 ^ 64 → block_name l b ≡ block_name k c → (b.0 ≡ c.0) × (b.1 ≡ c.1) }
+    ensures between { (g l : Option (List ℕ)) (n : ℕ) (b : ℕ × ℕ) → n < 2 ^ 64 → b.0 < 2 ^ 64 →
+        b.1 < 2 ^ 64 → value_name g n ≡ block_name l b → ⊥ }
 {}
 
 /// Whatever tree reads as what is written of a closed root, places aside: it resolves, and what it builds has the root's ids,
@@ -106,11 +114,15 @@ pub fn names_come_back<T, A, X>()
 /// The text of a closed root whose operations fit accepted formats reads, before whatever printed IR has behind it, as a
 /// tree that resolves, and what that tree builds has the root's ids, types, operands, successors and printed labels, place by place.
 pub fn round_trip<T: IrText<A>, A: AttrText, X>()
-    ensures { (C : Printing T A) (isolated : Id → Bool) (first : ℕ → X) (es : List (Entry ℕ A X)) (g : Graph T A) (width n : ℕ) (f : List ℕ) →
+    ensures { (C : Printing T A) (isolated : Id → Bool) (first : ℕ → X) (es : List (Entry ℕ A X))
+        (g : Graph T A) (width n : ℕ) (f : List ℕ) →
         let types = texts_of T.reading T.written in
         let owns = texts_of A.reading A.written in
-        HasIdentifiers C g → Fit C isolated g → SmallGraph C isolated g → GraphKeepsKeys g → Closed C isolated g → Behind (written C None g).own.mark f →
-        (t : Tree ℕ T A) × (u : List ℕ) × reads (language types owns C.format_of) t (spelled (unplaced types owns C.format_of) width n (written C None g) ++ f) u
+        HasIdentifiers C g → Fit C isolated g → SmallGraph C isolated g → GraphKeepsKeys g →
+        Closed C isolated g → Behind (written C None g).own.mark f →
+        (t : Tree ℕ T A) × (u : List ℕ) ×
+        reads (language types owns C.format_of) t
+        (spelled (unplaced types owns C.format_of) width n (written C None g) ++ f) u
         × (after_space u ≡ after_space f) × (bare t ≡ written C None g)
         × (failures same_text no_scope (tree_script isolated t done) ≡ []) × SameShapes (stood C isolated g) (build isolated first es t) }
 {}
@@ -120,7 +132,9 @@ pub fn root_reads_back<T: IrText<A>, A: AttrText>()
     ensures { (formats : Id → Option Format) (width n : ℕ) (t : Tree ⊤ T A) (f : List ℕ) →
         let l = unplaced (texts_of T.reading T.written) (texts_of A.reading A.written) formats in
         Writable l t → BehindRoot l t f →
-        (read : Tree ℕ T A) × (u : List ℕ) × reads (language (texts_of T.reading T.written) (texts_of A.reading A.written) formats) read (spelled l width n t ++ f) u
+        (read : Tree ℕ T A) × (u : List ℕ) ×
+        reads (language (texts_of T.reading T.written) (texts_of A.reading A.written) formats) read
+        (spelled l width n t ++ f) u
         × (bare read ≡ t) × (after_space u ≡ after_space f) }
 {}
 
@@ -138,10 +152,12 @@ pub fn root_before_section<T: IrText<A>, A: AttrText>()
 
 /// The text of a root that was printed under a limit reads as no tree where a region was left out, whatever printed IR has behind it.
 pub fn left_out_is_refused<T: IrText<A>, A: AttrText>()
-    ensures { (C : Printing T A) (isolated : Id → Bool) (g : Graph T A) (limit : Option ℕ) (width n : ℕ) (f : List ℕ) (t : Tree ℕ T A) (u : List ℕ) →
+    ensures { (C : Printing T A) (isolated : Id → Bool) (g : Graph T A) (limit : Option ℕ) (width n : ℕ)
+        (f : List ℕ) (t : Tree ℕ T A) (u : List ℕ) →
         let types = texts_of T.reading T.written in
         let owns = texts_of A.reading A.written in
-        HasIdentifiers C g → Fit C isolated g → SmallGraph C isolated g → Behind (written C limit g).own.mark f → (AllShown (written C limit g) → ⊥) →
+        HasIdentifiers C g → Fit C isolated g → SmallGraph C isolated g →
+        Behind (written C limit g).own.mark f → (AllShown (written C limit g) → ⊥) →
         reads (language types owns C.format_of) t (text (unplaced types owns C.format_of) C g n width limit ++ f) u → ⊥ }
 {}
 
@@ -150,10 +166,12 @@ pub fn left_out_is_refused<T: IrText<A>, A: AttrText>()
 /// regions is isolated; no scope defines a name twice, and each defines what is used in it; no two items have one mark; and
 /// each entry is of a mark of its own, with references to attributes that are there.
 pub fn what_resolves<T: IrText<A>, A: AttrText, X>()
-    ensures is_needed { (formats : Id → Option Format) (isolated : Id → Bool) (t : Tree ℕ T A) (es : List (Entry ℕ A X)) (source rest : List ℕ) →
+    ensures is_needed { (formats : Id → Option Format) (isolated : Id → Bool) (t : Tree ℕ T A)
+        (es : List (Entry ℕ A X)) (source rest : List ℕ) →
         reads (language (texts_of T.reading T.written) (texts_of A.reading A.written) formats) t source rest →
         failures_of isolated t es ≡ [] → Resolves isolated t es }
-    ensures is_enough { (formats : Id → Option Format) (isolated : Id → Bool) (t : Tree ℕ T A) (es : List (Entry ℕ A X)) (source rest : List ℕ) →
+    ensures is_enough { (formats : Id → Option Format) (isolated : Id → Bool) (t : Tree ℕ T A)
+        (es : List (Entry ℕ A X)) (source rest : List ℕ) →
         reads (language (texts_of T.reading T.written) (texts_of A.reading A.written) formats) t source rest →
         Resolves isolated t es → failures_of isolated t es ≡ [] }
 {}

@@ -1,9 +1,10 @@
 //! Files as sources, and whether the files of a location are among those whose paths are kept.
-ghost use Rattle.std.specs.Prelude.{◌≡◌, map, length, nat_lt, Some, IfOk, IfErr, OnOk, OnErr};
-ghost use Rattle.irtext_base.specs.Locations.{location_view, in_row, out_of_memory};
-ghost use Rattle.irtext_base.specs.Paths.{path_index, with_path, MayBeRefused, path_of, is_known, are_known, row_known};
+ghost use Rattle.std.specs.Prelude.{◌≡◌, length, nat_lt, Some, IfOk, IfErr, OnOk, OnErr};
+ghost use Rattle.irtext_base.specs.Locations.{location_view, out_of_memory};
+ghost use Rattle.irtext_base.specs.Paths.{path_index, with_path, MayBeRefused, path_of, is_known, are_known};
 
 use crate::location::paths::{HasPaths, Paths};
+use crate::location::sources::{Looks, see_sources};
 use crate::location::{Location, Source, out_of_memory};
 
 impl Source {
@@ -26,7 +27,7 @@ impl Source {
         }
     }
 
-    fn is_among(self, count: usize) -> bool
+    pub(super) fn is_among(self, count: usize) -> bool
         ensures { result ≡ is_known count self }
     {
         match self {
@@ -43,45 +44,24 @@ impl Source {
     }
 }
 
-#[cycle(known)]
-fn are_among<A>(location: &Location<A>, count: usize) -> bool
-    ensures { result ≡ are_known count (location_view location.now) }
-{
-    let mut next = location;
-    loop {
-        match next {
-            Location::SrcPos { src, .. } => return src.is_among(count),
-            Location::Fused { locations, .. } => {
-                let Some((last, others)) = locations.split_last() else {
-                    return true;
-                };
-                if !all_among(others, count) {
-                    return false;
-                }
-                next = last;
-            }
-            Location::Named { child_loc, .. } => next = child_loc,
-            Location::CallSite { callee, caller } => {
-                if !are_among(callee, count) {
-                    return false;
-                }
-                next = caller;
-            }
-            Location::Unknown => return true,
-        }
-    }
+/// Whether all sources that were looked at are in memory or among the files with so many paths.
+#[derive(Clone, Copy)]
+pub(crate) struct Among {
+    count: usize,
+    all: bool,
 }
 
-#[cycle(known)]
-fn all_among<A>(locations: &[Location<A>], count: usize) -> bool
-    ensures { result ≡ row_known count (in_row (map location_view locations.now)) }
-{
-    for location in locations {
-        if !are_among(location, count) {
-            return false;
+impl Looks for Among {
+    ghost use Rattle.irtext_base.specs.Seen.{more_among};
+
+    ghost more = { more_among };
+
+    fn with(self, source: Source) -> Among {
+        Among {
+            count: self.count,
+            all: self.all && source.is_among(self.count),
         }
     }
-    true
 }
 
 impl Paths {
@@ -90,6 +70,10 @@ impl Paths {
     pub fn contain<A>(&self, location: &Location<A>) -> bool
         ensures { result ≡ are_known (length self.now) (location_view location.now) }
     {
-        are_among(location, self.len())
+        let among = Among {
+            count: self.len(),
+            all: true,
+        };
+        see_sources(location, among).all
     }
 }

@@ -1,25 +1,27 @@
 //! Hashes of locations that agree in any two contexts: they are made from the texts of paths, and not from their keys.
-ghost use Rattle.std.specs.Prelude.{◌≡◌, ◌++◌, map, length, fold, IsTrue};
-ghost use Rattle.irtext_base.specs.Locations.{location_view, attr_view, attr_view_in, in_row};
-ghost use Rattle.irtext_base.specs.Paths.{is_known, are_known, row_known};
-ghost use Rattle.irtext_base.specs.StableHash.{source_writes, position_writes, attr_writes, metadata_writes, location_writes, row_writes, row_len};
-ghost use Rattle.std.specs.Hash as fed;
+ghost use Rattle.std.specs.Prelude.{◌≡◌, length, fold, IsTrue};
+ghost use Rattle.irtext_base.specs.Locations.{location_view, attr_view, attr_view_in};
+ghost use Rattle.irtext_base.specs.Paths.{is_known, are_known};
+ghost use Rattle.irtext_base.specs.StableHash.{source_writes, attr_writes, metadata_writes, location_writes};
 
 use crate::base::AttrObj;
 use crate::location::paths::{HasPaths, Paths};
+use crate::location::visit::{Visitor, visit};
 use crate::location::{Location, Source};
 use crate::parsable::SourcePosition;
 use crate::text::AttrText;
 use std::hash::{Hash, Hasher};
 
+/// Feeds a hasher a source. Of a file whose path is not kept it feeds no path.
 fn hash_source<H: Hasher>(source: Source, paths: &Paths, state: &mut H)
-    requires { IsTrue (is_known (length paths.now) source) }
     ensures { state.new ≡ fold H.write state.old (source_writes paths.now source) }
 {
     match source {
         Source::File(key) => {
             state.write_u8(0);
-            paths.path(key).hash(state);
+            if source.is_among(paths.len()) {
+                paths.path(key).hash(state);
+            }
         }
         Source::InMemory => state.write_u8(1),
     }
@@ -43,80 +45,45 @@ fn hash_metadata<A: AttrText, H: Hasher>(metadata: &Option<AttrObj<A>>, state: &
     }
 }
 
-fn hash_place<H: Hasher>(src: Source, pos: &SourcePosition, paths: &Paths, state: &mut H)
-    requires { IsTrue (is_known (length paths.now) src) }
-    ensures { state.new ≡ fold H.write state.old (fed.u8 0 ++ (source_writes paths.now src ++ position_writes pos.now)) }
-{
-    state.write_u8(0);
-    hash_source(src, paths, state);
-    pos.stable_hash(paths, state);
+/// What feeds a hasher each location that is visited, by the texts of these paths.
+#[derive(Drop)]
+struct Stable<'p>(&'p Paths);
+
+impl<'p, A: AttrText, H: Hasher> Visitor<A, H> for Stable<'p> {
+    ghost use Rattle.irtext_base.specs.Feeds.{hashing};
+
+    ghost visit = { λ v. hashing H.write A.hash_input v.0.now };
+
+    fn place(&self, src: Source, at: &SourcePosition, state: &mut H) {
+        state.write_u8(0);
+        hash_source(src, self.0, state);
+        at.stable_hash(self.0, state);
+    }
+
+    fn fused(&self, metadata: &Option<AttrObj<A>>, count: usize, state: &mut H) {
+        state.write_u8(1);
+        hash_metadata(metadata, state);
+        state.write_u64(count as u64);
+    }
+
+    fn named(&self, name: &str, state: &mut H) {
+        state.write_u8(2);
+        name.hash(state);
+    }
+
+    fn called(&self, state: &mut H) {
+        state.write_u8(3);
+    }
+
+    fn unknown(&self, state: &mut H) {
+        state.write_u8(4);
+    }
 }
 
-#[tactic(auto, using(crate::proofs::StableHashes::row_len_seen))]
-fn hash_count<A, H: Hasher>(locations: &[Location<A>], state: &mut H)
-    ensures { state.new ≡ fold H.write state.old (fed.u64 (row_len (in_row (map location_view locations.now)))) }
-{
-    state.write_u64(locations.len() as u64);
-}
-
-/// Feeds a hasher what stands in front of several locations: the number of their case, their metadata, and how many they are.
-fn hash_fused<A: AttrText, H: Hasher>(
-    metadata: &Option<AttrObj<A>>,
-    locations: &[Location<A>],
-    state: &mut H,
-)
-    ensures { state.new ≡ fold H.write state.old (fed.u8 1 ++
-        (metadata_writes A.hash_input (attr_view_in metadata.now) ++
-        fed.u64 (row_len (in_row (map location_view locations.now))))) }
-{
-    state.write_u8(1);
-    hash_metadata(metadata, state);
-    hash_count(locations, state);
-}
-
-#[cycle(stable)]
 fn hash_location<A: AttrText, H: Hasher>(location: &Location<A>, paths: &Paths, state: &mut H)
-    requires { IsTrue (are_known (length paths.now) (location_view location.now)) }
     ensures { state.new ≡ fold H.write state.old (location_writes A.hash_input paths.now (location_view location.now)) }
 {
-    let mut next = location;
-    loop {
-        match next {
-            Location::SrcPos { src, pos } => return hash_place(*src, pos, paths, state),
-            Location::Fused {
-                metadata,
-                locations,
-            } => {
-                hash_fused(metadata, locations, state);
-                let Some((last, others)) = locations.split_last() else {
-                    return;
-                };
-                hash_locations(others, paths, state);
-                next = last;
-            }
-            Location::Named { name, child_loc } => {
-                state.write_u8(2);
-                name.as_str().hash(state);
-                next = child_loc;
-            }
-            Location::CallSite { callee, caller } => {
-                state.write_u8(3);
-                hash_location(callee, paths, state);
-                next = caller;
-            }
-            Location::Unknown => return state.write_u8(4),
-        }
-    }
-}
-
-#[cycle(stable)]
-fn hash_locations<A: AttrText, H: Hasher>(locations: &[Location<A>], paths: &Paths, state: &mut H)
-    requires { IsTrue (row_known (length paths.now) (in_row (map location_view locations.now))) }
-    ensures { state.new ≡ fold H.write state.old (row_writes A.hash_input paths.now (in_row (map location_view locations.now))) }
-{
-    for location in locations {
-        hash_location(location, paths, state);
-    }
+    visit(location, &Stable(paths), state);
 }
 
 impl Source {

@@ -99,7 +99,8 @@ impl Source {
     ) -> crate::result::Result<Source, A>
         requires { IsTrue (is_known (length (C.paths src_ctx.now)) self.now) }
         ensures ok { IfOk result (λ s. s ≡ source_under (C.paths dst_ctx.old) (path_of (C.paths src_ctx.now) self.now)) }
-        ensures kept { OnOk result (dst_ctx.new ≡ C.with_paths dst_ctx.old (path_kept (C.paths dst_ctx.old) (path_of (C.paths src_ctx.now) self.now))) }
+        ensures kept { OnOk result (dst_ctx.new ≡
+            C.with_paths dst_ctx.old (path_kept (C.paths dst_ctx.old) (path_of (C.paths src_ctx.now) self.now))) }
         ensures err { OnErr result (dst_ctx.new ≡ dst_ctx.old) }
         ensures memory { IfErr result (λ e. e ≡ out_of_memory) }
         ensures file { OnErr result (self.now ≢ Source.InMemory) }
@@ -144,10 +145,13 @@ impl<A: AttrText> Location<A> {
         dst_ctx: &mut C,
     ) -> crate::result::Result<Location<A>, A>
         requires { IsTrue (are_known (length (C.paths src_ctx.now)) (location_view self.now)) }
-        ensures ok { IfOk result (λ l. location_view l ≡ all_under (C.paths dst_ctx.old) (written_with (C.paths src_ctx.now) (location_view self.now))) }
-        ensures kept { OnOk result (dst_ctx.new ≡ C.with_paths dst_ctx.old (all_kept (C.paths dst_ctx.old) (written_with (C.paths src_ctx.now) (location_view self.now)))) }
+        ensures ok { IfOk result (λ l. location_view l ≡
+            all_under (C.paths dst_ctx.old) (written_with (C.paths src_ctx.now) (location_view self.now))) }
+        ensures kept { OnOk result (dst_ctx.new ≡ C.with_paths dst_ctx.old
+            (all_kept (C.paths dst_ctx.old) (written_with (C.paths src_ctx.now) (location_view self.now)))) }
         ensures known { IfOk result (λ l. IsTrue (are_known (length (C.paths dst_ctx.new)) (location_view l))) }
-        ensures text { IfOk result (λ l. written_with (C.paths dst_ctx.new) (location_view l) ≡ written_with (C.paths src_ctx.now) (location_view self.now)) }
+        ensures text { IfOk result (λ l. written_with (C.paths dst_ctx.new) (location_view l) ≡
+            written_with (C.paths src_ctx.now) (location_view self.now)) }
         ensures err { OnErr result (dst_ctx.new ≡ dst_ctx.old) }
         ensures memory { IfErr result (λ e. e ≡ out_of_memory) }
         ensures free { OnErr result (is_free (written_with (C.paths src_ctx.now) (location_view self.now)) ≡ false) }

@@ -1,12 +1,16 @@
 //! The sources that a location mentions.
-ghost use Rattle.std.specs.Prelude.{◌≡◌, ◌<◌, ◌+◌, [], false, IfOk, IfErr, IsTrue, OnOk, OnErr, length, map};
+ghost use Rattle.std.specs.Prelude.{◌≡◌, ◌<◌, ◌+◌, [], false, IfOk, IfErr, IsTrue, OnOk, OnErr, length};
 ghost use Rattle.std.specs.List.{list_any};
-ghost use Rattle.irtext_base.specs.Locations.{location_view, same_source, noted, all_noted, in_row, sources, source, out_of_memory};
+ghost use Rattle.irtext_base.specs.Locations.{location_view, same_source, noted, all_noted, sources, source, out_of_memory};
 ghost use Rattle.irtext_base.specs.Waits.{wait_noted, left_noted, wait_weight, left_weight};
 ghost use Rattle.irtext_base.specs.Weights.{weight_of};
-ghost use Rattle.irtext_base.specs.Seen.{more_seen, all_seen, row_seen, one_seen};
+ghost use Rattle.irtext_base.specs.Seen.{one_seen};
+ghost use Rattle.irtext_base.specs.Visits.{visited, of_sources};
 
+use crate::base::AttrObj;
+use crate::location::visit::{Visitor, visit};
 use crate::location::{Location, Source, out_of_memory};
+use crate::parsable::SourcePosition;
 use std::alloc::{AllocError, Global};
 
 pub(super) fn is_same_source(a: Source, b: Source) -> bool
@@ -45,7 +49,8 @@ fn note_one<'a, A>(
     waits: &mut Vec<Waits<'a, A>>,
     found: &mut Vec<Source>,
 ) -> Result<(), AllocError>
-    ensures noted { OnOk result (left_noted found.new.items waits.new.items ≡ left_noted (all_noted found.old.items (location_view location.now)) waits.old.items) }
+    ensures noted { OnOk result (left_noted found.new.items waits.new.items ≡
+        left_noted (all_noted found.old.items (location_view location.now)) waits.old.items) }
     ensures less { OnOk result (left_weight waits.new.items ≡ left_weight waits.old.items + weight_of location.now) }
 {
     match location {
@@ -66,7 +71,8 @@ fn note_next<'a, A>(
     waits: &mut Vec<Waits<'a, A>>,
     found: &mut Vec<Source>,
 ) -> Result<(), AllocError>
-    ensures noted { OnOk result (left_noted found.new.items waits.new.items ≡ left_noted (wait_noted found.old.items next.entry) waits.old.items) }
+    ensures noted { OnOk result (left_noted found.new.items waits.new.items ≡
+        left_noted (wait_noted found.old.items next.entry) waits.old.items) }
     ensures less { OnOk result (left_weight waits.new.items < left_weight waits.old.items + wait_weight next.entry) }
 {
     let locations = match next {
@@ -95,6 +101,18 @@ fn note_sources<A>(
     Ok(())
 }
 
+/// What is noted of sources that are looked at one after the other.
+pub(super) trait Looks: Copy {
+    ghost use Rattle.irtext_base.specs.declared.location.Source.{Source};
+
+    // what is noted with one more source
+    ghost more: { Self → Source → Self };
+
+    /// The same with one more source.
+    fn with(self, source: Source) -> Self
+        ensures { result ≡ more self source };
+}
+
 /// How many distinct sources were seen so far.
 #[derive(Clone, Copy)]
 pub(crate) enum Seen {
@@ -103,10 +121,12 @@ pub(crate) enum Seen {
     Several,
 }
 
-impl Seen {
-    fn with(self, source: Source) -> Seen
-        ensures { result ≡ more_seen self source }
-    {
+impl Looks for Seen {
+    ghost use Rattle.irtext_base.specs.Seen.{more_seen};
+
+    ghost more = { more_seen };
+
+    fn with(self, source: Source) -> Seen {
         match self {
             Seen::Nothing => Seen::One(source),
             Seen::One(first) => {
@@ -119,7 +139,9 @@ impl Seen {
             Seen::Several => Seen::Several,
         }
     }
+}
 
+impl Seen {
     fn only(self) -> Option<Source>
         ensures { result ≡ one_seen self }
     {
@@ -130,40 +152,34 @@ impl Seen {
     }
 }
 
-#[cycle(seen)]
-fn see_sources<A>(location: &Location<A>, seen: Seen) -> Seen
-    ensures { result ≡ all_seen seen (location_view location.now) }
-{
-    let mut next = location;
-    let mut seen = seen;
-    loop {
-        match next {
-            Location::SrcPos { src, .. } => return seen.with(*src),
-            Location::Fused { locations, .. } => {
-                let Some((last, others)) = locations.split_last() else {
-                    return seen;
-                };
-                seen = see_all_sources(others, seen);
-                next = last;
-            }
-            Location::Named { child_loc, .. } => next = child_loc,
-            Location::CallSite { callee, caller } => {
-                seen = see_sources(callee, seen);
-                next = caller;
-            }
-            Location::Unknown => return seen,
-        }
+/// What looks at the sources of the locations that are visited.
+#[derive(Drop)]
+struct OfSources;
+
+impl<A, L: Looks> Visitor<A, L> for OfSources {
+    ghost use Rattle.irtext_base.specs.Visits.{of_sources};
+
+    ghost visit = { λ _. of_sources L.more };
+
+    fn place(&self, src: Source, _: &SourcePosition, state: &mut L) {
+        *state = state.with(src);
     }
+
+    fn fused(&self, _: &Option<AttrObj<A>>, _: usize, _: &mut L) {}
+
+    fn named(&self, _: &str, _: &mut L) {}
+
+    fn called(&self, _: &mut L) {}
+
+    fn unknown(&self, _: &mut L) {}
 }
 
-#[cycle(seen)]
-fn see_all_sources<A>(locations: &[Location<A>], seen: Seen) -> Seen
-    ensures { result ≡ row_seen seen (in_row (map location_view locations.now)) }
+/// What was noted of all sources once those of a location are looked at.
+pub(super) fn see_sources<A, L: Looks>(location: &Location<A>, seen: L) -> L
+    ensures { result ≡ visited (of_sources L.more) seen (location_view location.now) }
 {
     let mut seen = seen;
-    for location in locations {
-        seen = see_sources(location, seen);
-    }
+    visit(location, &OfSources, &mut seen);
     seen
 }
 

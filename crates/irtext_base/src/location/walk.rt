@@ -1,7 +1,8 @@
 //! Copies of locations with other sources, whatever their nesting: what is open waits on a stack.
 ghost use Rattle.std.specs.Prelude.{◌≡◌, ◌+◌, ◌<◌, IfOk, OnOk, OnErr, IsTrue};
 ghost use Rattle.irtext_base.specs.Locations.{location_view};
-ghost use Rattle.irtext_base.specs.Walks.{Reached, Continues, Opens, Copies, taken, row_rest, closing, row_turns, frame_turns, stack_turns, turns, work};
+ghost use Rattle.irtext_base.specs.Walks.{Reached, Continues, Opens, Copies, taken, row_rest, closing};
+ghost use Rattle.irtext_base.specs.Walks.{row_turns, frame_turns, stack_turns, turns, work};
 
 use crate::base::AttrObj;
 use crate::location::made::{call_site, fused, named};

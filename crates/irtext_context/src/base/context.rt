@@ -46,7 +46,13 @@ impl<T, A> Model for Context<T, A> {
 impl<T: IrText<A>, A: AttrText> Context<T, A> {
     /// A context without objects and dialects. It takes no memory yet.
     pub fn new(alloc: Global) -> Context<T, A>
-        ensures { result ≡ record { made = 0; paths = []; dialects = []; operations = record { cells = []; free = None }; regions = record { cells = []; free = None } } }
+        ensures { result ≡ record {
+          made = 0;
+          paths = [];
+          dialects = [];
+          operations = record { cells = []; free = None };
+          regions = record { cells = []; free = None };
+        } }
     {
         Context {
             operations: Arena::new(alloc),

@@ -3,7 +3,8 @@ ghost use Rattle.std.specs.Prelude.{◌≡◌, ◌<◌, ◌≤◌, ℕ, Some, No
 ghost use Rattle.irtext_dict.specs.Dictionary.{is_reserved_for, RefusesEntry};
 ghost use Rattle.irtext_context.specs.Arena as arena;
 ghost use Rattle.irtext_context.specs.Room.{HasRoom};
-ghost use Rattle.irtext_context.specs.Context.{store_of, operation_of, with_region, with_attribute, Edits, operation, regions_in, before, EditsOperation, KeepsOlder};
+ghost use Rattle.irtext_context.specs.Context.{store_of, operation_of, with_region, with_attribute, Edits};
+ghost use Rattle.irtext_context.specs.Context.{operation, regions_in, before, EditsOperation, KeepsOlder};
 
 mod make;
 
@@ -68,7 +69,8 @@ fn put_attribute<T: Drop, A: Drop>(
     attr: AttrObj<A>,
 ) -> Result<(), Refusal>
     requires { IsSome (arena.get operations.old op) }
-    ensures edits { OnOk result (Edits (store_of operation_of operations.old) (store_of operation_of operations.new) op (with_attribute key attr)) }
+    ensures edits { OnOk result (Edits (store_of operation_of operations.old)
+        (store_of operation_of operations.new) op (with_attribute key attr)) }
     ensures allowed { OnOk result (is_reserved_for key attr ≡ false) }
     ensures same { OnErr result (store_of operation_of operations.new ≡ store_of operation_of operations.old) }
     ensures refused { IfErr result (RefusesEntry key attr) }

@@ -1,8 +1,9 @@
 //! The eight conditions under which directives read uniquely, in the order in which they are asked.
 ghost use Rattle.std.specs.Prelude.{◌≡◌, ◌&&◌, ◌||◌, not, nat_lt, length, MatchResult};
 ghost use Rattle.std.specs.List.{list_all};
-ghost use Rattle.irtext_context.specs.Directives.{directives_of, places_of, condition_number};
-ghost use Rattle.irtext_base.specs.Format.{c1, c2, c3, c4, c5, c6, c7, c8, are_places, ascend, custom, first_fault, distinct, same_text, has, keys, count, is_dictionary, is_header, given_names_key, sym_name_key};
+ghost use Rattle.irtext_context.specs.Directives.{directives_of, places_of, condition_number, free_keys};
+ghost use Rattle.irtext_base.specs.Format.{c1, c2, c3, c4, c5, c6, c7, c8, are_places, ascend, custom, first_fault};
+ghost use Rattle.irtext_base.specs.Format.{same_text, has, keys, count, is_dictionary, is_header, sym_name_key};
 
 use crate::format::parts::{Part, Sole};
 use crate::format::{parts, rules};
@@ -16,7 +17,8 @@ fn c1(directives: &[Directive]) -> bool
 
 /// Whether the places of one kind are below their number.
 fn below_their_number(part: Part, directives: &[Directive]) -> bool
-    ensures { result ≡ list_all (λ k. nat_lt k (length (places_of part (directives_of directives.now)))) (places_of part (directives_of directives.now)) }
+    ensures { result ≡ list_all (λ k. nat_lt k (length (places_of part (directives_of directives.now))))
+        (places_of part (directives_of directives.now)) }
 {
     parts::all_below(part, parts::count_places(part, directives), directives)
 }
@@ -74,14 +76,14 @@ fn c5(directives: &[Directive]) -> bool
 
 /// Whether no key is named twice or is the one of given names.
 fn keys_are_free(directives: &[Directive]) -> bool
-    ensures { result ≡ (distinct same_text (keys (directives_of directives.now)) && not (has same_text given_names_key (keys (directives_of directives.now)))) }
+    ensures { result ≡ free_keys (directives_of directives.now) }
 {
     rules::keys_differ(directives) && !parts::has_key("builtin_given_names", directives)
 }
 
 /// The same, and whether there is one dictionary and one header at most.
 fn entries_stand_once(directives: &[Directive]) -> bool
-    ensures { result ≡ (distinct same_text (keys (directives_of directives.now)) && not (has same_text given_names_key (keys (directives_of directives.now)))
+    ensures { result ≡ (free_keys (directives_of directives.now)
         && nat_lt (count is_dictionary (directives_of directives.now)) 2 && nat_lt (count is_header (directives_of directives.now)) 2) }
 {
     keys_are_free(directives)
@@ -91,7 +93,8 @@ fn entries_stand_once(directives: &[Directive]) -> bool
 
 /// Whether the symbol's name has a directive of its own only where there is no header.
 fn name_stands_once(directives: &[Directive]) -> bool
-    ensures { result ≡ (not (nat_lt 0 (count is_header (directives_of directives.now))) || not (has same_text sym_name_key (keys (directives_of directives.now)))) }
+    ensures { result ≡ (not (nat_lt 0 (count is_header (directives_of directives.now)))
+        || not (has same_text sym_name_key (keys (directives_of directives.now)))) }
 {
     let has_header = 0 < parts::count_sole(Sole::Header, directives);
     !has_header || !parts::has_key("builtin_sym_name", directives)
@@ -117,7 +120,8 @@ fn c8(directives: &[Directive]) -> bool
 
 /// The first condition that directives fail, if there is one.
 pub(crate) fn check(directives: &[Directive]) -> Result<(), FormatFault>
-    ensures { MatchResult result (λ _. first_fault (custom (directives_of directives.now)) ≡ 0) (λ fault. first_fault (custom (directives_of directives.now)) ≡ condition_number fault) }
+    ensures { MatchResult result (λ _. first_fault (custom (directives_of directives.now)) ≡ 0)
+        (λ fault. first_fault (custom (directives_of directives.now)) ≡ condition_number fault) }
 {
     if !c1(directives) {
         return Err(FormatFault::C1);

@@ -1,7 +1,8 @@
 //! What is asked of a directive and of those behind it.
 ghost use Rattle.std.specs.Prelude.{◌≡◌, ◌==◌, not};
 ghost use Rattle.std.specs.List.{list_all};
-ghost use Rattle.irtext_context.specs.Directives.{directive_of, directives_of, place_of, places_of, key_of, again, keeps, all_keep, is_region, is_named};
+ghost use Rattle.irtext_context.specs.Directives.{directive_of, directives_of, place_of, places_of, key_of};
+ghost use Rattle.irtext_context.specs.Directives.{again, keeps, all_keep, is_region, is_named};
 ghost use Rattle.irtext_base.specs.Format.{same_text, keys, distinct, none_behind, is_regions, is_any_region, c8};
 
 use crate::format::parts::{Part, Sole};

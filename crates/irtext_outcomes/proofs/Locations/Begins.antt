@@ -1,15 +1,18 @@
 -- Where a location begins, its reader is one that its first character names; elsewhere there is none.
-use Rattle.std.proofs.Common.{◌≡◌, ◌∙◌, ap, refl, sym, ℕ, zero, suc, ◌≤◌, Bool, true, false, cond, ◌||◌, Option, Some, None, List, [], ◌∷◌, length, codes, arith, true≢false}
+use Rattle.std.proofs.Common.{◌≡◌, ◌∙◌, ap, refl, sym, subst, ℕ, zero, suc, ◌≤◌, Bool, true, false, cond, ◌||◌, Option, Some, None, Result, List, [], ◌∷◌, length, codes, arith, true≢false}
 use Rattle.std.specs.Str.{encode_utf8_all}
 use Rattle.irtext_base.specs.Text.{Text, begins}
 use Rattle.irtext_base.specs.Reading.{the}
-use Rattle.irtext_base.specs.Stream.{first_of}
+use Rattle.irtext_base.specs.Stream.{StreamView, first_of}
 use Rattle.irtext_base.specs.Faults.{Unexpected, ASource, ALocation, Word}
-use Rattle.irtext_base.specs.Answers.{Outcome, Read, Missing, Bad, prefixed, mapped, followed}
+use Rattle.irtext_base.specs.Answers.{Outcome, Read, Missing, Bad, Answers, demanded, prefixed, mapped, followed, unless_failed}
 use Rattle.irtext_base.specs.Locations.{AttrView, unknown}
 use Rattle.irtext_base.specs.Paths.{Written}
+use Rattle.irtext_base.specs.declared.parsable.fault.ParseFault.{ParseFault}
+use Rattle.irtext_read.specs.MustRead.{MustRead, MayRead}
 use Rattle.irtext_read.specs.Tokens.{text_at, spelled_at}
 use Rattle.irtext_read.specs.QuotedTexts.{quoted_at, units_at}
+use Rattle.irtext_outcomes.specs.Readers.Streams.{itself, replaced}
 use Rattle.irtext_outcomes.specs.Readers.Locations.{begins_source, begins_location, bytes_at, path_at, source_at, place_at, name_at, WrittenRow, fused_at, named_at, call_site_at, kind_at, location_within, more_within}
 
 -- nothing of its kind stands there
@@ -144,3 +147,14 @@ module _ {A : Type 0} (attr : Text → Outcome (AttrView A)) where
   one_begins zero [] small h = absurd (true≢false (sym h))
   one_begins zero (c ∷ text) small h = absurd (omega (arith, small))
   one_begins (suc depth) text small h = kind_begins (location_within attr depth) (more_within attr depth) attr text h
+
+-- what is not missing is what is demanded
+as_it_is : {X : Type 0} (b : Bool) (o : Outcome X) → is_missing o ≡ false → demanded (unless_failed b o) ≡ unless_failed b o
+as_it_is true o e = refl
+as_it_is false (Read x t r) e = refl
+as_it_is false (Missing cause) e = absurd (true≢false e)
+as_it_is false (Bad cause upto) e = refl
+
+-- where it is not missing, what may stand there answers as what must
+pub may_of_must : {X Y A : Type 0} {see : Y → X} {f : Text → Outcome X} {old new : StreamView} {r : Result Y (ParseFault A)} → is_missing (f old.rest) ≡ false → MustRead itself replaced see f old r new → MayRead itself replaced see f old r new
+may_of_must {see = see} {f = f} {old = old} {new = new} {r = r} e h = record { answers = subst (λ o. Answers itself replaced see o old r new) (as_it_is old.failed (f old.rest) e) h.answers }

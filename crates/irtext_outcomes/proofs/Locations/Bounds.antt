@@ -1,18 +1,23 @@
 -- A bound on the nesting of a location that its text meets changes nothing.
-use Rattle.std.proofs.Common.{◌≡◌, ℕ, zero, suc, ◌≤◌, cond, Option, [], ◌∷◌, length, refl, ◌∙◌, ap, ap₂, arith}
+use Rattle.std.proofs.Common.{◌≡◌, ℕ, zero, suc, ◌≤◌, cond, Option, Result, List, [], ◌∷◌, length, refl, ◌∙◌, ap, ap₂, arith}
 use Rattle.std.proofs.Math.Nat.{le_refl}
 use Rattle.std.specs.Prelude.{codes}
 use Rattle.std.specs.Char.{is_whitespace}
 use Rattle.irtext_base.specs.Text.{Text, begins, after_space, front}
 use Rattle.irtext_base.specs.Reading.{the}
+use Rattle.irtext_base.specs.Stream.{StreamView}
 use Rattle.irtext_base.specs.Answers.{Outcome, Read, Missing, Bad, followed, prefixed, mapped}
 use Rattle.irtext_base.specs.Locations.{AttrView, fused, call_site, no_location, location}
 use Rattle.irtext_base.specs.Paths.{Written}
+use Rattle.irtext_base.specs.declared.location.Location.{Location}
+use Rattle.irtext_base.specs.declared.parsable.fault.ParseFault.{ParseFault}
 use Rattle.irtext_read.specs.Tokens.{text_at}
 use Rattle.irtext_read.proofs.Honest.{honest_word, honest_spaced}
 use Rattle.irtext_outcomes.specs.Readers.RestLengths.{Leaves, LeavesNoMore}
 use Rattle.irtext_outcomes.specs.Readers.Positions.{space_at, spaced_at}
-use Rattle.irtext_outcomes.specs.Readers.Locations.{WrittenRow, begins_source, behind_location, row_of, row_at, more_at, fused_at, named_at, call_site_at, kind_at, location_within, more_within}
+use Rattle.irtext_grammar.specs.Contexts.Held.{location_over}
+use Rattle.irtext_outcomes.specs.Readers.NewPaths.{MustReadOver, MustReadWithin, known_location}
+use Rattle.irtext_outcomes.specs.Readers.Locations.{WrittenRow, begins_source, behind_location, row_of, row_at, more_at, fused_at, named_at, call_site_at, kind_at, location_within, more_within, location_at}
 use Rattle.irtext_outcomes.proofs.Readers.Honest.{honest_title}
 use Rattle.irtext_outcomes.proofs.Locations.RestLengths.{Within, leaves_honest, leaves_followed, followed_same, first_same, leaves_word, space_bound}
 use Rattle.irtext_outcomes.proofs.Locations.LocationRests.{within_metadata, within_location}
@@ -89,3 +94,8 @@ module _ {A : Type 0} (attr : Text → Outcome (AttrView A)) (no_more : LeavesNo
   -- bounds that a text meets make no difference
   pub within_enough : (m n : ℕ) (text : Text) → length text ≤ m → length text ≤ n → Same m n text
   within_enough m n text h k = same_within (length text) m n text h k (le_refl (length text))
+
+-- what was read at every depth that is enough is read at the depth of the text's length
+pub at_length : {A : Type 0} (attr : Text → Outcome (AttrView A)) {paths : List (List ℕ)} {old new : StreamView} {r : Result (Location A) (ParseFault A)} → MustReadWithin known_location location_over (location_within attr) paths old r new
+    → MustReadOver known_location location_over (location_at attr) paths old r new
+at_length attr {old = old} h = let m = h.within (length old.rest) (omega arith) in record { known = m.known; read = record { answers = m.read.answers } }

@@ -1,5 +1,5 @@
 -- What a reader has found that answered, and why one refused that did not.
-use Rattle.std.proofs.Common.{◌≡◌, Bool, true, false, Ok, Err, [], ◌++◌, refl, sym, ◌∙◌, ap, subst, ◌⊎◌, inl, inr, append-nil, append_assoc, true≢false}
+use Rattle.std.proofs.Common.{◌≡◌, ◌≤◌, Bool, true, false, Ok, Err, [], ◌++◌, refl, sym, ◌∙◌, ap, subst, ◌⊎◌, inl, inr, append-nil, append_assoc, true≢false, length, length-append, arith}
 use Rattle.irtext_base.specs.Text.{Text}
 use Rattle.irtext_base.specs.Stream.{StreamView, IsAt}
 use Rattle.irtext_base.specs.Faults.{Fault, fault_of}
@@ -140,3 +140,11 @@ pub moves_taken : {old new : StreamView} (taken rest : Text) → Takes itself re
 moves_taken {old = old} {new = new} taken rest k =
     let left : new.rest ≡ rest = ap (λ v. v.rest) k.is in
     record { taken = taken; takes = subst (λ r. Takes itself replaced taken r old new) (sym left) k }
+
+-- what is left is no longer
+left_of : (t r w : Text) → t ++ r ≡ w → length r ≤ length w
+left_of t r w e = omega (arith, length-append t r, ap length e)
+
+-- a reader leaves no more than stood there
+pub no_longer : {X Y A : Type 0} {see : Y → X} {f : Text → Outcome X} {old new : StreamView} {y : Y} → MustRead {A = A} itself replaced see f old (Ok y) new → length new.rest ≤ length old.rest
+no_longer {old = old} {new = new} h = let a = answered h in left_of a.taken new.rest old.rest a.takes.same

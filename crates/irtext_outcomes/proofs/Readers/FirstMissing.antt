@@ -13,7 +13,7 @@ use Rattle.irtext_read.specs.Tokens.{id_at}
 use Rattle.irtext_base.proofs.Sincere.{Of}
 use Rattle.irtext_read.proofs.Honest.{honest_id}
 use Rattle.irtext_outcomes.specs.Readers.Parts.{lead_of, behind_lead, behind}
-use Rattle.irtext_outcomes.specs.Readers.Operations.{ReadOp, registered_behind, led_id_at}
+use Rattle.irtext_outcomes.specs.Readers.Operations.{registered_behind, led_id_at}
 use Rattle.irtext_outcomes.specs.Promises.Operation.{operation_at}
 
 -- the cause of what is missing is one of a text of which nothing was taken

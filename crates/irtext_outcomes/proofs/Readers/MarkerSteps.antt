@@ -1,12 +1,17 @@
 -- A fixed text that is taken whole or not at all, and what stands where it isn't whole.
-use Rattle.std.proofs.Common.{◌≡◌, ℕ, Bool, true, false, cond, MatchBool, [], ◌∷◌, ◌++◌, refl, sym, ◌∙◌, ap, subst, arith}
+use Rattle.std.proofs.Common.{◌≡◌, ℕ, Bool, true, false, cond, MatchBool, [], ◌∷◌, ◌++◌, refl, sym, ◌∙◌, ap, append_assoc, arith}
 use Rattle.std.specs.Char.{is_whitespace}
 use Rattle.std.proofs.lemmas.Bool.Decides.{nat_tests}
-use Rattle.irtext_base.specs.Text.{Text, front, after_space}
+use Rattle.irtext_base.specs.Text.{Text, begins, front, after_space}
 use Rattle.irtext_base.specs.Reading.{the}
 use Rattle.irtext_base.specs.Stream.{StreamView, behind}
-use Rattle.irtext_base.specs.Answers.{Takes, Stands}
-use Rattle.irtext_base.proofs.Compose.{seen_after, stands_after, takes_none, takes_stands}
+use Rattle.irtext_base.specs.Answers.{Takes}
+use Rattle.irtext_base.proofs.Along.{front_after}
+use Rattle.irtext_base.proofs.Compose.{seen_after}
+use Rattle.irtext_stream.specs.Text.{BeginsOtherwise}
+use Rattle.irtext_stream.specs.Classes.{behind_space}
+use Rattle.irtext_stream.specs.Stream.{Comes}
+use Rattle.irtext_read.specs.Lists.{HandsOn, Skips}
 use Rattle.irtext_outcomes.specs.Readers.Marker.{starts_with, TakesWord}
 
 same_the : (c d : ℕ) → the c d ≡ true → d ≡ c
@@ -34,45 +39,52 @@ starts_not : (word text : Text) → ((rest : Text) → text ≡ word ++ rest →
 starts_not word text h =
     elim (starts_with word text) as (λ b. starts_with word text ≡ b → b ≡ false) [ true ↦ (λ e. let r = starts_rest word text e in absurd (h r.0 r.1)) | false ↦ (λ e. refl) ] refl
 
+-- whether a character was accepted says whether it came next
+pub character_accepted : (c : ℕ) (old new : StreamView) (b : Bool) → MatchBool b (Comes (c ∷ []) old (λ v. new ≡ v)) (BeginsOtherwise (c ∷ []) old.rest × (new ≡ old)) → begins (the c) old.rest ≡ b
+character_accepted c old new true h = ap (begins (the c)) h.1 ∙ the-same c
+character_accepted c old new false h = go old.rest h.0
+  where
+    go : (text : Text) → BeginsOtherwise (c ∷ []) text → begins (the c) text ≡ false
+    go [] f = refl
+    go (d ∷ text) f =
+        elim (the c d) as (λ b. the c d ≡ b → b ≡ false) [ true ↦ (λ e. absurd (f text (ap (λ z. z ∷ text) (same_the c d e)))) | false ↦ (λ e. refl) ] refl
+
 module _ {S : Type 0} (view : S → StreamView) (at : S → StreamView → S) where
   module _ (view_at : (s : S) (v : StreamView) → view (at s v) ≡ v) (at_view : (s : S) → at s (view s) ≡ s) (at_at : (s : S) (v w : StreamView) → at (at s v) w ≡ at s w) where
-    -- the word was accepted, or the stream stays
-    pub word_accepted : (word : Text) (old new : S) (b : Bool) → MatchBool b ((rest : Text) × ((view old).rest ≡ word ++ rest) × (new ≡ at old (behind (view old) word rest))) (((rest : Text) → (view old).rest ≡ word ++ rest → ⊥) × (new ≡ old)) → TakesWord view at word old b new
+    -- the word was accepted behind white space, or the stream stays
+    pub word_accepted : (word : Text) (old new : S) (b : Bool) → MatchBool b (Comes word (behind_space (view old)) (λ v. new ≡ at old v)) (BeginsOtherwise word (behind_space (view old)).rest × (new ≡ old)) → TakesWord view at word old b new
     word_accepted word old new true h =
-        let k : Takes view at word h.0 old new = record { is = h.2; same = sym h.1 } in
-        let r : (view new).rest ≡ h.0 = ap (λ v. v.rest) (seen_after view at view_at at_at old new word h.0 k) in
-        record { tells = sym (ap (starts_with word) h.1 ∙ starts_whole word h.0); left = rw r k }
-    word_accepted word old new false h =
-        let stays : Stands view at (view old).failed old old = takes_stands view at view_at at_at old old [] (view old).rest (takes_none view at view_at at_at at_view old) in
-        record { tells = sym (starts_not word (view old).rest h.0); left = rw h.1 stays }
+        let v = behind_space (view old) in
+        let mid = at old v in
+        let seen = view_at old v in
+        let there : new ≡ at mid (behind (view mid) word h.0) = h.2 ∙ (sym (at_at old v (behind v word h.0)) ∙ ap (λ w. at mid (behind w word h.0)) (sym seen)) in
+        let k : Takes view at word h.0 mid new = record { is = there; same = sym h.1 ∙ sym (ap (λ w. w.rest) seen) } in
+        let r : (view new).rest ≡ h.0 = ap (λ v. v.rest) (seen_after view at view_at at_at mid new word h.0 k) in
+        record { tells = sym (ap (starts_with word) h.1 ∙ starts_whole word h.0); left = (mid, refl, rw r k) }
+    word_accepted word old new false h = record { tells = sym (starts_not word (after_space (view old).rest) h.0); left = h.1 }
 
-    -- the stream set back to where it stood
-    pub set_back : (old mid u : S) → Stands view at (view old).failed old mid → u ≡ at mid (let v : StreamView = record { passed = (view old).passed; rest = (view old).rest; failed = (view mid).failed } in v) → u ≡ old
-    set_back old mid u k e =
-        let f : (view mid).failed ≡ (view old).failed = ap (λ z. (view z).failed) k.is ∙ (ap (λ w. w.failed) (view_at old k.seen) ∙ k.fails) in
-        e ∙ (ap (λ (b : Bool). at mid (let v : StreamView = record { passed = (view old).passed; rest = (view old).rest; failed = b } in v)) f
-        ∙ (ap (λ z. at z (view old)) k.is ∙ (at_at old k.seen (view old) ∙ at_view old)))
-
-    -- the stream is somewhere in the text where it stood
-    pub set_within : (old mid : S) → Stands view at (view old).failed old mid → (view old).passed ++ (view old).rest ≡ (view mid).passed ++ (view mid).rest
-    set_within old mid k =
-        let v : view mid ≡ k.seen = ap view k.is ∙ view_at old k.seen in
-        sym (ap (λ w. w.passed ++ w.rest) v ∙ k.same)
-
-    -- behind white space the word doesn't stand whole
-    pub marker_none : (word : Text) (old mid new : S) (b : Bool) → Takes view at (front is_whitespace (view old).rest) (after_space (view old).rest) old mid → TakesWord view at word mid b new → b ≡ false → starts_with word (after_space (view old).rest) ≡ false
-    marker_none word old mid new b k w e =
-        let v : view mid ≡ behind (view old) (front is_whitespace (view old).rest) (after_space (view old).rest) = seen_after view at view_at at_at old mid _ _ k in
-        sym (ap (λ z. starts_with word z.rest) v) ∙ (sym w.tells ∙ e)
-
-    -- and the stream stands somewhere in the text
-    pub marker_left : (word : Text) (old mid new : S) (b : Bool) → Takes view at (front is_whitespace (view old).rest) (after_space (view old).rest) old mid → TakesWord view at word mid b new → b ≡ false → Stands view at (view old).failed old new
-    marker_left word old mid new true k w e = absurd (cc)
-    marker_left word old mid new false k w e =
-        let v : view mid ≡ behind (view old) (front is_whitespace (view old).rest) (after_space (view old).rest) = seen_after view at view_at at_at old mid _ _ k in
-        stands_after view at view_at at_at (view old).failed old mid new _ _ k (subst (λ z. Stands view at z mid new) (ap (λ z. z.failed) v) w.left)
+    -- behind white space the word doesn't stand whole, and the stream stays
+    pub marker_none : (word : Text) (old new : S) (b : Bool) → TakesWord view at word old b new → b ≡ false → (starts_with word (after_space (view old).rest) ≡ false) × (new ≡ old)
+    marker_none word old new true w e = absurd (cc)
+    marker_none word old new false w e = (sym w.tells, w.left)
 
     -- the word stands whole, and was taken
-    pub marker_whole : (word : Text) (mid new : S) (b : Bool) → TakesWord view at word mid b new → b ≡ true → (starts_with word (view mid).rest ≡ true) × Takes view at word (view new).rest mid new
-    marker_whole word mid new true w e = (sym w.tells, w.left)
-    marker_whole word mid new false w e = absurd (cc)
+    pub marker_whole : (word : Text) (old new : S) (b : Bool) → TakesWord view at word old b new → b ≡ true
+        → (mid : S) × Skips view at old mid × (starts_with word (view mid).rest ≡ true) × Takes view at word (view new).rest mid new
+    marker_whole word old new true w e =
+        let k = w.left in
+        (k.0, k.1, ap (λ z. starts_with word (view z).rest) k.1 ∙ (ap (λ v. starts_with word v.rest) (view_at old (behind_space (view old))) ∙ sym w.tells), k.2)
+    marker_whole word old new false w e = absurd (cc)
+
+    -- white space and the word were taken, and nothing else changed
+    pub marker_hands : (word : Text) (old mid new : S) → Skips view at old mid → Takes view at word (view new).rest mid new → HandsOn view at old new
+    marker_hands word old mid new k t =
+        let space = front is_whitespace (view old).rest in
+        let seen : view mid ≡ behind_space (view old) = ap view k ∙ view_at old (behind_space (view old)) in
+        let then_seen : view new ≡ behind (view mid) word (view new).rest = seen_after view at view_at at_at mid new word (view new).rest t in
+        record {
+          taken = space ++ word;
+          same = append_assoc space word (view new).rest ∙ (ap (λ z. space ++ z) (t.same ∙ ap (λ v. v.rest) seen) ∙ front_after is_whitespace (view old).rest);
+          passed = ap (λ v. v.passed) then_seen ∙ (ap (λ v. v.passed ++ word) seen ∙ append_assoc (view old).passed space word);
+          fails = ap (λ v. v.failed) then_seen ∙ ap (λ v. v.failed) seen;
+        }

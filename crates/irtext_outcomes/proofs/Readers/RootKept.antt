@@ -1,5 +1,5 @@
 -- What is older than a root's reading stands as it did, where the root is read on a fresh state.
-use Rattle.std.proofs.Common.{◌≡◌, ℕ, ◌≤◌, Bool, true, false, cond, ◌&&◌, List, Option, Some, None, [], ◌∷◌, refl, sym, ◌∙◌, ap, subst, is_some, ◌==◌}
+use Rattle.std.proofs.Common.{◌≡◌, ℕ, Bool, true, false, cond, ◌&&◌, List, Option, Some, None, [], ◌∷◌, refl, sym, ◌∙◌, ap, subst, is_some, ◌==◌}
 use Rattle.std.specs.Map.{lookup}
 use Rattle.irtext_base.specs.Text.{Text}
 use Rattle.irtext_base.specs.Answers.{Outcome}
@@ -15,7 +15,6 @@ use Rattle.irtext_state.specs.States.{marks_of, same_index}
 use Rattle.irtext_state.specs.declared.parsable.state.StateStream.{StateStream}
 use Rattle.irtext_outcomes.specs.Readers.Marks.{noted}
 use Rattle.irtext_outcomes.specs.Promises.Root.{IsFresh}
-use Rattle.irtext_outcomes.specs.Promises.Operation.{ReadsOperation}
 use Rattle.irtext_outcomes.specs.Promises.Section.{is_noted, Applies, AppliesAll, ReadsSection, ReadsWith}
 use Rattle.irtext_outcomes.proofs.Readers.NewPaths.{adds_kept}
 use Rattle.irtext_outcomes.proofs.Readers.RootSteps.{tree_there, marks_are}

@@ -1,5 +1,5 @@
 -- A whole text read: a root, and what stands behind it.
-use Rattle.std.proofs.Common.{◌≡◌, ℕ, Bool, true, false, Option, Some, None, [], ◌∷◌, ◌++◌, refl, sym, ◌∙◌, ap, subst, inl, inr, append-nil, is_some, true≢false}
+use Rattle.std.proofs.Common.{◌≡◌, ℕ, true, false, Option, [], ◌∷◌, refl, sym, ◌∙◌, ap, subst, inl, inr, append-nil, is_some, true≢false}
 use Rattle.std.specs.Char.{is_whitespace}
 use Rattle.irtext_base.specs.Text.{Text, front, after_space}
 use Rattle.irtext_base.specs.Own.{Texts}

@@ -3,7 +3,7 @@ use Rattle.std.specs.Prelude.{◌≡◌, Bool, true, false, cond, Option, Some, 
 use Rattle.irtext_base.specs.Text.{Text, after_space}
 use Rattle.irtext_base.specs.Reading.{the}
 use Rattle.irtext_base.specs.Stream.{StreamView}
-use Rattle.irtext_base.specs.Answers.{Takes, Stands}
+use Rattle.irtext_base.specs.Answers.{Takes}
 use Rattle.irtext_base.specs.declared.parsable.fault.ParseFault.{ParseFault}
 use Rattle.irtext_read.specs.Lists.{Skips}
 
@@ -18,14 +18,14 @@ starts_with (c ∷ word) [] = false
 starts_with (c ∷ word) (d ∷ text) = cond (the c d) (starts_with word text) false
 
 module _ {S : Type 0} (view : S → StreamView) (at : S → StreamView → S) where
-  -- the word was taken, or the stream stands somewhere in the same text
+  -- white space and the word were taken, or the stream stays
   abbrev pub TakesOr : Bool → Text → S → S → Type 0
-  TakesOr true word old new = Takes view at word (view new).rest old new
-  TakesOr false word old new = Stands view at (view old).failed old new
+  TakesOr true word old new = (mid : S) × Skips view at old mid × Takes view at word (view new).rest mid new
+  TakesOr false word old new = new ≡ old
 
-  -- whether the word stands there; where it does, it was taken
+  -- whether the word stands behind white space; where it does, both were taken
   pub record TakesWord (word : Text) (old : S) (result : Bool) (new : S) : Type 0 where
-    pub tells : result ≡ starts_with word (view old).rest
+    pub tells : result ≡ starts_with word (after_space (view old).rest)
     pub left : TakesOr result word old new
 
   module _ {F X A : Type 0} (calls : F → S → Result X (ParseFault A) → F → S → Type 0) where

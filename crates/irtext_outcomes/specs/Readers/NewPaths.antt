@@ -1,5 +1,5 @@
 -- For callers: what reading a location does to the context: it may keep more paths.
-use Rattle.std.specs.Prelude.{◌≡◌, ℕ, suc, ◌≤◌, Bool, Option, Result, Ok, Err, List, IfOk, IsTrue, length, map, Vec, [], ◌∷◌, ◌++◌}
+use Rattle.std.specs.Prelude.{◌≡◌, ℕ, ◌≤◌, Bool, Result, Ok, Err, List, IfOk, IsTrue, length, Vec, [], ◌∷◌, ◌++◌}
 use Rattle.std.specs.Global.{Global}
 use Rattle.std.specs.declared.alloc.AllocError.{AllocError}
 use Rattle.std.specs.Char.{is_whitespace}
@@ -7,8 +7,8 @@ use Rattle.irtext_base.specs.Text.{Text, front, after}
 use Rattle.irtext_base.specs.Stream.{StreamView}
 use Rattle.irtext_base.specs.Answers.{Outcome, StarvesHere, Takes}
 use Rattle.irtext_context.specs.Context.{ContextView, with_paths}
-use Rattle.irtext_base.specs.Paths.{KeepsPaths, path_of, are_known, row_known}
-use Rattle.irtext_base.specs.Locations.{LocationView, LocationsOf, no_location, location, location_view, in_row, row_sourced}
+use Rattle.irtext_base.specs.Paths.{KeepsPaths, are_known}
+use Rattle.irtext_base.specs.Locations.{LocationView, LocationsOf, no_location, location, location_view}
 use Rattle.irtext_base.specs.declared.location.Location.{Location}
 use Rattle.irtext_base.specs.declared.parsable.fault.ParseFault.{ParseFault}
 use Rattle.irtext_read.specs.MustRead.{MustRead, MayRead}
@@ -39,10 +39,6 @@ module _ {A X Y : Type 0} (is_known : ℕ → Y → Bool) (see : List (List ℕ)
   pub record MustReadWithin (paths : List (List ℕ)) (old : StreamView) (result : Result Y (ParseFault A)) (new : StreamView) : Type 0 where
     pub within : (depth : ℕ) → length old.rest ≤ depth → MustReadOver is_known see (outcome depth) paths old result new
 
-  -- the same of what takes a character before another location stands
-  pub record MustReadInside (paths : List (List ℕ)) (old : StreamView) (result : Result Y (ParseFault A)) (new : StreamView) : Type 0 where
-    pub inside : (depth : ℕ) → length old.rest ≤ suc depth → MustReadOver is_known see (outcome depth) paths old result new
-
 module _ {A : Type 0} where
   -- what was made is answered, and where memory was refused for it that is the fault
   abbrev pub AnswersMade : Result (Location A) AllocError → StreamView → Result (Location A) (ParseFault A) → StreamView → Type 0
@@ -55,14 +51,6 @@ module _ {A : Type 0} where
   abbrev pub Makes : LocationView A → StreamView → Result (Location A) (ParseFault A) → StreamView → Type 0
   Makes view old (Ok l) new = (location_view l ≡ view) × (new ≡ old)
   Makes view old (Err fault) new = StarvesHere itself replaced old fault new
-
-  -- whether the paths of locations in a row are among so many
-  abbrev pub known_row : ℕ → Vec (Location A) Global → Bool
-  known_row count ls = row_known count (in_row (map location_view ls.items))
-
-  -- locations in a row as their texts say them over these paths
-  abbrev pub row_over : List (List ℕ) → Vec (Location A) Global → LocationsOf (Option (List ℕ)) A
-  row_over paths ls = row_sourced (path_of paths) (in_row (map location_view ls.items))
 
 -- one row and then another
 abbrev pub joined_rows : {S A : Type 0} → LocationsOf S A → LocationsOf S A → LocationsOf S A

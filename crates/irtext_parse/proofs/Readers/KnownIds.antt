@@ -12,7 +12,7 @@ use Rattle.irtext_base.specs.Faults.{UnregisteredOp, id_of}
 use Rattle.irtext_base.specs.Answers.{Outcome, Read, Bad, Takes, Gives, Stands, StarvesHere, prefixed, unless_failed}
 use Rattle.irtext_base.specs.declared.base.identifier.OpId.{OpId}
 use Rattle.irtext_base.specs.declared.parsable.fault.ParseFault.{ParseFault}
-use Rattle.irtext_base.proofs.Compose.{seen_after, takes_more, starves_behind}
+use Rattle.irtext_base.proofs.Compose.{seen_after, takes_more, takes_stands, starves_behind}
 use Rattle.irtext_context.specs.Dialects.{Known, Table, known_of, same_id}
 use Rattle.irtext_context.specs.Directives as directives
 use Rattle.irtext_context.specs.DialectTable.{dialect_of, registered}
@@ -33,9 +33,9 @@ use Rattle.irtext_outcomes.specs.Promises.Supported.{is_committed, OperationRefu
 use Rattle.irtext_outcomes.proofs.Readers.OperationSteps.{space_next, body_next, operation_missed, id_missed, read_accepts}
 use Rattle.irtext_outcomes.proofs.Readers.PlainStream.{alone}
 use Rattle.irtext_outcomes.proofs.Readers.Steps.{Lens, begins_with, begins_refused, begun_by, refuses}
-use Rattle.irtext_parse.specs.Readers.KnownIds.{TakesId, MissesPieces, by_id, by_pieces, id_in}
-use Rattle.irtext_parse.specs.Readers.PiecesOf.{pieces_of}
-use Rattle.irtext_parse.specs.declared.format.pieces.Pieces as code
+use Rattle.irtext_parse.specs.Readers.KnownIds.{TakesId, IsKnown, MissesPieces, by_id, by_pieces, id_in}
+use Rattle.irtext_parse_formats.specs.PiecesOf.{pieces_of}
+use Rattle.irtext_parse_formats.specs.declared.format.pieces.Pieces as code
 
 -- a word, `.` and a word are an id
 id_there : (text name : Text) → begins begins_word text ≡ true → after in_word text ≡ 46 ∷ name → begins begins_word name ≡ true
@@ -66,6 +66,18 @@ module _ {S : Type 0} (l : Lens S) where
         between = sym v ∙ (f.1 ∙ ap (λ z. 46 ∷ z) (sym r));
         takes = subst (λ z. Takes l.view l.at (front in_word text ++ (46 ∷ [])) z old mid) (sym r) (takes_more l.view l.at l.view_at l.at_at old word mid (front in_word text) (after in_word text) (46 ∷ []) f.0 t k);
       }
+
+  -- behind them the stream stands in the same text
+  pub dotted_stands : {old mid new : S} → Dotted old mid → new ≡ mid → Stands l.view l.at (l.view old).failed old new
+  dotted_stands {old = old} {mid = mid} d e =
+      subst (λ s. Stands l.view l.at (l.view old).failed old s) (sym e) (takes_stands l.view l.at l.view_at l.at_at old mid (front in_word (l.view old).rest ++ (46 ∷ [])) (l.view mid).rest d.takes)
+
+  -- and behind one word more
+  pub word_stands : {old mid new : S} → Dotted old mid → Takes l.view l.at (front in_word (l.view mid).rest) (after in_word (l.view mid).rest) mid new → Stands l.view l.at (l.view old).failed old new
+  word_stands {old = old} {mid = mid} {new = new} d t =
+      let first = front in_word (l.view old).rest ++ (46 ∷ []) in
+      let name = (l.view mid).rest in
+      takes_stands l.view l.at l.view_at l.at_at old new (first ++ front in_word name) (after in_word name) (takes_more l.view l.at l.view_at l.at_at old mid new first name (front in_word name) (after in_word name) d.takes t)
 
   takes_id : (old mid new : S) (i : OpId) → Dotted old mid → begins begins_word (l.view mid).rest ≡ true → Takes l.view l.at (front in_word (l.view mid).rest) (after in_word (l.view mid).rest) mid new
       → i ≡ id_of_texts (front in_word (l.view old).rest) (front in_word (l.view mid).rest) → TakesId l.view l.at old i new
@@ -150,8 +162,8 @@ module _ {A : Type 0} (dialects : List (Text × Table)) (attr : Text → Outcome
   body_read {old = old} r h = record { answers = rw body_known h.answers }
 
 -- and its format is accepted
-pub known_accepted : (dialects : List (Text × Table)) (i : OpId) (info : OpInfo) → registered dialects i ≡ Some (known_of info) → Accepted (directives.format_of info.format) → IsAccepted dialects (id_of i)
-known_accepted dialects i info known a = subst (λ (o : Option Known). IfSome (option_map (λ known. known.format) o) Accepted) (sym known) a
+pub known_accepted : (dialects : List (Text × Table)) (i : OpId) (info : OpInfo) → IsKnown dialects i info → IsAccepted dialects (id_of i)
+known_accepted dialects i info h = subst (λ (o : Option Known). IfSome (option_map (λ known. known.format) o) Accepted) (sym h.known) h.accepted
 
 module _ {A X : Type 0} (dialects : List (Text × Table)) (attr : Text → Outcome (AttrView A)) (marks : List (ℕ × X)) where
   -- where the id or the pieces are refused, the operation is

@@ -48,9 +48,17 @@ impl<T: IrText<A>, A: AttrText, U> Parsable<T, A, U> for Operation {
         ensures refused { IfErr result (λ fault. Refusal stream.old.stream fault stream.new.stream) }
         ensures failed { RefusesFailed stream.old.stream result stream.new.stream }
         ensures read { IfOk result (λ op. ReadsWith (attr_at A.IrText.reading) config.look_for_outlined_attrs op stream.old stream.new) }
-        ensures builds { IsFresh stream.old → IfOk result (λ op. BuildsWith (texts_of T.reading T.written) (texts_of A.reading A.written) (attr_at A.reading) config.look_for_outlined_attrs op stream.old stream.new) }
-        ensures unresolved { IsFresh stream.old → IfErr result (UnlessMemory (RefusesWith (texts_of T.reading T.written) (texts_of A.reading A.written) (attr_at A.reading) stream.old.state.ctx.now.dialects config.look_for_outlined_attrs stream.old.stream)) }
-        ensures missed { stream.old.stream.failed ≡ false → IfErr result (λ fault. MissesWith (attr_at A.IrText.reading) config.look_for_outlined_attrs stream.old fault) }
+        ensures builds { IsFresh stream.old →
+            IfOk result (λ op. BuildsWith (texts_of T.reading T.written) (texts_of A.reading A.written)
+            (attr_at A.reading) config.look_for_outlined_attrs op stream.old stream.new) }
+        ensures unresolved { IsFresh stream.old →
+            IfErr result (UnlessMemory
+            (RefusesWith (texts_of T.reading T.written) (texts_of A.reading A.written)
+            (attr_at A.reading) stream.old.state.ctx.now.dialects config.look_for_outlined_attrs
+            stream.old.stream)) }
+        ensures missed { stream.old.stream.failed ≡ false →
+            IfErr result (λ fault. MissesWith (attr_at A.IrText.reading) config.look_for_outlined_attrs
+            stream.old fault) }
         ensures objects { OnErr result (SameObjects stream.old.state.ctx.now stream.new.state.ctx.now) }
         ensures marks { OnErr result (marks_of stream.new.state ≡ marks_of stream.old.state) }
     {

@@ -11,12 +11,12 @@ ghost use Rattle.irtext_grammar.specs.Contexts.Held.{location_over};
 ghost use Rattle.irtext_outcomes.specs.Readers.NewPaths.{AddsPaths, MayReadOver, known_location};
 ghost use Rattle.irtext_outcomes.specs.Readers.Streams.{itself, replaced, KeepsRest};
 
-use crate::location::nested::location_parse;
-use crate::location::source::{position_parse, source_parse};
 use crate::parsable::{Parsable, ParseResult, StateStream};
 use irtext_base::location::{Location, Source};
 use irtext_base::parsable::SourcePosition;
 use irtext_base::text::{AttrText, IrText};
+use irtext_parse_locations::location::nested::location_parse;
+use irtext_parse_locations::location::source::{position_parse, source_parse};
 
 impl<T: IrText<A>, A: AttrText, U> Parsable<T, A, U> for SourcePosition {
     type Arg = ();
@@ -46,7 +46,9 @@ impl<T: IrText<A>, A: AttrText, U> Parsable<T, A, U> for Source {
         ensures rest { KeepsRest stream.old.state stream.new.state }
         ensures marks { marks_of stream.new.state ≡ marks_of stream.old.state }
         ensures read { MayReadOver is_known path_of source_at stream.new.state.ctx.now.paths stream.old.stream result stream.new.stream }
-        ensures paths { IfOk result (λ source. stream.new.state.ctx.now.paths ≡ path_kept stream.old.state.ctx.now.paths (path_of stream.new.state.ctx.now.paths source)) }
+        ensures paths { IfOk result
+            (λ source. stream.new.state.ctx.now.paths ≡ path_kept stream.old.state.ctx.now.paths
+            (path_of stream.new.state.ctx.now.paths source)) }
     {
         let ctx = &mut *stream.state.ctx;
         source_parse(&mut stream.stream, ctx)
@@ -67,8 +69,11 @@ impl<T: IrText<A>, A: AttrText, U> Parsable<T, A, U> for Location<A> {
         ensures adds { AddsPaths stream.old.state.ctx.now stream.new.state.ctx.now }
         ensures rest { KeepsRest stream.old.state stream.new.state }
         ensures marks { marks_of stream.new.state ≡ marks_of stream.old.state }
-        ensures read { MayReadOver known_location location_over (location_at (attr_at A.IrText.reading)) stream.new.state.ctx.now.paths stream.old.stream result stream.new.stream }
-        ensures paths { IfOk result (λ l. stream.new.state.ctx.now.paths ≡ all_kept stream.old.state.ctx.now.paths (location_over stream.new.state.ctx.now.paths l)) }
+        ensures read { MayReadOver known_location location_over (location_at (attr_at A.IrText.reading))
+            stream.new.state.ctx.now.paths stream.old.stream result stream.new.stream }
+        ensures paths { IfOk result
+            (λ l. stream.new.state.ctx.now.paths ≡ all_kept stream.old.state.ctx.now.paths
+            (location_over stream.new.state.ctx.now.paths l)) }
     {
         let ctx = &mut *stream.state.ctx;
         location_parse(&mut stream.stream, ctx)

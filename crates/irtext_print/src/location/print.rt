@@ -122,7 +122,8 @@ pub(crate) fn fmt_known<T: IrText<A>, A: AttrText>(
     ctx: &Context<T, A>,
     f: &mut String,
 ) -> fmt::Result
-    ensures { OnOk result (string_bytes f.new ≡ string_bytes f.old ++ framed before.now after.now (known_text A.written ctx.now.paths location.now)) }
+    ensures { OnOk result (string_bytes f.new ≡ string_bytes f.old ++ framed before.now after.now
+        (known_text A.written ctx.now.paths location.now)) }
 {
     if let Location::Unknown = location {
         return Ok(());

@@ -65,9 +65,10 @@ pub fn i32_demanded<S: CharStream, A>(stream: &mut S) -> ParseResult<i32, A>
     committed(stream, answer)
 }
 
-/// Reads a fixed text with white space round it.
-#[inline(always)]
-pub fn spaced_text_demanded<S: CharStream, A>(stream: &mut S, text: &str) -> ParseResult<(), A>
+/// The same as `spaced_text_demanded`, for texts that don't stand there whole.
+#[cold]
+#[inline(never)]
+fn spaced_text_missed<S: CharStream, A>(stream: &mut S, text: &str) -> ParseResult<(), A>
     ensures { MustRead S.view S.at (λ u. u) (spaced_at (characters text.now)) stream.old result stream.new }
 {
     if stream.has_failed() {
@@ -77,6 +78,21 @@ pub fn spaced_text_demanded<S: CharStream, A>(stream: &mut S, text: &str) -> Par
     text_demanded(stream, text)?;
     skip_white_space(stream);
     Ok(())
+}
+
+/// Reads a fixed text with white space round it.
+#[inline(always)]
+pub fn spaced_text_demanded<S: CharStream, A>(stream: &mut S, text: &str) -> ParseResult<(), A>
+    ensures { MustRead S.view S.at (λ u. u) (spaced_at (characters text.now)) stream.old result stream.new }
+{
+    if stream.has_failed() {
+        return spaced_text_missed(stream, text);
+    }
+    if stream.accept_spaced(text) {
+        skip_white_space(stream);
+        return Ok(());
+    }
+    spaced_text_missed(stream, text)
 }
 
 /// Reads `!` and an index.

@@ -182,6 +182,11 @@ impl<'c, T: IrText<A>, A: AttrText, U> CharStream for StateStream<'c, T, A, U> {
     }
 
     #[inline(always)]
+    fn accept_spaced(&mut self, text: &str) -> bool {
+        self.stream.accept_spaced(text)
+    }
+
+    #[inline(always)]
     fn position(&self) -> Place {
         self.stream.position()
     }

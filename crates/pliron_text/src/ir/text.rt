@@ -32,8 +32,13 @@ pub trait OperationText {
         ensures rest { KeepsRest stream.old.state stream.new.state }
         ensures refused { IfErr result (λ fault. Refusal stream.old.stream fault stream.new.stream) }
         ensures failed { RefusesFailed stream.old.stream result stream.new.stream }
-        ensures builds { IsFresh stream.old → IfOk result (λ op. BuildsRoot (texts_of T.reading T.written) (texts_of A.reading A.written) (attr_at A.reading) op stream.old stream.new) }
-        ensures unresolved { IsFresh stream.old → IfErr result (UnlessMemory (RefusesRoot (texts_of T.reading T.written) (texts_of A.reading A.written) (attr_at A.reading) stream.old.state.ctx.now.dialects stream.old.stream)) }
+        ensures builds { IsFresh stream.old →
+            IfOk result (λ op. BuildsRoot (texts_of T.reading T.written) (texts_of A.reading A.written)
+            (attr_at A.reading) op stream.old stream.new) }
+        ensures unresolved { IsFresh stream.old →
+            IfErr result (UnlessMemory
+            (RefusesRoot (texts_of T.reading T.written) (texts_of A.reading A.written)
+            (attr_at A.reading) stream.old.state.ctx.now.dialects stream.old.stream)) }
         ensures objects { OnErr result (SameObjects stream.old.state.ctx.now stream.new.state.ctx.now) }
         ensures marks { OnErr result (marks_of stream.new.state ≡ marks_of stream.old.state) };
 
@@ -47,8 +52,13 @@ pub trait OperationText {
         ensures rest { KeepsRest stream.old.state stream.new.state }
         ensures refused { IfErr result (λ fault. Refusal stream.old.stream fault stream.new.stream) }
         ensures failed { RefusesFailed stream.old.stream result stream.new.stream }
-        ensures builds { IsFresh stream.old → IfOk result (λ op. BuildsWhole (texts_of T.reading T.written) (texts_of A.reading A.written) (attr_at A.reading) op stream.old stream.new) }
-        ensures unresolved { IsFresh stream.old → IfErr result (UnlessMemory (RefusesWhole (texts_of T.reading T.written) (texts_of A.reading A.written) (attr_at A.reading) stream.old)) }
+        ensures builds { IsFresh stream.old →
+            IfOk result (λ op. BuildsWhole (texts_of T.reading T.written) (texts_of A.reading A.written)
+            (attr_at A.reading) op stream.old stream.new) }
+        ensures unresolved { IsFresh stream.old →
+            IfErr result (UnlessMemory
+            (RefusesWhole (texts_of T.reading T.written) (texts_of A.reading A.written)
+            (attr_at A.reading) stream.old)) }
         ensures objects { IsFresh stream.old → OnErr result (SameObjects stream.old.state.ctx.now stream.new.state.ctx.now) }
         ensures marks { IsFresh stream.old → OnErr result (marks_of stream.new.state ≡ []) };
 

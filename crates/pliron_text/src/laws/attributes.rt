@@ -16,7 +16,8 @@ use irtext_base::text::{AttrText, IrText};
 /// is left is what stands behind it, white space aside.
 pub fn attribute_comes_back<A: AttrText>()
     ensures { (v : AttrView A) (rest : List ℕ) → IsSpellableAttr v → Ends rest →
-        (taken left : List ℕ) × (attr_at A.reading (attr_text A.written v ++ rest) ≡ Read v taken left) × (after_space left ≡ after_space rest) }
+        (taken left : List ℕ) × (attr_at A.reading (attr_text A.written v ++ rest) ≡ Read v taken left) ×
+        (after_space left ≡ after_space rest) }
 {}
 
 /// Where no letter and no `_` stands, an attribute is missing.
@@ -27,7 +28,10 @@ pub fn attributes_are_missing<A: AttrText>()
 /// A text is read as an attribute exactly where it reads as that attribute in a tree, and the same is left.
 pub fn attributes_are_the_trees<T: IrText<A>, A: AttrText>()
     ensures read { (formats : Id → Option Format) (v : AttrView A) (text taken rest : List ℕ) →
-        attr_at A.reading text ≡ Read v taken rest → attribute (language (texts_of T.reading T.written) (texts_of A.reading A.written) formats) (attr_tree v) text rest }
+        attr_at A.reading text ≡ Read v taken rest →
+        attribute (language (texts_of T.reading T.written) (texts_of A.reading A.written) formats)
+        (attr_tree v) text rest }
     ensures found { (formats : Id → Option Format) (v : AttrView A) (text rest : List ℕ) →
-        attribute (language (texts_of T.reading T.written) (texts_of A.reading A.written) formats) (attr_tree v) text rest → (taken : List ℕ) × (attr_at A.reading text ≡ Read v taken rest) }
+        attribute (language (texts_of T.reading T.written) (texts_of A.reading A.written) formats)
+        (attr_tree v) text rest → (taken : List ℕ) × (attr_at A.reading text ≡ Read v taken rest) }
 {}

@@ -22,16 +22,22 @@ use irtext_base::text::{AttrText, IrText};
 /// to it up to fillings, and all was read but white space. Nothing but want of memory refuses it. The root is isolated, or has no region.
 /// That a live root holds what its parts' types keep is what `keeps_parts` ensures.
 pub fn printed_root_comes_back<T: IrText<A>, A: AttrText, U, V>()
-    ensures builds { (ctx : ContextView T A) (p : Ptr Operation) (op : OperationView T A) (s after : Shown V) (bytes : List ℕ) (g : Graph T A) →
+    ensures builds { (ctx : ContextView T A) (p : Ptr Operation) (op : OperationView T A)
+        (s after : Shown V) (bytes : List ℕ) (g : Graph T A) →
         let types = texts_of T.reading T.written in
         let owns = texts_of A.reading A.written in
         let C = printing ctx.dialects A.outlined A.print_once A.eq in
-        PrintedRoot types owns C ctx p op s after bytes g → (q : Ptr Operation) (old new : StateStream T A U) → old.stream.rest ≡ chars bytes → old.state.ctx.now.dialects ≡ ctx.dialects →
+        PrintedRoot types owns C ctx p op s after bytes g →
+        (q : Ptr Operation) (old new : StateStream T A U) → old.stream.rest ≡ chars bytes →
+        old.state.ctx.now.dialects ≡ ctx.dialects →
         BuildsRoot types owns (attr_at A.reading) q old new → StandsBack A.written ctx.dialects C g q new }
-    ensures never_refused { (ctx : ContextView T A) (p : Ptr Operation) (op : OperationView T A) (s after : Shown V) (bytes : List ℕ) (g : Graph T A) →
+    ensures never_refused { (ctx : ContextView T A) (p : Ptr Operation) (op : OperationView T A)
+        (s after : Shown V) (bytes : List ℕ) (g : Graph T A) →
         let types = texts_of T.reading T.written in
         let owns = texts_of A.reading A.written in
         let C = printing ctx.dialects A.outlined A.print_once A.eq in
-        PrintedRoot types owns C ctx p op s after bytes g → (old : StateStream T A U) (fault : ParseFault A) → old.stream.rest ≡ chars bytes → old.state.ctx.now.dialects ≡ ctx.dialects →
+        PrintedRoot types owns C ctx p op s after bytes g →
+        (old : StateStream T A U) (fault : ParseFault A) → old.stream.rest ≡ chars bytes →
+        old.state.ctx.now.dialects ≡ ctx.dialects →
         RefusesRoot types owns (attr_at A.reading) old.state.ctx.now.dialects old.stream fault → ⊥ }
 {}

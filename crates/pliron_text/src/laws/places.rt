@@ -11,7 +11,8 @@ ghost use Rattle.irtext_grammar.specs.Names.LabelPlaces.{Fails, IsDefined, Passe
 ghost use Rattle.irtext_grammar.specs.Names.Placeholders.{In};
 ghost use Rattle.irtext_grammar.specs.Grammar.Reads.{block_readings, label, region_read, target};
 ghost use Rattle.irtext_grammar.specs.Names.Scopes.{uses};
-ghost use Rattle.irtext_grammar.specs.Names.Script.{define_label, use_label, within, MultipleDefinitions, NoActiveScope, Place, UnresolvedReference, User};
+ghost use Rattle.irtext_grammar.specs.Names.Script.{define_label, use_label, within, MultipleDefinitions};
+ghost use Rattle.irtext_grammar.specs.Names.Script.{NoActiveScope, Place, UnresolvedReference, User};
 ghost use Rattle.irtext_grammar.specs.Names.TextScopes.{facts, failures, left_open, Fact, Failure, Scopes, Script};
 ghost use Rattle.irtext_grammar.specs.Grammar.Tree.{shown, Brace, Head, Name, Op};
 
@@ -21,32 +22,38 @@ pub fn used_labels<T, A>()
     ensures at_name { (types : Texts T) (owns : Texts A) (formats : Id → Option Format) (n : Name ℕ) (text rest : List ℕ) →
         target (language types owns formats) n text rest →
         (name : List ℕ) × (text ≡ codes "^" ++ name) × (n.place ≡ length name) × (n.text ≡ front in_word name) }
-    ensures no_scope { (types : Texts T) (owns : Texts A) (formats : Id → Option Format) (n : Name ℕ) (name rest : List ℕ) (scopes : Scopes) (user : User) →
+    ensures no_scope { (types : Texts T) (owns : Texts A) (formats : Id → Option Format) (n : Name ℕ)
+        (name rest : List ℕ) (scopes : Scopes) (user : User) →
         target (language types owns formats) n (codes "^" ++ name) rest → scopes.labels ≡ None →
         Fails scopes (use_label (word_of n) user) (record { cause = NoActiveScope n.text; at = Some (length name) }) }
-    ensures in_scope { (n : Name ℕ) (scopes : Scopes) (user : User) (scope : List Fact) → scopes.labels ≡ Some scope → Passes scopes (use_label (word_of n) user) }
+    ensures in_scope { (n : Name ℕ) (scopes : Scopes) (user : User) (scope : List Fact) →
+        scopes.labels ≡ Some scope → Passes scopes (use_label (word_of n) user) }
 {}
 
 /// A label that is used in a region, and that no block of the region has, fails at the region's `{`, and not at the use. So does
 /// all else that the region leaves open.
 pub fn labels_left_open<T, A>()
-    ensures at_brace { (types : Texts T) (owns : Texts A) (formats : Id → Option Format) (place : ℕ) (blocks : Blocks (Op ℕ T A) (Head ℕ T A) (Brace ℕ)) (text rest : List ℕ) →
+    ensures at_brace { (types : Texts T) (owns : Texts A) (formats : Id → Option Format) (place : ℕ)
+        (blocks : Blocks (Op ℕ T A) (Head ℕ T A) (Brace ℕ)) (text rest : List ℕ) →
         let l = language types owns formats in
         region_read l (shown place) (block_readings l blocks) text rest → (begins (the 123) text ≡ true) × (place ≡ length text) }
     ensures reported { (place : ℕ) (scopes : Scopes) (isolated : Bool) (body behind : Script) (name : List ℕ) (user : User) →
         In (uses name user) (facts body).labels → (IsDefined name (facts body).labels → ⊥) →
         In (record { cause = UnresolvedReference name; at = Some place }) (failures scopes (within isolated place body behind)) }
-    ensures nowhere_else { (place : ℕ) (isolated : Bool) (body : Script) (failure : Failure) → In failure (left_open place isolated (facts body)) → failure.at ≡ Some place }
+    ensures nowhere_else { (place : ℕ) (isolated : Bool) (body : Script) (failure : Failure) →
+        In failure (left_open place isolated (facts body)) → failure.at ≡ Some place }
 {}
 
 /// A block's label stands at its `^`. Where its scope has it already it fails there, and else by nothing.
 pub fn block_labels<T, A>()
     ensures at_caret { (types : Texts T) (owns : Texts A) (formats : Id → Option Format) (n : Name ℕ) (text rest : List ℕ) →
         label (language types owns formats) n text rest → (begins (the 94) text ≡ true) × (n.place ≡ length text) }
-    ensures again { (types : Texts T) (owns : Texts A) (formats : Id → Option Format) (n : Name ℕ) (text rest : List ℕ) (scopes : Scopes) (place : Place) (scope : List Fact) →
+    ensures again { (types : Texts T) (owns : Texts A) (formats : Id → Option Format) (n : Name ℕ)
+        (text rest : List ℕ) (scopes : Scopes) (place : Place) (scope : List Fact) →
         label (language types owns formats) n text rest → scopes.labels ≡ Some scope → IsDefined n.text scope →
         Fails scopes (define_label (word_of n) place) (record { cause = MultipleDefinitions n.text; at = Some (length text) }) }
-    ensures first { (n : Name ℕ) (scopes : Scopes) (place : Place) (scope : List Fact) → scopes.labels ≡ Some scope → (IsDefined n.text scope → ⊥) →
+    ensures first { (n : Name ℕ) (scopes : Scopes) (place : Place) (scope : List Fact) →
+        scopes.labels ≡ Some scope → (IsDefined n.text scope → ⊥) →
         Passes scopes (define_label (word_of n) place) }
 {}
 

@@ -27,8 +27,10 @@ use irtext_base::text::{AttrText, IrText};
 /// section of its location where that is known, reads as a tree and entries that resolve, and what they build is equal to the root:
 /// a position stands where the location was unknown, and nothing else differs.
 pub fn plain_root_comes_back<T: IrText<A>, A: AttrText, X>()
-    ensures { (location_at : List ℕ → Standing X) (K : Locations X) (first : ℕ → X) (C : Printing T A) (isolated : Id → Bool) (g : Graph T A) (width n : ℕ) →
-        ((p : ℕ) → K.is_position (first p) ≡ true) → GivesIdentifiers C → PlainRoot C isolated g → LocationReads location_at K g.own.location →
+    ensures { (location_at : List ℕ → Standing X) (K : Locations X) (first : ℕ → X) (C : Printing T A)
+        (isolated : Id → Bool) (g : Graph T A) (width n : ℕ) →
+        ((p : ℕ) → K.is_position (first p) ≡ true) → GivesIdentifiers C → PlainRoot C isolated g →
+        LocationReads location_at K g.own.location →
         ComesBack (texts_of T.reading T.written) (texts_of A.reading A.written) location_at K first C isolated g width n }
 {}
 
@@ -36,12 +38,15 @@ pub fn plain_root_comes_back<T: IrText<A>, A: AttrText, X>()
 /// are the written ones but for their places. They resolve; each item's mark leads to the item's own location and outlined
 /// attributes; and what they build has the root's ids, types, operands, successors and printed labels, place by place.
 pub fn section_comes_back<T: IrText<A>, A: AttrText, X>()
-    ensures { (location_at : List ℕ → Standing X) (K : Locations X) (first : ℕ → X) (C : Printing T A) (isolated : Id → Bool) (g : Graph T A) (width n : ℕ) →
+    ensures { (location_at : List ℕ → Standing X) (K : Locations X) (first : ℕ → X) (C : Printing T A)
+        (isolated : Id → Bool) (g : Graph T A) (width n : ℕ) →
         let types = texts_of T.reading T.written in
         let owns = texts_of A.reading A.written in
         let printing = unplaced types owns C.format_of in
-        C.same_own ≡ A.eq → HasIdentifiers C g → Fit C isolated g → SmallGraph C isolated g → GraphKeepsKeys g → GraphHeld location_at K g → Closed C isolated g → SmallSection C g →
-        (t : Tree ℕ T A) × (es : List (Entry ℕ A X)) × (u : List ℕ) × reads_root (language types owns C.format_of) location_at t es (text printing C g n width None) u
+        C.same_own ≡ A.eq → HasIdentifiers C g → Fit C isolated g → SmallGraph C isolated g →
+        GraphKeepsKeys g → GraphHeld location_at K g → Closed C isolated g → SmallSection C g →
+        (t : Tree ℕ T A) × (es : List (Entry ℕ A X)) × (u : List ℕ) ×
+        reads_root (language types owns C.format_of) location_at t es (text printing C g n width None) u
         × (bare t ≡ written C None g) × (bare_section K.text es ≡ written_section C (entries_of C None g))
         × (failures_of isolated t es ≡ []) × Contents C K.text es g t × SameShapes (stood C isolated g) (build isolated first es t) }
 {}
@@ -54,6 +59,7 @@ pub fn indices_in_order<T, A>()
         (facts same_text (tree_script isolated (written C l g) done)).marks ≡ numbers 0 (length (entries_of C l g)) }
     ensures entries { (C : Printing T A) (l : Option ℕ) (g : Graph T A) →
         map index_of (written_section C (entries_of C l g)) ≡ numbers 0 (length (entries_of C l g) + length (shared C (entries_of C l g))) }
-    ensures once { (C : Printing T A) (l : Option ℕ) (g : Graph T A) → ((a b : A) → C.same_own a b ≡ true → a ≡ b) → ((a : A) → C.same_own a a ≡ true) →
+    ensures once { (C : Printing T A) (l : Option ℕ) (g : Graph T A) →
+        ((a b : A) → C.same_own a b ≡ true → a ≡ b) → ((a : A) → C.same_own a a ≡ true) →
         distinct C.same_own (shared C (entries_of C l g)) ≡ true }
 {}

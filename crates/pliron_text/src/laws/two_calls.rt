@@ -40,8 +40,15 @@ fn text_of_root<T: IrText<A>, A: AttrText>(
     layout: &PrintState<()>,
 ) -> Result<String, Refusal>
     requires live { IsSome (operation ctx.now op) }
-    ensures text { (g : Graph T A) → graph_of A.written ctx.now op ≡ Some g → IfOk result (λ s. printed (unplaced (texts_of T.reading T.written) (texts_of A.reading A.written) (format_of ctx.now.dialects)) (printing ctx.now.dialects A.outlined A.print_once A.eq) ctx.now op (fresh layout.now.width layout.now.indent layout.now.limit) ≡ Some (string_bytes s, fresh layout.now.width layout.now.indent layout.now.limit)) }
-    ensures refused { IfErr result (Refuses (printing ctx.now.dialects A.outlined A.print_once A.eq) (operation ctx.now op) (fresh layout.now.width layout.now.indent layout.now.limit)) }
+    ensures text { (g : Graph T A) → graph_of A.written ctx.now op ≡ Some g →
+        IfOk result (λ s. printed
+        (unplaced (texts_of T.reading T.written) (texts_of A.reading A.written)
+        (format_of ctx.now.dialects)) (printing ctx.now.dialects A.outlined A.print_once A.eq) ctx.now op
+        (fresh layout.now.width layout.now.indent layout.now.limit) ≡ Some
+        (string_bytes s, fresh layout.now.width layout.now.indent layout.now.limit)) }
+    ensures refused { IfErr result
+        (Refuses (printing ctx.now.dialects A.outlined A.print_once A.eq) (operation ctx.now op)
+        (fresh layout.now.width layout.now.indent layout.now.limit)) }
 {
     let alloc = ctx.allocator();
     let mut text = String::new(alloc);
@@ -74,8 +81,12 @@ fn read_text<T: IrText<A>, A: AttrText>(
     ctx: &mut Context<T, A>,
     text: &str,
 ) -> ParseResult<Ptr<Operation>, A>
-    ensures reads { IfOk result (λ q. ReadsText (texts_of T.reading T.written) (texts_of A.reading A.written) (attr_at A.reading) text.now ctx.old q ctx.new) }
-    ensures refuses { IfErr result (UnlessMemory (RefusesText (texts_of T.reading T.written) (texts_of A.reading A.written) (attr_at A.reading) text.now ctx.old)) }
+    ensures reads { IfOk result
+        (λ q. ReadsText (texts_of T.reading T.written) (texts_of A.reading A.written)
+        (attr_at A.reading) text.now ctx.old q ctx.new) }
+    ensures refuses { IfErr result
+        (UnlessMemory (RefusesText (texts_of T.reading T.written) (texts_of A.reading A.written)
+        (attr_at A.reading) text.now ctx.old)) }
     ensures objects { OnErr result (SameObjects ctx.old ctx.new) }
 {
     let alloc = ctx.allocator();
@@ -110,7 +121,8 @@ pub fn printed_and_read<T: IrText<A>, A: AttrText>(
     ensures only { IfOk result (λ q. OnlyNew q other.old other.new) }
     ensures refused { (view : OperationView T A) (g : Graph T A) →
         operation ctx.now op ≡ Some view → StandsAlone ctx.now.dialects view → graph_of A.written ctx.now op ≡ Some g →
-        IfErr result (IsExcused (printing ctx.now.dialects A.outlined A.print_once A.eq) (operation ctx.now op) (fresh layout.now.width layout.now.indent layout.now.limit)) }
+        IfErr result (IsExcused (printing ctx.now.dialects A.outlined A.print_once A.eq)
+        (operation ctx.now op) (fresh layout.now.width layout.now.indent layout.now.limit)) }
     ensures objects { OnErr result (SameObjects other.old other.new) }
 {
     keeps_parts(ctx, op);

@@ -32,7 +32,8 @@ pub trait Making<T: IrText<A>, A: AttrText> {
         attributes: AttributeDict<A>,
         loc: Location<A>,
     ) -> Result<Ptr<Operation>, AllocError>
-        ensures made { IfOk result (λ p. MakesOperation (seen self.old) (seen self.new) p (record { id = id; result_types = []; attributes = attributes; loc = loc; regions = [] })) }
+        ensures made { IfOk result (λ p. MakesOperation (seen self.old) (seen self.new) p
+            (record { id = id; result_types = []; attributes = attributes; loc = loc; regions = [] })) }
         ensures err { OnErr result (seen self.new ≡ seen self.old) }
         ensures kept { (mark : ℕ) → mark ≤ (seen self.old).made → KeepsOlder mark (seen self.old) (seen self.new) };
 
@@ -41,7 +42,8 @@ pub trait Making<T: IrText<A>, A: AttrText> {
         requires { IsSome (operation (seen self.old) op) }
         ensures added { IfOk result (λ r. AddsRegion (seen self.old) (seen self.new) op r) }
         ensures err { OnErr result (seen self.new ≡ seen self.old) }
-        ensures kept { (mark : ℕ) → mark ≤ (seen self.old).made → before mark (seen self.old).operations op ≡ None → KeepsOlder mark (seen self.old) (seen self.new) };
+        ensures kept { (mark : ℕ) → mark ≤ (seen self.old).made → before mark (seen self.old).operations op ≡ None →
+            KeepsOlder mark (seen self.old) (seen self.new) };
 
     /// Takes every object out that is no older than the mark, where `made` gave the mark. Paths and dialects stay. It takes no memory.
     fn roll_back(&mut self, mark: u64)
@@ -70,7 +72,8 @@ impl<T: IrText<A>, A: AttrText> Making<T, A> for Context<T, A> {
         attributes: AttributeDict<A>,
         loc: Location<A>,
     ) -> Result<Ptr<Operation>, AllocError>
-        ensures made { IfOk result (λ p. MakesOperation self.old self.new p (record { id = id; result_types = []; attributes = attributes; loc = loc; regions = [] })) }
+        ensures made { IfOk result (λ p. MakesOperation self.old self.new p
+            (record { id = id; result_types = []; attributes = attributes; loc = loc; regions = [] })) }
         ensures err { OnErr result (self.new ≡ self.old) }
         ensures kept { (mark : ℕ) → mark ≤ self.old.made → KeepsOlder mark self.old self.new }
     {

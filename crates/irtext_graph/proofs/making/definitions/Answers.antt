@@ -1,6 +1,6 @@
 use Rattle.std.proofs.Common.{◌≡◌, ◌≢◌, ◌+◌, ◌++◌, ◌∷◌, ◌∙◌, ℕ, zero, suc, refl, sym, ap, arith, List, [], None, Some, map, length, slice_get}
 use Rattle.irtext_graph.specs.declared.objects.Definition.{Definition}
-use Rattle.irtext_graph.specs.declared.objects.Site.{Site}
+use Rattle.irtext_graph.specs.declared.object.Site.{Site}
 use Rattle.irtext_graph.specs.Content.{Typed, typed}
 use Rattle.irtext_graph.specs.Graph.{numbered}
 use Rattle.irtext_graph.specs.Uses.{first_of}

@@ -1,5 +1,5 @@
 use Rattle.std.proofs.Common.{◌≡◌, ◌≢◌, ◌≤◌, ◌+◌, ◌++◌, ℕ, Some, map, length, slice_get}
-use Rattle.irtext_graph.specs.declared.objects.Site.{Site}
+use Rattle.irtext_graph.specs.declared.object.Site.{Site}
 use Rattle.irtext_graph.specs.Content.{typed}
 use Rattle.irtext_graph.specs.Graph.{numbered}
 use Rattle.irtext_graph.specs.Uses.{first_of}

@@ -9,7 +9,6 @@ ghost use Rattle.irtext_outcomes.specs.Promises.Operation.{MakesWith};
 ghost use Rattle.irtext_outcomes.specs.Readers.Streams.{itself, replaced, KeepsRest};
 ghost use Rattle.irtext_parse.specs.Readers.KnownIds.{ReadsPieces, MissesPieces};
 
-use crate::format::pieces::{Pieces, body_parse};
 use crate::ir::read::head::led_id_parse;
 use crate::parsable::out_of_memory;
 use irtext_base::base::OpId;
@@ -19,6 +18,7 @@ use irtext_base::text::{AttrText, IrText};
 use irtext_context::base::context::making::Making;
 use irtext_context::base::operation::add_regions;
 use irtext_context::base::{Context, Operation, Ptr};
+use irtext_parse_formats::format::pieces::{Pieces, body_parse};
 use irtext_state::parsable::StateStream;
 use std::alloc::AllocError;
 
@@ -73,7 +73,9 @@ fn with_regions<T: IrText<A>, A: AttrText, U>(
     ensures adds { IfOk result (λ p. (p ≡ op) × AddsRegions regions s.old.state.ctx.now s.new.state.ctx.now op) }
     ensures stream { OnOk result (s.new.stream ≡ s.old.stream) }
     ensures starved { IfErr result (λ fault. StarvesHere itself replaced s.old.stream fault s.new.stream) }
-    ensures kept { (mark : ℕ) → mark ≤ s.old.state.ctx.now.made → before mark s.old.state.ctx.now.operations op ≡ None → KeepsOlder mark s.old.state.ctx.now s.new.state.ctx.now }
+    ensures kept { (mark : ℕ) → mark ≤ s.old.state.ctx.now.made →
+        before mark s.old.state.ctx.now.operations op ≡ None →
+        KeepsOlder mark s.old.state.ctx.now s.new.state.ctx.now }
 {
     let ctx = &mut *s.state.ctx;
     match add_regions(ctx, op, regions) {

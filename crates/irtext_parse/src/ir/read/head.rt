@@ -1,15 +1,11 @@
 //! What stands in front of an operation, and its id.
-ghost use Rattle.std.specs.Prelude.{◌≡◌, cond, Some, IfOk};
+ghost use Rattle.std.specs.Prelude.{◌≡◌, cond, IfOk};
 ghost use Rattle.irtext_base.specs.Answers.{Takes, DemandsOf};
-ghost use Rattle.irtext_base.specs.Format.{Accepted};
-ghost use Rattle.irtext_context.specs.DialectTable.{registered};
-ghost use Rattle.irtext_context.specs.Dialects.{known_of};
-ghost use Rattle.irtext_context.specs.Directives.{format_of};
 ghost use Rattle.irtext_base.specs.Faults.{id_of};
 ghost use Rattle.irtext_outcomes.specs.Readers.Parts.{lead_of, behind_lead, is_led};
 ghost use Rattle.irtext_read.specs.MustRead.{MayRead};
 ghost use Rattle.irtext_outcomes.specs.Readers.Operations.{led_id_at, Registers};
-ghost use Rattle.irtext_parse.specs.Readers.KnownIds.{id_in};
+ghost use Rattle.irtext_parse.specs.Readers.KnownIds.{id_in, IsKnown};
 
 use crate::ir::read::known::{known_op, shared};
 use irtext_base::base::OpId;
@@ -68,8 +64,7 @@ fn registered<'c, S: CharStream, T: IrText<A>, A: AttrText>(
     id: OpId,
 ) -> ParseResult<(OpId, &'c OpInfo), A>
     ensures registers { Registers S.view S.at ctx.now.dialects start at id stream.old (id_in result) stream.new }
-    ensures known { IfOk result (λ op. registered ctx.now.dialects op.0 ≡ Some (known_of op.1.now)) }
-    ensures accepted { IfOk result (λ op. Accepted (format_of op.1.now.format)) }
+    ensures known { IfOk result (λ op. IsKnown ctx.now.dialects op.0 op.1.now) }
 {
     if !ctx.has_dialect(&id.dialect) {
         return Err(refuse_at(stream, at, Cause::UnregisteredDialect(id.dialect)));
@@ -87,8 +82,7 @@ pub(crate) fn led_id_parse<'c, S: CharStream, T: IrText<A>, A: AttrText>(
     ctx: &'c Context<T, A>,
 ) -> ParseResult<(OpId, &'c OpInfo), A>
     ensures read { MayRead S.view S.at (λ op. id_of op.0) (led_id_at ctx.now.dialects) stream.old result stream.new }
-    ensures known { IfOk result (λ op. registered ctx.now.dialects op.0 ≡ Some (known_of op.1.now)) }
-    ensures accepted { IfOk result (λ op. Accepted (format_of op.1.now.format)) }
+    ensures known { IfOk result (λ op. IsKnown ctx.now.dialects op.0 op.1.now) }
 {
     if stream.has_failed() {
         return Err(refuse(stream, Cause::StreamFailed));

@@ -1,11 +1,7 @@
 //! The id of a registered operation, found by its text.
-ghost use Rattle.std.specs.Prelude.{◌≡◌, Some, IfOk, IfErr, OnOk, IfSome, IfNone};
+ghost use Rattle.std.specs.Prelude.{◌≡◌, IfOk, IfErr, OnOk, IfSome, IfNone};
 ghost use Rattle.irtext_base.specs.Answers.{Stands, StarvesHere};
-ghost use Rattle.irtext_base.specs.Format.{Accepted};
-ghost use Rattle.irtext_context.specs.DialectTable.{registered};
-ghost use Rattle.irtext_context.specs.Dialects.{known_of};
-ghost use Rattle.irtext_context.specs.Directives.{format_of};
-ghost use Rattle.irtext_parse.specs.Readers.KnownIds.{TakesId};
+ghost use Rattle.irtext_parse.specs.Readers.KnownIds.{TakesId, IsKnown};
 
 use irtext_base::base::OpId;
 use irtext_base::parsable::{CharStream, ParseResult};
@@ -24,8 +20,7 @@ fn look_up<'c, S: CharStream, T: IrText<A>, A: AttrText>(
     ctx: &'c Context<T, A>,
 ) -> Option<(&'c OpId, &'c OpInfo)>
     ensures read { IfSome result (λ op. TakesId S.view S.at stream.old op.0.now stream.new) }
-    ensures known { IfSome result (λ op. registered ctx.now.dialects op.0.now ≡ Some (known_of op.1.now)) }
-    ensures accepted { IfSome result (λ op. Accepted (format_of op.1.now.format)) }
+    ensures known { IfSome result (λ op. IsKnown ctx.now.dialects op.0.now op.1.now) }
     ensures stands { Stands S.view S.at (S.view stream.old).failed stream.old stream.new }
 {
     let place = stream.position();
@@ -51,8 +46,7 @@ pub(crate) fn known_op<'c, S: CharStream, T: IrText<A>, A: AttrText>(
     ctx: &'c Context<T, A>,
 ) -> Option<(&'c OpId, &'c OpInfo)>
     ensures read { IfSome result (λ op. TakesId S.view S.at stream.old op.0.now stream.new) }
-    ensures known { IfSome result (λ op. registered ctx.now.dialects op.0.now ≡ Some (known_of op.1.now)) }
-    ensures accepted { IfSome result (λ op. Accepted (format_of op.1.now.format)) }
+    ensures known { IfSome result (λ op. IsKnown ctx.now.dialects op.0.now op.1.now) }
     ensures none { IfNone result (stream.new ≡ stream.old) }
 {
     let place = stream.position();

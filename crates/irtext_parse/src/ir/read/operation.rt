@@ -25,7 +25,12 @@ pub(crate) fn operation_parse<T: IrText<A>, A: AttrText, U>(
     ensures rest { KeepsRest s.old.state s.new.state }
     ensures read { IfOk result (λ op. ReadsOperation (attr_at A.IrText.reading) op s.old s.new) }
     ensures refused { IfErr result (λ fault. MissesOperation (attr_at A.IrText.reading) s.old fault s.new) }
-    ensures missed { s.old.stream.failed ≡ false → IfErr result (λ fault. Faults (is_committed (operation_at s.old.state.ctx.now.dialects (attr_at A.IrText.reading) (marks_of s.old.state) s.old.stream.rest)) (OperationRefused s.old.state.ctx.now.dialects (attr_at A.IrText.reading) (fresh_mark_at (marks_of s.old.state)) s.old.stream.rest) s.old.stream fault) }
+    ensures missed { s.old.stream.failed ≡ false →
+        IfErr result (λ fault. Faults
+        (is_committed (operation_at s.old.state.ctx.now.dialects (attr_at A.IrText.reading)
+        (marks_of s.old.state) s.old.stream.rest))
+        (OperationRefused s.old.state.ctx.now.dialects (attr_at A.IrText.reading)
+        (fresh_mark_at (marks_of s.old.state)) s.old.stream.rest) s.old.stream fault) }
     ensures unmarked { OnErr result (marks_of s.new.state ≡ marks_of s.old.state) }
     ensures kept { (mark : ℕ) → mark ≤ s.old.state.ctx.now.made → KeepsOlder mark s.old.state.ctx.now s.new.state.ctx.now }
 {

@@ -62,12 +62,16 @@ fn root_parse<T: IrText<A>, A: AttrText, U>(
 ) -> ParseResult<Ptr<Operation>, A>
     ensures lent { s.new.state.ctx.ghost_name ≡ s.old.state.ctx.ghost_name }
     ensures rest { KeepsRest s.old.state s.new.state }
-    ensures refused { IfErr result (λ fault. Refusal s.old.stream fault s.new.stream) }
     ensures read { IfOk result (λ op. ReadsWith (attr_at A.IrText.reading) config.look_for_outlined_attrs op s.old s.new) }
-    ensures missed { s.old.stream.failed ≡ false → IfErr result (λ fault. MissesWith (attr_at A.IrText.reading) config.look_for_outlined_attrs s.old fault) }
+    ensures missed { s.old.stream.failed ≡ false →
+        IfErr result (λ fault. MissesWith (attr_at A.IrText.reading) config.look_for_outlined_attrs
+        s.old fault) }
+    ensures refused { IfErr result (λ fault. Refusal s.old.stream fault s.new.stream) }
     ensures marks { OnErr result ((more : List (ℕ × Ptr Operation)) × (marks_of s.new.state ≡ marks_of s.old.state ++ more)) }
     ensures kept { OnErr result ((mark : ℕ) → mark ≤ s.old.state.ctx.now.made → KeepsOlder mark s.old.state.ctx.now s.new.state.ctx.now) }
-    ensures keeps { IsFresh s.old → OnOk result ((mark : ℕ) → mark ≤ s.old.state.ctx.now.made → KeepsOlder mark s.old.state.ctx.now s.new.state.ctx.now) }
+    ensures keeps { IsFresh s.old →
+        OnOk result ((mark : ℕ) → mark ≤ s.old.state.ctx.now.made →
+        KeepsOlder mark s.old.state.ctx.now s.new.state.ctx.now) }
 {
     let op = match operation_parse(s) {
         Ok(op) => op,
@@ -103,8 +107,12 @@ pub fn outermost_parse<T: IrText<A>, A: AttrText, U>(
     ensures refused { IfErr result (λ fault. Refusal s.old.stream fault s.new.stream) }
     ensures failed { RefusesFailed s.old.stream result s.new.stream }
     ensures read { IfOk result (λ op. ReadsWith (attr_at A.IrText.reading) config.look_for_outlined_attrs op s.old s.new) }
-    ensures missed { s.old.stream.failed ≡ false → IfErr result (λ fault. MissesWith (attr_at A.IrText.reading) config.look_for_outlined_attrs s.old fault) }
-    ensures keeps { IsFresh s.old → OnOk result ((mark : ℕ) → mark ≤ s.old.state.ctx.now.made → KeepsOlder mark s.old.state.ctx.now s.new.state.ctx.now) }
+    ensures missed { s.old.stream.failed ≡ false →
+        IfErr result (λ fault. MissesWith (attr_at A.IrText.reading) config.look_for_outlined_attrs
+        s.old fault) }
+    ensures keeps { IsFresh s.old →
+        OnOk result ((mark : ℕ) → mark ≤ s.old.state.ctx.now.made →
+        KeepsOlder mark s.old.state.ctx.now s.new.state.ctx.now) }
     ensures objects { OnErr result (SameObjects s.old.state.ctx.now s.new.state.ctx.now) }
     ensures marks { OnErr result (marks_of s.new.state ≡ marks_of s.old.state) }
 {

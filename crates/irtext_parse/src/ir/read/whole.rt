@@ -28,8 +28,13 @@ pub fn whole_parse<T: IrText<A>, A: AttrText, U>(
     ensures rest { KeepsRest s.old.state s.new.state }
     ensures refused { IfErr result (λ fault. Refusal s.old.stream fault s.new.stream) }
     ensures failed { RefusesFailed s.old.stream result s.new.stream }
-    ensures builds { IsFresh s.old → IfOk result (λ op. BuildsWhole (texts_of T.reading T.written) (texts_of A.reading A.written) (attr_at A.reading) op s.old s.new) }
-    ensures unresolved { IsFresh s.old → IfErr result (UnlessMemory (RefusesWhole (texts_of T.reading T.written) (texts_of A.reading A.written) (attr_at A.reading) s.old)) }
+    ensures builds { IsFresh s.old →
+        IfOk result (λ op. BuildsWhole (texts_of T.reading T.written) (texts_of A.reading A.written)
+        (attr_at A.reading) op s.old s.new) }
+    ensures unresolved { IsFresh s.old →
+        IfErr result (UnlessMemory
+        (RefusesWhole (texts_of T.reading T.written) (texts_of A.reading A.written)
+        (attr_at A.reading) s.old)) }
     ensures objects { IsFresh s.old → OnErr result (SameObjects s.old.state.ctx.now s.new.state.ctx.now) }
     ensures marks { IsFresh s.old → OnErr result (marks_of s.new.state ≡ []) }
 {

@@ -5,10 +5,10 @@ use Rattle.irtext_types.proofs.dialects.register_demo.Goals as goal
 
 pub returns-clause-ok : goal.returns-clause-ok
 returns-clause-ok g c =
-    on_ok_weaker c.add_nop.result
+    on_ok_weaker c.add-4.result
     (λ e.
     e
     ∙ ap (λ dialects. with_demo dialects nop_op)
-    (c.in_ok-add_scope.ensures.ok
-    ∙ ap (λ dialects. with_demo dialects scope_op) (c.in_ok-add_function.ensures.ok ∙ ap (λ dialects. with_demo dialects function_op) c.in_ok-add_module.ensures.ok)))
-    c.add_nop.ensures.ok
+    (c.in_ok-add-3.ensures.ok
+    ∙ ap (λ dialects. with_demo dialects scope_op) (c.in_ok-add-2.ensures.ok ∙ ap (λ dialects. with_demo dialects function_op) c.in_ok-add.ensures.ok)))
+    c.add-4.ensures.ok

@@ -1,8 +1,8 @@
-use Rattle.std.proofs.Common.{◌∙◌, ◌&&◌, ◌<◌, ◌+◌, ap, sym, arith, length, map, drop}
-use Rattle.irtext_base.specs.Locations.{location_view, in_row}
-use Rattle.irtext_base.specs.SameLocations.{same_view, same_rows}
+use Rattle.std.proofs.Common.{◌∙◌, ◌&&◌, ◌<◌, true, false, ap, sym, arith, length}
+use Rattle.irtext_base.specs.Locations.{location_view}
+use Rattle.irtext_base.specs.SameLocations.{same_view}
 use Rattle.irtext_base.proofs.Inside.{row_weight, item_weight}
-use Rattle.irtext_base.proofs.SameEnds.{none_same, none_left, ends_same, lengths_differ, rows_next, fused_same}
+use Rattle.irtext_base.proofs.SameEnds.{none_same, none_left, ends_same, lengths_differ, rows_on, fused_same}
 use Rattle.irtext_base.proofs.location.same.+same.Goals as goal
 
 pub are_same-returns-then-a-b : goal.are_same-returns-then-a-b
@@ -14,25 +14,13 @@ are_same-is_same-requires g t c κs within =
 
 pub are_same-returns-then-not-is_same : goal.are_same-returns-then-not-is_same
 are_same-returns-then-not-is_same g t c =
-    let E = g.A.PartialEq.eq in
-    let a = c.args.a.now in
-    let b = c.args.b.now in
-    let i = c.loop-i.i in
-    let there : i < length b = grind (arith, c.if-a-b.false, c.loop-i-test.true) in
-    let rest = same_rows E (in_row (map location_view (drop (i + 1) a))) (in_row (map location_view (drop (i + 1) b))) in
-    let step = rows_next E a b i c.index-a-i.result c.index-b-i.result c.loop-i-test.true there c.index-a-i.is c.index-b-i.is in
-    sym (ap (λ z. z && rest) (sym c.is_same.ensures ∙ c.if-not-is_same.true)) ∙ (sym step ∙ c.loop-i.invariant)
+    let there : c.loop-i.i < length c.args.b.now = grind (arith, c.if-a-b.false, c.loop-i-test.true) in
+    rows_on g.A.PartialEq.eq c.args.a.now c.args.b.now c.loop-i.i c.index-a-i.result c.index-b-i.result c.is_same.result false c.loop-i-test.true there c.index-a-i.is c.index-b-i.is c.is_same.ensures c.if-not-is_same.true c.loop-i.invariant
 
 pub are_same-loop-i-preserved : goal.are_same-loop-i-preserved
 are_same-loop-i-preserved g t c =
-    let E = g.A.PartialEq.eq in
-    let a = c.args.a.now in
-    let b = c.args.b.now in
-    let i = c.loop-i.i in
-    let there : i < length b = grind (arith, c.if-a-b.false, c.loop-i-test.true) in
-    let rest = same_rows E (in_row (map location_view (drop (i + 1) a))) (in_row (map location_view (drop (i + 1) b))) in
-    let step = rows_next E a b i c.index-a-i.result c.index-b-i.result c.loop-i-test.true there c.index-a-i.is c.index-b-i.is in
-    sym (ap (λ z. z && rest) (sym c.is_same.ensures ∙ c.if-not-is_same.false)) ∙ (sym step ∙ c.loop-i.invariant)
+    let there : c.loop-i.i < length c.args.b.now = grind (arith, c.if-a-b.false, c.loop-i-test.true) in
+    rows_on g.A.PartialEq.eq c.args.a.now c.args.b.now c.loop-i.i c.index-a-i.result c.index-b-i.result c.is_same.result true c.loop-i-test.true there c.index-a-i.is c.index-b-i.is c.is_same.ensures c.if-not-is_same.false c.loop-i.invariant
 
 pub all_but_last_fused-returns-clause-same : goal.all_but_last_fused-returns-clause-same
 all_but_last_fused-returns-clause-same g t c =

@@ -1,5 +1,6 @@
 use Rattle.irtext_graph.proofs.Views.{lives_at, can_at, moved_seen, refused_seen}
 use Rattle.irtext_graph.proofs.Frames.{inserted-keeps}
+use Rattle.irtext_graph.proofs.Logs.{logged_same, moved_what}
 use Rattle.irtext_graph.proofs.Sounds.{sound_moved}
 use Rattle.irtext_graph.proofs.graph.Graph.insert_at_back.Goals as goal
 
@@ -13,7 +14,14 @@ pub insert_last-requires-clause-can : goal.insert_last-requires-clause-can
 insert_last-requires-clause-can g c = can_at c.self.inside.made c.self.inside.values c.self.inside.objects c.args.k c.args.c (rw (← c.self.view_is) at c.requires.can)
 
 pub invariant_of-self : goal.invariant_of-self
-invariant_of-self g c = let s = c.insert_last.ensures in sound_moved c.self.inside.objects c.insert_last.new.self s.data c.self.inside.made c.self.invariant s.forest s.places
+invariant_of-self g c =
+    let s = c.insert_last.ensures in
+    let x = c.self.inside.objects in
+    let y = c.insert_last.new.self in
+    record {
+      sound = sound_moved x y s.data c.self.inside.made c.self.invariant.sound s.forest s.places;
+      logged = logged_same c.self.inside.made c.self.inside.log.items x y c.self.invariant.logged (moved_what x y c.args.k c.args.c c.insert_last.result s.ok s.err);
+    }
 
 pub returns-clause-ok : goal.returns-clause-ok
 returns-clause-ok g c = rw (← c.self.view_is) (moved_seen c.self.inside.made c.self.inside.values c.self.inside.objects c.insert_last.new.self c.args.k c.args.c c.insert_last.result c.insert_last.ensures.places c.insert_last.ensures.ok)

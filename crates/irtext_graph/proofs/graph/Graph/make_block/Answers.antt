@@ -1,10 +1,20 @@
 use Rattle.std.proofs.Common.{◌∙◌, refl, arith}
+use Rattle.irtext_graph.proofs.Logs.{logged_list, noted_list, logged_kept, block_noted, block_ages as same_ages}
 use Rattle.irtext_graph.proofs.Sounds.{sound_same, sound_block}
 use Rattle.irtext_graph.proofs.Made.{same_keeps, blocks_same, block_made, block-keeps}
 use Rattle.irtext_graph.proofs.graph.Graph.make_block.Goals as goal
 
-pub invariant_of-self : goal.invariant_of-self
-invariant_of-self g c = let x = c.self.inside.objects in sound_same c.self.inside.made x (record x { blocks = c.insert.new.self }) refl c.in_err-p.ensures.err refl c.self.invariant
+pub invariant_of-self-in_err-p : goal.invariant_of-self-in_err-p
+invariant_of-self-in_err-p g c =
+    let x = c.self.inside.objects in
+    let y = record x { blocks = c.insert.new.self } in
+    record {
+      sound = sound_same c.self.inside.made x (record x { blocks = c.insert.new.self }) refl c.in_err-p.ensures.err refl c.self.invariant.sound;
+      logged = logged_list c.self.inside.made c.self.inside.log.items c.make_room.new.log.items y c.make_room.ensures.same (logged_kept c.self.inside.made c.self.inside.log.items x y c.self.invariant.logged (same_ages x c.insert.new.self c.in_err-p.ensures.err));
+    }
+
+pub returns-in_err-make_room-clause-kept : goal.returns-in_err-make_room-clause-kept
+returns-in_err-make_room-clause-kept g c = λ m up. same_keeps m _ _ c.self.view_is
 
 pub returns-in_err-p-clause-kept : goal.returns-in_err-p-clause-kept
 returns-in_err-p-clause-kept g c = λ m up. same_keeps m _ _ (blocks_same c.self.inside.made c.self.inside.values c.self.inside.objects c.insert.new.self c.in_err-p.ensures.err c.in_err-p.ensures.err_free ∙ c.self.view_is)
@@ -12,7 +22,10 @@ returns-in_err-p-clause-kept g c = λ m up. same_keeps m _ _ (blocks_same c.self
 pub invariant_of-self-2 : goal.invariant_of-self-2
 invariant_of-self-2 g c =
     let e = c.in_ok-p.ensures in
-    sound_block c.self.inside.objects c.self.inside.made c.insert.new.self c.in_ok-p.p _ e.inserts refl c.new.ensures.items c.in_ok-arguments.ensures.unused refl c.self.invariant (omega arith) (e.few c.self.invariant.few_blocks)
+    record {
+      sound = sound_block c.self.inside.objects c.self.inside.made c.insert.new.self c.in_ok-p.p _ e.inserts refl c.new.ensures.items c.in_ok-arguments.ensures.unused refl c.self.invariant.sound (omega arith) (e.few c.self.invariant.sound.few_blocks);
+      logged = block_noted c.self.inside.made c.self.inside.log.items c.note.new.log.items c.self.inside.objects c.insert.new.self c.in_ok-p.p _ (noted_list c.self.inside.log.items c.make_room.new.log.items c.note.new.log.items _ c.make_room.ensures.same c.note.ensures) c.self.invariant.logged e.inserts.updates refl;
+    }
 
 pub returns-clause-made : goal.returns-clause-made
 returns-clause-made g c =

@@ -1,23 +1,101 @@
-use Rattle.std.proofs.Common.{◌∙◌, refl, arith}
-use Rattle.irtext_graph.proofs.Sounds.{sound_same, sound_operation}
-use Rattle.irtext_graph.proofs.Made.{same_keeps, operations_same, operation_made, operation-keeps}
+use Rattle.std.proofs.Common.{◌∙◌, ◌+◌, ℕ, ap, subst, sym, refl, arith, IsSome}
+use Rattle.irtext_graph.specs.declared.linking.Side.{Side}
+use Rattle.irtext_graph.specs.declared.linking.Side.TheVariants.{Operands, Successors}
+use Rattle.irtext_graph.specs.Uses.{val}
+use Rattle.irtext_graph.specs.Used.{without_uses}
+use Rattle.irtext_graph.specs.Linking.{site_of}
+use Rattle.irtext_graph.specs.declared.object.Defined.TheVariants.{OfValue, OfBlock}
+use Rattle.irtext_graph.proofs.UsesSeen.{head_there}
+use Rattle.irtext_graph.proofs.Sounds.{sound_same}
+use Rattle.irtext_graph.proofs.SameSeen.{same_there, same_stands}
+use Rattle.irtext_graph.proofs.Linkings.{linked_here, there_here, free_here, heads_named, stands_here, named_by, named_in, side_apart, sound_linked}
+use Rattle.irtext_graph.proofs.Logs.{logged_list, noted_list, logged_kept, operation_noted, operation_ages as same_ages}
+use Rattle.irtext_graph.proofs.LogsSeen.{logged_bare}
+use Rattle.irtext_graph.proofs.Made.{on_err, same_keeps, operations_same, operation_made, operation_made_seen, operation-keeps}
 use Rattle.irtext_graph.proofs.graph.Graph.make_operation.Goals as goal
 
-pub invariant_of-self : goal.invariant_of-self
-invariant_of-self g c = let x = c.self.inside.objects in sound_same c.self.inside.made x (record x { operations = c.insert.new.self }) c.in_err-p.ensures.err refl refl c.self.invariant
+pub invariant_of-self-in_err-p : goal.invariant_of-self-in_err-p
+invariant_of-self-in_err-p g c =
+    let x = c.self.inside.objects in
+    let y = record x { operations = c.insert.new.self } in
+    record {
+      sound = sound_same c.self.inside.made x (record x { operations = c.insert.new.self }) c.in_err-p.ensures.err refl refl c.self.invariant.sound;
+      logged = logged_list c.self.inside.made c.self.inside.log.items c.make_room.new.log.items y c.make_room.ensures.same (logged_kept c.self.inside.made c.self.inside.log.items x y c.self.invariant.logged (same_ages x c.insert.new.self c.in_err-p.ensures.err));
+    }
+
+pub returns-in_err-make_room-clause-kept : goal.returns-in_err-make_room-clause-kept
+returns-in_err-make_room-clause-kept g c = λ m up. same_keeps m _ _ c.self.view_is
+
+pub returns-in_err-p-clause-err : goal.returns-in_err-p-clause-err
+returns-in_err-p-clause-err g c = on_err _ (operations_same c.self.inside.made c.self.inside.values c.self.inside.objects c.insert.new.self c.in_err-p.ensures.err c.in_err-p.ensures.err_free ∙ c.self.view_is)
 
 pub returns-in_err-p-clause-kept : goal.returns-in_err-p-clause-kept
 returns-in_err-p-clause-kept g c = λ m up. same_keeps m _ _ (operations_same c.self.inside.made c.self.inside.values c.self.inside.objects c.insert.new.self c.in_err-p.ensures.err c.in_err-p.ensures.err_free ∙ c.self.view_is)
 
+pub attach_all-requires-clause-linked : goal.attach_all-requires-clause-linked
+attach_all-requires-clause-linked g c = linked_here c.self.inside.objects c.self.inside.made c.insert.new.self c.in_ok-p.p _ c.in_ok-p.ensures.inserts _ _ _ _ _ c.in_ok-blank.ensures c.self.invariant.sound.uses
+
+pub attach_all-requires-clause-there : goal.attach_all-requires-clause-there
+attach_all-requires-clause-there g c = λ i low. there_here c.self.inside.objects c.self.inside.made c.insert.new.self c.in_ok-p.p _ c.in_ok-p.ensures.inserts _ _ _ _ _ c.in_ok-blank.ensures Operands i (omega (arith, low))
+
+pub attach_all-requires-clause-free : goal.attach_all-requires-clause-free
+attach_all-requires-clause-free g c = free_here c.self.inside.objects c.self.inside.made c.insert.new.self c.in_ok-p.p _ c.in_ok-p.ensures.inserts _ _ _ _ _ c.in_ok-blank.ensures Operands
+
+pub attach_all-requires-clause-stands : goal.attach_all-requires-clause-stands
+attach_all-requires-clause-stands g c =
+    stands_here c.self.inside.objects c.self.inside.made c.insert.new.self c.in_ok-p.p _ c.in_ok-p.ensures.inserts _ _ _ _ _ c.in_ok-blank.ensures
+    (heads_named c.self.inside.objects c.self.inside.made c.insert.new.self c.in_ok-p.p _ c.in_ok-p.ensures.inserts _ _ _ _ _ c.in_ok-blank.ensures
+    (λ j v e. head_there c.self.inside.made c.self.inside.values c.self.inside.objects (OfValue v) (rw (← c.self.view_is) at (c.requires.operands j v e)))
+    (λ j b e. head_there c.self.inside.made c.self.inside.values c.self.inside.objects (OfBlock b) (rw (← c.self.view_is) at (c.requires.successors j b e))))
+    Operands
+
+pub attach_all-requires-2-clause-linked : goal.attach_all-requires-2-clause-linked
+attach_all-requires-2-clause-linked g c = c.attach_all.ensures.linked
+
+pub attach_all-requires-2-clause-there : goal.attach_all-requires-2-clause-there
+attach_all-requires-2-clause-there g c = λ i low.
+    same_there (record c.self.inside.objects { operations = c.insert.new.self }) c.attach_all.new.self c.attach_all.ensures.seen (site_of Successors c.in_ok-p.p i)
+    (there_here c.self.inside.objects c.self.inside.made c.insert.new.self c.in_ok-p.p _ c.in_ok-p.ensures.inserts _ _ _ _ _ c.in_ok-blank.ensures Successors i (omega (arith, low)))
+
+pub attach_all-requires-2-clause-free : goal.attach_all-requires-2-clause-free
+attach_all-requires-2-clause-free g c = λ i. c.attach_all.ensures.kept (site_of Successors c.in_ok-p.p i) (λ j. side_apart c.in_ok-p.p i j) ∙ free_here c.self.inside.objects c.self.inside.made c.insert.new.self c.in_ok-p.p _ c.in_ok-p.ensures.inserts _ _ _ _ _ c.in_ok-blank.ensures Successors i
+
+pub attach_all-requires-2-clause-stands : goal.attach_all-requires-2-clause-stands
+attach_all-requires-2-clause-stands g c = λ i.
+    same_stands (record c.self.inside.objects { operations = c.insert.new.self }) c.attach_all.new.self c.attach_all.ensures.seen (site_of Successors c.in_ok-p.p i)
+    (stands_here c.self.inside.objects c.self.inside.made c.insert.new.self c.in_ok-p.p _ c.in_ok-p.ensures.inserts _ _ _ _ _ c.in_ok-blank.ensures
+    (heads_named c.self.inside.objects c.self.inside.made c.insert.new.self c.in_ok-p.p _ c.in_ok-p.ensures.inserts _ _ _ _ _ c.in_ok-blank.ensures
+    (λ j v e. head_there c.self.inside.made c.self.inside.values c.self.inside.objects (OfValue v) (rw (← c.self.view_is) at (c.requires.operands j v e)))
+    (λ j b e. head_there c.self.inside.made c.self.inside.values c.self.inside.objects (OfBlock b) (rw (← c.self.view_is) at (c.requires.successors j b e))))
+    Successors i)
+
 pub invariant_of-self-2 : goal.invariant_of-self-2
 invariant_of-self-2 g c =
+    let x = c.self.inside.objects in
+    let one = c.attach_all.ensures in
+    let two = c.attach_all-2.ensures in
     let e = c.in_ok-p.ensures in
-    sound_operation c.self.inside.objects c.self.inside.made c.insert.new.self c.in_ok-p.p _ e.inserts refl c.new.ensures.items c.new-2.ensures.items c.new-3.ensures.items c.in_ok-results.ensures.unused c.self.invariant (omega arith) (e.few c.self.invariant.few_operations)
+    record {
+      sound = sound_linked x c.self.inside.made c.insert.new.self c.in_ok-p.p _ e.inserts _ _ _ _ _ c.in_ok-blank.ensures
+          c.attach_all-2.new.self (two.seen ∙ one.seen) two.linked used (λ u away. two.kept u (away Successors) ∙ one.kept u (away Operands))
+          c.self.invariant.sound (omega arith) (e.few c.self.invariant.sound.few_operations);
+      logged = logged_bare (c.self.inside.made + 1) c.note.new.log.items (record x { operations = c.insert.new.self }) c.attach_all-2.new.self (ap without_uses (two.seen ∙ one.seen))
+          (operation_noted c.self.inside.made c.self.inside.log.items c.note.new.log.items x c.insert.new.self c.in_ok-p.p _ (noted_list c.self.inside.log.items c.make_room.new.log.items c.note.new.log.items _ c.make_room.ensures.same c.note.ensures) c.self.invariant.logged e.inserts.updates refl);
+    }
+  where
+    used : (s : Side) (j : ℕ) → IsSome (named_by c.args.operands.now c.args.successors.now s j) → IsSome (val c.attach_all-2.new.self (site_of s c.in_ok-p.p j))
+    used Operands j h =
+        subst (λ o. IsSome o) (sym (c.attach_all-2.ensures.kept (site_of Operands c.in_ok-p.p j) (λ k e. side_apart c.in_ok-p.p k j (sym e))))
+        (c.attach_all.ensures.used j (let low = named_in c.self.inside.objects c.self.inside.made c.insert.new.self c.in_ok-p.p _ c.in_ok-p.ensures.inserts _ _ _ _ _ c.in_ok-blank.ensures Operands j h in omega (arith, low)))
+    used Successors j h = c.attach_all-2.ensures.used j (let low = named_in c.self.inside.objects c.self.inside.made c.insert.new.self c.in_ok-p.p _ c.in_ok-p.ensures.inserts _ _ _ _ _ c.in_ok-blank.ensures Successors j h in omega (arith, low))
 
 pub returns-clause-made : goal.returns-clause-made
 returns-clause-made g c =
-    rw (← c.self.view_is) (operation_made c.self.inside.made c.self.inside.values c.in-Some.next c.self.inside.objects c.insert.new.self c.in_ok-p.p _ c.args.value c.args.types.items c.in_ok-p.ensures.inserts refl refl c.new.ensures.items refl c.new-2.ensures.items c.new-3.ensures.items
-    c.in_ok-results.ensures.values (omega (arith, c.in-Some.ensures.1, c.len.ensures)))
+    rw (← c.self.view_is)
+    (operation_made_seen c.self.inside.made c.self.inside.values c.in-Some.next c.self.inside.objects (record c.self.inside.objects { operations = c.insert.new.self }) c.attach_all-2.new.self c.in_ok-p.p _ _ _ _
+    (c.attach_all-2.ensures.seen ∙ c.attach_all.ensures.seen)
+    (operation_made c.self.inside.made c.self.inside.values c.in-Some.next c.self.inside.objects c.insert.new.self c.in_ok-p.p _ _ _ _ _ c.in_ok-p.ensures.inserts refl c.in_ok-blank.ensures
+    (omega (arith, c.in-Some.ensures.1, c.len.ensures))))
 
 pub returns-clause-kept : goal.returns-clause-kept
-returns-clause-kept g c = λ m up. operation-keeps m _ _ c.in_ok-p.p c.args.value c.args.types.items up (returns-clause-made g c)
+returns-clause-kept g c = λ m up. operation-keeps m _ _ c.in_ok-p.p _ _ _ _ up (returns-clause-made g c)

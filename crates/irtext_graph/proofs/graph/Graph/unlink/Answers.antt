@@ -2,6 +2,7 @@ use Rattle.std.proofs.Common.{◌∙◌, sym, ap, slice_get}
 use Rattle.std.specs.List.{remove}
 use Rattle.irtext_graph.proofs.Views.{lives_at, up_seen, kids_seen, keeps_seen}
 use Rattle.irtext_graph.proofs.Frames.{unlinked-keeps}
+use Rattle.irtext_graph.proofs.Logs.{logged_same}
 use Rattle.irtext_graph.proofs.Sounds.{sound_moved}
 use Rattle.irtext_graph.proofs.graph.Graph.unlink.Goals as goal
 
@@ -9,7 +10,14 @@ pub unlink-requires-clause-lives : goal.unlink-requires-clause-lives
 unlink-requires-clause-lives g c = lives_at c.self.inside.made c.self.inside.values c.self.inside.objects c.args.c (rw (← c.self.view_is) at c.requires)
 
 pub invariant_of-self : goal.invariant_of-self
-invariant_of-self g c = let s = c.unlink.ensures in sound_moved c.self.inside.objects c.unlink.new.self s.all_data c.self.inside.made c.self.invariant s.forest s.places
+invariant_of-self g c =
+    let s = c.unlink.ensures in
+    let x = c.self.inside.objects in
+    let y = c.unlink.new.self in
+    record {
+      sound = sound_moved x y s.all_data c.self.inside.made c.self.invariant.sound s.forest s.places;
+      logged = logged_same c.self.inside.made c.self.inside.log.items x y c.self.invariant.logged s.data;
+    }
 
 pub returns-clause-unlinks : goal.returns-clause-unlinks
 returns-clause-unlinks g c =

@@ -1,6 +1,6 @@
 use Rattle.std.proofs.Common.{ap, map}
-use Rattle.irtext_graph.specs.Content.{operation_content, node_of}
-use Rattle.irtext_graph.proofs.Linked.{first_seen}
+use Rattle.irtext_graph.specs.Content.{operation_content, node_of, typed}
+use Rattle.std.proofs.Math.Seq.{map-set_same}
 use Rattle.irtext_graph.proofs.Stores.{content_same}
 use Rattle.irtext_graph.proofs.links.Arena+Nest+BasicBlock+Region+OperationData+O+T.set_first_result.Goals as goal
 
@@ -8,5 +8,5 @@ pub returns-clause-seen : goal.returns-clause-seen
 returns-clause-seen g c =
     let x = c.content_mut.result.now in
     content_same (node_of operation_content) c.args.self.now c.args.p x _ c.content_mut.ensures.value
-    (ap (λ ds. record { parent = x.parent; children = x.children.items; content = record { data_of = x.data.data; operands = map (λ o. o.value) x.data.operands.items; successors = map (λ s. s.block) x.data.successors.items; results = ds } })
-    (first_seen x.data.results.items c.args.i c.index_mut.result.now c.args.h c.index_mut.ensures.value))
+    (ap (λ ds. record { parent = x.parent; children = x.children.items; content = record { data_of = x.data.data; operands = map (λ u. u.def) x.data.operands.items; successors = map (λ u. u.def) x.data.successors.items; results = ds } })
+    (map-set_same typed x.data.results.items c.args.i _ c.index_mut.result.now (ap typed c.index_mut.ensures.value)))

@@ -1,28 +1,15 @@
-use Rattle.std.proofs.Common.{◌≡◌, ◌∙◌, sym, ap, refl, Some, slice_get, map, option_map}
-use Rattle.irtext_graph.specs.Content.{operation_content, node_of, typed}
-use Rattle.irtext_graph.specs.Uses.{operand_in, successor_in, result_in}
-use Rattle.irtext_graph.proofs.Arenas.{replaced, stood, same_view, same_elsewhere}
-use Rattle.irtext_graph.proofs.Linked.{site_same, map_set_seen}
-use Rattle.irtext_graph.proofs.Pointers.{slice_get-set_other}
-use Rattle.irtext_graph.proofs.Stores.{content_same}
+use Rattle.std.proofs.Common.{◌∙◌, refl}
+use Rattle.irtext_graph.specs.declared.object.Defined.TheVariants.{OfBlock}
+use Rattle.irtext_graph.specs.Uses.{successor_in}
+use Rattle.irtext_graph.proofs.Fewer.{bare_same, content_fewer, defs_fewer, in_data, less_right}
 use Rattle.irtext_graph.proofs.links.Arena+Nest+BasicBlock+Region+OperationData+O+T.set_successor.Goals as goal
 
-pub returns-clause-others : goal.returns-clause-others
-returns-clause-others g c = λ w ne.
-    same_elsewhere successor_in c.args.u.index (replaced c.args.self.now c.args.u.op c.content_mut.result.now _ c.content_mut.ensures.value)
-    (λ b j n. slice_get-set_other c.content_mut.result.now.data.successors.items c.args.u.index j c.args.o n) w.op w.index (λ e f. ne (site_same w c.args.u e f))
+pub returns-clause-bare : goal.returns-clause-bare
+returns-clause-bare g c = bare_same c.args.self.now c.args.p c.content_mut.result.now _ c.content_mut.ensures.value refl
 
-pub returns-clause-results : goal.returns-clause-results
-returns-clause-results g c = λ q i. same_view (λ e. result_in e i) (replaced c.args.self.now c.args.u.op c.content_mut.result.now _ c.content_mut.ensures.value) (λ b. refl) q
-
-pub returns-clause-operands : goal.returns-clause-operands
-returns-clause-operands g c = λ q i. same_view (λ e. operand_in e i) (replaced c.args.self.now c.args.u.op c.content_mut.result.now _ c.content_mut.ensures.value) (λ b. refl) q
-
-pub returns-clause-seen : goal.returns-clause-seen
-returns-clause-seen g c =
+pub returns-clause-fewer : goal.returns-clause-fewer
+returns-clause-fewer g c = λ o e ne.
     let x = c.content_mut.result.now in
-    let r = stood c.args.self.now c.args.u.op x c.content_mut.ensures.value in
-    let same : option_map (λ o. o.block) (slice_get x.data.successors.items c.args.u.index) ≡ Some c.args.o.block =
-    ap (λ e. option_map (λ o. o.block) (successor_in e c.args.u.index)) (sym r.1) ∙ c.requires.same in
-    content_same (node_of operation_content) c.args.self.now c.args.u.op x _ c.content_mut.ensures.value
-    (ap (λ os. record { parent = x.parent; children = x.children.items; content = record { data_of = x.data.data; operands = map (λ o. o.value) x.data.operands.items; successors = os; results = map typed x.data.results.items } }) (map_set_seen (λ o. o.block) x.data.successors.items c.args.u.index c.args.o same))
+    let at = in_data c.args.self.now c.args.p x x c.content_mut.ensures.value (λ e. successor_in e c.args.i) in
+    content_fewer c.args.self.now c.args.p x _ c.content_mut.ensures.value (OfBlock o.def)
+    (less_right _ _ _ (defs_fewer OfBlock x.data.successors.items c.args.i c.index_mut.result.now c.args.d o c.index_mut.ensures.value (at.1 ∙ e) (λ q. ne (cc))))

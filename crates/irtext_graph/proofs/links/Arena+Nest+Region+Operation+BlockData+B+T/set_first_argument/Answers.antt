@@ -1,6 +1,6 @@
 use Rattle.std.proofs.Common.{ap}
-use Rattle.irtext_graph.specs.Content.{block_content, node_of}
-use Rattle.irtext_graph.proofs.Linked.{first_seen}
+use Rattle.irtext_graph.specs.Content.{block_content, node_of, typed}
+use Rattle.std.proofs.Math.Seq.{map-set_same}
 use Rattle.irtext_graph.proofs.Stores.{content_same}
 use Rattle.irtext_graph.proofs.links.Arena+Nest+Region+Operation+BlockData+B+T.set_first_argument.Goals as goal
 
@@ -9,4 +9,4 @@ returns-clause-seen g c =
     let x = c.content_mut.result.now in
     content_same (node_of block_content) c.args.self.now c.args.p x _ c.content_mut.ensures.value
     (ap (λ ds. record { parent = x.parent; children = x.children.items; content = record { data_of = x.data.data; arguments = ds } })
-    (first_seen x.data.arguments.items c.args.i c.index_mut.result.now c.args.h c.index_mut.ensures.value))
+    (map-set_same typed x.data.arguments.items c.args.i _ c.index_mut.result.now (ap typed c.index_mut.ensures.value)))

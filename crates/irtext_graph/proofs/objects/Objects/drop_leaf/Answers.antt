@@ -3,6 +3,7 @@ use Rattle.irtext_graph.specs.Objects.{up, eq_object}
 use Rattle.irtext_graph.proofs.Nests.{told, renested, some_eq}
 use Rattle.irtext_graph.proofs.Same.{object_tells}
 use Rattle.irtext_graph.proofs.Erased.{childless, same_on}
+use Rattle.irtext_graph.proofs.Kept.{datum_on, datum_at, sheds_on, sheds_none}
 use Rattle.irtext_graph.proofs.objects.Objects.drop_leaf.Goals as goal
 
 pub returns-clause-drops : goal.returns-clause-drops
@@ -23,5 +24,7 @@ returns-clause-drops g c =
       parent = (v.others k k_not).same_up ∙ u.ups k k_not;
       same = (v.others k k_not).same_what ∙ u.data k;
       others = λ q nk nc. same_on (record { same_up = u.ups q nc; same_kids = u.kids q (λ f. nk (sym (some_eq (sym e ∙ f)))); same_what = u.data q }) (v.others q nc);
+      kept_data = λ q nc. datum_on (datum_at u.all_data q) (v.data q nc);
+      sheds = sheds_on (sheds_none u.places) v.sheds;
       fewer = let a = u.less (rw e refl) in let b = v.links in omega (arith, a, b);
     }

@@ -1,5 +1,6 @@
 use Rattle.std.proofs.Common.{◌≡◌, ◌≢◌, refl, subst}
-use Rattle.irtext_graph.proofs.Erased.{Erasing, erasing_begins, erasing_goes_on, parent_inside, parent_stays, end_forest, end_gone, end_kept}
+use Rattle.irtext_graph.proofs.Erased.{Erasing, erasing_begins, erasing_goes_on, parent_inside, parent_stays, end_forest, end_gone, end_kept, end_data}
+use Rattle.irtext_graph.proofs.Kept.{sheds_on}
 use Rattle.irtext_graph.proofs.objects.Objects.erase_all.Goals as goal
 
 pub loop-at-init : goal.loop-at-init
@@ -42,4 +43,6 @@ returns g c =
       forest = end_forest x0 x y o w v.gone v.gone_up v.gone_kids v.others;
       gone = end_gone x0 x y o w v.gone v.gone_up v.gone_kids v.others;
       kept = end_kept x0 x y o w v.gone v.gone_up v.gone_kids v.others;
+      kept_data = end_data x0 x y o w v.gone v.gone_up v.gone_kids v.others v.data;
+      sheds = sheds_on w.sheds v.sheds;
     }

@@ -1,7 +1,8 @@
 use Rattle.std.proofs.Common.{◌≡◌, ◌-◌, suc, Some, length}
 use Rattle.irtext_graph.specs.Nested.{Within}
 use Rattle.irtext_graph.specs.Objects.{up, kids, Lives}
-use Rattle.irtext_graph.proofs.Depth.{slots, depth_of}
+use Rattle.irtext_graph.specs.Preorder.{slots}
+use Rattle.irtext_graph.proofs.Depth.{depth_of}
 use Rattle.irtext_graph.proofs.objects.Objects.innermost.Given as goal
 
 abbrev pub invariant-loop-count : goal.invariant-loop-count

@@ -8,4 +8,4 @@ pub returns : goal.returns
 returns g c =
     let m = g.met.S.CharStream in
     let bytes = c.args.text.now in
-    word_accepted g.S.CharStream.view g.S.CharStream.at m.view_at m.at_view m.at_at (characters bytes) c.args.stream.now c.accept.new.self c.accept.result (rw (← chars_from_encodes (characters bytes) bytes c.utf8.text (encodes-characters bytes c.utf8.text)) at c.accept.ensures)
+    word_accepted g.S.CharStream.view g.S.CharStream.at m.view_at m.at_view m.at_at (characters bytes) c.args.stream.now c.accept_spaced.new.self c.accept_spaced.result (rw (← chars_from_encodes (characters bytes) bytes c.utf8.text (encodes-characters bytes c.utf8.text)) at c.accept_spaced.ensures)

@@ -11,7 +11,7 @@ use Rattle.irtext_outcomes.specs.Readers.Positions.{space_at, spaced_at}
 use Rattle.irtext_grammar.specs.Contexts.Held.{location_over}
 use Rattle.irtext_outcomes.specs.Promises.Section.{given_over}
 use Rattle.irtext_outcomes.specs.Readers.Section.{entry_location_at}
-use Rattle.irtext_outcomes.proofs.Locations.Rows.{at_length}
+use Rattle.irtext_outcomes.proofs.Locations.Bounds.{at_length}
 use Rattle.irtext_outcomes.proofs.Readers.PlainStream.{alone}
 use Rattle.irtext_outcomes.proofs.Readers.Steps.{starts, more, spaced, refuses, last_spaced}
 use Rattle.irtext_parse.proofs.irfmt.outlined.entry_location.Goals as goal

@@ -1,18 +1,8 @@
-use Rattle.std.proofs.Common.{pos, subst}
-use Rattle.irtext_base.specs.Answers.{NeedsNoMemory, unless_failed}
-use Rattle.irtext_read.specs.Integers.{int_at, unsigned_below}
-use Rattle.irtext_read.specs.Tokens.{number_at}
-use Rattle.irtext_read.proofs.Numbers.{number_is, number_must}
-use Rattle.irtext_read.proofs.Sparing.{demanded_spares, unmapped_spares}
+use Rattle.irtext_read.proofs.Numbers.{number_must, number_spares}
 use Rattle.irtext_read.proofs.irfmt.demanded.usize_demanded.Goals as goal
 
 pub returns-clause-read : goal.returns-clause-read
-returns-clause-read g c =
-    let m = g.met.S.CharStream in
-    number_must g.S.CharStream.view g.S.CharStream.at m.view_at m.at_at c.args.stream.now c.int_parse-answer.new.stream c.committed.new.stream c.int_parse-answer.result c.committed.result c.int_parse-answer.ensures.answers c.committed.ensures
+returns-clause-read g c = number_must g.S.CharStream.view g.S.CharStream.at g.met.S.CharStream.view_at g.met.S.CharStream.at_at c.args.stream.now c.int_parse-answer.new.stream c.committed.new.stream c.int_parse-answer.result c.committed.result c.int_parse-answer.ensures.answers c.committed.ensures
 
 pub returns-clause-spares : goal.returns-clause-spares
-returns-clause-spares g c =
-    let v = g.S.CharStream.view c.args.stream.now in
-    let k = demanded_spares g.S.CharStream.view g.S.CharStream.at c.int_parse-answer.new.stream c.committed.new.stream (unless_failed v.failed (int_at (unsigned_below 64) v.rest)) c.int_parse-answer.result c.committed.result c.int_parse-answer.ensures.spares c.committed.ensures in
-    unmapped_spares _ pos (v.failed) (number_at v.rest) c.committed.result (subst (λ o. NeedsNoMemory (unless_failed v.failed o) c.committed.result) (number_is v.rest) k)
+returns-clause-spares g c = number_spares g.S.CharStream.view g.S.CharStream.at g.met.S.CharStream.view_at g.met.S.CharStream.at_at c.args.stream.now c.int_parse-answer.new.stream c.committed.new.stream c.int_parse-answer.result c.committed.result c.int_parse-answer.ensures.spares c.committed.ensures

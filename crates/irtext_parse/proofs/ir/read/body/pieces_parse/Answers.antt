@@ -15,8 +15,8 @@ returns-in_err-pieces-clause-missed g c =
     let dialects = c.args.ctx.now.dialects in
     let op = c.in_ok-id in
     let p = err_from_is_err_and c.from_residual-in_err-pieces.result c.from_residual-in_err-pieces.ensures.1 in
-    rw (p.1, p.2) (by_pieces op.id c.led_id_parse.new.stream (read_alone (Ok _) op.ensures.read) (known_accepted dialects op.id op.info.now op.ensures.known op.ensures.accepted)
-    (body_read dialects (attr_at g.A.IrText.reading) op.id op.info.now op.ensures.known (Err _) c.in_err-pieces.ensures))
+    rw (p.1, p.2) (by_pieces op.id c.led_id_parse.new.stream (read_alone (Ok _) op.ensures.read) (known_accepted dialects op.id op.info.now op.ensures.known)
+    (body_read dialects (attr_at g.A.IrText.reading) op.id op.info.now op.ensures.known.known (Err _) c.in_err-pieces.ensures))
 
 pub returns-clause-read : goal.returns-clause-read
 returns-clause-read g c =
@@ -25,6 +25,6 @@ returns-clause-read g c =
     record {
       middle = c.led_id_parse.new.stream;
       id_read = read_alone (Ok _) op.ensures.read;
-      accepted = known_accepted dialects op.id op.info.now op.ensures.known op.ensures.accepted;
-      pieces_read = body_read dialects (attr_at g.A.IrText.reading) op.id op.info.now op.ensures.known (Ok _) c.in_ok-pieces.ensures;
+      accepted = known_accepted dialects op.id op.info.now op.ensures.known;
+      pieces_read = body_read dialects (attr_at g.A.IrText.reading) op.id op.info.now op.ensures.known.known (Ok _) c.in_ok-pieces.ensures;
     }

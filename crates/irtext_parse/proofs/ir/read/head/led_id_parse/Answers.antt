@@ -15,7 +15,7 @@ stream g = let m = g.met.S.CharStream in lens g.S.CharStream.view g.S.CharStream
 
 pub returns-in-Some-clause-read : goal.returns-in-Some-clause-read
 returns-in-Some-clause-read g c =
-    led_found c.args.ctx.now.dialects (stream g) c.shared.result (record { fine = sym c.has_failed.ensures ∙ c.if-has_failed.false; lead = c.lead_parse-led.ensures.takes; id = c.in-Some.ensures.read; known = ap is_some c.in-Some.ensures.known }) c.shared.ensures.id c.shared.ensures.stream c.shared.ensures.starved
+    led_found c.args.ctx.now.dialects (stream g) c.shared.result (record { fine = sym c.has_failed.ensures ∙ c.if-has_failed.false; lead = c.lead_parse-led.ensures.takes; id = c.in-Some.ensures.read; known = ap is_some c.in-Some.ensures.known.known }) c.shared.ensures.id c.shared.ensures.stream c.shared.ensures.starved
 
 pub returns-in_err-id-in-None-clause-read : goal.returns-in_err-id-in-None-clause-read
 returns-in_err-id-in-None-clause-read g c =

@@ -1,13 +1,12 @@
-use Rattle.std.proofs.Common.{◌≡◌, ◌++◌, ◌∷◌, [], sym, ◌∙◌, ap, subst}
+use Rattle.std.proofs.Common.{◌≡◌, sym, ◌∙◌, ap, subst}
 use Rattle.std.specs.Prelude.{IfSome}
 use Rattle.irtext_base.specs.Text.{front, after, in_word}
-use Rattle.irtext_base.specs.Answers.{Stands}
 use Rattle.irtext_base.specs.declared.base.identifier.OpId.{OpId}
-use Rattle.irtext_base.proofs.Compose.{seen_after, takes_more, takes_stands}
+use Rattle.irtext_base.proofs.Compose.{seen_after}
 use Rattle.irtext_context.specs.Named.{id_of_texts}
 use Rattle.irtext_read.proofs.Words.{encodes-front_word, taken_since}
 use Rattle.irtext_outcomes.proofs.Readers.Steps.{Lens, lens}
-use Rattle.irtext_parse.proofs.Readers.KnownIds.{dotted, found_there}
+use Rattle.irtext_parse.proofs.Readers.KnownIds.{dotted, dotted_stands, word_stands, found_there}
 use Rattle.irtext_parse.proofs.ir.read.known.look_up.Given as given
 use Rattle.irtext_parse.proofs.ir.read.known.look_up.Goals as goal
 
@@ -17,12 +16,9 @@ stream g = let m = g.met.S.CharStream in lens g.S.CharStream.view g.S.CharStream
 
 pub returns-then-not-skip_identifier-2-clause-stands : goal.returns-then-not-skip_identifier-2-clause-stands
 returns-then-not-skip_identifier-2-clause-stands g c =
-    let l = stream g in
-    let old = c.args.stream.now in
-    let mid = c.take.new.self in
     let word = c.if-not-skip_identifier.ensures in
-    let d = dotted l old c.skip_identifier.new.stream mid word.0 word.1 (sym c.next_is.ensures ∙ c.if-not-next_is.false) c.take.ensures.after in
-    subst (λ s. Stands l.view l.at (l.view old).failed old s) (sym c.if-not-skip_identifier-2.ensures) (takes_stands l.view l.at l.view_at l.at_at old mid (front in_word (l.view old).rest ++ (46 ∷ [])) (l.view mid).rest d.takes)
+    let d = dotted (stream g) c.args.stream.now c.skip_identifier.new.stream c.take.new.self word.0 word.1 (sym c.next_is.ensures ∙ c.if-not-next_is.false) c.take.ensures.after in
+    dotted_stands (stream g) d c.if-not-skip_identifier-2.ensures
 
 pub text_since-requires-2 : goal.text_since-requires-2
 text_since-requires-2 g c =
@@ -49,11 +45,6 @@ returns-clause-read g c =
 
 pub returns-clause-stands : goal.returns-clause-stands
 returns-clause-stands g c =
-    let l = stream g in
-    let old = c.args.stream.now in
-    let mid = c.take.new.self in
-    let name = (l.view mid).rest in
     let word = c.if-not-skip_identifier.ensures in
-    let d = dotted l old c.skip_identifier.new.stream mid word.0 word.1 (sym c.next_is.ensures ∙ c.if-not-next_is.false) c.take.ensures.after in
-    let first = front in_word (l.view old).rest ++ (46 ∷ []) in
-    takes_stands l.view l.at l.view_at l.at_at old c.skip_identifier-2.new.stream (first ++ front in_word name) (after in_word name) (takes_more l.view l.at l.view_at l.at_at old mid c.skip_identifier-2.new.stream first name (front in_word name) (after in_word name) d.takes c.if-not-skip_identifier-2.ensures.1)
+    let d = dotted (stream g) c.args.stream.now c.skip_identifier.new.stream c.take.new.self word.0 word.1 (sym c.next_is.ensures ∙ c.if-not-next_is.false) c.take.ensures.after in
+    word_stands (stream g) d c.if-not-skip_identifier-2.ensures.1

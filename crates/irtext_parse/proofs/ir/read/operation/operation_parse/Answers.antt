@@ -1,16 +1,13 @@
-use Rattle.std.proofs.Common.{◌++◌, refl, sym, subst, ap, ◌∙◌}
+use Rattle.std.proofs.Common.{◌++◌, refl, ap, ◌∙◌}
 use Rattle.std.proofs.lemmas.Result.{err_from_is_err_and}
 use Rattle.irtext_base.specs.Faults.{id_of}
 use Rattle.irtext_read.specs.AttrTexts.{attr_at}
 use Rattle.irtext_state.specs.States.{marks_of}
-use Rattle.irtext_outcomes.specs.Promises.Operation.{operation_at}
 use Rattle.irtext_outcomes.specs.Readers.Operations.{operation_with}
-use Rattle.irtext_parse.specs.Readers.PiecesOf.{pieces_of}
 use Rattle.irtext_outcomes.specs.Readers.Marks.{noted}
-use Rattle.irtext_outcomes.proofs.Readers.OperationSteps.{mark_next, space_next, body_next, operation_missed, read_accepts}
-use Rattle.irtext_outcomes.proofs.Readers.PlainStream.{alone}
-use Rattle.irtext_outcomes.proofs.Readers.Steps.{Passed, begins_with, begun_by, spaced, more, refuses_seen, last_seen, starved}
+use Rattle.irtext_parse_formats.specs.PiecesOf.{pieces_of}
 use Rattle.irtext_parse.proofs.Readers.KnownIds.{pieces_refused, pieces_missed}
+use Rattle.irtext_parse.proofs.Readers.OperationReads.{made_refused, mark_refused, mark_missed, mark_read}
 use Rattle.irtext_parse.proofs.ir.read.operation.operation_parse.Goals as goal
 
 pub returns-in_err-id-clause-refused : goal.returns-in_err-id-clause-refused
@@ -28,45 +25,22 @@ returns-in_err-id-clause-missed g c = λ e.
 pub returns-in_err-op-clause-refused : goal.returns-in_err-op-clause-refused
 returns-in_err-op-clause-refused g c =
     let s = c.args.s.now in
-    let attr = attr_at g.A.IrText.reading in
-    let next = body_next s.state.ctx.now.dialects attr (marks_of s.state) in
-    let space = space_next s.state.ctx.now.dialects attr (marks_of s.state) (id_of c.in_ok-id.id) in
     let p = err_from_is_err_and c.from_residual-in_err-op.result c.from_residual-in_err-op.ensures.1 in
-    let q = more alone space (begins_with alone next c.in_ok-id.ensures.read.id_read) c.in_ok-id.ensures.read.pieces_read in
-    rw (p.1, p.2) (begun_by alone next c.in_ok-id.ensures.read.id_read (starved alone q c.in_err-op.ensures.starved))
+    rw (p.1, p.2) (made_refused s.state.ctx.now.dialects (attr_at g.A.IrText.reading) (marks_of s.state) c.in_ok-id.ensures.read c.in_err-op.ensures.starved)
 
 pub returns-in_err-operation_mark_parse-clause-refused : goal.returns-in_err-operation_mark_parse-clause-refused
 returns-in_err-operation_mark_parse-clause-refused g c =
     let s = c.args.s.now in
-    let dialects = s.state.ctx.now.dialects in
-    let attr = attr_at g.A.IrText.reading in
-    let marks = marks_of s.state in
-    let id = id_of c.in_ok-id.id in
-    let pieces = pieces_of c.in_ok-id.pieces in
-    let next = body_next dialects attr marks in
-    let q = more alone (space_next dialects attr marks id) (begins_with alone next c.in_ok-id.ensures.read.id_read) c.in_ok-id.ensures.read.pieces_read in
-    let q1 = subst (λ v. Passed alone (operation_at dialects attr marks) (space_next dialects attr marks id pieces) s.stream v) (sym c.in_ok-op.ensures.stream) q in
-    let q2 = spaced alone (mark_next dialects attr marks id pieces) q1 c.skip_white_space.ensures in
+    let op = c.in_ok-op.ensures in
     let p = err_from_is_err_and c.from_residual-in_err-operation_mark_parse.result c.from_residual-in_err-operation_mark_parse.ensures.1 in
-    let r = rw c.in_ok-op.ensures.marks at c.in_err-operation_mark_parse.ensures.read in
-    rw (p.1, p.2) (begun_by alone next c.in_ok-id.ensures.read.id_read (refuses_seen alone (operation_with id pieces) q2 r))
+    rw (p.1, p.2) (mark_refused s.state.ctx.now.dialects (attr_at g.A.IrText.reading) (marks_of s.state) c.in_ok-id.ensures.read op.stream op.marks c.skip_white_space.ensures c.in_err-operation_mark_parse.ensures.read)
 
 pub returns-in_err-operation_mark_parse-clause-missed : goal.returns-in_err-operation_mark_parse-clause-missed
 returns-in_err-operation_mark_parse-clause-missed g c = λ e.
     let s = c.args.s.now in
-    let dialects = s.state.ctx.now.dialects in
-    let attr = attr_at g.A.IrText.reading in
-    let marks = marks_of s.state in
-    let id = id_of c.in_ok-id.id in
-    let pieces = pieces_of c.in_ok-id.pieces in
-    let next = body_next dialects attr marks in
-    let q = more alone (space_next dialects attr marks id) (begins_with alone next c.in_ok-id.ensures.read.id_read) c.in_ok-id.ensures.read.pieces_read in
-    let q1 = subst (λ v. Passed alone (operation_at dialects attr marks) (space_next dialects attr marks id pieces) s.stream v) (sym c.in_ok-op.ensures.stream) q in
-    let q2 = spaced alone (mark_next dialects attr marks id pieces) q1 c.skip_white_space.ensures in
+    let op = c.in_ok-op.ensures in
     let p = err_from_is_err_and c.from_residual-in_err-operation_mark_parse.result c.from_residual-in_err-operation_mark_parse.ensures.1 in
-    let r = rw c.in_ok-op.ensures.marks at c.in_err-operation_mark_parse.ensures.read in
-    let accepts = read_accepts dialects attr marks c.in_ok-id.ensures.read.id_read c.in_ok-id.ensures.read.accepted in
-    rw (p.1, p.2) (operation_missed dialects attr marks e accepts (begun_by alone next c.in_ok-id.ensures.read.id_read (refuses_seen alone (operation_with id pieces) q2 r)))
+    rw (p.1, p.2) (mark_missed s.state.ctx.now.dialects (attr_at g.A.IrText.reading) (marks_of s.state) c.in_ok-id.ensures.read op.stream op.marks c.skip_white_space.ensures e c.in_err-operation_mark_parse.ensures.read)
 
 pub returns-in_err-operation_mark_parse-clause-kept : goal.returns-in_err-operation_mark_parse-clause-kept
 returns-in_err-operation_mark_parse-clause-kept g c = λ mark h. rw c.in_err-operation_mark_parse.ensures.ctx (c.in_ok-op.ensures.kept mark h)
@@ -74,29 +48,21 @@ returns-in_err-operation_mark_parse-clause-kept g c = λ mark h. rw c.in_err-ope
 pub returns-clause-read : goal.returns-clause-read
 returns-clause-read g c =
     let s = c.args.s.now in
-    let dialects = s.state.ctx.now.dialects in
-    let attr = attr_at g.A.IrText.reading in
-    let marks = marks_of s.state in
-    let id = id_of c.in_ok-id.id in
-    let pieces = pieces_of c.in_ok-id.pieces in
-    let next = body_next dialects attr marks in
-    let q = more alone (space_next dialects attr marks id) (begins_with alone next c.in_ok-id.ensures.read.id_read) c.in_ok-id.ensures.read.pieces_read in
-    let q1 = subst (λ v. Passed alone (operation_at dialects attr marks) (space_next dialects attr marks id pieces) s.stream v) (sym c.in_ok-op.ensures.stream) q in
-    let q2 = spaced alone (mark_next dialects attr marks id pieces) q1 c.skip_white_space.ensures in
-    let r = rw c.in_ok-op.ensures.marks at c.in_ok-operation_mark_parse.ensures.read in
-    let mark = c.in_ok-operation_mark_parse.field-0 in
+    let id = c.in_ok-id in
+    let op = c.in_ok-op.ensures in
+    let marked = c.in_ok-operation_mark_parse in
     record {
-      read = operation_with id pieces mark;
-      reads = begun_by alone next c.in_ok-id.ensures.read.id_read (last_seen alone (λ m. m) (operation_with id pieces) (operation_with id pieces mark) refl q2 r);
-      accepted = c.in_ok-id.ensures.read.accepted;
-      id = c.in_ok-id.id;
+      read = operation_with (id_of id.id) (pieces_of id.pieces) marked.field-0;
+      reads = mark_read s.state.ctx.now.dialects (attr_at g.A.IrText.reading) (marks_of s.state) id.ensures.read op.stream op.marks c.skip_white_space.ensures marked.ensures.read;
+      accepted = id.ensures.read.accepted;
+      id = id.id;
       id_is = refl;
-      attributes = c.in_ok-id.pieces.attributes;
+      attributes = id.pieces.attributes;
       attributes_are = refl;
       loc = c.loc-loc.result;
       located = c.loc-loc.ensures;
-      makes = rw c.in_ok-operation_mark_parse.ensures.ctx c.in_ok-op.ensures.makes;
-      marks = c.in_ok-operation_mark_parse.ensures.marks ∙ ap (λ z. z ++ noted mark c.in_ok-op.op) c.in_ok-op.ensures.marks;
+      makes = rw marked.ensures.ctx op.makes;
+      marks = marked.ensures.marks ∙ ap (λ z. z ++ noted marked.field-0 c.in_ok-op.op) op.marks;
     }
 
 pub returns-clause-kept : goal.returns-clause-kept

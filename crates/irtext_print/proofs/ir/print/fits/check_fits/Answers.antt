@@ -1,4 +1,4 @@
-use Rattle.std.proofs.Common.{◌≡◌, ◌∙◌, Some, None, sym, ap, option_map}
+use Rattle.std.proofs.Common.{◌≡◌, ◌∙◌, Option, Some, None, sym, ap, option_map}
 use denote.Ref.{Bor}
 use Rattle.irtext_context.specs.Context.{operation}
 use Rattle.irtext_context.specs.Dialects.{Known, known_of}
@@ -15,48 +15,41 @@ use Rattle.irtext_print.proofs.Printers.OperationTexts.{given_of, given_live, li
 use Rattle.irtext_print.proofs.Printers.RootParts.{there}
 use Rattle.irtext_print.proofs.ir.print.fits.check_fits.Goals as goal
 
-pub returns-in-Canonical-clause-fits : goal.returns-in-Canonical-clause-fits
-returns-in-Canonical-clause-fits g c =
+-- the format of what is known of an operation, where that is found
+format_found : {o : Option Known} {found info : Option (Bor OpInfo)} → option_map (λ (i : Bor OpInfo). known_of i.now) found ≡ o → found ≡ info
+    → option_map (λ (known : Known). known.format) o ≡ option_map (λ (known : Known). known.format) (option_map (λ (i : Bor OpInfo). known_of i.now) info)
+format_found f e = ap (option_map (λ (known : Known). known.format)) (sym f ∙ ap (option_map (λ (i : Bor OpInfo). known_of i.now)) e)
+
+pub returns-in-Canonical : goal.returns-in-Canonical
+returns-in-Canonical g c =
     let C = printing_in {T = g.row.T.Denot} g.A.AttrText g.A.PartialEq.eq c.args.ctx.now in
     let o = operation c.args.ctx.now c.args.op in
     let v = there o c.requires.live in
-    let known : C.format_of (id_of c.get_opid.result.now) ≡ Some format.canonical =
-    ap (option_map (λ (known : Known). known.format)) (sym c.op_info.ensures.found ∙ ap (option_map (λ (info : Bor OpInfo). known_of info.now)) c.in-Some.is) ∙ ap (λ z. Some (format_of z)) c.in-Canonical.is in
-    sym (printed_by C o v.0 v.1 c.get_opid.result.now c.get_opid.ensures (Some format.canonical) known)
-
-pub returns-in-Canonical-clause-fault : goal.returns-in-Canonical-clause-fault
-returns-in-Canonical-clause-fault g c = λ view stands.
-    let C = printing_in {T = g.row.T.Denot} g.A.AttrText g.A.PartialEq.eq c.args.ctx.now in
-    let known : C.format_of (id_of c.get_opid.result.now) ≡ Some format.canonical =
-    ap (option_map (λ (known : Known). known.format)) (sym c.op_info.ensures.found ∙ ap (option_map (λ (info : Bor OpInfo). known_of info.now)) c.in-Some.is) ∙ ap (λ z. Some (format_of z)) c.in-Canonical.is in
-    first_canonical C (operation c.args.ctx.now c.args.op) view stands c.get_opid.result.now c.get_opid.ensures known
+    let known : C.format_of (id_of c.get_opid.result.now) ≡ Some format.canonical = format_found c.op_info.ensures.found c.in-Some.is ∙ ap (λ z. Some (format_of z)) c.in-Canonical.is in
+    record {
+      fits = sym (printed_by C o v.0 v.1 c.get_opid.result.now c.get_opid.ensures (Some format.canonical) known);
+      fault = λ view stands. first_canonical C o view stands c.get_opid.result.now c.get_opid.ensures known;
+    }
 
 pub returns-in_default-clause-fault : goal.returns-in_default-clause-fault
 returns-in_default-clause-fault g c = λ view stands.
     let C = printing_in {T = g.row.T.Denot} g.A.AttrText g.A.PartialEq.eq c.args.ctx.now in
-    let known : C.format_of (id_of c.get_opid.result.now) ≡ None =
-    ap (option_map (λ (known : Known). known.format)) (sym c.op_info.ensures.found ∙ ap (option_map (λ (info : Bor OpInfo). known_of info.now)) c.in_default.is) in
+    let known : C.format_of (id_of c.get_opid.result.now) ≡ None = format_found c.op_info.ensures.found c.in_default.is in
     first_unregistered C (operation c.args.ctx.now c.args.op) view stands c.get_opid.result.now c.get_opid.ensures known
 
-pub returns-in-Custom-clause-fits : goal.returns-in-Custom-clause-fits
-returns-in-Custom-clause-fits g c =
+pub returns-in-Custom : goal.returns-in-Custom
+returns-in-Custom g c =
     let C = printing_in {T = g.row.T.Denot} g.A.AttrText g.A.PartialEq.eq c.args.ctx.now in
     let o = operation c.args.ctx.now c.args.op in
     let ds = directives_of c.deref.result.now in
     let known : C.format_of (id_of c.get_opid.result.now) ≡ Some (format.custom ds) =
-    ap (option_map (λ (known : Known). known.format)) (sym c.op_info.ensures.found ∙ ap (option_map (λ (info : Bor OpInfo). known_of info.now)) c.in-Some.is) ∙ ap (λ z. Some (format_of z)) c.in-Custom.is ∙ ap (λ items. Some (format.custom (directives_of items))) (sym c.deref.ensures.value) in
+    format_found c.op_info.ensures.found c.in-Some.is ∙ ap (λ z. Some (format_of z)) c.in-Custom.is ∙ ap (λ items. Some (format.custom (directives_of items))) (sym c.deref.ensures.value) in
     let live = given_live C o c.get_opid.result.now c.attributes.result.now c.num_regions.result ds c.requires.live c.get_opid.ensures c.attributes.ensures c.num_regions.ensures (ap directives_in known) in
-    c.check_parts.ensures.fits ∙ sym (live_printed C o c.get_opid.result.now c.attributes.result.now c.num_regions.result ds live)
-
-pub returns-in-Custom-clause-fault : goal.returns-in-Custom-clause-fault
-returns-in-Custom-clause-fault g c =
-    let C = printing_in {T = g.row.T.Denot} g.A.AttrText g.A.PartialEq.eq c.args.ctx.now in
-    let o = operation c.args.ctx.now c.args.op in
-    let ds = directives_of c.deref.result.now in
-    let known : C.format_of (id_of c.get_opid.result.now) ≡ Some (format.custom ds) =
-    ap (option_map (λ (known : Known). known.format)) (sym c.op_info.ensures.found ∙ ap (option_map (λ (info : Bor OpInfo). known_of info.now)) c.in-Some.is) ∙ ap (λ z. Some (format_of z)) c.in-Custom.is ∙ ap (λ items. Some (format.custom (directives_of items))) (sym c.deref.ensures.value) in
-    then-err c.check_parts.result
-    (λ reason first. λ view stands.
-    let given = given_of C o view c.get_opid.result.now c.attributes.result.now c.num_regions.result ds stands c.get_opid.ensures c.attributes.ensures c.num_regions.ensures (ap directives_in known) in
-    first_fault C view c.get_opid.result.now c.attributes.result.now c.num_regions.result ds given known reason first)
-    c.check_parts.ensures.fault
+    record {
+      fits = c.check_parts.ensures.fits ∙ sym (live_printed C o c.get_opid.result.now c.attributes.result.now c.num_regions.result ds live);
+      fault = then-err c.check_parts.result
+          (λ reason first. λ view stands.
+          let given = given_of C o view c.get_opid.result.now c.attributes.result.now c.num_regions.result ds stands c.get_opid.ensures c.attributes.ensures c.num_regions.ensures (ap directives_in known) in
+          first_fault C view c.get_opid.result.now c.attributes.result.now c.num_regions.result ds given known reason first)
+          c.check_parts.ensures.fault;
+    }

@@ -1,0 +1,68 @@
+-- Uses leave their lists, one behind the other.
+use Rattle.std.proofs.Common.{◌≡◌, ◌≢◌, ◌<◌, ◌≤◌, ◌+◌, ◌∙◌, inl, inr, ℕ, refl, sym, ap, arith, Option, Some, None, IsSome}
+use Rattle.std.specs.Option.{option_map}
+use Rattle.irtext_graph.specs.Used.{user}
+use Rattle.irtext_graph.specs.Graph.{seen}
+use Rattle.irtext_graph.specs.Uses.{use_at, val, def_of, AreUsesLinked}
+use Rattle.irtext_graph.specs.declared.arena.Ptr.{Ptr}
+use Rattle.irtext_graph.specs.declared.object.Defined.{Defined}
+use Rattle.irtext_graph.specs.declared.object.Operation.{Operation}
+use Rattle.irtext_graph.specs.declared.object.Site.{Site}
+use Rattle.irtext_graph.specs.declared.object.Site.TheVariants.{AtOperand, AtSuccessor}
+use Rattle.irtext_graph.specs.declared.objects.Objects.{Objects}
+use Rattle.irtext_graph.specs.declared.objects.Use.{Use}
+use Rattle.irtext_graph.proofs.Backs.{use_there, not_some}
+use Rattle.irtext_graph.proofs.Linked.{site_tells}
+use Rattle.irtext_graph.proofs.Moves.{lower}
+use Rattle.irtext_graph.proofs.Nests.{told}
+use Rattle.irtext_graph.proofs.Pointers.{ptr_or, equal_or_not}
+
+pub some_mapped : {A B : Type 0} (f : A → B) (o : Option A) → IsSome o → IsSome (option_map f o)
+some_mapped f None l = l
+some_mapped f (Some a) l = refl
+
+module _ {O B T : Type 0} where
+  -- where no use was, none is in a list
+  no_use : (x y : Objects O B T) → seen y ≡ seen x → (u : Site) → use_at x u ≡ None → val y u ≡ None
+  no_use x y same u none = go (use_at y u) refl
+    where
+      go : (o : Option (Use Defined)) → use_at y u ≡ o → val y u ≡ None
+      go None e = ap def_of e
+      go (Some o) e = absurd (not_some (use_at x u) none (use_there y x (sym same) u (rw e refl)))
+
+  -- the first n of the uses have left their lists
+  pub record Detaching (was now : Objects O B T) (site : ℕ → Site) (n : ℕ) : Type 0 where
+    pub linked : AreUsesLinked now
+    pub gone : (j : ℕ) → j < n → val now (site j) ≡ None
+    pub kept : (u : Site) → ((j : ℕ) → u ≢ site j) → val now u ≡ val was u
+    pub same : seen now ≡ seen was
+
+  pub detaching_begins : (x : Objects O B T) (site : ℕ → Site) → AreUsesLinked x → Detaching x x site 0
+  detaching_begins x site l = record { linked = l; gone = λ j low. absurd (omega (arith, low)); kept = λ u n. refl; same = refl }
+
+  pub detaching_on : (w x y : Objects O B T) (site : ℕ → Site) (n : ℕ) → Detaching w x site n → AreUsesLinked y → val y (site n) ≡ None → ((u : Site) → u ≢ site n → val y u ≡ val x u) → seen y ≡ seen x → Detaching w y site (n + 1)
+  detaching_on w x y site n d linked gone kept same = record {
+    linked = linked;
+    gone = λ j low. elim (told site_tells (site j) (site n)) [
+      | inl here ↦ ap (val y) here ∙ gone
+      | inr away ↦ kept (site j) away ∙ d.gone j (elim (equal_or_not j n) [ inl e ↦ absurd (away (ap site e)) | inr ne ↦ omega (arith, low, ne) ])
+    ];
+    kept = λ u out. kept u (out n) ∙ d.kept u out;
+    same = same ∙ d.same;
+  }
+
+  pub detaching_ends : (w x : Objects O B T) (site : ℕ → Site) (n : ℕ) → Detaching w x site n → ((j : ℕ) → n ≤ j → use_at w (site j) ≡ None) → (j : ℕ) → val x (site j) ≡ None
+  detaching_ends w x site n d none j = elim (lower j n) [ inl low ↦ d.gone j low | inr high ↦ no_use w x d.same (site j) (none j high) ]
+
+  module _ (x y z : Objects O B T) (p : Ptr Operation) (operands : (i : ℕ) → val y (AtOperand p i) ≡ None) (successors : (i : ℕ) → val z (AtSuccessor p i) ≡ None)
+      (kept : (u : Site) → ((i : ℕ) → u ≢ AtOperand p i) → val y u ≡ val x u) (kept_too : (u : Site) → ((i : ℕ) → u ≢ AtSuccessor p i) → val z u ≡ val y u) where
+    -- no use of the operation is in a list
+    pub both_gone : (u : Site) → user u ≡ p → val z u ≡ None
+    both_gone (AtOperand q i) e = kept_too (AtOperand q i) (λ j f. cc) ∙ ap (λ q. val y (AtOperand q i)) e ∙ operands i
+    both_gone (AtSuccessor q i) e = ap (λ q. val z (AtSuccessor q i)) e ∙ successors i
+
+    pub both_kept : (u : Site) → user u ≢ p → val z u ≡ val x u
+    both_kept u ne = kept_too u (λ i e. ne (ap user e)) ∙ kept u (λ i e. ne (ap user e))
+
+    pub both_fewer : (u : Site) → val x u ≡ None → val z u ≡ None
+    both_fewer u n = elim (ptr_or (user u) p) [ inl e ↦ both_gone u e | inr ne ↦ both_kept u ne ∙ n ]

@@ -1,0 +1,192 @@
+-- The list of what was made keeps all that stand.
+use Rattle.std.proofs.Common.{◌≡◌, ◌<◌, ◌≤◌, ◌+◌, ◌∙◌, ◌⊎◌, ◌++◌, ◌∷◌, ℕ, zero, suc, refl, sym, ap, arith, inl, inr, Option, Some, None, List, [], length, slice_get, take, Result, Ok, Err, OnOk, OnErr}
+use Rattle.std.specs.Option.{option_map}
+use Rattle.irtext_graph.specs.Arena.{get, born_in, found, Updates}
+use Rattle.irtext_graph.specs.declared.arena.Arena.{Arena}
+use Rattle.irtext_graph.specs.declared.arena.Entry.{Entry}
+use Rattle.irtext_graph.specs.declared.arena.Ptr.{Ptr}
+use Rattle.irtext_graph.specs.declared.log.Made.{Made}
+use Rattle.irtext_graph.specs.declared.nest.Nest.{Nest}
+use Rattle.irtext_graph.specs.declared.object.BasicBlock.{BasicBlock}
+use Rattle.irtext_graph.specs.declared.object.Operation.{Operation}
+use Rattle.irtext_graph.specs.declared.object.Region.{Region}
+use Rattle.irtext_graph.specs.declared.object.Object.{Object}
+use Rattle.irtext_graph.specs.declared.object.Object.TheVariants.{TheOperation, TheBlock, TheRegion}
+use Rattle.irtext_graph.specs.declared.objects.Objects.{Objects}
+use Rattle.irtext_graph.specs.declared.objects.BlockData.{BlockData}
+use Rattle.irtext_graph.specs.declared.objects.OperationData.{OperationData}
+use Rattle.irtext_graph.specs.declared.objects.RegionData.{RegionData}
+use Rattle.irtext_graph.specs.Content.{Content.{AnOperation, ABlock, ARegion}, operation_content, block_content, region_content}
+use Rattle.irtext_graph.specs.Log.{age, IsByAge, IsLogged}
+use Rattle.irtext_graph.specs.Nest.{datum_in}
+use Rattle.irtext_graph.specs.Objects.{what, born_of, Appends, SameAt}
+use Rattle.irtext_graph.proofs.Moves.{lower}
+use Rattle.irtext_graph.proofs.Nests.{get-last, get-before, get-either}
+use Rattle.irtext_graph.proofs.Pointers.{ptr_or}
+
+-- the first items of a list are the list's
+pub get_taken : {X : Type 0} (xs : List X) (n k : ℕ) (x : X) → slice_get (take n xs) k ≡ Some x → slice_get xs k ≡ Some x
+get_taken [] zero k x e = e
+get_taken [] (suc n) k x e = e
+get_taken (y ∷ ys) zero k x e = absurd (cc)
+get_taken (y ∷ ys) (suc n) zero x e = e
+get_taken (y ∷ ys) (suc n) (suc k) x e = get_taken ys n k x e
+
+pub taken_get : {X : Type 0} (xs : List X) (n k : ℕ) (x : X) → k < n → slice_get xs k ≡ Some x → slice_get (take n xs) k ≡ Some x
+taken_get [] n k x low e = absurd (cc)
+taken_get (y ∷ ys) zero k x low e = absurd (omega (arith, low))
+taken_get (y ∷ ys) (suc n) zero x low e = e
+taken_get (y ∷ ys) (suc n) (suc k) x low e = taken_get ys n k x (omega (arith, low)) e
+
+-- a list with one more, behind another of the same
+pub noted_list : (log room after : List Made) (a : Made) → room ≡ log → after ≡ room ++ a ∷ [] → after ≡ log ++ a ∷ []
+noted_list log room after a e f = f ∙ ap (λ xs. xs ++ a ∷ []) e
+
+aged : {P C D V : Type 0} (f : ℕ × D → V) (b : V → ℕ) → ((d : ℕ × D) → b (f d) ≡ d.0) → (e : Option (Entry (Nest P C D))) → born_in e ≡ option_map b (option_map f (datum_in e))
+aged f b same None = refl
+aged f b same (Some e) = ap Some (sym (same (e.born, e.content.data)))
+
+module _ {O B T : Type 0} where
+  -- an object's age is part of what it is
+  pub age_what : (x : Objects O B T) (o : Object) → age x o ≡ option_map born_of (what x o)
+  age_what x (TheOperation p) = aged (λ d. AnOperation d.0 (operation_content d.1)) born_of (λ d. refl) (get x.operations p)
+  age_what x (TheBlock p) = aged (λ d. ABlock d.0 (block_content d.1)) born_of (λ d. refl) (get x.blocks p)
+  age_what x (TheRegion p) = aged (λ d. ARegion d.0 (region_content d.1)) born_of (λ d. refl) (get x.regions p)
+
+  pub same_age : (x y : Objects O B T) (o : Object) → what y o ≡ what x o → age y o ≡ age x o
+  same_age x y o e = age_what y o ∙ ap (option_map born_of) e ∙ sym (age_what x o)
+
+  -- objects that are as old as they were, or gone
+  pub logged_kept : (made : ℕ) (log : List Made) (x y : Objects O B T) → IsLogged made log x → ((o : Object) (b : ℕ) → age y o ≡ Some b → age x o ≡ Some b) → IsLogged made log y
+  logged_kept made log x y i same = record { listed = λ o b e. i.listed o b (same o b e); by_age = i.by_age; below = i.below }
+
+  -- another list of the same
+  pub logged_list : (made : ℕ) (log after : List Made) (x : Objects O B T) → after ≡ log → IsLogged made log x → IsLogged made after x
+  logged_list made log after x e i = rw e i
+
+  -- objects that are what they were
+  pub logged_same : (made : ℕ) (log : List Made) (x y : Objects O B T) → IsLogged made log x → ((o : Object) → what y o ≡ what x o) → IsLogged made log y
+  logged_same made log x y i same = logged_kept made log x y i (λ o b e. sym (same_age x y o (same o)) ∙ e)
+
+  -- an insertion, or its refusal
+  pub moved_what : (x y : Objects O B T) (k c : Object) {E : Type 0} (r : Result (Unit {0}) E) → OnOk r (Appends x y k c) → OnErr r ((q : Object) → SameAt x y q) → (q : Object) → what y q ≡ what x q
+  moved_what x y k c (Ok u) a s q = a.whats q
+  moved_what x y k c (Err e) a s q = (s q).same_what
+
+  pub logged_empty : (x : Objects O B T) → x.operations.slots.items ≡ [] → x.blocks.slots.items ≡ [] → x.regions.slots.items ≡ [] → (log : List Made) → log ≡ [] → IsLogged 0 log x
+  logged_empty x eo eb er log e = record {
+    listed = λ o b f. absurd (let n = none o in cc);
+    by_age = λ j k a b le f g. absurd (let n : slice_get log j ≡ None = ap (λ xs. slice_get xs j) e in cc);
+    below = λ k a f. absurd (let n : slice_get log k ≡ None = ap (λ xs. slice_get xs k) e in cc);
+  }
+    where
+      empty : {X K : Type 0} (a : Arena X) (p : Ptr K) → a.slots.items ≡ [] → get a p ≡ None
+      empty a p e = ap (λ xs. found (slice_get xs p.index) p.generation) e
+
+      none : (o : Object) → age x o ≡ None
+      none (TheOperation p) = ap born_in (empty x.operations p eo)
+      none (TheBlock p) = ap born_in (empty x.blocks p eb)
+      none (TheRegion p) = ap born_in (empty x.regions p er)
+
+  -- one object came, and is noted
+  pub logged_noted : (made : ℕ) (log after : List Made) (x y : Objects O B T) (o : Object) → after ≡ log ++ record { born = made; object = o } ∷ [] → IsLogged made log x
+      → ((q : Object) (b : ℕ) → age y q ≡ Some b → (age x q ≡ Some b) ⊎ ((q ≡ o) × (b ≡ made))) → IsLogged (made + 1) after y
+  logged_noted made log after x y o noted i came = rw noted (record { listed = listed; by_age = by_age; below = below })
+    where
+      last : Made
+      last = record { born = made; object = o }
+
+      listed : (q : Object) (b : ℕ) → age y q ≡ Some b → (k : ℕ) × (slice_get (log ++ last ∷ []) k ≡ Some (record { born = b; object = q }))
+      listed q b e = elim (came q b e) [
+        | inl was ↦ let f = i.listed q b was in (f.0, get-before log last (record { born = b; object = q }) f.0 f.1)
+        | inr new ↦ (length log, get-last log last ∙ same q b new.0 new.1)
+      ]
+        where
+          same : (q : Object) (b : ℕ) → q ≡ o → b ≡ made → ◌≡◌ {A = Option Made} (Some last) (Some (record { born = b; object = q }))
+          same q b e f = rw (e, f) refl
+
+      below : (k : ℕ) (a : Made) → slice_get (log ++ last ∷ []) k ≡ Some a → a.born < made + 1
+      below k a e = elim (get-either log last a k e) [
+        | inl was ↦ let l = i.below k a was in omega (arith, l)
+        | inr new ↦ let f : a.born ≡ made = ap (λ (a : Made). a.born) new.1 in omega (arith, f)
+      ]
+
+      by_age : IsByAge (log ++ last ∷ [])
+      by_age j k a b le e f = elim (get-either log last b k f) [
+        | inr new ↦ let l = below j a e in let g : b.born ≡ made = ap (λ (a : Made). a.born) new.1 in omega (arith, l, g)
+        | inl was ↦ elim (get-either log last a j e) [
+          | inl first ↦ i.by_age j k a b le first was
+          | inr last ↦ absurd (past log k b was (let n = last.0 in omega (arith, n, le)))
+        ]
+      ]
+        where
+          past : (xs : List Made) (k : ℕ) (b : Made) → slice_get xs k ≡ Some b → length xs ≤ k → ⊥
+          past [] k b e le = cc
+          past (x ∷ xs) zero b e le = omega (arith, le)
+          past (x ∷ xs) (suc k) b e le = past xs k b e (omega (arith, le))
+
+  -- the list was cut behind all that stand
+  pub logged_cut : (made n : ℕ) (mark : ℕ) (log : List Made) (x y : Objects O B T) → IsLogged made log x
+      → ((k : ℕ) (a : Made) → n ≤ k → slice_get log k ≡ Some a → mark ≤ a.born)
+      → ((o : Object) (b : ℕ) → age y o ≡ Some b → (age x o ≡ Some b) × (b < mark)) → IsLogged made (take n log) y
+  logged_cut made n mark log x y i since left = record {
+    listed = λ o b e.
+        let h = left o b e in
+        let f = i.listed o b h.0 in
+        (f.0, taken_get log n f.0 _ (low f.0 o b f.1 h.1) f.1);
+    by_age = λ j k a b le e f. i.by_age j k a b le (get_taken log n j a e) (get_taken log n k b f);
+    below = λ k a e. i.below k a (get_taken log n k a e);
+  }
+    where
+      low : (k : ℕ) (o : Object) (b : ℕ) → slice_get log k ≡ Some (record { born = b; object = o }) → b < mark → k < n
+      low k o b e less = elim (lower k n) [ inl l ↦ l | inr h ↦ absurd (let s = since k (record { born = b; object = o }) h e in omega (arith, s, less)) ]
+
+module _ {X K : Type 0} where
+  came_in : (a b : Arena X) (p : Ptr K) (x : Entry X) → Updates a b p (Some x) → (q : Ptr K) (n : ℕ) → born_in (get b q) ≡ Some n → (born_in (get a q) ≡ Some n) ⊎ ((q ≡ p) × (n ≡ x.born))
+  came_in a b p x u q n e = elim (ptr_or q p) [
+    | inr away ↦ inl (ap born_in (sym (u.others q away)) ∙ e)
+    | inl here ↦ inr (here, let f : Some x.born ≡ Some n = sym (ap born_in (ap (get b) here ∙ u.changed)) ∙ e in cc)
+  ]
+
+module _ {O B T : Type 0} where
+  pub region_noted : (made : ℕ) (log after : List Made) (x : Objects O B T) (a : Arena (Nest Operation BasicBlock RegionData)) (p : Ptr Region) (e : Entry (Nest Operation BasicBlock RegionData))
+      → after ≡ log ++ record { born = made; object = TheRegion p } ∷ [] → IsLogged made log x → Updates x.regions a p (Some e) → e.born ≡ made → IsLogged (made + 1) after (record x { regions = a })
+  region_noted made log after x a p e noted i u born = logged_noted made log after x (record x { regions = a }) (TheRegion p) noted i came
+    where
+      came : (q : Object) (b : ℕ) → age (record x { regions = a }) q ≡ Some b → (age x q ≡ Some b) ⊎ ((q ≡ TheRegion p) × (b ≡ made))
+      came (TheOperation q) b f = inl f
+      came (TheBlock q) b f = inl f
+      came (TheRegion q) b f = elim (came_in x.regions a p e u q b f) [ inl was ↦ inl was | inr new ↦ inr (ap TheRegion new.0, new.1 ∙ born) ]
+
+  pub block_noted : (made : ℕ) (log after : List Made) (x : Objects O B T) (a : Arena (Nest Region Operation (BlockData B T))) (p : Ptr BasicBlock) (e : Entry (Nest Region Operation (BlockData B T)))
+      → after ≡ log ++ record { born = made; object = TheBlock p } ∷ [] → IsLogged made log x → Updates x.blocks a p (Some e) → e.born ≡ made → IsLogged (made + 1) after (record x { blocks = a })
+  block_noted made log after x a p e noted i u born = logged_noted made log after x (record x { blocks = a }) (TheBlock p) noted i came
+    where
+      came : (q : Object) (b : ℕ) → age (record x { blocks = a }) q ≡ Some b → (age x q ≡ Some b) ⊎ ((q ≡ TheBlock p) × (b ≡ made))
+      came (TheOperation q) b f = inl f
+      came (TheRegion q) b f = inl f
+      came (TheBlock q) b f = elim (came_in x.blocks a p e u q b f) [ inl was ↦ inl was | inr new ↦ inr (ap TheBlock new.0, new.1 ∙ born) ]
+
+  pub operation_noted : (made : ℕ) (log after : List Made) (x : Objects O B T) (a : Arena (Nest BasicBlock Region (OperationData O T))) (p : Ptr Operation) (e : Entry (Nest BasicBlock Region (OperationData O T)))
+      → after ≡ log ++ record { born = made; object = TheOperation p } ∷ [] → IsLogged made log x → Updates x.operations a p (Some e) → e.born ≡ made → IsLogged (made + 1) after (record x { operations = a })
+  operation_noted made log after x a p e noted i u born = logged_noted made log after x (record x { operations = a }) (TheOperation p) noted i came
+    where
+      came : (q : Object) (b : ℕ) → age (record x { operations = a }) q ≡ Some b → (age x q ≡ Some b) ⊎ ((q ≡ TheOperation p) × (b ≡ made))
+      came (TheBlock q) b f = inl f
+      came (TheRegion q) b f = inl f
+      came (TheOperation q) b f = elim (came_in x.operations a p e u q b f) [ inl was ↦ inl was | inr new ↦ inr (ap TheOperation new.0, new.1 ∙ born) ]
+
+  pub region_ages : (x : Objects O B T) (a : Arena (Nest Operation BasicBlock RegionData)) → a.slots.items ≡ x.regions.slots.items → (o : Object) (b : ℕ) → age (record x { regions = a }) o ≡ Some b → age x o ≡ Some b
+  region_ages x a e (TheOperation p) b f = f
+  region_ages x a e (TheBlock p) b f = f
+  region_ages x a e (TheRegion p) b f = sym (ap (λ xs. born_in (found (slice_get xs p.index) p.generation)) e) ∙ f
+
+  pub block_ages : (x : Objects O B T) (a : Arena (Nest Region Operation (BlockData B T))) → a.slots.items ≡ x.blocks.slots.items → (o : Object) (b : ℕ) → age (record x { blocks = a }) o ≡ Some b → age x o ≡ Some b
+  block_ages x a e (TheOperation p) b f = f
+  block_ages x a e (TheBlock p) b f = sym (ap (λ xs. born_in (found (slice_get xs p.index) p.generation)) e) ∙ f
+  block_ages x a e (TheRegion p) b f = f
+
+  pub operation_ages : (x : Objects O B T) (a : Arena (Nest BasicBlock Region (OperationData O T))) → a.slots.items ≡ x.operations.slots.items → (o : Object) (b : ℕ) → age (record x { operations = a }) o ≡ Some b → age x o ≡ Some b
+  operation_ages x a e (TheOperation p) b f = sym (ap (λ xs. born_in (found (slice_get xs p.index) p.generation)) e) ∙ f
+  operation_ages x a e (TheBlock p) b f = f
+  operation_ages x a e (TheRegion p) b f = f

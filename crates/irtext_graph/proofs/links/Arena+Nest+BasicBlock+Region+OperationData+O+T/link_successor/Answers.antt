@@ -1,0 +1,12 @@
+use Rattle.std.proofs.Common.{ap, map}
+use Rattle.irtext_graph.specs.Content.{operation_content, node_of, typed}
+use Rattle.std.proofs.Math.Seq.{map-set_same}
+use Rattle.irtext_graph.proofs.Stores.{content_same}
+use Rattle.irtext_graph.proofs.links.Arena+Nest+BasicBlock+Region+OperationData+O+T.link_successor.Goals as goal
+
+pub returns-clause-seen : goal.returns-clause-seen
+returns-clause-seen g c =
+    let x = c.content_mut.result.now in
+    content_same (node_of operation_content) c.args.self.now c.args.p x _ c.content_mut.ensures.value
+    (ap (λ os. record { parent = x.parent; children = x.children.items; content = record { data_of = x.data.data; operands = map (λ u. u.def) x.data.operands.items; successors = os; results = map typed x.data.results.items } })
+    (map-set_same (λ u. u.def) x.data.successors.items c.args.i _ c.index_mut.result.now (ap (λ u. u.def) c.index_mut.ensures.value)))

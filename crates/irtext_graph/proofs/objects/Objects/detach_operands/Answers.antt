@@ -1,0 +1,24 @@
+use Rattle.std.proofs.Common.{ap, arith}
+use Rattle.std.specs.Option.{option_map}
+use Rattle.irtext_graph.specs.Uses.{either}
+use Rattle.irtext_graph.specs.declared.object.Defined.TheVariants.{OfValue}
+use Rattle.irtext_graph.specs.declared.object.Site.TheVariants.{AtOperand}
+use Rattle.irtext_graph.proofs.Backs.{use_there}
+use Rattle.irtext_graph.proofs.Detached.{some_mapped, detaching_begins, detaching_on, detaching_ends}
+use Rattle.irtext_graph.proofs.objects.Objects.detach_operands.Goals as goal
+
+pub detach_linked-requires-clause-there : goal.detach_linked-requires-clause-there
+detach_linked-requires-clause-there g c =
+    use_there c.args.self.now c.loop-i.self c.loop-i.invariant.same (AtOperand c.args.p c.loop-i.i)
+    (some_mapped (either OfValue) _ (c.operand_count-count.ensures.each c.loop-i.i (omega arith)))
+
+pub loop-i-init : goal.loop-i-init
+loop-i-init g c = detaching_begins c.args.self.now (AtOperand c.args.p) c.requires.linked
+
+pub loop-i-preserved : goal.loop-i-preserved
+loop-i-preserved g c =
+    let s = c.detach_linked.ensures in
+    detaching_on c.args.self.now c.loop-i.self c.detach_linked.new.self (AtOperand c.args.p) c.loop-i.i c.loop-i.invariant s.linked s.gone s.kept s.seen
+
+pub returns-clause-gone : goal.returns-clause-gone
+returns-clause-gone g c = detaching_ends c.args.self.now c.loop-i.self (AtOperand c.args.p) c.loop-i.i c.loop-i.invariant (λ j high. ap (option_map (either OfValue)) (c.operand_count-count.ensures.none j (omega (arith, high))))

@@ -1,0 +1,34 @@
+-- New uses, which are in no use list yet, and new operations, which use what they name by these.
+use Rattle.std.specs.Prelude.{◌≡◌, ℕ, List, [], map, None, false}
+use Rattle.irtext_graph.specs.declared.arena.Ptr.{Ptr}
+use Rattle.irtext_graph.specs.declared.nest.Nest.{Nest}
+use Rattle.irtext_graph.specs.declared.object.Operation.{Operation}
+use Rattle.irtext_graph.specs.declared.object.BasicBlock.{BasicBlock}
+use Rattle.irtext_graph.specs.declared.object.Region.{Region}
+use Rattle.irtext_graph.specs.declared.object.Value.{Value}
+use Rattle.irtext_graph.specs.declared.object.Site.{Site}
+use Rattle.irtext_graph.specs.declared.object.Site.TheVariants.{AtOperand, AtSuccessor}
+use Rattle.irtext_graph.specs.declared.objects.Use.{Use}
+use Rattle.irtext_graph.specs.declared.objects.OperationData.{OperationData}
+use Rattle.irtext_graph.specs.declared.linking.Side.{Side}
+use Rattle.irtext_graph.specs.declared.linking.Side.TheVariants.{Operands, Successors}
+use Rattle.irtext_graph.specs.Defines.{Defines}
+
+-- a use of this that is in no use list
+abbrev pub unlinked : {D : Type 0} → D → Use D
+unlinked d = record { def = d; links = record { linked = false; prev = None; next = None } }
+
+-- the place of an operand or of a successor of an operation
+abbrev pub site_of : Side → Ptr Operation → ℕ → Site
+site_of Operands p i = AtOperand p i
+site_of Successors p i = AtSuccessor p i
+
+-- the operation stands nowhere, holds none, names these values and blocks, and nothing uses its results
+pub record IsBlank {O T : Type 0} (n : Nest BasicBlock Region (OperationData O T)) (value : O) (types : List T) (from : ℕ)
+    (operands : List Value) (successors : List (Ptr BasicBlock)) : Type 0 where
+  pub parent : n.parent ≡ None
+  pub children : n.children.items ≡ []
+  pub value_is : n.data.data ≡ value
+  pub operand_uses : n.data.operands.items ≡ map unlinked operands
+  pub successor_uses : n.data.successors.items ≡ map unlinked successors
+  pub results : Defines n.data.results.items types from

@@ -1,0 +1,24 @@
+-- The list of what was made.
+use Rattle.std.specs.Prelude.{◌≡◌, ◌<◌, ◌≤◌, ℕ, List, Option, Some, slice_get}
+use Rattle.irtext_graph.specs.declared.log.Made.{Made}
+use Rattle.irtext_graph.specs.declared.object.Object.{Object}
+use Rattle.irtext_graph.specs.declared.object.Object.TheVariants.{TheOperation, TheBlock, TheRegion}
+use Rattle.irtext_graph.specs.declared.objects.Objects.{Objects}
+use Rattle.irtext_graph.specs.Arena.{get, born_in}
+
+-- the objects stand in the order of making
+abbrev pub IsByAge : List Made → Type 0
+IsByAge log = (j k : ℕ) (a b : Made) → j ≤ k → slice_get log j ≡ Some a → slice_get log k ≡ Some b → a.born ≤ b.born
+
+module _ {O B T : Type 0} where
+  -- how many objects were made before an object, where there is one
+  abbrev pub age : Objects O B T → Object → Option ℕ
+  age x (TheOperation p) = born_in (get x.operations p)
+  age x (TheBlock p) = born_in (get x.blocks p)
+  age x (TheRegion p) = born_in (get x.regions p)
+
+  -- each object that stands is in the list with its age, and the list goes by age and is older than the mark
+  pub record IsLogged (made : ℕ) (log : List Made) (x : Objects O B T) : Type 0 where
+    pub listed : (o : Object) (b : ℕ) → age x o ≡ Some b → (k : ℕ) × (slice_get log k ≡ Some (record { born = b; object = o }))
+    pub by_age : IsByAge log
+    pub below : (k : ℕ) (a : Made) → slice_get log k ≡ Some a → a.born < made

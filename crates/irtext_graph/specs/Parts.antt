@@ -1,0 +1,67 @@
+-- The parts of objects as a graph's callers see them: data, operands, successors, results and arguments.
+use Rattle.std.specs.Prelude.{List, [], slice_get, Option, Some, None, IsSome}
+use Rattle.std.specs.Option.{option_map}
+use Rattle.irtext_graph.specs.declared.arena.Ptr.{Ptr}
+use Rattle.irtext_graph.specs.declared.object.Operation.{Operation}
+use Rattle.irtext_graph.specs.declared.object.BasicBlock.{BasicBlock}
+use Rattle.irtext_graph.specs.declared.object.Value.{Value}
+use Rattle.irtext_graph.specs.declared.object.Value.TheVariants.{Result, Argument}
+use Rattle.irtext_graph.specs.Store.{get}
+use Rattle.irtext_graph.specs.Content.{Typed, OperationContent, BlockContent}
+use Rattle.irtext_graph.specs.Graph.{GraphView}
+
+module _ {O T : Type 0} where
+  -- the values that an operation uses, where there is one
+  abbrev pub operands_of : Option (OperationContent O T) → List Value
+  operands_of None = []
+  operands_of (Some c) = c.operands
+
+  -- the blocks that an operation uses, where there is one
+  abbrev pub successors_of : Option (OperationContent O T) → List (Ptr BasicBlock)
+  successors_of None = []
+  successors_of (Some c) = c.successors
+
+  -- the results of an operation, where there is one
+  abbrev pub results_of : Option (OperationContent O T) → List (Typed T)
+  results_of None = []
+  results_of (Some c) = c.results
+
+module _ {B T : Type 0} where
+  -- the arguments of a block, where there is one
+  abbrev pub arguments_of : Option (BlockContent B T) → List (Typed T)
+  arguments_of None = []
+  arguments_of (Some c) = c.arguments
+
+module _ {O B T : Type 0} where
+  -- what an operation is, apart from its place in the forest
+  abbrev pub operation_at : GraphView O B T → Ptr Operation → Option (OperationContent O T)
+  operation_at g p = option_map (λ e. e.content.content) (get g.operations p)
+
+  -- what a block is, apart from its place in the forest
+  abbrev pub block_at : GraphView O B T → Ptr BasicBlock → Option (BlockContent B T)
+  block_at g p = option_map (λ e. e.content.content) (get g.blocks p)
+
+  -- the values that an operation uses, in order
+  abbrev pub operands : GraphView O B T → Ptr Operation → List Value
+  operands g p = operands_of (operation_at g p)
+
+  -- the blocks that an operation uses, in order
+  abbrev pub successors : GraphView O B T → Ptr Operation → List (Ptr BasicBlock)
+  successors g p = successors_of (operation_at g p)
+
+  -- the results of an operation, in order
+  abbrev pub results : GraphView O B T → Ptr Operation → List (Typed T)
+  results g p = results_of (operation_at g p)
+
+  -- the arguments of a block, in order
+  abbrev pub arguments : GraphView O B T → Ptr BasicBlock → List (Typed T)
+  arguments g p = arguments_of (block_at g p)
+
+  -- a value's type and number, where it is there
+  abbrev pub value_at : GraphView O B T → Value → Option (Typed T)
+  value_at g (Result p i) = slice_get (results g p) i
+  value_at g (Argument p i) = slice_get (arguments g p) i
+
+  -- the value is there
+  abbrev pub ValueStands : GraphView O B T → Value → Type 0
+  ValueStands g v = IsSome (value_at g v)

@@ -1,0 +1,192 @@
+//! What the operations inside an object use is dropped, so that the object can go.
+ghost use Rattle.std.specs.Prelude.{◌≡◌, ◌≢◌, ◌<◌, ◌↔◌, ℕ, Some, None, IsSome, IsTrue, option_map};
+ghost use Rattle.irtext_graph.specs.Erasing.{user};
+
+use crate::arena::Ptr;
+use crate::object::{BasicBlock, Defined, Object, Operation, Site, Value};
+use crate::objects::Objects;
+
+/// The operation that uses something at a place.
+fn user_of(u: Site) -> Object
+    ensures { result ≡ user u }
+{
+    match u {
+        Site::AtOperand(p, _) => Object::TheOperation(p),
+        Site::AtSuccessor(p, _) => Object::TheOperation(p),
+    }
+}
+
+impl<O: Drop, B: Drop, T: Drop> Objects<O, B, T> {
+    ghost use Rattle.irtext_graph.specs.declared.object.Object.TheVariants.{TheOperation};
+    ghost use Rattle.irtext_graph.specs.declared.object.Defined.TheVariants.{OfValue};
+    ghost use Rattle.irtext_graph.specs.declared.object.Value.TheVariants.{Result, Argument};
+    ghost use Rattle.irtext_graph.specs.Arena.{get};
+    ghost use Rattle.irtext_graph.specs.Store.{Edits};
+    ghost use Rattle.irtext_graph.specs.Graph.{seen};
+    ghost use Rattle.irtext_graph.specs.Nested.{Within};
+    ghost use Rattle.irtext_graph.specs.Objects.{up, kids, what, Lives, IsForest, SamePlaces};
+    ghost use Rattle.irtext_graph.specs.Uses.{use_at, val, head_at, AreUsesLinked};
+    ghost use Rattle.irtext_graph.specs.Erasing.{without_uses_in, without_uses, IsUsedInside, IsAllUsedInside};
+
+    /// Takes each use that an operation makes out of its list. It still names what it named.
+    fn detach_all(&mut self, p: Ptr<Operation>)
+        requires stands { IsSome (get self.old.operations p) }
+        requires linked { AreUsesLinked self.old }
+        requires used { (u : _) → IsSome (use_at self.old u) → IsSome (val self.old u) }
+        ensures linked { AreUsesLinked self.new }
+        ensures gone { (u : _) → user u ≡ TheOperation p → val self.new u ≡ None }
+        ensures kept { (u : _) → user u ≢ TheOperation p → val self.new u ≡ val self.old u }
+        ensures seen { seen self.new ≡ seen self.old }
+    {
+        for i in 0..self.operations.operand_count(p) {
+            self.detach(Site::AtOperand(p, i));
+        }
+        for j in 0..self.operations.successor_count(p) {
+            self.detach(Site::AtSuccessor(p, j));
+        }
+    }
+
+    /// Drops what an operation uses.
+    fn drop_uses(&mut self, p: Ptr<Operation>)
+        requires stands { IsSome (get self.old.operations p) }
+        requires linked { AreUsesLinked self.old }
+        requires used { (u : _) → IsSome (use_at self.old u) → IsSome (val self.old u) }
+        ensures linked { AreUsesLinked self.new }
+        ensures used { (u : _) → IsSome (use_at self.new u) → IsSome (val self.new u) }
+        ensures edits { Edits (seen self.old).operations (seen self.new).operations p without_uses_in }
+        ensures blocks { (seen self.new).blocks ≡ (seen self.old).blocks }
+        ensures regions { (seen self.new).regions ≡ (seen self.old).regions }
+        ensures places { SamePlaces self.old self.new }
+    {
+        self.detach_all(p);
+        self.operations.clear_uses(p);
+    }
+
+    /// Drops what an object uses: nothing, where it is no operation.
+    fn drop_uses_of(&mut self, q: Object)
+        requires lives { Lives self.old q }
+        requires linked { AreUsesLinked self.old }
+        requires used { (u : _) → IsSome (use_at self.old u) → IsSome (val self.old u) }
+        ensures linked { AreUsesLinked self.new }
+        ensures used { (u : _) → IsSome (use_at self.new u) → IsSome (val self.new u) }
+        ensures here { what self.new q ≡ option_map without_uses (what self.old q) }
+        ensures others { (r : _) → r ≢ q → what self.new r ≡ what self.old r }
+        ensures ups { (r : _) → up self.new r ≡ up self.old r }
+        ensures kids { (r : _) → kids self.new r ≡ kids self.old r }
+        ensures places { SamePlaces self.old self.new }
+    {
+        if let Object::TheOperation(p) = q {
+            self.drop_uses(p);
+        }
+    }
+
+    /// Drops what the operations inside an object use. It takes no memory.
+    pub(crate) fn drop_all_uses(&mut self, o: Object)
+        requires lives { Lives self.old o }
+        requires forest { IsForest self.old }
+        requires linked { AreUsesLinked self.old }
+        requires used { (u : _) → IsSome (use_at self.old u) → IsSome (val self.old u) }
+        ensures forest { IsForest self.new }
+        ensures linked { AreUsesLinked self.new }
+        ensures used { (u : _) → IsSome (use_at self.new u) → IsSome (val self.new u) }
+        ensures inside { (q : _) → Within (up self.old) o q → what self.new q ≡ option_map without_uses (what self.old q) }
+        ensures others { (q : _) → (Within (up self.old) o q → ⊥) → what self.new q ≡ what self.old q }
+        ensures ups { (q : _) → up self.new q ≡ up self.old q }
+        ensures kids { (q : _) → kids self.new q ≡ kids self.old q }
+        ensures places { SamePlaces self.old self.new }
+    {
+        let mut at = Some(o);
+        while let Some(q) = at {
+            self.drop_uses_of(q);
+            at = self.after(o, q);
+        }
+    }
+
+    /// Whether each use of d is made inside o.
+    fn is_used_inside(&self, o: Object, d: Defined) -> bool
+        requires forest { IsForest self.now }
+        requires linked { AreUsesLinked self.now }
+        requires used { (u : _) → IsSome (use_at self.now u) → IsSome (val self.now u) }
+        requires stands { IsSome (head_at self.now d) }
+        ensures { IsTrue result ↔ IsUsedInside self.now o d }
+    {
+        let mut at = self.head_of(d);
+        while let Some(u) = at {
+            if !self.is_inside(o, user_of(u)) {
+                return false;
+            }
+            at = self.use_of(u).links.next;
+        }
+        true
+    }
+
+    /// Whether each use of a result of p is made inside o.
+    fn are_results_used_inside(&self, o: Object, p: Ptr<Operation>) -> bool
+        requires forest { IsForest self.now }
+        requires linked { AreUsesLinked self.now }
+        requires used { (u : _) → IsSome (use_at self.now u) → IsSome (val self.now u) }
+        requires stands { IsSome (get self.now.operations p) }
+        ensures { IsTrue result ↔ ((i : ℕ) → IsUsedInside self.now o (OfValue (Result p i))) }
+    {
+        for i in 0..self.operations.result_count(p) {
+            if !self.is_used_inside(o, Defined::OfValue(Value::Result(p, i))) {
+                return false;
+            }
+        }
+        true
+    }
+
+    /// Whether each use of an argument of b is made inside o.
+    fn are_arguments_used_inside(&self, o: Object, b: Ptr<BasicBlock>) -> bool
+        requires forest { IsForest self.now }
+        requires linked { AreUsesLinked self.now }
+        requires used { (u : _) → IsSome (use_at self.now u) → IsSome (val self.now u) }
+        requires stands { IsSome (get self.now.blocks b) }
+        ensures { IsTrue result ↔ ((i : ℕ) → IsUsedInside self.now o (OfValue (Argument b i))) }
+    {
+        for i in 0..self.blocks.argument_count(b) {
+            if !self.is_used_inside(o, Defined::OfValue(Value::Argument(b, i))) {
+                return false;
+            }
+        }
+        true
+    }
+
+    /// Whether each use of what q defines is made inside o.
+    fn is_all_used_inside(&self, o: Object, q: Object) -> bool
+        requires forest { IsForest self.now }
+        requires linked { AreUsesLinked self.now }
+        requires used { (u : _) → IsSome (use_at self.now u) → IsSome (val self.now u) }
+        requires lives { Lives self.now q }
+        ensures { IsTrue result ↔ IsAllUsedInside self.now o q }
+    {
+        match q {
+            Object::TheOperation(p) => self.are_results_used_inside(o, p),
+            Object::TheBlock(b) => {
+                if !self.is_used_inside(o, Defined::OfBlock(b)) {
+                    return false;
+                }
+                self.are_arguments_used_inside(o, b)
+            }
+            Object::TheRegion(_) => true,
+        }
+    }
+
+    /// Whether each use of what is defined inside o is made inside o.
+    pub(crate) fn can_erase(&self, o: Object) -> bool
+        requires forest { IsForest self.now }
+        requires linked { AreUsesLinked self.now }
+        requires used { (u : _) → IsSome (use_at self.now u) → IsSome (val self.now u) }
+        requires lives { Lives self.now o }
+        ensures { IsTrue result ↔ ((q : _) → Within (up self.now) o q → IsAllUsedInside self.now o q) }
+    {
+        let mut at = Some(o);
+        while let Some(q) = at {
+            if !self.is_all_used_inside(o, q) {
+                return false;
+            }
+            at = self.after(o, q);
+        }
+        true
+    }
+}

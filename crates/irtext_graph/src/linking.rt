@@ -1,0 +1,67 @@
+//! The uses of a new operation: made in no use list, and put into their lists once all memory is there.
+ghost use Rattle.std.specs.Prelude.{◌≡◌, ◌≢◌, ◌<◌, ℕ, Some, None, IsSome, IfOk, map};
+ghost use Rattle.irtext_graph.specs.Linking.{unlinked, site_of};
+
+use crate::arena::Ptr;
+use crate::object::{Operation, Site};
+use crate::objects::{Links, Objects, Use};
+use std::alloc::{AllocError, Global};
+
+/// The operands of an operation, or its successors.
+#[derive(Clone, Copy, Debug)]
+pub(crate) enum Side {
+    Operands,
+    Successors,
+}
+
+/// The place of an operand or of a successor.
+fn site_at(side: Side, p: Ptr<Operation>, i: usize) -> Site
+    ensures { result ≡ site_of side p i }
+{
+    match side {
+        Side::Operands => Site::AtOperand(p, i),
+        Side::Successors => Site::AtSuccessor(p, i),
+    }
+}
+
+/// Uses of these, in no use list.
+pub(crate) fn unlinked_uses<D: Copy + Drop>(
+    alloc: Global,
+    defs: &[D],
+) -> Result<Vec<Use<D>>, AllocError>
+    ensures { IfOk result (λ uses. uses.items ≡ map unlinked defs.now) }
+{
+    let mut uses = Vec::with_capacity(alloc, defs.len())?;
+    for def in defs {
+        let links = Links {
+            linked: false,
+            prev: None,
+            next: None,
+        };
+        uses.push(Use { def: *def, links })?;
+    }
+    Ok(uses)
+}
+
+impl<O: Drop, B: Drop, T: Drop> Objects<O, B, T> {
+    ghost use Rattle.irtext_graph.specs.declared.objects.Use.{Use};
+    ghost use Rattle.irtext_graph.specs.declared.object.Defined.{Defined};
+    ghost use Rattle.irtext_graph.specs.Graph.{seen};
+    ghost use Rattle.irtext_graph.specs.Uses.{use_at, head_at, val, AreUsesLinked};
+
+    /// Puts the operands of an operation, or its successors, into the use lists of what they name.
+    pub(crate) fn attach_all(&mut self, side: Side, p: Ptr<Operation>, count: usize)
+        requires linked { AreUsesLinked self.old }
+        requires there { (i : ℕ) → i < count → IsSome (use_at self.old (site_of side p i)) }
+        requires free { (i : ℕ) → val self.old (site_of side p i) ≡ None }
+        requires stands { (i : ℕ) (u : Use Defined) → use_at self.old (site_of side p i) ≡ Some u → IsSome (head_at self.old u.def) }
+        ensures linked { AreUsesLinked self.new }
+        ensures used { (i : ℕ) → i < count → IsSome (val self.new (site_of side p i)) }
+        ensures kept { (u : _) → ((i : ℕ) → u ≢ site_of side p i) → val self.new u ≡ val self.old u }
+        ensures seen { seen self.new ≡ seen self.old }
+    {
+        for i in 0..count {
+            self.attach(site_at(side, p, i));
+        }
+    }
+}

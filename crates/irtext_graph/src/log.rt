@@ -1,0 +1,58 @@
+//! The list of what was made: each object with its age, in the order of making.
+ghost use Rattle.std.specs.Prelude.{◌≡◌, ◌<◌, ◌≤◌, ◌++◌, ◌∷◌, ℕ, Some, [], OnOk, length, slice_get};
+ghost use Rattle.std.specs.Vec.{vec_len, vec_capacity};
+ghost use Rattle.irtext_graph.specs.Log.{IsByAge};
+
+use crate::object::Object;
+use std::alloc::AllocError;
+
+/// An object that was made, and how many objects were made before it.
+#[derive(Clone, Copy, Debug)]
+pub(crate) struct Made {
+    pub(crate) born: u64,
+    pub(crate) object: Object,
+}
+
+/// Makes room for one more. Where memory is refused the list stays as it is.
+pub(crate) fn make_room(log: &mut Vec<Made>) -> Result<(), AllocError>
+    ensures same { log.new.items ≡ log.old.items }
+    ensures room { OnOk result (vec_len log.new < vec_capacity log.new) }
+{
+    log.reserve(1)
+}
+
+/// Notes an object that was made. There is room for it.
+pub(crate) fn note(log: &mut Vec<Made>, born: u64, object: Object)
+    requires { vec_len log.old < vec_capacity log.old }
+    ensures { log.new.items ≡ log.old.items ++ record { born = born; object = object } ∷ [] }
+{
+    match log.push(Made { born, object }) {
+        Ok(()) => (),
+        Err(_) => unreachable!(),
+    }
+}
+
+/// How many objects of a list were made before the mark. It takes as long as the others are many.
+pub(crate) fn count_before(log: &[Made], mark: u64) -> usize
+    requires { IsByAge log.now }
+    ensures before { (k : ℕ) (a : _) → k < result → slice_get log.now k ≡ Some a → a.born < mark }
+    ensures since { (k : ℕ) (a : _) → result ≤ k → slice_get log.now k ≡ Some a → mark ≤ a.born }
+    ensures len { result ≤ length log.now }
+{
+    let mut count = log.len();
+    while count > 0 {
+        if log[count - 1].born < mark {
+            return count;
+        }
+        count -= 1;
+    }
+    count
+}
+
+/// The object at an index of a list.
+pub(crate) fn object_at(log: &[Made], index: usize) -> Object
+    requires { index < length log.now }
+    ensures { (a : _) → slice_get log.now index ≡ Some a → a.object ≡ result }
+{
+    log[index].object
+}

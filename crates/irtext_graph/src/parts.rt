@@ -1,0 +1,160 @@
+//! What is seen of one object: its data, its operands, successors, results and arguments.
+ghost use Rattle.std.specs.Prelude.{◌≡◌, ◌↔◌, ◌<◌, ℕ, Some, IsSome, IsTrue, length, slice_get, option_map};
+ghost use Rattle.irtext_graph.specs.declared.object.Object.TheVariants.{TheOperation, TheBlock};
+ghost use Rattle.irtext_graph.specs.Graph.{Stands};
+ghost use Rattle.irtext_graph.specs.Parts.{operation_at, block_at, operands, successors, results, arguments, value_at, ValueStands};
+
+use crate::arena::Ptr;
+use crate::graph::Graph;
+use crate::object::{BasicBlock, Object, Operation, Value};
+use crate::objects::{Definition, Objects};
+
+impl<O: Drop, B: Drop, T: Drop> Objects<O, B, T> {
+    ghost use Rattle.irtext_graph.specs.Values.{definition_at};
+
+    /// Whether a value is there.
+    fn is_defined(&self, v: Value) -> bool
+        ensures { IsTrue result ↔ IsSome (definition_at self.now v) }
+    {
+        match v {
+            Value::Result(p, i) => match self.operations.get(p) {
+                Some(e) => i < e.content.data.results.len(),
+                None => false,
+            },
+            Value::Argument(p, i) => match self.blocks.get(p) {
+                Some(e) => i < e.content.data.arguments.len(),
+                None => false,
+            },
+        }
+    }
+
+    /// What a value is.
+    fn definition(&self, v: Value) -> &Definition<T>
+        requires { IsSome (definition_at self.now v) }
+        ensures { definition_at self.now v ≡ Some result.now }
+    {
+        match v {
+            Value::Result(p, i) => &self.operations.content(p).data.results[i],
+            Value::Argument(p, i) => &self.blocks.content(p).data.arguments[i],
+        }
+    }
+}
+
+impl<O: Drop, B: Drop, T: Drop> Graph<O, B, T> {
+    ghost use Rattle.irtext_graph.specs.declared.arena.Ptr.{Ptr};
+    ghost use Rattle.irtext_graph.specs.declared.object.BasicBlock.{BasicBlock};
+    ghost use Rattle.irtext_graph.specs.declared.object.Value.{Value};
+
+    /// How many values an operation defines.
+    pub fn num_results(&self, op: Ptr<Operation>) -> usize
+        requires { Stands self.now (TheOperation op) }
+        ensures { result ≡ length (results self.now op) }
+    {
+        self.objects.operations.content(op).data.results.len()
+    }
+
+    /// How many values an operation uses; one that is used twice counts twice.
+    pub fn num_operands(&self, op: Ptr<Operation>) -> usize
+        requires { Stands self.now (TheOperation op) }
+        ensures { result ≡ length (operands self.now op) }
+    {
+        self.objects.operations.content(op).data.operands.len()
+    }
+
+    /// The value that an operation uses at an index.
+    pub fn get_operand(&self, op: Ptr<Operation>, i: usize) -> Value
+        requires stands { Stands self.now (TheOperation op) }
+        requires within { i < length (operands self.now op) }
+        ensures { slice_get (operands self.now op) i ≡ Some result }
+    {
+        self.objects.operations.content(op).data.operands[i].def
+    }
+
+    /// How many blocks an operation uses; one that is used twice counts twice.
+    pub fn num_successors(&self, op: Ptr<Operation>) -> usize
+        requires { Stands self.now (TheOperation op) }
+        ensures { result ≡ length (successors self.now op) }
+    {
+        self.objects.operations.content(op).data.successors.len()
+    }
+
+    /// The block that an operation uses at an index.
+    pub fn get_successor(&self, op: Ptr<Operation>, i: usize) -> Ptr<BasicBlock>
+        requires stands { Stands self.now (TheOperation op) }
+        requires within { i < length (successors self.now op) }
+        ensures { slice_get (successors self.now op) i ≡ Some result }
+    {
+        self.objects.operations.content(op).data.successors[i].def
+    }
+
+    /// How many values a block defines.
+    pub fn num_arguments(&self, block: Ptr<BasicBlock>) -> usize
+        requires { Stands self.now (TheBlock block) }
+        ensures { result ≡ length (arguments self.now block) }
+    {
+        self.objects.blocks.content(block).data.arguments.len()
+    }
+
+    /// Whether a value is there: whether its operation or its block stands, and has so many results or arguments.
+    pub fn contains_value(&self, v: Value) -> bool
+        ensures { IsTrue result ↔ ValueStands self.now v }
+    {
+        self.objects.is_defined(v)
+    }
+
+    /// Whether each of these values is there, as an operation needs it that is to use them.
+    pub fn contains_values(&self, values: &[Value]) -> bool
+        ensures { IsTrue result ↔ ((i : ℕ) (v : Value) → slice_get values.now i ≡ Some v → ValueStands self.now v) }
+    {
+        for v in values {
+            if !self.contains_value(*v) {
+                return false;
+            }
+        }
+        true
+    }
+
+    /// Whether each of these blocks stands, as an operation needs it that is to use them.
+    pub fn contains_blocks(&self, blocks: &[Ptr<BasicBlock>]) -> bool
+        ensures { IsTrue result ↔ ((i : ℕ) (b : Ptr BasicBlock) → slice_get blocks.now i ≡ Some b → Stands self.now (TheBlock b)) }
+    {
+        for b in blocks {
+            if !self.contains(Object::TheBlock(*b)) {
+                return false;
+            }
+        }
+        true
+    }
+
+    /// The type of a value.
+    pub fn type_of(&self, v: Value) -> &T
+        requires { ValueStands self.now v }
+        ensures { option_map (λ t. t.of_type) (value_at self.now v) ≡ Some result.now }
+    {
+        &self.objects.definition(v).of_type
+    }
+
+    /// The number of a value, which no other value of the graph has or had.
+    pub fn number_of(&self, v: Value) -> u64
+        requires { ValueStands self.now v }
+        ensures { option_map (λ t. t.number) (value_at self.now v) ≡ Some result }
+    {
+        self.objects.definition(v).number
+    }
+
+    /// The data of an operation.
+    pub fn operation(&self, op: Ptr<Operation>) -> &O
+        requires { Stands self.now (TheOperation op) }
+        ensures { option_map (λ c. c.data_of) (operation_at self.now op) ≡ Some result.now }
+    {
+        &self.objects.operations.content(op).data.data
+    }
+
+    /// The data of a block.
+    pub fn block(&self, block: Ptr<BasicBlock>) -> &B
+        requires { Stands self.now (TheBlock block) }
+        ensures { option_map (λ c. c.data_of) (block_at self.now block) ≡ Some result.now }
+    {
+        &self.objects.blocks.content(block).data.data
+    }
+}

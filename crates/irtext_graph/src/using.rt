@@ -1,0 +1,113 @@
+//! What uses a value or a block, and how another takes its place in all its uses.
+ghost use Rattle.std.specs.Prelude.{◌≡◌, ◌≢◌, ◌↔◌, ℕ, Some, IsSome, IsTrue, IfOk, option_map};
+ghost use Rattle.irtext_graph.specs.Chained.{Lists, Counts};
+ghost use Rattle.irtext_graph.specs.Used.{IsUse, IsDefined, AreAlike, Replaces, IsUnusedBelow, bare, replaced};
+ghost use Rattle.irtext_graph.specs.Graph.{KeepsOlder};
+
+use crate::graph::Graph;
+use crate::object::{Defined, Site};
+use crate::objects::Objects;
+use std::alloc::{AllocError, Global};
+
+/// Whether two are the same value or the same block.
+fn same_defined(d: Defined, e: Defined) -> bool
+    ensures { IsTrue result ↔ d ≡ e }
+{
+    d == e
+}
+
+impl<O: Drop, B: Drop, T: Drop> Objects<O, B, T> {
+    ghost use Rattle.irtext_graph.specs.Uses.{head_at, val, AreUsesLinked, AreAllUsed};
+
+    /// How many uses stand in a list, or the greatest `usize` where there are more.
+    fn count_uses(&self, d: Defined) -> usize
+        requires linked { AreUsesLinked self.now }
+        requires stands { IsSome (head_at self.now d) }
+        ensures { Counts (λ u. val self.now u ≡ Some d) result }
+    {
+        let mut n = 0;
+        let mut at = self.head_of(d);
+        while let Some(u) = at {
+            if n == usize::MAX {
+                return n;
+            }
+            n += 1;
+            at = self.use_of(u).links.next;
+        }
+        n
+    }
+
+    /// The uses that stand in a list, each once.
+    fn list_uses(&self, alloc: Global, d: Defined) -> Result<Vec<Site>, AllocError>
+        requires linked { AreUsesLinked self.now }
+        requires stands { IsSome (head_at self.now d) }
+        ensures { IfOk result (λ us. Lists (λ u. val self.now u ≡ Some d) us.items) }
+    {
+        let mut uses = Vec::new(alloc);
+        let mut at = self.head_of(d);
+        while let Some(u) = at {
+            uses.push(u)?;
+            at = self.use_of(u).links.next;
+        }
+        Ok(uses)
+    }
+
+    /// Makes each use of d a use of e. It takes no memory.
+    fn replace_uses(&mut self, d: Defined, e: Defined)
+        requires linked { AreUsesLinked self.old }
+        requires all_used { AreAllUsed self.old }
+        requires stands { IsSome (head_at self.old d) }
+        requires stands_too { IsSome (head_at self.old e) }
+        requires alike { AreAlike d e }
+        requires differ { d ≢ e }
+        ensures linked { AreUsesLinked self.new }
+        ensures all_used { AreAllUsed self.new }
+        ensures uses { (u : _) → val self.new u ≡ option_map (replaced d e) (val self.old u) }
+        ensures bare { bare self.new ≡ bare self.old }
+    {
+        while let Some(u) = self.head_of(d) {
+            self.redirect(u, e);
+        }
+    }
+}
+
+impl<O: Drop, B: Drop, T: Drop> Graph<O, B, T> {
+    /// Whether an operand or a successor names d.
+    pub fn has_use(&self, d: Defined) -> bool
+        requires { IsDefined self.now d }
+        ensures { IsTrue result ↔ (u : Site) × IsUse self.now d u }
+    {
+        self.objects.head_of(d).is_some()
+    }
+
+    /// How many operands and successors name d, or the greatest `usize` where there are more. It takes as long as there are uses.
+    pub fn num_uses(&self, d: Defined) -> usize
+        requires { IsDefined self.now d }
+        ensures { Counts (IsUse self.now d) result }
+    {
+        self.objects.count_uses(d)
+    }
+
+    /// The operands and the successors that name d, each once. An operation that names d twice has two of them. It takes as long as
+    /// there are uses.
+    pub fn uses(&self, d: Defined) -> Result<Vec<Site>, AllocError>
+        requires { IsDefined self.now d }
+        ensures { IfOk result (λ us. Lists (IsUse self.now d) us.items) }
+    {
+        self.objects.list_uses(self.alloc, d)
+    }
+
+    /// Makes each use of d a use of e: every operand, or every successor, that names d names e. It takes as long as d has uses, and
+    /// no memory.
+    pub fn replace_all_uses(&mut self, d: Defined, e: Defined)
+        requires stands { IsDefined self.old d }
+        requires stands_too { IsDefined self.old e }
+        requires alike { AreAlike d e }
+        ensures replaces { Replaces self.old self.new d e }
+        ensures kept { (m : ℕ) → IsUnusedBelow m self.old d → KeepsOlder m self.old self.new }
+    {
+        if !same_defined(d, e) {
+            self.objects.replace_uses(d, e);
+        }
+    }
+}

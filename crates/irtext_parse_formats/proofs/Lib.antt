@@ -1,0 +1,2 @@
+-- Steps of the readers of formats.
+pub mod PieceSteps

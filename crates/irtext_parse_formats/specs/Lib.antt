@@ -1,0 +1,2 @@
+-- What was read of an operation, as the code holds it.
+pub mod PiecesOf

@@ -1,0 +1,5 @@
+//! What the directives of a format read.
+
+mod entries;
+pub mod pieces;
+mod region;

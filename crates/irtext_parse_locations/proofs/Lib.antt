@@ -1,0 +1,2 @@
+pub mod FrameOutcomes
+pub mod FrameSteps

@@ -1,0 +1,118 @@
+//! Reading of places: of sources, lines and columns.
+ghost use Rattle.std.specs.Prelude.{◌≡◌, IfOk, string_bytes};
+ghost use Rattle.irtext_base.specs.Moves.{path_kept, all_kept};
+ghost use Rattle.irtext_base.specs.Paths.{path_of, is_known};
+ghost use Rattle.irtext_outcomes.specs.Readers.Positions.{position_at};
+ghost use Rattle.irtext_outcomes.specs.Readers.Locations.{bytes_at, path_at, source_at, place_at};
+ghost use Rattle.irtext_read.specs.MustRead.{MustRead, MayRead};
+ghost use Rattle.irtext_grammar.specs.Contexts.Held.{location_over};
+ghost use Rattle.irtext_outcomes.specs.Readers.NewPaths.{AddsPaths, MustReadOver, MayReadOver, known_location};
+ghost use Rattle.irtext_outcomes.specs.Readers.Streams.{itself, replaced};
+
+use crate::location::nested::begins_source;
+use crate::location::read::position_demanded;
+use irtext_base::location::{Location, Source};
+use irtext_base::parsable::{CharStream, ParseResult, SourcePosition, TextStream};
+use irtext_base::result::{Cause, Expected};
+use irtext_base::text::{AttrText, IrText};
+use irtext_context::base::Context;
+use irtext_context::base::context::making::Making;
+use irtext_read::irfmt::demanded::{spaced_text_demanded, text_demanded};
+use irtext_read::irfmt::faults::{commit, committed, next_is, out_of_memory, refuse, unexpected};
+use irtext_read::irfmt::parsers::{held, quoted_string_parse};
+
+/// A text between quotation marks.
+pub(crate) fn quoted_demanded<A>(stream: &mut TextStream) -> ParseResult<String, A>
+    ensures { MustRead itself replaced (λ s. string_bytes s) bytes_at stream.old result stream.new }
+{
+    let answer = quoted_string_parse(stream);
+    committed(stream, answer)
+}
+
+/// A path between quotation marks, which the context keeps from then on.
+fn path_demanded<T: IrText<A>, A: AttrText>(
+    stream: &mut TextStream,
+    ctx: &mut Context<T, A>,
+) -> ParseResult<Source, A>
+    ensures adds { AddsPaths ctx.old ctx.new }
+    ensures read { MustReadOver is_known path_of path_at ctx.new.paths stream.old result stream.new }
+    ensures paths { IfOk result (λ source. ctx.new.paths ≡ path_kept ctx.old.paths (path_of ctx.new.paths source)) }
+{
+    let path = quoted_demanded(stream)?;
+    let Ok(key) = ctx.keep_path(&path) else {
+        return Err(out_of_memory(stream));
+    };
+    Ok(Source::File(key))
+}
+
+/// A source, which must stand there.
+fn source_demanded<T: IrText<A>, A: AttrText>(
+    stream: &mut TextStream,
+    ctx: &mut Context<T, A>,
+) -> ParseResult<Source, A>
+    ensures adds { AddsPaths ctx.old ctx.new }
+    ensures read { MustReadOver is_known path_of source_at ctx.new.paths stream.old result stream.new }
+    ensures paths { IfOk result (λ source. ctx.new.paths ≡ path_kept ctx.old.paths (path_of ctx.new.paths source)) }
+{
+    if stream.has_failed() {
+        return Err(refuse(stream, Cause::StreamFailed));
+    }
+    if next_is(stream, '"') {
+        return path_demanded(stream, ctx);
+    }
+    if next_is(stream, '<') {
+        text_demanded(stream, "<in-memory>")?;
+        return Ok(Source::InMemory);
+    }
+    let fault = unexpected(stream, Expected::Source);
+    Err(commit(stream, fault))
+}
+
+/// A source, a line and a column, which must stand there.
+pub(crate) fn place_demanded<T: IrText<A>, A: AttrText>(
+    stream: &mut TextStream,
+    ctx: &mut Context<T, A>,
+) -> ParseResult<Location<A>, A>
+    ensures adds { AddsPaths ctx.old ctx.new }
+    ensures read { MustReadOver known_location location_over place_at ctx.new.paths stream.old result stream.new }
+    ensures paths { IfOk result (λ l. ctx.new.paths ≡ all_kept ctx.old.paths (location_over ctx.new.paths l)) }
+{
+    let src = source_demanded(stream, ctx)?;
+    spaced_text_demanded(stream, ":")?;
+    let pos = position_demanded(stream)?;
+    Ok(Location::SrcPos { src, pos })
+}
+
+/// A source, which may be missing.
+pub fn source_parse<T: IrText<A>, A: AttrText>(
+    stream: &mut TextStream,
+    ctx: &mut Context<T, A>,
+) -> ParseResult<Source, A>
+    ensures adds { AddsPaths ctx.old ctx.new }
+    ensures read { MayReadOver is_known path_of source_at ctx.new.paths stream.old result stream.new }
+    ensures paths { IfOk result (λ source. ctx.new.paths ≡ path_kept ctx.old.paths (path_of ctx.new.paths source)) }
+{
+    if stream.has_failed() {
+        return Err(refuse(stream, Cause::StreamFailed));
+    }
+    if !begins_source(stream) {
+        return Err(unexpected(stream, Expected::Source));
+    }
+    source_demanded(stream, ctx)
+}
+
+/// A line and a column, which may be missing.
+pub fn position_parse<A>(stream: &mut TextStream) -> ParseResult<SourcePosition, A>
+    ensures { MayRead itself replaced (λ at. at) position_at stream.old result stream.new }
+{
+    if stream.has_failed() {
+        return Err(refuse(stream, Cause::StreamFailed));
+    }
+    if !next_is(stream, 'l') {
+        return Err(match held(stream.allocator(), "line") {
+            Ok(expected) => unexpected(stream, expected),
+            Err(_) => out_of_memory(stream),
+        });
+    }
+    position_demanded(stream)
+}

@@ -1,0 +1,241 @@
+-- Heads and links agree with the bindings: one more binding, the last one taken away, one rebound; and the scopes that the marks cut.
+use Rattle.std.proofs.Common.{◌≡◌, ℕ, zero, suc, ◌<◌, ◌≤◌, Bool, true, false, cond, List, [], ◌∷◌, ◌++◌, reverse, length, take, drop, set, is_some, length-set, length-append, length-take-le, Option, Some, None, nat_eq, nat_le, nat_lt, ltb-true, ltb-false, refl, sym, ap, ◌∙◌, subst, arith, eq-eqb, eqb-true, leb-true, le-leb, ⊎_elim}
+use Rattle.std.proofs.lemmas.List.{reverse-append}
+use Rattle.std.specs.List.{slice_get}
+use Rattle.std.specs.Option.{option_or, option_map}
+use Rattle.irtext_scopes.specs.declared.scopes.Binding.{Binding}
+use Rattle.irtext_scopes.specs.Scopes.{find, innermost, outer, is_open, in_innermost, mentioned, resolved, first_pending}
+use Rattle.irtext_scopes.specs.Bindings.{entries_of, scopes_from, scopes_at, newest, head_at, first, from_mark, place_in, falls, are_apart, are_maps, rebound, Chained, IsSound}
+use Rattle.irtext_scopes.proofs.Lists.{get_within, get_or_there, get_snoc, take_snoc, take_whole, drop_snoc, take_length, drop_length, get_last, get_front, set_there}
+use Rattle.irtext_scopes.proofs.Maps.{innermost_apart, outer_maps, mentioned_maps, resolved_maps}
+use Rattle.irtext_scopes.proofs.Newest.{newest_there, innermost_at, find_absent, find_hidden, find_there, rebound_scopes}
+
+-- ---- marks
+fall_first : (high m : ℕ) (ms : List ℕ) → falls high (m ∷ ms) ≡ true → (m ≤ high) × (falls m ms ≡ true)
+fall_first high m ms h = go (nat_le m high) refl h
+  where
+    go : (c : Bool) → nat_le m high ≡ c → cond c (falls m ms) false ≡ true → (m ≤ high) × (falls m ms ≡ true)
+    go true e k = (leb-true m high e, k)
+    go false e k = cc
+
+fall_higher : (low high : ℕ) (ms : List ℕ) → low ≤ high → falls low ms ≡ true → falls high ms ≡ true
+fall_higher low high [] k h = refl
+fall_higher low high (m ∷ ms) k h = let j = fall_first low m ms h in ap (λ c. cond c (falls m ms) false) (le-leb m high (let l = j.0 in omega arith)) ∙ j.1
+
+in_range : (heads : List (Option ℕ)) (n i : ℕ) → head_at heads n ≡ Some i → n < length heads
+in_range [] n i e = cc
+in_range (h ∷ heads) zero i e = omega arith
+in_range (h ∷ heads) (suc n) i e = let k = in_range heads n i e in omega arith
+
+module _ {V : Type 0} where
+  -- ---- one more binding
+  newest_snoc : (n : ℕ) (bs : List (Binding V)) (b : Binding V) → newest n (bs ++ b ∷ []) ≡ cond (nat_eq b.name n) (Some (length bs)) (newest n bs)
+  newest_snoc n [] b = refl
+  newest_snoc n (k ∷ bs) b = ap (λ o. option_or (option_map suc o) (cond (nat_eq k.name n) (Some 0) None)) (newest_snoc n bs b) ∙ go (nat_eq b.name n)
+    where
+      go : (c : Bool) → option_or (option_map suc (cond c (Some (length bs)) (newest n bs))) (cond (nat_eq k.name n) (Some 0) None)
+          ≡ cond c (Some (length (k ∷ bs))) (option_or (option_map suc (newest n bs)) (cond (nat_eq k.name n) (Some 0) None))
+      go true = refl
+      go false = refl
+
+  entries_snoc : (bs : List (Binding V)) (b : Binding V) → entries_of (bs ++ b ∷ []) ≡ entries_of bs ++ (b.name, b.entry) ∷ []
+  entries_snoc [] b = refl
+  entries_snoc (k ∷ bs) b = ap (λ z. (k.name, k.entry) ∷ z) (entries_snoc bs b)
+
+  added_chained : (heads heads' : List (Option ℕ)) (bs : List (Binding V)) (b : Binding V) → Chained heads bs → b.hidden ≡ head_at heads b.name
+      → ((n : ℕ) → head_at heads' n ≡ cond (nat_eq b.name n) (Some (length bs)) (head_at heads n)) → Chained heads' (bs ++ b ∷ [])
+  added_chained heads heads' bs b c hid put = record {
+    heads_lead = λ n. put n ∙ (ap (cond (nat_eq b.name n) (Some (length bs))) (c.heads_lead n) ∙ sym (newest_snoc n bs b));
+    links_lead = λ i x e. ⊎_elim
+        (λ h. let j = h.1 in c.links_lead i x h.0 ∙ ap (newest x.name) (sym (take_snoc bs b i (omega arith))))
+        (λ h. sym (ap (λ z. z.hidden) h.1) ∙ (hid ∙ (c.heads_lead b.name ∙ (ap (λ z. newest z.name bs) h.1 ∙ ap (newest x.name) (sym (ap (λ k. take k (bs ++ b ∷ [])) h.0 ∙ take_whole bs b))))))
+        (get_snoc bs b i x e);
+  }
+
+  added_from : (ms : List ℕ) (bs : List (Binding V)) (b : Binding V) → falls (length bs) ms ≡ true → scopes_from ms (bs ++ b ∷ []) ≡ in_innermost (mentioned b.name b.entry) (scopes_from ms bs)
+  added_from [] bs b h = refl
+  added_from (m ∷ ms) bs b h =
+      let k = (fall_first (length bs) m ms h).0 in
+      λ i. (ap entries_of (drop_snoc bs b m k) ∙ entries_snoc (drop m bs) b) i ∷ scopes_from ms (take_snoc bs b m k i)
+
+  pub added_scopes : (heads : List (Option ℕ)) (marks : List ℕ) (bs : List (Binding V)) (b : Binding V) → IsSound heads bs marks
+      → scopes_at marks (bs ++ b ∷ []) ≡ in_innermost (mentioned b.name b.entry) (scopes_at marks bs)
+  added_scopes heads marks bs b s = added_from (reverse marks) bs b s.marks_fall
+
+  pub added_sound : (heads heads' : List (Option ℕ)) (marks : List ℕ) (bs : List (Binding V)) (b : Binding V) → IsSound heads bs marks → b.hidden ≡ head_at heads b.name
+      → ((n : ℕ) → head_at heads' n ≡ cond (nat_eq b.name n) (Some (length bs)) (head_at heads n)) → find b.name (innermost (scopes_at marks bs)) ≡ None → IsSound heads' (bs ++ b ∷ []) marks
+  added_sound heads heads' marks bs b s hid put none = record {
+    chained = added_chained heads heads' bs b s.chained hid put;
+    marks_fall = fall_higher (length bs) (length (bs ++ b ∷ [])) (reverse marks) (let k = length-append bs (b ∷ []) in omega arith) s.marks_fall;
+    maps = ap are_maps (added_scopes heads marks bs b s) ∙ mentioned_maps b.name b.entry (scopes_at marks bs) s.maps none;
+  }
+
+  -- other heads that lead to the same places
+  pub same_sound : (heads heads' : List (Option ℕ)) (marks : List ℕ) (bs : List (Binding V)) → IsSound heads bs marks → ((n : ℕ) → head_at heads' n ≡ head_at heads n) → IsSound heads' bs marks
+  same_sound heads heads' marks bs s same = record {
+    chained = record { heads_lead = λ n. same n ∙ s.chained.heads_lead n; links_lead = s.chained.links_lead };
+    marks_fall = s.marks_fall;
+    maps = s.maps;
+  }
+
+  -- ---- the last binding taken away
+  pub taken_chained : (heads heads' : List (Option ℕ)) (bs : List (Binding V)) (b : Binding V) → Chained heads (bs ++ b ∷ [])
+      → ((n : ℕ) → head_at heads' n ≡ cond (nat_eq b.name n) b.hidden (head_at heads n)) → Chained heads' bs
+  taken_chained heads heads' bs b c put = record {
+    heads_lead = λ n. put n ∙ (ap (cond (nat_eq b.name n) b.hidden) (c.heads_lead n ∙ newest_snoc n bs b) ∙ go n (nat_eq b.name n) refl);
+    links_lead = λ i x e. let j = get_within bs i x e in c.links_lead i x (get_front bs b x i e) ∙ ap (newest x.name) (take_snoc bs b i (omega arith));
+  }
+    where
+      hid : b.hidden ≡ newest b.name bs
+      hid = c.links_lead (length bs) b (get_last bs b) ∙ ap (newest b.name) (take_whole bs b)
+
+      go : (n : ℕ) (d : Bool) → nat_eq b.name n ≡ d → cond d b.hidden (cond d (Some (length bs)) (newest n bs)) ≡ newest n bs
+      go n true e = hid ∙ ap (λ z. newest z bs) (eqb-true b.name n e)
+      go n false e = refl
+
+  pub last_in_range : (heads : List (Option ℕ)) (bs : List (Binding V)) (b : Binding V) → Chained heads (bs ++ b ∷ []) → b.name < length heads
+  last_in_range heads bs b c =
+      in_range heads b.name (length bs) (c.heads_lead b.name ∙ (newest_snoc b.name bs b ∙ ap (λ d. cond d (Some (length bs)) (newest b.name bs)) (eq-eqb b.name b.name refl)))
+
+  -- ---- a scope begins, and ends
+  pub entered_scopes : (marks : List ℕ) (bs : List (Binding V)) (m : ℕ) → m ≡ length bs → scopes_at (marks ++ m ∷ []) bs ≡ [] ∷ scopes_at marks bs
+  entered_scopes marks bs m e =
+      ap (λ k. scopes_from k bs) (reverse-append marks (m ∷ []))
+      ∙ (λ i. entries_of ((ap (λ k. drop k bs) e ∙ drop_length bs) i) ∷ scopes_from (reverse marks) ((ap (λ k. take k bs) e ∙ take_length bs) i))
+
+  pub entered_sound : (heads : List (Option ℕ)) (marks : List ℕ) (bs : List (Binding V)) (m : ℕ) → m ≡ length bs → IsSound heads bs marks → IsSound heads bs (marks ++ m ∷ [])
+  entered_sound heads marks bs m e s = record {
+    chained = s.chained;
+    marks_fall = ap (falls (length bs)) (reverse-append marks (m ∷ []))
+        ∙ (ap (λ c. cond c (falls m (reverse marks)) false) (le-leb m (length bs) (omega (arith, e))) ∙ (ap (λ k. falls k (reverse marks)) e ∙ s.marks_fall));
+    maps = ap are_maps (entered_scopes marks bs m e) ∙ s.maps;
+  }
+
+  -- where the innermost scope begins, and what the marks of the others say
+  pub last_mark : (heads : List (Option ℕ)) (marks : List ℕ) (bs : List (Binding V)) (m : ℕ) → IsSound heads bs (marks ++ m ∷ []) → (m ≤ length bs) × (falls m (reverse marks) ≡ true)
+  last_mark heads marks bs m s = fall_first (length bs) m (reverse marks) (sym (ap (falls (length bs)) (reverse-append marks (m ∷ []))) ∙ s.marks_fall)
+
+  whole_scopes : (marks : List ℕ) (bs : List (Binding V)) (m : ℕ) → scopes_at (marks ++ m ∷ []) bs ≡ entries_of (drop m bs) ∷ scopes_at marks (take m bs)
+  whole_scopes marks bs m = ap (λ k. scopes_from k bs) (reverse-append marks (m ∷ []))
+
+  pub left_scopes : (marks : List ℕ) (bs : List (Binding V)) (m : ℕ) → scopes_at marks (take m bs) ≡ outer (scopes_at (marks ++ m ∷ []) bs)
+  left_scopes marks bs m = sym (ap outer (whole_scopes marks bs m))
+
+  pub left_first : (marks : List ℕ) (bs : List (Binding V)) (m : ℕ) → first_pending (entries_of (drop m bs)) ≡ first_pending (innermost (scopes_at (marks ++ m ∷ []) bs))
+  left_first marks bs m = sym (ap (λ ss. first_pending (innermost ss)) (whole_scopes marks bs m))
+
+  pub left_sound : (heads heads' : List (Option ℕ)) (marks : List ℕ) (bs : List (Binding V)) (m : ℕ) → IsSound heads bs (marks ++ m ∷ []) → Chained heads' (take m bs) → IsSound heads' (take m bs) marks
+  left_sound heads heads' marks bs m s c =
+      let k = last_mark heads marks bs m s in
+      record {
+        chained = c;
+        marks_fall = ap (λ z. falls z (reverse marks)) (length-take-le m bs k.0) ∙ k.1;
+        maps = ap are_maps (left_scopes marks bs m) ∙ outer_maps (scopes_at (marks ++ m ∷ []) bs) s.maps;
+      }
+
+  pub closed_scopes : (marks : List ℕ) (bs : List (Binding V)) → first (reverse marks) ≡ None → scopes_at marks bs ≡ []
+  closed_scopes marks bs e = go (reverse marks) e
+    where
+      go : (ms : List ℕ) → first ms ≡ None → scopes_from ms bs ≡ []
+      go [] h = refl
+      go (m ∷ ms) h = cc
+
+  open_from : (ms : List ℕ) (bs : List (Binding V)) → is_some (first ms) ≡ is_open (scopes_from ms bs)
+  open_from [] bs = refl
+  open_from (m ∷ ms) bs = refl
+
+  pub open_scopes : (marks : List ℕ) (bs : List (Binding V)) → is_some (first (reverse marks)) ≡ is_open (scopes_at marks bs)
+  open_scopes marks bs = open_from (reverse marks) bs
+
+  -- no name stands twice in the innermost scope
+  pub mark_apart : (heads : List (Option ℕ)) (marks : List ℕ) (bs : List (Binding V)) (m : ℕ) → IsSound heads bs marks → first (reverse marks) ≡ Some m → are_apart (entries_of (drop m bs)) ≡ true
+  mark_apart heads marks bs m s e = sym (ap are_apart (innermost_at (reverse marks) bs m e)) ∙ innermost_apart (scopes_at marks bs) s.maps
+
+  -- ---- where the innermost scope binds a name
+  pub record Found (n : ℕ) (marks : List ℕ) (bs : List (Binding V)) (i : ℕ) : Type 0 where
+    pub mark : ℕ
+    pub binding : Binding V
+    pub begins : first (reverse marks) ≡ Some mark
+    pub newest_is : newest n bs ≡ Some i
+    pub inside : mark ≤ i
+    pub there : slice_get bs i ≡ Some binding
+    pub means : find n (innermost (scopes_at marks bs)) ≡ Some binding.entry
+
+  abbrev pub Told : ℕ → List ℕ → List (Binding V) → Option ℕ → Type 0
+  Told n marks bs None = find n (innermost (scopes_at marks bs)) ≡ None
+  Told n marks bs (Some i) = Found n marks bs i
+
+  pub place_told : (heads : List (Option ℕ)) (marks : List ℕ) (bs : List (Binding V)) (n : ℕ) (o : Option ℕ)
+      → IsSound heads bs marks → o ≡ place_in heads marks n → Told n marks bs o
+  place_told heads marks bs n o s q =
+      subst (Told n marks bs) (sym (q ∙ ap (from_mark (first (reverse marks))) (s.chained.heads_lead n)))
+      (told (first (reverse marks)) refl (newest n bs) refl)
+    where
+      here : (m i : ℕ) → first (reverse marks) ≡ Some m → newest n bs ≡ Some i → (c : Bool) → nat_lt i m ≡ c → Told n marks bs (cond c None (Some i))
+      here m i e h true l = sym (find_hidden (reverse marks) bs n m i e (mark_apart heads marks bs m s e) h (ltb-true i m l))
+      here m i e h false l =
+          let b = newest_there n i bs h in
+          let low = ltb-false i m l in
+          record {
+            mark = m;
+            binding = b.0;
+            begins = e;
+            newest_is = h;
+            inside = low;
+            there = b.1;
+            means = sym (find_there (reverse marks) bs n m i b.0 e (mark_apart heads marks bs m s e) h low (sym (get_or_there bs i b.0 b.0 b.1)));
+          }
+
+      told : (f : Option ℕ) → first (reverse marks) ≡ f → (w : Option ℕ) → newest n bs ≡ w → Told n marks bs (from_mark f w)
+      told None e w h = ap (λ ss. find n (innermost ss)) (closed_scopes marks bs e)
+      told (Some m) e None h = sym (find_absent (reverse marks) bs n m e (mark_apart heads marks bs m s e) h)
+      told (Some m) e (Some i) h = here m i e h (nat_lt i m) refl
+
+  -- ---- names and links alone decide what is newest
+  abbrev names_of : List (Binding V) → List ℕ
+  names_of [] = []
+  names_of (b ∷ bs) = b.name ∷ names_of bs
+
+  newest_named : (n : ℕ) (bs cs : List (Binding V)) → names_of bs ≡ names_of cs → newest n bs ≡ newest n cs
+  newest_named n [] [] h = refl
+  newest_named n [] (c ∷ cs) h = cc
+  newest_named n (b ∷ bs) [] h = cc
+  newest_named n (b ∷ bs) (c ∷ cs) h =
+      let k : b.name ≡ c.name = cc in
+      let l : names_of bs ≡ names_of cs = cc in
+      λ i. option_or (option_map suc (newest_named n bs cs l i)) (cond (nat_eq (k i) n) (Some 0) None)
+
+  names_take : (k : ℕ) (bs : List (Binding V)) → names_of (take k bs) ≡ take k (names_of bs)
+  names_take zero bs = refl
+  names_take (suc k) [] = refl
+  names_take (suc k) (b ∷ bs) = ap (λ z. b.name ∷ z) (names_take k bs)
+
+  names_rebound : (bs : List (Binding V)) (i : ℕ) (b : Binding V) (v : V) → slice_get bs i ≡ Some b → names_of (set bs i (rebound v b)) ≡ names_of bs
+  names_rebound [] i b v e = refl
+  names_rebound (k ∷ bs) zero b v e = let is : k ≡ b = cc in ap (λ z. z.name ∷ names_of bs) (sym is)
+  names_rebound (k ∷ bs) (suc i) b v e = ap (λ z. k.name ∷ z) (names_rebound bs i b v e)
+
+  rebound_chained : (heads : List (Option ℕ)) (bs : List (Binding V)) (i : ℕ) (b : Binding V) (v : V) → Chained heads bs → slice_get bs i ≡ Some b → Chained heads (set bs i (rebound v b))
+  rebound_chained heads bs i b v c e = record {
+    heads_lead = λ n. c.heads_lead n ∙ newest_named n bs (set bs i (rebound v b)) (sym (names_rebound bs i b v e));
+    links_lead = λ j y h. ⊎_elim
+        (λ k. c.links_lead j y k ∙ still j y.name)
+        (λ k. sym (ap (λ z. z.hidden) k.1) ∙ (c.links_lead i b e ∙ (still i b.name ∙ (λ q. newest ((ap (λ z. z.name) k.1) q) (take (k.0 q) (set bs i (rebound v b)))))))
+        (set_there bs i j b (rebound v b) y e h);
+  }
+    where
+      still : (j n : ℕ) → newest n (take j bs) ≡ newest n (take j (set bs i (rebound v b)))
+      still j n = newest_named n (take j bs) (take j (set bs i (rebound v b))) (names_take j bs ∙ (ap (take j) (sym (names_rebound bs i b v e)) ∙ sym (names_take j (set bs i (rebound v b)))))
+
+  pub resolved_scopes : (heads : List (Option ℕ)) (marks : List ℕ) (bs : List (Binding V)) (n i : ℕ) (v : V)
+      → IsSound heads bs marks → (f : Found n marks bs i) → scopes_at marks (set bs i (rebound v f.binding)) ≡ in_innermost (resolved n v) (scopes_at marks bs)
+  resolved_scopes heads marks bs n i v s f =
+      rebound_scopes (reverse marks) bs n f.mark i v f.binding f.begins (mark_apart heads marks bs f.mark s f.begins) f.newest_is f.inside f.there
+
+  pub resolved_sound : (heads : List (Option ℕ)) (marks : List ℕ) (bs cs : List (Binding V)) (n i : ℕ) (v : V)
+      → IsSound heads bs marks → (f : Found n marks bs i) → cs ≡ set bs i (rebound v f.binding) → IsSound heads cs marks
+  resolved_sound heads marks bs cs n i v s f is = subst (λ z. IsSound heads z marks) (sym is) (record {
+    chained = rebound_chained heads bs i f.binding v s.chained f.there;
+    marks_fall = ap (λ z. falls z (reverse marks)) (length-set bs i (rebound v f.binding)) ∙ s.marks_fall;
+    maps = ap are_maps (resolved_scopes heads marks bs n i v s f) ∙ resolved_maps n v (scopes_at marks bs) s.maps;
+  })

@@ -1,0 +1,12 @@
+use Rattle.std.proofs.Common.{length}
+use Rattle.irtext_scopes.specs.declared.scopes.Entry.TheVariants.{Pending}
+use Rattle.irtext_scopes.proofs.Known.{known_added}
+use Rattle.irtext_scopes.proofs.tracker.NameTracker.ssa_forward.Goals as goal
+
+pub invariant_of-self : goal.invariant_of-self
+invariant_of-self g c =
+    let s = c.args.self.now in
+    record {
+      values_known = known_added c.add.result (length s.names) c.args.name (Pending c.args.placeholder) s.values c.add.new.self c.add.ensures.ok c.add.ensures.err c.requires.known s.values_known;
+      labels_known = s.labels_known;
+    }

@@ -1,0 +1,4 @@
+pub mod Names
+pub mod Scopes
+pub mod Bindings
+pub mod Tracker

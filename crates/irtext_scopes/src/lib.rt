@@ -1,0 +1,7 @@
+//! Names as a text mentions them: each is kept once under a number, and stands for something in the scopes
+//! that are open.
+#![tactic(auto)]
+
+pub mod names;
+pub mod scopes;
+pub mod tracker;

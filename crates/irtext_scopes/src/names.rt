@@ -1,0 +1,111 @@
+//! Names that are kept once for a reading: a name's number is where it stands among those kept.
+ghost use Rattle.std.specs.Prelude.{◌≡◌, ◌<◌, ◌++◌, ◌∷◌, [], Some, false, is_some, IfOk, OnOk, OnErr, length, position, slice_get};
+ghost use Rattle.std.specs.List.{list_any};
+ghost use Rattle.std.specs.Str.{bytes_eq};
+ghost use Rattle.irtext_scopes.specs.Names.{name_texts, number_of, with_name, KeepsNames, AreDistinct};
+
+use indexmap::IndexSet;
+use std::alloc::{AllocError, Global};
+use std::marker::Model;
+
+/// Names, each kept once under its number.
+#[derive(Drop)]
+pub struct Names {
+    texts: IndexSet<String>,
+    alloc: Global,
+}
+
+impl Model for Names {
+    ghost use Rattle.std.specs.Prelude.{ℕ, List};
+    ghost use Rattle.irtext_scopes.specs.Names.{name_texts, AreDistinct};
+
+    ghost Value = { List (List ℕ) };
+
+    ghost view = { λ n. name_texts n.texts };
+
+    ghost invariant = { λ n. AreDistinct (name_texts n.texts) };
+}
+
+fn find(names: &IndexSet<String>, text: &str) -> Option<usize>
+    ensures index { result ≡ position (bytes_eq text.now) (name_texts names.now) }
+    ensures found { is_some result ≡ list_any (bytes_eq text.now) (name_texts names.now) }
+{
+    names.get_index_of(text)
+}
+
+fn put_last(names: &mut IndexSet<String>, alloc: Global, text: &str) -> Result<(), AllocError>
+    requires { list_any (bytes_eq text.now) (name_texts names.old) ≡ false }
+    ensures ok { OnOk result (name_texts names.new ≡ name_texts names.old ++ text.now ∷ []) }
+    ensures err { OnErr result (name_texts names.new ≡ name_texts names.old) }
+{
+    let text = String::from_str(alloc, text)?;
+    names.insert(text)?;
+    Ok(())
+}
+
+fn keep(names: &mut IndexSet<String>, alloc: Global, text: &str) -> Result<usize, AllocError>
+    ensures number { IfOk result (λ i. i ≡ number_of (name_texts names.old) text.now) }
+    ensures kept { OnOk result (name_texts names.new ≡ with_name (name_texts names.old) text.now) }
+    ensures err { OnErr result (name_texts names.new ≡ name_texts names.old) }
+    ensures known { OnErr result (list_any (bytes_eq text.now) (name_texts names.old) ≡ false) }
+{
+    if let Some(number) = find(names, text) {
+        return Ok(number);
+    }
+    let number = names.len();
+    put_last(names, alloc, text)?;
+    Ok(number)
+}
+
+fn text_at(names: &IndexSet<String>, number: usize) -> &str
+    requires { number < length (name_texts names.now) }
+    ensures { slice_get (name_texts names.now) number ≡ Some result.now }
+{
+    match names.get_index(number) {
+        Some(text) => text.as_str(),
+        None => unreachable!(),
+    }
+}
+
+impl Names {
+    /// No names. They take no memory yet.
+    pub fn new(alloc: Global) -> Names
+        ensures { result ≡ [] }
+    {
+        Names {
+            texts: IndexSet::new(alloc),
+            alloc,
+        }
+    }
+
+    /// The number of a name, which is kept from then on: a name that is kept already has the number that it
+    /// had, and takes no memory. Where memory is refused, nothing changes.
+    pub fn intern(&mut self, text: &str) -> Result<usize, AllocError>
+        ensures number { IfOk result (λ i. i ≡ number_of self.old text.now) }
+        ensures kept { OnOk result (self.new ≡ with_name self.old text.now) }
+        ensures err { OnErr result (self.new ≡ self.old) }
+        ensures known { OnErr result (list_any (bytes_eq text.now) self.old ≡ false) }
+        ensures named { IfOk result (λ i. slice_get self.new i ≡ Some text.now) }
+        ensures within { IfOk result (λ i. i < length self.new) }
+        ensures stays { KeepsNames self.old self.new }
+        ensures distinct { AreDistinct self.new }
+    {
+        let alloc = self.alloc;
+        keep(&mut self.texts, alloc, text)
+    }
+
+    /// How many names are kept.
+    pub fn len(&self) -> usize
+        ensures { result ≡ length self.now }
+    {
+        self.texts.len()
+    }
+
+    /// The name of a number.
+    pub fn text(&self, number: usize) -> &str
+        requires { number < length self.now }
+        ensures { slice_get self.now number ≡ Some result.now }
+    {
+        text_at(&self.texts, number)
+    }
+}

@@ -1,0 +1,258 @@
+//! The scopes of names of one kind as one vector of bindings: leaving a scope cuts the vector back to where
+//! the scope began.
+ghost use Rattle.std.specs.Prelude.{◌≡◌, ℕ, ◌<◌, ◌≤◌, [], ◌∷◌, length, None, Some, true, OnOk, OnErr, IfOk, cond, nat_eq, slice_get, reverse, drop, take, set, Err, ◌↔◌};
+ghost use Rattle.irtext_scopes.specs.declared.scopes.DefineFault.{DefineFault};
+ghost use Rattle.irtext_scopes.specs.declared.scopes.Binding.{Binding};
+ghost use Rattle.irtext_scopes.specs.Bindings.{Chained, entries_of, rebound, head_at, first, place_in};
+ghost use Rattle.irtext_scopes.specs.Scopes.{innermost, outer, in_innermost, is_open, find, mentioned, resolved, defined, is_defined, placeholder_of, first_pending};
+
+use std::alloc::{AllocError, Global};
+use std::marker::Model;
+
+/// What a name stands for in a scope: its definition, or a placeholder where it was used before it is
+/// defined.
+#[derive(Clone, Copy)]
+pub enum Entry<V> {
+    Defined(V),
+    Pending(V),
+}
+
+/// Why a name got no definition.
+#[derive(Clone, Copy, PartialEq, Eq, Debug)]
+pub enum DefineFault {
+    Memory,
+    MultipleDefinitions,
+}
+
+/// A name as one scope binds it, and the place of the binding of that name which it hides.
+#[derive(Clone, Copy)]
+pub(crate) struct Binding<V> {
+    pub(crate) name: usize,
+    pub(crate) entry: Entry<V>,
+    pub(crate) hidden: Option<usize>,
+}
+
+/// The scopes of names of one kind that are open, the innermost first. Names are known by their numbers.
+#[derive(Drop)]
+pub struct Scopes<V> {
+    // by the number of a name: the place of its newest binding
+    heads: Vec<Option<usize>>,
+    bindings: Vec<Binding<V>>,
+    // where each scope begins
+    marks: Vec<usize>,
+}
+
+impl<V> Model for Scopes<V> {
+    ghost use Rattle.std.specs.Prelude.{List};
+    ghost use Rattle.irtext_scopes.specs.Scopes.{Scope};
+    ghost use Rattle.irtext_scopes.specs.Bindings.{scopes_at, IsSound};
+
+    ghost Value = { List (Scope V) };
+
+    ghost view = { λ s. scopes_at s.marks.items s.bindings.items };
+
+    ghost invariant = { λ s. IsSound s.heads.items s.bindings.items s.marks.items };
+}
+
+// the place of the newest binding of a name
+fn head_of(heads: &[Option<usize>], name: usize) -> Option<usize>
+    ensures { result ≡ head_at heads.now name }
+{
+    if name < heads.len() {
+        heads[name]
+    } else {
+        None
+    }
+}
+
+// makes room for a name that has no binding yet
+fn grow(heads: &mut Vec<Option<usize>>, name: usize) -> Result<(), AllocError>
+    ensures same { (n : ℕ) → head_at heads.new.items n ≡ head_at heads.old.items n }
+    ensures ok { OnOk result (name < length heads.new.items) }
+{
+    while heads.len() <= name {
+        heads.push(None)?;
+    }
+    Ok(())
+}
+
+// makes another place the one that a name leads to
+fn set_head(heads: &mut Vec<Option<usize>>, name: usize, place: Option<usize>)
+    requires { name < length heads.old.items }
+    ensures { (n : ℕ) → head_at heads.new.items n ≡ cond (nat_eq name n) place (head_at heads.old.items n) }
+{
+    heads[name] = place;
+}
+
+// takes the bindings from a mark on away, gives each name that they bind what they hid, and answers the first
+// of them without a definition
+fn cut<V: Copy>(
+    heads: &mut Vec<Option<usize>>,
+    bindings: &mut Vec<Binding<V>>,
+    mark: usize,
+) -> Option<usize>
+    requires chained { Chained heads.old.items bindings.old.items }
+    requires within { mark ≤ length bindings.old.items }
+    ensures first { result ≡ first_pending (entries_of (drop mark bindings.old.items)) }
+    ensures left { bindings.new.items ≡ take mark bindings.old.items }
+    ensures chained { Chained heads.new.items bindings.new.items }
+{
+    let mut first = None;
+    while bindings.len() > mark {
+        let Some(b) = bindings.pop() else {
+            return first;
+        };
+        set_head(heads, b.name, b.hidden);
+        if let Entry::Pending(_) = b.entry {
+            first = Some(b.name);
+        }
+    }
+    first
+}
+
+// makes the binding at a place one of a definition
+fn rebind<V: Copy>(bindings: &mut Vec<Binding<V>>, place: usize, value: V)
+    requires { place < length bindings.old.items }
+    ensures { (b : Binding V) → slice_get bindings.old.items place ≡ Some b →
+        bindings.new.items ≡ set bindings.old.items place (rebound value b) }
+{
+    let Binding { name, hidden, .. } = bindings[place];
+    bindings[place] = Binding {
+        name,
+        entry: Entry::Defined(value),
+        hidden,
+    };
+}
+
+// where the innermost scope begins
+fn last_of(marks: &[usize]) -> Option<usize>
+    ensures { result ≡ first (reverse marks.now) }
+{
+    if marks.is_empty() {
+        None
+    } else {
+        Some(marks[marks.len() - 1])
+    }
+}
+
+// the place of the binding that the innermost scope has of a name
+fn place_of(heads: &[Option<usize>], marks: &[usize], name: usize) -> Option<usize>
+    ensures { result ≡ place_in heads.now marks.now name }
+{
+    let Some(mark) = last_of(marks) else {
+        return None;
+    };
+    let Some(place) = head_of(heads, name) else {
+        return None;
+    };
+    if place < mark {
+        return None;
+    }
+    Some(place)
+}
+
+impl<V: Copy> Scopes<V> {
+    /// No scope is open. It takes no memory yet.
+    pub fn new(alloc: Global) -> Scopes<V>
+        ensures { result ≡ [] }
+    {
+        Scopes {
+            heads: Vec::new(alloc),
+            bindings: Vec::new(alloc),
+            marks: Vec::new(alloc),
+        }
+    }
+
+    /// Whether some scope is open.
+    pub fn is_open(&self) -> bool
+        ensures { result ≡ is_open self.now }
+    {
+        last_of(&self.marks).is_some()
+    }
+
+    /// Opens a scope without names inside the innermost one. Where memory is refused, nothing changes.
+    pub fn enter(&mut self) -> Result<(), AllocError>
+        ensures ok { OnOk result (self.new ≡ [] ∷ self.old) }
+        ensures err { OnErr result (self.new ≡ self.old) }
+    {
+        self.marks.push(self.bindings.len())?;
+        Ok(())
+    }
+
+    /// Closes the innermost scope, and answers the first name mentioned in it that has no definition. The
+    /// scope is closed whatever the answer; where none is open, nothing changes. It takes no memory.
+    pub fn leave(&mut self) -> Option<usize>
+        ensures first { result ≡ first_pending (innermost self.old) }
+        ensures left { self.new ≡ outer self.old }
+    {
+        match self.marks.pop() {
+            Some(mark) => cut(&mut self.heads, &mut self.bindings, mark),
+            None => None,
+        }
+    }
+
+    /// What a name stands for in the innermost scope, in constant time.
+    pub fn find(&self, name: usize) -> Option<Entry<V>>
+        ensures { result ≡ find name (innermost self.now) }
+    {
+        match place_of(&self.heads, &self.marks, name) {
+            Some(place) => Some(self.bindings[place].entry),
+            None => None,
+        }
+    }
+
+    /// Adds a name to the innermost scope, in which it was not mentioned before. Where memory is refused,
+    /// nothing changes.
+    pub fn add(&mut self, name: usize, entry: Entry<V>) -> Result<(), AllocError>
+        requires open { is_open self.old ≡ true }
+        requires unknown { find name (innermost self.old) ≡ None }
+        ensures ok { OnOk result (self.new ≡ in_innermost (mentioned name entry) self.old) }
+        ensures err { OnErr result (self.new ≡ self.old) }
+    {
+        let hidden = head_of(&self.heads, name);
+        grow(&mut self.heads, name)?;
+        let place = self.bindings.len();
+        self.bindings.push(Binding {
+            name,
+            entry,
+            hidden,
+        })?;
+        set_head(&mut self.heads, name, Some(place));
+        Ok(())
+    }
+
+    // gives a name of the innermost scope its definition, in the place of what it stands for there
+    fn resolve(&mut self, name: usize, value: V)
+        ensures { self.new ≡ in_innermost (resolved name value) self.old }
+    {
+        let Some(place) = place_of(&self.heads, &self.marks, name) else {
+            return;
+        };
+        rebind(&mut self.bindings, place, value);
+    }
+
+    /// Defines a name in the innermost scope, and answers the placeholder that the definition replaces. A
+    /// name that the scope defines already is refused, and memory may be for a name that was not mentioned in
+    /// it: then nothing changes.
+    pub fn define(&mut self, name: usize, value: V) -> Result<Option<V>, DefineFault>
+        requires { is_open self.old ≡ true }
+        ensures twice { (result ≡ Err DefineFault.MultipleDefinitions) ↔
+            (is_defined (find name (innermost self.old)) ≡ true) }
+        ensures memory { result ≡ Err DefineFault.Memory → find name (innermost self.old) ≡ None }
+        ensures placeholder { IfOk result (λ h. h ≡ placeholder_of (find name (innermost self.old))) }
+        ensures ok { OnOk result (self.new ≡ in_innermost (defined name value) self.old) }
+        ensures err { OnErr result (self.new ≡ self.old) }
+    {
+        match self.find(name) {
+            Some(Entry::Defined(_)) => Err(DefineFault::MultipleDefinitions),
+            Some(Entry::Pending(placeholder)) => {
+                self.resolve(name, value);
+                Ok(Some(placeholder))
+            }
+            None => match self.add(name, Entry::Defined(value)) {
+                Ok(()) => Ok(None),
+                Err(_) => Err(DefineFault::Memory),
+            },
+        }
+    }
+}

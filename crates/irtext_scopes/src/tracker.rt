@@ -1,0 +1,251 @@
+//! The names of values and of blocks while a text is read: what each stands for in the scopes of the regions
+//! that are open.
+ghost use Rattle.std.specs.Prelude.{◌≡◌, ◌<◌, [], ◌∷◌, length, None, Some, Err, true, false, OnOk, OnErr, IfOk, IfSome, IfNone, ◌↔◌, option_map, slice_get};
+ghost use Rattle.std.specs.List.{list_any};
+ghost use Rattle.std.specs.Str.{bytes_eq};
+ghost use Rattle.irtext_scopes.specs.declared.scopes.Entry.{Entry};
+ghost use Rattle.irtext_scopes.specs.declared.scopes.Entry.TheVariants.{Defined, Pending};
+ghost use Rattle.irtext_scopes.specs.declared.scopes.DefineFault.{DefineFault};
+ghost use Rattle.irtext_scopes.specs.declared.tracker.EnterFault.{EnterFault};
+ghost use Rattle.irtext_scopes.specs.Names.{number_of, with_name, KeepsNames, AreDistinct};
+ghost use Rattle.irtext_scopes.specs.Scopes.{innermost, outer, in_innermost, is_open, find, mentioned, defined, is_defined, placeholder_of, value_of};
+ghost use Rattle.irtext_scopes.specs.Tracker.{entered, left, unresolved, are_known};
+
+use crate::names::Names;
+use crate::scopes::{DefineFault, Entry, Scopes};
+use std::alloc::{AllocError, Global};
+
+/// Why a region is not entered.
+#[derive(Clone, Copy, PartialEq, Eq, Debug)]
+pub enum EnterFault {
+    Memory,
+    TopLevelOpRegionNotIsolatedFromAbove,
+}
+
+/// The names of a reading, and what they stand for: names of values V, and labels of blocks B. A name is
+/// known by its number.
+#[derive(Drop)]
+pub struct NameTracker<V, B> {
+    names: Names,
+    values: Scopes<V>,
+    labels: Scopes<B>,
+    ghost values_known: { are_known (length names) values ≡ true },
+    ghost labels_known: { are_known (length names) labels ≡ true },
+}
+
+// the value behind an entry
+fn value_of<V: Copy>(entry: Entry<V>) -> V
+    ensures { result ≡ value_of entry }
+{
+    match entry {
+        Entry::Defined(value) => value,
+        Entry::Pending(placeholder) => placeholder,
+    }
+}
+
+// what a name stands for in the innermost scope
+fn use_of<V: Copy>(scopes: &Scopes<V>, name: usize) -> Option<V>
+    ensures value { result ≡ option_map value_of (find name (innermost scopes.now)) }
+    ensures unknown { IfNone result (find name (innermost scopes.now) ≡ None) }
+{
+    match scopes.find(name) {
+        Some(entry) => Some(value_of(entry)),
+        None => None,
+    }
+}
+
+// closes the scopes of a region, and answers the first name in them without a definition
+fn leave<V: Copy, B: Copy>(
+    values: &mut Scopes<V>,
+    labels: &mut Scopes<B>,
+    isolated: bool,
+) -> Option<usize>
+    ensures first { result ≡ unresolved isolated values.old labels.old }
+    ensures values { values.new ≡ left isolated values.old }
+    ensures labels { labels.new ≡ outer labels.old }
+{
+    let value = if isolated { values.leave() } else { None };
+    let label = labels.leave();
+    match value {
+        Some(name) => Some(name),
+        None => label,
+    }
+}
+
+impl<V: Copy, B: Copy> NameTracker<V, B> {
+    /// No name is known, and no region is open. It takes no memory yet.
+    pub fn new(alloc: Global) -> NameTracker<V, B>
+        ensures names { result.names ≡ [] }
+        ensures values { result.values ≡ [] }
+        ensures labels { result.labels ≡ [] }
+    {
+        NameTracker {
+            names: Names::new(alloc),
+            values: Scopes::new(alloc),
+            labels: Scopes::new(alloc),
+        }
+    }
+
+    /// The number of a name. One that was mentioned before in this reading has the number that it had, and
+    /// takes no memory. Where memory is refused, nothing changes.
+    pub fn intern(&mut self, text: &str) -> Result<usize, AllocError>
+        ensures number { IfOk result (λ i. i ≡ number_of self.old.names text.now) }
+        ensures kept { OnOk result (self.new.names ≡ with_name self.old.names text.now) }
+        ensures err { OnErr result (self.new.names ≡ self.old.names) }
+        ensures known { OnErr result (list_any (bytes_eq text.now) self.old.names ≡ false) }
+        ensures named { IfOk result (λ i. slice_get self.new.names i ≡ Some text.now) }
+        ensures within { IfOk result (λ i. i < length self.new.names) }
+        ensures stays { KeepsNames self.old.names self.new.names }
+        ensures distinct { AreDistinct self.new.names }
+        ensures rest { (self.new.values ≡ self.old.values) × (self.new.labels ≡ self.old.labels) }
+    {
+        self.names.intern(text)
+    }
+
+    /// How many names are known; their numbers are those below.
+    pub fn num_names(&self) -> usize
+        ensures { result ≡ length self.now.names }
+    {
+        self.names.len()
+    }
+
+    /// The name of a number.
+    pub fn name(&self, number: usize) -> &str
+        requires { number < length self.now.names }
+        ensures { slice_get self.now.names number ≡ Some result.now }
+    {
+        self.names.text(number)
+    }
+
+    /// Whether a name of a value can be used and defined here.
+    pub fn has_value_scope(&self) -> bool
+        ensures { result ≡ is_open self.now.values }
+    {
+        self.values.is_open()
+    }
+
+    /// Whether a label can be used and defined here.
+    pub fn has_label_scope(&self) -> bool
+        ensures { result ≡ is_open self.now.labels }
+    {
+        self.labels.is_open()
+    }
+
+    /// Enters a region: labels get a scope of their own, and values get one where the region's operation is
+    /// isolated. A region that is not isolated is refused where no scope of values is open. Where it is
+    /// refused, or memory is, nothing changes.
+    pub fn enter_region(&mut self, isolated: bool) -> Result<(), EnterFault>
+        ensures values { OnOk result (self.new.values ≡ entered isolated self.old.values) }
+        ensures labels { OnOk result (self.new.labels ≡ [] ∷ self.old.labels) }
+        ensures shared { (result ≡ Err EnterFault.TopLevelOpRegionNotIsolatedFromAbove) ↔
+            ((isolated ≡ false) × (is_open self.old.values ≡ false)) }
+        ensures err_values { OnErr result (self.new.values ≡ self.old.values) }
+        ensures err_labels { OnErr result (self.new.labels ≡ self.old.labels) }
+        ensures names { self.new.names ≡ self.old.names }
+    {
+        if !isolated && !self.values.is_open() {
+            return Err(EnterFault::TopLevelOpRegionNotIsolatedFromAbove);
+        }
+        if self.labels.enter().is_err() {
+            return Err(EnterFault::Memory);
+        }
+        if isolated && self.values.enter().is_err() {
+            let _ = self.labels.leave();
+            return Err(EnterFault::Memory);
+        }
+        Ok(())
+    }
+
+    /// Leaves a region, and answers the first name that it leaves without a definition: of its values, where
+    /// its operation is isolated, and then of its labels, each in the order in which they were first
+    /// mentioned. Its scopes are closed whatever the answer. It takes no memory.
+    pub fn exit_region(&mut self, isolated: bool) -> Option<usize>
+        ensures first { result ≡ unresolved isolated self.old.values self.old.labels }
+        ensures known { IfSome result (λ n. n < length self.old.names) }
+        ensures values { self.new.values ≡ left isolated self.old.values }
+        ensures labels { self.new.labels ≡ outer self.old.labels }
+        ensures names { self.new.names ≡ self.old.names }
+    {
+        leave(&mut self.values, &mut self.labels, isolated)
+    }
+
+    /// The value that a name stands for: its definition, or the placeholder that waits for it. Where it is
+    /// `None`, the name is new here, and `ssa_forward` binds it to a placeholder.
+    pub fn ssa_use(&self, name: usize) -> Option<V>
+        ensures value { result ≡ option_map value_of (find name (innermost self.now.values)) }
+        ensures unknown { IfNone result (find name (innermost self.now.values) ≡ None) }
+    {
+        use_of(&self.values, name)
+    }
+
+    /// Binds a name that is new here to the placeholder that its early use holds, where a scope of values is
+    /// open. Where memory is refused, nothing changes.
+    pub fn ssa_forward(&mut self, name: usize, placeholder: V) -> Result<(), AllocError>
+        requires open { is_open self.old.values ≡ true }
+        requires known { name < length self.old.names }
+        requires unknown { find name (innermost self.old.values) ≡ None }
+        ensures ok { OnOk result (self.new.values ≡
+            in_innermost (mentioned name (Pending placeholder)) self.old.values) }
+        ensures err { OnErr result (self.new.values ≡ self.old.values) }
+        ensures rest { (self.new.names ≡ self.old.names) × (self.new.labels ≡ self.old.labels) }
+    {
+        self.values.add(name, Entry::Pending(placeholder))
+    }
+
+    /// Defines a name of a value where a scope of values is open, and answers the placeholder that the
+    /// definition replaces, if the name was used before. A name that its scope defines already is refused, and
+    /// memory may be for a name that is new in it: then nothing changes.
+    pub fn ssa_def(&mut self, name: usize, def: V) -> Result<Option<V>, DefineFault>
+        requires open { is_open self.old.values ≡ true }
+        requires known { name < length self.old.names }
+        ensures twice { (result ≡ Err DefineFault.MultipleDefinitions) ↔
+            (is_defined (find name (innermost self.old.values)) ≡ true) }
+        ensures memory { result ≡ Err DefineFault.Memory → find name (innermost self.old.values) ≡ None }
+        ensures placeholder { IfOk result (λ h. h ≡ placeholder_of (find name (innermost self.old.values))) }
+        ensures ok { OnOk result (self.new.values ≡ in_innermost (defined name def) self.old.values) }
+        ensures err { OnErr result (self.new.values ≡ self.old.values) }
+        ensures rest { (self.new.names ≡ self.old.names) × (self.new.labels ≡ self.old.labels) }
+    {
+        self.values.define(name, def)
+    }
+
+    /// The block that a label stands for: its definition, or the placeholder that waits for it. Where it is
+    /// `None`, the label is new here, and `block_forward` binds it to a placeholder.
+    pub fn block_use(&self, name: usize) -> Option<B>
+        ensures value { result ≡ option_map value_of (find name (innermost self.now.labels)) }
+        ensures unknown { IfNone result (find name (innermost self.now.labels) ≡ None) }
+    {
+        use_of(&self.labels, name)
+    }
+
+    /// Binds a label that is new here to the placeholder that its early use holds, where a region is open.
+    /// Where memory is refused, nothing changes.
+    pub fn block_forward(&mut self, name: usize, placeholder: B) -> Result<(), AllocError>
+        requires open { is_open self.old.labels ≡ true }
+        requires known { name < length self.old.names }
+        requires unknown { find name (innermost self.old.labels) ≡ None }
+        ensures ok { OnOk result (self.new.labels ≡
+            in_innermost (mentioned name (Pending placeholder)) self.old.labels) }
+        ensures err { OnErr result (self.new.labels ≡ self.old.labels) }
+        ensures rest { (self.new.names ≡ self.old.names) × (self.new.values ≡ self.old.values) }
+    {
+        self.labels.add(name, Entry::Pending(placeholder))
+    }
+
+    /// Defines a label where a region is open, and answers the placeholder that the definition replaces, if
+    /// the label was used before. A label that its region defines already is refused, and memory may be for a
+    /// label that is new in it: then nothing changes.
+    pub fn block_def(&mut self, name: usize, def: B) -> Result<Option<B>, DefineFault>
+        requires open { is_open self.old.labels ≡ true }
+        requires known { name < length self.old.names }
+        ensures twice { (result ≡ Err DefineFault.MultipleDefinitions) ↔
+            (is_defined (find name (innermost self.old.labels)) ≡ true) }
+        ensures memory { result ≡ Err DefineFault.Memory → find name (innermost self.old.labels) ≡ None }
+        ensures placeholder { IfOk result (λ h. h ≡ placeholder_of (find name (innermost self.old.labels))) }
+        ensures ok { OnOk result (self.new.labels ≡ in_innermost (defined name def) self.old.labels) }
+        ensures err { OnErr result (self.new.labels ≡ self.old.labels) }
+        ensures rest { (self.new.names ≡ self.old.names) × (self.new.values ≡ self.old.values) }
+    {
+        self.labels.define(name, def)
+    }
+}

@@ -1,0 +1,10 @@
+//! The tests, a file for each thing that they are about.
+mod attributes;
+mod causes;
+mod errors;
+mod fits;
+mod listed;
+mod location_texts;
+mod printing;
+mod roots;
+mod separators;
