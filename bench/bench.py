@@ -6,8 +6,8 @@ Reads and prints texts of that many megabytes (10 where none is given) with the 
 off, and where a text is printed its reading too. Printing is done ten times in a run, so that it is not lost in the noise of
 reading. Then come lists of integers and of quoted texts as they are read, a text that is printed between quotation marks, with a
 plain copy of the same bytes beside it, positions at the end of a text, and locations that stand in one another a million deep. Last
-come the instructions of an item, with what it may take, counted by valgrind where it is there: they are the
-same on a busy machine."""
+come the instructions of an item, with what it may take, counted by valgrind where it is there, and those of calls on graphs and
+names, by the program of crates/irtext_graph_bench: they are the same on a busy machine."""
 import os
 import re
 import shutil
@@ -18,6 +18,7 @@ import time
 
 HERE = os.path.dirname(os.path.abspath(__file__))
 PROGRAM = os.path.join(HERE, "..", "crates", "irtext_bench", "out", "irtext_bench")
+GRAPHS = os.path.join(HERE, "..", "crates", "irtext_graph_bench", "out", "irtext_graph_bench")
 PRINTS = 10
 LINES = "builtin.module @module_{} \n{{\n  \n}} !0\n\noutlined_attributes:\n!0 = @[<in-memory>: line: {}, column: 1], []\n"
 
@@ -76,20 +77,22 @@ def seconds(path, words):
     return best
 
 
-def instructions(path, words):
+def counted(path, words, program, tool, count):
+    """What valgrind counts by this tool in a run, found in what it says by a pattern."""
+    with open(path, "rb") as source:
+        run = subprocess.run(["valgrind"] + tool + [program] + words,
+                             stdin=source, stdout=subprocess.DEVNULL, stderr=subprocess.PIPE, check=True)
+    return int(re.search(count, run.stderr).group(1).replace(b",", b""))
+
+
+def instructions(path, words, program=PROGRAM):
     """The instructions of a run."""
-    with open(path, "rb") as source:
-        run = subprocess.run(["valgrind", "--tool=callgrind", "--callgrind-out-file=/dev/null", PROGRAM] + words,
-                             stdin=source, stdout=subprocess.DEVNULL, stderr=subprocess.PIPE, check=True)
-    return int(re.search(rb"Collected : (\d+)", run.stderr).group(1))
+    return counted(path, words, program, ["--tool=callgrind", "--callgrind-out-file=/dev/null"], rb"Collected : (\d+)")
 
 
-def allocations(path, words):
+def allocations(path, words, program=PROGRAM):
     """The requests for memory of a run."""
-    with open(path, "rb") as source:
-        run = subprocess.run(["valgrind", "--tool=memcheck", "--leak-check=no", PROGRAM] + words,
-                             stdin=source, stdout=subprocess.DEVNULL, stderr=subprocess.PIPE, check=True)
-    return int(re.search(rb"total heap usage: ([\d,]+) allocs", run.stderr).group(1).replace(b",", b""))
+    return counted(path, words, program, ["--tool=memcheck", "--leak-check=no"], rb"total heap usage: ([\d,]+) allocs")
 
 
 def roots(count):
@@ -144,6 +147,20 @@ BUDGETS = (
     ("byte of a quoted text", "strings", quoted, 1000, 1001000, 9, None),
 )
 
+# What is counted of graphs and names: the words of a run, those of one without it, and how often it is done between the two.
+CALLS = (
+    ("operation with a result and an operand, made and erased", "make 1 11000", "make 1 1000", 10000),
+    ("the same among 1,000 operations", "make 1000 11000", "make 1000 1000", 10000),
+    ("the same among 100,000 operations", "make 100000 11000", "make 100000 1000", 10000),
+    ("the same among 1,000,000 operations", "make 1000000 11000", "make 1000000 1000", 10000),
+    ("use that `replace_all_uses` moves", "replace 1000 10", "replace 1000 0", 20000),
+    ("operation inside of a block that is erased", "erase 1000 10", "fill 1000 10", 10000),
+    ("use of a known name", "uses 1000 10", "uses 1000 0", 10000),
+    ("definition of a known name, and its end", "definitions 1000 11", "definitions 1000 1", 10000),
+    ("new name", "names 10000 0", "texts 10000 0", 10000),
+    ("region entered and left", "regions 100 110", "regions 100 10", 10000),
+)
+
 
 def print_positions(path, size):
     """The time of a position at the end of a text of so many bytes, which the program asks for a million times."""
@@ -177,6 +194,16 @@ def print_instructions(path):
             name, read, read_most, requests, "%.1f" % printed if word == "roots" else "-", print_most or "-"))
 
 
+def print_calls(path):
+    """The instructions and requests for memory of calls on graphs and names: a run with them less one without."""
+    print("| Call | instructions | requests for memory |")
+    print("|---|---|---|")
+    for name, more, less, times in CALLS:
+        took, asked = ((count(path, more.split(), GRAPHS) - count(path, less.split(), GRAPHS)) / times
+                       for count in (instructions, allocations))
+        print("| %s | %.1f | %.2f |" % (name, took, asked))
+
+
 def main():
     size = int(float(sys.argv[1]) * 1e6) if len(sys.argv) > 1 else 10_000_000
     print("| Text | MB | roots | read MB/s | printed MB/s | ns a root, read | ns a root, printed |")
@@ -207,6 +234,7 @@ def main():
         print_depths(path, 1_000_000)
         if shutil.which("valgrind"):
             print_instructions(path)
+            print_calls(empty)
 
 
 main()

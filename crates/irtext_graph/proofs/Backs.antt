@@ -3,11 +3,12 @@ use Rattle.std.proofs.Common.{◌≡◌, ◌<◌, ◌≤◌, ◌∙◌, ◌⊎�
 use Rattle.std.specs.Option.{option_map}
 use Rattle.std.proofs.lemmas.Bool.{ltb-false, le-ltb}
 use Rattle.std.proofs.lemmas.Option.{slice_get-map}
+use Rattle.irtext_graph.specs.declared.graph.Counters.{Counters}
 use Rattle.irtext_graph.specs.Arena.{get, found, born_in, AtLeast, HasFew, AreOlder, Sheds}
 use Rattle.irtext_graph.specs.Used.{user}
 use Rattle.irtext_graph.specs.Back.{ShedsAll, owner, operands_of, successors_of, IsClosedBelow, RollsBack}
 use Rattle.irtext_graph.specs.Content.{Content, Content.{AnOperation}, node_of, operation_content, block_content, region_content}
-use Rattle.irtext_graph.specs.Graph.{GraphView, graph_of, seen, parent, children, content, IsNew}
+use Rattle.irtext_graph.specs.Graph.{no_counters, GraphView, graph_of, seen, parent, children, content, IsNew}
 use Rattle.irtext_graph.specs.Graph as graph
 use Rattle.irtext_graph.specs.Log.{age, IsLogged}
 use Rattle.irtext_graph.specs.Nest.{parent_in, children_in}
@@ -77,11 +78,11 @@ aged_there o b (Some e) p q = refl
 module _ {O T : Type 0} where
   operand_named : (e : Option (Entry (Nest BasicBlock Region (OperationData O T)))) (i : ℕ) → slice_get (operands_of (option_map (object_of (node_of operation_content)) e)) i ≡ option_map (λ o. o.def) (operand_in e i)
   operand_named None i = refl
-  operand_named (Some e) i = slice_get-map (λ (o : Use Value). o.def) e.content.data.operands.items i
+  operand_named (Some e) i = slice_get-map (λ (o : Use Value). o.def) e.content.data.operands i
 
   successor_named : (e : Option (Entry (Nest BasicBlock Region (OperationData O T)))) (i : ℕ) → slice_get (successors_of (option_map (object_of (node_of operation_content)) e)) i ≡ option_map (λ o. o.def) (successor_in e i)
   successor_named None i = refl
-  successor_named (Some e) i = slice_get-map (λ (o : Use (Ptr BasicBlock)). o.def) e.content.data.successors.items i
+  successor_named (Some e) i = slice_get-map (λ (o : Use (Ptr BasicBlock)). o.def) e.content.data.successors i
 
   pub operand_seen : (a : Arena (Nest BasicBlock Region (OperationData O T))) (p : Ptr Operation) (i : ℕ) → slice_get (operands_of (store.get (store_of (node_of operation_content) a) p)) i ≡ option_map (λ o. o.def) (operand_in (get a p) i)
   operand_seen a p i = ap (λ e. slice_get (operands_of e) i) (get_seen (node_of operation_content) a p) ∙ operand_named (get a p) i
@@ -152,17 +153,17 @@ module _ {O B T : Type 0} where
       (sym (get_seen (node_of operation_content) y.operations p) ∙ ap (λ (g : GraphView O B T). store.get g.operations p) e ∙ get_seen (node_of operation_content) x.operations p) l
 
   pub seen_what : (x y : Objects O B T) → seen y ≡ seen x → (o : Object) → what y o ≡ what x o
-  seen_what x y e o = sym (what_seen 0 0 y o) ∙ ap (λ (g : GraphView O B T). content g o) e ∙ what_seen 0 0 x o
+  seen_what x y e o = sym (what_seen 0 no_counters y o) ∙ ap (λ (g : GraphView O B T). content g o) e ∙ what_seen 0 no_counters x o
 
   -- an object that is no older than the mark is new, and the other way round
-  pub is_new : (made values mark : ℕ) (x : Objects O B T) (o : Object) → AtLeast mark (age x o) → IsNew mark (graph_of made values x) o
+  pub is_new : (made : ℕ) (values : Counters) (mark : ℕ) (x : Objects O B T) (o : Object) → AtLeast mark (age x o) → IsNew mark (graph_of made values x) o
   is_new made values mark x o l = ap (is_older mark) (what_seen made values x o) ∙ go (what x o) (subst (AtLeast mark) (age_what x o) l)
     where
       go : (c : Option (Content O B T)) → AtLeast mark (option_map born_of c) → is_older mark c ≡ false
       go None l = absurd l
       go (Some c) l = le-ltb (born_of c) mark l
 
-  pub new_is : (made values mark : ℕ) (x : Objects O B T) (o : Object) → Lives x o → IsNew mark (graph_of made values x) o → AtLeast mark (age x o)
+  pub new_is : (made : ℕ) (values : Counters) (mark : ℕ) (x : Objects O B T) (o : Object) → Lives x o → IsNew mark (graph_of made values x) o → AtLeast mark (age x o)
   new_is made values mark x o l n = subst (AtLeast mark) (sym (age_what x o)) (go (what x o) l (ap (is_older mark) (sym (what_seen made values x o)) ∙ n))
     where
       go : (c : Option (Content O B T)) → IsSome c → is_older mark c ≡ false → AtLeast mark (option_map born_of c)
@@ -170,7 +171,7 @@ module _ {O B T : Type 0} where
       go (Some c) l e = ltb-false (born_of c) mark e
 
   -- what uses something new is new
-  pub uses_closed : (made values mark : ℕ) (x : Objects O B T) → IsClosedBelow mark (graph_of made values x) → (u : Site) (d : Defined) → val x u ≡ Some d
+  pub uses_closed : (made : ℕ) (values : Counters) (mark : ℕ) (x : Objects O B T) → IsClosedBelow mark (graph_of made values x) → (u : Site) (d : Defined) → val x u ≡ Some d
       → IsNew mark (graph_of made values x) (owner_of d) → IsNew mark (graph_of made values x) (TheOperation (user u))
   uses_closed made values mark x c (AtOperand p i) d e n = go (operand_in (get x.operations p) i) refl e
     where
@@ -188,7 +189,7 @@ module _ {O B T : Type 0} where
           c.successors p i o.def (successor_seen x.operations p i ∙ ap (option_map (λ (o : Use (Ptr BasicBlock)). o.def)) f) (subst (λ d. IsNew mark (graph_of made values x) (owner_of d)) (sym k.1) n)
 
   -- x as it was, d without the uses of what is new, y without what is new
-  pub record Backs (made values mark : ℕ) (x d y : Objects O B T) : Type 0 where
+  pub record Backs (made : ℕ) (values : Counters) (mark : ℕ) (x d y : Objects O B T) : Type 0 where
     pub sound : IsSound made x
     pub same : seen d ≡ seen x
     pub linked : AreUsesLinked d
@@ -198,7 +199,7 @@ module _ {O B T : Type 0} where
     pub none : (o : Object) → AtLeast mark (age y o) → ⊥
     pub closed : IsClosedBelow mark (graph_of made values x)
 
-  module _ (made values mark : ℕ) (x d y : Objects O B T) (r : Backs made values mark x d y) where
+  module _ (made : ℕ) (values : Counters) (mark : ℕ) (x d y : Objects O B T) (r : Backs made values mark x d y) where
     abbrev young : Object → Type 0
     young o = AtLeast mark (age d o)
 
@@ -206,10 +207,10 @@ module _ {O B T : Type 0} where
     d_age o = same_age x d o (seen_what x d r.same o)
 
     same_up : (o : Object) → up d o ≡ up x o
-    same_up o = sym (up_seen 0 0 d o) ∙ ap (λ (g : GraphView O B T). parent g o) r.same ∙ up_seen 0 0 x o
+    same_up o = sym (up_seen 0 no_counters d o) ∙ ap (λ (g : GraphView O B T). parent g o) r.same ∙ up_seen 0 no_counters x o
 
     same_kids : (o : Object) → kids d o ≡ kids x o
-    same_kids o = sym (kids_seen 0 0 d o) ∙ ap (λ (g : GraphView O B T). children g o) r.same ∙ kids_seen 0 0 x o
+    same_kids o = sym (kids_seen 0 no_counters d o) ∙ ap (λ (g : GraphView O B T). children g o) r.same ∙ kids_seen 0 no_counters x o
 
     new_of : (o : Object) → young o → IsNew mark (graph_of made values x) o
     new_of o l = is_new made values mark x o (subst (AtLeast mark) (d_age o) l)
@@ -343,6 +344,7 @@ module _ {O B T : Type 0} where
           (returns_seen (node_of region_content) mark d.regions y.regions (shed_all mark d.regions y.regions r.sheds.regions (λ p. r.none (TheRegion p))) r.sheds.regions.generations);
       made = refl;
       values = refl;
+      first_place = refl;
     }
 
     was_age : (o : Object) (b : ℕ) → age y o ≡ Some b → age d o ≡ Some b
@@ -363,6 +365,7 @@ back_keeps m mark g h up r = record {
   regions = returned-keeps m mark g.regions h.regions up r.regions;
   made = let e = r.made in omega (arith, e);
   values = let e = r.values in omega (arith, e);
+  first_place = r.first_place;
 }
 
 module _ {O B T : Type 0} where
@@ -378,13 +381,13 @@ module _ {O B T : Type 0} where
           (f.0, b, elim (lower f.0 n) [ inl low ↦ absurd (let m = before f.0 (record { born = b; object = o }) low f.1 in omega (arith, m, l)) | inr high ↦ high ], f.1)
 
   -- what a roll-back leaves
-  pub record GivenBack (made values mark : ℕ) (log : List Made) (x y : Objects O B T) : Type 0 where
+  pub record GivenBack (made : ℕ) (values : Counters) (mark : ℕ) (log : List Made) (x y : Objects O B T) : Type 0 where
     pub sound : IsSound made y
     pub logged : IsLogged made log y
     pub view : RollsBack mark (graph_of made values x) (graph_of made values y)
 
   -- the steps of a roll-back, put together
-  pub given_back : (made values mark n : ℕ) (log : List Made) (x d y : Objects O B T) → IsSound made x → IsLogged made log x → IsClosedBelow mark (graph_of made values x)
+  pub given_back : (made : ℕ) (values : Counters) (mark n : ℕ) (log : List Made) (x d y : Objects O B T) → IsSound made x → IsLogged made log x → IsClosedBelow mark (graph_of made values x)
       → ((k : ℕ) (a : Made) → k < n → slice_get log k ≡ Some a → a.born < mark) → ((k : ℕ) (a : Made) → n ≤ k → slice_get log k ≡ Some a → mark ≤ a.born) → seen d ≡ seen x → AreUsesLinked d
       → ((k : ℕ) (a : Made) (u : Site) → n ≤ k → slice_get log k ≡ Some a → a.object ≡ TheOperation (user u) → AtLeast mark (age x a.object) → val d u ≡ None)
       → ((u : Site) → (AtLeast mark (age x (TheOperation (user u))) → ⊥) → val d u ≡ val x u) → ShedsAll mark d y

@@ -1,6 +1,7 @@
 -- What is always true of the objects stays true where only what is used changed.
 use Rattle.std.proofs.Common.{◌≡◌, ◌∙◌, ℕ, refl, sym, ap, arith, Bool, true, false, cond, Option, Some, None, List, [], ◌∷◌, suc, slice_get, map}
 use Rattle.std.specs.Option.{option_map}
+use Rattle.irtext_graph.specs.declared.graph.Counters.{Counters}
 use Rattle.irtext_graph.specs.Arena as arena
 use Rattle.irtext_graph.specs.Arena.{HasFew, AreOlder}
 use Rattle.irtext_graph.specs.declared.arena.Entry.{Entry}
@@ -17,7 +18,7 @@ use Rattle.irtext_graph.specs.declared.object.Site.{Site}
 use Rattle.irtext_graph.specs.declared.object.Site.TheVariants.{AtOperand, AtSuccessor}
 use Rattle.irtext_graph.specs.declared.objects.Objects.{Objects}
 use Rattle.irtext_graph.specs.Content.{Typed, Node, node_of, OperationContent, operation_content, block_content, region_content, Content.{AnOperation}}
-use Rattle.irtext_graph.specs.Graph.{GraphView, graph_of, seen, parent, children, content, parent_of, children_of, content_of, KeepsOlder}
+use Rattle.irtext_graph.specs.Graph.{no_counters, GraphView, graph_of, seen, parent, children, content, parent_of, children_of, content_of, KeepsOlder}
 use Rattle.irtext_graph.specs.Objects.{up, kids, is_older, eq_object}
 use Rattle.irtext_graph.specs.Parts.{operands_of, successors_of, operands, successors}
 use Rattle.irtext_graph.specs.Sound.{IsSound}
@@ -62,10 +63,10 @@ module _ {O B T : Type 0} where
 
   module _ (x y : Objects O B T) (same : bare y ≡ bare x) where
     up_same : (q : Object) → up y q ≡ up x q
-    up_same q = sym (up_seen 0 0 y q) ∙ sym (parent_bare (seen y) q) ∙ ap (λ g. parent g q) same ∙ parent_bare (seen x) q ∙ up_seen 0 0 x q
+    up_same q = sym (up_seen 0 no_counters y q) ∙ sym (parent_bare (seen y) q) ∙ ap (λ g. parent g q) same ∙ parent_bare (seen x) q ∙ up_seen 0 no_counters x q
 
     kids_same : (q : Object) → kids y q ≡ kids x q
-    kids_same q = sym (kids_seen 0 0 y q) ∙ sym (children_bare (seen y) q) ∙ ap (λ g. children g q) same ∙ children_bare (seen x) q ∙ kids_seen 0 0 x q
+    kids_same q = sym (kids_seen 0 no_counters y q) ∙ sym (children_bare (seen y) q) ∙ ap (λ g. children g q) same ∙ children_bare (seen x) q ∙ kids_seen 0 no_counters x q
 
     operations_same : store_of (λ n. without_uses_in (node_of operation_content n)) y.operations ≡ store_of (λ n. without_uses_in (node_of operation_content n)) x.operations
     operations_same = sym (mapped_seen (node_of operation_content) without_uses_in y.operations) ∙ ap (λ (g : GraphView O B T). g.operations) same ∙ mapped_seen (node_of operation_content) without_uses_in x.operations
@@ -86,10 +87,10 @@ module _ {O B T : Type 0} where
           older_regions = older_seen (node_of region_content) x.regions y.regions regions_same made s.older_regions;
         }
 
-    pub replaces_seen : (made v : ℕ) (d e : Defined) → IsSound made x → AreAllUsed y → ((u : Site) → val y u ≡ option_map (replaced d e) (val x u)) → Replaces (graph_of made v x) (graph_of made v y) d e
+    pub replaces_seen : (made : ℕ) (v : Counters) (d e : Defined) → IsSound made x → AreAllUsed y → ((u : Site) → val y u ≡ option_map (replaced d e) (val x u)) → Replaces (graph_of made v x) (graph_of made v y) d e
     replaces_seen made v d e s all vals = record {
       uses = λ u. sym (val_seen made v y all u) ∙ vals u ∙ ap (option_map (replaced d e)) (val_seen made v x s.all_used u);
-      rest = ap (λ (g : GraphView O B T). record { made = made; values = v; operations = g.operations; blocks = g.blocks; regions = g.regions }) same;
+      rest = ap (λ (g : GraphView O B T). record g { made = made; values = v.values; first_place = v.first_place }) same;
     }
 
   -- one in its own place changes nothing
@@ -142,6 +143,7 @@ module _ {O B T : Type 0} where
     regions = λ p. ap (λ (k : GraphView O B T). before m k.regions p) r.rest;
     made = let k = ap (λ (k : GraphView O B T). k.made) r.rest in omega (arith, k);
     values = let k = ap (λ (k : GraphView O B T). k.values) r.rest in omega (arith, k);
+    first_place = ap (λ (k : GraphView O B T). k.first_place) r.rest;
   }
     where
       kept : (u : Site) → is_older m (content g (TheOperation (user u))) ≡ true → used_at h u ≡ used_at g u

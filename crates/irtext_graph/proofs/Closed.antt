@@ -1,6 +1,7 @@
 -- When nothing that is older than a mark holds, stands in or uses what is not.
 use Rattle.std.proofs.Common.{◌≡◌, ◌∙◌, inl, inr, ℕ, refl, sym, ap, arith, cond, nat_lt, is_some, true, false, Bool, Option, Some, None, IsSome, map, slice_get}
 use Rattle.std.specs.Option.{option_map}
+use Rattle.irtext_graph.specs.declared.graph.Counters.{Counters}
 use Rattle.irtext_graph.specs.Arena.{get, found, born_in, older, AtLeast, AreOlder}
 use Rattle.irtext_graph.specs.Back.{owner, operands_of, successors_of, IsClosedBelow, AllOlder, RollsBack}
 use Rattle.irtext_graph.specs.Content.{Node, Content, Content.{AnOperation, ABlock, ARegion}, node_of, operation_content, block_content, region_content}
@@ -75,6 +76,7 @@ older_on m a b c s t = record {
   regions = λ p. t.regions p ∙ s.regions p;
   made = let e = s.made in let f = t.made in omega (arith, e, f);
   values = let e = s.values in let f = t.values in omega (arith, e, f);
+  first_place = t.first_place ∙ s.first_place;
 }
 
 module _ {O B T : Type 0} (m : ℕ) (g h : GraphView O B T) (k : KeepsOlder m g h) where
@@ -141,7 +143,7 @@ module _ {O B T : Type 0} (m : ℕ) (g h : GraphView O B T) (k : KeepsOlder m g 
     λ p. r.regions.at p ∙ k.regions p ∙ a.regions p,
   )
 
-module _ {O B T : Type 0} (made values : ℕ) (x : Objects O B T) (s : IsSound made x) where
+module _ {O B T : Type 0} (made : ℕ) (values : Counters) (x : Objects O B T) (s : IsSound made x) where
   pub all_older : AllOlder made (graph_of made values x)
   all_older = record {
     operations = older_all_seen (node_of operation_content) made x.operations s.older_operations;

@@ -23,7 +23,7 @@ use Rattle.irtext_graph.specs.Arena as arena
 use Rattle.irtext_graph.specs.Arena.{AreOlder, KeepsPlaces}
 use Rattle.irtext_graph.specs.Store.{generation_at, get, store_of, object_of}
 use Rattle.irtext_graph.specs.Content.{Content.{AnOperation}, operation_content, block_content, region_content, node_of}
-use Rattle.irtext_graph.specs.Graph.{GraphView, seen, content}
+use Rattle.irtext_graph.specs.Graph.{no_counters, GraphView, seen, content}
 use Rattle.irtext_graph.specs.Nest.{datum_in}
 use Rattle.irtext_graph.specs.Objects.{what, SamePlaces}
 use Rattle.irtext_graph.specs.Uses.{use_at, val, operand_in, successor_in, result_in, argument_in, preds_in, first_of, head_at, def_of, prev_of, next_of, either, AreUsesLinked, eq_site, eq_defined}
@@ -100,7 +100,7 @@ module _ {O B T : Type 0} where
     where
       go : (e : Option (Entry (Nest BasicBlock Region (OperationData O T)))) → named_at {B = B} (option_map (λ d. AnOperation d.0 (operation_content d.1)) (datum_in e)) (AtOperand p i) ≡ option_map (λ o. o.def) (option_map (either OfValue) (operand_in e i))
       go None = refl
-      go (Some e) = ap (option_map OfValue) (slice_get-map (λ o. o.def) e.content.data.operands.items i) ∙ on (slice_get e.content.data.operands.items i)
+      go (Some e) = ap (option_map OfValue) (slice_get-map (λ o. o.def) e.content.data.operands i) ∙ on (slice_get e.content.data.operands i)
         where
           on : (o : Option (Use Value)) → option_map OfValue (option_map (λ o. o.def) o) ≡ option_map (λ o. o.def) (option_map (either OfValue) o)
           on None = refl
@@ -109,7 +109,7 @@ module _ {O B T : Type 0} where
     where
       go : (e : Option (Entry (Nest BasicBlock Region (OperationData O T)))) → named_at {B = B} (option_map (λ d. AnOperation d.0 (operation_content d.1)) (datum_in e)) (AtSuccessor p i) ≡ option_map (λ o. o.def) (option_map (either OfBlock) (successor_in e i))
       go None = refl
-      go (Some e) = ap (option_map OfBlock) (slice_get-map (λ o. o.def) e.content.data.successors.items i) ∙ on (slice_get e.content.data.successors.items i)
+      go (Some e) = ap (option_map OfBlock) (slice_get-map (λ o. o.def) e.content.data.successors i) ∙ on (slice_get e.content.data.successors i)
         where
           on : (o : Option (Use (Ptr BasicBlock))) → option_map OfBlock (option_map (λ o. o.def) o) ≡ option_map (λ o. o.def) (option_map (either OfBlock) o)
           on None = refl
@@ -125,7 +125,7 @@ module _ {O B T : Type 0} where
       back (Some s) t e l = refl
 
   pub alike_what : (x y : Objects O B T) → seen y ≡ seen x → (q : Object) → what y q ≡ what x q
-  alike_what x y e q = sym (what_seen 0 0 y q) ∙ ap (λ g. content g q) e ∙ what_seen 0 0 x q
+  alike_what x y e q = sym (what_seen 0 no_counters y q) ∙ ap (λ g. content g q) e ∙ what_seen 0 no_counters x q
 
   pub alike_there : (x y : Objects O B T) → seen y ≡ seen x → (p : Ptr Operation) → IsSome (arena.get x.operations p) → IsSome (arena.get y.operations p)
   alike_there x y e p l = back (arena.get y.operations p) (arena.get x.operations p)

@@ -13,7 +13,7 @@ use Rattle.irtext_graph.specs.Nested.{Within}
 use Rattle.irtext_graph.specs.Chained.{Among}
 use Rattle.irtext_graph.specs.Store.{Edits, get, object_of}
 use Rattle.irtext_graph.specs.Content.{Content, Content.{AnOperation, ABlock, ARegion}, Node, OperationContent}
-use Rattle.irtext_graph.specs.Graph.{seen, content, parent, children, parent_of, children_of, content_of}
+use Rattle.irtext_graph.specs.Graph.{no_counters, seen, content, parent, children, parent_of, children_of, content_of}
 use Rattle.irtext_graph.specs.Objects.{up, kids, what, Lives, IsForest, SamePlaces, eq_object}
 use Rattle.irtext_graph.specs.Uses.{use_at, val, AreUsesLinked}
 use Rattle.irtext_graph.specs.Erasing.{without_uses, without_uses_in}
@@ -70,17 +70,17 @@ module _ {O B T : Type 0} where
     edit_others (TheRegion q) ne = ap (λ s. option_map (λ d. ARegion d.0 d.1) (content_of (get s q))) regions
 
     pub dropped_up : (q : Object) → up y q ≡ up x q
-    dropped_up q = sym (up_seen 0 0 y q) ∙ edit_up q ∙ up_seen 0 0 x q
+    dropped_up q = sym (up_seen 0 no_counters y q) ∙ edit_up q ∙ up_seen 0 no_counters x q
 
     pub dropped_kids : (q : Object) → kids y q ≡ kids x q
-    dropped_kids q = sym (kids_seen 0 0 y q) ∙ edit_kids q ∙ kids_seen 0 0 x q
+    dropped_kids q = sym (kids_seen 0 no_counters y q) ∙ edit_kids q ∙ kids_seen 0 no_counters x q
 
     pub dropped_others : (q : Object) → q ≢ TheOperation p → what y q ≡ what x q
-    dropped_others q ne = sym (what_seen 0 0 y q) ∙ edit_others q ne ∙ what_seen 0 0 x q
+    dropped_others q ne = sym (what_seen 0 no_counters y q) ∙ edit_others q ne ∙ what_seen 0 no_counters x q
 
     pub dropped_here : what y (TheOperation p) ≡ option_map without_uses (what x (TheOperation p))
-    dropped_here = sym (what_seen 0 0 y (TheOperation p)) ∙ ap (λ s. option_map (λ d. AnOperation d.0 d.1) (content_of s)) e.updates.changed ∙ content_dropped (get (seen x).operations p)
-        ∙ ap (option_map without_uses) (what_seen 0 0 x (TheOperation p))
+    dropped_here = sym (what_seen 0 no_counters y (TheOperation p)) ∙ ap (λ s. option_map (λ d. AnOperation d.0 d.1) (content_of s)) e.updates.changed ∙ content_dropped (get (seen x).operations p)
+        ∙ ap (option_map without_uses) (what_seen 0 no_counters x (TheOperation p))
 
   -- what inside o comes before `at` uses nothing
   pub record Dropping (x0 x : Objects O B T) (o : Object) (at : Option Object) : Type 0 where

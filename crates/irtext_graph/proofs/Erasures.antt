@@ -1,6 +1,7 @@
 -- What is seen of a graph whose uses were dropped, and of one in which an object went; both are sound.
 use Rattle.std.proofs.Common.{◌≡◌, ◌≢◌, ◌∙◌, ◌⊎◌, ℕ, refl, sym, ap, arith, inl, inr, subst, Bool, true, false, cond, Option, Some, None, IsSome, slice_get, option_map}
 use Rattle.std.specs.List.{remove}
+use Rattle.irtext_graph.specs.declared.graph.Counters.{Counters}
 use Rattle.irtext_graph.specs.declared.object.Object.{Object}
 use Rattle.irtext_graph.specs.declared.object.Object.TheVariants.{TheOperation, TheBlock, TheRegion}
 use Rattle.irtext_graph.specs.declared.object.Defined.{Defined}
@@ -53,7 +54,7 @@ module _ {O B T : Type 0} where
     older_regions = p.region_places.age made i.older_regions;
   }
 
-  pub drops_seen : (m v : ℕ) (x y : Objects O B T) (o : Object) → ((q : Object) → Within (up x) o q → what y q ≡ option_map without_uses (what x q)) → ((q : Object) → (Within (up x) o q → ⊥) → what y q ≡ what x q)
+  pub drops_seen : (m : ℕ) (v : Counters) (x y : Objects O B T) (o : Object) → ((q : Object) → Within (up x) o q → what y q ≡ option_map without_uses (what x q)) → ((q : Object) → (Within (up x) o q → ⊥) → what y q ≡ what x q)
       → ((q : Object) → up y q ≡ up x q) → ((q : Object) → kids y q ≡ kids x q) → SamePlaces x y → DropsUses (graph_of m v x) (graph_of m v y) o
   drops_seen m v x y o inside others ups lists p = record {
     inside = λ q w. what_seen m v y q ∙ inside q (within_at m v x o q w) ∙ ap (option_map without_uses) (sym (what_seen m v x q));
@@ -65,6 +66,7 @@ module _ {O B T : Type 0} where
     region_places = places_seen region_content x.regions y.regions p.region_places;
     made = refl;
     values = refl;
+    first_place = refl;
   }
 
   as_old : (m : ℕ) (k : Option (Content O B T)) → is_older m (option_map without_uses k) ≡ is_older m k
@@ -75,7 +77,7 @@ module _ {O B T : Type 0} where
 
   pub dropped-keeps : (m : ℕ) (g h : GraphView O B T) (o : Object) → DropsUses g h o → ((q : Object) → (IsInside g o q) ⊎ (IsInside g o q → ⊥))
       → ((p : _) → IsInside g o (TheOperation p) → IsNew m g (TheOperation p)) → KeepsOlder m g h
-  dropped-keeps m g h o d known new = stood_keeps m g h (λ q. at q (known q)) (let e = d.made in omega (arith, e)) (let e = d.values in omega (arith, e))
+  dropped-keeps m g h o d known new = stood_keeps m g h (λ q. at q (known q)) (let e = d.made in omega (arith, e)) (let e = d.values in omega (arith, e)) d.first_place
     where
       same : (q : Object) → content h q ≡ content g q → (IsNew m g q × IsNew m h q) ⊎ ((parent h q ≡ parent g q) × (children h q ≡ children g q) × (content h q ≡ content g q))
       same q e = inr (d.parents q, d.lists q, e)
@@ -91,7 +93,7 @@ module _ {O B T : Type 0} where
       at (TheRegion p) (inl w) = same (TheRegion p) (d.inside (TheRegion p) w ∙ block_idle (λ e. ARegion e.0 e.1) (λ e. refl) _)
 
   -- being inside is decided
-  pub inside_known : (m v : ℕ) (x : Objects O B T) (o q : Object) → IsForest x → (IsInside (graph_of m v x) o q) ⊎ (IsInside (graph_of m v x) o q → ⊥)
+  pub inside_known : (m : ℕ) (v : Counters) (x : Objects O B T) (o q : Object) → IsForest x → (IsInside (graph_of m v x) o q) ⊎ (IsInside (graph_of m v x) o q → ⊥)
   inside_known m v x o q s = elim (within_or eq_object object_tells (up x) s.ends o q) [
     | inl w ↦ inl (within_seen m v x o q w)
     | inr out ↦ inr (λ w. out (within_at m v x o q w))
@@ -143,7 +145,7 @@ module _ {O B T : Type 0} where
       on (Some s) e = absurd (cc)
 
   -- y is x where nothing inside o uses anything, and z is y without o
-  module _ (made m v : ℕ) (x y z : Objects O B T) (o : Object) (s : IsSound made x) (can : CanErase (graph_of m v x) o)
+  module _ (made m : ℕ) (v : Counters) (x y z : Objects O B T) (o : Object) (s : IsSound made x) (can : CanErase (graph_of m v x) o)
       (inside : (q : Object) → Within (up x) o q → what y q ≡ option_map without_uses (what x q)) (others : (q : Object) → (Within (up x) o q → ⊥) → what y q ≡ what x q)
       (ups : (q : Object) → up y q ≡ up x q) (lists : (q : Object) → kids y q ≡ kids x q)
       (places : SamePlaces x y) (linked : AreUsesLinked y) (used : (u : Site) → IsSome (use_at y u) → IsSome (val y u))
@@ -233,11 +235,12 @@ module _ {O B T : Type 0} where
       region_generations = λ i. generation_seen (node_of region_content) z.regions i ∙ sheds.region_places.generations i ∙ places.region_places.generations i ∙ sym (generation_seen (node_of region_content) x.regions i);
       made = refl;
       values = refl;
+      first_place = refl;
     }
 
   pub erased-keeps : (m : ℕ) (g h : GraphView O B T) (o : Object) → Erases g h o → ((q : Object) → (IsInside g o q) ⊎ (IsInside g o q → ⊥))
       → ((q : Object) → IsInside g o q → IsNew m g q) → ((k : Object) → parent g o ≡ Some k → IsNew m g k) → KeepsOlder m g h
-  erased-keeps m g h o d known new above = stood_keeps m g h (λ q. at q (known q)) (let e = d.made in omega (arith, e)) (let e = d.values in omega (arith, e))
+  erased-keeps m g h o d known new above = stood_keeps m g h (λ q. at q (known q)) (let e = d.made in omega (arith, e)) (let e = d.values in omega (arith, e)) d.first_place
     where
       at : (q : Object) → (IsInside g o q) ⊎ (IsInside g o q → ⊥) → (IsNew m g q × IsNew m h q) ⊎ ((parent h q ≡ parent g q) × (children h q ≡ children g q) × (content h q ≡ content g q))
       at q (inl w) = inl (new q w, ap (is_older m) (d.gone q w))
@@ -268,12 +271,12 @@ module _ {O B T : Type 0} where
           on true l e = e
           on false l e = absurd (cc)
 
-  pub can_seen : {made : ℕ} (m v : ℕ) (x : Objects O B T) (o : Object) → IsSound made x → ((q : Object) → Within (up x) o q → IsAllUsedInside x o q) → CanErase (graph_of m v x) o
+  pub can_seen : {made : ℕ} (m : ℕ) (v : Counters) (x : Objects O B T) (o : Object) → IsSound made x → ((q : Object) → Within (up x) o q → IsAllUsedInside x o q) → CanErase (graph_of m v x) o
   can_seen m v x o s all = λ u d e w.
       let k : named_at (what x (user u)) u ≡ Some d = ap (λ k. named_at k u) (sym (what_seen m v x (user u))) ∙ e in
       within_seen m v x o (user u) (((all (owner d) (within_at m v x o (owner d) w)).all d refl).uses u (linked_there x u d (s.all_used u) k))
 
-  pub can_at : (m v : ℕ) (x : Objects O B T) (o : Object) → CanErase (graph_of m v x) o → (q : Object) → Within (up x) o q → IsAllUsedInside x o q
+  pub can_at : (m : ℕ) (v : Counters) (x : Objects O B T) (o : Object) → CanErase (graph_of m v x) o → (q : Object) → Within (up x) o q → IsAllUsedInside x o q
   can_at m v x o can q w = record {
     all = λ d e. record {
       uses = λ u f.

@@ -104,7 +104,7 @@ module _ {O B T : Type 0} where
   pub new_operation : (m : ℕ) (g : GraphView O B T) (p : Ptr Operation) → IsNew m g (TheOperation p) → before m g.operations p ≡ None
   new_operation m g p n = older_none m (get g.operations p) (λ d e. let k : is_older m (content g (TheOperation p)) ≡ nat_lt d.0 m = ap (λ c. is_older m (option_map as_operation c)) e in sym k ∙ n)
 
-  new_block : (m : ℕ) (g : GraphView O B T) (p : Ptr BasicBlock) → IsNew m g (TheBlock p) → before m g.blocks p ≡ None
+  pub new_block : (m : ℕ) (g : GraphView O B T) (p : Ptr BasicBlock) → IsNew m g (TheBlock p) → before m g.blocks p ≡ None
   new_block m g p n = older_none m (get g.blocks p) (λ d e. let k : is_older m (content g (TheBlock p)) ≡ nat_lt d.0 m = ap (λ c. is_older m (option_map as_block c)) e in sym k ∙ n)
 
   new_region : (m : ℕ) (g : GraphView O B T) (p : Ptr Region) → IsNew m g (TheRegion p) → before m g.regions p ≡ None
@@ -116,8 +116,8 @@ module _ {O B T : Type 0} where
   -- each object is no older than the mark, or as it was
   pub stood_keeps : (m : ℕ) (g h : GraphView O B T)
       → ((q : Object) → (IsNew m g q × IsNew m h q) ⊎ ((parent h q ≡ parent g q) × (children h q ≡ children g q) × (content h q ≡ content g q)))
-      → g.made ≤ h.made → g.values ≤ h.values → KeepsOlder m g h
-  stood_keeps m g h f made values = record {
+      → g.made ≤ h.made → g.values ≤ h.values → h.first_place ≡ g.first_place → KeepsOlder m g h
+  stood_keeps m g h f made values first = record {
     operations = λ p. elim (f (TheOperation p)) [
       | inl n ↦ new_operation m h p n.1 ∙ sym (new_operation m g p n.0)
       | inr s ↦ ap (older m) (entry_same (get h.operations p) (get g.operations p)
@@ -141,10 +141,11 @@ module _ {O B T : Type 0} where
     ];
     made = made;
     values = values;
+    first_place = first;
   }
 
-  pub framed_keeps : (m : ℕ) (g h : GraphView O B T) → Framed m g h → g.made ≤ h.made → g.values ≤ h.values → KeepsOlder m g h
-  framed_keeps m g h f made values = stood_keeps m g h (λ q. elim (f.same q) [ inl n ↦ inl (n, still_new m g h q (f.contents q) n) | inr s ↦ inr (s.0, s.1, f.contents q) ]) made values
+  pub framed_keeps : (m : ℕ) (g h : GraphView O B T) → Framed m g h → g.made ≤ h.made → g.values ≤ h.values → h.first_place ≡ g.first_place → KeepsOlder m g h
+  framed_keeps m g h f made values first = stood_keeps m g h (λ q. elim (f.same q) [ inl n ↦ inl (n, still_new m g h q (f.contents q) n) | inr s ↦ inr (s.0, s.1, f.contents q) ]) made values first
 
   pub appended-keeps : (m : ℕ) (g h : GraphView O B T) (k c : Object) → IsNew m g k → IsNew m g c → Appends g h k c → KeepsOlder m g h
   appended-keeps m g h k c nk nc a = framed_keeps m g h (record {
@@ -156,7 +157,7 @@ module _ {O B T : Type 0} where
         | inr apart ↦ inr (a.parents q apart, a.others q away)
       ]
     ];
-  }) (let e = a.objects.made in omega (arith, e)) (let e = a.objects.values in omega (arith, e))
+  }) (let e = a.objects.made in omega (arith, e)) (let e = a.objects.values in omega (arith, e)) a.objects.first_place
 
   -- an insertion, or its refusal
   pub inserted-keeps : (m : ℕ) (g h : GraphView O B T) (k c : Object) → IsNew m g k → IsNew m g c → {E : Type 0} (r : Result (Unit {0}) E) → OnOk r (Appends g h k c) → OnErr r (h ≡ g) → KeepsOlder m g h
@@ -164,7 +165,7 @@ module _ {O B T : Type 0} where
   inserted-keeps m g h k c nk nc (Err x) a e = same_keeps m g h e
 
   pub unlinked-keeps : (m : ℕ) (g h : GraphView O B T) (c : Object) → IsNew m g c → ((k : Object) → parent g c ≡ Some k → IsNew m g k) → Unlinks g h c → KeepsOlder m g h
-  unlinked-keeps m g h c nc nk a = framed_keeps m g h (record { contents = a.objects.contents; same = same }) (let e = a.objects.made in omega (arith, e)) (let e = a.objects.values in omega (arith, e))
+  unlinked-keeps m g h c nc nk a = framed_keeps m g h (record { contents = a.objects.contents; same = same }) (let e = a.objects.made in omega (arith, e)) (let e = a.objects.values in omega (arith, e)) a.objects.first_place
     where
       same : (q : Object) → (IsNew m g q) ⊎ ((parent h q ≡ parent g q) × (children h q ≡ children g q))
       same q = elim (told object_tells q c) [

@@ -41,3 +41,7 @@ pub mod Dropping
 pub mod Erasures
 pub mod LogsSeen
 pub mod Sites
+pub mod Data
+pub mod Added
+pub mod Marks
+pub mod Forgotten

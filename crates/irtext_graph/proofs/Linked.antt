@@ -1,5 +1,5 @@
 -- Tests of equality for uses and values, what a use tells of its place, and lists with another item at one index.
-use Rattle.std.proofs.Common.{◌≡◌, ◌≢◌, ◌∙◌, inl, inr, Bool, true, false, refl, sym, ap, Option, Some, None, IsSome, cond, option_map, ℕ, zero, suc, List, [], ◌∷◌, set, map, get_or}
+use Rattle.std.proofs.Common.{◌≡◌, ◌≢◌, ◌∙◌, inl, inr, Bool, true, false, refl, sym, ap, Option, Some, None, IsSome, cond, option_map}
 use Rattle.std.proofs.lemmas.Bool.{eqb-true, eq-eqb}
 use Rattle.irtext_graph.specs.declared.object.Defined.{Defined}
 use Rattle.irtext_graph.specs.declared.object.Defined.TheVariants.{OfValue, OfBlock}

@@ -1,5 +1,5 @@
 -- The list of what was made has all that stand where objects are seen as before, but for what operations use.
-use Rattle.std.proofs.Common.{◌≡◌, ◌∙◌, ◌⊎◌, ℕ, inl, inr, refl, sym, ap, Option, Some, None, List}
+use Rattle.std.proofs.Common.{◌≡◌, ◌∙◌, ℕ, inl, inr, refl, sym, ap, Option, Some, None, List}
 use Rattle.std.specs.Option.{option_map}
 use Rattle.irtext_graph.specs.Arena as arena
 use Rattle.irtext_graph.specs.Arena.{born_in}

@@ -1,5 +1,6 @@
 -- What is seen of an object that was made, and that what is older stands as it did.
 use Rattle.std.proofs.Common.{◌≡◌, ◌≤◌, ◌+◌, ℕ, refl, sym, ap, subst, arith, ◌∙◌, None, List, [], map, length, Result, Ok, Err, OnErr}
+use Rattle.irtext_graph.specs.declared.graph.Counters.{Counters}
 use Rattle.irtext_graph.specs.Arena as arena
 use Rattle.irtext_graph.specs.declared.arena.Arena.{Arena}
 use Rattle.irtext_graph.specs.declared.arena.Entry.{Entry}
@@ -33,15 +34,16 @@ module _ {O B T : Type 0} where
     regions = λ q. ap (λ (g : GraphView O B T). before m g.regions q) e;
     made = let k = ap (λ (g : GraphView O B T). g.made) e in omega (arith, k);
     values = let k = ap (λ (g : GraphView O B T). g.values) e in omega (arith, k);
+    first_place = ap (λ (g : GraphView O B T). g.first_place) e;
   }
 
-  pub regions_same : (m v : ℕ) (x : Objects O B T) (after : Arena (Nest Operation BasicBlock RegionData)) → after.slots.items ≡ x.regions.slots.items → after.free ≡ x.regions.free → graph_of m v (record x { regions = after }) ≡ graph_of m v x
+  pub regions_same : (m : ℕ) (v : Counters) (x : Objects O B T) (after : Arena (Nest Operation BasicBlock RegionData)) → after.slots.items ≡ x.regions.slots.items → after.free ≡ x.regions.free → graph_of m v (record x { regions = after }) ≡ graph_of m v x
   regions_same m v x after e f = rw (store_same (node_of region_content) x.regions after e f) refl
 
-  pub blocks_same : (m v : ℕ) (x : Objects O B T) (after : Arena (Nest Region Operation (BlockData B T))) → after.slots.items ≡ x.blocks.slots.items → after.free ≡ x.blocks.free → graph_of m v (record x { blocks = after }) ≡ graph_of m v x
+  pub blocks_same : (m : ℕ) (v : Counters) (x : Objects O B T) (after : Arena (Nest Region Operation (BlockData B T))) → after.slots.items ≡ x.blocks.slots.items → after.free ≡ x.blocks.free → graph_of m v (record x { blocks = after }) ≡ graph_of m v x
   blocks_same m v x after e f = rw (store_same (node_of block_content) x.blocks after e f) refl
 
-  pub region_made : (m v : ℕ) (x : Objects O B T) (after : Arena (Nest Operation BasicBlock RegionData)) (p : Ptr Region) (e : Entry (Nest Operation BasicBlock RegionData)) → arena.Inserts x.regions after p e
+  pub region_made : (m : ℕ) (v : Counters) (x : Objects O B T) (after : Arena (Nest Operation BasicBlock RegionData)) (p : Ptr Region) (e : Entry (Nest Operation BasicBlock RegionData)) → arena.Inserts x.regions after p e
       → e.born ≡ m → e.content.parent ≡ None → e.content.children.items ≡ [] → MakesRegion (graph_of m v x) (graph_of (m + 1) v (record x { regions = after })) p
   region_made m v x after p e i born none empty = record {
     regions = subst (λ o. Inserts (store_of (node_of region_content) x.regions) (store_of (node_of region_content) after) p o) same (inserts_seen (node_of region_content) x.regions after p e i);
@@ -49,6 +51,7 @@ module _ {O B T : Type 0} where
     blocks = refl;
     made = refl;
     values = refl;
+    first_place = refl;
   }
     where
       same : object_of (node_of region_content) e ≡ record { born = m; content = fresh (record {}) }
@@ -61,20 +64,22 @@ module _ {O B T : Type 0} where
     regions = inserted-keeps m old.regions new.regions p _ up k.regions;
     made = let c = k.made in omega (arith, c);
     values = let c = k.values in omega (arith, c);
+    first_place = k.first_place;
   }
 
-  pub block_made : (m v n : ℕ) (x : Objects O B T) (after : Arena (Nest Region Operation (BlockData B T))) (p : Ptr BasicBlock) (e : Entry (Nest Region Operation (BlockData B T))) (value : B) (types : List T) → arena.Inserts x.blocks after p e
-      → e.born ≡ m → e.content.parent ≡ None → e.content.children.items ≡ [] → e.content.data.data ≡ value → map typed e.content.data.arguments.items ≡ numbered v types → n ≡ v + length types
-      → MakesBlock (graph_of m v x) (graph_of (m + 1) n (record x { blocks = after })) p value types
+  pub block_made : (m : ℕ) (v : Counters) (n : ℕ) (x : Objects O B T) (after : Arena (Nest Region Operation (BlockData B T))) (p : Ptr BasicBlock) (e : Entry (Nest Region Operation (BlockData B T))) (value : B) (types : List T) → arena.Inserts x.blocks after p e
+      → e.born ≡ m → e.content.parent ≡ None → e.content.children.items ≡ [] → e.content.data.data ≡ value → map typed e.content.data.arguments ≡ numbered v.values types → n ≡ v.values + length types
+      → MakesBlock (graph_of m v x) (graph_of (m + 1) (record v { values = n }) (record x { blocks = after })) p value types
   block_made m v n x after p e value types i born none empty same_value numbers count = record {
     blocks = subst (λ o. Inserts (store_of (node_of block_content) x.blocks) (store_of (node_of block_content) after) p o) same (inserts_seen (node_of block_content) x.blocks after p e i);
     operations = refl;
     regions = refl;
     made = refl;
     values = count;
+    first_place = refl;
   }
     where
-      same : object_of (node_of block_content) e ≡ record { born = m; content = fresh (record { data_of = value; arguments = numbered v types }) }
+      same : object_of (node_of block_content) e ≡ record { born = m; content = fresh (record { data_of = value; arguments = numbered v.values types }) }
       same = rw (born, none, empty, same_value, numbers) refl
 
   pub block-keeps : (m : ℕ) (old new : GraphView O B T) (p : Ptr BasicBlock) (value : B) (types : List T) → m ≤ old.made → MakesBlock old new p value types → KeepsOlder m old new
@@ -84,36 +89,38 @@ module _ {O B T : Type 0} where
     regions = λ q. ap (λ s. before m s q) k.regions;
     made = let c = k.made in omega (arith, c);
     values = let c = k.values in omega (arith, c);
+    first_place = k.first_place;
   }
 
-  pub operations_same : (m v : ℕ) (x : Objects O B T) (after : Arena (Nest BasicBlock Region (OperationData O T))) → after.slots.items ≡ x.operations.slots.items → after.free ≡ x.operations.free → graph_of m v (record x { operations = after }) ≡ graph_of m v x
+  pub operations_same : (m : ℕ) (v : Counters) (x : Objects O B T) (after : Arena (Nest BasicBlock Region (OperationData O T))) → after.slots.items ≡ x.operations.slots.items → after.free ≡ x.operations.free → graph_of m v (record x { operations = after }) ≡ graph_of m v x
   operations_same m v x after e f = rw (store_same (node_of operation_content) x.operations after e f) refl
 
-  pub operation_made : (m v n : ℕ) (x : Objects O B T) (after : Arena (Nest BasicBlock Region (OperationData O T))) (p : Ptr Operation) (e : Entry (Nest BasicBlock Region (OperationData O T))) (value : O) (types : List T)
-      (operands : List Value) (successors : List (Ptr BasicBlock)) → arena.Inserts x.operations after p e → e.born ≡ m → IsBlank e.content value types v operands successors → n ≡ v + length types
-      → MakesOperation (graph_of m v x) (graph_of (m + 1) n (record x { operations = after })) p value types operands successors
+  pub operation_made : (m : ℕ) (v : Counters) (n : ℕ) (x : Objects O B T) (after : Arena (Nest BasicBlock Region (OperationData O T))) (p : Ptr Operation) (e : Entry (Nest BasicBlock Region (OperationData O T))) (value : O) (types : List T)
+      (operands : List Value) (successors : List (Ptr BasicBlock)) → arena.Inserts x.operations after p e → e.born ≡ m → IsBlank e.content value types v.values operands successors → n ≡ v.values + length types
+      → MakesOperation (graph_of m v x) (graph_of (m + 1) (record v { values = n }) (record x { operations = after })) p value types operands successors
   operation_made m v n x after p e value types operands successors i born b count = record {
     operations = subst (λ o. Inserts (store_of (node_of operation_content) x.operations) (store_of (node_of operation_content) after) p o) same (inserts_seen (node_of operation_content) x.operations after p e i);
     blocks = refl;
     regions = refl;
     made = refl;
     values = count;
+    first_place = refl;
   }
     where
-      named_operands : map (λ u. u.def) e.content.data.operands.items ≡ operands
+      named_operands : map (λ u. u.def) e.content.data.operands ≡ operands
       named_operands = ap (map (λ u. u.def)) b.operand_uses ∙ unlinked_defs operands
 
-      named_successors : map (λ u. u.def) e.content.data.successors.items ≡ successors
+      named_successors : map (λ u. u.def) e.content.data.successors ≡ successors
       named_successors = ap (map (λ u. u.def)) b.successor_uses ∙ unlinked_defs successors
 
-      same : object_of (node_of operation_content) e ≡ record { born = m; content = fresh (record { data_of = value; operands = operands; successors = successors; results = numbered v types }) }
+      same : object_of (node_of operation_content) e ≡ record { born = m; content = fresh (record { data_of = value; operands = operands; successors = successors; results = numbered v.values types }) }
       same = rw (born, b.parent, b.children, b.value_is, named_operands, named_successors, b.results.values) refl
 
   -- the same where only the use lists differ
-  pub operation_made_seen : (m v n : ℕ) (x y z : Objects O B T) (p : Ptr Operation) (value : O) (types : List T) (operands : List Value) (successors : List (Ptr BasicBlock)) → seen z ≡ seen y
-      → MakesOperation (graph_of m v x) (graph_of (m + 1) n y) p value types operands successors → MakesOperation (graph_of m v x) (graph_of (m + 1) n z) p value types operands successors
+  pub operation_made_seen : (m : ℕ) (v : Counters) (n : ℕ) (x y z : Objects O B T) (p : Ptr Operation) (value : O) (types : List T) (operands : List Value) (successors : List (Ptr BasicBlock)) → seen z ≡ seen y
+      → MakesOperation (graph_of m v x) (graph_of (m + 1) (record v { values = n }) y) p value types operands successors → MakesOperation (graph_of m v x) (graph_of (m + 1) (record v { values = n }) z) p value types operands successors
   operation_made_seen m v n x y z p value types operands successors same k =
-      subst (λ g. MakesOperation (graph_of m v x) g p value types operands successors) (ap (λ (g : GraphView O B T). record g { made = m + 1; values = n }) (sym same)) k
+      subst (λ g. MakesOperation (graph_of m v x) g p value types operands successors) (ap (λ (g : GraphView O B T). record g { made = m + 1; values = n; first_place = v.first_place }) (sym same)) k
 
   pub operation-keeps : (m : ℕ) (old new : GraphView O B T) (p : Ptr Operation) (value : O) (types : List T) (operands : List Value) (successors : List (Ptr BasicBlock)) → m ≤ old.made
       → MakesOperation old new p value types operands successors → KeepsOlder m old new
@@ -123,4 +130,5 @@ module _ {O B T : Type 0} where
     regions = λ q. ap (λ s. before m s q) k.regions;
     made = let c = k.made in omega (arith, c);
     values = let c = k.values in omega (arith, c);
+    first_place = k.first_place;
   }

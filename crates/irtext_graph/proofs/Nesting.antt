@@ -1,11 +1,12 @@
 -- What always holds of the nesting that a graph shows.
-use Rattle.std.proofs.Common.{◌≡◌, ◌∙◌, ◌∷◌, ℕ, zero, suc, List, [], map, Option, Some, None, IfSome, refl, sym, ap, slice_get}
+use Rattle.std.proofs.Common.{◌≡◌, ◌∙◌, ◌∷◌, ℕ, zero, suc, List, [], map, Option, Some, None, IfSome, sym, ap, slice_get}
+use Rattle.irtext_graph.specs.declared.graph.Counters.{Counters}
 use Rattle.irtext_graph.specs.declared.object.Object.{Object}
 use Rattle.irtext_graph.specs.declared.objects.Objects.{Objects}
 use Rattle.irtext_graph.specs.Nested.{Nested}
 use Rattle.irtext_graph.specs.declared.object.Object.TheVariants.{TheOperation, TheBlock, TheRegion}
 use Rattle.irtext_graph.specs.Store.{get}
-use Rattle.irtext_graph.specs.Objects.{up, kids, IsForest, Fits}
+use Rattle.irtext_graph.specs.Objects.{up, IsForest, Fits}
 use Rattle.irtext_graph.specs.Graph.{GraphView, graph_of, parent, children, children_of, Stands}
 use Rattle.irtext_graph.proofs.Nests.{climb-same, some_eq}
 use Rattle.irtext_graph.proofs.Places.{parent_lives}
@@ -23,7 +24,7 @@ child_fits g (TheOperation p) c i e = let m = mapped TheRegion (children_of (get
 child_fits g (TheBlock p) c i e = let m = mapped TheOperation (children_of (get g.blocks p)) i c e in rw m.1 tt
 child_fits g (TheRegion p) c i e = let m = mapped TheBlock (children_of (get g.regions p)) i c e in rw m.1 tt
 
-module _ {O B T : Type 0} (m v : ℕ) (x : Objects O B T) where
+module _ {O B T : Type 0} (m : ℕ) (v : Counters) (x : Objects O B T) where
   -- what an object stands in is there
   pub holder_stands : (o : Object) → IsForest x → (r : Option Object) → r ≡ up x o → IfSome r (λ k. Stands (graph_of m v x) k)
   holder_stands o f None e = tt

@@ -3,6 +3,7 @@ use Rattle.std.proofs.Common.{◌≡◌, ◌∙◌, ℕ, refl, ap, Option, Some,
 use Rattle.std.specs.Option.{option_map}
 use Rattle.std.proofs.lemmas.List.{length-map}
 use Rattle.std.proofs.lemmas.Option.{slice_get-map}
+use Rattle.irtext_graph.specs.declared.graph.Counters.{Counters}
 use Rattle.irtext_graph.specs.Arena as arena
 use Rattle.irtext_graph.specs.declared.arena.Entry.{Entry}
 use Rattle.irtext_graph.specs.declared.arena.Ptr.{Ptr}
@@ -53,7 +54,7 @@ module _ {P C D E : Type 0} (see : D → E) where
   seen_by None n e = absurd (cc)
   seen_by (Some o) n e = let same : o.content ≡ n = cc in ap (λ n. Some (see n.data)) same
 
-module _ {O B T : Type 0} (m v : ℕ) (x : Objects O B T) where
+module _ {O B T : Type 0} (m : ℕ) (v : Counters) (x : Objects O B T) where
   pub operation_seen : (p : Ptr Operation) (n : Nest BasicBlock Region (OperationData O T)) → option_map (λ o. o.content) (arena.get x.operations p) ≡ Some n → operation_at (graph_of m v x) p ≡ Some (operation_content n.data)
   operation_seen p n e = seen_of operation_content x.operations p ∙ seen_by operation_content (arena.get x.operations p) n e
 
@@ -62,23 +63,23 @@ module _ {O B T : Type 0} (m v : ℕ) (x : Objects O B T) where
 
   -- the parts of an operation are as many as its data hold, and are seen in their order
   module _ (p : Ptr Operation) (n : Nest BasicBlock Region (OperationData O T)) (e : option_map (λ o. o.content) (arena.get x.operations p) ≡ Some n) where
-    pub result_count : length (results (graph_of m v x) p) ≡ length n.data.results.items
-    result_count = ap (λ c. length (results_of c)) (operation_seen p n e) ∙ length-map n.data.results.items typed
+    pub result_count : length (results (graph_of m v x) p) ≡ length n.data.results
+    result_count = ap (λ c. length (results_of c)) (operation_seen p n e) ∙ length-map n.data.results typed
 
-    pub operand_count : length (operands (graph_of m v x) p) ≡ length n.data.operands.items
-    operand_count = ap (λ c. length (operands_of c)) (operation_seen p n e) ∙ length-map n.data.operands.items (λ u. u.def)
+    pub operand_count : length (operands (graph_of m v x) p) ≡ length n.data.operands
+    operand_count = ap (λ c. length (operands_of c)) (operation_seen p n e) ∙ length-map n.data.operands (λ u. u.def)
 
-    pub successor_count : length (successors (graph_of m v x) p) ≡ length n.data.successors.items
-    successor_count = ap (λ c. length (successors_of c)) (operation_seen p n e) ∙ length-map n.data.successors.items (λ u. u.def)
+    pub successor_count : length (successors (graph_of m v x) p) ≡ length n.data.successors
+    successor_count = ap (λ c. length (successors_of c)) (operation_seen p n e) ∙ length-map n.data.successors (λ u. u.def)
 
-    pub operand_seen : (i : ℕ) → slice_get (operands (graph_of m v x) p) i ≡ option_map (λ u. u.def) (slice_get n.data.operands.items i)
-    operand_seen i = ap (λ c. slice_get (operands_of c) i) (operation_seen p n e) ∙ slice_get-map (λ u. u.def) n.data.operands.items i
+    pub operand_seen : (i : ℕ) → slice_get (operands (graph_of m v x) p) i ≡ option_map (λ u. u.def) (slice_get n.data.operands i)
+    operand_seen i = ap (λ c. slice_get (operands_of c) i) (operation_seen p n e) ∙ slice_get-map (λ u. u.def) n.data.operands i
 
-    pub successor_seen : (i : ℕ) → slice_get (successors (graph_of m v x) p) i ≡ option_map (λ u. u.def) (slice_get n.data.successors.items i)
-    successor_seen i = ap (λ c. slice_get (successors_of c) i) (operation_seen p n e) ∙ slice_get-map (λ u. u.def) n.data.successors.items i
+    pub successor_seen : (i : ℕ) → slice_get (successors (graph_of m v x) p) i ≡ option_map (λ u. u.def) (slice_get n.data.successors i)
+    successor_seen i = ap (λ c. slice_get (successors_of c) i) (operation_seen p n e) ∙ slice_get-map (λ u. u.def) n.data.successors i
 
-  pub argument_count : (p : Ptr BasicBlock) (n : Nest Region Operation (BlockData B T)) → option_map (λ o. o.content) (arena.get x.blocks p) ≡ Some n → length (arguments (graph_of m v x) p) ≡ length n.data.arguments.items
-  argument_count p n e = ap (λ c. length (arguments_of c)) (block_seen p n e) ∙ length-map n.data.arguments.items typed
+  pub argument_count : (p : Ptr BasicBlock) (n : Nest Region Operation (BlockData B T)) → option_map (λ o. o.content) (arena.get x.blocks p) ≡ Some n → length (arguments (graph_of m v x) p) ≡ length n.data.arguments
+  argument_count p n e = ap (λ c. length (arguments_of c)) (block_seen p n e) ∙ length-map n.data.arguments typed
 
   -- a value's type and number are those of its definition
   pub value_seen : (d : Value) → value_at (graph_of m v x) d ≡ option_map typed (definition_at x d)
@@ -86,12 +87,12 @@ module _ {O B T : Type 0} (m v : ℕ) (x : Objects O B T) where
     where
       go : (s : Option (Entry (Nest BasicBlock Region (OperationData O T)))) → slice_get (results_of (option_map (λ o. operation_content o.content.data) s)) i ≡ option_map typed (result_in s i)
       go None = refl
-      go (Some o) = slice_get-map typed o.content.data.results.items i
+      go (Some o) = slice_get-map typed o.content.data.results i
   value_seen (Argument p i) = ap (λ c. slice_get (arguments_of c) i) (seen_of block_content x.blocks p) ∙ go (arena.get x.blocks p)
     where
       go : (s : Option (Entry (Nest Region Operation (BlockData B T)))) → slice_get (arguments_of (option_map (λ o. block_content o.content.data) s)) i ≡ option_map typed (argument_in s i)
       go None = refl
-      go (Some o) = slice_get-map typed o.content.data.arguments.items i
+      go (Some o) = slice_get-map typed o.content.data.arguments i
 
   pub operation_there : (p : Ptr Operation) → Stands (graph_of m v x) (TheOperation p) → IsSome (arena.get x.operations p)
   operation_there p s = there (arena.get x.operations p) (some_of _ _ (lives_at m v x (TheOperation p) s))

@@ -11,7 +11,7 @@ use Rattle.irtext_graph.specs.declared.objects.Use.{Use}
 use Rattle.irtext_graph.specs.declared.objects.Objects.{Objects}
 use Rattle.irtext_graph.specs.Store.{store_of, cell_of, object_in, object_of}
 use Rattle.irtext_graph.specs.Objects.{IsForest, eq_object}
-use Rattle.irtext_graph.specs.Graph.{seen, parent, children}
+use Rattle.irtext_graph.specs.Graph.{no_counters, seen, parent, children}
 use Rattle.irtext_graph.specs.Uses.{use_at, head_at, val}
 use Rattle.irtext_graph.proofs.Same.{object_tells}
 use Rattle.irtext_graph.proofs.Nests.{renested}
@@ -48,7 +48,7 @@ module _ {X Y : Type 0} (see : X → Y) (a b : Arena X) (same : store_of see b �
 module _ {O B T : Type 0} where
   module _ (x y : Objects O B T) (same : seen y ≡ seen x) where
     pub same_def : (u : Site) → option_map (λ o. o.def) (use_at y u) ≡ option_map (λ o. o.def) (use_at x u)
-    same_def u = sym (used_seen 0 0 y u) ∙ ap (λ g. used_at g u) same ∙ used_seen 0 0 x u
+    same_def u = sym (used_seen 0 no_counters y u) ∙ ap (λ g. used_at g u) same ∙ used_seen 0 no_counters x u
 
     pub same_there : (u : Site) → IsSome (use_at x u) → IsSome (use_at y u)
     same_there u h = some_of (λ o. o.def) (use_at y u) (subst (λ o. IsSome o) (sym (same_def u)) (of_some (λ o. o.def) (use_at x u) h))
@@ -57,7 +57,7 @@ module _ {O B T : Type 0} where
     same_back u h = some_of (λ o. o.def) (use_at x u) (subst (λ o. IsSome o) (same_def u) (of_some (λ o. o.def) (use_at y u) h))
 
     pub same_head_there : (d : Defined) → IsSome (head_at x d) → IsSome (head_at y d)
-    same_head_there d h = head_there 0 0 y d (subst (λ g. IsDefined g d) (sym same) (head_stands 0 0 x d h))
+    same_head_there d h = head_there 0 no_counters y d (subst (λ g. IsDefined g d) (sym same) (head_stands 0 no_counters x d h))
 
     -- what a use names is there, if it was
     pub same_stands : (u : Site) → ((o : Use Defined) → use_at x u ≡ Some o → IsSome (head_at x o.def)) → (o : Use Defined) → use_at y u ≡ Some o → IsSome (head_at y o.def)
@@ -69,8 +69,8 @@ module _ {O B T : Type 0} where
 
     pub same_forest : IsForest x → IsForest y
     same_forest f =
-        renested eq_object object_tells f (λ q. sym (kids_seen 0 0 y q) ∙ ap (λ g. children g q) same ∙ kids_seen 0 0 x q)
-        (λ q. sym (up_seen 0 0 y q) ∙ ap (λ g. parent g q) same ∙ up_seen 0 0 x q)
+        renested eq_object object_tells f (λ q. sym (kids_seen 0 no_counters y q) ∙ ap (λ g. children g q) same ∙ kids_seen 0 no_counters x q)
+        (λ q. sym (up_seen 0 no_counters y q) ∙ ap (λ g. parent g q) same ∙ up_seen 0 no_counters x q)
 
   -- what is in the list of what it names is in a list
   pub used_of : (x y : Objects O B T) (u : Site) → IsSome (use_at x u) → ((o : Use Defined) → use_at x u ≡ Some o → val y u ≡ Some o.def) → IsSome (val y u)

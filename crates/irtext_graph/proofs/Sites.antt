@@ -71,7 +71,7 @@ module _ {O T : Type 0} where
   -- the uses that the operation of a place makes
   abbrev of_slot : ℕ → Slot (Nest BasicBlock Region (OperationData O T)) → List Site
   of_slot i (Vacant g n) = []
-  of_slot i (Full g e) = row (AtOperand (ptr_of i g)) (length e.content.data.operands.items) ++ row (AtSuccessor (ptr_of i g)) (length e.content.data.successors.items)
+  of_slot i (Full g e) = row (AtOperand (ptr_of i g)) (length e.content.data.operands) ++ row (AtSuccessor (ptr_of i g)) (length e.content.data.successors)
 
   -- those of all places from one on
   abbrev from : ℕ → List (Slot (Nest BasicBlock Region (OperationData O T))) → List Site
@@ -98,25 +98,25 @@ module _ {O B T : Type 0} where
     where
       go : (s : Option (Entry (Nest BasicBlock Region (OperationData O T)))) → get x.operations p ≡ s → IsSome (option_map (either OfValue) (operand_in s i)) → Among (AtOperand p i) (sites x)
       go None e l = absurd (cc)
-      go (Some s) e l = elim (seen (slice_get s.content.data.operands.items i)) [
+      go (Some s) e l = elim (seen (slice_get s.content.data.operands i)) [
         | inl none ↦ absurd (let k = none in cc)
         | inr (o, f) ↦
             let same : ptr_of p.index p.generation ≡ p = ptr_same (ptr_of p.index p.generation) p refl refl in
-            let m = in_row (AtOperand (ptr_of p.index p.generation)) (length s.content.data.operands.items) i (slice_get_within s.content.data.operands.items i o f) in
+            let m = in_row (AtOperand (ptr_of p.index p.generation)) (length s.content.data.operands) i (slice_get_within s.content.data.operands i o f) in
             in_operation x p s (AtOperand p i) e (subst (λ q. Among (AtOperand q i) (of_slot p.index (Full p.generation s))) same
-            (among_left (AtOperand (ptr_of p.index p.generation) i) (row (AtOperand (ptr_of p.index p.generation)) (length s.content.data.operands.items)) (row (AtSuccessor (ptr_of p.index p.generation)) (length s.content.data.successors.items)) m))
+            (among_left (AtOperand (ptr_of p.index p.generation) i) (row (AtOperand (ptr_of p.index p.generation)) (length s.content.data.operands)) (row (AtSuccessor (ptr_of p.index p.generation)) (length s.content.data.successors)) m))
       ]
   among_sites x (AtSuccessor p i) l = go (get x.operations p) refl l
     where
       go : (s : Option (Entry (Nest BasicBlock Region (OperationData O T)))) → get x.operations p ≡ s → IsSome (option_map (either OfBlock) (successor_in s i)) → Among (AtSuccessor p i) (sites x)
       go None e l = absurd (cc)
-      go (Some s) e l = elim (seen (slice_get s.content.data.successors.items i)) [
+      go (Some s) e l = elim (seen (slice_get s.content.data.successors i)) [
         | inl none ↦ absurd (let k = none in cc)
         | inr (o, f) ↦
             let same : ptr_of p.index p.generation ≡ p = ptr_same (ptr_of p.index p.generation) p refl refl in
-            let m = in_row (AtSuccessor (ptr_of p.index p.generation)) (length s.content.data.successors.items) i (slice_get_within s.content.data.successors.items i o f) in
+            let m = in_row (AtSuccessor (ptr_of p.index p.generation)) (length s.content.data.successors) i (slice_get_within s.content.data.successors i o f) in
             in_operation x p s (AtSuccessor p i) e (subst (λ q. Among (AtSuccessor q i) (of_slot p.index (Full p.generation s))) same
-            (among_right (AtSuccessor (ptr_of p.index p.generation) i) (row (AtOperand (ptr_of p.index p.generation)) (length s.content.data.operands.items)) (row (AtSuccessor (ptr_of p.index p.generation)) (length s.content.data.successors.items)) m))
+            (among_right (AtSuccessor (ptr_of p.index p.generation) i) (row (AtOperand (ptr_of p.index p.generation)) (length s.content.data.operands)) (row (AtSuccessor (ptr_of p.index p.generation)) (length s.content.data.successors)) m))
       ]
 
   next_there : (x : Objects O B T) (u w : Site) → nxt x u ≡ Some w → IsSome (use_at x u)

@@ -67,15 +67,15 @@ module _ {O T : Type 0} where
   -- what the data of an object say of its links
   abbrev operands_of : Option (ℕ × OperationData O T) → ℕ → Option (Use Value)
   operands_of None i = None
-  operands_of (Some d) i = slice_get d.1.operands.items i
+  operands_of (Some d) i = slice_get d.1.operands i
 
   abbrev successors_of : Option (ℕ × OperationData O T) → ℕ → Option (Use (Ptr BasicBlock))
   successors_of None i = None
-  successors_of (Some d) i = slice_get d.1.successors.items i
+  successors_of (Some d) i = slice_get d.1.successors i
 
   abbrev results_of : Option (ℕ × OperationData O T) → ℕ → Option (Option Site)
   results_of None i = None
-  results_of (Some d) i = first_of (slice_get d.1.results.items i)
+  results_of (Some d) i = first_of (slice_get d.1.results i)
 
   operands_is : (e : Option (Entry (Nest BasicBlock Region (OperationData O T)))) (i : ℕ) → operand_in e i ≡ operands_of (datum_in e) i
   operands_is None i = refl
@@ -92,7 +92,7 @@ module _ {O T : Type 0} where
 module _ {B T : Type 0} where
   abbrev arguments_of : Option (ℕ × BlockData B T) → ℕ → Option (Option Site)
   arguments_of None i = None
-  arguments_of (Some d) i = first_of (slice_get d.1.arguments.items i)
+  arguments_of (Some d) i = first_of (slice_get d.1.arguments i)
 
   abbrev first_pred_of : Option (ℕ × BlockData B T) → Option (Option Site)
   first_pred_of None = None
@@ -219,7 +219,7 @@ module _ {O B T : Type 0} where
 
   -- a block came that stands nowhere, holds none and is used nowhere
   module _ (x : Objects O B T) (made : ℕ) (after : Arena (Nest Region Operation (BlockData B T))) (p : Ptr BasicBlock) (e : Entry (Nest Region Operation (BlockData B T))) (i : Inserts x.blocks after p e) (none : e.content.parent ≡ None) (empty : e.content.children.items ≡ [])
-      (unused : (j : ℕ) (u : Site) → first_of (slice_get e.content.data.arguments.items j) ≢ Some (Some u)) (no_preds : e.content.data.preds ≡ None) where
+      (unused : (j : ℕ) (u : Site) → first_of (slice_get e.content.data.arguments j) ≢ Some (Some u)) (no_preds : e.content.data.preds ≡ None) where
     abbrev with_block : Objects O B T
     with_block = record x { blocks = after }
 

@@ -2,6 +2,7 @@
 use Rattle.std.proofs.Common.{◌≡◌, ◌∙◌, ℕ, refl, sym, ap, subst, inl, inr, arith, Option, Some, None, List, slice_get, IsSome}
 use Rattle.std.specs.Option.{option_map}
 use Rattle.std.proofs.lemmas.Option.{slice_get-map}
+use Rattle.irtext_graph.specs.declared.graph.Counters.{Counters}
 use Rattle.irtext_graph.specs.Arena as arena
 use Rattle.irtext_graph.specs.declared.arena.Entry.{Entry}
 use Rattle.irtext_graph.specs.declared.arena.Ptr.{Ptr}
@@ -23,7 +24,7 @@ use Rattle.irtext_graph.specs.declared.objects.Use.{Use}
 use Rattle.irtext_graph.specs.Content.{Node, OperationContent, Content.{ABlock}, operation_content, block_content}
 use Rattle.irtext_graph.specs.Store.{get, object_of}
 use Rattle.irtext_graph.proofs.Stores.{get_mapped}
-use Rattle.irtext_graph.specs.Graph.{GraphView, graph_of, seen as all_seen}
+use Rattle.irtext_graph.specs.Graph.{no_counters, GraphView, graph_of, seen as all_seen}
 use Rattle.irtext_graph.specs.Uses.{operand_in, successor_in, preds_in, first_of, use_at, head_at, val, def_of, either, AreAllUsed}
 use Rattle.irtext_graph.specs.Parts.{operands_of, successors_of, results, results_of}
 use Rattle.irtext_graph.specs.Used.{used_at, IsUse, IsDefined, without_uses, without_uses_in, bare}
@@ -58,19 +59,19 @@ preds_back : {B T : Type 0} (e : Option (Entry (Nest Region Operation (BlockData
 preds_back None h = absurd (cc)
 preds_back (Some e) h = refl
 
-module _ {O B T : Type 0} (m v : ℕ) (x : Objects O B T) where
+module _ {O B T : Type 0} (m : ℕ) (v : Counters) (x : Objects O B T) where
   -- what an operand or a successor names
   pub used_seen : (u : Site) → used_at (graph_of m v x) u ≡ option_map (λ o. o.def) (use_at x u)
   used_seen (AtOperand p i) = ap (λ c. option_map OfValue (slice_get (operands_of c) i)) (seen_of operation_content x.operations p) ∙ go (arena.get x.operations p)
     where
       go : (s : Option (Entry (Nest BasicBlock Region (OperationData O T)))) → option_map OfValue (slice_get (operands_of (option_map (λ o. operation_content o.content.data) s)) i) ≡ option_map (λ o. o.def) (option_map (either OfValue) (operand_in s i))
       go None = refl
-      go (Some o) = ap (option_map OfValue) (slice_get-map (λ u. u.def) o.content.data.operands.items i) ∙ named OfValue (slice_get o.content.data.operands.items i)
+      go (Some o) = ap (option_map OfValue) (slice_get-map (λ u. u.def) o.content.data.operands i) ∙ named OfValue (slice_get o.content.data.operands i)
   used_seen (AtSuccessor p i) = ap (λ c. option_map OfBlock (slice_get (successors_of c) i)) (seen_of operation_content x.operations p) ∙ go (arena.get x.operations p)
     where
       go : (s : Option (Entry (Nest BasicBlock Region (OperationData O T)))) → option_map OfBlock (slice_get (successors_of (option_map (λ o. operation_content o.content.data) s)) i) ≡ option_map (λ o. o.def) (option_map (either OfBlock) (successor_in s i))
       go None = refl
-      go (Some o) = ap (option_map OfBlock) (slice_get-map (λ u. u.def) o.content.data.successors.items i) ∙ named OfBlock (slice_get o.content.data.successors.items i)
+      go (Some o) = ap (option_map OfBlock) (slice_get-map (λ u. u.def) o.content.data.successors i) ∙ named OfBlock (slice_get o.content.data.successors i)
 
   -- where every use is in a use list, what is named is used
   pub val_seen : AreAllUsed x → (u : Site) → val x u ≡ used_at (graph_of m v x) u
@@ -119,6 +120,6 @@ module _ {O B T : Type 0} where
 
   pub head_bare : (x y : Objects O B T) → bare y ≡ bare x → (d : Defined) → IsSome (head_at x d) → IsSome (head_at y d)
   head_bare x y same d s =
-      let was : IsDefined (bare x) d = rw (defined_bare (all_seen x) d) (head_stands 0 0 x d s) in
+      let was : IsDefined (bare x) d = rw (defined_bare (all_seen x) d) (head_stands 0 no_counters x d s) in
       let now : IsDefined (bare y) d = subst (λ g. IsDefined g d) (sym same) was in
-      head_there 0 0 y d (rw (defined_bare (all_seen y) d) at now)
+      head_there 0 no_counters y d (rw (defined_bare (all_seen y) d) at now)

@@ -1,6 +1,7 @@
 -- What the view says of an object is what the arenas hold.
 use Rattle.std.proofs.Common.{◌≡◌, ◌∙◌, ◌++◌, ◌∷◌, ℕ, refl, sym, ap, Option, Some, None, [], map, Result, Ok, Err, OnOk, OnErr}
 use Rattle.std.specs.Option.{option_map}
+use Rattle.irtext_graph.specs.declared.graph.Counters.{Counters}
 use Rattle.irtext_graph.specs.Arena as arena
 use Rattle.irtext_graph.specs.Arena.{KeepsPlaces}
 use Rattle.irtext_graph.specs.declared.arena.Arena.{Arena}
@@ -56,37 +57,37 @@ store_is {P} {C} {D} {E} see a b e = sym (mapped_seen (node_of (λ d. d)) throug
     through n = record { parent = n.parent; children = n.children; content = see n.content }
 
 module _ {O B T : Type 0} where
-  pub up_seen : (m v : ℕ) (x : Objects O B T) (o : Object) → parent (graph_of m v x) o ≡ up x o
+  pub up_seen : (m : ℕ) (v : Counters) (x : Objects O B T) (o : Object) → parent (graph_of m v x) o ≡ up x o
   up_seen m v x (TheOperation p) = ap (option_map TheBlock) (parent_seen operation_content x.operations p)
   up_seen m v x (TheBlock p) = ap (option_map TheRegion) (parent_seen block_content x.blocks p)
   up_seen m v x (TheRegion p) = ap (option_map TheOperation) (parent_seen region_content x.regions p)
 
-  pub kids_seen : (m v : ℕ) (x : Objects O B T) (o : Object) → children (graph_of m v x) o ≡ kids x o
+  pub kids_seen : (m : ℕ) (v : Counters) (x : Objects O B T) (o : Object) → children (graph_of m v x) o ≡ kids x o
   kids_seen m v x (TheOperation p) = ap (map TheRegion) (children_seen operation_content x.operations p)
   kids_seen m v x (TheBlock p) = ap (map TheOperation) (children_seen block_content x.blocks p)
   kids_seen m v x (TheRegion p) = ap (map TheBlock) (children_seen region_content x.regions p)
 
-  pub what_seen : (m v : ℕ) (x : Objects O B T) (o : Object) → content (graph_of m v x) o ≡ what x o
+  pub what_seen : (m : ℕ) (v : Counters) (x : Objects O B T) (o : Object) → content (graph_of m v x) o ≡ what x o
   what_seen m v x (TheOperation p) = content_seen operation_content AnOperation x.operations p
   what_seen m v x (TheBlock p) = content_seen block_content ABlock x.blocks p
   what_seen m v x (TheRegion p) = content_seen region_content ARegion x.regions p
 
-  pub lives_at : (m v : ℕ) (x : Objects O B T) (o : Object) → Stands (graph_of m v x) o → Lives x o
+  pub lives_at : (m : ℕ) (v : Counters) (x : Objects O B T) (o : Object) → Stands (graph_of m v x) o → Lives x o
   lives_at m v x o l = rw (what_seen m v x o) at l
 
-  pub within_seen : (m v : ℕ) (x : Objects O B T) (o q : Object) → Within (up x) o q → IsInside (graph_of m v x) o q
+  pub within_seen : (m : ℕ) (v : Counters) (x : Objects O B T) (o q : Object) → Within (up x) o q → IsInside (graph_of m v x) o q
   within_seen m v x o q w = (w.0, climb-same (up x) (parent (graph_of m v x)) (up_seen m v x) w.0 (Some q) ∙ w.1)
 
-  pub within_at : (m v : ℕ) (x : Objects O B T) (o q : Object) → IsInside (graph_of m v x) o q → Within (up x) o q
+  pub within_at : (m : ℕ) (v : Counters) (x : Objects O B T) (o q : Object) → IsInside (graph_of m v x) o q → Within (up x) o q
   within_at m v x o q w = (w.0, sym (climb-same (up x) (parent (graph_of m v x)) (up_seen m v x) w.0 (Some q)) ∙ w.1)
 
-  pub can_seen : (m v : ℕ) (x : Objects O B T) (k c : Object) → objects.CanInsert x k c → CanInsert (graph_of m v x) k c
+  pub can_seen : (m : ℕ) (v : Counters) (x : Objects O B T) (k c : Object) → objects.CanInsert x k c → CanInsert (graph_of m v x) k c
   can_seen m v x k c a = record { free = up_seen m v x c ∙ a.free; apart = λ w. a.apart (within_at m v x c k w) }
 
-  pub can_at : (m v : ℕ) (x : Objects O B T) (k c : Object) → CanInsert (graph_of m v x) k c → objects.CanInsert x k c
+  pub can_at : (m : ℕ) (v : Counters) (x : Objects O B T) (k c : Object) → CanInsert (graph_of m v x) k c → objects.CanInsert x k c
   can_at m v x k c a = record { free = sym (up_seen m v x c) ∙ a.free; apart = λ w. a.apart (within_seen m v x c k w) }
 
-  pub keeps_seen : (m v : ℕ) (x y : Objects O B T) → ((q : Object) → what y q ≡ what x q) → objects.SamePlaces x y → KeepsObjects (graph_of m v x) (graph_of m v y)
+  pub keeps_seen : (m : ℕ) (v : Counters) (x y : Objects O B T) → ((q : Object) → what y q ≡ what x q) → objects.SamePlaces x y → KeepsObjects (graph_of m v x) (graph_of m v y)
   keeps_seen m v x y w p = record {
     contents = λ q. what_seen m v y q ∙ w q ∙ sym (what_seen m v x q);
     operation_places = places_seen operation_content x.operations y.operations p.operation_places;
@@ -94,9 +95,10 @@ module _ {O B T : Type 0} where
     region_places = places_seen region_content x.regions y.regions p.region_places;
     made = refl;
     values = refl;
+    first_place = refl;
   }
 
-  pub appends_seen : (m v : ℕ) (x y : Objects O B T) (k c : Object) → objects.SamePlaces x y → objects.Appends x y k c → Appends (graph_of m v x) (graph_of m v y) k c
+  pub appends_seen : (m : ℕ) (v : Counters) (x y : Objects O B T) (k c : Object) → objects.SamePlaces x y → objects.Appends x y k c → Appends (graph_of m v x) (graph_of m v y) k c
   appends_seen m v x y k c p a = record {
     here = kids_seen m v y k ∙ a.here ∙ ap (λ xs. xs ++ c ∷ []) (sym (kids_seen m v x k));
     others = λ o ne. kids_seen m v y o ∙ a.others o ne ∙ sym (kids_seen m v x o);
@@ -105,16 +107,16 @@ module _ {O B T : Type 0} where
     objects = keeps_seen m v x y a.whats p;
   }
 
-  pub moved_seen : (m v : ℕ) (x y : Objects O B T) (k c : Object) {E : Type 0} (r : Result (Unit {0}) E) → objects.SamePlaces x y → OnOk r (objects.Appends x y k c) → OnOk r (Appends (graph_of m v x) (graph_of m v y) k c)
+  pub moved_seen : (m : ℕ) (v : Counters) (x y : Objects O B T) (k c : Object) {E : Type 0} (r : Result (Unit {0}) E) → objects.SamePlaces x y → OnOk r (objects.Appends x y k c) → OnOk r (Appends (graph_of m v x) (graph_of m v y) k c)
   moved_seen m v x y k c (Ok u) p a = appends_seen m v x y k c p a
   moved_seen m v x y k c (Err e) p a = a
 
-  pub same_seen : (m v : ℕ) (x y : Objects O B T) → SameNodes x y → graph_of m v y ≡ graph_of m v x
+  pub same_seen : (m : ℕ) (v : Counters) (x y : Objects O B T) → SameNodes x y → graph_of m v y ≡ graph_of m v x
   same_seen m v x y s = rw (store_is operation_content x.operations y.operations s.same_operations, store_is block_content x.blocks y.blocks s.same_blocks, store_is region_content x.regions y.regions s.same_regions) refl
 
-  pub refused_seen : (m v : ℕ) (x y : Objects O B T) {E : Type 0} (r : Result (Unit {0}) E) → OnErr r (SameNodes x y) → OnErr r (graph_of m v y ≡ graph_of m v x)
+  pub refused_seen : (m : ℕ) (v : Counters) (x y : Objects O B T) {E : Type 0} (r : Result (Unit {0}) E) → OnErr r (SameNodes x y) → OnErr r (graph_of m v y ≡ graph_of m v x)
   refused_seen m v x y (Ok u) s = s
   refused_seen m v x y (Err e) s = same_seen m v x y s
 
-  pub lives_seen : (m v : ℕ) (x : Objects O B T) (o : Object) → Lives x o → Stands (graph_of m v x) o
+  pub lives_seen : (m : ℕ) (v : Counters) (x : Objects O B T) (o : Object) → Lives x o → Stands (graph_of m v x) o
   lives_seen m v x o l = rw (what_seen m v x o) l

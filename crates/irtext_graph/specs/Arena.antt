@@ -64,9 +64,9 @@ module _ {X : Type 0} where
   abbrev pub next_index : Arena X → ℕ
   next_index a = unwrap_or (free_place a) (length a.slots.items)
 
-  -- no place counts as far as the greatest `u32`
+  -- no index of a place comes to the greatest `u32`
   abbrev pub HasFew : Arena X → Type 0
-  HasFew a = length a.slots.items ≤ 4294967294
+  HasFew a = length a.slots.items ≤ 4294967295
 
   -- the arena has this under the pointer, and what it had under every other
   pub record Updates {K : Type 0} (old new : Arena X) (p : Ptr K) (x : Option (Entry X)) : Type 0 where

@@ -60,3 +60,4 @@ module _ {O B T : Type 0} where
     pub regions : Returns Region mark old.regions new.regions
     pub made : new.made ≡ old.made
     pub values : new.values ≡ old.values
+    pub first_place : new.first_place ≡ old.first_place

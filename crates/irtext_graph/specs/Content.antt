@@ -45,14 +45,14 @@ typed d = record { of_type = d.of_type; number = d.number }
 abbrev pub operation_content : {O T : Type 0} → OperationData O T → OperationContent O T
 operation_content d = record {
   data_of = d.data;
-  operands = map (λ u. u.def) d.operands.items;
-  successors = map (λ u. u.def) d.successors.items;
-  results = map typed d.results.items;
+  operands = map (λ u. u.def) d.operands;
+  successors = map (λ u. u.def) d.successors;
+  results = map typed d.results;
 }
 
 -- a block without its links
 abbrev pub block_content : {B T : Type 0} → BlockData B T → BlockContent B T
-block_content d = record { data_of = d.data; arguments = map typed d.arguments.items }
+block_content d = record { data_of = d.data; arguments = map typed d.arguments }
 
 -- a region
 abbrev pub region_content : RegionData → RegionContent

@@ -68,6 +68,7 @@ module _ {O B T : Type 0} where
     pub region_places : SamePlaces old.regions new.regions
     pub made : new.made ≡ old.made
     pub values : new.values ≡ old.values
+    pub first_place : new.first_place ≡ old.first_place
 
   -- all inside o is gone, the list of what o stood in closed up, and all else is as it was
   pub record Erases (old new : GraphView O B T) (o : Object) : Type 0 where
@@ -81,6 +82,7 @@ module _ {O B T : Type 0} where
     pub region_generations : (i : ℕ) → generation_at new.regions i ≡ generation_at old.regions i
     pub made : new.made ≡ old.made
     pub values : new.values ≡ old.values
+    pub first_place : new.first_place ≡ old.first_place
 
 module _ {O B T : Type 0} where
   -- each use of d that is in a use list stands in an operation inside o

@@ -4,6 +4,7 @@ use Rattle.std.specs.Option.{option_map}
 use Rattle.std.specs.List.{remove}
 use Rattle.irtext_graph.specs.declared.arena.Ptr.{Ptr}
 use Rattle.irtext_graph.specs.declared.arena.Entry.{Entry}
+use Rattle.irtext_graph.specs.declared.graph.Counters.{Counters}
 use Rattle.irtext_graph.specs.declared.object.Operation.{Operation}
 use Rattle.irtext_graph.specs.declared.object.BasicBlock.{BasicBlock}
 use Rattle.irtext_graph.specs.declared.object.Region.{Region}
@@ -16,10 +17,11 @@ use Rattle.irtext_graph.specs.Objects.{is_older}
 use Rattle.irtext_graph.specs.Store.{Store, store_of, get, generation_at, before, Inserts, count}
 use Rattle.irtext_graph.specs.Content.{Typed, Node, node_of, Content, Content.{AnOperation, ABlock, ARegion}, OperationContent, operation_content, BlockContent, block_content, RegionContent, region_content}
 
--- a graph: how many objects and how many values were made in it, and the objects that stand
+-- a graph: how many objects and how many values were made in it, from which number on its places count, and the objects that stand
 pub record GraphView (O B T : Type 0) : Type 0 where
   pub made : ℕ
   pub values : ℕ
+  pub first_place : ℕ
   pub operations : Store (Node BasicBlock Region (OperationContent O T))
   pub blocks : Store (Node Region Operation (BlockContent B T))
   pub regions : Store (Node Operation BasicBlock RegionContent)
@@ -52,34 +54,44 @@ abbrev pub numbered : {T : Type 0} → ℕ → List T → List (Typed T)
 numbered n [] = []
 numbered n (t ∷ ts) = record { of_type = t; number = n } ∷ numbered (n + 1) ts
 
+-- counters that stand at 0
+abbrev pub no_counters : Counters
+no_counters = record { values = 0; first_place = 0 }
+
 -- an object that stands nowhere and holds none
 abbrev pub fresh : {P C E : Type 0} → E → Node P C E
 fresh content = record { parent = None; children = []; content = content }
 
 module _ {O B T : Type 0} where
-  -- what is seen of these objects, where so many objects and values were made
-  abbrev pub graph_of : ℕ → ℕ → Objects O B T → GraphView O B T
-  graph_of made values x = record {
+  -- what is seen of these objects, where so many objects were made and the counters stand so
+  abbrev pub graph_of : ℕ → Counters → Objects O B T → GraphView O B T
+  graph_of made counters x = record {
     made = made;
-    values = values;
+    values = counters.values;
+    first_place = counters.first_place;
     operations = store_of (node_of operation_content) x.operations;
     blocks = store_of (node_of block_content) x.blocks;
     regions = store_of (node_of region_content) x.regions;
   }
 
-  -- a graph in which nothing was made
-  abbrev pub empty : GraphView O B T
-  empty = record {
+  -- a graph in which nothing was made, whose next value has this number, and whose places count from this one
+  abbrev pub begun : ℕ → ℕ → GraphView O B T
+  begun values places = record {
     made = 0;
-    values = 0;
+    values = values;
+    first_place = places;
     operations = record { cells = []; free = None };
     blocks = record { cells = []; free = None };
     regions = record { cells = []; free = None };
   }
 
+  -- a graph in which nothing was made
+  abbrev pub empty : GraphView O B T
+  empty = begun 0 1
+
   -- what is seen of all objects
   abbrev pub seen : Objects O B T → GraphView O B T
-  seen x = graph_of 0 0 x
+  seen x = graph_of 0 no_counters x
 
   -- what an object stands in
   abbrev pub parent : GraphView O B T → Object → Option Object
@@ -128,6 +140,7 @@ module _ {O B T : Type 0} where
     pub region_places : SamePlaces old.regions new.regions
     pub made : new.made ≡ old.made
     pub values : new.values ≡ old.values
+    pub first_place : new.first_place ≡ old.first_place
 
   -- c came to stand last in k
   pub record Appends (old new : GraphView O B T) (k c : Object) : Type 0 where
@@ -144,6 +157,7 @@ module _ {O B T : Type 0} where
     pub regions : (p : Ptr Region) → before m new.regions p ≡ before m old.regions p
     pub made : old.made ≤ new.made
     pub values : old.values ≤ new.values
+    pub first_place : new.first_place ≡ old.first_place
 
   -- a region came to stand under a new pointer
   pub record MakesRegion (old new : GraphView O B T) (p : Ptr Region) : Type 0 where
@@ -152,6 +166,7 @@ module _ {O B T : Type 0} where
     pub blocks : new.blocks ≡ old.blocks
     pub made : new.made ≡ old.made + 1
     pub values : new.values ≡ old.values
+    pub first_place : new.first_place ≡ old.first_place
 
   -- a block with these arguments came to stand under a new pointer
   pub record MakesBlock (old new : GraphView O B T) (p : Ptr BasicBlock) (value : B) (types : List T) : Type 0 where
@@ -160,6 +175,7 @@ module _ {O B T : Type 0} where
     pub regions : new.regions ≡ old.regions
     pub made : new.made ≡ old.made + 1
     pub values : new.values ≡ old.values + length types
+    pub first_place : new.first_place ≡ old.first_place
 
   -- an operation with these results, which uses these values and blocks, came to stand under a new pointer
   pub record MakesOperation (old new : GraphView O B T) (p : Ptr Operation) (value : O) (types : List T)
@@ -169,6 +185,7 @@ module _ {O B T : Type 0} where
     pub regions : new.regions ≡ old.regions
     pub made : new.made ≡ old.made + 1
     pub values : new.values ≡ old.values + length types
+    pub first_place : new.first_place ≡ old.first_place
 
   -- c stands nowhere now, and the list of what it stood in closed up
   pub record Unlinks (old new : GraphView O B T) (c : Object) : Type 0 where

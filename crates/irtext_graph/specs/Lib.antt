@@ -14,6 +14,9 @@ pub mod Preorder
 pub mod Erasing
 pub mod Lending
 pub mod GraphLends
+pub mod Data
+pub mod Regions
+pub mod DataLends
 pub mod Parts
 pub mod Values
 pub mod Used

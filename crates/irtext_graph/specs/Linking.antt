@@ -29,6 +29,6 @@ pub record IsBlank {O T : Type 0} (n : Nest BasicBlock Region (OperationData O T
   pub parent : n.parent ≡ None
   pub children : n.children.items ≡ []
   pub value_is : n.data.data ≡ value
-  pub operand_uses : n.data.operands.items ≡ map unlinked operands
-  pub successor_uses : n.data.successors.items ≡ map unlinked successors
-  pub results : Defines n.data.results.items types from
+  pub operand_uses : n.data.operands ≡ map unlinked operands
+  pub successor_uses : n.data.successors ≡ map unlinked successors
+  pub results : Defines n.data.results types from

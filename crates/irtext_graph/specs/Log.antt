@@ -1,10 +1,11 @@
 -- The list of what was made.
-use Rattle.std.specs.Prelude.{◌≡◌, ◌<◌, ◌≤◌, ℕ, List, Option, Some, slice_get}
+use Rattle.std.specs.Prelude.{◌≡◌, ◌<◌, ◌≤◌, ℕ, Bool, List, Option, Some, is_some, slice_get}
 use Rattle.irtext_graph.specs.declared.log.Made.{Made}
 use Rattle.irtext_graph.specs.declared.object.Object.{Object}
 use Rattle.irtext_graph.specs.declared.object.Object.TheVariants.{TheOperation, TheBlock, TheRegion}
 use Rattle.irtext_graph.specs.declared.objects.Objects.{Objects}
 use Rattle.irtext_graph.specs.Arena.{get, born_in}
+use Rattle.irtext_graph.specs.Objects.{what}
 
 -- the objects stand in the order of making
 abbrev pub IsByAge : List Made → Type 0
@@ -22,3 +23,7 @@ module _ {O B T : Type 0} where
     pub listed : (o : Object) (b : ℕ) → age x o ≡ Some b → (k : ℕ) × (slice_get log k ≡ Some (record { born = b; object = o }))
     pub by_age : IsByAge log
     pub below : (k : ℕ) (a : Made) → slice_get log k ≡ Some a → a.born < made
+
+  -- whether an object of the list stands
+  abbrev pub stands_in : Objects O B T → Made → Bool
+  stands_in x m = is_some (what x m.object)

@@ -1,14 +1,15 @@
--- The parts of objects as a graph's callers see them: data, operands, successors, results and arguments.
+-- The parts of objects as a graph's callers see them: data, operands, successors, results, arguments, and what stands in them by its kind.
 use Rattle.std.specs.Prelude.{List, [], slice_get, Option, Some, None, IsSome}
 use Rattle.std.specs.Option.{option_map}
 use Rattle.irtext_graph.specs.declared.arena.Ptr.{Ptr}
 use Rattle.irtext_graph.specs.declared.object.Operation.{Operation}
 use Rattle.irtext_graph.specs.declared.object.BasicBlock.{BasicBlock}
+use Rattle.irtext_graph.specs.declared.object.Region.{Region}
 use Rattle.irtext_graph.specs.declared.object.Value.{Value}
 use Rattle.irtext_graph.specs.declared.object.Value.TheVariants.{Result, Argument}
 use Rattle.irtext_graph.specs.Store.{get}
 use Rattle.irtext_graph.specs.Content.{Typed, OperationContent, BlockContent}
-use Rattle.irtext_graph.specs.Graph.{GraphView}
+use Rattle.irtext_graph.specs.Graph.{GraphView, children_of}
 
 module _ {O T : Type 0} where
   -- the values that an operation uses, where there is one
@@ -56,6 +57,18 @@ module _ {O B T : Type 0} where
   -- the arguments of a block, in order
   abbrev pub arguments : GraphView O B T → Ptr BasicBlock → List (Typed T)
   arguments g p = arguments_of (block_at g p)
+
+  -- the regions of an operation, in order
+  abbrev pub regions : GraphView O B T → Ptr Operation → List (Ptr Region)
+  regions g p = children_of (get g.operations p)
+
+  -- the blocks of a region, in order
+  abbrev pub blocks : GraphView O B T → Ptr Region → List (Ptr BasicBlock)
+  blocks g r = children_of (get g.regions r)
+
+  -- the operations of a block, in order
+  abbrev pub operations_in : GraphView O B T → Ptr BasicBlock → List (Ptr Operation)
+  operations_in g b = children_of (get g.blocks b)
 
   -- a value's type and number, where it is there
   abbrev pub value_at : GraphView O B T → Value → Option (Typed T)

@@ -87,6 +87,7 @@ module _ {O B T : Type 0} where
   without_uses g = record {
     made = g.made;
     values = g.values;
+    first_place = g.first_place;
     operations = mapped without_uses_in g.operations;
     blocks = g.blocks;
     regions = g.regions;

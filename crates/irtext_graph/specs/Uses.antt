@@ -80,12 +80,12 @@ module _ {O T : Type 0} where
   -- an operand of an operation that is there
   abbrev pub operand_in : Option (Entry (Nest BasicBlock Region (OperationData O T))) → ℕ → Option (Use Value)
   operand_in None i = None
-  operand_in (Some e) i = slice_get e.content.data.operands.items i
+  operand_in (Some e) i = slice_get e.content.data.operands i
 
   -- a successor of an operation that is there
   abbrev pub successor_in : Option (Entry (Nest BasicBlock Region (OperationData O T))) → ℕ → Option (Use (Ptr BasicBlock))
   successor_in None i = None
-  successor_in (Some e) i = slice_get e.content.data.successors.items i
+  successor_in (Some e) i = slice_get e.content.data.successors i
 
   -- the operations of an arena without links
   abbrev pub operations_seen : Arena (Nest BasicBlock Region (OperationData O T)) → Store (Node BasicBlock Region (OperationContent O T))
@@ -94,13 +94,13 @@ module _ {O T : Type 0} where
   -- a result of an operation that is there
   abbrev pub result_in : Option (Entry (Nest BasicBlock Region (OperationData O T))) → ℕ → Option (Definition T)
   result_in None i = None
-  result_in (Some e) i = slice_get e.content.data.results.items i
+  result_in (Some e) i = slice_get e.content.data.results i
 
 module _ {B T : Type 0} where
   -- an argument of a block that is there
   abbrev pub argument_in : Option (Entry (Nest Region Operation (BlockData B T))) → ℕ → Option (Definition T)
   argument_in None i = None
-  argument_in (Some e) i = slice_get e.content.data.arguments.items i
+  argument_in (Some e) i = slice_get e.content.data.arguments i
 
   -- the blocks of an arena without links
   abbrev pub blocks_seen : Arena (Nest Region Operation (BlockData B T)) → Store (Node Region Operation (BlockContent B T))

@@ -46,9 +46,6 @@ pub(crate) enum Slot<X> {
     Full(u32, Entry<X>),
 }
 
-// how many places there can be, so that each counts below the greatest `u32`
-const MOST_PLACES: usize = 4294967294;
-
 /// The objects of one kind.
 #[derive(Drop)]
 pub(crate) struct Arena<X> {
@@ -91,8 +88,13 @@ impl<X: Drop> Arena<X> {
     }
 
     /// Stores an object. Its place is the one that was given back last, or else the next new one, and its generation the next of
-    /// that place. Memory is refused, or no place is left: then nothing changes.
-    pub(crate) fn insert<K>(&mut self, born: u64, content: X) -> Result<Ptr<K>, AllocError>
+    /// that place. Places count from `first`, each below the greatest `u32`. Memory is refused, or no place is left: then nothing changes.
+    pub(crate) fn insert<K>(
+        &mut self,
+        first: u32,
+        born: u64,
+        content: X,
+    ) -> Result<Ptr<K>, AllocError>
         ensures inserts { IfOk result (λ p. Inserts self.old self.new p (record { born = born; content = content })) }
         ensures few { HasFew self.old → HasFew self.new }
         ensures err { OnErr result (self.new.slots.items ≡ self.old.slots.items) }
@@ -116,7 +118,7 @@ impl<X: Drop> Arena<X> {
             }
         }
         let index = self.slots.len();
-        if index >= MOST_PLACES {
+        if index >= (u32::MAX - first) as usize {
             return Err(AllocError);
         }
         match self.slots.push(Slot::Full(1, object)) {

@@ -213,8 +213,8 @@ impl<O: Drop, B: Drop, T: Drop> Objects<O, B, T> {
         k
     }
 
-    /// Takes an object that stands nowhere, and all that stands in it, out of the arenas. It takes no memory.
-    fn erase_all(&mut self, o: Object)
+    /// Takes an object that stands nowhere, and all that stands in it, out of the arenas, and says how many they were. It takes no memory.
+    fn erase_all(&mut self, o: Object) -> usize
         requires lives { Lives self.old o }
         requires forest { IsForest self.old }
         requires free { up self.old o ≡ None }
@@ -224,16 +224,19 @@ impl<O: Drop, B: Drop, T: Drop> Objects<O, B, T> {
         ensures kept_data { (q : _) → (Within (up self.old) o q → ⊥) → SameDatum self.old self.new q }
         ensures sheds { Sheds self.old self.new }
     {
+        let mut count: usize = 1;
         let mut at = self.innermost(o);
         while !same_object(at, o) {
             let k = self.drop_leaf(at);
             at = self.innermost(k);
+            count = count.wrapping_add(1);
         }
         self.vacate(o);
+        count
     }
 
-    /// Takes an object, and all that stands in it, out of the arenas and of what it stands in.
-    pub(crate) fn erase(&mut self, o: Object)
+    /// Takes an object, and all that stands in it, out of the arenas and of what it stands in, and says how many they were.
+    pub(crate) fn erase(&mut self, o: Object) -> usize
         requires lives { Lives self.old o }
         requires forest { IsForest self.old }
         ensures forest { IsForest self.new }
@@ -246,6 +249,6 @@ impl<O: Drop, B: Drop, T: Drop> Objects<O, B, T> {
         ensures left { (k : _) (i : ℕ) → up self.old o ≡ Some k → slice_get (kids self.old k) i ≡ Some o → kids self.new k ≡ remove (kids self.old k) i }
     {
         self.unlink(o);
-        self.erase_all(o);
+        self.erase_all(o)
     }
 }

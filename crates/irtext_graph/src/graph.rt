@@ -1,18 +1,25 @@
 //! The graph: what its callers can do with it.
-ghost use Rattle.std.specs.Prelude.{◌≡◌, ◌↔◌, Some, IsSome, IfSome, IsTrue, OnOk, OnErr, length, slice_get, ◌<◌, ℕ};
-ghost use Rattle.irtext_graph.specs.Graph.{empty, parent, children, content, Stands, IsInside, CanInsert, Appends, Unlinks, IsNew, KeepsOlder, num_live};
+ghost use Rattle.std.specs.Prelude.{◌≡◌, ◌≤◌, ◌+◌, ◌↔◌, Some, IsSome, IfSome, IsTrue, OnOk, OnErr, length, slice_get, ◌<◌, ℕ};
+ghost use Rattle.irtext_graph.specs.Graph.{empty, begun, parent, children, content, Stands, IsInside, CanInsert, Appends, Unlinks, IsNew, KeepsOlder, num_live};
 ghost use Rattle.irtext_graph.specs.Nested.{Nested};
 ghost use Rattle.irtext_graph.specs.Back.{AllOlder, IsClosedBelow};
 ghost use Rattle.irtext_graph.specs.Objects.{Fits};
 ghost use Rattle.irtext_graph.specs.Erasing.{DropsUses, CanErase, Erases};
 ghost use Rattle.irtext_graph.specs.declared.object.Object.TheVariants.{TheOperation};
 
-use crate::arena::Arena;
-use crate::log::Made;
+use crate::arena::{Arena, Ptr};
+use crate::log::{Made, forget_gone};
 use crate::object::Object;
 use crate::objects::Objects;
 use std::alloc::{AllocError, Global};
 use std::marker::Model;
+
+/// Where a graph's counters stand: the number of its next value, and the number from which its places count.
+#[derive(Clone, Copy, Debug)]
+pub(crate) struct Counters {
+    pub(crate) values: u64,
+    pub(crate) first_place: u32,
+}
 
 /// Operations with data of type O, blocks with data of type B, values with types of type T, and regions: how they nest, and
 /// who uses which value and which block.
@@ -21,8 +28,10 @@ pub struct Graph<O, B, T> {
     pub(crate) objects: Objects<O, B, T>,
     // what was made, in the order of making; objects that are gone may be in it
     pub(crate) log: Vec<Made>,
+    // how many are in it at most that were erased
+    pub(crate) gone: usize,
     pub(crate) made: u64,
-    pub(crate) values: u64,
+    pub(crate) counters: Counters,
     pub(crate) alloc: Global,
 }
 
@@ -32,7 +41,7 @@ impl<O, B, T> Model for Graph<O, B, T> {
 
     ghost Value = { GraphView O B T };
 
-    ghost view = { λ g. graph_of g.made g.values g.objects };
+    ghost view = { λ g. graph_of g.made g.counters g.objects };
 
     ghost invariant = { λ g. IsKept g.made g.log.items g.objects };
 }
@@ -42,6 +51,15 @@ impl<O: Drop, B: Drop, T: Drop> Graph<O, B, T> {
     pub fn new(alloc: Global) -> Graph<O, B, T>
         ensures { result ≡ empty }
     {
+        Graph::with_counters(alloc, 0, 1)
+    }
+
+    /// A graph without objects whose next value has the number `values`, and whose places count from `places`, so that the ends of
+    /// its counters are near: the greatest place is below the greatest `u32`. It takes no memory yet.
+    pub fn with_counters(alloc: Global, values: u64, places: u32) -> Graph<O, B, T>
+        requires { 1 ≤ places }
+        ensures { result ≡ begun values places }
+    {
         Graph {
             objects: Objects {
                 operations: Arena::new(alloc),
@@ -49,8 +67,12 @@ impl<O: Drop, B: Drop, T: Drop> Graph<O, B, T> {
                 regions: Arena::new(alloc),
             },
             log: Vec::new(alloc),
+            gone: 0,
             made: 0,
-            values: 0,
+            counters: Counters {
+                values,
+                first_place: places,
+            },
             alloc,
         }
     }
@@ -62,6 +84,13 @@ impl<O: Drop, B: Drop, T: Drop> Graph<O, B, T> {
         ensures closed { IsClosedBelow result self.now }
     {
         self.made
+    }
+
+    /// The number of a pointer's place, as it is printed.
+    pub fn number_of_place<K>(&self, p: Ptr<K>) -> u64
+        ensures { result ≡ self.now.first_place + p.index }
+    {
+        self.counters.first_place as u64 + p.index as u64
     }
 
     /// How many operations, blocks and regions stand.
@@ -188,7 +217,8 @@ impl<O: Drop, B: Drop, T: Drop> Graph<O, B, T> {
 
     /// Takes an object with all that stands in it out of the graph and of what it stands in. Nothing outside of it may use what it
     /// defines (`CanErase`). Their places are free then, and no generation comes again. It takes no memory, and as long as there are
-    /// objects inside o and uses in them, and children behind o in its parent.
+    /// objects inside o and uses in them, and children behind o in its parent; that they were made is forgotten now and then, so that
+    /// what is kept of objects that are gone is no more than of those that stand.
     pub fn erase(&mut self, o: Object)
         requires stands { Stands self.old o }
         requires can { CanErase self.old o }
@@ -197,6 +227,9 @@ impl<O: Drop, B: Drop, T: Drop> Graph<O, B, T> {
             → ((k : _) → parent self.old o ≡ Some k → IsNew m self.old k) → KeepsOlder m self.old self.new }
     {
         self.objects.drop_all_uses(o);
-        self.objects.erase(o);
+        let count = self.objects.erase(o);
+        let gone = self.gone.saturating_add(count);
+        let left = forget_gone(&mut self.log, &self.objects, gone);
+        self.gone = left;
     }
 }

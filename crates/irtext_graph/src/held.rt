@@ -2,7 +2,8 @@
 ghost use Rattle.std.specs.Prelude.{◌≡◌, ◌<◌, ◌↔◌, Some, None, IfSome, IsTrue, OnOk, OnErr, length, option_map, slice_get};
 ghost use Rattle.std.specs.Borrow.{sem};
 ghost use Rattle.irtext_graph.specs.Objects.{Fits};
-ghost use Rattle.irtext_graph.specs.Graph.{GraphView, Stands, parent, ancestor, children, CanInsert, Appends, Unlinks};
+ghost use Rattle.irtext_graph.specs.Graph.{GraphView, Stands, parent, ancestor, CanInsert, Appends, Unlinks};
+ghost use Rattle.irtext_graph.specs.Parts.{regions, blocks, operations_in};
 ghost use Rattle.irtext_graph.specs.declared.object.Object.TheVariants.{TheOperation, TheBlock, TheRegion};
 
 use crate::arena::Ptr;
@@ -183,7 +184,7 @@ impl Ptr<Operation> {
     /// How many regions stand in the operation.
     pub fn num_regions<C: HasGraph<O, B, T>, O: Drop, B: Drop, T: Drop>(self, ctx: &C) -> usize
         requires { Stands (C.graph ctx.now) (TheOperation self) }
-        ensures { result ≡ length (children (C.graph ctx.now) (TheOperation self)) }
+        ensures { result ≡ length (regions (C.graph ctx.now) self) }
     {
         ctx.graph().num_children(Object::TheOperation(self))
     }
@@ -194,9 +195,8 @@ impl Ptr<Operation> {
         ctx: &C,
         index: usize,
     ) -> Ptr<Region>
-        requires stands { Stands (C.graph ctx.now) (TheOperation self) }
-        requires within { index < length (children (C.graph ctx.now) (TheOperation self)) }
-        ensures { slice_get (children (C.graph ctx.now) (TheOperation self)) index ≡ Some (TheRegion result) }
+        requires { index < length (regions (C.graph ctx.now) self) }
+        ensures { slice_get (regions (C.graph ctx.now) self) index ≡ Some result }
     {
         match ctx.graph().get_child(Object::TheOperation(self), index) {
             Object::TheRegion(child) => child,
@@ -251,7 +251,7 @@ impl Ptr<BasicBlock> {
     /// How many operations stand in the block.
     pub fn num_operations<C: HasGraph<O, B, T>, O: Drop, B: Drop, T: Drop>(self, ctx: &C) -> usize
         requires { Stands (C.graph ctx.now) (TheBlock self) }
-        ensures { result ≡ length (children (C.graph ctx.now) (TheBlock self)) }
+        ensures { result ≡ length (operations_in (C.graph ctx.now) self) }
     {
         ctx.graph().num_children(Object::TheBlock(self))
     }
@@ -262,9 +262,8 @@ impl Ptr<BasicBlock> {
         ctx: &C,
         index: usize,
     ) -> Ptr<Operation>
-        requires stands { Stands (C.graph ctx.now) (TheBlock self) }
-        requires within { index < length (children (C.graph ctx.now) (TheBlock self)) }
-        ensures { slice_get (children (C.graph ctx.now) (TheBlock self)) index ≡ Some (TheOperation result) }
+        requires { index < length (operations_in (C.graph ctx.now) self) }
+        ensures { slice_get (operations_in (C.graph ctx.now) self) index ≡ Some result }
     {
         match ctx.graph().get_child(Object::TheBlock(self), index) {
             Object::TheOperation(child) => child,
@@ -319,7 +318,7 @@ impl Ptr<Region> {
     /// How many blocks stand in the region.
     pub fn num_blocks<C: HasGraph<O, B, T>, O: Drop, B: Drop, T: Drop>(self, ctx: &C) -> usize
         requires { Stands (C.graph ctx.now) (TheRegion self) }
-        ensures { result ≡ length (children (C.graph ctx.now) (TheRegion self)) }
+        ensures { result ≡ length (blocks (C.graph ctx.now) self) }
     {
         ctx.graph().num_children(Object::TheRegion(self))
     }
@@ -330,9 +329,8 @@ impl Ptr<Region> {
         ctx: &C,
         index: usize,
     ) -> Ptr<BasicBlock>
-        requires stands { Stands (C.graph ctx.now) (TheRegion self) }
-        requires within { index < length (children (C.graph ctx.now) (TheRegion self)) }
-        ensures { slice_get (children (C.graph ctx.now) (TheRegion self)) index ≡ Some (TheBlock result) }
+        requires { index < length (blocks (C.graph ctx.now) self) }
+        ensures { slice_get (blocks (C.graph ctx.now) self) index ≡ Some result }
     {
         match ctx.graph().get_child(Object::TheRegion(self), index) {
             Object::TheBlock(child) => child,

@@ -5,6 +5,7 @@ ghost use Rattle.irtext_graph.specs.Linking.{unlinked, site_of};
 use crate::arena::Ptr;
 use crate::object::{Operation, Site};
 use crate::objects::{Links, Objects, Use};
+use irtext_few::Few;
 use std::alloc::{AllocError, Global};
 
 /// The operands of an operation, or its successors.
@@ -24,23 +25,44 @@ fn site_at(side: Side, p: Ptr<Operation>, i: usize) -> Site
     }
 }
 
-/// Uses of these, in no use list.
-pub(crate) fn unlinked_uses<D: Copy + Drop>(
-    alloc: Global,
-    defs: &[D],
-) -> Result<Vec<Use<D>>, AllocError>
+/// A use of this, in no use list.
+fn unlinked_use<D>(def: D) -> Use<D>
+    ensures { result ≡ unlinked def }
+{
+    Use {
+        def,
+        links: Links {
+            linked: false,
+            prev: None,
+            next: None,
+        },
+    }
+}
+
+/// Uses of these, in no use list, in a vector.
+fn many_unlinked_uses<D: Copy + Drop>(alloc: Global, defs: &[D]) -> Result<Vec<Use<D>>, AllocError>
     ensures { IfOk result (λ uses. uses.items ≡ map unlinked defs.now) }
 {
     let mut uses = Vec::with_capacity(alloc, defs.len())?;
     for def in defs {
-        let links = Links {
-            linked: false,
-            prev: None,
-            next: None,
-        };
-        uses.push(Use { def: *def, links })?;
+        uses.push(unlinked_use(*def))?;
     }
     Ok(uses)
+}
+
+/// Uses of these, in no use list. It takes no memory for up to two.
+pub(crate) fn unlinked_uses<D: Copy + Drop>(
+    alloc: Global,
+    defs: &[D],
+) -> Result<Few<Use<D>>, AllocError>
+    ensures { IfOk result (λ uses. uses ≡ map unlinked defs.now) }
+{
+    match defs {
+        [] => Ok(Few::none()),
+        [def] => Ok(Few::one(unlinked_use(*def))),
+        [first, second] => Ok(Few::two(unlinked_use(*first), unlinked_use(*second))),
+        _ => Ok(Few::from_vec(many_unlinked_uses(alloc, defs)?)),
+    }
 }
 
 impl<O: Drop, B: Drop, T: Drop> Objects<O, B, T> {

@@ -1,9 +1,10 @@
 //! The list of what was made: each object with its age, in the order of making.
-ghost use Rattle.std.specs.Prelude.{◌≡◌, ◌<◌, ◌≤◌, ◌++◌, ◌∷◌, ℕ, Some, [], OnOk, length, slice_get};
+ghost use Rattle.std.specs.Prelude.{◌≡◌, ◌<◌, ◌≤◌, ◌++◌, ◌∷◌, ℕ, Some, [], OnOk, filter, length, slice_get};
 ghost use Rattle.std.specs.Vec.{vec_len, vec_capacity};
-ghost use Rattle.irtext_graph.specs.Log.{IsByAge};
+ghost use Rattle.irtext_graph.specs.Log.{IsByAge, IsLogged, stands_in};
 
 use crate::object::Object;
+use crate::objects::Objects;
 use std::alloc::AllocError;
 
 /// An object that was made, and how many objects were made before it.
@@ -55,4 +56,26 @@ pub(crate) fn object_at(log: &[Made], index: usize) -> Object
     ensures { (a : _) → slice_get log.now index ≡ Some a → a.object ≡ result }
 {
     log[index].object
+}
+
+/// Takes what is gone out of a list, in place and in its order.
+fn compact<O: Drop, B: Drop, T: Drop>(log: &mut Vec<Made>, objects: &Objects<O, B, T>)
+    ensures { log.new.items ≡ filter (stands_in objects.now) log.old.items }
+{
+    log.retain(|made| objects.contains(made.object));
+}
+
+/// Takes what is gone out of a list where it is more than half of it, and says how many in it are gone at most.
+pub(crate) fn forget_gone<O: Drop, B: Drop, T: Drop>(
+    log: &mut Vec<Made>,
+    objects: &Objects<O, B, T>,
+    gone: usize,
+) -> usize
+    ensures { (made : ℕ) → IsLogged made log.old.items objects.now → IsLogged made log.new.items objects.now }
+{
+    if gone <= log.len() / 2 {
+        return gone;
+    }
+    compact(log, objects);
+    0
 }

@@ -12,10 +12,22 @@ use crate::log::{make_room, note};
 use crate::nest::Nest;
 use crate::object::{BasicBlock, Object, Operation, Region, Value};
 use crate::objects::{BlockData, Definition, OperationData, RegionData};
+use irtext_few::{Few, Items};
 use std::alloc::{AllocError, Global};
 
-/// Values with these types, numbered from a number on, which nothing uses.
-fn definitions<T: Drop>(
+/// A value with this type and this number, which nothing uses.
+fn definition<T>(of_type: T, number: u64) -> Definition<T>
+    ensures { result ≡ record { of_type = of_type; number = number; first = None } }
+{
+    Definition {
+        of_type,
+        number,
+        first: None,
+    }
+}
+
+/// Values with these types, numbered from a number on, which nothing uses, in a vector.
+fn many_definitions<T: Drop>(
     alloc: Global,
     types: Vec<T>,
     from: u64,
@@ -36,19 +48,39 @@ fn definitions<T: Drop>(
     Ok(defined)
 }
 
+/// Values with these types, numbered from a number on, which nothing uses. It takes no memory for up to two.
+fn definitions<T: Drop>(
+    alloc: Global,
+    types: Few<T>,
+    from: u64,
+) -> Result<Few<Definition<T>>, AllocError>
+    requires { from + length types ≤ 18446744073709551615 }
+    ensures { IfOk result (λ ds. Defines ds types from) }
+{
+    match types.into_items() {
+        Items::Nothing => Ok(Few::none()),
+        Items::One(only) => Ok(Few::one(definition(only, from))),
+        Items::Two(first, second) => Ok(Few::two(
+            definition(first, from),
+            definition(second, from + 1),
+        )),
+        Items::Many(types) => Ok(Few::from_vec(many_definitions(alloc, types, from)?)),
+    }
+}
+
 /// An operation with this data that stands nowhere, holds no region, and names these values and these blocks without being in
 /// their use lists, with results of these types, numbered from a number on, which nothing uses. It takes all memory that the
-/// operation needs, and none for an empty list.
+/// operation needs, and none for a list of up to two.
 fn blank_operation<O: Drop, T: Drop>(
     alloc: Global,
     value: O,
-    types: Vec<T>,
+    types: Few<T>,
     from: u64,
     operands: &[Value],
     successors: &[Ptr<BasicBlock>],
 ) -> Result<Nest<BasicBlock, Region, OperationData<O, T>>, AllocError>
-    requires { from + length types.items ≤ 18446744073709551615 }
-    ensures { IfOk result (λ n. IsBlank n value types.items from operands.now successors.now) }
+    requires { from + length types ≤ 18446744073709551615 }
+    ensures { IfOk result (λ n. IsBlank n value types from operands.now successors.now) }
 {
     let results = definitions(alloc, types, from)?;
     let operands = unlinked_uses(alloc, operands)?;
@@ -89,7 +121,10 @@ impl<O: Drop, B: Drop, T: Drop> Graph<O, B, T> {
             data: RegionData {},
         };
         make_room(&mut self.log)?;
-        let p = self.objects.regions.insert(made, region)?;
+        let p = self
+            .objects
+            .regions
+            .insert(self.counters.first_place, made, region)?;
         note(&mut self.log, made, Object::TheRegion(p));
         self.made = made + 1;
         Ok(p)
@@ -97,13 +132,13 @@ impl<O: Drop, B: Drop, T: Drop> Graph<O, B, T> {
 
     /// Makes a block with this data that stands nowhere and holds no operation, with arguments of these types, which draw the next numbers of
     /// values. Where memory is refused, or a counter is full, nothing changes.
-    pub fn make_block(&mut self, value: B, types: Vec<T>) -> Result<Ptr<BasicBlock>, AllocError>
-        ensures made { IfOk result (λ p. MakesBlock self.old self.new p value types.items) }
+    pub fn make_block(&mut self, value: B, types: Few<T>) -> Result<Ptr<BasicBlock>, AllocError>
+        ensures made { IfOk result (λ p. MakesBlock self.old self.new p value types) }
         ensures err { OnErr result (self.new ≡ self.old) }
         ensures kept { (m : ℕ) → m ≤ self.old.made → KeepsOlder m self.old self.new }
     {
         let made = self.made;
-        let values = self.values;
+        let values = self.counters.values;
         let Some(next) = values.checked_add(types.len() as u64) else {
             return Err(AllocError);
         };
@@ -122,10 +157,13 @@ impl<O: Drop, B: Drop, T: Drop> Graph<O, B, T> {
             },
         };
         make_room(&mut self.log)?;
-        let p = self.objects.blocks.insert(made, block)?;
+        let p = self
+            .objects
+            .blocks
+            .insert(self.counters.first_place, made, block)?;
         note(&mut self.log, made, Object::TheBlock(p));
         self.made = made + 1;
-        self.values = next;
+        self.counters.values = next;
         Ok(p)
     }
 
@@ -134,18 +172,18 @@ impl<O: Drop, B: Drop, T: Drop> Graph<O, B, T> {
     pub fn make_operation(
         &mut self,
         value: O,
-        types: Vec<T>,
+        types: Few<T>,
         operands: &[Value],
         successors: &[Ptr<BasicBlock>],
     ) -> Result<Ptr<Operation>, AllocError>
         requires operands { (i : ℕ) (v : Value) → slice_get operands.now i ≡ Some v → ValueStands self.old v }
         requires successors { (i : ℕ) (b : Ptr BasicBlock) → slice_get successors.now i ≡ Some b → Stands self.old (TheBlock b) }
-        ensures made { IfOk result (λ p. MakesOperation self.old self.new p value types.items operands.now successors.now) }
+        ensures made { IfOk result (λ p. MakesOperation self.old self.new p value types operands.now successors.now) }
         ensures err { OnErr result (self.new ≡ self.old) }
         ensures kept { (m : ℕ) → m ≤ self.old.made → KeepsOlder m self.old self.new }
     {
         let made = self.made;
-        let values = self.values;
+        let values = self.counters.values;
         let Some(next) = values.checked_add(types.len() as u64) else {
             return Err(AllocError);
         };
@@ -154,13 +192,16 @@ impl<O: Drop, B: Drop, T: Drop> Graph<O, B, T> {
         }
         let blank = blank_operation(self.alloc, value, types, values, operands, successors)?;
         make_room(&mut self.log)?;
-        let p = self.objects.operations.insert(made, blank)?;
+        let p = self
+            .objects
+            .operations
+            .insert(self.counters.first_place, made, blank)?;
         note(&mut self.log, made, Object::TheOperation(p));
         self.objects.attach_all(Side::Operands, p, operands.len());
         self.objects
             .attach_all(Side::Successors, p, successors.len());
         self.made = made + 1;
-        self.values = next;
+        self.counters.values = next;
         Ok(p)
     }
 }

@@ -4,6 +4,7 @@ ghost use Rattle.std.specs.Prelude.{◌≡◌, ◌≢◌, ◌<◌, ◌≤◌, �
 use crate::arena::{Arena, Ptr};
 use crate::nest::Nest;
 use crate::object::{BasicBlock, Object, Operation, Region, Site, Value};
+use irtext_few::Few;
 use std::alloc::AllocError;
 
 /// Where a use stands in a use list: whether it is in it, and the uses before and behind it there.
@@ -33,16 +34,16 @@ pub(crate) struct Definition<T> {
 #[derive(Drop)]
 pub(crate) struct OperationData<O, T> {
     pub(crate) data: O,
-    pub(crate) operands: Vec<Use<Value>>,
-    pub(crate) successors: Vec<Use<Ptr<BasicBlock>>>,
-    pub(crate) results: Vec<Definition<T>>,
+    pub(crate) operands: Few<Use<Value>>,
+    pub(crate) successors: Few<Use<Ptr<BasicBlock>>>,
+    pub(crate) results: Few<Definition<T>>,
 }
 
 /// What there is of a block beside its place in the forest.
 #[derive(Drop)]
 pub(crate) struct BlockData<B, T> {
     pub(crate) data: B,
-    pub(crate) arguments: Vec<Definition<T>>,
+    pub(crate) arguments: Few<Definition<T>>,
     pub(crate) preds: Option<Site>,
 }
 

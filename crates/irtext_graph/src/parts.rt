@@ -1,7 +1,8 @@
-//! What is seen of one object: its data, its operands, successors, results and arguments.
+//! What is seen of one object: its data, also for writing, its operands, successors, results and arguments.
 ghost use Rattle.std.specs.Prelude.{◌≡◌, ◌↔◌, ◌<◌, ℕ, Some, IsSome, IsTrue, length, slice_get, option_map};
 ghost use Rattle.irtext_graph.specs.declared.object.Object.TheVariants.{TheOperation, TheBlock};
 ghost use Rattle.irtext_graph.specs.Graph.{Stands};
+ghost use Rattle.std.specs.Borrow.{sem};
 ghost use Rattle.irtext_graph.specs.Parts.{operation_at, block_at, operands, successors, results, arguments, value_at, ValueStands};
 
 use crate::arena::Ptr;
@@ -44,6 +45,7 @@ impl<O: Drop, B: Drop, T: Drop> Graph<O, B, T> {
     ghost use Rattle.irtext_graph.specs.declared.arena.Ptr.{Ptr};
     ghost use Rattle.irtext_graph.specs.declared.object.BasicBlock.{BasicBlock};
     ghost use Rattle.irtext_graph.specs.declared.object.Value.{Value};
+    ghost use Rattle.irtext_graph.specs.DataLends.{LendsOperation, LendsBlock};
 
     /// How many values an operation defines.
     pub fn num_results(&self, op: Ptr<Operation>) -> usize
@@ -156,5 +158,23 @@ impl<O: Drop, B: Drop, T: Drop> Graph<O, B, T> {
         ensures { option_map (λ c. c.data_of) (block_at self.now block) ≡ Some result.now }
     {
         &self.objects.blocks.content(block).data.data
+    }
+
+    /// The data of an operation, for writing. All else of the graph stays as it is.
+    pub fn operation_mut(&mut self, op: Ptr<Operation>) -> &mut O
+        requires { Stands self.old (TheOperation op) }
+        ensures* lends { sem 𝓛 (LendsOperation O.row B.row T.row self.entry op result) }
+        ensures value { option_map (λ c. c.data_of) (operation_at self.old op) ≡ Some result.now }
+    {
+        &mut self.objects.operations.content_mut(op).data.data
+    }
+
+    /// The data of a block, for writing. All else of the graph stays as it is.
+    pub fn block_mut(&mut self, block: Ptr<BasicBlock>) -> &mut B
+        requires { Stands self.old (TheBlock block) }
+        ensures* lends { sem 𝓛 (LendsBlock O.row B.row T.row self.entry block result) }
+        ensures value { option_map (λ c. c.data_of) (block_at self.old block) ≡ Some result.now }
+    {
+        &mut self.objects.blocks.content_mut(block).data.data
     }
 }

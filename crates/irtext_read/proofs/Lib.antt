@@ -4,6 +4,7 @@ pub mod Numbers
 pub mod Words
 pub mod Sparing
 pub mod Spelling
+pub mod Exits
 pub mod Steps
 pub mod SetBack
 pub mod Numerals

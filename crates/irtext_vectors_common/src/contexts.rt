@@ -1,14 +1,11 @@
 //! Contexts of the demo types, lent to a call: nothing else owns one here, so that a test has one call and no context.
-ghost use Rattle.std.specs.Prelude.{◌≡◌, IfOk};
-
-use irtext_base::base::Identifier;
 use irtext_base::location::Source;
 use irtext_base::parsable::TextStream;
-use irtext_base::result::Result as Answer;
 use irtext_context::base::Context;
 use irtext_state::parsable::{State, StateStream};
 use irtext_types::dialects::register_demo;
 use irtext_types::{DemoAttr, DemoType};
+pub use irtext_vectors_answers::answers::named;
 use std::alloc::Global;
 use std::test::Fail;
 
@@ -17,17 +14,6 @@ pub type Ctx = Context<DemoType, DemoAttr>;
 
 /// A stream with its state.
 pub type Stream<'c> = StateStream<'c, DemoType, DemoAttr, ()>;
-
-/// The identifier of a text that is one.
-pub fn named(alloc: Global, text: &str) -> Result<Identifier, Fail>
-    ensures { IfOk result (λ name. name ≡ text.now) }
-{
-    let name: Answer<Identifier, DemoAttr> = Identifier::try_new(alloc, text);
-    match name {
-        Ok(name) => Ok(name),
-        Err(_) => Err(Fail::from("no identifier")),
-    }
-}
 
 /// What a call answers that is lent an empty context.
 pub fn with_context<X, F: FnOnce(Global, &mut Ctx) -> Result<X, Fail> + Drop>(
@@ -63,6 +49,18 @@ fn registered<X, F: FnOnce(Global, &mut Ctx) -> Result<X, Fail> + Drop>(
         Ok(()) => call(alloc, ctx),
         Err(_) => Err(Fail::from("not registered")),
     }
+}
+
+/// What a call answers that is lent two empty contexts.
+pub fn with_contexts<X, F: FnOnce(Global, &mut Ctx, &mut Ctx) -> Result<X, Fail> + Drop>(
+    alloc: Global,
+    call: F,
+) -> Result<X, Fail>
+    requires { F.IsAlwaysCallable call }
+{
+    let mut ctx: Ctx = Context::new(alloc);
+    let mut other: Ctx = Context::new(alloc);
+    call(alloc, &mut ctx, &mut other)
 }
 
 /// What is said of a text that is read with a context of its own.

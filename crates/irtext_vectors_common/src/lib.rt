@@ -1,9 +1,8 @@
-//! What the crates of tests share: contexts of the demo types, streams over them, what an answer says as a text, tables of such
-//! texts, formats, and locations nested deep.
+//! What the tests with contexts share: contexts of the demo types, streams over them, and tables of what is said of one; and, by the
+//! same paths, what the other tests share.
 #![tactic(auto)]
 
-pub mod answers;
 pub mod contexts;
-pub mod formats;
-pub mod nesting;
 pub mod tables;
+
+pub use irtext_vectors_answers::{answers, formats, nesting};

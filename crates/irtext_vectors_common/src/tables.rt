@@ -1,27 +1,12 @@
-//! Tables of what is said, line by line, of one value that the lines may change.
+//! Tables of what is said, line by line, of one context that the lines may change.
 use crate::contexts::Ctx;
 use irtext_context::base::Context;
+pub use irtext_vectors_answers::tables::differing;
 use std::alloc::Global;
 use std::test::Fail;
 
-/// The number of the first line of a table of which something else is said, with one value for all lines.
-pub fn differing<X, F: Fn(Global, &mut X, usize) -> Result<String, Fail>>(
-    alloc: Global,
-    wanted: &[&str],
-    on: &mut X,
-    said: F,
-) -> Result<Option<usize>, Fail>
-    requires { F.IsAlwaysCallable said }
-{
-    for (number, wanted) in wanted.iter().enumerate() {
-        if said(alloc, on, number)?.as_str() != *wanted {
-            return Ok(Some(number));
-        }
-    }
-    Ok(None)
-}
-
-/// The same with an empty context of its own.
+/// The number of the first line of a table of which something else is said, with an empty context for all
+/// lines.
 pub fn differing_alone<F: Fn(Global, &mut Ctx, usize) -> Result<String, Fail>>(
     alloc: Global,
     wanted: &[&str],

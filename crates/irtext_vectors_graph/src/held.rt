@@ -1,11 +1,12 @@
 //! The calls on pointers, over something that holds a graph beside other things.
 ghost use Rattle.std.specs.Prelude.{refl};
 
+use irtext_few::Few;
 use irtext_graph::arena::Ptr;
 use irtext_graph::graph::Graph;
 use irtext_graph::held::HasGraph;
 use irtext_graph::object::{BasicBlock, Object, Operation, Region};
-use std::alloc::{AllocError, Global};
+use std::alloc::AllocError;
 use std::test::Fail;
 
 /// A graph with a number beside it.
@@ -156,12 +157,12 @@ fn comes_apart(holder: &mut Holder, chain: Chain) -> bool {
 }
 
 /// Makes a chain, looks at it from both ends, and takes it apart.
-fn goes_round(holder: &mut Holder, alloc: Global) -> Result<bool, AllocError> {
+fn goes_round(holder: &mut Holder) -> Result<bool, AllocError> {
     let chain = Chain {
-        op: holder.graph.make_operation(1, Vec::new(alloc), &[], &[])?,
+        op: holder.graph.make_operation(1, Few::none(), &[], &[])?,
         region: holder.graph.make_region()?,
-        block: holder.graph.make_block(2, Vec::new(alloc))?,
-        inner: holder.graph.make_operation(3, Vec::new(alloc), &[], &[])?,
+        block: holder.graph.make_block(2, Few::none())?,
+        inner: holder.graph.make_operation(3, Few::none(), &[], &[])?,
     };
     let put = put_region(holder, chain)?
         && put_block(holder, chain)?
@@ -178,7 +179,7 @@ fn each_call_on_pointers_once(rt: HostRuntime) -> Result<(), Fail> {
         graph: Graph::new(alloc),
         number: 7,
     };
-    let done = goes_round(&mut holder, alloc).ok() == Some(true);
+    let done = goes_round(&mut holder).ok() == Some(true);
     assert!(rt; done);
     Ok(())
 }

@@ -1,14 +1,28 @@
-//! Worked rows of the graph: each call once, which places objects take, what is given back, a chain that is nested deep, and a
-//! value that is used often.
+//! Worked rows of the graph: each call once, which places objects take, full counters, what is given back, uses that go in every
+//! order, a chain that is nested deep, and a value that is used often; and a random script beside a plain model.
 #![tactic(auto)]
 
 #[cfg(test)]
 mod back;
 #[cfg(test)]
+mod compared;
+#[cfg(test)]
+mod counters;
+#[cfg(test)]
 mod held;
+#[cfg(test)]
+mod model;
 #[cfg(test)]
 mod nesting;
 #[cfg(test)]
+mod orders;
+#[cfg(test)]
 mod parts;
+#[cfg(test)]
+mod places;
+#[cfg(test)]
+mod random;
+#[cfg(test)]
+mod script;
 #[cfg(test)]
 mod using;

@@ -1,13 +1,14 @@
 //! What can be put where, and what is seen of it.
 ghost use Rattle.irtext_graph.specs.Objects.{Fits};
 
+use irtext_few::Few;
 use irtext_graph::graph::Graph;
 use irtext_graph::object::Object;
-use std::alloc::{AllocError, Global};
+use std::alloc::AllocError;
 use std::test::Fail;
 
 /// Puts c last into k where that can be done, and says whether it could.
-fn put(graph: &mut Graph<u32, u32, u8>, k: Object, c: Object) -> Result<bool, AllocError>
+pub(crate) fn put(graph: &mut Graph<u32, u32, u8>, k: Object, c: Object) -> Result<bool, AllocError>
     requires { Fits k c }
 {
     if !graph.contains(k) || !graph.contains(c) {
@@ -21,7 +22,7 @@ fn put(graph: &mut Graph<u32, u32, u8>, k: Object, c: Object) -> Result<bool, Al
 }
 
 /// Whether c stands directly in k, at an index.
-fn stands_at(graph: &Graph<u32, u32, u8>, k: Object, c: Object, index: usize) -> bool {
+pub(crate) fn stands_at(graph: &Graph<u32, u32, u8>, k: Object, c: Object, index: usize) -> bool {
     if !graph.contains(k) || !graph.contains(c) {
         return false;
     }
@@ -32,7 +33,7 @@ fn stands_at(graph: &Graph<u32, u32, u8>, k: Object, c: Object, index: usize) ->
 }
 
 /// Takes an object out with all that stands in it, where nothing outside uses what it defines, and says whether it could.
-fn erased(graph: &mut Graph<u32, u32, u8>, o: Object) -> bool {
+pub(crate) fn erased(graph: &mut Graph<u32, u32, u8>, o: Object) -> bool {
     if !graph.contains(o) {
         return false;
     }
@@ -45,12 +46,12 @@ fn erased(graph: &mut Graph<u32, u32, u8>, o: Object) -> bool {
 }
 
 /// An operation that holds a region that holds a block that holds two operations, of which the first is taken out again.
-fn nests(graph: &mut Graph<u32, u32, u8>, alloc: Global) -> Result<bool, AllocError> {
-    let outer = graph.make_operation(1, Vec::new(alloc), &[], &[])?;
+fn nests(graph: &mut Graph<u32, u32, u8>) -> Result<bool, AllocError> {
+    let outer = graph.make_operation(1, Few::none(), &[], &[])?;
     let region = graph.make_region()?;
-    let block = graph.make_block(2, Vec::new(alloc))?;
-    let first = graph.make_operation(3, Vec::new(alloc), &[], &[])?;
-    let second = graph.make_operation(4, Vec::new(alloc), &[], &[])?;
+    let block = graph.make_block(2, Few::none())?;
+    let first = graph.make_operation(3, Few::none(), &[], &[])?;
+    let second = graph.make_operation(4, Few::none(), &[], &[])?;
     let module = Object::TheOperation(outer);
     let inner = Object::TheOperation(first);
     let last = Object::TheOperation(second);
@@ -77,39 +78,59 @@ fn nests(graph: &mut Graph<u32, u32, u8>, alloc: Global) -> Result<bool, AllocEr
     Ok(all && listed && deep && closed && counted && places && gone && left)
 }
 
-/// A chain of operations, regions and blocks, each in the next; the inner ones are made first. It goes with its outermost one.
-fn nests_deep(
-    graph: &mut Graph<u32, u32, u8>,
-    alloc: Global,
-    depth: usize,
-) -> Result<bool, AllocError> {
-    let mut inner = Object::TheOperation(graph.make_operation(0, Vec::new(alloc), &[], &[])?);
-    let mut all = true;
+/// The outermost operation of a chain, and the innermost one.
+#[derive(Clone, Copy)]
+struct Ends {
+    outer: Object,
+    inner: Object,
+}
+
+/// A chain of operations, regions and blocks, each in the next; the inner ones are made first.
+fn chain(graph: &mut Graph<u32, u32, u8>, depth: usize) -> Result<Option<Ends>, AllocError> {
+    let inner = Object::TheOperation(graph.make_operation(0, Few::none(), &[], &[])?);
+    let mut last = inner;
     for _ in 0..depth {
-        let block = Object::TheBlock(graph.make_block(0, Vec::new(alloc))?);
+        let block = Object::TheBlock(graph.make_block(0, Few::none())?);
         let region = Object::TheRegion(graph.make_region()?);
-        let outer = Object::TheOperation(graph.make_operation(0, Vec::new(alloc), &[], &[])?);
-        if let Object::TheOperation(p) = inner {
-            let one = put(graph, block, Object::TheOperation(p))?;
-            let two = put(graph, region, block)?;
-            let three = put(graph, outer, region)?;
-            all = all && one && two && three;
+        let outer = Object::TheOperation(graph.make_operation(0, Few::none(), &[], &[])?);
+        let Object::TheOperation(p) = last else {
+            return Ok(None);
+        };
+        let one = put(graph, block, Object::TheOperation(p))?;
+        let two = put(graph, region, block)?;
+        if !one || !two || !put(graph, outer, region)? {
+            return Ok(None);
         }
-        inner = outer;
+        last = outer;
     }
-    Ok(all && graph.num_live() == graph.made() && erased(graph, inner))
+    let outer = last;
+    Ok(Some(Ends { outer, inner }))
+}
+
+/// Whether the innermost stands in the outermost, which can go.
+fn is_chained(graph: &Graph<u32, u32, u8>, ends: Ends) -> bool {
+    let Ends { outer, inner } = ends;
+    if !graph.contains(outer) || !graph.contains(inner) {
+        return false;
+    }
+    graph.is_inside(outer, inner) && !graph.is_inside(inner, outer) && graph.can_erase(outer)
+}
+
+/// A chain that goes with its outermost operation.
+fn nests_deep(graph: &mut Graph<u32, u32, u8>, depth: usize) -> Result<bool, AllocError> {
+    let Some(ends) = chain(graph, depth)? else {
+        return Ok(false);
+    };
+    let chained = is_chained(graph, ends) && graph.num_live() == graph.made();
+    Ok(chained && erased(graph, ends.outer))
 }
 
 /// A block with so many operations, which goes with them.
-fn holds_many(
-    graph: &mut Graph<u32, u32, u8>,
-    alloc: Global,
-    count: usize,
-) -> Result<bool, AllocError> {
-    let block = Object::TheBlock(graph.make_block(0, Vec::new(alloc))?);
+fn holds_many(graph: &mut Graph<u32, u32, u8>, count: usize) -> Result<bool, AllocError> {
+    let block = Object::TheBlock(graph.make_block(0, Few::none())?);
     let mut all = true;
     for _ in 0..count {
-        let p = graph.make_operation(0, Vec::new(alloc), &[], &[])?;
+        let p = graph.make_operation(0, Few::none(), &[], &[])?;
         all = put(graph, block, Object::TheOperation(p))? && all;
     }
     Ok(all && erased(graph, block) && graph.num_live() == 0)
@@ -119,7 +140,7 @@ fn holds_many(
 fn each_call_once(rt: HostRuntime) -> Result<(), Fail> {
     let alloc = rt.alloc();
     let mut graph = Graph::new(alloc);
-    let done = nests(&mut graph, alloc).ok() == Some(true);
+    let done = nests(&mut graph).ok() == Some(true);
     assert!(rt; done);
     Ok(())
 }
@@ -128,9 +149,12 @@ fn each_call_once(rt: HostRuntime) -> Result<(), Fail> {
 fn a_million_levels(rt: HostRuntime) -> Result<(), Fail> {
     let alloc = rt.alloc();
     let mut graph = Graph::new(alloc);
-    let done = nests_deep(&mut graph, alloc, 333334).ok() == Some(true);
+    let done = nests_deep(&mut graph, 333334).ok() == Some(true);
     assert!(rt; done);
     assert!(rt; graph.made() == 1000003 && graph.num_live() == 0);
+    // and another, which is released as it stands
+    let left = chain(&mut graph, 333334)?;
+    assert!(rt; left.is_some());
     Ok(())
 }
 
@@ -138,7 +162,7 @@ fn a_million_levels(rt: HostRuntime) -> Result<(), Fail> {
 fn a_hundred_thousand_in_one_block(rt: HostRuntime) -> Result<(), Fail> {
     let alloc = rt.alloc();
     let mut graph = Graph::new(alloc);
-    let done = holds_many(&mut graph, alloc, 100000).ok() == Some(true);
+    let done = holds_many(&mut graph, 100000).ok() == Some(true);
     assert!(rt; done);
     Ok(())
 }

@@ -1,4 +1,6 @@
 //! Who uses what, and how another takes its place.
+use crate::nesting::erased;
+use irtext_few::Few;
 use irtext_graph::arena::Ptr;
 use irtext_graph::graph::Graph;
 use irtext_graph::object::{BasicBlock, Defined, Object, Operation, Site, Value};
@@ -8,28 +10,24 @@ use std::test::Fail;
 /// An operation with one operand, where the value is there.
 fn use_value(
     graph: &mut Graph<u32, u32, u8>,
-    alloc: Global,
     v: Value,
 ) -> Result<Option<Ptr<Operation>>, AllocError> {
     if !graph.contains_value(v) {
         return Ok(None);
     }
-    let types = Vec::new(alloc);
-    let op = graph.make_operation(0, types, &[v], &[])?;
+    let op = graph.make_operation(0, Few::none(), &[v], &[])?;
     Ok(Some(op))
 }
 
 /// An operation with one successor, where the block is there.
 fn use_block(
     graph: &mut Graph<u32, u32, u8>,
-    alloc: Global,
     b: Ptr<BasicBlock>,
 ) -> Result<Option<Ptr<Operation>>, AllocError> {
     if !graph.contains(Object::TheBlock(b)) {
         return Ok(None);
     }
-    let types = Vec::new(alloc);
-    let op = graph.make_operation(0, types, &[], &[b])?;
+    let op = graph.make_operation(0, Few::none(), &[], &[b])?;
     Ok(Some(op))
 }
 
@@ -66,23 +64,19 @@ fn replace(graph: &mut Graph<u32, u32, u8>, v: Value, w: Value) -> bool {
 }
 
 /// An operation with two results.
-fn two_results(
-    graph: &mut Graph<u32, u32, u8>,
-    alloc: Global,
-) -> Result<Ptr<Operation>, AllocError> {
-    let types = vec![in alloc; 7, 8]?;
-    graph.make_operation(0, types, &[], &[])
+fn two_results(graph: &mut Graph<u32, u32, u8>) -> Result<Ptr<Operation>, AllocError> {
+    graph.make_operation(0, Few::two(7, 8), &[], &[])
 }
 
 /// Two uses of a result and one of a block, and then the other result in place of the first.
-fn uses(graph: &mut Graph<u32, u32, u8>, alloc: Global) -> Result<bool, AllocError> {
-    let op = two_results(graph, alloc)?;
+fn uses(graph: &mut Graph<u32, u32, u8>) -> Result<bool, AllocError> {
+    let op = two_results(graph)?;
     let first = Value::Result(op, 0);
     let second = Value::Result(op, 1);
-    let block = graph.make_block(0, Vec::new(alloc))?;
-    let one = use_value(graph, alloc, first)?;
-    let two = use_value(graph, alloc, first)?;
-    let jump = use_block(graph, alloc, block)?;
+    let block = graph.make_block(0, Few::none())?;
+    let one = use_value(graph, first)?;
+    let two = use_value(graph, first)?;
+    let jump = use_block(graph, block)?;
     let made = one.is_some() && two.is_some() && one != two;
     let before = has_uses(graph, first, 2)? && has_uses(graph, second, 0)?;
     let jumps = match jump {
@@ -94,31 +88,37 @@ fn uses(graph: &mut Graph<u32, u32, u8>, alloc: Global) -> Result<bool, AllocErr
     Ok(made && before && jumps && done && after)
 }
 
-/// A result that so many operations use, and then the other result in its place.
+/// A result that so many operations use, then the other result in its place, and then none, since all of them go.
 fn uses_often(
     graph: &mut Graph<u32, u32, u8>,
     alloc: Global,
     count: usize,
 ) -> Result<bool, AllocError> {
-    let op = two_results(graph, alloc)?;
+    let op = two_results(graph)?;
     let first = Value::Result(op, 0);
     let second = Value::Result(op, 1);
-    let mut made = true;
+    let mut users = Vec::new(alloc);
     for _ in 0..count {
-        let user = use_value(graph, alloc, first)?;
-        made = made && user.is_some();
+        if let Some(user) = use_value(graph, first)? {
+            users.push(user)?;
+        }
     }
     let before = has_uses(graph, first, count)?;
     let done = replace(graph, first, second);
     let after = has_uses(graph, first, 0)? && has_uses(graph, second, count)?;
-    Ok(made && before && done && after)
+    let mut gone = users.len() == count;
+    for user in &users {
+        gone = erased(graph, Object::TheOperation(*user)) && gone;
+    }
+    let unused = has_uses(graph, second, 0)? && graph.num_live() == 1;
+    Ok(before && done && after && gone && unused)
 }
 
 #[test]
 fn uses_once(rt: HostRuntime) -> Result<(), Fail> {
     let alloc = rt.alloc();
     let mut graph = Graph::new(alloc);
-    let done = uses(&mut graph, alloc).ok() == Some(true);
+    let done = uses(&mut graph).ok() == Some(true);
     assert!(rt; done);
     Ok(())
 }

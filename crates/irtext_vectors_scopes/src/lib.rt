@@ -1,6 +1,15 @@
-//! Worked rows of the scopes of names: each call of the tracker, step by step, with its answer.
+//! Worked rows of the scopes of names: each call of the tracker, step by step, with its answer, a random script beside a plain model,
+//! and many names and scopes.
 #![tactic(auto)]
 
+#[cfg(test)]
+mod model;
+#[cfg(test)]
+mod random;
+#[cfg(test)]
+mod script;
+#[cfg(test)]
+mod sizes;
 #[cfg(test)]
 mod steps;
 #[cfg(test)]

@@ -106,7 +106,12 @@ fn defined_label(tracker: &mut Tracker, name: usize, block: u32) -> Answer
     }
 }
 
-fn step(tracker: &mut Tracker, call: Call, name: usize, value: u32) -> Result<Answer, AllocError>
+pub(crate) fn step(
+    tracker: &mut Tracker,
+    call: Call,
+    name: usize,
+    value: u32,
+) -> Result<Answer, AllocError>
     requires { name < length tracker.old.names }
 {
     match call {

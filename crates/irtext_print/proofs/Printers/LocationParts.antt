@@ -94,8 +94,7 @@ comma_written false old new e = e ∙ ap (λ z. old ++ z) (word comma refl)
 
 -- what is left of a row is no less than its end
 pub row_weighs : {A : Type 0} (left : List (Location A)) → 1 ≤ list_weight left
-row_weighs [] = omega arith
-row_weighs (l ∷ ls) = omega arith
+row_weighs left = omega arith
 
 -- a word in two texts
 pub in_front : (a t b u : Text) → a ++ (t ++ (b ++ u)) ≡ (a ++ (t ++ b)) ++ u

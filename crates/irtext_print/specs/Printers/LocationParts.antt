@@ -1,40 +1,31 @@
 -- What is still to be written of a location's text while it is written, and how much that is.
-use Rattle.std.specs.Prelude.{◌≡◌, ◌<◌, ◌+◌, ℕ, Bool, true, false, Option, Some, None, List, [], ◌∷◌, ◌++◌, map, codes, string_bytes, Vec}
+use Rattle.std.specs.Prelude.{◌≡◌, ◌<◌, ◌+◌, ◌*◌, ℕ, Bool, true, false, Option, Some, None, List, [], ◌∷◌, ◌++◌, map, codes, string_bytes, Vec}
 use Rattle.std.specs.Str.{encode_utf8_all}
 use Rattle.std.specs.declared.alloc.Global.{Global}
 use Rattle.std.specs.declared.string.String.{String}
 use Rattle.irtext_base.specs.Text.{Text}
-use Rattle.irtext_base.specs.Locations.{LocationOf, LocationsOf, src_pos, fused, named, call_site, unknown, no_location, location, location_view, in_row, row_sourced}
+use Rattle.irtext_base.specs.Locations.{location_view, in_row, row_sourced}
 use Rattle.irtext_base.specs.Paths.{path_of}
+use Rattle.irtext_base.specs.Weights.{weight_of, weight_all}
 use Rattle.irtext_base.specs.declared.location.Location.{Location}
 use Rattle.irtext_grammar.specs.Spelling.Locations.{location_text, row_texts}
 use Rattle.irtext_grammar.specs.Spelling.Spell.{joined, joined_from, comma}
 use Rattle.irtext_print.specs.declared.location.parts.Part.{Part}
 use Rattle.irtext_print.specs.declared.location.parts.Part.TheVariants.{Whole, Row, Caller, Closing}
 
-abbrev mutual
-  -- how much a location is to write: at least one for each of its parts
-  pub weight : {S A : Type 0} → LocationOf S A → ℕ
-  weight (src_pos src pos) = 1
-  weight (fused metadata locations) = 1 + row_weight locations
-  weight (named name child) = 2 + weight child
-  weight (call_site callee caller) = 3 + (weight callee + weight caller)
-  weight unknown = 1
+-- how much a location is to write: at least one for each of its parts
+abbrev pub text_weight : {A : Type 0} → Location A → ℕ
+text_weight l = 1 + 2 * weight_of l
 
-  -- the same of each location in a row, and of its end
-  pub row_weight : {S A : Type 0} → LocationsOf S A → ℕ
-  row_weight no_location = 1
-  row_weight (location l ls) = 1 + (weight l + row_weight ls)
-
--- the weight of what is left of a row
+-- the weight of what is left of a row, with its bracket
 abbrev pub list_weight : {A : Type 0} → List (Location A) → ℕ
-list_weight ls = row_weight (in_row (map location_view ls))
+list_weight ls = 1 + 2 * weight_all ls
 
 -- the weight of a part
 abbrev pub part_weight : {A : Type 0} → Part A → ℕ
-part_weight (Whole l) = weight (location_view l.now)
+part_weight (Whole l) = text_weight l.now
 part_weight (Row left first) = list_weight left.now
-part_weight (Caller l) = 2 + weight (location_view l.now)
+part_weight (Caller l) = 2 + text_weight l.now
 part_weight Closing = 1
 
 -- the weight of all parts that wait

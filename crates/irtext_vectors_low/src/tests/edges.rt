@@ -1,48 +1,18 @@
-//! Ids of operations made of texts, attributes that are set on an operation, and refusals as errors.
+//! Attributes that are set on an operation, and refusals as errors.
 use irtext_base::base::{AttrObj, GIVEN_NAMES_KEY, Identifier, OpId, SYM_NAME_KEY};
 use irtext_base::location::Location;
 use irtext_base::result::{Error, Result as Answer};
 use irtext_context::base::context::making::Making;
-use irtext_context::base::{Context, Operation, Ptr};
+use irtext_context::base::{Operation, Ptr};
 use irtext_dict::base::AttributeDict;
-use irtext_types::{DemoAttr, DemoType};
+use irtext_types::DemoAttr;
+use irtext_vectors_common::contexts::{Ctx, named, with_context};
 use std::alloc::{AllocError, Global};
 use std::test::Fail;
 
-/// The texts of a dialect and of a name, and the id that they make, or why they make none.
-const IDS: &[(&str, &str, &str)] = &[
-    ("builtin", "module", "builtin.module"),
-    ("1a", "b-", "Unexpected `1`, expected identifier"),
-    ("a", "b-", "Unexpected `-`, expected identifier"),
-    ("a", "", "Unexpected end of input, expected identifier"),
-];
-
-/// The id of two texts, or why they make none.
-fn id(alloc: Global, dialect: &str, name: &str) -> Result<String, Fail> {
-    let answer: Answer<OpId, DemoAttr> = OpId::try_new(alloc, dialect, name);
-    match &answer {
-        Ok(id) => Ok(format!(in alloc; "{id}")?),
-        Err(error) => Ok(format!(in alloc; "{}", error.err)?),
-    }
-}
-
-#[test]
-fn ids_are_made_of_texts(rt: HostRuntime) -> Result<(), Fail> {
-    for row in IDS {
-        assert_eq!(rt; id(rt.alloc(), row.0, row.1)?.as_str(), row.2);
-    }
-    Ok(())
-}
-
-/// The identifier of a text that is one.
-fn word(alloc: Global, text: &str) -> Result<Identifier, Fail> {
-    let name: Answer<Identifier, DemoAttr> = Identifier::try_new(alloc, text);
-    Ok(name.ok().ok_or("no identifier")?)
-}
-
 /// What is said where an attribute is set under a key of an operation.
 fn set(
-    ctx: &mut Context<DemoType, DemoAttr>,
+    ctx: &mut Ctx,
     op: Ptr<Operation>,
     key: Identifier,
     attr: AttrObj<DemoAttr>,
@@ -53,6 +23,14 @@ fn set(
     match op.set_attribute(ctx, key, attr) {
         Ok(()) => Ok(()),
         Err(refusal) => Err(Error::from(refusal)),
+    }
+}
+
+/// This word for a call that succeeded, or the cause of its refusal.
+fn cause_or(alloc: Global, answer: &Answer<(), DemoAttr>, word: &str) -> Result<String, Fail> {
+    match answer {
+        Ok(()) => Ok(String::from_str(alloc, word)?),
+        Err(error) => Ok(format!(in alloc; "{}", error.err)?),
     }
 }
 
@@ -67,25 +45,18 @@ const KEYS: &[(&str, &str)] = &[
 ];
 
 /// Sets an identifier under a key of an operation, and says how that went.
-fn step(
-    alloc: Global,
-    ctx: &mut Context<DemoType, DemoAttr>,
-    op: Ptr<Operation>,
-    key: &str,
-) -> Result<String, Fail> {
-    let key = word(alloc, key)?;
-    let attr = AttrObj::Ident(word(alloc, "main")?);
-    match &set(ctx, op, key, attr) {
-        Ok(()) => Ok(String::from_str(alloc, "set")?),
-        Err(error) => Ok(format!(in alloc; "{}", error.err)?),
-    }
+fn step(alloc: Global, ctx: &mut Ctx, op: Ptr<Operation>, key: &str) -> Result<String, Fail> {
+    let key = named(alloc, key)?;
+    let attr = AttrObj::Ident(named(alloc, "main")?);
+    let answer = set(ctx, op, key, attr);
+    cause_or(alloc, &answer, "set")
 }
 
 /// The first key of which something else is said, with an operation without attributes.
-fn differing(alloc: Global, ctx: &mut Context<DemoType, DemoAttr>) -> Result<Option<usize>, Fail> {
+fn differing(alloc: Global, ctx: &mut Ctx) -> Result<Option<usize>, Fail> {
     let id = OpId {
-        dialect: word(alloc, "builtin")?,
-        name: word(alloc, "module")?,
+        dialect: named(alloc, "builtin")?,
+        name: named(alloc, "module")?,
     };
     let op = ctx.make_operation(id, AttributeDict::new(alloc), Location::Unknown)?;
     for number in 0..KEYS.len() {
@@ -100,21 +71,20 @@ fn differing(alloc: Global, ctx: &mut Context<DemoType, DemoAttr>) -> Result<Opt
     Ok(None)
 }
 
-/// The same with a context of its own.
-fn first_differing(alloc: Global) -> Result<Option<usize>, Fail> {
-    let mut ctx: Context<DemoType, DemoAttr> = Context::new(alloc);
-    differing(alloc, &mut ctx)
+/// What an error says.
+fn text_of(alloc: Global, error: &Error<DemoAttr>) -> Result<String, Fail> {
+    Ok(format!(in alloc; "{error}")?)
 }
 
 /// What the error of refused memory says.
 fn no_memory(alloc: Global) -> Result<String, Fail> {
     let error: Error<DemoAttr> = Error::from(AllocError);
-    Ok(format!(in alloc; "{error}")?)
+    text_of(alloc, &error)
 }
 
 #[test]
 fn attributes_are_set_and_refused(rt: HostRuntime) -> Result<(), Fail> {
-    assert_eq!(rt; first_differing(rt.alloc())?, None);
+    assert_eq!(rt; with_context(rt.alloc(), differing)?, None);
     assert_eq!(rt;
         no_memory(rt.alloc())?.as_str(),
         "Compilation error: invalid argument.\nOut of memory"

@@ -1,147 +1,23 @@
-//! Lists of items, with and without separators.
-use irtext_base::parsable::{CharStream, ParseResult, SourcePosition, TextStream};
-use irtext_base::printable::ListSeparator;
-use irtext_read::irfmt::parsers::{
-    delimited_list_parser, int_parse, list_parser, list_with_sep_parser, zero_or_more_parser,
-};
+//! A list on a stream with its state.
+use irtext_base::parsable::{CharStream, ParseResult};
+use irtext_read::irfmt::parsers::{int_parse, list_parser};
 use irtext_types::DemoAttr;
-use irtext_vectors_common::answers::left;
+use irtext_vectors_common::answers::listed;
 use irtext_vectors_common::contexts::{Stream, in_context};
 use std::alloc::Global;
 use std::test::Fail;
 
-/// What an answer says of a list: its items and what stands behind them, or its fault.
-fn told(
-    alloc: Global,
-    answer: &ParseResult<Vec<i32>, DemoAttr>,
-    at: SourcePosition,
-    next: Option<char>,
-) -> Result<String, Fail> {
-    match answer {
-        Ok(found) => Ok(format!(in alloc; "{found:?}, {at}: {next:?}")?),
-        Err(fault) => left(alloc, fault, next),
-    }
-}
-
-/// The readers of lists.
-#[derive(Clone, Copy)]
-enum Reader {
-    Commas,
-    Brackets,
-    Items,
-    Empty,
-    Spaces,
-    Lines,
-}
-
-/// Readers, texts, and what is said of the list that each begins with.
-const LISTS: &[(Reader, &str, &str)] = &[
-    (
-        Reader::Commas,
-        "1 , 2 ,3 x",
-        "[1, 2, 3], line: 1, column: 10: Some('x')",
-    ),
-    (Reader::Commas, "", "[], line: 1, column: 1: None"),
-    (Reader::Brackets, "[ ]", "[], line: 1, column: 4: None"),
-    (
-        Reader::Brackets,
-        "[\n1 ,\n2]",
-        "[1, 2], line: 3, column: 3: None",
-    ),
-    (
-        Reader::Brackets,
-        "[1,]",
-        "line: 1, column: 4: Unexpected `]`, expected digit!",
-    ),
-    (
-        Reader::Brackets,
-        "[1\n2]",
-        "line: 2, column: 1: Unexpected `2`, expected `]`!",
-    ),
-    (
-        Reader::Brackets,
-        "x",
-        "line: 1, column: 1: Unexpected `x`, expected `[`|Some('x')",
-    ),
-    (
-        Reader::Items,
-        "  1 2  3 x",
-        "[1, 2, 3], line: 1, column: 10: Some('x')",
-    ),
-    (Reader::Items, "   ", "[], line: 1, column: 4: None"),
-    (
-        Reader::Empty,
-        " x",
-        "line: 1, column: 2: Repeated item reads nothing!",
-    ),
-];
-
-/// Two readers one behind the other on a text, and what is said of the two lists.
-const FOLLOWING: &[(Reader, Reader, &str, &str, &str)] = &[
-    (
-        Reader::Commas,
-        Reader::Commas,
-        "1, x",
-        "line: 1, column: 4: Unexpected `x`, expected digit!",
-        "line: 1, column: 4: The stream has failed!",
-    ),
-    (
-        Reader::Spaces,
-        Reader::Lines,
-        "1 2",
-        "line: 1, column: 1: List separator is white space|Some('1')",
-        "[1, 2], line: 1, column: 4: None",
-    ),
-];
-
-/// What a reader of lists answers.
-fn read(alloc: Global, stream: &mut TextStream, reader: Reader) -> Result<String, Fail> {
-    let answer: ParseResult<Vec<i32>, DemoAttr> = match reader {
-        Reader::Commas => list_parser(stream, ',', int_parse),
-        Reader::Brackets => delimited_list_parser(stream, '[', ']', ',', int_parse),
-        Reader::Items => zero_or_more_parser(stream, int_parse),
-        Reader::Empty => zero_or_more_parser(stream, |_| Ok(0)),
-        Reader::Spaces => list_with_sep_parser(stream, ListSeparator::Char(' '), int_parse),
-        Reader::Lines => list_with_sep_parser(stream, ListSeparator::Newline, int_parse),
-    };
-    told(
-        alloc,
-        &answer,
-        stream.locate(stream.position()),
-        stream.peek(),
-    )
-}
-
-/// What a reader answers on a text of its own.
-fn read_text(alloc: Global, reader: Reader, text: &str) -> Result<String, Fail> {
-    let mut stream = TextStream::new(alloc, text)?;
-    read(alloc, &mut stream, reader)
-}
-
-/// What a list answers on a stream with its state.
-fn read_with(alloc: Global, s: &mut Stream<'_>) -> Result<String, Fail> {
+/// What is said of a list on a stream with its state.
+fn read(alloc: Global, s: &mut Stream<'_>) -> Result<String, Fail> {
     let answer: ParseResult<Vec<i32>, DemoAttr> = list_parser(s, ',', int_parse);
-    told(alloc, &answer, s.locate(s.position()), s.peek())
+    listed(alloc, &answer, s.locate(s.position()), s.peek())
 }
 
 #[test]
-fn lists_of_a_text(rt: HostRuntime) -> Result<(), Fail> {
-    for row in LISTS {
-        assert_eq!(rt; read_text(rt.alloc(), row.0, row.1)?.as_str(), row.2);
-    }
+fn a_list_beside_a_state(rt: HostRuntime) -> Result<(), Fail> {
     assert_eq!(rt;
-        in_context(rt.alloc(), "1,2", read_with)?.as_str(),
+        in_context(rt.alloc(), "1,2", read)?.as_str(),
         "[1, 2], line: 1, column: 4: None"
     );
-    Ok(())
-}
-
-#[test]
-fn lists_that_follow_a_refusal(rt: HostRuntime) -> Result<(), Fail> {
-    for row in FOLLOWING {
-        let mut stream = TextStream::new(rt.alloc(), row.2)?;
-        assert_eq!(rt; read(rt.alloc(), &mut stream, row.0)?.as_str(), row.3);
-        assert_eq!(rt; read(rt.alloc(), &mut stream, row.1)?.as_str(), row.4);
-    }
     Ok(())
 }

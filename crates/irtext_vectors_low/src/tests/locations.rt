@@ -4,11 +4,11 @@ use irtext_base::base::{AttrObj, OpId};
 use irtext_base::location::{CloneIntoContext, Location, Source};
 use irtext_base::parsable::SourcePosition;
 use irtext_context::base::context::making::Making;
-use irtext_context::base::{Context, Operation, Ptr};
+use irtext_context::base::{Operation, Ptr};
 use irtext_context::location::erase_locations;
 use irtext_dict::base::AttributeDict;
 use irtext_types::DemoAttr;
-use irtext_vectors_common::contexts::{Ctx, named};
+use irtext_vectors_common::contexts::{Ctx, named, with_contexts};
 use std::alloc::Global;
 use std::hash::{DefaultHasher, Hash, Hasher};
 use std::test::Fail;
@@ -195,15 +195,8 @@ fn differing(alloc: Global, ctx: &mut Ctx, other: &mut Ctx) -> Result<Option<usi
     Ok(None)
 }
 
-/// The same with contexts of its own.
-fn first_differing(alloc: Global) -> Result<Option<usize>, Fail> {
-    let mut ctx: Ctx = Context::new(alloc);
-    let mut other: Ctx = Context::new(alloc);
-    differing(alloc, &mut ctx, &mut other)
-}
-
 #[test]
 fn sources_hashes_and_copies_of_locations(rt: HostRuntime) -> Result<(), Fail> {
-    assert_eq!(rt; first_differing(rt.alloc())?, None);
+    assert_eq!(rt; with_contexts(rt.alloc(), differing)?, None);
     Ok(())
 }

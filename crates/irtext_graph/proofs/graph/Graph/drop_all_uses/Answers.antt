@@ -4,7 +4,7 @@ use Rattle.irtext_graph.proofs.LogsSeen.{logged_dropped}
 use Rattle.irtext_graph.proofs.graph.Graph.drop_all_uses.Goals as goal
 
 pub drop_all_uses-requires-clause-lives : goal.drop_all_uses-requires-clause-lives
-drop_all_uses-requires-clause-lives g c = lives_at c.self.inside.made c.self.inside.values c.self.inside.objects c.args.o (rw (← c.self.view_is) at c.requires)
+drop_all_uses-requires-clause-lives g c = lives_at c.self.inside.made c.self.inside.counters c.self.inside.objects c.args.o (rw (← c.self.view_is) at c.requires)
 
 pub invariant_of-self : goal.invariant_of-self
 invariant_of-self g c =
@@ -17,8 +17,8 @@ invariant_of-self g c =
 pub returns-clause-drops : goal.returns-clause-drops
 returns-clause-drops g c =
     let s = c.drop_all_uses.ensures in
-    rw (← c.self.view_is) (drops_seen c.self.inside.made c.self.inside.values c.self.inside.objects c.drop_all_uses.new.self c.args.o s.inside s.others s.ups s.kids s.places)
+    rw (← c.self.view_is) (drops_seen c.self.inside.made c.self.inside.counters c.self.inside.objects c.drop_all_uses.new.self c.args.o s.inside s.others s.ups s.kids s.places)
 
 pub returns-clause-kept : goal.returns-clause-kept
 returns-clause-kept g c = λ m new.
-    dropped-keeps m _ _ c.args.o (returns-clause-drops g c) (rw (← c.self.view_is) (λ q. inside_known c.self.inside.made c.self.inside.values c.self.inside.objects c.args.o q c.self.invariant.sound.forest)) new
+    dropped-keeps m _ _ c.args.o (returns-clause-drops g c) (rw (← c.self.view_is) (λ q. inside_known c.self.inside.made c.self.inside.counters c.self.inside.objects c.args.o q c.self.invariant.sound.forest)) new

@@ -3,7 +3,7 @@ use Rattle.irtext_graph.proofs.Views.{up_seen, kids_seen}
 use Rattle.irtext_graph.proofs.graph.Graph.find_index_in_parent.Goals as goal
 
 pub index_in-requires-clause-stands : goal.index_in-requires-clause-stands
-index_in-requires-clause-stands g c = sym (up_seen c.self.inside.made c.self.inside.values c.self.inside.objects c.args.c) ∙ (rw (← c.self.view_is) at c.requires)
+index_in-requires-clause-stands g c = sym (up_seen c.self.inside.made c.self.inside.counters c.self.inside.objects c.args.c) ∙ (rw (← c.self.view_is) at c.requires)
 
 pub returns : goal.returns
-returns g c = rw (← c.self.view_is) (ap (λ cs. slice_get cs c.index_in.result) (kids_seen c.self.inside.made c.self.inside.values c.self.inside.objects c.args.k) ∙ c.index_in.ensures)
+returns g c = rw (← c.self.view_is) (ap (λ cs. slice_get cs c.index_in.result) (kids_seen c.self.inside.made c.self.inside.counters c.self.inside.objects c.args.k) ∙ c.index_in.ensures)

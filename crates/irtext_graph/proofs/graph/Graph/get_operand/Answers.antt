@@ -4,13 +4,13 @@ use Rattle.irtext_graph.proofs.PartsSeen.{operation_there, operand_count, operan
 use Rattle.irtext_graph.proofs.graph.Graph.get_operand.Goals as goal
 
 pub content-requires : goal.content-requires
-content-requires g c = operation_there c.self.inside.made c.self.inside.values c.self.inside.objects c.args.op (rw (← c.self.view_is) at c.requires.stands)
+content-requires g c = operation_there c.self.inside.made c.self.inside.counters c.self.inside.objects c.args.op (rw (← c.self.view_is) at c.requires.stands)
 
 pub returns : goal.returns
 returns g c =
-    let xs = c.content.result.now.data.operands.items in
+    let xs = c.content.result.now.data.operands in
     let w = rw (← c.self.view_is) at c.requires.within in
-    let k = operand_count c.self.inside.made c.self.inside.values c.self.inside.objects c.args.op c.content.result.now c.content.ensures in
+    let k = operand_count c.self.inside.made c.self.inside.counters c.self.inside.objects c.args.op c.content.result.now c.content.ensures in
     let low : c.args.i < length xs = omega (arith, w, k) in
     let e : slice_get xs c.args.i ≡ Some c.index.result.now = slice_get_read xs (length xs) c.args.i c.index.result.now refl low c.index.ensures in
-    rw (← c.self.view_is) (operand_seen c.self.inside.made c.self.inside.values c.self.inside.objects c.args.op c.content.result.now c.content.ensures c.args.i ∙ ap (option_map (λ u. u.def)) e)
+    rw (← c.self.view_is) (operand_seen c.self.inside.made c.self.inside.counters c.self.inside.objects c.args.op c.content.result.now c.content.ensures c.args.i ∙ ap (option_map (λ u. u.def)) e)

@@ -4,10 +4,10 @@ use Rattle.irtext_graph.proofs.Nesting.{holder_stands}
 use Rattle.irtext_graph.proofs.graph.Graph.get_parent.Goals as goal
 
 pub parent_of-requires : goal.parent_of-requires
-parent_of-requires g c = lives_at c.self.inside.made c.self.inside.values c.self.inside.objects c.args.o (rw (← c.self.view_is) at c.requires)
+parent_of-requires g c = lives_at c.self.inside.made c.self.inside.counters c.self.inside.objects c.args.o (rw (← c.self.view_is) at c.requires)
 
 pub returns-clause-parent : goal.returns-clause-parent
-returns-clause-parent g c = rw (← c.self.view_is) (c.parent_of.ensures ∙ sym (up_seen c.self.inside.made c.self.inside.values c.self.inside.objects c.args.o))
+returns-clause-parent g c = rw (← c.self.view_is) (c.parent_of.ensures ∙ sym (up_seen c.self.inside.made c.self.inside.counters c.self.inside.objects c.args.o))
 
 pub returns-clause-stands : goal.returns-clause-stands
-returns-clause-stands g c = rw (← c.self.view_is) (holder_stands c.self.inside.made c.self.inside.values c.self.inside.objects c.args.o c.self.invariant.sound.forest c.parent_of.result c.parent_of.ensures)
+returns-clause-stands g c = rw (← c.self.view_is) (holder_stands c.self.inside.made c.self.inside.counters c.self.inside.objects c.args.o c.self.invariant.sound.forest c.parent_of.result c.parent_of.ensures)

@@ -4,10 +4,10 @@ use Rattle.irtext_graph.proofs.Views.{up_seen}
 use Rattle.irtext_graph.proofs.graph.Graph.keeps_nesting.Goals as goal
 
 pub returns-clause-forest : goal.returns-clause-forest
-returns-clause-forest g c = rw (← c.self.view_is) (forest_seen c.self.inside.made c.self.inside.values c.self.inside.objects c.self.invariant.sound.forest)
+returns-clause-forest g c = rw (← c.self.view_is) (forest_seen c.self.inside.made c.self.inside.counters c.self.inside.objects c.self.invariant.sound.forest)
 
 pub returns-clause-holders : goal.returns-clause-holders
-returns-clause-holders g c = rw (← c.self.view_is) (λ o k e. holder_stands c.self.inside.made c.self.inside.values c.self.inside.objects o c.self.invariant.sound.forest (Some k) (sym e ∙ up_seen c.self.inside.made c.self.inside.values c.self.inside.objects o))
+returns-clause-holders g c = rw (← c.self.view_is) (λ o k e. holder_stands c.self.inside.made c.self.inside.counters c.self.inside.objects o c.self.invariant.sound.forest (Some k) (sym e ∙ up_seen c.self.inside.made c.self.inside.counters c.self.inside.objects o))
 
 pub returns-clause-kinds : goal.returns-clause-kinds
 returns-clause-kinds g c = λ k d i e. child_fits c.args.self.now k d i e

@@ -17,7 +17,7 @@ pub returns-in_err-make_room-clause-kept : goal.returns-in_err-make_room-clause-
 returns-in_err-make_room-clause-kept g c = λ m up. same_keeps m _ _ c.self.view_is
 
 pub returns-in_err-p-clause-kept : goal.returns-in_err-p-clause-kept
-returns-in_err-p-clause-kept g c = λ m up. same_keeps m _ _ (blocks_same c.self.inside.made c.self.inside.values c.self.inside.objects c.insert.new.self c.in_err-p.ensures.err c.in_err-p.ensures.err_free ∙ c.self.view_is)
+returns-in_err-p-clause-kept g c = λ m up. same_keeps m _ _ (blocks_same c.self.inside.made c.self.inside.counters c.self.inside.objects c.insert.new.self c.in_err-p.ensures.err c.in_err-p.ensures.err_free ∙ c.self.view_is)
 
 pub invariant_of-self-2 : goal.invariant_of-self-2
 invariant_of-self-2 g c =
@@ -29,8 +29,8 @@ invariant_of-self-2 g c =
 
 pub returns-clause-made : goal.returns-clause-made
 returns-clause-made g c =
-    rw (← c.self.view_is) (block_made c.self.inside.made c.self.inside.values c.in-Some.next c.self.inside.objects c.insert.new.self c.in_ok-p.p _ c.args.value c.args.types.items c.in_ok-p.ensures.inserts refl refl c.new.ensures.items refl
+    rw (← c.self.view_is) (block_made c.self.inside.made c.self.inside.counters c.in-Some.next c.self.inside.objects c.insert.new.self c.in_ok-p.p _ c.args.value c.args.types c.in_ok-p.ensures.inserts refl refl c.new.ensures.items refl
     c.in_ok-arguments.ensures.values (omega (arith, c.in-Some.ensures.1, c.len.ensures)))
 
 pub returns-clause-kept : goal.returns-clause-kept
-returns-clause-kept g c = λ m up. block-keeps m _ _ c.in_ok-p.p c.args.value c.args.types.items up (returns-clause-made g c)
+returns-clause-kept g c = λ m up. block-keeps m _ _ c.in_ok-p.p c.args.value c.args.types up (returns-clause-made g c)

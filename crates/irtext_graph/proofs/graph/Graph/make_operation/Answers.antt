@@ -27,10 +27,10 @@ pub returns-in_err-make_room-clause-kept : goal.returns-in_err-make_room-clause-
 returns-in_err-make_room-clause-kept g c = λ m up. same_keeps m _ _ c.self.view_is
 
 pub returns-in_err-p-clause-err : goal.returns-in_err-p-clause-err
-returns-in_err-p-clause-err g c = on_err _ (operations_same c.self.inside.made c.self.inside.values c.self.inside.objects c.insert.new.self c.in_err-p.ensures.err c.in_err-p.ensures.err_free ∙ c.self.view_is)
+returns-in_err-p-clause-err g c = on_err _ (operations_same c.self.inside.made c.self.inside.counters c.self.inside.objects c.insert.new.self c.in_err-p.ensures.err c.in_err-p.ensures.err_free ∙ c.self.view_is)
 
 pub returns-in_err-p-clause-kept : goal.returns-in_err-p-clause-kept
-returns-in_err-p-clause-kept g c = λ m up. same_keeps m _ _ (operations_same c.self.inside.made c.self.inside.values c.self.inside.objects c.insert.new.self c.in_err-p.ensures.err c.in_err-p.ensures.err_free ∙ c.self.view_is)
+returns-in_err-p-clause-kept g c = λ m up. same_keeps m _ _ (operations_same c.self.inside.made c.self.inside.counters c.self.inside.objects c.insert.new.self c.in_err-p.ensures.err c.in_err-p.ensures.err_free ∙ c.self.view_is)
 
 pub attach_all-requires-clause-linked : goal.attach_all-requires-clause-linked
 attach_all-requires-clause-linked g c = linked_here c.self.inside.objects c.self.inside.made c.insert.new.self c.in_ok-p.p _ c.in_ok-p.ensures.inserts _ _ _ _ _ c.in_ok-blank.ensures c.self.invariant.sound.uses
@@ -45,8 +45,8 @@ pub attach_all-requires-clause-stands : goal.attach_all-requires-clause-stands
 attach_all-requires-clause-stands g c =
     stands_here c.self.inside.objects c.self.inside.made c.insert.new.self c.in_ok-p.p _ c.in_ok-p.ensures.inserts _ _ _ _ _ c.in_ok-blank.ensures
     (heads_named c.self.inside.objects c.self.inside.made c.insert.new.self c.in_ok-p.p _ c.in_ok-p.ensures.inserts _ _ _ _ _ c.in_ok-blank.ensures
-    (λ j v e. head_there c.self.inside.made c.self.inside.values c.self.inside.objects (OfValue v) (rw (← c.self.view_is) at (c.requires.operands j v e)))
-    (λ j b e. head_there c.self.inside.made c.self.inside.values c.self.inside.objects (OfBlock b) (rw (← c.self.view_is) at (c.requires.successors j b e))))
+    (λ j v e. head_there c.self.inside.made c.self.inside.counters c.self.inside.objects (OfValue v) (rw (← c.self.view_is) at (c.requires.operands j v e)))
+    (λ j b e. head_there c.self.inside.made c.self.inside.counters c.self.inside.objects (OfBlock b) (rw (← c.self.view_is) at (c.requires.successors j b e))))
     Operands
 
 pub attach_all-requires-2-clause-linked : goal.attach_all-requires-2-clause-linked
@@ -65,8 +65,8 @@ attach_all-requires-2-clause-stands g c = λ i.
     same_stands (record c.self.inside.objects { operations = c.insert.new.self }) c.attach_all.new.self c.attach_all.ensures.seen (site_of Successors c.in_ok-p.p i)
     (stands_here c.self.inside.objects c.self.inside.made c.insert.new.self c.in_ok-p.p _ c.in_ok-p.ensures.inserts _ _ _ _ _ c.in_ok-blank.ensures
     (heads_named c.self.inside.objects c.self.inside.made c.insert.new.self c.in_ok-p.p _ c.in_ok-p.ensures.inserts _ _ _ _ _ c.in_ok-blank.ensures
-    (λ j v e. head_there c.self.inside.made c.self.inside.values c.self.inside.objects (OfValue v) (rw (← c.self.view_is) at (c.requires.operands j v e)))
-    (λ j b e. head_there c.self.inside.made c.self.inside.values c.self.inside.objects (OfBlock b) (rw (← c.self.view_is) at (c.requires.successors j b e))))
+    (λ j v e. head_there c.self.inside.made c.self.inside.counters c.self.inside.objects (OfValue v) (rw (← c.self.view_is) at (c.requires.operands j v e)))
+    (λ j b e. head_there c.self.inside.made c.self.inside.counters c.self.inside.objects (OfBlock b) (rw (← c.self.view_is) at (c.requires.successors j b e))))
     Successors i)
 
 pub invariant_of-self-2 : goal.invariant_of-self-2
@@ -92,9 +92,9 @@ invariant_of-self-2 g c =
 pub returns-clause-made : goal.returns-clause-made
 returns-clause-made g c =
     rw (← c.self.view_is)
-    (operation_made_seen c.self.inside.made c.self.inside.values c.in-Some.next c.self.inside.objects (record c.self.inside.objects { operations = c.insert.new.self }) c.attach_all-2.new.self c.in_ok-p.p _ _ _ _
+    (operation_made_seen c.self.inside.made c.self.inside.counters c.in-Some.next c.self.inside.objects (record c.self.inside.objects { operations = c.insert.new.self }) c.attach_all-2.new.self c.in_ok-p.p _ _ _ _
     (c.attach_all-2.ensures.seen ∙ c.attach_all.ensures.seen)
-    (operation_made c.self.inside.made c.self.inside.values c.in-Some.next c.self.inside.objects c.insert.new.self c.in_ok-p.p _ _ _ _ _ c.in_ok-p.ensures.inserts refl c.in_ok-blank.ensures
+    (operation_made c.self.inside.made c.self.inside.counters c.in-Some.next c.self.inside.objects c.insert.new.self c.in_ok-p.p _ _ _ _ _ c.in_ok-p.ensures.inserts refl c.in_ok-blank.ensures
     (omega (arith, c.in-Some.ensures.1, c.len.ensures))))
 
 pub returns-clause-kept : goal.returns-clause-kept

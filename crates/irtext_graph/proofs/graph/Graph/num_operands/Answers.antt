@@ -3,9 +3,9 @@ use Rattle.irtext_graph.proofs.PartsSeen.{operation_there, operand_count}
 use Rattle.irtext_graph.proofs.graph.Graph.num_operands.Goals as goal
 
 pub content-requires : goal.content-requires
-content-requires g c = operation_there c.self.inside.made c.self.inside.values c.self.inside.objects c.args.op (rw (← c.self.view_is) at c.requires)
+content-requires g c = operation_there c.self.inside.made c.self.inside.counters c.self.inside.objects c.args.op (rw (← c.self.view_is) at c.requires)
 
 pub returns : goal.returns
 returns g c =
-    let k = operand_count c.self.inside.made c.self.inside.values c.self.inside.objects c.args.op c.content.result.now c.content.ensures in
+    let k = operand_count c.self.inside.made c.self.inside.counters c.self.inside.objects c.args.op c.content.result.now c.content.ensures in
     rw (← c.self.view_is) (omega (arith, c.len.ensures, k))

@@ -6,10 +6,10 @@ use Rattle.irtext_graph.proofs.UsesSeen.{head_there}
 use Rattle.irtext_graph.proofs.graph.Graph.replace_all_uses.Goals as goal
 
 pub replace_uses-requires-clause-stands : goal.replace_uses-requires-clause-stands
-replace_uses-requires-clause-stands g c = head_there c.self.inside.made c.self.inside.values c.self.inside.objects c.args.d (rw (← c.self.view_is) at c.requires.stands)
+replace_uses-requires-clause-stands g c = head_there c.self.inside.made c.self.inside.counters c.self.inside.objects c.args.d (rw (← c.self.view_is) at c.requires.stands)
 
 pub replace_uses-requires-clause-stands_too : goal.replace_uses-requires-clause-stands_too
-replace_uses-requires-clause-stands_too g c = head_there c.self.inside.made c.self.inside.values c.self.inside.objects c.args.e (rw (← c.self.view_is) at c.requires.stands_too)
+replace_uses-requires-clause-stands_too g c = head_there c.self.inside.made c.self.inside.counters c.self.inside.objects c.args.e (rw (← c.self.view_is) at c.requires.stands_too)
 
 pub invariant_of-self : goal.invariant_of-self
 invariant_of-self g c =
@@ -25,7 +25,7 @@ replace_uses-requires-clause-differ g c = λ e. let yes = c.same_defined.ensures
 pub returns-then-not-same_defined-clause-replaces : goal.returns-then-not-same_defined-clause-replaces
 returns-then-not-same_defined-clause-replaces g c =
     let s = c.replace_uses.ensures in
-    rw (← c.self.view_is) (replaces_seen c.self.inside.objects c.replace_uses.new.self s.bare c.self.inside.made c.self.inside.values c.args.d c.args.e c.self.invariant.sound s.all_used s.uses)
+    rw (← c.self.view_is) (replaces_seen c.self.inside.objects c.replace_uses.new.self s.bare c.self.inside.made c.self.inside.counters c.args.d c.args.e c.self.invariant.sound s.all_used s.uses)
 
 pub returns-then-not-same_defined-clause-kept : goal.returns-then-not-same_defined-clause-kept
 returns-then-not-same_defined-clause-kept g c = λ m unused. replaces_keeps m _ _ c.args.d c.args.e (returns-then-not-same_defined-clause-replaces g c) unused

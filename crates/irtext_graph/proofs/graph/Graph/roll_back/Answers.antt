@@ -16,9 +16,9 @@ invariant_of-self g c =
     let s = c.detach_since.ensures in
     let t = c.take_out_since.ensures in
     let log = c.as_slice-log.result.now in
-    let closed : IsClosedBelow c.args.mark (graph_of i.made i.values i.objects) = rw (← c.self.view_is) at c.requires.closed in
+    let closed : IsClosedBelow c.args.mark (graph_of i.made i.counters i.objects) = rw (← c.self.view_is) at c.requires.closed in
     let logged : IsLogged i.made log i.objects = logged_list i.made i.log.items log i.objects c.as_slice-log.ensures.value c.self.invariant.logged in
-    let r = given_back i.made i.values c.args.mark c.count_before-start.result log i.objects c.detach_since.new.self c.take_out_since.new.self c.self.invariant.sound logged closed b.before b.since
+    let r = given_back i.made i.counters c.args.mark c.count_before-start.result log i.objects c.detach_since.new.self c.take_out_since.new.self c.self.invariant.sound logged closed b.before b.since
     s.seen s.linked s.gone s.kept t.sheds t.gone in
     record {
       sound = r.sound;
@@ -32,9 +32,9 @@ returns-clause-back g c =
     let s = c.detach_since.ensures in
     let t = c.take_out_since.ensures in
     let log = c.as_slice-log.result.now in
-    let closed : IsClosedBelow c.args.mark (graph_of i.made i.values i.objects) = rw (← c.self.view_is) at c.requires.closed in
+    let closed : IsClosedBelow c.args.mark (graph_of i.made i.counters i.objects) = rw (← c.self.view_is) at c.requires.closed in
     let logged : IsLogged i.made log i.objects = logged_list i.made i.log.items log i.objects c.as_slice-log.ensures.value c.self.invariant.logged in
-    let r = given_back i.made i.values c.args.mark c.count_before-start.result log i.objects c.detach_since.new.self c.take_out_since.new.self c.self.invariant.sound logged closed b.before b.since
+    let r = given_back i.made i.counters c.args.mark c.count_before-start.result log i.objects c.detach_since.new.self c.take_out_since.new.self c.self.invariant.sound logged closed b.before b.since
     s.seen s.linked s.gone s.kept t.sheds t.gone in
     rw (← c.self.view_is) r.view
 

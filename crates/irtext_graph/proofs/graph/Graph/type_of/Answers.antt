@@ -4,7 +4,7 @@ use Rattle.irtext_graph.proofs.PartsSeen.{value_there, value_seen}
 use Rattle.irtext_graph.proofs.graph.Graph.type_of.Goals as goal
 
 pub definition-requires : goal.definition-requires
-definition-requires g c = value_there c.self.inside.made c.self.inside.values c.self.inside.objects c.args.v (rw (← c.self.view_is) at c.requires)
+definition-requires g c = value_there c.self.inside.made c.self.inside.counters c.self.inside.objects c.args.v (rw (← c.self.view_is) at c.requires)
 
 pub returns : goal.returns
-returns g c = rw (← c.self.view_is) (ap (option_map (λ t. t.of_type)) (value_seen c.self.inside.made c.self.inside.values c.self.inside.objects c.args.v ∙ ap (option_map typed) c.definition.ensures))
+returns g c = rw (← c.self.view_is) (ap (option_map (λ t. t.of_type)) (value_seen c.self.inside.made c.self.inside.counters c.self.inside.objects c.args.v ∙ ap (option_map typed) c.definition.ensures))

@@ -7,7 +7,7 @@ use Rattle.irtext_graph.proofs.Sounds.{sound_moved}
 use Rattle.irtext_graph.proofs.graph.Graph.unlink.Goals as goal
 
 pub unlink-requires-clause-lives : goal.unlink-requires-clause-lives
-unlink-requires-clause-lives g c = lives_at c.self.inside.made c.self.inside.values c.self.inside.objects c.args.c (rw (← c.self.view_is) at c.requires)
+unlink-requires-clause-lives g c = lives_at c.self.inside.made c.self.inside.counters c.self.inside.objects c.args.c (rw (← c.self.view_is) at c.requires)
 
 pub invariant_of-self : goal.invariant_of-self
 invariant_of-self g c =
@@ -22,7 +22,7 @@ invariant_of-self g c =
 pub returns-clause-unlinks : goal.returns-clause-unlinks
 returns-clause-unlinks g c =
     let m = c.self.inside.made in
-    let v = c.self.inside.values in
+    let v = c.self.inside.counters in
     let x = c.self.inside.objects in
     let y = c.unlink.new.self in
     let s = c.unlink.ensures in

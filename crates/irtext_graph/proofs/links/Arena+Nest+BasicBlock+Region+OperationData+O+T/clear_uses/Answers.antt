@@ -8,4 +8,4 @@ pub returns-clause-edits : goal.returns-clause-edits
 returns-clause-edits g c =
     let x = c.content_mut-node.result.now in
     content_edits (node_of operation_content) without_uses_in c.args.self.now c.args.p x _ c.content_mut-node.ensures.value
-    (rw (c.clear.ensures.items, c.clear-2.ensures.items) refl)
+    (rw (c.clear.ensures, c.clear-2.ensures) refl)

@@ -12,4 +12,4 @@ returns-clause-fewer g c = λ o e ne.
     let x = c.content_mut.result.now in
     let at = in_data c.args.self.now c.args.p x x c.content_mut.ensures.value (λ e. operand_in e c.args.i) in
     content_fewer c.args.self.now c.args.p x _ c.content_mut.ensures.value (OfValue o.def)
-    (less_left _ _ _ (defs_fewer OfValue x.data.operands.items c.args.i c.index_mut.result.now c.args.d o c.index_mut.ensures.value (at.1 ∙ e) (λ q. ne (cc))))
+    (less_left _ _ _ (defs_fewer OfValue x.data.operands c.args.i c.index_mut.result.now c.args.d o c.index_mut.ensures.value (at.1 ∙ e) (λ q. ne (cc))))

@@ -9,4 +9,4 @@ returns-clause-seen g c =
     let x = c.content_mut.result.now in
     content_same (node_of block_content) c.args.self.now c.args.p x _ c.content_mut.ensures.value
     (ap (λ ds. record { parent = x.parent; children = x.children.items; content = record { data_of = x.data.data; arguments = ds } })
-    (map-set_same typed x.data.arguments.items c.args.i _ c.index_mut.result.now (ap typed c.index_mut.ensures.value)))
+    (map-set_same typed x.data.arguments c.args.i _ c.index_mut.result.now (ap typed c.index_mut.ensures.value)))

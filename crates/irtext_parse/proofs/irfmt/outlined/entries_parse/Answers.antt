@@ -1,11 +1,11 @@
 use Rattle.std.proofs.Common.{true, sym, ◌∙◌, subst}
-use Rattle.std.proofs.lemmas.Result.{err_from_is_err_and}
 use Rattle.irtext_read.specs.AttrTexts.{attr_at}
 use Rattle.irtext_state.specs.States.{marks_of}
 use Rattle.irtext_outcomes.specs.Promises.Section.{ReadsEntry, Faults}
 use Rattle.irtext_outcomes.specs.Readers.Section.{entry_at}
 use Rattle.irtext_outcomes.specs.Promises.Supported.{RefusedAs}
 use Rattle.irtext_outcomes.specs.Readers.Marks.{may_follow}
+use Rattle.irtext_read.proofs.Exits.{handed_on}
 use Rattle.irtext_outcomes.proofs.Readers.Answered.{moves_more}
 use Rattle.irtext_outcomes.proofs.Readers.NewPaths.{adds_more}
 use Rattle.irtext_outcomes.proofs.Readers.SectionSteps.{entry_noted, entries_kept_more, entries_stop}
@@ -36,9 +36,8 @@ returns-in_err-entry_parse-clause-missed g c = λ e.
     let i = c.loop-s.invariant in
     let attr = attr_at g.A.IrText.reading in
     let marks = marks_of c.args.s.now.state in
-    let p = err_from_is_err_and c.from_residual.result c.from_residual.ensures.1 in
     let f = subst (λ m. Faults true (RefusedAs (entry_at attr (may_follow m c.loop-s.entries) c.loop-s.s.stream.rest)) c.loop-s.s.stream c.in_err-entry_parse.field-0.0) i.marks (c.in_err-entry_parse.ensures.missed (i.fine ∙ e)) in
-    rw (p.1, p.2) (entries_stop attr marks c.loop-s.s.state.ctx.now.paths c.loop-s.entries i.moves i.so_far.stand (sym c.next_is.ensures ∙ c.loop-s-test.true) f)
+    rw (handed_on c.from_residual.result c.from_residual.ensures.1) (entries_stop attr marks c.loop-s.s.state.ctx.now.paths c.loop-s.entries i.moves i.so_far.stand (sym c.next_is.ensures ∙ c.loop-s-test.true) f)
 
 pub returns-in_err-entry_parse-clause-adds : goal.returns-in_err-entry_parse-clause-adds
 returns-in_err-entry_parse-clause-adds g c = adds_more c.loop-s.invariant.adds c.in_err-entry_parse.ensures.adds

@@ -1,5 +1,4 @@
 use Rattle.std.proofs.Common.{refl, sym, ◌∙◌, Option, Some, codes}
-use Rattle.std.proofs.lemmas.Result.{err_from_is_err_and}
 use Rattle.irtext_base.specs.Answers.{Outcome, mapped, followed}
 use Rattle.irtext_base.specs.Locations.{AttrView}
 use Rattle.irtext_base.specs.Paths.{Written}
@@ -11,6 +10,7 @@ use Rattle.irtext_outcomes.specs.Readers.Positions.{space_at, spaced_at}
 use Rattle.irtext_grammar.specs.Contexts.Held.{location_over}
 use Rattle.irtext_outcomes.specs.Promises.Section.{given_over}
 use Rattle.irtext_outcomes.specs.Readers.Section.{entry_location_at}
+use Rattle.irtext_read.proofs.Exits.{handed_on}
 use Rattle.irtext_outcomes.proofs.Locations.Bounds.{at_length}
 use Rattle.irtext_outcomes.proofs.Readers.PlainStream.{alone}
 use Rattle.irtext_outcomes.proofs.Readers.Steps.{starts, more, spaced, refuses, last_spaced}
@@ -32,31 +32,27 @@ pub returns-in_err-text_demanded-clause-read : goal.returns-in_err-text_demanded
 returns-in_err-text_demanded-clause-read g c =
     let attr = attr_at g.A.IrText.reading in
     let q = starts alone (entry_location_at attr) (located attr) c.args.stream.now (sym c.has_failed.ensures ∙ c.if-has_failed.false) (rw (sym c.next_is.ensures ∙ c.if-not-next_is.false) refl) in
-    let p = err_from_is_err_and c.from_residual.result c.from_residual.ensures.1 in
-    rw (p.1, p.2) (record { known = tt; read = refuses alone _ q c.in_err-text_demanded.ensures })
+    rw (handed_on c.from_residual.result c.from_residual.ensures.1) (record { known = tt; read = refuses alone _ q c.in_err-text_demanded.ensures })
 
 pub returns-in_err-location-clause-read : goal.returns-in_err-location-clause-read
 returns-in_err-location-clause-read g c =
     let attr = attr_at g.A.IrText.reading in
     let q = starts alone (entry_location_at attr) (located attr) c.args.stream.now (sym c.has_failed.ensures ∙ c.if-has_failed.false) (rw (sym c.next_is.ensures ∙ c.if-not-next_is.false) refl) in
-    let p = err_from_is_err_and c.from_residual-in_err-location.result c.from_residual-in_err-location.ensures.1 in
-    rw (p.1, p.2) (record { known = tt; read = refuses alone _ (spaced alone (λ _ t. placed attr t) (more alone _ q c.in_ok-text_demanded.ensures) c.skip_white_space.ensures) (at_length attr c.in_err-location.ensures.read).read })
+    rw (handed_on c.from_residual-in_err-location.result c.from_residual-in_err-location.ensures.1) (record { known = tt; read = refuses alone _ (spaced alone (λ _ t. placed attr t) (more alone _ q c.in_ok-text_demanded.ensures) c.skip_white_space.ensures) (at_length attr c.in_err-location.ensures.read).read })
 
 pub returns-in_err-spaced_text_demanded-clause-read : goal.returns-in_err-spaced_text_demanded-clause-read
 returns-in_err-spaced_text_demanded-clause-read g c =
     let attr = attr_at g.A.IrText.reading in
     let q = starts alone (entry_location_at attr) (located attr) c.args.stream.now (sym c.has_failed.ensures ∙ c.if-has_failed.false) (rw (sym c.next_is.ensures ∙ c.if-not-next_is.false) refl) in
-    let p = err_from_is_err_and c.from_residual-in_err-spaced_text_demanded.result c.from_residual-in_err-spaced_text_demanded.ensures.1 in
     let l = (at_length attr c.in_ok-location.ensures.read).read in
-    rw (p.1, p.2) (record { known = tt; read = refuses alone _ (more alone behind_location (spaced alone (λ _ t. placed attr t) (more alone _ q c.in_ok-text_demanded.ensures) c.skip_white_space.ensures) l) c.in_err-spaced_text_demanded.ensures })
+    rw (handed_on c.from_residual-in_err-spaced_text_demanded.result c.from_residual-in_err-spaced_text_demanded.ensures.1) (record { known = tt; read = refuses alone _ (more alone behind_location (spaced alone (λ _ t. placed attr t) (more alone _ q c.in_ok-text_demanded.ensures) c.skip_white_space.ensures) l) c.in_err-spaced_text_demanded.ensures })
 
 pub returns-in_err-text_demanded-2-clause-read : goal.returns-in_err-text_demanded-2-clause-read
 returns-in_err-text_demanded-2-clause-read g c =
     let attr = attr_at g.A.IrText.reading in
     let q = starts alone (entry_location_at attr) (located attr) c.args.stream.now (sym c.has_failed.ensures ∙ c.if-has_failed.false) (rw (sym c.next_is.ensures ∙ c.if-not-next_is.false) refl) in
-    let p = err_from_is_err_and c.from_residual-in_err-text_demanded-2.result c.from_residual-in_err-text_demanded-2.ensures.1 in
     let l = (at_length attr c.in_ok-location.ensures.read).read in
-    rw (p.1, p.2) (record { known = tt; read = refuses alone _ (more alone _ (more alone behind_location (spaced alone (λ _ t. placed attr t) (more alone _ q c.in_ok-text_demanded.ensures) c.skip_white_space.ensures) l) c.in_ok-spaced_text_demanded.ensures) c.in_err-text_demanded-2.ensures })
+    rw (handed_on c.from_residual-in_err-text_demanded-2.result c.from_residual-in_err-text_demanded-2.ensures.1) (record { known = tt; read = refuses alone _ (more alone _ (more alone behind_location (spaced alone (λ _ t. placed attr t) (more alone _ q c.in_ok-text_demanded.ensures) c.skip_white_space.ensures) l) c.in_ok-spaced_text_demanded.ensures) c.in_err-text_demanded-2.ensures })
 
 pub returns-clause-read : goal.returns-clause-read
 returns-clause-read g c =

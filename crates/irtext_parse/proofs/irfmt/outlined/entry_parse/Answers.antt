@@ -1,9 +1,9 @@
 use Rattle.std.proofs.Common.{ap, sym, ◌∙◌}
-use Rattle.std.proofs.lemmas.Result.{err_from_is_err_and}
 use Rattle.irtext_read.specs.AttrTexts.{attr_at}
 use Rattle.irtext_state.specs.States.{marks_of}
 use Rattle.irtext_outcomes.specs.Readers.Marks.{may_follow}
 use Rattle.irtext_outcomes.specs.Promises.Section.{entry_over}
+use Rattle.irtext_read.proofs.Exits.{handed_on}
 use Rattle.irtext_outcomes.proofs.Readers.Answered.{answered, not_answered, moves_more, moves_taken}
 use Rattle.irtext_outcomes.proofs.Readers.SectionSteps.{entry_new, newly_noted}
 use Rattle.irtext_outcomes.proofs.Readers.EntryIndices.{demands, demands_memory, demands_behind, reads_fine, entry_shorter, entry_spares}
@@ -11,13 +11,11 @@ use Rattle.irtext_parse.proofs.irfmt.outlined.entry_parse.Goals as goal
 
 pub returns-in_err-entry-clause-refused : goal.returns-in_err-entry-clause-refused
 returns-in_err-entry-clause-refused g c =
-    let p = err_from_is_err_and c.from_residual.result c.from_residual.ensures.1 in
-    rw (p.1, p.2) (demands (entry_spares g.A.IrText.reading (may_follow (marks_of c.args.s.now.state) c.args.entries.now) g.met.A.IrText.sincere) c.in_err-entry.ensures.read.read)
+    rw (handed_on c.from_residual.result c.from_residual.ensures.1) (demands (entry_spares g.A.IrText.reading (may_follow (marks_of c.args.s.now.state) c.args.entries.now) g.met.A.IrText.sincere) c.in_err-entry.ensures.read.read)
 
 pub returns-in_err-entry-clause-missed : goal.returns-in_err-entry-clause-missed
 returns-in_err-entry-clause-missed g c = λ e.
-    let p = err_from_is_err_and c.from_residual.result c.from_residual.ensures.1 in
-    rw (p.1, p.2) (not_answered e c.in_err-entry.ensures.read.read)
+    rw (handed_on c.from_residual.result c.from_residual.ensures.1) (not_answered e c.in_err-entry.ensures.read.read)
 
 pub returns-then-is_err-clause-refused : goal.returns-then-is_err-clause-refused
 returns-then-is_err-clause-refused g c = demands_behind (reads_fine c.in_ok-entry.ensures.read.read) (demands_memory c.out_of_memory.ensures.starved)

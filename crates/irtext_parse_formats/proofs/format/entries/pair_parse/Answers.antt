@@ -1,10 +1,10 @@
 use Rattle.std.proofs.Common.{Ok, refl, codes}
-use Rattle.std.proofs.lemmas.Result.{err_from_is_err_and}
 use Rattle.irtext_base.specs.Answers.{Outcome, mapped, followed}
 use Rattle.irtext_base.specs.Locations.{AttrView}
 use Rattle.irtext_base.specs.Text.{Text}
 use Rattle.irtext_read.specs.AttrTexts.{attr_at}
 use Rattle.irtext_read.specs.Tokens.{identifier_at}
+use Rattle.irtext_read.proofs.Exits.{handed_on}
 use Rattle.irtext_read.proofs.Steps.{may_read}
 use Rattle.irtext_outcomes.specs.Readers.Positions.{spaced_at}
 use Rattle.irtext_outcomes.specs.Readers.Directives.{attribute_at}
@@ -26,16 +26,14 @@ pub returns-in_err-spaced_text_demanded : goal.returns-in_err-spaced_text_demand
 returns-in_err-spaced_text_demanded g c =
     let attr = attr_at g.A.IrText.reading in
     let h = may_read alone (λ name. name) identifier_at c.args.stream.now c.identifier_parse.new.stream (Ok c.in_ok-key.key) c.in_ok-key.ensures in
-    let p = err_from_is_err_and c.from_residual-in_err-spaced_text_demanded.result c.from_residual-in_err-spaced_text_demanded.ensures.1 in
-    rw (p.1, p.2) (begun_by alone (behind_key attr) h (refuses alone (behind_colon attr c.in_ok-key.key) (begins_with alone (behind_key attr) h) c.in_err-spaced_text_demanded.ensures))
+    rw (handed_on c.from_residual-in_err-spaced_text_demanded.result c.from_residual-in_err-spaced_text_demanded.ensures.1) (begun_by alone (behind_key attr) h (refuses alone (behind_colon attr c.in_ok-key.key) (begins_with alone (behind_key attr) h) c.in_err-spaced_text_demanded.ensures))
 
 pub returns-in_err-attr : goal.returns-in_err-attr
 returns-in_err-attr g c =
     let attr = attr_at g.A.IrText.reading in
     let h = may_read alone (λ name. name) identifier_at c.args.stream.now c.identifier_parse.new.stream (Ok c.in_ok-key.key) c.in_ok-key.ensures in
     let q = more alone (behind_colon attr c.in_ok-key.key) (begins_with alone (behind_key attr) h) c.in_ok-spaced_text_demanded.ensures in
-    let p = err_from_is_err_and c.from_residual-in_err-attr.result c.from_residual-in_err-attr.ensures.1 in
-    rw (p.1, p.2) (begun_by alone (behind_key attr) h (refuses_seen alone (λ a. (c.in_ok-key.key, a)) q c.in_err-attr.ensures))
+    rw (handed_on c.from_residual-in_err-attr.result c.from_residual-in_err-attr.ensures.1) (begun_by alone (behind_key attr) h (refuses_seen alone (λ a. (c.in_ok-key.key, a)) q c.in_err-attr.ensures))
 
 pub returns : goal.returns
 returns g c =

@@ -1,7 +1,7 @@
 use Rattle.std.proofs.Common.{◌≡◌, [], ◌∷◌, ap, sym}
-use Rattle.std.proofs.lemmas.Result.{err_from_is_err_and}
 use Rattle.irtext_base.specs.Format.{sym_name_key}
 use Rattle.irtext_outcomes.specs.Readers.Directives.{with_entries}
+use Rattle.irtext_read.proofs.Exits.{handed_on}
 use Rattle.irtext_parse_formats.specs.PiecesOf.{pieces_of}
 use Rattle.irtext_grammar.specs.Grammar.Tree.{ident}
 use Rattle.irtext_outcomes.proofs.Readers.PartSteps.{part_refused, part_starved}
@@ -10,8 +10,7 @@ use Rattle.irtext_parse_formats.proofs.format.pieces.header_piece.Goals as goal
 
 pub returns-in_err-symbol : goal.returns-in_err-symbol
 returns-in_err-symbol g c =
-    let p = err_from_is_err_and c.from_residual.result c.from_residual.ensures.1 in
-    rw (p.1, p.2) (part_refused (λ name. with_entries (pieces_of c.args.found.now) ((sym_name_key, ident name) ∷ [])) c.in_err-symbol.ensures)
+    rw (handed_on c.from_residual.result c.from_residual.ensures.1) (part_refused (λ name. with_entries (pieces_of c.args.found.now) ((sym_name_key, ident name) ∷ [])) c.in_err-symbol.ensures)
 
 pub returns-in-Ok : goal.returns-in-Ok
 returns-in-Ok g c =

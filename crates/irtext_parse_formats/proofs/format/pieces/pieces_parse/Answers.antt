@@ -1,8 +1,8 @@
 use Rattle.std.proofs.Common.{◌≡◌, sym, ap}
-use Rattle.std.proofs.lemmas.Result.{err_from_is_err_and}
 use Rattle.irtext_context.specs.Directives.{directives_of}
 use Rattle.irtext_read.specs.AttrTexts.{attr_at}
 use Rattle.irtext_outcomes.specs.Readers.Directives.{pieces_after, no_pieces}
+use Rattle.irtext_read.proofs.Exits.{handed_on}
 use Rattle.irtext_parse_formats.specs.PiecesOf.{pieces_of}
 use Rattle.irtext_grammar.specs.Contexts.Held.{entries_of}
 use Rattle.irtext_parse_formats.proofs.PieceSteps.{with_attributes, next_piece}
@@ -21,8 +21,7 @@ returns-in_err-piece_parse g c = λ fine.
     let attr = attr_at g.A.IrText.reading in
     let next = c.in-Some in
     let q = next_piece attr c.args.info.now.isolated next.directive.now next.rest.now (pieces_of c.loop-directive.found) next.ensures.cases.0 (c.loop-directive.invariant fine) c.skip_white_space.ensures in
-    let p = err_from_is_err_and c.from_residual.result c.from_residual.ensures.1 in
-    rw (p.1, p.2) (refuses alone (λ p u. pieces_after attr c.args.info.now.isolated (directives_of next.rest.now) p u) q c.in_err-piece_parse.ensures)
+    rw (handed_on c.from_residual.result c.from_residual.ensures.1) (refuses alone (λ p u. pieces_after attr c.args.info.now.isolated (directives_of next.rest.now) p u) q c.in_err-piece_parse.ensures)
 
 pub loop-directive-preserved : goal.loop-directive-preserved
 loop-directive-preserved g c = λ fine.

@@ -1,6 +1,6 @@
 use Rattle.std.proofs.Common.{refl}
-use Rattle.std.proofs.lemmas.Result.{err_from_is_err_and}
 use Rattle.irtext_outcomes.specs.Readers.Directives.{with_regions}
+use Rattle.irtext_read.proofs.Exits.{handed_on}
 use Rattle.irtext_parse_formats.specs.PiecesOf.{pieces_of}
 use Rattle.irtext_outcomes.proofs.Readers.PartSteps.{part_refused}
 use Rattle.irtext_parse_formats.proofs.PieceSteps.{part_added}
@@ -8,8 +8,7 @@ use Rattle.irtext_parse_formats.proofs.format.pieces.regions_piece.Goals as goal
 
 pub returns-in_err-regions : goal.returns-in_err-regions
 returns-in_err-regions g c =
-    let p = err_from_is_err_and c.from_residual.result c.from_residual.ensures.1 in
-    rw (p.1, p.2) (part_refused (with_regions (pieces_of c.args.found.now)) c.in_err-regions.ensures)
+    rw (handed_on c.from_residual.result c.from_residual.ensures.1) (part_refused (with_regions (pieces_of c.args.found.now)) c.in_err-regions.ensures)
 
 pub returns : goal.returns
 returns g c = part_added (with_regions (pieces_of c.args.found.now)) (with_regions (pieces_of c.args.found.now) c.in_ok-regions.regions) (pieces_of c.count_regions.new.found) c.count_regions.result refl c.in_ok-regions.ensures c.count_regions.ensures

@@ -1,5 +1,5 @@
 use Rattle.std.proofs.Common.{◌≡◌, suc, sym, subst, ◌∙◌, arith}
-use Rattle.std.proofs.lemmas.Result.{err_from_is_err_and}
+use Rattle.irtext_read.proofs.Exits.{handed_on}
 use Rattle.irtext_outcomes.proofs.Readers.RegionSteps.{Counted, behind_region, none_counted, all_counted, goes_on, one_more}
 use Rattle.irtext_outcomes.proofs.Readers.PlainStream.{alone}
 use Rattle.irtext_outcomes.proofs.Readers.Steps.{refuses}
@@ -10,9 +10,8 @@ loop-stream-init g c = none_counted c.args.isolated c.args.stream.now (sym c.has
 
 pub returns-in_err-region_parse : goal.returns-in_err-region_parse
 returns-in_err-region_parse g c =
-    let p = err_from_is_err_and c.from_residual.result c.from_residual.ensures.1 in
     let w = goes_on c.args.isolated (sym c.next_is.ensures ∙ c.loop-stream-test.true) c.loop-stream.invariant in
-    rw (p.1, p.2) (refuses alone (behind_region c.args.isolated w.0 c.loop-stream.found) w.2 c.in_err-region_parse.ensures)
+    rw (handed_on c.from_residual.result c.from_residual.ensures.1) (refuses alone (behind_region c.args.isolated w.0 c.loop-stream.found) w.2 c.in_err-region_parse.ensures)
 
 pub loop-stream-preserved : goal.loop-stream-preserved
 loop-stream-preserved g c =

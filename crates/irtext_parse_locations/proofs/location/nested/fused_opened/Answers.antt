@@ -1,6 +1,5 @@
 use Rattle.std.proofs.Common.{ap, sym, ◌∙◌, codes, Ok, Option}
 use Rattle.std.specs.Char.{is_whitespace}
-use Rattle.std.proofs.lemmas.Result.{err_from_is_err_and}
 use Rattle.irtext_base.specs.Answers.{Outcome, Takes, followed}
 use Rattle.irtext_base.specs.Locations.{AttrView, attr_view_in}
 use Rattle.irtext_base.specs.Stream.{StreamView}
@@ -13,6 +12,7 @@ use Rattle.irtext_read.specs.Tokens.{text_at}
 use Rattle.irtext_outcomes.specs.Readers.Locations.{metadata_at}
 use Rattle.irtext_outcomes.specs.Readers.Positions.{space_at}
 use Rattle.irtext_outcomes.specs.Readers.Streams.{itself, replaced}
+use Rattle.irtext_read.proofs.Exits.{handed_on}
 use Rattle.irtext_outcomes.proofs.Readers.PlainStream.{alone}
 use Rattle.irtext_outcomes.proofs.Readers.Steps.{Passed, first, more, spaced, refuses, starved}
 use Rattle.irtext_parse_locations.specs.Frames.{ProgressOf, row_opening_at, fused_opening_at}
@@ -44,16 +44,14 @@ module _ {A : Type 0} where
 
 pub returns-in_err-metadata : goal.returns-in_err-metadata
 returns-in_err-metadata g c =
-    let p = err_from_is_err_and c.from_residual-in_err-metadata.result c.from_residual-in_err-metadata.ensures.1 in
     let attr = attr_at g.A.IrText.reading in
-    rw (p.1, p.2) (refuses alone behind_metadata (spaced alone (behind_word attr) (first alone (λ _ t. followed (space_at t) (behind_word attr)) c.in_ok-text_demanded.ensures) c.skip_white_space.ensures) c.in_err-metadata.ensures)
+    rw (handed_on c.from_residual-in_err-metadata.result c.from_residual-in_err-metadata.ensures.1) (refuses alone behind_metadata (spaced alone (behind_word attr) (first alone (λ _ t. followed (space_at t) (behind_word attr)) c.in_ok-text_demanded.ensures) c.skip_white_space.ensures) c.in_err-metadata.ensures)
 
 pub returns-in_err-text_demanded-2 : goal.returns-in_err-text_demanded-2
 returns-in_err-text_demanded-2 g c =
-    let p = err_from_is_err_and c.from_residual-in_err-text_demanded-2.result c.from_residual-in_err-text_demanded-2.ensures.1 in
     let attr = attr_at g.A.IrText.reading in
     let m = attr_view_in c.in_ok-metadata.metadata in
-    rw (p.1, p.2) (refuses alone (λ _ t. followed (space_at t) (opened m)) (more alone behind_metadata (spaced alone (behind_word attr) (first alone (λ _ t. followed (space_at t) (behind_word attr)) c.in_ok-text_demanded.ensures) c.skip_white_space.ensures) c.in_ok-metadata.ensures) c.in_err-text_demanded-2.ensures)
+    rw (handed_on c.from_residual-in_err-text_demanded-2.result c.from_residual-in_err-text_demanded-2.ensures.1) (refuses alone (λ _ t. followed (space_at t) (opened m)) (more alone behind_metadata (spaced alone (behind_word attr) (first alone (λ _ t. followed (space_at t) (behind_word attr)) c.in_ok-text_demanded.ensures) c.skip_white_space.ensures) c.in_ok-metadata.ensures) c.in_err-text_demanded-2.ensures)
 
 pub returns-then-begins_location : goal.returns-then-begins_location
 returns-then-begins_location g c =

@@ -1,9 +1,9 @@
 use Rattle.std.proofs.Common.{sym, ◌∙◌, subst, arith, [], ◌∷◌, ◌++◌}
-use Rattle.std.proofs.lemmas.Result.{err_from_is_err_and}
 use Rattle.irtext_base.specs.Answers.{Outcome}
 use Rattle.irtext_base.specs.Locations.{AttrView, location_view}
 use Rattle.irtext_base.specs.Text.{Text}
 use Rattle.irtext_read.specs.AttrTexts.{attr_at}
+use Rattle.irtext_read.proofs.Exits.{handed_on}
 use Rattle.irtext_outcomes.proofs.Readers.Answered.{no_longer}
 use Rattle.irtext_outcomes.specs.Readers.RestLengths.{LeavesNoMore}
 use Rattle.irtext_outcomes.proofs.Readers.NewPaths.{adds_more}
@@ -31,8 +31,7 @@ returns-in_err-progress-in-Inside-2-clause-adds g c = adds_more c.loop-progress.
 
 pub returns-in_err-progress-clause-read : goal.returns-in_err-progress-clause-read
 returns-in_err-progress-clause-read g c =
-    let p = err_from_is_err_and c.from_residual.result c.from_residual.ensures.1 in
-    rw (p.1, p.2) (refused_every (attr g) (no_more g) c.location_opened.new.ctx.paths (not_begun (attr g) (no_more g) c.in_err-progress.ensures.read))
+    rw (handed_on c.from_residual.result c.from_residual.ensures.1) (refused_every (attr g) (no_more g) c.location_opened.new.ctx.paths (not_begun (attr g) (no_more g) c.in_err-progress.ensures.read))
 
 pub loop-progress-init : goal.loop-progress-init
 loop-progress-init g c =
@@ -51,10 +50,9 @@ returns-in_default-clause-paths g c =
 
 pub returns-in_err-progress-in-Whole-clause-read : goal.returns-in_err-progress-in-Whole-clause-read
 returns-in_err-progress-in-Whole-clause-read g c =
-    let p = err_from_is_err_and c.from_residual-in_err-progress-in-Whole.result c.from_residual-in_err-progress-in-Whole.ensures.1 in
     let paths = c.loop-progress.ctx.paths in
     let s = rw (c.in-Whole.is, c.in-Some.ensures.items) at c.loop-progress.invariant.so_far in
-    rw (p.1, p.2) (refused_every (attr g) (no_more g) paths (not_behind (attr g) (no_more g) c.pop.new.self.items c.in-Some.frame s paths c.in_err-progress-in-Whole.ensures))
+    rw (handed_on c.from_residual-in_err-progress-in-Whole.result c.from_residual-in_err-progress-in-Whole.ensures.1) (refused_every (attr g) (no_more g) paths (not_behind (attr g) (no_more g) c.pop.new.self.items c.in-Some.frame s paths c.in_err-progress-in-Whole.ensures))
 
 pub loop-progress-smaller-in-Whole : goal.loop-progress-smaller-in-Whole
 loop-progress-smaller-in-Whole g c = behind_less (frame_view c.in-Some.frame) (location_view c.in-Whole.location) c.in_ok-progress-in-Whole.ensures
@@ -66,9 +64,8 @@ loop-progress-preserved-in-Whole g c =
 
 pub returns-in_err-place-in-Inside-clause-read : goal.returns-in_err-place-in-Inside-clause-read
 returns-in_err-place-in-Inside-clause-read g c =
-    let p = err_from_is_err_and c.from_residual-in_err-place-in-Inside.result c.from_residual-in_err-place-in-Inside.ensures.1 in
     let one = c.in_err-place-in-Inside.ensures in
-    rw (p.1, p.2) (refused_every (attr g) (no_more g) _ (not_opened (attr g) (no_more g) c.loop-progress.frames.items c.in-Inside.frame _ one.adds.kept (rw c.in-Inside.is at c.loop-progress.invariant.so_far) (place_refused (attr g) (sym c.begins_source.ensures ∙ c.if-begins_source.true) one.read)))
+    rw (handed_on c.from_residual-in_err-place-in-Inside.result c.from_residual-in_err-place-in-Inside.ensures.1) (refused_every (attr g) (no_more g) _ (not_opened (attr g) (no_more g) c.loop-progress.frames.items c.in-Inside.frame _ one.adds.kept (rw c.in-Inside.is at c.loop-progress.invariant.so_far) (place_refused (attr g) (sym c.begins_source.ensures ∙ c.if-begins_source.true) one.read)))
 
 pub location_behind-requires-then-begins_source : goal.location_behind-requires-then-begins_source
 location_behind-requires-then-begins_source g c =
@@ -79,12 +76,11 @@ location_behind-requires-then-begins_source g c =
 
 pub returns-in_err-progress-in-Inside-clause-read : goal.returns-in_err-progress-in-Inside-clause-read
 returns-in_err-progress-in-Inside-clause-read g c =
-    let p = err_from_is_err_and c.from_residual-in_err-progress-in-Inside.result c.from_residual-in_err-progress-in-Inside.ensures.1 in
     let one = c.in_ok-place-in-Inside.ensures in
     let paths = c.place_demanded.new.ctx.paths in
     let s = rw c.in-Inside.is at c.loop-progress.invariant.so_far in
     let o = opened (attr g) (no_more g) c.loop-progress.frames.items c.in-Inside.frame paths one.adds.kept s (place_opens (attr g) (sym c.begins_source.ensures ∙ c.if-begins_source.true) one.read) one.paths in
-    rw (p.1, p.2) (refused_every (attr g) (no_more g) paths (not_behind (attr g) (no_more g) c.loop-progress.frames.items c.in-Inside.frame o paths c.in_err-progress-in-Inside.ensures))
+    rw (handed_on c.from_residual-in_err-progress-in-Inside.result c.from_residual-in_err-progress-in-Inside.ensures.1) (refused_every (attr g) (no_more g) paths (not_behind (attr g) (no_more g) c.loop-progress.frames.items c.in-Inside.frame o paths c.in_err-progress-in-Inside.ensures))
 
 pub loop-progress-smaller-then-begins_source : goal.loop-progress-smaller-then-begins_source
 loop-progress-smaller-then-begins_source g c = omega (arith, no_longer c.in_ok-place-in-Inside.ensures.read.read, behind_less (frame_view c.in-Inside.frame) (location_view c.in_ok-place-in-Inside.place) c.in_ok-progress-in-Inside.ensures)
@@ -118,6 +114,5 @@ loop-progress-preserved g c =
 
 pub returns-in_err-progress-in-Inside-2-clause-read : goal.returns-in_err-progress-in-Inside-2-clause-read
 returns-in_err-progress-in-Inside-2-clause-read g c =
-    let p = err_from_is_err_and c.from_residual-in_err-progress-in-Inside-2.result c.from_residual-in_err-progress-in-Inside-2.ensures.1 in
     let one = c.in_err-progress-in-Inside-2.ensures in
-    rw (p.1, p.2) (refused_every (attr g) (no_more g) _ (not_opened (attr g) (no_more g) c.loop-progress.frames.items c.in-Inside.frame _ one.adds.kept (rw c.in-Inside.is at c.loop-progress.invariant.so_far) one.read))
+    rw (handed_on c.from_residual-in_err-progress-in-Inside-2.result c.from_residual-in_err-progress-in-Inside-2.ensures.1) (refused_every (attr g) (no_more g) _ (not_opened (attr g) (no_more g) c.loop-progress.frames.items c.in-Inside.frame _ one.adds.kept (rw c.in-Inside.is at c.loop-progress.invariant.so_far) one.read))

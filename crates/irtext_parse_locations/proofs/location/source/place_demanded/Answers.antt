@@ -1,23 +1,21 @@
 use Rattle.std.proofs.Common.{ap}
-use Rattle.std.proofs.lemmas.Result.{err_from_is_err_and}
 use Rattle.irtext_base.specs.Locations.{src_pos}
 use Rattle.irtext_base.specs.Paths.{path_of, written_with}
 use Rattle.irtext_base.specs.declared.location.Location.{SrcPos}
 use Rattle.irtext_grammar.specs.Contexts.Held.{location_over}
 use Rattle.irtext_base.proofs.LocationViews.{seen-src_pos}
+use Rattle.irtext_read.proofs.Exits.{handed_on}
 use Rattle.irtext_outcomes.proofs.Readers.PlainStream.{alone}
 use Rattle.irtext_outcomes.proofs.Readers.Steps.{first, more, refuses, refuses_seen, last_seen}
 use Rattle.irtext_parse_locations.proofs.location.source.place_demanded.Goals as goal
 
 pub returns-in_err-spaced_text_demanded-clause-read : goal.returns-in_err-spaced_text_demanded-clause-read
 returns-in_err-spaced_text_demanded-clause-read g c =
-    let p = err_from_is_err_and c.from_residual-in_err-spaced_text_demanded.result c.from_residual-in_err-spaced_text_demanded.ensures.1 in
-    rw (p.1, p.2) (record { known = tt; read = refuses alone _ (first alone _ c.in_ok-src.ensures.read.read) c.in_err-spaced_text_demanded.ensures })
+    rw (handed_on c.from_residual-in_err-spaced_text_demanded.result c.from_residual-in_err-spaced_text_demanded.ensures.1) (record { known = tt; read = refuses alone _ (first alone _ c.in_ok-src.ensures.read.read) c.in_err-spaced_text_demanded.ensures })
 
 pub returns-in_err-pos-clause-read : goal.returns-in_err-pos-clause-read
 returns-in_err-pos-clause-read g c =
-    let p = err_from_is_err_and c.from_residual-in_err-pos.result c.from_residual-in_err-pos.ensures.1 in
-    rw (p.1, p.2) (record { known = tt; read = refuses_seen alone _ (more alone _ (first alone _ c.in_ok-src.ensures.read.read) c.in_ok-spaced_text_demanded.ensures) c.in_err-pos.ensures })
+    rw (handed_on c.from_residual-in_err-pos.result c.from_residual-in_err-pos.ensures.1) (record { known = tt; read = refuses_seen alone _ (more alone _ (first alone _ c.in_ok-src.ensures.read.read) c.in_ok-spaced_text_demanded.ensures) c.in_err-pos.ensures })
 
 pub returns-clause-read : goal.returns-clause-read
 returns-clause-read g c =

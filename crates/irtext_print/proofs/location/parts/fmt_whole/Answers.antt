@@ -1,12 +1,13 @@
-use Rattle.std.proofs.Common.{◌∙◌, ◌++◌, ◌+◌, ap, sym, refl, codes, chars, arith, true, string_bytes}
+use Rattle.std.proofs.Common.{◌∙◌, ◌++◌, ◌+◌, ◌*◌, ap, sym, refl, codes, chars, arith, true, string_bytes}
 use Rattle.std.specs.Str.{encode_utf8_all}
 use Rattle.irtext_base.specs.Causes.{position_text}
-use Rattle.irtext_base.specs.Locations.{attr_view_in, location_view}
+use Rattle.irtext_base.specs.Locations.{attr_view_in}
 use Rattle.irtext_base.specs.Paths.{path_of}
 use Rattle.irtext_base.specs.Quoted.{quoted}
+use Rattle.irtext_base.specs.Weights.{weight_of, weight_all}
 use Rattle.irtext_base.proofs.LocationViews.{seen-src_pos, seen-fused, seen-named, seen-call_site, seen-unknown}
 use Rattle.irtext_grammar.specs.Spelling.Locations.{location_text, metadata_text, source_text}
-use Rattle.irtext_print.specs.Printers.LocationParts.{list_weight, row_text, weight}
+use Rattle.irtext_print.specs.Printers.LocationParts.{row_text}
 use Rattle.irtext_print.specs.declared.location.parts.Part.TheVariants.{Whole, Row, Caller, Closing}
 use Rattle.irtext_print.proofs.Printers.LocationParts.{ended, entered, in_front, turned}
 use Rattle.irtext_print.proofs.Printers.Locations.{enclosed, word}
@@ -26,11 +27,11 @@ returns-in_ok-push_str-in-Fused-2 g c =
     let same = c.deref-in-Fused-2.ensures.value ∙ ap (λ z. z.items) c.deref-in-Fused.ensures in
     rw (c.in-Fused.is, seen-fused c.in-Fused.metadata c.in-Fused.locations)
     (turned g.A.IrText.written c.args.ctx.now.paths c.args.f.now c.push_str-in-Fused.new.self (codes "fused" ++ (metadata ++ codes "["))
-    (codes "fused" ++ (metadata ++ (codes "[" ++ row items))) (1 + list_weight items) c.args.waiting.now.items (Row c.deref-in-Fused-2.result true)
+    (codes "fused" ++ (metadata ++ (codes "[" ++ row items))) (1 + 2 * (1 + weight_all items)) c.args.waiting.now.items (Row c.deref-in-Fused-2.result true)
     (enclosed (codes "fused") metadata (codes "[") (string_bytes c.args.f.now) (string_bytes c.push_str.new.self) (string_bytes c.fmt_metadata.new.f) (string_bytes c.push_str-in-Fused.new.self) refl refl
     c.in_ok-push_str-in-Fused.ensures.bytes (c.in_ok-fmt_metadata-in-Fused.ensures ∙ ap (λ z. string_bytes c.push_str.new.self ++ encode_utf8_all (metadata_text g.A.IrText.written (attr_view_in z))) c.deref.ensures) c.in_ok-push_str-in-Fused-2.ensures.bytes)
     (ap (λ z. codes "fused" ++ (metadata ++ (codes "[" ++ row z))) (sym same) ∙ in_front (codes "fused") metadata (codes "[") (row c.deref-in-Fused-2.result.now))
-    (omega (arith, ap list_weight same)))
+    (omega (arith, ap weight_all same)))
 
 pub returns-in_ok-push_str-in-Named-2 : goal.returns-in_ok-push_str-in-Named-2
 returns-in_ok-push_str-in-Named-2 g c =
@@ -39,11 +40,11 @@ returns-in_ok-push_str-in-Named-2 g c =
     let child = c.in-Named.child_loc.value in
     rw (c.in-Named.is, seen-named c.in-Named.name c.in-Named.child_loc)
     (entered g.A.IrText.written c.args.ctx.now.paths c.inside.result c.args.f.now c.push_str-in-Named-2.new.self (codes "name: " ++ (name ++ codes ", loc: ("))
-    (codes "name: " ++ (name ++ (codes ", loc: (" ++ (text child ++ codes ")")))) (2 + weight (location_view child)) c.args.waiting.now.items c.inside.new.waiting.items (Whole c.deref-in-Named-2.result) Closing
+    (codes "name: " ++ (name ++ (codes ", loc: (" ++ (text child ++ codes ")")))) (1 + 2 * (1 + weight_of child)) c.args.waiting.now.items c.inside.new.waiting.items (Whole c.deref-in-Named-2.result) Closing
     (enclosed (codes "name: ") name (codes ", loc: (") (string_bytes c.args.f.now) (string_bytes c.push_str-in-Named.new.self) (string_bytes c.fmt_quoted.new.f) (string_bytes c.push_str-in-Named-2.new.self) refl refl
     c.in_ok-push_str-in-Named.ensures.bytes (c.in_ok-fmt_quoted-in-Named.ensures ∙ ap (λ z. string_bytes c.push_str-in-Named.new.self ++ encode_utf8_all (quoted (chars z))) (c.as_str.ensures.value ∙ ap string_bytes c.deref-in-Named.ensures)) c.in_ok-push_str-in-Named-2.ensures.bytes)
     (ap (λ z. codes "name: " ++ (name ++ (codes ", loc: (" ++ (text z ++ codes ")")))) (sym c.deref-in-Named-2.ensures) ∙ in_front (codes "name: ") name (codes ", loc: (") (text c.deref-in-Named-2.result.now ++ codes ")"))
-    (omega (arith, ap (λ z. weight (location_view z)) c.deref-in-Named-2.ensures)) c.inside.ensures.next c.inside.ensures.waiting)
+    (omega (arith, ap weight_of c.deref-in-Named-2.ensures)) c.inside.ensures.next c.inside.ensures.waiting)
 
 pub returns-in_ok-push_str-in-CallSite : goal.returns-in_ok-push_str-in-CallSite
 returns-in_ok-push_str-in-CallSite g c =
@@ -52,10 +53,10 @@ returns-in_ok-push_str-in-CallSite g c =
     let caller = c.in-CallSite.caller.value in
     rw (c.in-CallSite.is, seen-call_site c.in-CallSite.callee c.in-CallSite.caller)
     (entered g.A.IrText.written c.args.ctx.now.paths c.inside-in-CallSite.result c.args.f.now c.push_str-in-CallSite.new.self (codes "callsite(")
-    (codes "callsite(" ++ (text callee ++ (codes " at " ++ (text caller ++ codes ")")))) (3 + (weight (location_view callee) + weight (location_view caller))) c.args.waiting.now.items c.inside-in-CallSite.new.waiting.items (Whole c.deref-in-CallSite.result) (Caller c.deref-in-CallSite-2.result)
+    (codes "callsite(" ++ (text callee ++ (codes " at " ++ (text caller ++ codes ")")))) (1 + 2 * (2 + (weight_of callee + weight_of caller))) c.args.waiting.now.items c.inside-in-CallSite.new.waiting.items (Whole c.deref-in-CallSite.result) (Caller c.deref-in-CallSite-2.result)
     (c.in_ok-push_str-in-CallSite.ensures.bytes ∙ ap (λ z. string_bytes c.args.f.now ++ z) (word (codes "callsite(") refl))
     (ap (λ z. codes "callsite(" ++ (text z ++ (codes " at " ++ (text caller ++ codes ")")))) (sym c.deref-in-CallSite.ensures) ∙ ap (λ z. codes "callsite(" ++ (text c.deref-in-CallSite.result.now ++ (codes " at " ++ (text z ++ codes ")")))) (sym c.deref-in-CallSite-2.ensures))
-    (omega (arith, ap (λ z. weight (location_view z)) c.deref-in-CallSite.ensures, ap (λ z. weight (location_view z)) c.deref-in-CallSite-2.ensures)) c.inside-in-CallSite.ensures.next c.inside-in-CallSite.ensures.waiting)
+    (omega (arith, ap weight_of c.deref-in-CallSite.ensures, ap weight_of c.deref-in-CallSite-2.ensures)) c.inside-in-CallSite.ensures.next c.inside-in-CallSite.ensures.waiting)
 
 pub returns-in_ok-push_str-in-Unknown : goal.returns-in_ok-push_str-in-Unknown
 returns-in_ok-push_str-in-Unknown g c =

@@ -1,20 +1,18 @@
 use Rattle.std.proofs.Common.{refl}
-use Rattle.std.proofs.lemmas.Result.{err_from_is_err_and}
+use Rattle.irtext_read.proofs.Exits.{handed_on}
 use Rattle.irtext_read.proofs.Steps.{alone, first, more, refuses, refuses_seen, last_seen}
 use Rattle.irtext_types.specs.FunctionAttributes.{function_with, arrow_at, results_at}
 use Rattle.irtext_types.proofs.attributes.function.signature_parse.Goals as goal
 
 pub returns-in_err-spaced_text_demanded : goal.returns-in_err-spaced_text_demanded
 returns-in_err-spaced_text_demanded g c =
-    let p = err_from_is_err_and c.from_residual-in_err-spaced_text_demanded.result c.from_residual-in_err-spaced_text_demanded.ensures.1 in
-    rw (p.1, p.2) (refuses alone (λ _ t. results_at c.in_ok-inputs.inputs t) (first alone arrow_at c.in_ok-inputs.ensures) c.in_err-spaced_text_demanded.ensures)
+    rw (handed_on c.from_residual-in_err-spaced_text_demanded.result c.from_residual-in_err-spaced_text_demanded.ensures.1) (refuses alone (λ _ t. results_at c.in_ok-inputs.inputs t) (first alone arrow_at c.in_ok-inputs.ensures) c.in_err-spaced_text_demanded.ensures)
 
 pub returns-in_err-results : goal.returns-in_err-results
 returns-in_err-results g c =
     let inputs = c.in_ok-inputs.inputs in
-    let p = err_from_is_err_and c.from_residual-in_err-results.result c.from_residual-in_err-results.ensures.1 in
     let p1 = more alone (λ _ t. results_at inputs t) (first alone arrow_at c.in_ok-inputs.ensures) c.in_ok-spaced_text_demanded.ensures in
-    rw (p.1, p.2) (refuses_seen alone (function_with inputs) p1 c.in_err-results.ensures)
+    rw (handed_on c.from_residual-in_err-results.result c.from_residual-in_err-results.ensures.1) (refuses_seen alone (function_with inputs) p1 c.in_err-results.ensures)
 
 pub returns : goal.returns
 returns g c =

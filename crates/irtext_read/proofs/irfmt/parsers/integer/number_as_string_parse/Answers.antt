@@ -1,7 +1,7 @@
 use Rattle.std.proofs.Common.{◌∙◌, inl, string_bytes}
-use Rattle.std.proofs.lemmas.Result.{err_from_is_err_and}
 use Rattle.std.specs.Char.{is_ascii_digit}
 use Rattle.irtext_read.specs.Integers.{signed_text, number_text_at}
+use Rattle.irtext_read.proofs.Exits.{handed_on}
 use Rattle.irtext_read.proofs.Numerals.{signed, lead_refused, number_since, text_read, number_starves}
 use Rattle.irtext_read.proofs.Steps.{Lens, lens}
 use Rattle.irtext_read.proofs.irfmt.parsers.integer.number_as_string_parse.Given as given
@@ -14,8 +14,7 @@ stream g = let m = g.met.S.CharStream in lens g.S.CharStream.view g.S.CharStream
 pub returns-in_err-sign_parse : goal.returns-in_err-sign_parse
 unfolding number_text_at
 returns-in_err-sign_parse g c =
-    let p = err_from_is_err_and c.from_residual.result c.from_residual.ensures.1 in
-    rw (p.1, p.2) (lead_refused (stream g) is_ascii_digit signed_text _ c.args.stream.now c.sign_parse.new.stream c.in_err-sign_parse.field-0.0 c.in_err-sign_parse.ensures.answers)
+    rw (handed_on c.from_residual.result c.from_residual.ensures.1) (lead_refused (stream g) is_ascii_digit signed_text _ c.args.stream.now c.sign_parse.new.stream c.in_err-sign_parse.field-0.0 c.in_err-sign_parse.ensures.answers)
 
 pub text_since-requires : goal.text_since-requires
 text_since-requires g c =

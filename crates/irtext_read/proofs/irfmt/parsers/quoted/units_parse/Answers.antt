@@ -1,9 +1,9 @@
 use Rattle.std.proofs.Common.{rules, ◌≡◌, ◌∙◌, sym, ap, inl, string_bytes, ◌++◌}
 use Rattle.std.specs.Char.{encode_utf8}
 use Rattle.std.specs.Str.{encode_utf8_all}
-use Rattle.std.proofs.lemmas.Result.{err_from_is_err_and}
 use Rattle.irtext_base.specs.Text.{front}
 use Rattle.irtext_read.specs.QuotedTexts.{is_plain}
+use Rattle.irtext_read.proofs.Exits.{handed_on}
 use Rattle.irtext_read.proofs.QuotedSteps.{within_first, within_unit, within_more, encodes-unit, falls_by, closes, starved_within, starved_here, within_fine, spoiled}
 use Rattle.irtext_read.proofs.irfmt.parsers.quoted.units_parse.Goals as goal
 
@@ -31,8 +31,7 @@ pub returns-in_err-c : goal.returns-in_err-c
 returns-in_err-c g c =
     let m = g.met.S.CharStream in
     let h = c.loop-stream.invariant in
-    let p = err_from_is_err_and c.from_residual-in_err-c.result c.from_residual-in_err-c.ensures.1 in
-    rw (p.1, p.2) (spoiled g.S.CharStream.view g.S.CharStream.at m.view_at m.at_view m.at_at _ _ _ _ _ _ h.3 (sym c.next_is.ensures ∙ c.loop-stream-test.true) c.in_err-c.ensures)
+    rw (handed_on c.from_residual-in_err-c.result c.from_residual-in_err-c.ensures.1) (spoiled g.S.CharStream.view g.S.CharStream.at m.view_at m.at_view m.at_at _ _ _ _ _ _ h.3 (sym c.next_is.ensures ∙ c.loop-stream-test.true) c.in_err-c.ensures)
 
 pub returns-then-is_err : goal.returns-then-is_err
 returns-then-is_err g c =
@@ -45,9 +44,8 @@ pub returns-in_err-append_plain-2 : goal.returns-in_err-append_plain-2
 returns-in_err-append_plain-2 g c =
     let m = g.met.S.CharStream in
     let h = c.loop-stream.invariant in
-    let p = err_from_is_err_and c.from_residual-in_err-append_plain-2.result c.from_residual-in_err-append_plain-2.ensures.1 in
     let n = within_unit g.S.CharStream.view g.S.CharStream.at m.view_at m.at_view m.at_at _ _ _ _ _ _ h.3 (sym c.next_is.ensures ∙ c.loop-stream-test.true) c.in_ok-c.ensures in
-    rw (p.1, p.2) (inl (starved_within g.S.CharStream.view g.S.CharStream.at m.view_at m.at_view m.at_at _ _ _ _ _ _ n.1 c.in_err-append_plain-2.ensures.stream))
+    rw (handed_on c.from_residual-in_err-append_plain-2.result c.from_residual-in_err-append_plain-2.ensures.1) (inl (starved_within g.S.CharStream.view g.S.CharStream.at m.view_at m.at_view m.at_at _ _ _ _ _ _ n.1 c.in_err-append_plain-2.ensures.stream))
 
 pub loop-stream-smaller : goal.loop-stream-smaller
 loop-stream-smaller g c =

@@ -1,0 +1,59 @@
+-- What a caller needs to give back what was made since a mark: what was made is new, what was new stays so, and what is older comes back.
+use Rattle.std.proofs.Common.{◌≡◌, ◌≤◌, ◌∙◌, ℕ, ap, cond, Some, None, List}
+use Rattle.std.proofs.lemmas.Bool.{le-ltb}
+use Rattle.irtext_graph.specs.Arena.{older}
+use Rattle.irtext_graph.specs.declared.arena.Entry.{Entry}
+use Rattle.irtext_graph.specs.declared.arena.Ptr.{Ptr}
+use Rattle.irtext_graph.specs.declared.object.BasicBlock.{BasicBlock}
+use Rattle.irtext_graph.specs.declared.object.Operation.{Operation}
+use Rattle.irtext_graph.specs.declared.object.Region.{Region}
+use Rattle.irtext_graph.specs.declared.object.Value.{Value}
+use Rattle.irtext_graph.specs.Back.{AllOlder, IsClosedBelow, RollsBack}
+use Rattle.irtext_graph.specs.Graph.{GraphView, MakesOperation, MakesBlock, MakesRegion, KeepsOlder}
+use Rattle.irtext_graph.specs.Regions.{AddsRegion}
+use Rattle.irtext_graph.specs.Store.{Store, Inserts, get, before}
+use Rattle.irtext_graph.proofs.Closed.{closed_kept as closed, back_to}
+
+module _ {X K : Type 0} where
+  -- what came since a mark is not there before it
+  pub came : (m : ℕ) (old new : Store X) (p : Ptr K) (x : Entry X) → m ≤ x.born → Inserts old new p x → before m new p ≡ None
+  came m old new p x up i = ap (older m) i.updates.changed ∙ ap (λ b. cond b (Some x) None) (le-ltb x.born m up)
+
+module _ {O B T : Type 0} where
+  -- what was made since a mark is not there before it
+  pub operation_came : (m : ℕ) (old new : GraphView O B T) (p : Ptr Operation) (value : O) (types : List T) (operands : List Value) (successors : List (Ptr BasicBlock)) → m ≤ old.made
+      → MakesOperation old new p value types operands successors → before m new.operations p ≡ None
+  operation_came m old new p value types operands successors up k = came m old.operations new.operations p _ up k.operations
+
+  pub block_came : (m : ℕ) (old new : GraphView O B T) (p : Ptr BasicBlock) (value : B) (types : List T) → m ≤ old.made → MakesBlock old new p value types → before m new.blocks p ≡ None
+  block_came m old new p value types up k = came m old.blocks new.blocks p _ up k.blocks
+
+  pub region_came : (m : ℕ) (old new : GraphView O B T) (p : Ptr Region) → m ≤ old.made → MakesRegion old new p → before m new.regions p ≡ None
+  region_came m old new p up k = came m old.regions new.regions p _ up k.regions
+
+  pub added_came : (m : ℕ) (old new : GraphView O B T) (op : Ptr Operation) (p : Ptr Region) → m ≤ old.made → AddsRegion old new op p → before m new.regions p ≡ None
+  added_came m old new op p up k = came m old.regions new.regions p _ up k.regions
+
+  -- what is not there before a mark is not there before it later
+  pub operation_stays_new : (m : ℕ) (old new : GraphView O B T) (p : Ptr Operation) → KeepsOlder m old new → before m old.operations p ≡ None → before m new.operations p ≡ None
+  operation_stays_new m old new p k none = k.operations p ∙ none
+
+  pub block_stays_new : (m : ℕ) (old new : GraphView O B T) (p : Ptr BasicBlock) → KeepsOlder m old new → before m old.blocks p ≡ None → before m new.blocks p ≡ None
+  block_stays_new m old new p k none = k.blocks p ∙ none
+
+  pub region_stays_new : (m : ℕ) (old new : GraphView O B T) (p : Ptr Region) → KeepsOlder m old new → before m old.regions p ≡ None → before m new.regions p ≡ None
+  region_stays_new m old new p k none = k.regions p ∙ none
+
+  -- where all was older than the mark and is kept, a roll-back can be made
+  pub can_roll_back : (m : ℕ) (old mid : GraphView O B T) → KeepsOlder m old mid → IsClosedBelow m old → IsClosedBelow m mid
+  can_roll_back m old mid k c = closed m old mid k c
+
+  -- and brings back each object that stood, and no other
+  pub operations_back : (m : ℕ) (old mid new : GraphView O B T) → AllOlder m old → KeepsOlder m old mid → RollsBack m mid new → (p : Ptr Operation) → get new.operations p ≡ get old.operations p
+  operations_back m old mid new a k r = (back_to m old mid k a r).0
+
+  pub blocks_back : (m : ℕ) (old mid new : GraphView O B T) → AllOlder m old → KeepsOlder m old mid → RollsBack m mid new → (p : Ptr BasicBlock) → get new.blocks p ≡ get old.blocks p
+  blocks_back m old mid new a k r = (back_to m old mid k a r).1
+
+  pub regions_back : (m : ℕ) (old mid new : GraphView O B T) → AllOlder m old → KeepsOlder m old mid → RollsBack m mid new → (p : Ptr Region) → get new.regions p ≡ get old.regions p
+  regions_back m old mid new a k r = (back_to m old mid k a r).2

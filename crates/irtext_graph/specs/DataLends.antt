@@ -1,0 +1,17 @@
+-- What lending the data of an operation or of a block leaves of the graph.
+use Rattle.std.specs.Borrow.{Lends, Fml, RattleType, MutBor}
+use Rattle.irtext_graph.specs.declared.arena.Ptr.{Ptr}
+use Rattle.irtext_graph.specs.declared.object.Operation.{Operation}
+use Rattle.irtext_graph.specs.declared.object.BasicBlock.{BasicBlock}
+use Rattle.irtext_graph.specs.Graph.{GraphView}
+use Rattle.irtext_graph.specs.Data.{with_operation_data, with_block_data}
+use Rattle.irtext_graph.specs.contracts.graph.Graph as graph
+
+module _ (O B T : RattleType) (g : MutBor (GraphView O.Denot B.Denot T.Denot)) where
+  -- the graph ends with the last value behind the reference as the data of the operation
+  abbrev pub LendsOperation : Ptr Operation → MutBor O.Denot → Fml
+  LendsOperation p r = Lends (graph.the_row O B T) O g r (with_operation_data g.now p)
+
+  -- the graph ends with the last value behind the reference as the data of the block
+  abbrev pub LendsBlock : Ptr BasicBlock → MutBor B.Denot → Fml
+  LendsBlock p r = Lends (graph.the_row O B T) B g r (with_block_data g.now p)

@@ -1,0 +1,30 @@
+-- Regions that come last into operations as they are made.
+use Rattle.std.specs.Prelude.{◌≡◌, ◌<◌, ◌+◌, ◌++◌, ◌∷◌, [], Option, Some, None}
+use Rattle.std.specs.Vec.{vec_len, vec_capacity}
+use Rattle.irtext_graph.specs.declared.arena.Entry.{Entry}
+use Rattle.irtext_graph.specs.declared.arena.Ptr.{Ptr}
+use Rattle.irtext_graph.specs.declared.nest.Nest.{Nest}
+use Rattle.irtext_graph.specs.declared.object.Operation.{Operation}
+use Rattle.irtext_graph.specs.declared.object.Region.{Region}
+use Rattle.irtext_graph.specs.Store.{Inserts, Edits}
+use Rattle.irtext_graph.specs.Content.{Node}
+use Rattle.irtext_graph.specs.Graph.{GraphView}
+
+-- an object is there, and has room for one more child
+abbrev pub HasRoom : {P C D : Type 0} → Option (Entry (Nest P C D)) → Type 0
+HasRoom None = ⊥
+HasRoom (Some e) = vec_len e.content.children < vec_capacity e.content.children
+
+-- an object's node with another child, which comes last
+abbrev pub with_child : {P C E : Type 0} → Ptr C → Node P C E → Node P C E
+with_child c n = record n { children = n.children ++ c ∷ [] }
+
+module _ {O B T : Type 0} where
+  -- a region without blocks came to stand last in an operation, under a new pointer
+  pub record AddsRegion (old new : GraphView O B T) (op : Ptr Operation) (r : Ptr Region) : Type 0 where
+    pub operations : Edits old.operations new.operations op (with_child r)
+    pub regions : Inserts old.regions new.regions r (record { born = old.made; content = record { parent = Some op; children = []; content = record {} } })
+    pub blocks : new.blocks ≡ old.blocks
+    pub made : new.made ≡ old.made + 1
+    pub values : new.values ≡ old.values
+    pub first_place : new.first_place ≡ old.first_place

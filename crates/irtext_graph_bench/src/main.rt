@@ -1,0 +1,73 @@
+//! The program that the bench script counts calls on graphs and names with. Its words say what is done, within how many objects or
+//! names, and how often.
+#![tactic(auto)]
+
+mod names;
+mod objects;
+
+use std::alloc::{AllocError, Global};
+use std::process::ExitCode;
+use std::{env, io};
+
+/// Does what the word says, and says whether each call was answered as it should be.
+fn done(alloc: Global, word: &str, size: usize, times: usize) -> Result<bool, AllocError> {
+    if word == "make" {
+        return objects::make(alloc, size, times);
+    }
+    if word == "replace" {
+        return objects::replace(alloc, size, times);
+    }
+    if word == "fill" {
+        return objects::fill(alloc, size, times, false);
+    }
+    if word == "erase" {
+        return objects::fill(alloc, size, times, true);
+    }
+    if word == "texts" {
+        return Ok(names::texts(alloc, size)?.len() == size);
+    }
+    if word == "names" {
+        return names::new_names(alloc, size);
+    }
+    if word == "definitions" {
+        return names::definitions(alloc, size, times);
+    }
+    if word == "uses" {
+        return names::uses(alloc, size, times);
+    }
+    names::regions(alloc, size, times)
+}
+
+/// The number that a word says.
+fn number(word: Option<String>) -> io::Result<usize> {
+    let Some(word) = word else {
+        return Err(io::Error::from(io::ErrorKind::InvalidInput));
+    };
+    match word.as_str().parse::<usize>() {
+        Ok(number) => Ok(number),
+        Err(_) => Err(io::Error::from(io::ErrorKind::InvalidInput)),
+    }
+}
+
+/// Does what the words say, and writes whether it was done.
+fn measure(rt: &HostRuntime) -> io::Result<()> {
+    let mut words = env::args(rt)?.skip(1);
+    let Some(word) = words.next() else {
+        return Err(io::Error::from(io::ErrorKind::InvalidInput));
+    };
+    let size = number(words.next())?;
+    let times = number(words.next())?;
+    let answer = if done(rt.alloc(), word.as_str(), size, times)? {
+        "done"
+    } else {
+        "refused"
+    };
+    println!(rt; "{word} {size} {times}: {answer}")
+}
+
+fn main(rt: HostRuntime) -> ExitCode {
+    match measure(&rt) {
+        Ok(()) => ExitCode::from(0),
+        Err(_) => ExitCode::from(1),
+    }
+}

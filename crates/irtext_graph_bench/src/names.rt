@@ -1,0 +1,91 @@
+//! Calls on the names of a reading.
+
+use irtext_scopes::tracker::NameTracker;
+use std::alloc::{AllocError, Global};
+
+type Measured = NameTracker<u32, u32>;
+
+/// So many names.
+pub fn texts(alloc: Global, size: usize) -> Result<Vec<String>, AllocError> {
+    let mut texts = Vec::new(alloc);
+    for number in 0..size {
+        let text = format!(in alloc; "name_{number}")?;
+        texts.push(text)?;
+    }
+    Ok(texts)
+}
+
+/// Defines a name in the innermost scope, where it is new there.
+fn define(tracker: &mut Measured, text: &str) -> Result<bool, AllocError> {
+    let name = tracker.intern(text)?;
+    Ok(tracker.has_value_scope() && tracker.ssa_def(name, 1).is_ok())
+}
+
+/// Enters a region with a scope of its own, defines all these names in it, and leaves it.
+fn define_all(tracker: &mut Measured, texts: &[String]) -> Result<bool, AllocError> {
+    let mut all = tracker.enter_region(true).is_ok();
+    for text in texts {
+        all = define(tracker, text.as_str())? && all;
+    }
+    Ok(tracker.exit_region(true).is_none() && all)
+}
+
+/// Mentions so many names, each for the first time.
+pub fn new_names(alloc: Global, size: usize) -> Result<bool, AllocError> {
+    let texts = texts(alloc, size)?;
+    let mut tracker: Measured = NameTracker::new(alloc);
+    for text in &texts {
+        tracker.intern(text.as_str())?;
+    }
+    Ok(tracker.num_names() == size)
+}
+
+/// Defines so many names in a region of its own, so often.
+pub fn definitions(alloc: Global, size: usize, times: usize) -> Result<bool, AllocError> {
+    let texts = texts(alloc, size)?;
+    let mut tracker: Measured = NameTracker::new(alloc);
+    let mut all = true;
+    for _ in 0..times {
+        all = define_all(&mut tracker, &texts)? && all;
+    }
+    Ok(all)
+}
+
+/// Uses all these names, which are known.
+fn use_all(tracker: &mut Measured, texts: &[String]) -> Result<bool, AllocError> {
+    let mut all = true;
+    for text in texts {
+        let name = tracker.intern(text.as_str())?;
+        all = tracker.ssa_use(name).is_some() && all;
+    }
+    Ok(all)
+}
+
+/// Defines so many names in a region, and uses each so often.
+pub fn uses(alloc: Global, size: usize, times: usize) -> Result<bool, AllocError> {
+    let texts = texts(alloc, size)?;
+    let mut tracker: Measured = NameTracker::new(alloc);
+    let mut all = tracker.enter_region(true).is_ok();
+    for text in &texts {
+        all = define(&mut tracker, text.as_str())? && all;
+    }
+    for _ in 0..times {
+        all = use_all(&mut tracker, &texts)? && all;
+    }
+    Ok(all)
+}
+
+/// Enters so many regions, each in the one before, and leaves them all, so often.
+pub fn regions(alloc: Global, size: usize, times: usize) -> Result<bool, AllocError> {
+    let mut tracker: Measured = NameTracker::new(alloc);
+    let mut all = true;
+    for _ in 0..times {
+        for _ in 0..size {
+            all = tracker.enter_region(true).is_ok() && all;
+        }
+        for _ in 0..size {
+            all = tracker.exit_region(true).is_none() && all;
+        }
+    }
+    Ok(all && !tracker.has_value_scope())
+}

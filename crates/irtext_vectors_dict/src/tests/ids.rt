@@ -1,0 +1,28 @@
+//! Ids of operations made of texts.
+use crate::tests::pairs::value_or_cause;
+use irtext_base::base::OpId;
+use irtext_base::result::Result as Answer;
+use std::alloc::Global;
+use std::test::Fail;
+
+/// The texts of a dialect and of a name, and the id that they make, or why they make none.
+const IDS: &[(&str, &str, &str)] = &[
+    ("builtin", "module", "builtin.module"),
+    ("1a", "b-", "Unexpected `1`, expected identifier"),
+    ("a", "b-", "Unexpected `-`, expected identifier"),
+    ("a", "", "Unexpected end of input, expected identifier"),
+];
+
+/// The id of two texts, or why they make none.
+fn id(alloc: Global, dialect: &str, name: &str) -> Result<String, Fail> {
+    let answer: Answer<OpId, ()> = OpId::try_new(alloc, dialect, name);
+    value_or_cause(alloc, &answer)
+}
+
+#[test]
+fn ids_are_made_of_texts(rt: HostRuntime) -> Result<(), Fail> {
+    for row in IDS {
+        assert_eq!(rt; id(rt.alloc(), row.0, row.1)?.as_str(), row.2);
+    }
+    Ok(())
+}

@@ -1,0 +1,81 @@
+//! Counters that are nearly full, and the places and generations that are handed out.
+use crate::nesting::erased;
+use irtext_few::Few;
+use irtext_graph::arena::Ptr;
+use irtext_graph::graph::Graph;
+use irtext_graph::object::{Object, Region, Value};
+use std::alloc::AllocError;
+use std::test::Fail;
+
+/// Whether a pointer has this place and this generation, as they are printed.
+fn is_at(graph: &Graph<u32, u32, u8>, p: Ptr<Region>, place: u64, generation: u32) -> bool {
+    graph.number_of_place(p) == place && p.generation() == generation
+}
+
+/// Regions come to stand at 1v1, 2v1, 1v2, 3v1, 2v2, 1v3 and 4v1 as some go in between.
+fn places_come_again(graph: &mut Graph<u32, u32, u8>) -> Result<bool, AllocError> {
+    let first = graph.make_region()?;
+    let second = graph.make_region()?;
+    let begun = is_at(graph, first, 1, 1) && is_at(graph, second, 2, 1);
+    let gone = erased(graph, Object::TheRegion(first));
+    let third = graph.make_region()?;
+    let fourth = graph.make_region()?;
+    let went_on = is_at(graph, third, 1, 2) && is_at(graph, fourth, 3, 1);
+    let both = erased(graph, Object::TheRegion(third)) && erased(graph, Object::TheRegion(second));
+    let last = [
+        graph.make_region()?,
+        graph.make_region()?,
+        graph.make_region()?,
+    ];
+    let ended = is_at(graph, last[0], 2, 2)
+        && is_at(graph, last[1], 1, 3)
+        && is_at(graph, last[2], 4, 1);
+    Ok(begun && gone && went_on && both && ended)
+}
+
+/// The last place is handed out, the next is refused and nothing changes, and a place that is given back comes again.
+fn places_end(graph: &mut Graph<u32, u32, u8>) -> Result<bool, AllocError> {
+    let region = graph.make_region()?;
+    let last = is_at(graph, region, 4294967294, 1);
+    let refused = graph.make_region().is_err() && graph.made() == 1 && graph.num_live() == 1;
+    let gone = erased(graph, Object::TheRegion(region));
+    let again = graph.make_region()?;
+    Ok(last && refused && gone && is_at(graph, again, 4294967294, 2))
+}
+
+/// The last number of a value is handed out, the next is refused and nothing changes, and what needs none is made.
+fn numbers_end(graph: &mut Graph<u32, u32, u8>) -> Result<bool, AllocError> {
+    let op = graph.make_operation(1, Few::one(5), &[], &[])?;
+    let value = Value::Result(op, 0);
+    let last = graph.contains_value(value) && graph.number_of(value) == u64::MAX - 1;
+    let refused = graph.make_block(2, Few::one(6)).is_err() && graph.num_live() == 1;
+    graph.make_block(3, Few::none())?;
+    Ok(last && refused && graph.num_live() == 2)
+}
+
+#[test]
+fn places_and_generations(rt: HostRuntime) -> Result<(), Fail> {
+    let alloc = rt.alloc();
+    let mut graph = Graph::new(alloc);
+    let done = places_come_again(&mut graph).ok() == Some(true);
+    assert!(rt; done);
+    Ok(())
+}
+
+#[test]
+fn places_are_used_up(rt: HostRuntime) -> Result<(), Fail> {
+    let alloc = rt.alloc();
+    let mut graph = Graph::with_counters(alloc, 0, u32::MAX - 1);
+    let done = places_end(&mut graph).ok() == Some(true);
+    assert!(rt; done);
+    Ok(())
+}
+
+#[test]
+fn numbers_are_used_up(rt: HostRuntime) -> Result<(), Fail> {
+    let alloc = rt.alloc();
+    let mut graph = Graph::with_counters(alloc, u64::MAX - 1, 1);
+    let done = numbers_end(&mut graph).ok() == Some(true);
+    assert!(rt; done);
+    Ok(())
+}

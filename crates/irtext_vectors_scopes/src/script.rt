@@ -1,0 +1,83 @@
+//! A random script: a tracker and a plain model of it are asked the same.
+use crate::model::Model;
+use crate::random::Random;
+use crate::steps::Call::{
+    Define, DefineLabel, Enter, EnterIsolated, Exit, ExitIsolated, Use, UseLabel,
+};
+use crate::steps::{Call, Tracker, step};
+use irtext_scopes::tracker::NameTracker;
+use std::alloc::AllocError;
+use std::test::Fail;
+
+// how many calls are made
+const CALLS: usize = 20000;
+
+// the calls, each as often as it is to come
+const KINDS: &[Call] = &[
+    Enter,
+    EnterIsolated,
+    EnterIsolated,
+    Exit,
+    ExitIsolated,
+    ExitIsolated,
+    Use,
+    Use,
+    Use,
+    Use,
+    Define,
+    Define,
+    UseLabel,
+    UseLabel,
+    UseLabel,
+    DefineLabel,
+];
+
+const NAMES: &[&str] = &[
+    "a", "b", "c", "d", "e", "f", "g", "h", "aa", "ab", "ba", "bb", "block", "block_1", "v", "v_1",
+];
+
+/// Whether a tracker and its model answer the next call alike.
+fn answer_alike(
+    tracker: &mut Tracker,
+    model: &mut Model,
+    random: &mut Random,
+) -> Result<bool, AllocError> {
+    let index = random.below(NAMES.len());
+    let (Some(text), Some(call)) = (NAMES.get(index), KINDS.get(random.below(KINDS.len()))) else {
+        return Ok(false);
+    };
+    let name = tracker.intern(text)?;
+    if name != model.intern(index)? || tracker.name(name) != *text {
+        return Ok(false);
+    }
+    let value = (random.state % 1000000) as u32;
+    let (asked, answer) = model.answer(*call, name, value)?;
+    Ok(asked < tracker.num_names() && step(tracker, *call, asked, value)? == answer)
+}
+
+/// The number of the first call that the two answer differently. To look at the call, let the script end there.
+fn differing(
+    tracker: &mut Tracker,
+    model: &mut Model,
+    calls: usize,
+) -> Result<Option<usize>, AllocError> {
+    let mut random = Random {
+        state: 88172645463325252,
+    };
+    for number in 0..calls {
+        if !answer_alike(tracker, model, &mut random)? {
+            return Ok(Some(number));
+        }
+    }
+    Ok(None)
+}
+
+#[test]
+fn twenty_thousand_calls(rt: HostRuntime) -> Result<(), Fail> {
+    let alloc = rt.alloc();
+    let mut tracker: Tracker = NameTracker::new(alloc);
+    let mut model = Model::new(alloc);
+    let found = differing(&mut tracker, &mut model, CALLS)?;
+    assert_eq!(rt; found, None);
+    Ok(())
+}
