@@ -1,31 +1,46 @@
--- What was made before a mark is kept.
-use Rattle.std.proofs.Common.{◌≡◌, ℕ, ◌≤◌, false, ltb, Some, None, refl, ◌∙◌, ap, arith}
-use Rattle.std.proofs.lemmas.Bool.Decides.{nat_tests}
-use Rattle.irtext_context.specs.Arena.{older}
-use Rattle.irtext_context.specs.Context.{ContextView, OperationView, KeepsOlder, AllOlder, RollsBack, MakesOperation, before}
-use Rattle.irtext_context.specs.declared.base.arena.Object.{Object}
-use Rattle.irtext_context.specs.declared.base.arena.Ptr.{Ptr}
-use Rattle.irtext_context.specs.declared.base.operation.Operation.{Operation}
-use Rattle.irtext_context.proofs.Contexts.{same-paths}
+-- What was made before a mark is kept, and comes back as what was made since is given back.
+use Rattle.std.proofs.Common.{◌≡◌, ℕ, ◌≤◌, List, Some, None, ◌∙◌, []}
+use Rattle.irtext_context.specs.Context.{ContextView, known, KeepsOlder, RollsBack, MakesOperation, MakesBlock}
 use Rattle.irtext_context.specs.Made.{SameObjects}
-
--- an object that is no older than a mark was not there before it
-older-new : {X : Type 0} (mark : ℕ) (o : Object X) → mark ≤ o.born → older mark (Some o) ≡ None
-older-new mark o h = let e : ltb o.born mark ≡ false = grind (arith, nat_tests) in rw e refl
+use Rattle.irtext_context.specs.declared.base.block.BlockData.{BlockData}
+use Rattle.irtext_context.specs.declared.base.operation.OperationData.{OperationData}
+use Rattle.irtext_graph.specs.Back.{AllOlder, IsClosedBelow}
+use Rattle.irtext_graph.specs.Store.{before}
+use Rattle.irtext_graph.specs.declared.arena.Ptr.{Ptr}
+use Rattle.irtext_graph.specs.declared.object.BasicBlock.{BasicBlock}
+use Rattle.irtext_graph.specs.declared.object.Operation.{Operation}
+use Rattle.irtext_graph.proofs.Closed.{older_on, closed_kept, back_to}
+use Rattle.irtext_graph.proofs.Marks.{operation_came, block_came}
+use Rattle.irtext_context.proofs.Contexts.{same-paths}
 
 module _ {T A : Type 0} where
   pub kept_trans : {mark : ℕ} {old mid new : ContextView T A} → KeepsOlder mark old mid → KeepsOlder mark mid new → KeepsOlder mark old new
-  kept_trans h k = record { operations = λ p. k.operations p ∙ h.operations p; regions = λ p. k.regions p ∙ h.regions p; count = omega (arith, h.count, k.count); paths = λ i path e. k.paths i path (h.paths i path e); dialects = k.dialects ∙ h.dialects }
+  kept_trans {mark} {old} {mid} {new} h k = record {
+    graph = older_on mark old.graph mid.graph new.graph h.graph k.graph;
+    paths = λ i path e. k.paths i path (h.paths i path e);
+    dialects = k.dialects ∙ h.dialects;
+  }
 
   -- an operation that was made stood nowhere before
-  pub before_made : {old new : ContextView T A} {p : Ptr Operation} {view : OperationView T A} → (mark : ℕ) → mark ≤ old.made → MakesOperation old new p view → before mark new.operations p ≡ None
-  before_made {old = old} {view = view} mark h k = ap (older mark) k.operations.updates.changed ∙ older-new mark (record { born = old.made; content = view }) h
+  pub before_made : {old new : ContextView T A} {p : Ptr Operation} {held : OperationData A} → (mark : ℕ) → mark ≤ old.graph.made → MakesOperation old new p held → before mark new.graph.operations p ≡ None
+  before_made {old} {new} {p} {held} mark up m = operation_came mark old.graph new.graph p (Some held) [] [] [] up m.graph
+
+  -- a block that was made stood nowhere before
+  pub before_block_made : {old new : ContextView T A} {p : Ptr BasicBlock} {held : BlockData A} {types : List T} → (mark : ℕ) → mark ≤ old.graph.made → MakesBlock old new p held types → before mark new.graph.blocks p ≡ None
+  before_block_made {old} {new} {p} {held} {types} mark up m = block_came mark old.graph new.graph p held (known types) up m.graph
+
+  -- what was closed below a mark is closed while it is kept
+  pub kept_closed : {mark : ℕ} {old mid : ContextView T A} → IsClosedBelow mark old.graph → KeepsOlder mark old mid → IsClosedBelow mark mid.graph
+  kept_closed {mark} {old} {mid} c k = closed_kept mark old.graph mid.graph k.graph c
 
   -- after a rollback all stands that stood when the mark was taken, and nothing else
-  pub rolled_back : {mark : ℕ} {old mid new : ContextView T A} → AllOlder mark old → KeepsOlder mark old mid → RollsBack mark mid new → SameObjects old new
-  rolled_back a k r = record {
-    operations = λ p. r.operations.at p ∙ (k.operations p ∙ a.operations p);
-    regions = λ p. r.regions.at p ∙ (k.regions p ∙ a.regions p);
-    paths = λ i path e. same-paths r.paths i path (k.paths i path e);
-    dialects = r.dialects ∙ k.dialects;
-  }
+  pub rolled_back : {mark : ℕ} {old mid new : ContextView T A} → AllOlder mark old.graph → KeepsOlder mark old mid → RollsBack mark mid new → SameObjects old new
+  rolled_back {mark} {old} {mid} {new} a k r =
+      let b = back_to mark old.graph mid.graph k.graph a r.graph in
+      record {
+        operations = b.0;
+        blocks = b.1;
+        regions = b.2;
+        paths = λ i path e. same-paths r.paths i path (k.paths i path e);
+        dialects = r.dialects ∙ k.dialects;
+      }

@@ -1,12 +1,11 @@
-pub mod Pointers
-pub mod Arenas
-pub mod Stores
 pub mod Contexts
 pub mod Kept
 pub mod Made
+pub mod Parts
 pub mod Formats
 pub mod Dialects
 pub mod Named
 pub mod DialectTables
 pub mod Conditions
 pub mod Meetings
+pub mod Locations

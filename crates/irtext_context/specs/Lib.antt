@@ -2,10 +2,8 @@ pub mod Conditions
 pub mod Directives
 pub mod Dialects
 pub mod Named
-pub mod Arena
-pub mod Lending
 pub mod Context
 pub mod DialectTable
 pub mod DialectLends
 pub mod Made
-pub mod Room
+pub mod Locations

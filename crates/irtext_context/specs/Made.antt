@@ -1,14 +1,18 @@
 -- An operation that is made with its regions: whether it is registered, what comes to the context, and what a refusal leaves.
-use Rattle.std.specs.Prelude.{◌≡◌, ℕ, zero, suc, List, [], None, IsSome}
+use Rattle.std.specs.Prelude.{◌≡◌, ℕ, zero, suc, List, [], Option, None, IsSome}
 use Rattle.irtext_base.specs.Text.{Text}
 use Rattle.irtext_context.specs.Dialects.{Table}
 use Rattle.irtext_context.specs.DialectTable.{dialect_of, registered}
-use Rattle.irtext_context.specs.Context.{ContextView, OperationView, MakesOperation, AddsRegion, get}
+use Rattle.irtext_context.specs.Context.{ContextView, OperationView, BlockView, known, MakesOperation, AddsRegion}
+use Rattle.irtext_graph.specs.Store.{get}
 use Rattle.irtext_base.specs.Paths.{KeepsPaths}
-use Rattle.irtext_context.specs.declared.base.arena.Ptr.{Ptr}
+use Rattle.irtext_graph.specs.declared.arena.Ptr.{Ptr}
+use Rattle.irtext_graph.specs.declared.object.BasicBlock.{BasicBlock}
+use Rattle.irtext_graph.specs.declared.object.Operation.{Operation}
+use Rattle.irtext_graph.specs.declared.object.Region.{Region}
 use Rattle.irtext_base.specs.declared.base.identifier.OpId.{OpId}
-use Rattle.irtext_context.specs.declared.base.operation.Operation.{Operation}
-use Rattle.irtext_context.specs.declared.base.region.Region.{Region}
+use Rattle.irtext_context.specs.declared.base.block.BlockData.{BlockData}
+use Rattle.irtext_context.specs.declared.base.operation.OperationData.{OperationData}
 use Rattle.irtext_base.specs.declared.location.Location.{Unknown}
 use Rattle.irtext_base.specs.declared.result.Cause.{Cause, UnregisteredDialect, UnregisteredOp}
 
@@ -18,10 +22,22 @@ IsUnregistered dialects id (UnregisteredDialect name) = (name ≡ id.dialect) ×
 IsUnregistered dialects id (UnregisteredOp i) = (i ≡ id) × IsSome (dialect_of dialects id.dialect) × (registered dialects id ≡ None)
 IsUnregistered dialects id _ = ⊥
 
+-- an operation without attributes, whose location is unknown
+abbrev pub bare : {A : Type 0} → OpId → OperationData A
+bare id = record { id = id; attributes = []; loc = Unknown }
+
+-- a block with this label or none, without attributes, whose location is unknown
+abbrev pub bare_block : {A : Type 0} → Option Text → BlockData A
+bare_block label = record { label = label; attributes = []; loc = Unknown }
+
 module _ {T A : Type 0} where
-  -- an operation without results, attributes and regions, whose location is unknown
-  abbrev pub bare_view : OpId → OperationView T A
-  bare_view id = record { id = id; result_types = []; attributes = []; loc = Unknown; regions = [] }
+  -- what is seen of an operation that was made, without results and regions
+  abbrev pub made_view : OperationData A → OperationView T A
+  made_view held = record { id = held.id; result_types = []; attributes = held.attributes; loc = held.loc; regions = [] }
+
+  -- what is seen of a block that was made with arguments of these types, and holds no operation
+  abbrev pub made_block : BlockData A → List T → BlockView T A
+  made_block held types = record { label = held.label; arg_types = known types; attributes = held.attributes; loc = held.loc; operations = [] }
 
   -- as many regions came to stand in an operation, one after the other
   abbrev pub AddsRegions : ℕ → ContextView T A → ContextView T A → Ptr Operation → Type 0
@@ -31,12 +47,13 @@ module _ {T A : Type 0} where
   -- such an operation came to stand under a new pointer, and then as many regions in it
   pub record MakesWithRegions (n : ℕ) (old new : ContextView T A) (op : Ptr Operation) (id : OpId) : Type 0 where
     pub middle : ContextView T A
-    pub makes : MakesOperation old middle op (bare_view id)
+    pub makes : MakesOperation old middle op (bare id)
     pub adds : AddsRegions n middle new op
 
   -- every object that stood stands as it did, none else does, each path stays under its key, and the dialects are the same
   pub record SameObjects (old new : ContextView T A) : Type 0 where
-    pub operations : (p : Ptr Operation) → get new.operations p ≡ get old.operations p
-    pub regions : (p : Ptr Region) → get new.regions p ≡ get old.regions p
+    pub operations : (p : Ptr Operation) → get new.graph.operations p ≡ get old.graph.operations p
+    pub blocks : (p : Ptr BasicBlock) → get new.graph.blocks p ≡ get old.graph.blocks p
+    pub regions : (p : Ptr Region) → get new.graph.regions p ≡ get old.graph.regions p
     pub paths : KeepsPaths old.paths new.paths
     pub dialects : new.dialects ≡ old.dialects

@@ -1,11 +1,12 @@
-//! The context and its objects: operations and regions.
+//! The context and its objects: operations, blocks and regions, which stand in a graph.
 
-pub mod arena;
+pub mod block;
 pub mod context;
 pub mod operation;
-pub mod region;
+mod types;
 
-pub use arena::Ptr;
+pub use block::{BlockAccess, BlockData, NewBlock};
 pub use context::Context;
-pub use operation::Operation;
-pub use region::Region;
+pub use irtext_graph::arena::Ptr;
+pub use irtext_graph::object::{BasicBlock, Operation, Region};
+pub use operation::{NewOperation, OperationAccess, OperationData};

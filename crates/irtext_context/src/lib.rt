@@ -1,4 +1,4 @@
-//! The context: operations and regions in arenas, dialects with the formats of their operations, and the check of formats.
+//! The context: operations, blocks and regions, dialects with the formats of their operations, and the check of formats.
 #![tactic(auto)]
 
 pub mod base;

@@ -1,18 +1,66 @@
-//! Locations of the operations in a context, and how they are taken away.
-ghost use Rattle.std.specs.Prelude.{◌≡◌, ℕ, None, IsSome};
+//! Locations of the operations and blocks in a context, and how they are taken away.
+ghost use Rattle.std.specs.Prelude.{◌≡◌, ℕ, None, IsSome, option_map};
 ghost use Rattle.irtext_base.specs.declared.location.Location.{Unknown};
-ghost use Rattle.irtext_context.specs.Context.{operation, before, EditsOperation, KeepsOlder};
+ghost use Rattle.irtext_graph.specs.Graph.{Stands};
+ghost use Rattle.irtext_graph.specs.Throughout.{EditsObject, EditsInside, HoldsNoBlocks, IsNewInside};
+ghost use Rattle.irtext_graph.specs.declared.object.Object.TheVariants.{TheOperation};
+ghost use Rattle.irtext_context.specs.Context.{operation, with_loc, with_block_loc, EditsOperation, KeepsOlder};
+ghost use Rattle.irtext_context.specs.Locations.{ErasesLocations};
 
-use crate::base::{Context, Operation, Ptr};
+use crate::base::{BlockData, Context, Operation, OperationData, Ptr};
 use irtext_base::location::Location;
 use irtext_base::text::{AttrText, IrText};
+use irtext_graph::graph::Graph;
+use irtext_graph::object::Object;
 
-/// Sets the location of an operation, and of all that stands inside it, to `Unknown`. Nothing else changes. It takes no memory.
-/// An operation's regions hold no operations yet.
+/// Sets the location of an operation, where it is no placeholder, or of a block to `Unknown`. A region has none.
+fn erase_object<T: IrText<A>, A: AttrText>(
+    graph: &mut Graph<Option<OperationData<A>>, BlockData<A>, Option<T>>,
+    o: Object,
+)
+    requires { Stands graph.old o }
+    ensures { EditsObject graph.old graph.new o (option_map (with_loc Unknown)) (with_block_loc Unknown) }
+{
+    match o {
+        Object::TheOperation(p) => erase_held(graph.operation_mut(p)),
+        Object::TheBlock(p) => graph.block_mut(p).loc = Location::Unknown,
+        Object::TheRegion(_) => (),
+    }
+}
+
+/// Sets the location in an operation's data to `Unknown`. A placeholder has none.
+fn erase_held<A: AttrText>(held: &mut Option<OperationData<A>>)
+    ensures { held.new ≡ option_map (with_loc Unknown) held.old }
+{
+    if let Some(held) = held {
+        held.loc = Location::Unknown;
+    }
+}
+
+/// Sets the locations of all operations and blocks inside an object to `Unknown`.
+fn erase_inside<T: IrText<A>, A: AttrText>(
+    graph: &mut Graph<Option<OperationData<A>>, BlockData<A>, Option<T>>,
+    o: Object,
+)
+    requires { Stands graph.old o }
+    ensures { EditsInside graph.old graph.new o (option_map (with_loc Unknown)) (with_block_loc Unknown) }
+{
+    graph.keeps_nesting();
+    let mut at = Some(o);
+    while let Some(q) = at {
+        at = graph.next_inside(o, q);
+        erase_object(graph, q);
+    }
+}
+
+/// Sets the location of an operation, and of every operation and every block that stands inside it at any depth, to `Unknown`. Nothing
+/// else changes: where no block stands inside it, the operation alone changes. It takes no memory and does not recurse.
 pub fn erase_locations<T: IrText<A>, A: AttrText>(ctx: &mut Context<T, A>, op: Ptr<Operation>)
     requires { IsSome (operation ctx.old op) }
-    ensures erased { EditsOperation ctx.old ctx.new op (λ o. record o { loc = Unknown }) }
-    ensures kept { (mark : ℕ) → before mark ctx.old.operations op ≡ None → KeepsOlder mark ctx.old ctx.new }
+    ensures erased { ErasesLocations ctx.old ctx.new op }
+    ensures alone { HoldsNoBlocks ctx.old.graph (TheOperation op) → EditsOperation ctx.old ctx.new op (with_loc Unknown) }
+    ensures kept { (mark : ℕ) → IsNewInside mark ctx.old.graph (TheOperation op) → KeepsOlder mark ctx.old ctx.new }
 {
-    op.set_loc(ctx, Location::Unknown);
+    ctx.graph.keeps_nesting();
+    erase_inside(&mut ctx.graph, Object::TheOperation(op));
 }

@@ -1,5 +1,5 @@
 -- The data of one operation or of one block are written: all is sound, and nothing else changed.
-use Rattle.std.proofs.Common.{◌≡◌, ◌≢◌, ◌∙◌, ◌⊎◌, inl, inr, ◌==◌, ℕ, refl, sym, ap, subst, arith, Bool, true, false, cond, nat_lt, Option, Some, None, List, map, set, slice_get}
+use Rattle.std.proofs.Common.{◌≡◌, ◌≢◌, ◌∙◌, ◌⊎◌, inl, inr, ◌==◌, ℕ, refl, sym, ap, subst, arith, Bool, true, false, cond, nat_lt, Option, Some, None, List, [], ◌∷◌, zero, suc, map, set, slice_get}
 use Rattle.std.specs.Option.{option_map}
 use Rattle.std.proofs.lemmas.Bool.{eqb-true, eq-eqb, ne_eqb}
 use Rattle.std.proofs.lemmas.List.{map-set, length-set}
@@ -132,6 +132,22 @@ module _ {X : Type 0} where
     len = e.len;
   }
 
+-- an item that is written over itself
+set_same : {X : Type 0} (xs : List X) (i : ℕ) (x : X) → slice_get xs i ≡ Some x → set xs i x ≡ xs
+set_same [] i x e = absurd (cc)
+set_same (y ∷ ys) zero x e = ap (λ z. z ∷ ys) (sym (some_eq e))
+set_same (y ∷ ys) (suc i) x e = ap (λ l. y ∷ l) (set_same ys i x e)
+
+-- a content that is written over itself
+written_over : {X K : Type 0} (s : Store X) (p : Ptr K) (o : Entry X) (change : X → X) → get s p ≡ Some o → change o.content ≡ o.content → edited_at s p change ≡ s
+written_over {X} s p o change e same =
+    let was : slice_get s.cells p.index ≡ Some (record { generation = p.generation; object = Some o }) = cell_there (slice_get s.cells p.index) p.generation o e in
+    let cell : ◌≡◌ {A = Cell X} (record { generation = p.generation; object = Some (object_of change o) }) (record { generation = p.generation; object = Some o }) =
+    ap (λ x. record { generation = p.generation; object = Some (record { born = o.born; content = x }) }) same in
+    ap (λ t. with_object t s p change) e
+    ∙ ap (λ c. record s { cells = set s.cells p.index c }) cell
+    ∙ ap (λ cells. record s { cells = cells }) (set_same s.cells p.index (record { generation = p.generation; object = Some o }) was)
+
 -- what is not there before a mark is new
 not_older : {P C E O B T : Type 0} (m : ℕ) (f : ℕ × E → Content O B T) → ((d : ℕ × E) → born_of (f d) ≡ d.0) → (s : Option (Entry (Node P C E))) → older m s ≡ None → is_older m (option_map f (content_of s)) ≡ false
 not_older m f same None e = refl
@@ -140,6 +156,30 @@ not_older m f same (Some x) e = ap (λ n. nat_lt n m) (same (x.born, x.content.c
     go : (b : Bool) → cond b (Some x) None ≡ None → b ≡ false
     go true h = absurd (cc)
     go false h = refl
+
+module _ {P C E K D : Type 0} (s : Store (Node P C E)) (p : Ptr K) (value : E → D) where
+  -- the data that were read and changed are written back: the data of one object changed
+  written_back : (put : (D → D) → Node P C E → Node P C E) (change : D → D) (d : D) → ((n : Node P C E) → put (λ _. change (value n.content)) n ≡ put change n)
+      → option_map value (option_map (λ e. e.content.content) (get s p)) ≡ Some d → Edits s (edited_at s p (put (λ _. change d))) p (put change)
+  written_back put change d same e = go (get s p) refl e
+    where
+      go : (t : Option (Entry (Node P C E))) → get s p ≡ t → option_map value (option_map (λ e. e.content.content) t) ≡ Some d → Edits s (edited_at s p (put (λ _. change d))) p (put change)
+      go None f h = absurd (cc)
+      go (Some o) f h = edits_as (put (λ _. change d)) (put change)
+          (ap (option_map (object_of (put (λ _. change d)))) f
+          ∙ ap (λ x. Some (record { born = o.born; content = put (λ _. change x) o.content })) (sym (some_eq h))
+          ∙ ap (λ n. Some (record { born = o.born; content = n })) (same o.content)
+          ∙ sym (ap (option_map (object_of (put change))) f))
+          (edits_at s p o (put (λ _. change d)) f)
+
+  -- the data that were read are written back as they are: nothing changed
+  not_written : (put : (D → D) → Node P C E → Node P C E) (d : D) → ((n : Node P C E) → put (λ _. value n.content) n ≡ n)
+      → option_map value (option_map (λ e. e.content.content) (get s p)) ≡ Some d → edited_at s p (put (λ _. d)) ≡ s
+  not_written put d same e = go (get s p) refl e
+    where
+      go : (t : Option (Entry (Node P C E))) → get s p ≡ t → option_map value (option_map (λ e. e.content.content) t) ≡ Some d → edited_at s p (put (λ _. d)) ≡ s
+      go None f h = absurd (cc)
+      go (Some o) f h = written_over s p o (put (λ _. d)) f (ap (λ x. put (λ _. x) o.content) (sym (some_eq h)) ∙ same o.content)
 
 module _ {O B T : Type 0} where
   pub is_new_operation : (m : ℕ) (g : GraphView O B T) (p : Ptr Operation) → before m g.operations p ≡ None → IsNew m g (TheOperation p)
@@ -150,43 +190,32 @@ module _ {O B T : Type 0} where
 
   -- the data that were read and changed are written back: the data of one operation changed
   pub edited : (g : GraphView O B T) (p : Ptr Operation) (d : O) (change : O → O) → option_map (λ c. c.data_of) (operation_at g p) ≡ Some d → EditsOperation g (with_operation_data g p (change d)) p change
-  edited g p d change e = go (get g.operations p) refl e
-    where
-      go : (s : Option (Entry (Node BasicBlock Region (OperationContent O T)))) → get g.operations p ≡ s → option_map (λ c. c.data_of) (option_map (λ e. e.content.content) s) ≡ Some d
-          → EditsOperation g (with_operation_data g p (change d)) p change
-      go None f h = absurd (cc)
-      go (Some o) f h = record {
-        operations = edits_as (with_data (λ _. change d)) (with_data change)
-            (ap (option_map (object_of (with_data (λ _. change d)))) f
-            ∙ ap (λ x. Some (record { born = o.born; content = record o.content { content = record o.content.content { data_of = change x } } })) (sym (some_eq h))
-            ∙ sym (ap (option_map (object_of (with_data change))) f))
-            (edits_at g.operations p o (with_data (λ _. change d)) f);
-        blocks = refl;
-        regions = refl;
-        made = refl;
-        values = refl;
-        first_place = refl;
-      }
+  edited g p d change e = record {
+    operations = written_back g.operations p (λ c. c.data_of) with_data change d (λ n. refl) e;
+    blocks = refl;
+    regions = refl;
+    made = refl;
+    values = refl;
+    first_place = refl;
+  }
+
+  -- the data that were read are written back: nothing changed
+  pub unedited : (g : GraphView O B T) (p : Ptr Operation) (d : O) → option_map (λ c. c.data_of) (operation_at g p) ≡ Some d → with_operation_data g p d ≡ g
+  unedited g p d e = ap (λ s. record g { operations = s }) (not_written g.operations p (λ c. c.data_of) with_data d (λ n. refl) e)
 
   -- the same for a block
   pub edited_block : (g : GraphView O B T) (p : Ptr BasicBlock) (d : B) (change : B → B) → option_map (λ c. c.data_of) (block_at g p) ≡ Some d → EditsBlock g (with_block_data g p (change d)) p change
-  edited_block g p d change e = go (get g.blocks p) refl e
-    where
-      go : (s : Option (Entry (Node Region Operation (BlockContent B T)))) → get g.blocks p ≡ s → option_map (λ c. c.data_of) (option_map (λ e. e.content.content) s) ≡ Some d
-          → EditsBlock g (with_block_data g p (change d)) p change
-      go None f h = absurd (cc)
-      go (Some o) f h = record {
-        operations = refl;
-        blocks = edits_as (with_block (λ _. change d)) (with_block change)
-            (ap (option_map (object_of (with_block (λ _. change d)))) f
-            ∙ ap (λ x. Some (record { born = o.born; content = record o.content { content = record o.content.content { data_of = change x } } })) (sym (some_eq h))
-            ∙ sym (ap (option_map (object_of (with_block change))) f))
-            (edits_at g.blocks p o (with_block (λ _. change d)) f);
-        regions = refl;
-        made = refl;
-        values = refl;
-        first_place = refl;
-      }
+  edited_block g p d change e = record {
+    operations = refl;
+    blocks = written_back g.blocks p (λ c. c.data_of) with_block change d (λ n. refl) e;
+    regions = refl;
+    made = refl;
+    values = refl;
+    first_place = refl;
+  }
+
+  pub unedited_block : (g : GraphView O B T) (p : Ptr BasicBlock) (d : B) → option_map (λ c. c.data_of) (block_at g p) ≡ Some d → with_block_data g p d ≡ g
+  unedited_block g p d e = ap (λ s. record g { blocks = s }) (not_written g.blocks p (λ c. c.data_of) with_block d (λ n. refl) e)
 
   -- what is older than an operation whose data were written stands as it did
   pub edited-keeps : (m : ℕ) (old new : GraphView O B T) (p : Ptr Operation) (change : O → O) → before m old.operations p ≡ None → EditsOperation old new p change → KeepsOlder m old new

@@ -1,5 +1,5 @@
 -- The uses that are dropped, operation by operation.
-use Rattle.std.proofs.Common.{◌≡◌, ◌≢◌, ◌<◌, ◌+◌, ◌∙◌, ℕ, refl, sym, ap, arith, inl, inr, subst, Option, Some, None, IsSome, slice_get, length, option_map}
+use Rattle.std.proofs.Common.{◌≡◌, ◌≢◌, ◌<◌, ◌∙◌, ℕ, refl, sym, ap, arith, inl, inr, Option, Some, None, IsSome, slice_get, length, option_map}
 use Rattle.std.proofs.lemmas.Option.{slice_get-map}
 use Rattle.irtext_graph.specs.declared.arena.Arena.{Arena}
 use Rattle.irtext_graph.specs.declared.arena.Ptr.{Ptr}
@@ -30,8 +30,6 @@ use Rattle.irtext_graph.specs.Uses.{use_at, val, operand_in, successor_in, resul
 use Rattle.irtext_graph.specs.Erasing.{user, named_at}
 use Rattle.irtext_graph.proofs.Nests.{told, some_eq}
 use Rattle.irtext_graph.proofs.Same.{object_tells}
-use Rattle.irtext_graph.proofs.Moves.{lower}
-use Rattle.irtext_graph.proofs.Pointers.{equal_or_not}
 use Rattle.irtext_graph.proofs.Linked.{site_tells, defined_tells}
 use Rattle.irtext_graph.proofs.Chains.{reframed}
 use Rattle.irtext_graph.proofs.Stores.{get_seen, generation_seen, length_seen}
@@ -59,39 +57,6 @@ places_alike {X} {Y} see a b e = record {
             let born : x.born ≡ o.born = ap (λ (y : Entry Y). y.born) z in
             let l = old i g x h in
             omega (arith, born, l)
-
--- operands of p up to an index, or all, and successors up to an index
-abbrev pub FirstOperands : Ptr Operation → ℕ → Site → Type 0
-FirstOperands p n (AtOperand q j) = (q ≡ p) × (j < n)
-FirstOperands p n (AtSuccessor q j) = ⊥
-
-abbrev pub FirstSuccessors : Ptr Operation → ℕ → Site → Type 0
-FirstSuccessors p n (AtOperand q j) = q ≡ p
-FirstSuccessors p n (AtSuccessor q j) = (q ≡ p) × (j < n)
-
-pub operand_more : (p : Ptr Operation) (n : ℕ) (u : Site) → FirstOperands p n u → FirstOperands p (n + 1) u
-operand_more p n (AtOperand q j) o = (o.0, let l = o.1 in omega (arith, l))
-operand_more p n (AtSuccessor q j) o = o
-
-pub operand_less : (p : Ptr Operation) (n : ℕ) (u : Site) → FirstOperands p (n + 1) u → u ≢ AtOperand p n → FirstOperands p n u
-operand_less p n (AtOperand q j) o ne = (o.0, elim (equal_or_not j n) [ inl e ↦ absurd (ne (rw (o.0, e) refl)) | inr m ↦ omega (arith, o.1, m) ])
-operand_less p n (AtSuccessor q j) o ne = o
-
-pub successor_more : (p : Ptr Operation) (n : ℕ) (u : Site) → FirstSuccessors p n u → FirstSuccessors p (n + 1) u
-successor_more p n (AtOperand q j) o = o
-successor_more p n (AtSuccessor q j) o = (o.0, let l = o.1 in omega (arith, l))
-
-pub successor_less : (p : Ptr Operation) (n : ℕ) (u : Site) → FirstSuccessors p (n + 1) u → u ≢ AtSuccessor p n → FirstSuccessors p n u
-successor_less p n (AtOperand q j) o ne = o
-successor_less p n (AtSuccessor q j) o ne = (o.0, elim (equal_or_not j n) [ inl e ↦ absurd (ne (rw (o.0, e) refl)) | inr m ↦ omega (arith, o.1, m) ])
-
-mapped_some : {X Y : Type 0} (f : X → Y) (o : Option X) → IsSome (option_map f o) → IsSome o
-mapped_some f None l = absurd (cc)
-mapped_some f (Some x) l = refl
-
-some_mapped : {X Y : Type 0} (f : X → Y) (o : Option X) → IsSome o → IsSome (option_map f o)
-some_mapped f None l = absurd (cc)
-some_mapped f (Some x) l = refl
 
 module _ {O B T : Type 0} where
   -- what is named at a place, as the object shows it
@@ -143,82 +108,16 @@ module _ {O B T : Type 0} where
     region_places = places_alike (node_of region_content) x.regions y.regions (ap (λ (g : GraphView O B T). g.regions) e);
   }
 
-  -- the uses that are in `out` left their lists
-  pub record Detached (x0 x : Objects O B T) (out : Site → Type 0) : Type 0 where
-    pub linked : AreUsesLinked x
-    pub alike : seen x ≡ seen x0
-    pub kept : (u : Site) → (out u → ⊥) → val x u ≡ val x0 u
-    pub gone : (u : Site) → out u → val x u ≡ None
+  -- the operands of p left their lists, and then its successors
+  module _ (x y z : Objects O B T) (p : Ptr Operation) (operands : (i : ℕ) → val y (AtOperand p i) ≡ None) (successors : (i : ℕ) → val z (AtSuccessor p i) ≡ None)
+      (first : (u : Site) → ((i : ℕ) → u ≢ AtOperand p i) → val y u ≡ val x u) (second : (u : Site) → ((i : ℕ) → u ≢ AtSuccessor p i) → val z u ≡ val y u) where
+    pub all_out : (u : Site) → user u ≡ TheOperation p → val z u ≡ None
+    all_out (AtOperand q j) e = let s : q ≡ p = cc in second (AtOperand q j) (λ i k. absurd (cc)) ∙ ap (λ r. val y (AtOperand r j)) s ∙ operands j
+    all_out (AtSuccessor q j) e = let s : q ≡ p = cc in ap (λ r. val z (AtSuccessor r j)) s ∙ successors j
 
-  pub detached_none : (x : Objects O B T) (p : Ptr Operation) → AreUsesLinked x → Detached x x (FirstOperands p 0)
-  detached_none x p linked = record { linked = linked; alike = refl; kept = λ u away. refl; gone = λ u o. absurd (none u o) }
-    where
-      none : (u : Site) → FirstOperands p 0 u → ⊥
-      none (AtOperand q j) o = let l = o.1 in omega (arith, l)
-      none (AtSuccessor q j) o = o
-
-  pub one_more : {x0 x y : Objects O B T} {out out' : Site → Type 0} (s : Site) → Detached x0 x out → out' s → ((u : Site) → out u → out' u) → ((u : Site) → out' u → u ≢ s → out u)
-      → AreUsesLinked y → val y s ≡ None → ((w : Site) → w ≢ s → val y w ≡ val x w) → seen y ≡ seen x → Detached x0 y out'
-  one_more {x0} {x} {y} {out} {out'} s d at more less linked none others same = record {
-    linked = linked;
-    alike = same ∙ d.alike;
-    kept = λ u away. elim (told site_tells u s) [
-      | inl e ↦ absurd (away (subst out' (sym e) at))
-      | inr ne ↦ others u ne ∙ d.kept u (λ o. away (more u o))
-    ];
-    gone = λ u o. elim (told site_tells u s) [
-      | inl e ↦ ap (val y) e ∙ none
-      | inr ne ↦ others u ne ∙ d.gone u (less u o ne)
-    ];
-  }
-
-  -- a use that is not there is in no list
-  pub none_used : (x : Objects O B T) (u : Site) → (IsSome (use_at x u) → ⊥) → val x u ≡ None
-  none_used x u away = go (use_at x u) refl
-    where
-      go : (o : Option (Use Defined)) → use_at x u ≡ o → val x u ≡ None
-      go None e = ap def_of e
-      go (Some o) e = absurd (away (rw e refl))
-
-  pub operand_used : (x : Objects O B T) (p : Ptr Operation) (i : ℕ) → IsSome (operand_in (arena.get x.operations p) i) → IsSome (use_at x (AtOperand p i))
-  operand_used x p i l = some_mapped (either OfValue) (operand_in (arena.get x.operations p) i) l
-
-  pub successor_used : (x : Objects O B T) (p : Ptr Operation) (i : ℕ) → IsSome (successor_in (arena.get x.operations p) i) → IsSome (use_at x (AtSuccessor p i))
-  successor_used x p i l = some_mapped (either OfBlock) (successor_in (arena.get x.operations p) i) l
-
-  pub successor_there : (x y : Objects O B T) (p : Ptr Operation) (i : ℕ) → seen y ≡ seen x → IsSome (successor_in (arena.get x.operations p) i) → IsSome (successor_in (arena.get y.operations p) i)
-  successor_there x y p i e l = mapped_some (either OfBlock) (successor_in (arena.get y.operations p) i) (use_there y x (AtSuccessor p i) (sym (alike_what x y e (TheOperation p))) (successor_used x p i l))
-
-  -- all operands of p are out, and so its successors come
-  pub operands_out : {x0 x : Objects O B T} (p : Ptr Operation) (n : ℕ) → ((i : ℕ) → IsSome (operand_in (arena.get x0.operations p) i) → i < n) → Detached x0 x (FirstOperands p n) → Detached x0 x (FirstSuccessors p 0)
-  operands_out {x0} {x} p n all d = record { linked = d.linked; alike = d.alike; kept = kept; gone = gone }
-    where
-      kept : (u : Site) → (FirstSuccessors p 0 u → ⊥) → val x u ≡ val x0 u
-      kept (AtOperand q j) away = d.kept (AtOperand q j) (λ o. away o.0)
-      kept (AtSuccessor q j) away = d.kept (AtSuccessor q j) (λ o. o)
-
-      gone : (u : Site) → FirstSuccessors p 0 u → val x u ≡ None
-      gone (AtOperand q j) o = elim (lower j n) [
-        | inl l ↦ d.gone (AtOperand q j) (o, l)
-        | inr h ↦ d.kept (AtOperand q j) (λ k. let l = k.1 in omega (arith, l, h)) ∙ none_used x0 (AtOperand q j)
-            (λ l. let k = all j (subst (λ r. IsSome (operand_in (arena.get x0.operations r) j)) o (mapped_some (either OfValue) (operand_in (arena.get x0.operations q) j) l)) in omega (arith, k, h))
-      ]
-      gone (AtSuccessor q j) o = absurd (let l = o.1 in omega (arith, l))
-
-  -- all that p uses is out
-  pub all_out : {x0 x : Objects O B T} (p : Ptr Operation) (n : ℕ) → ((i : ℕ) → IsSome (successor_in (arena.get x0.operations p) i) → i < n) → Detached x0 x (FirstSuccessors p n) → (u : Site) → user u ≡ TheOperation p → val x u ≡ None
-  all_out {x0} {x} p n all d (AtOperand q j) e = d.gone (AtOperand q j) (let k : q ≡ p = cc in k)
-  all_out {x0} {x} p n all d (AtSuccessor q j) e =
-      let s : q ≡ p = cc in
-      elim (lower j n) [
-        | inl l ↦ d.gone (AtSuccessor q j) (s, l)
-        | inr h ↦ d.kept (AtSuccessor q j) (λ k. let l = k.1 in omega (arith, l, h)) ∙ none_used x0 (AtSuccessor q j)
-            (λ l. let k = all j (subst (λ r. IsSome (successor_in (arena.get x0.operations r) j)) s (mapped_some (either OfBlock) (successor_in (arena.get x0.operations q) j) l)) in omega (arith, k, h))
-      ]
-
-  pub others_in : {x0 x : Objects O B T} (p : Ptr Operation) (n : ℕ) → Detached x0 x (FirstSuccessors p n) → (u : Site) → user u ≢ TheOperation p → val x u ≡ val x0 u
-  others_in p n d (AtOperand q j) ne = d.kept (AtOperand q j) (λ o. ne (ap TheOperation o))
-  others_in p n d (AtSuccessor q j) ne = d.kept (AtSuccessor q j) (λ o. ne (ap TheOperation o.0))
+    pub others_in : (u : Site) → user u ≢ TheOperation p → val z u ≡ val x u
+    others_in (AtOperand q j) ne = second (AtOperand q j) (λ i k. absurd (cc)) ∙ first (AtOperand q j) (λ i k. let s : q ≡ p = cc in ne (ap TheOperation s))
+    others_in (AtSuccessor q j) ne = second (AtSuccessor q j) (λ i k. let s : q ≡ p = cc in ne (ap TheOperation s)) ∙ first (AtSuccessor q j) (λ i k. absurd (cc))
 
   -- what p used is dropped, after it left its lists
   module _ (x0 x z : Objects O B T) (p : Ptr Operation) (linked : AreUsesLinked x) (alike : seen x ≡ seen x0)

@@ -16,7 +16,8 @@ use Rattle.irtext_graph.specs.Content.{Content, Content.{AnOperation, ABlock, AR
 use Rattle.irtext_graph.specs.Graph.{no_counters, seen, content, parent, children, parent_of, children_of, content_of}
 use Rattle.irtext_graph.specs.Objects.{up, kids, what, Lives, IsForest, SamePlaces, eq_object}
 use Rattle.irtext_graph.specs.Uses.{use_at, val, AreUsesLinked}
-use Rattle.irtext_graph.specs.Erasing.{without_uses, without_uses_in}
+use Rattle.irtext_graph.specs.Erasing.{without_uses}
+use Rattle.irtext_graph.specs.Used.{without_uses_in}
 use Rattle.irtext_graph.specs.Preorder.{left, slots}
 use Rattle.irtext_graph.proofs.Nests.{told, some_eq, renested, climb-same}
 use Rattle.irtext_graph.proofs.Same.{object_tells}

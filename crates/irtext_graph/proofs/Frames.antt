@@ -17,7 +17,7 @@ use Rattle.irtext_graph.proofs.Nests.{told, seen, some_eq}
 use Rattle.irtext_graph.proofs.Same.{object_tells}
 use Rattle.irtext_graph.proofs.Made.{same_keeps}
 
-map_same : {X Y : Type 0} (f : X → Y) → ((a b : X) → f a ≡ f b → a ≡ b) → (xs ys : List X) → map f xs ≡ map f ys → xs ≡ ys
+pub map_same : {X Y : Type 0} (f : X → Y) → ((a b : X) → f a ≡ f b → a ≡ b) → (xs ys : List X) → map f xs ≡ map f ys → xs ≡ ys
 map_same f one [] [] e = refl
 map_same f one [] (y ∷ ys) e = absurd (cc)
 map_same f one (x ∷ xs) [] e = absurd (cc)
@@ -38,18 +38,18 @@ pair {X} {Y} {a} {b} e f = go a.0 b.0 a.1 b.1 e f
     go : (x x' : X) (y y' : Y) → x ≡ x' → y ≡ y' → ◌≡◌ {A = X × Y} (x, y) (x', y')
     go x x' y y' e f = rw (e, f) refl
 
-block_same : (a b : Ptr BasicBlock) → TheBlock a ≡ TheBlock b → a ≡ b
+pub block_same : (a b : Ptr BasicBlock) → TheBlock a ≡ TheBlock b → a ≡ b
 block_same a b e = cc
 
-region_same : (a b : Ptr Region) → TheRegion a ≡ TheRegion b → a ≡ b
+pub region_same : (a b : Ptr Region) → TheRegion a ≡ TheRegion b → a ≡ b
 region_same a b e = cc
 
-operation_same : (a b : Ptr Operation) → TheOperation a ≡ TheOperation b → a ≡ b
+pub operation_same : (a b : Ptr Operation) → TheOperation a ≡ TheOperation b → a ≡ b
 operation_same a b e = cc
 
 module _ {P C E : Type 0} where
   -- an object is known by what it stands in, what stands in it, and what it is
-  entry_same : (x y : Option (Entry (Node P C E))) → parent_of x ≡ parent_of y → children_of x ≡ children_of y → content_of x ≡ content_of y → x ≡ y
+  pub entry_same : (x y : Option (Entry (Node P C E))) → parent_of x ≡ parent_of y → children_of x ≡ children_of y → content_of x ≡ content_of y → x ≡ y
   entry_same None None p c e = refl
   entry_same None (Some y) p c e = absurd (cc)
   entry_same (Some x) None p c e = absurd (cc)
@@ -78,19 +78,19 @@ module _ {O B T : Type 0} where
   abbrev as_region : ℕ × RegionContent → Content O B T
   as_region d = ARegion d.0 d.1
 
-  operation_content_same : (g h : GraphView O B T) (p : Ptr Operation) → content h (TheOperation p) ≡ content g (TheOperation p) → content_of (get h.operations p) ≡ content_of (get g.operations p)
+  pub operation_content_same : (g h : GraphView O B T) (p : Ptr Operation) → content h (TheOperation p) ≡ content g (TheOperation p) → content_of (get h.operations p) ≡ content_of (get g.operations p)
   operation_content_same g h p e = option_same as_operation one (content_of (get h.operations p)) (content_of (get g.operations p)) e
     where
       one : (a b : ℕ × OperationContent O T) → ◌≡◌ {A = Content O B T} (AnOperation a.0 a.1) (AnOperation b.0 b.1) → a ≡ b
       one a b e = let x : a.0 ≡ b.0 = cc in let y : a.1 ≡ b.1 = cc in pair x y
 
-  block_content_same : (g h : GraphView O B T) (p : Ptr BasicBlock) → content h (TheBlock p) ≡ content g (TheBlock p) → content_of (get h.blocks p) ≡ content_of (get g.blocks p)
+  pub block_content_same : (g h : GraphView O B T) (p : Ptr BasicBlock) → content h (TheBlock p) ≡ content g (TheBlock p) → content_of (get h.blocks p) ≡ content_of (get g.blocks p)
   block_content_same g h p e = option_same as_block one (content_of (get h.blocks p)) (content_of (get g.blocks p)) e
     where
       one : (a b : ℕ × BlockContent B T) → ◌≡◌ {A = Content O B T} (ABlock a.0 a.1) (ABlock b.0 b.1) → a ≡ b
       one a b e = let x : a.0 ≡ b.0 = cc in let y : a.1 ≡ b.1 = cc in pair x y
 
-  region_content_same : (g h : GraphView O B T) (p : Ptr Region) → content h (TheRegion p) ≡ content g (TheRegion p) → content_of (get h.regions p) ≡ content_of (get g.regions p)
+  pub region_content_same : (g h : GraphView O B T) (p : Ptr Region) → content h (TheRegion p) ≡ content g (TheRegion p) → content_of (get h.regions p) ≡ content_of (get g.regions p)
   region_content_same g h p e = option_same as_region one (content_of (get h.regions p)) (content_of (get g.regions p)) e
     where
       one : (a b : ℕ × RegionContent) → ◌≡◌ {A = Content O B T} (ARegion a.0 a.1) (ARegion b.0 b.1) → a ≡ b

@@ -42,6 +42,11 @@ pub mod Erasures
 pub mod LogsSeen
 pub mod Sites
 pub mod Data
+pub mod Edited
 pub mod Added
 pub mod Marks
 pub mod Forgotten
+pub mod Rounds
+pub mod Throughout
+pub mod Going
+pub mod Alone

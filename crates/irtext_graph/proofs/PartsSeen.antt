@@ -23,8 +23,7 @@ use Rattle.irtext_graph.specs.Nest.{datum_in}
 use Rattle.irtext_graph.specs.Content.{node_of, typed, operation_content, block_content}
 use Rattle.irtext_graph.specs.Graph.{graph_of, Stands}
 use Rattle.irtext_graph.specs.Uses.{result_in, argument_in}
-use Rattle.irtext_graph.specs.Values.{definition_at}
-use Rattle.irtext_graph.specs.Parts.{operation_at, block_at, operands_of, successors_of, results_of, arguments_of, operands, successors, results, arguments, value_at, ValueStands}
+use Rattle.irtext_graph.specs.Parts.{operation_at, block_at, operands_of, successors_of, results_of, arguments_of, operands, successors, results, arguments, value_at, ValueStands, definition_at}
 use Rattle.irtext_graph.proofs.Stores.{get_seen}
 use Rattle.irtext_graph.proofs.Views.{lives_at}
 

@@ -95,6 +95,12 @@ module _ {O B T : Type 0} (m : ℕ) (v : Counters) (x : Objects O B T) where
   pub lists_seen : AreAllUsed x → (d : Defined) (us : List Site) → Lists (λ u. val x u ≡ Some d) us → Lists (IsUse (graph_of m v x) d) us
   lists_seen all d us l = lists_alike us (λ u e. sym (val_seen all u) ∙ e) (λ u e. val_seen all u ∙ e) l
 
+  -- what is used is there
+  pub use_stands : IsSound m x → (u : Site) (d : Defined) → IsUse (graph_of m v x) d u → IsDefined (graph_of m v x) d
+  use_stands s u d e =
+      let k = s.uses.stands u d (val_seen s.all_used u ∙ e) in
+      head_stands d (rw k.1 refl)
+
   -- what has a first use is used, and what is used has one
   pub is_used : IsSound m x → (d : Defined) (h : Option Site) → head_at x d ≡ Some h → IsSome h → (u : Site) × IsUse (graph_of m v x) d u
   is_used s d None at l = absurd (cc)
@@ -113,7 +119,7 @@ module _ {O B T : Type 0} where
       go None = refl
       go (Some e) = refl
 
-  defined_bare : (g : GraphView O B T) (d : Defined) → IsDefined (without_uses g) d ≡ IsDefined g d
+  pub defined_bare : (g : GraphView O B T) (d : Defined) → IsDefined (without_uses g) d ≡ IsDefined g d
   defined_bare g (OfValue (Result p i)) = ap (λ rs. IsSome (slice_get rs i)) (results_bare g p)
   defined_bare g (OfValue (Argument b i)) = refl
   defined_bare g (OfBlock b) = refl

@@ -1,4 +1,4 @@
--- What lending the data of an operation or of a block leaves of the graph.
+-- What lending the data of an operation or of a block leaves of the graph, and lending the graph of what holds it.
 use Rattle.std.specs.Borrow.{Lends, Fml, RattleType, MutBor}
 use Rattle.irtext_graph.specs.declared.arena.Ptr.{Ptr}
 use Rattle.irtext_graph.specs.declared.object.Operation.{Operation}
@@ -15,3 +15,7 @@ module _ (O B T : RattleType) (g : MutBor (GraphView O.Denot B.Denot T.Denot)) w
   -- the graph ends with the last value behind the reference as the data of the block
   abbrev pub LendsBlock : Ptr BasicBlock → MutBor B.Denot → Fml
   LendsBlock p r = Lends (graph.the_row O B T) B g r (with_block_data g.now p)
+
+-- what holds a graph ends with the last value behind the reference as its graph
+abbrev pub LendsGraph : (O B T C : RattleType) → (C.Denot → GraphView O.Denot B.Denot T.Denot → C.Denot) → MutBor C.Denot → MutBor (GraphView O.Denot B.Denot T.Denot) → Fml
+LendsGraph O B T C with_graph c r = Lends C (graph.the_row O B T) c r (with_graph c.now)

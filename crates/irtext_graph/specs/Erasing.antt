@@ -1,9 +1,7 @@
 -- What may go, and what goes: all that the operations inside an object use, and all inside an object.
-use Rattle.std.specs.Prelude.{◌≡◌, ◌≢◌, ℕ, [], slice_get, Option, Some, None}
+use Rattle.std.specs.Prelude.{◌≡◌, ◌≢◌, ℕ, slice_get, Option, Some, None}
 use Rattle.std.specs.Option.{option_map}
 use Rattle.std.specs.List.{remove}
-use Rattle.irtext_graph.specs.declared.object.BasicBlock.{BasicBlock}
-use Rattle.irtext_graph.specs.declared.object.Region.{Region}
 use Rattle.irtext_graph.specs.declared.object.Object.{Object}
 use Rattle.irtext_graph.specs.declared.object.Object.TheVariants.{TheOperation, TheBlock}
 use Rattle.irtext_graph.specs.declared.object.Value.TheVariants.{Result, Argument}
@@ -14,22 +12,15 @@ use Rattle.irtext_graph.specs.declared.object.Site.TheVariants.{AtOperand, AtSuc
 use Rattle.irtext_graph.specs.declared.objects.Objects.{Objects}
 use Rattle.irtext_graph.specs.Nested.{Within}
 use Rattle.irtext_graph.specs.Objects.{up}
+use Rattle.irtext_graph.specs.Used.{without_operands}
 use Rattle.irtext_graph.specs.Uses.{val}
-use Rattle.irtext_graph.specs.Content.{Node, Content, Content.{AnOperation, ABlock, ARegion}, OperationContent}
+use Rattle.irtext_graph.specs.Content.{Content, Content.{AnOperation, ABlock, ARegion}}
 use Rattle.irtext_graph.specs.Store.{generation_at}
 use Rattle.irtext_graph.specs.Graph.{GraphView, SamePlaces, parent, children, content, IsInside}
 
--- an operation that uses nothing
-abbrev pub unused : {O T : Type 0} → OperationContent O T → OperationContent O T
-unused c = record { data_of = c.data_of; operands = []; successors = []; results = c.results }
-
--- an operation that uses nothing, with its place in the forest
-abbrev pub without_uses_in : {O T : Type 0} → Node BasicBlock Region (OperationContent O T) → Node BasicBlock Region (OperationContent O T)
-without_uses_in n = record { parent = n.parent; children = n.children; content = unused n.content }
-
 -- an object that uses nothing
 abbrev pub without_uses : {O B T : Type 0} → Content O B T → Content O B T
-without_uses (AnOperation b c) = AnOperation b (unused c)
+without_uses (AnOperation b c) = AnOperation b (without_operands c)
 without_uses (ABlock b c) = ABlock b c
 without_uses (ARegion b c) = ARegion b c
 

@@ -1,5 +1,5 @@
--- New uses, which are in no use list yet, and new operations, which use what they name by these.
-use Rattle.std.specs.Prelude.{◌≡◌, ℕ, List, [], map, None, false}
+-- New uses, which are in no use list yet, new values, which nothing uses, and new operations, which have both.
+use Rattle.std.specs.Prelude.{◌≡◌, ◌≢◌, ℕ, List, [], map, Some, None, false, slice_get}
 use Rattle.irtext_graph.specs.declared.arena.Ptr.{Ptr}
 use Rattle.irtext_graph.specs.declared.nest.Nest.{Nest}
 use Rattle.irtext_graph.specs.declared.object.Operation.{Operation}
@@ -8,11 +8,14 @@ use Rattle.irtext_graph.specs.declared.object.Region.{Region}
 use Rattle.irtext_graph.specs.declared.object.Value.{Value}
 use Rattle.irtext_graph.specs.declared.object.Site.{Site}
 use Rattle.irtext_graph.specs.declared.object.Site.TheVariants.{AtOperand, AtSuccessor}
+use Rattle.irtext_graph.specs.declared.objects.Definition.{Definition}
 use Rattle.irtext_graph.specs.declared.objects.Use.{Use}
 use Rattle.irtext_graph.specs.declared.objects.OperationData.{OperationData}
 use Rattle.irtext_graph.specs.declared.linking.Side.{Side}
 use Rattle.irtext_graph.specs.declared.linking.Side.TheVariants.{Operands, Successors}
-use Rattle.irtext_graph.specs.Defines.{Defines}
+use Rattle.irtext_graph.specs.Content.{typed}
+use Rattle.irtext_graph.specs.Graph.{numbered}
+use Rattle.irtext_graph.specs.Uses.{first_of}
 
 -- a use of this that is in no use list
 abbrev pub unlinked : {D : Type 0} → D → Use D
@@ -22,6 +25,11 @@ unlinked d = record { def = d; links = record { linked = false; prev = None; nex
 abbrev pub site_of : Side → Ptr Operation → ℕ → Site
 site_of Operands p i = AtOperand p i
 site_of Successors p i = AtSuccessor p i
+
+-- the definitions are values of these types, numbered from a number on, which nothing uses
+pub record Defines {T : Type 0} (ds : List (Definition T)) (types : List T) (from : ℕ) : Type 0 where
+  pub values : map typed ds ≡ numbered from types
+  pub unused : (i : ℕ) (u : Site) → first_of (slice_get ds i) ≢ Some (Some u)
 
 -- the operation stands nowhere, holds none, names these values and blocks, and nothing uses its results
 pub record IsBlank {O T : Type 0} (n : Nest BasicBlock Region (OperationData O T)) (value : O) (types : List T) (from : ℕ)

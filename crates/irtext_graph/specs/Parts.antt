@@ -7,7 +7,11 @@ use Rattle.irtext_graph.specs.declared.object.BasicBlock.{BasicBlock}
 use Rattle.irtext_graph.specs.declared.object.Region.{Region}
 use Rattle.irtext_graph.specs.declared.object.Value.{Value}
 use Rattle.irtext_graph.specs.declared.object.Value.TheVariants.{Result, Argument}
+use Rattle.irtext_graph.specs.declared.objects.Objects.{Objects}
+use Rattle.irtext_graph.specs.declared.objects.Definition.{Definition}
+use Rattle.irtext_graph.specs.Arena as arena
 use Rattle.irtext_graph.specs.Store.{get}
+use Rattle.irtext_graph.specs.Uses.{result_in, argument_in}
 use Rattle.irtext_graph.specs.Content.{Typed, OperationContent, BlockContent}
 use Rattle.irtext_graph.specs.Graph.{GraphView, children_of}
 
@@ -78,3 +82,8 @@ module _ {O B T : Type 0} where
   -- the value is there
   abbrev pub ValueStands : GraphView O B T → Value → Type 0
   ValueStands g v = IsSome (value_at g v)
+
+  -- what a value is, with its uses, where it is there
+  abbrev pub definition_at : Objects O B T → Value → Option (Definition T)
+  definition_at x (Result p i) = result_in (arena.get x.operations p) i
+  definition_at x (Argument p i) = argument_in (arena.get x.blocks p) i

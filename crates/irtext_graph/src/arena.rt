@@ -6,8 +6,7 @@ use std::alloc::{AllocError, Global};
 use std::marker::PhantomData;
 use std::mem;
 
-/// A pointer to an object of kind K of a context: a place, and a generation, so that no two objects of a kind ever have the
-/// same pointer.
+/// A pointer to an object of kind K: a place, and a generation, so that no two objects of a kind ever have the same pointer.
 #[derive_where(Clone, Copy, PartialEq, Eq, Hash, Debug)]
 pub struct Ptr<K> {
     // the place, from 0
@@ -205,10 +204,7 @@ impl<X: Drop> Arena<X> {
     pub(crate) fn born<K>(&self, p: Ptr<K>) -> Option<u64>
         ensures { result ≡ born_in (get self.now p) }
     {
-        match self.get(p) {
-            Some(object) => Some(object.born),
-            None => None,
-        }
+        Some(self.get(p)?.born)
     }
 
     /// Takes the object under a pointer out, if it is no older than the mark. It takes no memory.

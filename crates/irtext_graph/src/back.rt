@@ -15,7 +15,7 @@ impl<O: Drop, B: Drop, T: Drop> Objects<O, B, T> {
     ghost use Rattle.irtext_graph.specs.Used.{user};
     ghost use Rattle.irtext_graph.specs.Graph.{seen};
     ghost use Rattle.irtext_graph.specs.Log.{age};
-    ghost use Rattle.irtext_graph.specs.Uses.{use_at, operand_in, successor_in, val, AreUsesLinked};
+    ghost use Rattle.irtext_graph.specs.Uses.{use_at, val, AreUsesLinked};
 
     /// Takes a use out of its list, if it is in one.
     fn detach_linked(&mut self, u: Site)
@@ -32,26 +32,8 @@ impl<O: Drop, B: Drop, T: Drop> Objects<O, B, T> {
         self.detach(u);
     }
 
-    /// How many operands an operation has.
-    fn operand_count(&self, p: Ptr<Operation>) -> usize
-        requires { IsSome (get self.now.operations p) }
-        ensures each { (i : ℕ) → i < result → IsSome (operand_in (get self.now.operations p) i) }
-        ensures none { (i : ℕ) → result ≤ i → operand_in (get self.now.operations p) i ≡ None }
-    {
-        self.operations.content(p).data.operands.len()
-    }
-
-    /// How many successors an operation has.
-    fn successor_count(&self, p: Ptr<Operation>) -> usize
-        requires { IsSome (get self.now.operations p) }
-        ensures each { (i : ℕ) → i < result → IsSome (successor_in (get self.now.operations p) i) }
-        ensures none { (i : ℕ) → result ≤ i → successor_in (get self.now.operations p) i ≡ None }
-    {
-        self.operations.content(p).data.successors.len()
-    }
-
     /// Takes the operands of an operation out of their lists.
-    fn detach_operands(&mut self, p: Ptr<Operation>)
+    pub(crate) fn detach_operands(&mut self, p: Ptr<Operation>)
         requires linked { AreUsesLinked self.old }
         requires lives { IsSome (get self.old.operations p) }
         ensures linked { AreUsesLinked self.new }
@@ -59,14 +41,13 @@ impl<O: Drop, B: Drop, T: Drop> Objects<O, B, T> {
         ensures kept { (u : _) → ((i : ℕ) → u ≢ AtOperand p i) → val self.new u ≡ val self.old u }
         ensures seen { seen self.new ≡ seen self.old }
     {
-        let count = self.operand_count(p);
-        for i in 0..count {
+        for i in 0..self.operations.content(p).data.operands.len() {
             self.detach_linked(Site::AtOperand(p, i));
         }
     }
 
     /// Takes the successors of an operation out of their lists.
-    fn detach_successors(&mut self, p: Ptr<Operation>)
+    pub(crate) fn detach_successors(&mut self, p: Ptr<Operation>)
         requires linked { AreUsesLinked self.old }
         requires lives { IsSome (get self.old.operations p) }
         ensures linked { AreUsesLinked self.new }
@@ -74,8 +55,7 @@ impl<O: Drop, B: Drop, T: Drop> Objects<O, B, T> {
         ensures kept { (u : _) → ((i : ℕ) → u ≢ AtSuccessor p i) → val self.new u ≡ val self.old u }
         ensures seen { seen self.new ≡ seen self.old }
     {
-        let count = self.successor_count(p);
-        for i in 0..count {
+        for i in 0..self.operations.content(p).data.successors.len() {
             self.detach_linked(Site::AtSuccessor(p, i));
         }
     }

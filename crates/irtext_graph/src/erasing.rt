@@ -1,6 +1,6 @@
 //! What the operations inside an object use is dropped, so that the object can go.
 ghost use Rattle.std.specs.Prelude.{◌≡◌, ◌≢◌, ◌<◌, ◌↔◌, ℕ, Some, None, IsSome, IsTrue, option_map};
-ghost use Rattle.irtext_graph.specs.Erasing.{user};
+ghost use Rattle.irtext_graph.specs.Erasing.{user, without_uses, IsUsedInside, IsAllUsedInside};
 
 use crate::arena::Ptr;
 use crate::object::{BasicBlock, Defined, Object, Operation, Site, Value};
@@ -26,25 +26,7 @@ impl<O: Drop, B: Drop, T: Drop> Objects<O, B, T> {
     ghost use Rattle.irtext_graph.specs.Nested.{Within};
     ghost use Rattle.irtext_graph.specs.Objects.{up, kids, what, Lives, IsForest, SamePlaces};
     ghost use Rattle.irtext_graph.specs.Uses.{use_at, val, head_at, AreUsesLinked};
-    ghost use Rattle.irtext_graph.specs.Erasing.{without_uses_in, without_uses, IsUsedInside, IsAllUsedInside};
-
-    /// Takes each use that an operation makes out of its list. It still names what it named.
-    fn detach_all(&mut self, p: Ptr<Operation>)
-        requires stands { IsSome (get self.old.operations p) }
-        requires linked { AreUsesLinked self.old }
-        requires used { (u : _) → IsSome (use_at self.old u) → IsSome (val self.old u) }
-        ensures linked { AreUsesLinked self.new }
-        ensures gone { (u : _) → user u ≡ TheOperation p → val self.new u ≡ None }
-        ensures kept { (u : _) → user u ≢ TheOperation p → val self.new u ≡ val self.old u }
-        ensures seen { seen self.new ≡ seen self.old }
-    {
-        for i in 0..self.operations.operand_count(p) {
-            self.detach(Site::AtOperand(p, i));
-        }
-        for j in 0..self.operations.successor_count(p) {
-            self.detach(Site::AtSuccessor(p, j));
-        }
-    }
+    ghost use Rattle.irtext_graph.specs.Used.{without_uses_in};
 
     /// Drops what an operation uses.
     fn drop_uses(&mut self, p: Ptr<Operation>)
@@ -58,7 +40,8 @@ impl<O: Drop, B: Drop, T: Drop> Objects<O, B, T> {
         ensures regions { (seen self.new).regions ≡ (seen self.old).regions }
         ensures places { SamePlaces self.old self.new }
     {
-        self.detach_all(p);
+        self.detach_operands(p);
+        self.detach_successors(p);
         self.operations.clear_uses(p);
     }
 

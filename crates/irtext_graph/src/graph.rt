@@ -1,11 +1,14 @@
 //! The graph: what its callers can do with it.
-ghost use Rattle.std.specs.Prelude.{◌≡◌, ◌≤◌, ◌+◌, ◌↔◌, Some, IsSome, IfSome, IsTrue, OnOk, OnErr, length, slice_get, ◌<◌, ℕ};
-ghost use Rattle.irtext_graph.specs.Graph.{empty, begun, parent, children, content, Stands, IsInside, CanInsert, Appends, Unlinks, IsNew, KeepsOlder, num_live};
+ghost use Rattle.std.specs.Prelude.{◌≡◌, ◌≤◌, ◌+◌, ◌∷◌, ◌↔◌, Some, IsSome, IfSome, IsTrue, OnOk, OnErr, length, slice_get, ◌<◌, ℕ};
+ghost use Rattle.irtext_graph.specs.Graph.{empty, begun, parent, children, ancestor, Stands, IsInside, CanInsert, Appends, Unlinks, IsNew, KeepsOlder, num_live};
 ghost use Rattle.irtext_graph.specs.Nested.{Nested};
+ghost use Rattle.irtext_graph.specs.Chained.{Among};
+ghost use Rattle.irtext_graph.specs.Throughout.{all_from};
 ghost use Rattle.irtext_graph.specs.Back.{AllOlder, IsClosedBelow};
 ghost use Rattle.irtext_graph.specs.Objects.{Fits};
 ghost use Rattle.irtext_graph.specs.Erasing.{DropsUses, CanErase, Erases};
 ghost use Rattle.irtext_graph.specs.declared.object.Object.TheVariants.{TheOperation};
+ghost use Rattle.irtext_graph.specs.Used.{IsUse, IsDefined};
 
 use crate::arena::{Arena, Ptr};
 use crate::log::{Made, forget_gone};
@@ -21,8 +24,7 @@ pub(crate) struct Counters {
     pub(crate) first_place: u32,
 }
 
-/// Operations with data of type O, blocks with data of type B, values with types of type T, and regions: how they nest, and
-/// who uses which value and which block.
+/// Operations with data O, blocks with data B, values with types T, and regions: how they nest, and who uses which value or block.
 #[derive(Drop)]
 pub struct Graph<O, B, T> {
     pub(crate) objects: Objects<O, B, T>,
@@ -77,6 +79,11 @@ impl<O: Drop, B: Drop, T: Drop> Graph<O, B, T> {
         }
     }
 
+    /// Where the graph's objects are allocated.
+    pub fn allocator(&self) -> Global {
+        self.alloc
+    }
+
     /// How many objects were made, those that are gone among them. All that stand are older, so this is a mark for `roll_back`.
     pub fn made(&self) -> u64
         ensures value { result ≡ self.now.made }
@@ -119,12 +126,27 @@ impl<O: Drop, B: Drop, T: Drop> Graph<O, B, T> {
         self.objects.parent_of(o)
     }
 
-    /// What always holds of the nesting: each object is listed once by what it stands in, which is there and of the kind that
-    /// holds it, and by nothing else; and no object stands inside itself. The call does nothing: its contract says so.
+    /// What stands so many levels round an object: at level 1 what it stands in.
+    pub fn ancestor(&self, o: Object, levels: usize) -> Option<Object>
+        requires { Stands self.now o }
+        ensures ancestor { result ≡ ancestor self.now levels o }
+        ensures stands { IfSome result (λ k. Stands self.now k) }
+    {
+        let mut at = o;
+        for _ in 0..levels {
+            at = self.get_parent(at)?;
+        }
+        Some(at)
+    }
+
+    /// What always holds, as this contract says of a call that does nothing: an object is listed once by what it stands in, a fit one
+    /// that is there, and by no other; none stands inside itself; `next_inside` meets all inside an object; what is used is there.
     pub fn keeps_nesting(&self)
         ensures forest { Nested (children self.now) (parent self.now) }
         ensures holders { (c k : _) → parent self.now c ≡ Some k → Stands self.now k }
         ensures kinds { (k c : _) (i : ℕ) → slice_get (children self.now k) i ≡ Some c → Fits k c }
+        ensures uses { (u d : _) → IsUse self.now d u → IsDefined self.now d }
+        ensures all { (o q : _) → IsInside self.now o q → Among q (all_from self.now o (Some o)) }
     {
         let _objects = &self.objects;
     }
@@ -153,6 +175,17 @@ impl<O: Drop, B: Drop, T: Drop> Graph<O, B, T> {
         ensures { IsTrue result ↔ IsInside self.now o q }
     {
         self.objects.is_inside(o, q)
+    }
+
+    /// The object behind q among o and all that stands inside it, where each comes before what stands in it.
+    pub fn next_inside(&self, o: Object, q: Object) -> Option<Object>
+        requires stands { Stands self.now q }
+        requires within { IsInside self.now o q }
+        ensures next { all_from self.now o (Some q) ≡ q ∷ all_from self.now o result }
+        ensures inside { IfSome result (λ r. IsInside self.now o r) }
+        ensures there { IfSome result (λ r. Stands self.now r) }
+    {
+        self.objects.after(o, q)
     }
 
     /// Whether c stands nowhere and k is not inside it: the condition of `insert_at_back`.

@@ -1,8 +1,10 @@
 //! Objects by their pointers, in whatever holds a graph: the calls that a context hands on.
-ghost use Rattle.std.specs.Prelude.{◌≡◌, ◌<◌, ◌↔◌, Some, None, IfSome, IsTrue, OnOk, OnErr, length, option_map, slice_get};
+ghost use Rattle.std.specs.Prelude.{◌≡◌, ◌<◌, ◌↔◌, ℕ, Some, None, IfSome, IsSome, IsTrue, OnOk, OnErr, length, option_map, slice_get};
 ghost use Rattle.std.specs.Borrow.{sem};
 ghost use Rattle.irtext_graph.specs.Objects.{Fits};
-ghost use Rattle.irtext_graph.specs.Graph.{GraphView, Stands, parent, ancestor, CanInsert, Appends, Unlinks};
+ghost use Rattle.irtext_graph.specs.Graph.{GraphView, Stands, parent, children, ancestor, CanInsert, Appends, Unlinks, IsNew, KeepsOlder};
+ghost use Rattle.irtext_graph.specs.Erasing.{CanErase, DropsUses, Erases};
+ghost use Rattle.irtext_graph.specs.Held.{KeepsRound, KeepsOutside, by_kind, to_operation, to_block, to_region};
 ghost use Rattle.irtext_graph.specs.Parts.{regions, blocks, operations_in};
 ghost use Rattle.irtext_graph.specs.declared.object.Object.TheVariants.{TheOperation, TheBlock, TheRegion};
 
@@ -12,24 +14,31 @@ use crate::object::{BasicBlock, Object, Operation, Region};
 use std::alloc::AllocError;
 
 /// What holds a graph, as a context does. The calls on pointers ask for this alone, so that they serve whatever holds one.
-pub trait HasGraph<O, B, T> {
-    ghost use Rattle.irtext_graph.specs.GraphLends.{LendsGraph};
+pub trait HasGraph {
+    ghost use Rattle.irtext_graph.specs.DataLends.{LendsGraph};
+
+    // the data of operations, the data of blocks, and the types of values
+    type O: Drop;
+
+    type B: Drop;
+
+    type T: Drop;
 
     // the graph
-    ghost graph: { Self → GraphView O B T };
+    ghost graph: { Self → GraphView Self.O Self.B Self.T };
     // the same with another graph in its place
-    ghost with_graph: { Self → GraphView O B T → Self };
+    ghost with_graph: { Self → GraphView Self.O Self.B Self.T → Self };
 
     /// The graph.
-    fn graph(&self) -> &Graph<O, B, T>
+    fn graph(&self) -> &Graph<Self::O, Self::B, Self::T>
         ensures { result.now ≡ graph self.now };
 
     /// The graph, for writing.
-    fn graph_mut(&mut self) -> &mut Graph<O, B, T>
-        ensures* lends { sem 𝓛 (LendsGraph O.row B.row T.row Self.row with_graph self.entry result) }
+    fn graph_mut(&mut self) -> &mut Graph<Self::O, Self::B, Self::T>
+        ensures* lends { sem 𝓛 (LendsGraph Self.O.row Self.B.row Self.T.row Self.row with_graph self.entry result) }
         ensures value { result.now ≡ graph self.old };
 
-    ghost graph_with: { (c : Self) (g : GraphView O B T) → graph (with_graph c g) ≡ g };
+    ghost graph_with: { (c : Self) (g : GraphView Self.O Self.B Self.T) → graph (with_graph c g) ≡ g };
 
     ghost with_own: { (c : Self) → with_graph c (graph c) ≡ c };
 }
@@ -96,13 +105,20 @@ impl Holds<BasicBlock> for Region {
     ghost fits = { λ k c. tt };
 }
 
+/// The first of three for an operation, the second for a block, and the third for a region.
+fn by_kind(o: Object, operation: usize, block: usize, region: usize) -> usize
+    ensures { result ≡ by_kind o operation block region }
+{
+    match o {
+        Object::TheOperation(_) => operation,
+        Object::TheBlock(_) => block,
+        Object::TheRegion(_) => region,
+    }
+}
+
 impl<K: Kind> Ptr<K> {
     /// Whether the object stands nowhere and its holder is not inside it: the condition of `insert_at_back`.
-    pub fn can_insert_at_back<H: Holds<K>, C: HasGraph<O, B, T>, O: Drop, B: Drop, T: Drop>(
-        self,
-        holder: Ptr<H>,
-        ctx: &C,
-    ) -> bool
+    pub fn can_insert_at_back<H: Holds<K>, C: HasGraph>(self, holder: Ptr<H>, ctx: &C) -> bool
         requires holder { Stands (C.graph ctx.now) (H.object holder) }
         requires stands { Stands (C.graph ctx.now) (K.object self) }
         ensures { IsTrue result ↔ CanInsert (C.graph ctx.now) (H.object holder) (K.object self) }
@@ -112,7 +128,7 @@ impl<K: Kind> Ptr<K> {
     }
 
     /// Puts the object last into its holder. Where memory is refused nothing changes.
-    pub fn insert_at_back<H: Holds<K>, C: HasGraph<O, B, T>, O: Drop, B: Drop, T: Drop>(
+    pub fn insert_at_back<H: Holds<K>, C: HasGraph>(
         self,
         holder: Ptr<H>,
         ctx: &mut C,
@@ -122,6 +138,8 @@ impl<K: Kind> Ptr<K> {
         requires can { CanInsert (C.graph ctx.old) (H.object holder) (K.object self) }
         ensures ok { OnOk result (Appends (C.graph ctx.old) (C.graph ctx.new) (H.object holder) (K.object self)) }
         ensures err { OnErr result (ctx.new ≡ ctx.old) }
+        ensures kept { (m : ℕ) → IsNew m (C.graph ctx.old) (H.object holder) → IsNew m (C.graph ctx.old) (K.object self)
+            → KeepsOlder m (C.graph ctx.old) (C.graph ctx.new) }
         ensures rest { ctx.new ≡ C.with_graph ctx.old (C.graph ctx.new) }
     {
         let item = K::object(self);
@@ -129,60 +147,103 @@ impl<K: Kind> Ptr<K> {
     }
 
     /// Takes the object out of what it stands in, if it stands in anything. What stands in it stays there.
-    pub fn unlink<C: HasGraph<O, B, T>, O: Drop, B: Drop, T: Drop>(self, ctx: &mut C)
+    pub fn unlink<C: HasGraph>(self, ctx: &mut C)
         requires { Stands (C.graph ctx.old) (K.object self) }
         ensures unlinks { Unlinks (C.graph ctx.old) (C.graph ctx.new) (K.object self) }
         ensures rest { ctx.new ≡ C.with_graph ctx.old (C.graph ctx.new) }
     {
         ctx.graph_mut().unlink(K::object(self));
     }
-}
 
-impl Ptr<Operation> {
-    /// The block that the operation stands in.
-    pub fn get_parent_block<C: HasGraph<O, B, T>, O: Drop, B: Drop, T: Drop>(
-        self,
-        ctx: &C,
-    ) -> Option<Ptr<BasicBlock>>
-        requires { Stands (C.graph ctx.now) (TheOperation self) }
-        ensures parent { parent (C.graph ctx.now) (TheOperation self) ≡ option_map TheBlock result }
-        ensures stands { IfSome result (λ holder. Stands (C.graph ctx.now) (TheBlock holder)) }
+    /// Whether nothing outside of the object uses what is defined inside it: the condition of `erase`. It takes no memory.
+    pub fn can_erase<C: HasGraph>(self, ctx: &C) -> bool
+        requires { Stands (C.graph ctx.now) (K.object self) }
+        ensures { IsTrue result ↔ CanErase (C.graph ctx.now) (K.object self) }
     {
-        match ctx.graph().get_parent(Object::TheOperation(self)) {
-            Some(Object::TheBlock(holder)) => Some(holder),
+        ctx.graph().can_erase(K::object(self))
+    }
+
+    /// Drops what the operations inside the object use, itself among them. It takes no memory.
+    pub fn drop_all_uses<C: HasGraph>(self, ctx: &mut C)
+        requires { Stands (C.graph ctx.old) (K.object self) }
+        ensures drops { DropsUses (C.graph ctx.old) (C.graph ctx.new) (K.object self) }
+        ensures kept { KeepsRound (C.graph ctx.old) (C.graph ctx.new) (K.object self) }
+        ensures rest { ctx.new ≡ C.with_graph ctx.old (C.graph ctx.new) }
+    {
+        ctx.graph_mut().drop_all_uses(K::object(self));
+    }
+
+    /// Takes the object, with all that stands in it, out of the graph and of what it stands in. It takes no memory.
+    pub fn erase<C: HasGraph>(self, ctx: &mut C)
+        requires stands { Stands (C.graph ctx.old) (K.object self) }
+        requires can { CanErase (C.graph ctx.old) (K.object self) }
+        ensures erases { Erases (C.graph ctx.old) (C.graph ctx.new) (K.object self) }
+        ensures kept { KeepsOutside (C.graph ctx.old) (C.graph ctx.new) (K.object self) }
+        ensures rest { ctx.new ≡ C.with_graph ctx.old (C.graph ctx.new) }
+    {
+        ctx.graph_mut().erase(K::object(self));
+    }
+
+    /// The nearest operation round the object.
+    pub fn get_parent_op<C: HasGraph>(self, ctx: &C) -> Option<Ptr<Operation>>
+        requires { Stands (C.graph ctx.now) (K.object self) }
+        ensures parent { ancestor (C.graph ctx.now) (to_operation (K.object self)) (K.object self) ≡ option_map TheOperation result }
+        ensures stands { IfSome result (λ p. Stands (C.graph ctx.now) (TheOperation p)) }
+    {
+        let o = K::object(self);
+        match ctx.graph().ancestor(o, by_kind(o, 3, 2, 1)) {
+            Some(Object::TheOperation(p)) => Some(p),
             None => None,
             _ => unreachable!(),
         }
     }
 
-    /// The region round the operation, 2 levels up.
-    pub fn get_parent_region<C: HasGraph<O, B, T>, O: Drop, B: Drop, T: Drop>(
-        self,
-        ctx: &C,
-    ) -> Option<Ptr<Region>>
-        requires { Stands (C.graph ctx.now) (TheOperation self) }
-        ensures parent { ancestor (C.graph ctx.now) 2 (TheOperation self) ≡ option_map TheRegion result }
-        ensures stands { IfSome result (λ holder. Stands (C.graph ctx.now) (TheRegion holder)) }
+    /// The nearest block round the object.
+    pub fn get_parent_block<C: HasGraph>(self, ctx: &C) -> Option<Ptr<BasicBlock>>
+        requires { Stands (C.graph ctx.now) (K.object self) }
+        ensures parent { ancestor (C.graph ctx.now) (to_block (K.object self)) (K.object self) ≡ option_map TheBlock result }
+        ensures stands { IfSome result (λ p. Stands (C.graph ctx.now) (TheBlock p)) }
     {
-        let inner = self.get_parent_block(ctx)?;
-        inner.get_parent_region(ctx)
+        let o = K::object(self);
+        match ctx.graph().ancestor(o, by_kind(o, 1, 3, 2)) {
+            Some(Object::TheBlock(p)) => Some(p),
+            None => None,
+            _ => unreachable!(),
+        }
     }
 
-    /// The operation round the operation, 3 levels up.
-    pub fn get_parent_op<C: HasGraph<O, B, T>, O: Drop, B: Drop, T: Drop>(
-        self,
-        ctx: &C,
-    ) -> Option<Ptr<Operation>>
-        requires { Stands (C.graph ctx.now) (TheOperation self) }
-        ensures parent { ancestor (C.graph ctx.now) 3 (TheOperation self) ≡ option_map TheOperation result }
-        ensures stands { IfSome result (λ holder. Stands (C.graph ctx.now) (TheOperation holder)) }
+    /// The nearest region round the object.
+    pub fn get_parent_region<C: HasGraph>(self, ctx: &C) -> Option<Ptr<Region>>
+        requires { Stands (C.graph ctx.now) (K.object self) }
+        ensures parent { ancestor (C.graph ctx.now) (to_region (K.object self)) (K.object self) ≡ option_map TheRegion result }
+        ensures stands { IfSome result (λ p. Stands (C.graph ctx.now) (TheRegion p)) }
     {
-        let inner = self.get_parent_region(ctx)?;
-        inner.get_parent_op(ctx)
+        let o = K::object(self);
+        match ctx.graph().ancestor(o, by_kind(o, 2, 1, 3)) {
+            Some(Object::TheRegion(p)) => Some(p),
+            None => None,
+            _ => unreachable!(),
+        }
     }
 
+    /// The index at which the object stands in what it stands in.
+    pub fn find_index_in_parent<C: HasGraph>(self, ctx: &C) -> usize
+        requires stands { Stands (C.graph ctx.now) (K.object self) }
+        requires inside { IsSome (parent (C.graph ctx.now) (K.object self)) }
+        ensures { (k : _) → parent (C.graph ctx.now) (K.object self) ≡ Some k
+            → slice_get (children (C.graph ctx.now) k) result ≡ Some (K.object self) }
+    {
+        let o = K::object(self);
+        match ctx.graph().get_parent(o) {
+            Some(k) => ctx.graph().find_index_in_parent(k, o),
+            None => unreachable!(),
+        }
+    }
+}
+
+impl Ptr<Operation> {
     /// How many regions stand in the operation.
-    pub fn num_regions<C: HasGraph<O, B, T>, O: Drop, B: Drop, T: Drop>(self, ctx: &C) -> usize
+    pub fn num_regions<C: HasGraph>(self, ctx: &C) -> usize
         requires { Stands (C.graph ctx.now) (TheOperation self) }
         ensures { result ≡ length (regions (C.graph ctx.now) self) }
     {
@@ -190,11 +251,7 @@ impl Ptr<Operation> {
     }
 
     /// The region of the operation at an index.
-    pub fn get_region<C: HasGraph<O, B, T>, O: Drop, B: Drop, T: Drop>(
-        self,
-        ctx: &C,
-        index: usize,
-    ) -> Ptr<Region>
+    pub fn get_region<C: HasGraph>(self, ctx: &C, index: usize) -> Ptr<Region>
         requires { index < length (regions (C.graph ctx.now) self) }
         ensures { slice_get (regions (C.graph ctx.now) self) index ≡ Some result }
     {
@@ -206,50 +263,8 @@ impl Ptr<Operation> {
 }
 
 impl Ptr<BasicBlock> {
-    /// The region that the block stands in.
-    pub fn get_parent_region<C: HasGraph<O, B, T>, O: Drop, B: Drop, T: Drop>(
-        self,
-        ctx: &C,
-    ) -> Option<Ptr<Region>>
-        requires { Stands (C.graph ctx.now) (TheBlock self) }
-        ensures parent { parent (C.graph ctx.now) (TheBlock self) ≡ option_map TheRegion result }
-        ensures stands { IfSome result (λ holder. Stands (C.graph ctx.now) (TheRegion holder)) }
-    {
-        match ctx.graph().get_parent(Object::TheBlock(self)) {
-            Some(Object::TheRegion(holder)) => Some(holder),
-            None => None,
-            _ => unreachable!(),
-        }
-    }
-
-    /// The operation round the block, 2 levels up.
-    pub fn get_parent_op<C: HasGraph<O, B, T>, O: Drop, B: Drop, T: Drop>(
-        self,
-        ctx: &C,
-    ) -> Option<Ptr<Operation>>
-        requires { Stands (C.graph ctx.now) (TheBlock self) }
-        ensures parent { ancestor (C.graph ctx.now) 2 (TheBlock self) ≡ option_map TheOperation result }
-        ensures stands { IfSome result (λ holder. Stands (C.graph ctx.now) (TheOperation holder)) }
-    {
-        let inner = self.get_parent_region(ctx)?;
-        inner.get_parent_op(ctx)
-    }
-
-    /// The block round the block, 3 levels up.
-    pub fn get_parent_block<C: HasGraph<O, B, T>, O: Drop, B: Drop, T: Drop>(
-        self,
-        ctx: &C,
-    ) -> Option<Ptr<BasicBlock>>
-        requires { Stands (C.graph ctx.now) (TheBlock self) }
-        ensures parent { ancestor (C.graph ctx.now) 3 (TheBlock self) ≡ option_map TheBlock result }
-        ensures stands { IfSome result (λ holder. Stands (C.graph ctx.now) (TheBlock holder)) }
-    {
-        let inner = self.get_parent_op(ctx)?;
-        inner.get_parent_block(ctx)
-    }
-
     /// How many operations stand in the block.
-    pub fn num_operations<C: HasGraph<O, B, T>, O: Drop, B: Drop, T: Drop>(self, ctx: &C) -> usize
+    pub fn num_operations<C: HasGraph>(self, ctx: &C) -> usize
         requires { Stands (C.graph ctx.now) (TheBlock self) }
         ensures { result ≡ length (operations_in (C.graph ctx.now) self) }
     {
@@ -257,11 +272,7 @@ impl Ptr<BasicBlock> {
     }
 
     /// The operation of the block at an index.
-    pub fn get_operation<C: HasGraph<O, B, T>, O: Drop, B: Drop, T: Drop>(
-        self,
-        ctx: &C,
-        index: usize,
-    ) -> Ptr<Operation>
+    pub fn get_operation<C: HasGraph>(self, ctx: &C, index: usize) -> Ptr<Operation>
         requires { index < length (operations_in (C.graph ctx.now) self) }
         ensures { slice_get (operations_in (C.graph ctx.now) self) index ≡ Some result }
     {
@@ -273,50 +284,8 @@ impl Ptr<BasicBlock> {
 }
 
 impl Ptr<Region> {
-    /// The operation that the region stands in.
-    pub fn get_parent_op<C: HasGraph<O, B, T>, O: Drop, B: Drop, T: Drop>(
-        self,
-        ctx: &C,
-    ) -> Option<Ptr<Operation>>
-        requires { Stands (C.graph ctx.now) (TheRegion self) }
-        ensures parent { parent (C.graph ctx.now) (TheRegion self) ≡ option_map TheOperation result }
-        ensures stands { IfSome result (λ holder. Stands (C.graph ctx.now) (TheOperation holder)) }
-    {
-        match ctx.graph().get_parent(Object::TheRegion(self)) {
-            Some(Object::TheOperation(holder)) => Some(holder),
-            None => None,
-            _ => unreachable!(),
-        }
-    }
-
-    /// The block round the region, 2 levels up.
-    pub fn get_parent_block<C: HasGraph<O, B, T>, O: Drop, B: Drop, T: Drop>(
-        self,
-        ctx: &C,
-    ) -> Option<Ptr<BasicBlock>>
-        requires { Stands (C.graph ctx.now) (TheRegion self) }
-        ensures parent { ancestor (C.graph ctx.now) 2 (TheRegion self) ≡ option_map TheBlock result }
-        ensures stands { IfSome result (λ holder. Stands (C.graph ctx.now) (TheBlock holder)) }
-    {
-        let inner = self.get_parent_op(ctx)?;
-        inner.get_parent_block(ctx)
-    }
-
-    /// The region round the region, 3 levels up.
-    pub fn get_parent_region<C: HasGraph<O, B, T>, O: Drop, B: Drop, T: Drop>(
-        self,
-        ctx: &C,
-    ) -> Option<Ptr<Region>>
-        requires { Stands (C.graph ctx.now) (TheRegion self) }
-        ensures parent { ancestor (C.graph ctx.now) 3 (TheRegion self) ≡ option_map TheRegion result }
-        ensures stands { IfSome result (λ holder. Stands (C.graph ctx.now) (TheRegion holder)) }
-    {
-        let inner = self.get_parent_block(ctx)?;
-        inner.get_parent_region(ctx)
-    }
-
     /// How many blocks stand in the region.
-    pub fn num_blocks<C: HasGraph<O, B, T>, O: Drop, B: Drop, T: Drop>(self, ctx: &C) -> usize
+    pub fn num_blocks<C: HasGraph>(self, ctx: &C) -> usize
         requires { Stands (C.graph ctx.now) (TheRegion self) }
         ensures { result ≡ length (blocks (C.graph ctx.now) self) }
     {
@@ -324,11 +293,7 @@ impl Ptr<Region> {
     }
 
     /// The block of the region at an index.
-    pub fn get_block<C: HasGraph<O, B, T>, O: Drop, B: Drop, T: Drop>(
-        self,
-        ctx: &C,
-        index: usize,
-    ) -> Ptr<BasicBlock>
+    pub fn get_block<C: HasGraph>(self, ctx: &C, index: usize) -> Ptr<BasicBlock>
         requires { index < length (blocks (C.graph ctx.now) self) }
         ensures { slice_get (blocks (C.graph ctx.now) self) index ≡ Some result }
     {

@@ -1,7 +1,6 @@
 //! The graph of operations, blocks and regions: how they nest, and who uses which value and which block.
 #![tactic(auto)]
 
-mod adding;
 pub mod arena;
 mod back;
 mod erasing;

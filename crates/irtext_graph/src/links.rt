@@ -11,8 +11,7 @@ impl<O: Drop, T: Drop> Arena<Nest<BasicBlock, Region, OperationData<O, T>>> {
     ghost use Rattle.irtext_graph.specs.declared.object.Operation.{Operation};
     ghost use Rattle.irtext_graph.specs.Arena.{get, KeepsPlaces};
     ghost use Rattle.irtext_graph.specs.Uses.{operand_in, successor_in, result_in, first_of, relinked, renamed, operations_seen as seen};
-    ghost use Rattle.irtext_graph.specs.Used.{operations_bare, uses_left};
-    ghost use Rattle.irtext_graph.specs.Erasing.{without_uses_in};
+    ghost use Rattle.irtext_graph.specs.Used.{without_uses_in, operations_bare, uses_left};
     ghost use Rattle.irtext_graph.specs.Store.{Edits};
     ghost use Rattle.irtext_graph.specs.declared.object.Defined.TheVariants.{OfValue, OfBlock};
 
@@ -22,22 +21,6 @@ impl<O: Drop, T: Drop> Arena<Nest<BasicBlock, Region, OperationData<O, T>>> {
         ensures { operand_in (get self.now p) i ≡ Some result }
     {
         self.content(p).data.operands[i]
-    }
-
-    /// How many operands an operation has.
-    pub(crate) fn operand_count(&self, p: Ptr<Operation>) -> usize
-        requires { IsSome (get self.now p) }
-        ensures { (i : ℕ) → IsSome (operand_in (get self.now p) i) ↔ i < result }
-    {
-        self.content(p).data.operands.len()
-    }
-
-    /// How many successors an operation has.
-    pub(crate) fn successor_count(&self, p: Ptr<Operation>) -> usize
-        requires { IsSome (get self.now p) }
-        ensures { (i : ℕ) → IsSome (successor_in (get self.now p) i) ↔ i < result }
-    {
-        self.content(p).data.successors.len()
     }
 
     /// How many results an operation has.

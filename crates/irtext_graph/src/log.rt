@@ -1,7 +1,7 @@
 //! The list of what was made: each object with its age, in the order of making.
-ghost use Rattle.std.specs.Prelude.{◌≡◌, ◌<◌, ◌≤◌, ◌++◌, ◌∷◌, ℕ, Some, [], OnOk, filter, length, slice_get};
+ghost use Rattle.std.specs.Prelude.{◌≡◌, ◌<◌, ◌≤◌, ◌++◌, ◌∷◌, ℕ, Some, [], OnOk, length, slice_get};
 ghost use Rattle.std.specs.Vec.{vec_len, vec_capacity};
-ghost use Rattle.irtext_graph.specs.Log.{IsByAge, IsLogged, stands_in};
+ghost use Rattle.irtext_graph.specs.Log.{IsByAge, IsLogged};
 
 use crate::object::Object;
 use crate::objects::Objects;
@@ -58,13 +58,6 @@ pub(crate) fn object_at(log: &[Made], index: usize) -> Object
     log[index].object
 }
 
-/// Takes what is gone out of a list, in place and in its order.
-fn compact<O: Drop, B: Drop, T: Drop>(log: &mut Vec<Made>, objects: &Objects<O, B, T>)
-    ensures { log.new.items ≡ filter (stands_in objects.now) log.old.items }
-{
-    log.retain(|made| objects.contains(made.object));
-}
-
 /// Takes what is gone out of a list where it is more than half of it, and says how many in it are gone at most.
 pub(crate) fn forget_gone<O: Drop, B: Drop, T: Drop>(
     log: &mut Vec<Made>,
@@ -76,6 +69,6 @@ pub(crate) fn forget_gone<O: Drop, B: Drop, T: Drop>(
     if gone <= log.len() / 2 {
         return gone;
     }
-    compact(log, objects);
+    log.retain(|made| objects.contains(made.object));
     0
 }

@@ -1,11 +1,12 @@
 //! How objects are made.
-ghost use Rattle.std.specs.Prelude.{◌≡◌, ◌≤◌, ◌+◌, ℕ, Some, None, IfOk, OnErr, length, slice_get};
+ghost use Rattle.std.specs.Prelude.{◌≡◌, ◌≢◌, ◌≤◌, ◌+◌, ◌++◌, ◌∷◌, ℕ, Some, None, [], IsSome, IfOk, OnOk, OnErr, length, slice_get};
 ghost use Rattle.irtext_graph.specs.Graph.{MakesRegion, MakesBlock, MakesOperation, KeepsOlder, Stands};
 ghost use Rattle.irtext_graph.specs.Parts.{ValueStands};
-ghost use Rattle.irtext_graph.specs.Linking.{IsBlank};
-ghost use Rattle.irtext_graph.specs.Defines.{Defines};
+ghost use Rattle.irtext_graph.specs.Linking.{Defines, IsBlank};
+ghost use Rattle.irtext_graph.specs.Regions.{HasRoom, with_child, AddsRegion};
+ghost use Rattle.irtext_graph.specs.Store.{Edits, before};
 
-use crate::arena::Ptr;
+use crate::arena::{Arena, Ptr};
 use crate::graph::Graph;
 use crate::linking::{Side, unlinked_uses};
 use crate::log::{make_room, note};
@@ -38,11 +39,7 @@ fn many_definitions<T: Drop>(
     let mut defined = Vec::with_capacity(alloc, types.len())?;
     let mut number = from;
     for of_type in types {
-        defined.push(Definition {
-            of_type,
-            number,
-            first: None,
-        })?;
+        defined.push(definition(of_type, number))?;
         number += 1;
     }
     Ok(defined)
@@ -98,11 +95,48 @@ fn blank_operation<O: Drop, T: Drop>(
     })
 }
 
+impl<O: Drop, T: Drop> Arena<Nest<BasicBlock, Region, OperationData<O, T>>> {
+    ghost use Rattle.irtext_graph.specs.declared.arena.Ptr.{Ptr};
+    ghost use Rattle.irtext_graph.specs.declared.object.Operation.{Operation};
+    ghost use Rattle.irtext_graph.specs.Arena.{get, KeepsPlaces};
+    ghost use Rattle.irtext_graph.specs.Nest.{up, kids, datum};
+    ghost use Rattle.irtext_graph.specs.Uses.{operations_seen as seen};
+
+    /// Makes room for one more region in an operation's list. Nothing is seen of it.
+    fn make_region_room(&mut self, p: Ptr<Operation>) -> Result<(), AllocError>
+        requires { IsSome (get self.old p) }
+        ensures room { OnOk result (HasRoom (get self.new p)) }
+        ensures ups { (q : Ptr Operation) → up self.new q ≡ up self.old q }
+        ensures kids { (q : Ptr Operation) → kids self.new q ≡ kids self.old q }
+        ensures data { (q : Ptr Operation) → datum self.new q ≡ datum self.old q }
+        ensures places { KeepsPlaces self.old self.new }
+        ensures seen { seen self.new ≡ seen self.old }
+    {
+        self.content_mut(p).children.reserve(1)
+    }
+
+    /// Puts a region last into an operation's list. There is room for it.
+    fn push_region(&mut self, p: Ptr<Operation>, r: Ptr<Region>)
+        requires { HasRoom (get self.old p) }
+        ensures here { kids self.new p ≡ kids self.old p ++ r ∷ [] }
+        ensures others { (q : Ptr Operation) → q ≢ p → kids self.new q ≡ kids self.old q }
+        ensures ups { (q : Ptr Operation) → up self.new q ≡ up self.old q }
+        ensures data { (q : Ptr Operation) → datum self.new q ≡ datum self.old q }
+        ensures places { KeepsPlaces self.old self.new }
+        ensures edits { Edits (seen self.old) (seen self.new) p (with_child r) }
+    {
+        match self.content_mut(p).children.push(r) {
+            Ok(()) => (),
+            Err(_) => unreachable!(),
+        }
+    }
+}
+
 impl<O: Drop, B: Drop, T: Drop> Graph<O, B, T> {
     ghost use Rattle.irtext_graph.specs.declared.arena.Ptr.{Ptr};
     ghost use Rattle.irtext_graph.specs.declared.object.BasicBlock.{BasicBlock};
     ghost use Rattle.irtext_graph.specs.declared.object.Value.{Value};
-    ghost use Rattle.irtext_graph.specs.declared.object.Object.TheVariants.{TheBlock};
+    ghost use Rattle.irtext_graph.specs.declared.object.Object.TheVariants.{TheOperation, TheBlock};
 
     /// Makes a region that stands nowhere and holds no block. Where memory is refused, or a counter is full, nothing changes.
     pub fn make_region(&mut self) -> Result<Ptr<Region>, AllocError>
@@ -121,15 +155,41 @@ impl<O: Drop, B: Drop, T: Drop> Graph<O, B, T> {
             data: RegionData {},
         };
         make_room(&mut self.log)?;
-        let p = self
-            .objects
-            .regions
-            .insert(self.counters.first_place, made, region)?;
+        let first = self.counters.first_place;
+        let p = self.objects.regions.insert(first, made, region)?;
         note(&mut self.log, made, Object::TheRegion(p));
         self.made = made + 1;
         Ok(p)
     }
 
+    /// Makes a region that holds no block, last in an operation. Where memory is refused, or a counter is full, nothing changes.
+    pub fn add_region(&mut self, op: Ptr<Operation>) -> Result<Ptr<Region>, AllocError>
+        requires { Stands self.old (TheOperation op) }
+        ensures added { IfOk result (λ r. AddsRegion self.old self.new op r) }
+        ensures err { OnErr result (self.new ≡ self.old) }
+        ensures kept { (m : ℕ) → m ≤ self.old.made → before m self.old.operations op ≡ None → KeepsOlder m self.old self.new }
+    {
+        let made = self.made;
+        if made == u64::MAX {
+            return Err(AllocError);
+        }
+        make_room(&mut self.log)?;
+        self.objects.operations.make_region_room(op)?;
+        let region = Nest {
+            parent: Some(op),
+            children: Vec::new(self.alloc),
+            noted: self.objects.operations.child_count(op),
+            data: RegionData {},
+        };
+        let p = self
+            .objects
+            .regions
+            .insert(self.counters.first_place, made, region)?;
+        self.objects.operations.push_region(op, p);
+        note(&mut self.log, made, Object::TheRegion(p));
+        self.made = made + 1;
+        Ok(p)
+    }
     /// Makes a block with this data that stands nowhere and holds no operation, with arguments of these types, which draw the next numbers of
     /// values. Where memory is refused, or a counter is full, nothing changes.
     pub fn make_block(&mut self, value: B, types: Few<T>) -> Result<Ptr<BasicBlock>, AllocError>
@@ -157,10 +217,8 @@ impl<O: Drop, B: Drop, T: Drop> Graph<O, B, T> {
             },
         };
         make_room(&mut self.log)?;
-        let p = self
-            .objects
-            .blocks
-            .insert(self.counters.first_place, made, block)?;
+        let first = self.counters.first_place;
+        let p = self.objects.blocks.insert(first, made, block)?;
         note(&mut self.log, made, Object::TheBlock(p));
         self.made = made + 1;
         self.counters.values = next;
@@ -192,10 +250,8 @@ impl<O: Drop, B: Drop, T: Drop> Graph<O, B, T> {
         }
         let blank = blank_operation(self.alloc, value, types, values, operands, successors)?;
         make_room(&mut self.log)?;
-        let p = self
-            .objects
-            .operations
-            .insert(self.counters.first_place, made, blank)?;
+        let first = self.counters.first_place;
+        let p = self.objects.operations.insert(first, made, blank)?;
         note(&mut self.log, made, Object::TheOperation(p));
         self.objects.attach_all(Side::Operands, p, operands.len());
         self.objects

@@ -3,7 +3,7 @@ ghost use Rattle.std.specs.Prelude.{◌≡◌, ◌↔◌, ◌<◌, ℕ, Some, Is
 ghost use Rattle.irtext_graph.specs.declared.object.Object.TheVariants.{TheOperation, TheBlock};
 ghost use Rattle.irtext_graph.specs.Graph.{Stands};
 ghost use Rattle.std.specs.Borrow.{sem};
-ghost use Rattle.irtext_graph.specs.Parts.{operation_at, block_at, operands, successors, results, arguments, value_at, ValueStands};
+ghost use Rattle.irtext_graph.specs.Parts.{operation_at, block_at, operands, successors, results, arguments, value_at, ValueStands, definition_at};
 
 use crate::arena::Ptr;
 use crate::graph::Graph;
@@ -11,8 +11,6 @@ use crate::object::{BasicBlock, Object, Operation, Value};
 use crate::objects::{Definition, Objects};
 
 impl<O: Drop, B: Drop, T: Drop> Objects<O, B, T> {
-    ghost use Rattle.irtext_graph.specs.Values.{definition_at};
-
     /// Whether a value is there.
     fn is_defined(&self, v: Value) -> bool
         ensures { IsTrue result ↔ IsSome (definition_at self.now v) }

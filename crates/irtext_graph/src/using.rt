@@ -88,8 +88,7 @@ impl<O: Drop, B: Drop, T: Drop> Graph<O, B, T> {
         self.objects.count_uses(d)
     }
 
-    /// The operands and the successors that name d, each once. An operation that names d twice has two of them. It takes as long as
-    /// there are uses.
+    /// The operands and the successors that name d, each once, so two of an operation that names it twice. It goes through all uses.
     pub fn uses(&self, d: Defined) -> Result<Vec<Site>, AllocError>
         requires { IsDefined self.now d }
         ensures { IfOk result (λ us. Lists (IsUse self.now d) us.items) }
@@ -97,8 +96,7 @@ impl<O: Drop, B: Drop, T: Drop> Graph<O, B, T> {
         self.objects.list_uses(self.alloc, d)
     }
 
-    /// Makes each use of d a use of e: every operand, or every successor, that names d names e. It takes as long as d has uses, and
-    /// no memory.
+    /// Makes each use of d a use of e: each operand or successor that names d names e. It takes as long as d has uses, and no memory.
     pub fn replace_all_uses(&mut self, d: Defined, e: Defined)
         requires stands { IsDefined self.old d }
         requires stands_too { IsDefined self.old e }

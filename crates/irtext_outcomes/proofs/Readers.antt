@@ -17,4 +17,5 @@ pub mod TopLevel
 pub mod MarkerSteps
 pub mod RegionSteps
 pub mod RootKept
+pub mod RootClosed
 pub mod WholeSteps

@@ -59,7 +59,7 @@ module _ {V : Type 0} where
   changed_maps f [] h k = refl
   changed_maps f (s ∷ ss) h k = ap (λ c. cond c (are_maps ss) false) k ∙ maps_tail s ss h
 
-  find_mentioned : (m n : ℕ) (e : Entry V) (s : Scope V) → find m (mentioned n e s) ≡ option_or (find m s) (cond (nat_eq n m) (Some e) None)
+  pub find_mentioned : (m n : ℕ) (e : Entry V) (s : Scope V) → find m (mentioned n e s) ≡ option_or (find m s) (cond (nat_eq n m) (Some e) None)
   find_mentioned m n e [] = refl
   find_mentioned m n e (x ∷ s) = go (nat_eq x.0 m) (find_mentioned m n e s)
     where

@@ -1,4 +1,6 @@
 //! Contexts of the demo types, lent to a call: nothing else owns one here, so that a test has one call and no context.
+ghost use Rattle.std.specs.Prelude.{◌≤◌};
+
 use irtext_base::location::Source;
 use irtext_base::parsable::TextStream;
 use irtext_context::base::Context;
@@ -23,6 +25,21 @@ pub fn with_context<X, F: FnOnce(Global, &mut Ctx) -> Result<X, Fail> + Drop>(
     requires { F.IsAlwaysCallable call }
 {
     let mut ctx: Ctx = Context::new(alloc);
+    call(alloc, &mut ctx)
+}
+
+/// What a call answers that is lent an empty context whose next value has the number `values`, and whose places count from
+/// `places`.
+pub fn with_counters<X, F: FnOnce(Global, &mut Ctx) -> Result<X, Fail> + Drop>(
+    alloc: Global,
+    values: u64,
+    places: u32,
+    call: F,
+) -> Result<X, Fail>
+    requires callable { F.IsAlwaysCallable call }
+    requires places { 1 ≤ places }
+{
+    let mut ctx: Ctx = Context::with_counters(alloc, values, places);
     call(alloc, &mut ctx)
 }
 

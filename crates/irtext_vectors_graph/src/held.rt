@@ -11,12 +11,18 @@ use std::test::Fail;
 
 /// A graph with a number beside it.
 #[derive(Drop)]
-struct Holder {
-    graph: Graph<u32, u32, u8>,
-    number: u32,
+pub(crate) struct Holder {
+    pub(crate) graph: Graph<u32, u32, u8>,
+    pub(crate) number: u32,
 }
 
-impl HasGraph<u32, u32, u8> for Holder {
+impl HasGraph for Holder {
+    type O = u32;
+
+    type B = u32;
+
+    type T = u8;
+
     ghost graph = { λ h. h.graph };
 
     ghost with_graph = { λ h g. record h { graph = g } };

@@ -1,5 +1,6 @@
 //! Worked rows of the graph: each call once, which places objects take, full counters, what is given back, uses that go in every
-//! order, a chain that is nested deep, and a value that is used often; and a random script beside a plain model.
+//! order, a chain that is nested deep, walks over all inside an object, and a value that is used often; and a random script beside a
+//! plain model.
 #![tactic(auto)]
 
 #[cfg(test)]
@@ -25,4 +26,8 @@ mod random;
 #[cfg(test)]
 mod script;
 #[cfg(test)]
+mod used;
+#[cfg(test)]
 mod using;
+#[cfg(test)]
+mod walks;

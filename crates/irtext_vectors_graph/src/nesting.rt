@@ -80,13 +80,16 @@ fn nests(graph: &mut Graph<u32, u32, u8>) -> Result<bool, AllocError> {
 
 /// The outermost operation of a chain, and the innermost one.
 #[derive(Clone, Copy)]
-struct Ends {
-    outer: Object,
-    inner: Object,
+pub(crate) struct Ends {
+    pub(crate) outer: Object,
+    pub(crate) inner: Object,
 }
 
 /// A chain of operations, regions and blocks, each in the next; the inner ones are made first.
-fn chain(graph: &mut Graph<u32, u32, u8>, depth: usize) -> Result<Option<Ends>, AllocError> {
+pub(crate) fn chain(
+    graph: &mut Graph<u32, u32, u8>,
+    depth: usize,
+) -> Result<Option<Ends>, AllocError> {
     let inner = Object::TheOperation(graph.make_operation(0, Few::none(), &[], &[])?);
     let mut last = inner;
     for _ in 0..depth {

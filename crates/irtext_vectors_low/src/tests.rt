@@ -1,4 +1,5 @@
 //! The tests, a file for each thing that they are about.
+mod blocks;
 mod contexts;
 mod demo;
 mod edges;

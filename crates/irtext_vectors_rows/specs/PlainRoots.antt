@@ -5,11 +5,14 @@ use Rattle.irtext_base.specs.Format.{Id, Format, same_text}
 use Rattle.irtext_base.specs.Own.{Language, unplaced}
 use Rattle.irtext_base.specs.Text.{Text}
 use Rattle.irtext_context.specs.Context.{ContextView, OperationView}
+use Rattle.irtext_context.specs.declared.base.operation.OperationData.{OperationData}
+use Rattle.irtext_graph.specs.Content.{Node, OperationContent}
 use Rattle.irtext_context.specs.Dialects.{Table}
-use Rattle.irtext_context.specs.declared.base.arena.Ptr.{Ptr}
+use Rattle.irtext_graph.specs.declared.arena.Ptr.{Ptr}
 use Rattle.irtext_base.specs.declared.base.attributes.AttrObj.TheVariants.{Ident}
 use Rattle.irtext_base.specs.declared.base.identifier.OpId.{OpId}
-use Rattle.irtext_context.specs.declared.base.region.Region.{Region}
+use Rattle.irtext_graph.specs.declared.object.BasicBlock.{BasicBlock}
+use Rattle.irtext_graph.specs.declared.object.Region.{Region}
 use Rattle.irtext_base.specs.declared.location.Location.{Unknown}
 use Rattle.irtext_grammar.specs.Grammar.Forest.{no_regions, region, no_blocks}
 use Rattle.irtext_grammar.specs.Graphs.Graph.{Graph, Printing}
@@ -58,14 +61,32 @@ func_with r = record { id = func_id; result_types = []; attributes = (codes "bui
 abbrev pub func_dialects : List (Text × Table)
 func_dialects = (codes "test", record { name = codes "test"; entries = (func_id, record { format = format.custom (format.header ∷ format.region 0 ∷ []); isolated = true }) ∷ [] }) ∷ []
 
+-- such an operation in a graph, with this region
+abbrev pub func_node : Ptr Region → Node BasicBlock Region (OperationContent (Option (OperationData Text)) (Option Text))
+func_node r = record {
+  parent = None;
+  children = r ∷ [];
+  content = record {
+    data_of = Some (record { id = func_id; attributes = (codes "builtin_sym_name", Ident (codes "f")) ∷ []; loc = Unknown });
+    operands = [];
+    successors = [];
+    results = [];
+  };
+}
+
 -- a context with these dialects, in which such an operation stands
 abbrev pub func_context : Ptr Region → ContextView Text Text
 func_context r = record {
-  made = 2;
+  graph = record {
+    made = 2;
+    values = 0;
+    first_place = 1;
+    operations = record { cells = record { generation = 1; object = Some (record { born = 0; content = func_node r }) } ∷ []; free = None };
+    blocks = record { cells = []; free = None };
+    regions = record { cells = []; free = None };
+  };
   paths = [];
   dialects = func_dialects;
-  operations = record { cells = record { generation = 1; object = Some (record { born = 0; content = func_with r }) } ∷ []; free = None };
-  regions = record { cells = []; free = None };
 }
 
 -- what printing sees of it

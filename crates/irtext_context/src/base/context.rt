@@ -1,65 +1,93 @@
-//! The context: all operations and regions, the paths of files, and the dialects.
-ghost use Rattle.std.specs.Prelude.{◌≡◌, ◌+◌, ◌↔◌, None, [], IsSome, IsTrue};
-ghost use Rattle.irtext_context.specs.Context.{operation, region, count};
+//! The context: the graph of all operations, blocks and regions, the paths of files, and the dialects.
+ghost use Rattle.std.specs.Prelude.{◌≡◌, ◌≤◌, ◌↔◌, [], IsSome, IsTrue, refl};
+ghost use Rattle.irtext_graph.specs.Graph.{empty, begun, num_live, Stands};
+ghost use Rattle.irtext_graph.specs.declared.object.Object.TheVariants.{TheOperation, TheBlock, TheRegion};
+ghost use Rattle.irtext_context.specs.Context.{operation, block, region};
 
 pub mod making;
 mod paths;
 
-use crate::base::arena::Arena;
+use crate::base::block::BlockData;
 use crate::base::operation::OperationData;
-use crate::base::region::RegionData;
-use crate::base::{Operation, Ptr, Region};
+use crate::base::{BasicBlock, Operation, Ptr, Region};
 use crate::dialect::{Dialect, DialectName};
 use indexmap::IndexMap;
 use irtext_base::location::paths::Paths;
 use irtext_base::text::{AttrText, IrText};
+use irtext_graph::graph::Graph;
+use irtext_graph::held::HasGraph;
+use irtext_graph::object::Object;
 use std::alloc::Global;
 use std::marker::Model;
 
-/// All operations and regions, under pointers, the paths of files, and the dialects, under their names.
+/// All operations, blocks and regions, under pointers, the paths of files, and the dialects, under their names.
+///
+/// A placeholder, which stands for an operation or a value that is named before it is defined, has no data; no text names it.
 #[derive(Drop)]
 pub struct Context<T, A> {
-    pub(crate) operations: Arena<OperationData<T, A>>,
-    pub(crate) regions: Arena<RegionData>,
+    pub(crate) graph: Graph<Option<OperationData<A>>, BlockData<A>, Option<T>>,
     paths: Paths,
     pub(crate) dialects: IndexMap<DialectName, Dialect>,
-    made: u64,
     alloc: Global,
 }
 
 impl<T, A> Model for Context<T, A> {
     ghost use Rattle.std.specs.Coded.{codes};
     ghost use borrow.Follows.Found.{coded as coded_row};
-    ghost use Rattle.irtext_context.specs.Context.{ContextView, context_of};
+    ghost use Rattle.irtext_context.specs.Context.{ContextView};
     ghost use Rattle.irtext_base.specs.contracts.location.Location as location;
-    ghost use Rattle.irtext_context.specs.Arena.{HasFew, AreOlder};
 
     ghost Value = { ContextView T A };
 
     ghost coded = { Prim.hlevel (codes, (location.the_row (coded_row A A.code)).coded) };
 
-    ghost view = { λ c. context_of c.made c.operations c.regions c.paths c.dialects.entries };
+    ghost view = { λ c. record { graph = c.graph; paths = c.paths; dialects = c.dialects.entries } };
+}
 
-    ghost invariant = { λ c. HasFew c.operations × HasFew c.regions × AreOlder c.made c.operations × AreOlder c.made c.regions };
+impl<T: Drop, A: Drop> HasGraph for Context<T, A> {
+    ghost use Rattle.irtext_context.specs.Context.{with_graph};
+
+    type O = Option<OperationData<A>>;
+
+    type B = BlockData<A>;
+
+    type T = Option<T>;
+
+    ghost graph = { λ c. c.graph };
+
+    ghost with_graph = { with_graph };
+
+    ghost graph_with = { λ c g. refl };
+
+    ghost with_own = { λ c. refl };
+
+    fn graph(&self) -> &Graph<Option<OperationData<A>>, BlockData<A>, Option<T>> {
+        &self.graph
+    }
+
+    fn graph_mut(&mut self) -> &mut Graph<Option<OperationData<A>>, BlockData<A>, Option<T>> {
+        &mut self.graph
+    }
 }
 
 impl<T: IrText<A>, A: AttrText> Context<T, A> {
     /// A context without objects and dialects. It takes no memory yet.
     pub fn new(alloc: Global) -> Context<T, A>
-        ensures { result ≡ record {
-          made = 0;
-          paths = [];
-          dialects = [];
-          operations = record { cells = []; free = None };
-          regions = record { cells = []; free = None };
-        } }
+        ensures { result ≡ record { graph = empty; paths = []; dialects = [] } }
+    {
+        Context::with_counters(alloc, 0, 1)
+    }
+
+    /// A context without objects and dialects whose next value has the number `values`, and whose places count from `places`, so
+    /// that the ends of its counters are near: the greatest place is below the greatest `u32`. It takes no memory yet.
+    pub fn with_counters(alloc: Global, values: u64, places: u32) -> Context<T, A>
+        requires { 1 ≤ places }
+        ensures { result ≡ record { graph = begun values places; paths = []; dialects = [] } }
     {
         Context {
-            operations: Arena::new(alloc),
-            regions: Arena::new(alloc),
+            graph: Graph::with_counters(alloc, values, places),
             paths: Paths::new(alloc),
             dialects: IndexMap::new(alloc),
-            made: 0,
             alloc,
         }
     }
@@ -69,24 +97,34 @@ impl<T: IrText<A>, A: AttrText> Context<T, A> {
         self.alloc
     }
 
-    /// How many operations and regions stand.
+    /// How many operations, blocks and regions stand.
     pub fn num_live(&self) -> u64
-        ensures { result ≡ count self.now.operations + count self.now.regions }
+        ensures { result ≡ num_live self.now.graph }
     {
-        self.operations.count() as u64 + self.regions.count() as u64
+        self.graph.num_live()
     }
 
-    /// Whether an operation stands under a pointer.
+    /// Whether an operation stands under a pointer, and is no placeholder.
     pub fn contains_operation(&self, p: Ptr<Operation>) -> bool
-        ensures { IsTrue result ↔ IsSome (operation self.now p) }
+        ensures stands { IsTrue result ↔ IsSome (operation self.now p) }
+        ensures graph { IsTrue result → Stands self.now.graph (TheOperation p) }
     {
-        self.operations.contains(p)
+        self.graph.contains(Object::TheOperation(p)) && self.graph.operation(p).is_some()
+    }
+
+    /// Whether a block stands under a pointer.
+    pub fn contains_block(&self, p: Ptr<BasicBlock>) -> bool
+        ensures stands { IsTrue result ↔ IsSome (block self.now p) }
+        ensures graph { IsTrue result → Stands self.now.graph (TheBlock p) }
+    {
+        self.graph.contains(Object::TheBlock(p))
     }
 
     /// Whether a region stands under a pointer.
     pub fn contains_region(&self, p: Ptr<Region>) -> bool
-        ensures { IsTrue result ↔ IsSome (region self.now p) }
+        ensures stands { IsTrue result ↔ IsSome (region self.now p) }
+        ensures graph { IsTrue result → Stands self.now.graph (TheRegion p) }
     {
-        self.regions.contains(p)
+        self.graph.contains(Object::TheRegion(p))
     }
 }

@@ -5,11 +5,11 @@ use Rattle.irtext_base.specs.Text.{Text}
 use Rattle.irtext_base.specs.Stream.{StreamView, IsAt}
 use Rattle.irtext_base.specs.Faults.{id_of}
 use Rattle.irtext_context.specs.Context.{ContextView, OperationView, operation}
-use Rattle.irtext_context.specs.declared.base.arena.Ptr.{Ptr}
+use Rattle.irtext_graph.specs.declared.arena.Ptr.{Ptr}
 use Rattle.irtext_base.specs.declared.base.attributes.AttrObj.{AttrObj}
 use Rattle.irtext_base.specs.declared.base.attributes.AttrObj.TheVariants.{GivenNames, Ident, Own}
-use Rattle.irtext_context.specs.declared.base.operation.Operation.{Operation}
-use Rattle.irtext_context.specs.declared.base.region.Region.{Region}
+use Rattle.irtext_graph.specs.declared.object.Operation.{Operation}
+use Rattle.irtext_graph.specs.declared.object.Region.{Region}
 use Rattle.irtext_base.specs.Locations.{location_view}
 use Rattle.irtext_base.specs.Paths.{Written, written_with}
 use Rattle.irtext_base.specs.declared.location.Location.{Location}
@@ -39,10 +39,16 @@ abbrev pub empty_regions : {O B : Type 0} → List (Ptr Region) → Regions O B 
 empty_regions [] = no_regions
 empty_regions (r ∷ rs) = region tt no_blocks (empty_regions rs)
 
+-- the types that are known
+abbrev pub known_types : {T : Type 0} → List (Option T) → List T
+known_types [] = []
+known_types (None ∷ ts) = known_types ts
+known_types (Some t ∷ ts) = t ∷ known_types ts
+
 module _ {T A : Type 0} where
   -- an operation without its regions, its location over these paths
   abbrev pub stood_operation : List (List ℕ) → OperationView T A → BuiltOp T A (Written A)
-  stood_operation paths op = record { id = id_of op.id; result_types = op.result_types; operands = []; successors = []; attributes = entries_of op.attributes; location = location_over paths op.loc }
+  stood_operation paths op = record { id = id_of op.id; result_types = known_types op.result_types; operands = []; successors = []; attributes = entries_of op.attributes; location = location_over paths op.loc }
 
   -- an operation and all inside: so far no region has blocks
   abbrev pub built_of : List (List ℕ) → OperationView T A → Built T A (Written A)

@@ -1,6 +1,7 @@
 -- What reading a location does to a context, one reading behind another: it may keep more paths.
-use Rattle.std.proofs.Common.{◌≡◌, ◌∙◌, ap, refl, ℕ, List, arith}
-use Rattle.irtext_context.specs.Context.{ContextView, KeepsOlder, before, with_paths}
+use Rattle.std.proofs.Common.{◌≡◌, ◌∙◌, ap, refl, ℕ, List}
+use Rattle.irtext_context.specs.Context.{ContextView, KeepsOlder, with_paths}
+use Rattle.irtext_graph.proofs.Made.{same_keeps}
 use Rattle.irtext_base.specs.Paths.{with_path}
 use Rattle.irtext_base.proofs.PathKeys.{paths_stay}
 use Rattle.irtext_outcomes.specs.Readers.NewPaths.{AddsPaths}
@@ -12,10 +13,8 @@ module _ {T A : Type 0} where
 
   -- all objects stay where paths are added
   pub adds_kept : {a b : ContextView T A} (mark : ℕ) → AddsPaths a b → KeepsOlder mark a b
-  adds_kept mark h = record {
-    operations = λ p. ap (λ c. before mark c.operations p) h.rest;
-    regions = λ p. ap (λ c. before mark c.regions p) h.rest;
-    count = let e = ap (λ c. c.made) h.rest in omega (arith, e);
+  adds_kept {a} {b} mark h = record {
+    graph = same_keeps mark a.graph b.graph (ap (λ c. c.graph) h.rest);
     paths = h.kept;
     dialects = ap (λ c. c.dialects) h.rest;
   }

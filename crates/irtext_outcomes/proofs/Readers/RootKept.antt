@@ -5,10 +5,11 @@ use Rattle.irtext_base.specs.Text.{Text}
 use Rattle.irtext_base.specs.Answers.{Outcome}
 use Rattle.irtext_base.specs.Locations.{AttrView}
 use Rattle.irtext_base.specs.declared.location.Location.{Location}
-use Rattle.irtext_context.specs.Arena.{older}
-use Rattle.irtext_context.specs.Context.{ContextView, KeepsOlder, EditsOperation, before, operation}
-use Rattle.irtext_context.specs.declared.base.arena.Ptr.{Ptr}
-use Rattle.irtext_context.specs.declared.base.operation.Operation.{Operation}
+use Rattle.irtext_graph.specs.Arena.{older}
+use Rattle.irtext_context.specs.Context.{ContextView, KeepsOlder, EditsOperation, operation, with_loc}
+use Rattle.irtext_graph.specs.Store.{before}
+use Rattle.irtext_graph.specs.declared.arena.Ptr.{Ptr}
+use Rattle.irtext_graph.specs.declared.object.Operation.{Operation}
 use Rattle.irtext_context.proofs.Contexts.{same-keeps, edits-keeps}
 use Rattle.irtext_context.proofs.Kept.{kept_trans}
 use Rattle.irtext_state.specs.States.{marks_of, same_index}
@@ -33,35 +34,35 @@ noted_alone (Some j) op i p e = go (i == j) e
     go false e = absurd (cc e)
 
 module _ {T A : Type 0} (mark : ℕ) (op : Ptr Operation) where
-  located_kept : (old new : ContextView T A) (l : Location A) (b : Bool) → before mark old.operations op ≡ None → cond b (EditsOperation old new op (λ o. record o { loc = l })) (new ≡ old) → KeepsOlder mark old new
-  located_kept old new l true none e = edits-keeps mark old new op (λ o. record o { loc = l }) none e
+  located_kept : (old new : ContextView T A) (l : Location A) (b : Bool) → before mark old.graph.operations op ≡ None → cond b (EditsOperation old new op (with_loc l)) (new ≡ old) → KeepsOlder mark old new
+  located_kept old new l true none e = edits-keeps mark old new op (with_loc l) none e
   located_kept old new l false none e = same-keeps mark old new e
 
-  applied_kept : (o : Option (Ptr Operation)) (l : Option (Location A)) (old new : ContextView T A) → ((p : Ptr Operation) → o ≡ Some p → p ≡ op) → before mark old.operations op ≡ None → Applies o l old new → KeepsOlder mark old new
+  applied_kept : (o : Option (Ptr Operation)) (l : Option (Location A)) (old new : ContextView T A) → ((p : Ptr Operation) → o ≡ Some p → p ≡ op) → before mark old.graph.operations op ≡ None → Applies o l old new → KeepsOlder mark old new
   applied_kept None l old new same none h = same-keeps mark old new h
   applied_kept (Some p) None old new same none h = same-keeps mark old new h
   applied_kept (Some p) (Some l) old new same none h =
       let at : p ≡ op = same p refl in
-      located_kept old new l (is_some (operation old op)) none (subst (λ p. cond (is_some (operation old p)) (EditsOperation old new p (λ o. record o { loc = l })) (new ≡ old)) at h)
+      located_kept old new l (is_some (operation old op)) none (subst (λ p. cond (is_some (operation old p)) (EditsOperation old new p (with_loc l)) (new ≡ old)) at h)
 
   -- entries that are applied to an operation that is no older leave what is older
-  all_kept : (marks : List (ℕ × Ptr Operation)) (es : List (ℕ × Option (Location A))) (old new : ContextView T A) → AreOf op marks → before mark old.operations op ≡ None → AppliesAll marks es old new → KeepsOlder mark old new
+  all_kept : (marks : List (ℕ × Ptr Operation)) (es : List (ℕ × Option (Location A))) (old new : ContextView T A) → AreOf op marks → before mark old.graph.operations op ≡ None → AppliesAll marks es old new → KeepsOlder mark old new
   all_kept marks [] old new same none h = same-keeps mark old new h
   all_kept marks (e ∷ es) old new same none (mid, h, k) =
       let first = all_kept marks es old mid same none h in
-      kept_trans first (applied_kept (lookup (same_index e.0) marks) e.1 mid new (same e.0) (first.operations op ∙ none) k)
+      kept_trans first (applied_kept (lookup (same_index e.0) marks) e.1 mid new (same e.0) (first.graph.operations op ∙ none) k)
 
 -- What is older than the reading of a root on a fresh state stands as it did, where that is so of its operation.
 pub root_kept : {T A U : Type 0} (attr : Text → Outcome (AttrView A)) (look : Bool) {op : Ptr Operation} {old new : StateStream T A U} (mark : ℕ) → IsFresh old → (w : ReadsWith attr look op old new)
     → KeepsOlder mark old.state.ctx.now w.mid.state.ctx.now → KeepsOlder mark old.state.ctx.now new.state.ctx.now
 root_kept attr look {op} {old} {new} mark fresh w k = go (look && is_noted (marks_of w.mid.state)) w.section
   where
-    none : before mark w.mid.state.ctx.now.operations op ≡ None
-    none = k.operations op ∙ ap (older mark) (tree_there attr op old w.mid w.mid fresh w.operation).only.op_is_new
+    none : before mark w.mid.state.ctx.now.graph.operations op ≡ None
+    none = k.graph.operations op ∙ ap (older mark) (tree_there attr op old w.mid w.mid fresh w.operation).only.op_is_new
 
     go : (b : Bool) → cond b (ReadsSection attr w.mid new) (new ≡ w.mid) → KeepsOlder mark old.state.ctx.now new.state.ctx.now
     go true q =
         let paths = adds_kept mark q.adds in
         let marks = marks_are attr op old w.mid w.mid fresh w.operation in
-        kept_trans k (kept_trans paths (all_kept mark op (marks_of w.mid.state) q.entries q.middle new.state.ctx.now (subst (AreOf op) (sym marks) (noted_alone w.operation.read.mark op)) (paths.operations op ∙ none) q.applied))
+        kept_trans k (kept_trans paths (all_kept mark op (marks_of w.mid.state) q.entries q.middle new.state.ctx.now (subst (AreOf op) (sym marks) (noted_alone w.operation.read.mark op)) (paths.graph.operations op ∙ none) q.applied))
     go false same = subst (λ s. KeepsOlder mark old.state.ctx.now s.state.ctx.now) (sym same) k

@@ -7,20 +7,23 @@ use Rattle.irtext_base.specs.Text.{Text, after_space}
 use Rattle.irtext_base.specs.Faults.{id_of}
 use Rattle.irtext_base.specs.Stream.{StreamView}
 use Rattle.irtext_base.specs.Answers.{Outcome, Read, Missing, Bad}
-use Rattle.irtext_context.specs.Context.{ContextView, OperationView, Cell, Store, Inserts, MakesOperation, AddsRegion, EditsOperation, get, object_in, object_of, drawn, operation, region, regions_in, with_region}
+use Rattle.irtext_context.specs.Context.{ContextView, OperationView, RegionView, MakesOperation, AddsRegion, EditsOperation, operation, region, region_of, regions_in, with_loc}
+use Rattle.irtext_context.specs.declared.base.operation.OperationData.{OperationData}
+use Rattle.irtext_graph.specs.Content.{Node, RegionContent}
+use Rattle.irtext_graph.specs.Store.{Cell, Store, Inserts, get, object_in, drawn}
 use Rattle.irtext_base.specs.Paths.{KeepsPaths, Written, written_with}
-use Rattle.irtext_context.specs.declared.base.arena.Object.{Object}
-use Rattle.irtext_context.specs.Made.{AddsRegions}
-use Rattle.irtext_context.specs.declared.base.arena.Ptr.{Ptr}
+use Rattle.irtext_graph.specs.declared.arena.Entry.{Entry}
+use Rattle.irtext_context.specs.Made.{made_view, AddsRegions}
+use Rattle.irtext_graph.specs.declared.arena.Ptr.{Ptr}
 use Rattle.irtext_base.specs.declared.base.attributes.AttrObj.{AttrObj}
 use Rattle.irtext_base.specs.declared.base.identifier.OpId.{OpId}
-use Rattle.irtext_context.specs.declared.base.operation.Operation.{Operation}
-use Rattle.irtext_context.specs.declared.base.region.Region.{Region}
-use Rattle.irtext_context.specs.declared.base.region.RegionData.{RegionData}
+use Rattle.irtext_graph.specs.declared.object.Operation.{Operation}
+use Rattle.irtext_graph.specs.declared.object.Region.{Region}
+use Rattle.irtext_graph.specs.declared.object.BasicBlock.{BasicBlock}
 use Rattle.irtext_base.specs.Locations.{AttrView}
 use Rattle.irtext_base.specs.declared.location.Location.{Location, SrcPos}
 use Rattle.irtext_base.specs.declared.parsable.fault.ParseFault.{ParseFault}
-use Rattle.irtext_context.proofs.Contexts.{same-paths}
+use Rattle.irtext_context.proofs.Contexts.{same-paths, with_region, made_seen, edited_seen, grown_seen, region_seen, same_region_seen}
 use Rattle.irtext_base.proofs.Numbers.{same_character}
 use Rattle.irtext_state.specs.States.{marks_of, same_index, LocatesAt}
 use Rattle.irtext_state.specs.declared.parsable.state.StateStream.{StateStream}
@@ -32,7 +35,7 @@ use Rattle.irtext_outcomes.specs.Readers.Operations.{operation_by, root_at}
 use Rattle.irtext_outcomes.specs.Readers.NewPaths.{AddsPaths}
 use Rattle.irtext_grammar.specs.Names.Placeholders.{In}
 use Rattle.irtext_outcomes.specs.Readers.Marks.{unnoted, fresh_mark_at, noted}
-use Rattle.irtext_outcomes.specs.Readers.Streams.{made_view}
+use Rattle.irtext_outcomes.specs.Readers.Streams.{held_of}
 use Rattle.irtext_outcomes.specs.Promises.Section.{indices_of, given_over, entry_over, entries_over, is_noted, Moves, Reports, Locates, Applies, AppliesAll, ReadsSection, ReadsWith, MissesWith, no_operation, no_section}
 use Rattle.irtext_outcomes.specs.Readers.Section.{may_have, Entries, AllEntries}
 use Rattle.irtext_outcomes.specs.Promises.Supported as so_far
@@ -67,7 +70,7 @@ module _ {X : Type 0} where
   nothing_next (Some c) = rw (next_differs c.generation) refl
 
   -- nothing stood under the pointer of an object that came
-  pub inserted_new : {K : Type 0} {old new : Store X} {p : Ptr K} {x : Object X} → Inserts old new p x → get old p ≡ None
+  pub inserted_new : {K : Type 0} {old new : Store X} {p : Ptr K} {x : Entry X} → Inserts old new p x → get old p ≡ None
   inserted_new {old = old} {p = p} h = ap (object_in (slice_get old.cells p.index)) h.next ∙ nothing_next (slice_get old.cells p.index)
 
 -- ---- an operation that was made
@@ -88,10 +91,14 @@ in_end q [] = inl refl
 in_end q (y ∷ ys) = inr (in_end q ys)
 
 -- an object under one pointer is not there under another where nothing is
-apart : {X : Type 0} {K : Type 0} (s : Store X) (q r : Ptr K) (x : Object X) → get s q ≡ Some x → get s r ≡ None → q ≢ r
+apart : {X : Type 0} {K : Type 0} (s : Store X) (q r : Ptr K) (x : Entry X) → get s q ≡ Some x → get s r ≡ None → q ≢ r
 apart s q r x h none = λ e. absurd (let f : Some x ≡ None = sym h ∙ (ap (get s) e ∙ none) in cc f)
 
-absent : (s : Store RegionData) (r : Ptr Region) (o : Option (Object RegionData)) → get s r ≡ o → ((x : Object RegionData) → o ≡ Some x → ⊥) → get s r ≡ None
+-- the entry of a region
+abbrev RegionEntry : Type 0
+RegionEntry = Entry (Node Operation BasicBlock RegionContent)
+
+absent : (s : Store (Node Operation BasicBlock RegionContent)) (r : Ptr Region) (o : Option RegionEntry) → get s r ≡ o → ((x : RegionEntry) → o ≡ Some x → ⊥) → get s r ≡ None
 absent s r None e h = e
 absent s r (Some x) e h = absurd (h x refl)
 
@@ -102,60 +109,54 @@ module _ {T A : Type 0} where
 
   -- what is in the context behind an operation that was made: it and its regions, and nothing else is new
   pub record Stood (old new : ContextView T A) (op : Ptr Operation) (view : OperationView T A) : Type 0 where
-    pub born : ℕ
-    pub here : get new.operations op ≡ Some (record { born = born; content = view })
-    pub op_new : get old.operations op ≡ None
-    pub operations : (p : Ptr Operation) → p ≢ op → get new.operations p ≡ get old.operations p
-    pub regions_new : (r : Ptr Region) → In r view.regions → (get old.regions r ≡ None) × (region new r ≡ Some (record { parent = op }))
-    pub regions_stay : (r : Ptr Region) (x : Object RegionData) → get old.regions r ≡ Some x → get new.regions r ≡ Some x
-    pub regions : (r : Ptr Region) → (In r view.regions → ⊥) → get new.regions r ≡ get old.regions r
+    pub here : operation new op ≡ Some view
+    pub op_new : get old.graph.operations op ≡ None
+    pub operations : (p : Ptr Operation) → p ≢ op → get new.graph.operations p ≡ get old.graph.operations p
+    pub blocks : new.graph.blocks ≡ old.graph.blocks
+    pub regions_new : (r : Ptr Region) → In r view.regions → (get old.graph.regions r ≡ None) × (region new r ≡ Some (record { parent = Some op; blocks = [] }))
+    pub regions_stay : (r : Ptr Region) (x : RegionEntry) → get old.graph.regions r ≡ Some x → get new.graph.regions r ≡ Some x
+    pub regions : (r : Ptr Region) → (In r view.regions → ⊥) → get new.graph.regions r ≡ get old.graph.regions r
     pub paths : KeepsPaths old.paths new.paths
     pub dialects : new.dialects ≡ old.dialects
 
   -- an operation that was made without regions
-  made_stands : {old new : ContextView T A} {op : Ptr Operation} {view : OperationView T A} → view.regions ≡ [] → MakesOperation old new op view → Stood old new op view
-  made_stands {old = old} {new = new} {op = op} {view = view} none m =
-      let same : new.regions ≡ old.regions = m.regions in
-      record {
-        born = old.made;
-        here = m.operations.updates.changed;
-        op_new = inserted_new m.operations;
-        operations = m.operations.updates.others;
-        regions_new = λ r i. absurd (subst (In r) none i);
-        regions_stay = λ r x h. ap (λ s. get s r) same ∙ h;
-        regions = λ r n. ap (λ s. get s r) same;
-        paths = same-paths m.paths;
-        dialects = m.dialects;
-      }
+  made_stands : {old new : ContextView T A} {op : Ptr Operation} (held : OperationData A) → MakesOperation old new op held → Stood old new op (made_view held)
+  made_stands {old = old} {new = new} {op = op} held m = record {
+    here = made_seen old new op held m;
+    op_new = inserted_new m.graph.operations;
+    operations = m.graph.operations.updates.others;
+    blocks = m.graph.blocks;
+    regions_new = λ r i. absurd i;
+    regions_stay = λ r x h. ap (λ s. get s r) m.graph.regions ∙ h;
+    regions = λ r n. ap (λ s. get s r) m.graph.regions;
+    paths = same-paths m.paths;
+    dialects = m.dialects;
+  }
 
-  region_there : (c : ContextView T A) (q : Ptr Region) (d : RegionData) → region c q ≡ Some d → (x : Object RegionData) × (get c.regions q ≡ Some x)
-  region_there c q d h = go (get c.regions q) refl h
-    where
-      go : (o : Option (Object RegionData)) → get c.regions q ≡ o → option_map (λ (x : Object RegionData). x.content) o ≡ Some d → (x : Object RegionData) × (get c.regions q ≡ Some x)
-      go None e h = absurd (cc h)
-      go (Some x) e h = (x, e)
+  -- a region that is seen is another than one that is not there
+  standing : (c : ContextView T A) (q r : Ptr Region) (d : RegionView) → region c q ≡ Some d → get c.graph.regions r ≡ None → q ≢ r
+  standing c q r d h none = λ e. absurd (let f : Some d ≡ None = sym h ∙ (ap (region c) e ∙ ap (option_map region_of) none) in cc f)
 
   -- with one region more
   region_stands : {old mid new : ContextView T A} {op : Ptr Operation} {view : OperationView T A} (r : Ptr Region) → Stood old mid op view → AddsRegion mid new op r → Stood old new op (with_region r view)
   region_stands {old = old} {mid = mid} {new = new} {op = op} {view = view} r s a =
-      let none : get mid.regions r ≡ None = inserted_new a.regions in
+      let none : get mid.graph.regions r ≡ None = inserted_new a.graph.regions in
       record {
-        born = s.born;
-        here = a.operations.updates.changed ∙ ap (option_map (object_of (with_region r))) s.here;
+        here = grown_seen mid new op r a ∙ ap (option_map (with_region r)) s.here;
         op_new = s.op_new;
-        operations = λ p d. a.operations.updates.others p d ∙ s.operations p d;
+        operations = λ p d. a.graph.operations.updates.others p d ∙ s.operations p d;
+        blocks = a.graph.blocks ∙ s.blocks;
         regions_new = λ q i. elim (in_last q view.regions r i) [
           | inl h ↦
               let k = s.regions_new q h in
-              let x = region_there mid q (record { parent = op }) k.1 in
-              (k.0, ap (option_map (λ (x : Object RegionData). x.content)) (a.regions.updates.others q (apart mid.regions q r x.0 x.1 none)) ∙ k.1)
+              (k.0, same_region_seen mid new q op r a (standing mid q r (record { parent = Some op; blocks = [] }) k.1 none) ∙ k.1)
           | inr e ↦ (
-            ap (get old.regions) e ∙ absent old.regions r (get old.regions r) refl (λ x h. absurd (let f : Some x ≡ None = sym (s.regions_stay r x h) ∙ none in cc f)),
-            ap (region new) e ∙ ap (option_map (λ (x : Object RegionData). x.content)) a.regions.updates.changed,
+            ap (get old.graph.regions) e ∙ absent old.graph.regions r (get old.graph.regions r) refl (λ x h. absurd (let f : Some x ≡ None = sym (s.regions_stay r x h) ∙ none in cc f)),
+            ap (region new) e ∙ region_seen mid new op r a,
           )
         ];
-        regions_stay = λ q x h. let k = s.regions_stay q x h in a.regions.updates.others q (apart mid.regions q r x k none) ∙ k;
-        regions = λ q n. a.regions.updates.others q (λ e. n (subst (λ z. In z (view.regions ++ (r ∷ []))) (sym e) (in_end r view.regions))) ∙ s.regions q (λ i. n (in_front q view.regions r i));
+        regions_stay = λ q x h. let k = s.regions_stay q x h in a.graph.regions.updates.others q (apart mid.graph.regions q r x k none) ∙ k;
+        regions = λ q n. a.graph.regions.updates.others q (λ e. n (subst (λ z. In z (view.regions ++ (r ∷ []))) (sym e) (in_end r view.regions))) ∙ s.regions q (λ i. n (in_front q view.regions r i));
         paths = λ i path h. same-paths a.paths i path (s.paths i path h);
         dialects = a.dialects ∙ s.dialects;
       }
@@ -176,38 +177,38 @@ module _ {T A : Type 0} where
       more_by_one : (l n : ℕ) → l ≡ n → l + 1 ≡ suc n
       more_by_one l n e = omega (arith, e)
 
-  edited_stands : {old mid new : ContextView T A} {op : Ptr Operation} {view : OperationView T A} (l : Location A) → Stood old mid op view → EditsOperation mid new op (with_location l) → Stood old new op (with_location l view)
+  edited_stands : {old mid new : ContextView T A} {op : Ptr Operation} {view : OperationView T A} (l : Location A) → Stood old mid op view → EditsOperation mid new op (with_loc l) → Stood old new op (with_location l view)
   edited_stands {old = old} {mid = mid} {new = new} {op = op} l s e = record {
-    born = s.born;
-    here = e.operations.updates.changed ∙ ap (option_map (object_of (with_location l))) s.here;
+    here = edited_seen mid new op (with_loc l) (with_location l) (λ results regions held. refl) e ∙ ap (option_map (with_location l)) s.here;
     op_new = s.op_new;
-    operations = λ p d. e.operations.updates.others p d ∙ s.operations p d;
-    regions_new = λ r i. let k = s.regions_new r i in (k.0, ap (λ s. option_map (λ (x : Object RegionData). x.content) (get s r)) e.regions ∙ k.1);
-    regions_stay = λ r x h. ap (λ s. get s r) e.regions ∙ s.regions_stay r x h;
-    regions = λ r n. ap (λ s. get s r) e.regions ∙ s.regions r n;
+    operations = λ p d. e.graph.operations.updates.others p d ∙ s.operations p d;
+    blocks = e.graph.blocks ∙ s.blocks;
+    regions_new = λ r i. let k = s.regions_new r i in (k.0, ap (λ s. option_map region_of (get s r)) e.graph.regions ∙ k.1);
+    regions_stay = λ r x h. ap (λ s. get s r) e.graph.regions ∙ s.regions_stay r x h;
+    regions = λ r n. ap (λ s. get s r) e.graph.regions ∙ s.regions r n;
     paths = λ i path h. same-paths e.paths i path (s.paths i path h);
     dialects = e.dialects ∙ s.dialects;
   }
 
   located_stands : {old mid new : ContextView T A} {op : Ptr Operation} {view : OperationView T A} (l : Location A) → Stood old mid op view → Locates op l mid new → Stood old new op (with_location l view)
   located_stands {mid = mid} {new = new} {op = op} {view = view} l s h =
-      let there : is_some (operation mid op) ≡ true = ap (λ o. is_some (option_map (λ (x : Object (OperationView T A)). x.content) o)) s.here in
-      edited_stands l s (subst (λ b. cond b (EditsOperation mid new op (with_location l)) (new ≡ mid)) there h)
+      let there : is_some (operation mid op) ≡ true = ap is_some s.here in
+      edited_stands l s (subst (λ b. cond b (EditsOperation mid new op (with_loc l)) (new ≡ mid)) there h)
 
   -- more paths change nothing else
   pathed_stands : {old mid new : ContextView T A} {op : Ptr Operation} {view : OperationView T A} → Stood old mid op view → AddsPaths mid new → Stood old new op view
   pathed_stands {old = old} {mid = mid} {new = new} {op = op} {view = view} s a =
       subst (λ c. Stood old c op view) (sym a.rest)
-      (record { born = s.born; here = s.here; op_new = s.op_new; operations = s.operations; regions_new = s.regions_new; regions_stay = s.regions_stay; regions = s.regions; paths = λ i path h. a.kept i path (s.paths i path h); dialects = s.dialects })
+      (record { here = s.here; op_new = s.op_new; operations = s.operations; blocks = s.blocks; regions_new = s.regions_new; regions_stay = s.regions_stay; regions = s.regions; paths = λ i path h. a.kept i path (s.paths i path h); dialects = s.dialects })
 
   -- only an operation and its regions are new
   pub stood_alone : {old new : ContextView T A} {op : Ptr Operation} {view : OperationView T A} → Stood old new op view → OnlyNew op old new
   stood_alone {old = old} {new = new} {op = op} {view = view} s =
-      let here : operation new op ≡ Some view = ap (option_map (λ (x : Object (OperationView T A)). x.content)) s.here in
-      let all : regions_in (operation new op) ≡ view.regions = ap regions_in here in
+      let all : regions_in (operation new op) ≡ view.regions = ap regions_in s.here in
       record {
         op_is_new = s.op_new;
         operations = s.operations;
+        blocks = s.blocks;
         regions_are_new = λ q i. s.regions_new q (subst (In q) all i);
         regions = λ q n. s.regions q (λ i. n (subst (In q) (sym all) i));
         paths = s.paths;
@@ -258,7 +259,7 @@ module _ {T A : Type 0} (attr : Text → Outcome (AttrView A)) where
       go (Some l) a = located_stands l s a
 
   -- the paths stay where entries are applied
-  located_paths : (old new : ContextView T A) (op : Ptr Operation) (l : Location A) (b : Bool) → cond b (EditsOperation old new op (with_location l)) (new ≡ old) → new.paths ≡ old.paths
+  located_paths : (old new : ContextView T A) (op : Ptr Operation) (l : Location A) (b : Bool) → cond b (EditsOperation old new op (with_loc l)) (new ≡ old) → new.paths ≡ old.paths
   located_paths old new op l true h = h.paths
   located_paths old new op l false h = ap (λ c. c.paths) h
 
@@ -272,12 +273,12 @@ module _ {T A : Type 0} (attr : Text → Outcome (AttrView A)) where
   applied_paths marks (e ∷ es) old new (mid, h, k) = applied_one (lookup (same_index e.0) marks) e.1 mid new k ∙ applied_paths marks es old mid h
 
   -- what stands behind an operation is what is built of it
-  built_stands : {old new : ContextView T A} {op : Ptr Operation} (n : ℕ) (id : OpId) (attributes : List (Text × AttrObj A)) (rs : List (Ptr Region)) (loc : Location A) → length rs ≡ n → Stood old new op (record (made_view id attributes loc) { regions = rs })
+  built_stands : {old new : ContextView T A} {op : Ptr Operation} (n : ℕ) (id : OpId) (attributes : List (Text × AttrObj A)) (rs : List (Ptr Region)) (loc : Location A) → length rs ≡ n → Stood old new op (record (made_view (held_of id attributes loc)) { regions = rs })
       → held_root new op ≡ Some (operation_built (id_of id) (record { attributes = entries_of attributes; regions = n }) (location_over new.paths loc))
   built_stands {new = new} n id attributes rs loc count s =
       let count_is = bare_count rs ∙ ap bare_regions count in
-      ap (λ o. option_map (built_of new.paths) (option_map (λ (x : Object (OperationView T A)). x.content) o)) s.here
-      ∙ ap (λ regions. Some (record { own = stood_operation new.paths (record (made_view id attributes loc) { regions = rs }); regions = regions })) count_is
+      ap (option_map (built_of new.paths)) s.here
+      ∙ ap (λ regions. Some (record { own = stood_operation new.paths (record (made_view (held_of id attributes loc)) { regions = rs }); regions = regions })) count_is
 
 -- the location that entries give, over paths
 given_over-is : {A : Type 0} (paths : List (List ℕ)) (loc : Location A) (es : List (ℕ × Option (Location A))) → location_over paths (location_given loc es) ≡ location_given (location_over paths loc) (entries_over paths es)
@@ -317,12 +318,12 @@ module _ {T A U : Type 0} (attr : Text → Outcome (AttrView A)) (op : Ptr Opera
   pub marks_are : marks_of mid.state ≡ noted r.read.mark op
   marks_are = r.marks ∙ ap (λ ms. ms ++ noted r.read.mark op) fresh.marks
 
-  operation_stands : WithRegions r.read.pieces.regions old.state.ctx.now mid.state.ctx.now op (made_view r.id r.attributes loc)
-  operation_stands = regions_stand r.read.pieces.regions refl (made_stands refl r.makes.makes) r.makes.adds
+  operation_stands : WithRegions r.read.pieces.regions old.state.ctx.now mid.state.ctx.now op (made_view (held_of r.id r.attributes loc))
+  operation_stands = regions_stand r.read.pieces.regions refl (made_stands (held_of r.id r.attributes loc) r.makes.makes) r.makes.adds
 
   -- the operation as it was made, with this location
   abbrev view_at : Location A → OperationView T A
-  view_at l = record (made_view r.id r.attributes l) { regions = operation_stands.regions }
+  view_at l = record (made_view (held_of r.id r.attributes l)) { regions = operation_stands.regions }
 
   root_with : (es : List (ℕ × Option (Location A))) → SectionStands attr r.read.mark (entries_over new.state.ctx.now.paths es) mid.stream.rest new.stream.rest → Moves mid.stream new.stream → marks_of new.state ≡ []
       → Stood old.state.ctx.now new.state.ctx.now op (view_at (location_given loc es)) → ReadsRoot attr op old new

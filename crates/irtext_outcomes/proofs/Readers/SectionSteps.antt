@@ -10,8 +10,8 @@ use Rattle.irtext_base.specs.Answers.{Outcome, Read}
 use Rattle.irtext_context.specs.Context.{ContextView}
 use Rattle.irtext_base.specs.Paths.{KeepsPaths, Written}
 use Rattle.irtext_base.specs.Stream.{StreamView}
-use Rattle.irtext_context.specs.declared.base.arena.Ptr.{Ptr}
-use Rattle.irtext_context.specs.declared.base.operation.Operation.{Operation}
+use Rattle.irtext_graph.specs.declared.arena.Ptr.{Ptr}
+use Rattle.irtext_graph.specs.declared.object.Operation.{Operation}
 use Rattle.irtext_base.specs.Locations.{AttrView, location_view}
 use Rattle.irtext_base.specs.declared.location.Location.{Location}
 use Rattle.irtext_base.specs.declared.parsable.fault.ParseFault.{ParseFault}

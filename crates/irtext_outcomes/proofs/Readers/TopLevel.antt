@@ -3,8 +3,8 @@ use Rattle.std.proofs.Common.{Bool, true, false, Result, Ok, Err, IfOk, IfErr, i
 use Rattle.irtext_base.specs.Answers.{Outcome}
 use Rattle.irtext_base.specs.Own.{Texts, texts_of}
 use Rattle.irtext_base.specs.Text.{Text}
-use Rattle.irtext_context.specs.declared.base.arena.Ptr.{Ptr}
-use Rattle.irtext_context.specs.declared.base.operation.Operation.{Operation}
+use Rattle.irtext_graph.specs.declared.arena.Ptr.{Ptr}
+use Rattle.irtext_graph.specs.declared.object.Operation.{Operation}
 use Rattle.irtext_base.specs.declared.parsable.fault.ParseFault.{ParseFault}
 use Rattle.irtext_read.specs.AttrTexts.{attr_at}
 use Rattle.irtext_state.specs.declared.parsable.state.StateStream.{StateStream}

@@ -7,10 +7,10 @@ use Rattle.irtext_context.specs.Dialects.{Table}
 use Rattle.irtext_base.specs.Faults.{id_of}
 use Rattle.irtext_base.specs.Locations.{AttrView}
 use Rattle.irtext_context.specs.Made.{AddsRegions}
-use Rattle.irtext_context.specs.declared.base.arena.Ptr.{Ptr}
+use Rattle.irtext_graph.specs.declared.arena.Ptr.{Ptr}
 use Rattle.irtext_base.specs.declared.base.attributes.AttrObj.{AttrObj}
 use Rattle.irtext_base.specs.declared.base.identifier.OpId.{OpId}
-use Rattle.irtext_context.specs.declared.base.operation.Operation.{Operation}
+use Rattle.irtext_graph.specs.declared.object.Operation.{Operation}
 use Rattle.irtext_base.specs.declared.location.Location.{Location}
 use Rattle.irtext_base.specs.declared.parsable.fault.ParseFault.{ParseFault}
 use Rattle.irtext_state.specs.States.{marks_of, LocatesAt}
@@ -19,7 +19,7 @@ use Rattle.irtext_grammar.specs.Contexts.Formats.{IsAccepted}
 use Rattle.irtext_read.specs.MustRead.{MayRead}
 use Rattle.irtext_outcomes.specs.Readers.Operations.{ReadOp, operation_by}
 use Rattle.irtext_outcomes.specs.Readers.Marks.{fresh_mark_at, noted}
-use Rattle.irtext_outcomes.specs.Readers.Streams.{itself, replaced, made_view}
+use Rattle.irtext_outcomes.specs.Readers.Streams.{itself, replaced, held_of}
 use Rattle.irtext_grammar.specs.Contexts.Held.{entries_of}
 
 -- an operation, and its mark beside those that are noted
@@ -29,7 +29,7 @@ operation_at dialects attr marks text = operation_by dialects attr (fresh_mark_a
 -- an operation with these attributes and this location came to stand under a new pointer, and then as many regions in it
 pub record MakesWith {T A : Type 0} (id : OpId) (attributes : List (Text × AttrObj A)) (loc : Location A) (regions : ℕ) (op : Ptr Operation) (old new : ContextView T A) : Type 0 where
   pub middle : ContextView T A
-  pub makes : MakesOperation old middle op (made_view id attributes loc)
+  pub makes : MakesOperation old middle op (held_of id attributes loc)
   pub adds : AddsRegions regions middle new op
 
 module _ {T A U : Type 0} where

@@ -7,11 +7,12 @@ use Rattle.irtext_base.specs.Faults.{Fault, fault_of}
 use Rattle.irtext_base.specs.Faults as fault
 use Rattle.irtext_base.specs.Answers.{Outcome, Read}
 use Rattle.irtext_context.specs.Dialects.{Table}
-use Rattle.irtext_context.specs.Context.{ContextView, get, operation, region, regions_in}
+use Rattle.irtext_context.specs.Context.{ContextView, operation, region, regions_in}
+use Rattle.irtext_graph.specs.Store.{get}
 use Rattle.irtext_base.specs.Paths.{KeepsPaths, Written, path_of}
-use Rattle.irtext_context.specs.declared.base.arena.Ptr.{Ptr}
-use Rattle.irtext_context.specs.declared.base.operation.Operation.{Operation}
-use Rattle.irtext_context.specs.declared.base.region.Region.{Region}
+use Rattle.irtext_graph.specs.declared.arena.Ptr.{Ptr}
+use Rattle.irtext_graph.specs.declared.object.Operation.{Operation}
+use Rattle.irtext_graph.specs.declared.object.Region.{Region}
 use Rattle.irtext_base.specs.Locations.{AttrView, src_pos}
 use Rattle.irtext_base.specs.declared.location.Source.{Source}
 use Rattle.irtext_base.specs.declared.parsable.fault.ParseFault.{ParseFault}
@@ -45,10 +46,11 @@ location_of paths source text place = src_pos (path_of paths source) (position_b
 
 -- only the operation and its regions came to the context, all else stands as it stood, each path stays under its key, and the dialects are the same
 pub record OnlyNew {T A : Type 0} (op : Ptr Operation) (old new : ContextView T A) : Type 0 where
-  pub op_is_new : get old.operations op ≡ None
-  pub operations : (p : Ptr Operation) → p ≢ op → get new.operations p ≡ get old.operations p
-  pub regions_are_new : (r : Ptr Region) → In r (regions_in (operation new op)) → (get old.regions r ≡ None) × (region new r ≡ Some (record { parent = op }))
-  pub regions : (r : Ptr Region) → (In r (regions_in (operation new op)) → ⊥) → get new.regions r ≡ get old.regions r
+  pub op_is_new : get old.graph.operations op ≡ None
+  pub operations : (p : Ptr Operation) → p ≢ op → get new.graph.operations p ≡ get old.graph.operations p
+  pub regions_are_new : (r : Ptr Region) → In r (regions_in (operation new op)) → (get old.graph.regions r ≡ None) × (region new r ≡ Some (record { parent = Some op; blocks = [] }))
+  pub regions : (r : Ptr Region) → (In r (regions_in (operation new op)) → ⊥) → get new.graph.regions r ≡ get old.graph.regions r
+  pub blocks : new.graph.blocks ≡ old.graph.blocks
   pub paths : KeepsPaths old.paths new.paths
   pub dialects : new.dialects ≡ old.dialects
 

@@ -6,9 +6,9 @@ use Rattle.irtext_base.specs.Text.{Text, after_space}
 use Rattle.irtext_base.specs.Stream.{StreamView, IsAt}
 use Rattle.irtext_base.specs.Faults.{Fault, Memory, NotIsolated, fault_of}
 use Rattle.irtext_base.specs.Answers.{Outcome, Read, Takes}
-use Rattle.irtext_context.specs.Context.{ContextView, EditsOperation, operation}
-use Rattle.irtext_context.specs.declared.base.arena.Ptr.{Ptr}
-use Rattle.irtext_context.specs.declared.base.operation.Operation.{Operation}
+use Rattle.irtext_context.specs.Context.{ContextView, EditsOperation, operation, with_loc}
+use Rattle.irtext_graph.specs.declared.arena.Ptr.{Ptr}
+use Rattle.irtext_graph.specs.declared.object.Operation.{Operation}
 use Rattle.irtext_base.specs.declared.location.Location.{Location}
 use Rattle.irtext_base.specs.declared.parsable.fault.ParseFault.{ParseFault}
 use Rattle.irtext_stream.specs.declared.position.SourcePosition.{SourcePosition}
@@ -102,7 +102,7 @@ module _ {A : Type 0} where
 module _ {T A : Type 0} where
   -- an operation has this location from now on, where it stands
   abbrev pub Locates : Ptr Operation → Location A → ContextView T A → ContextView T A → Type 0
-  Locates op location old new = cond (is_some (operation old op)) (EditsOperation old new op (λ o. record o { loc = location })) (new ≡ old)
+  Locates op location old new = cond (is_some (operation old op)) (EditsOperation old new op (with_loc location)) (new ≡ old)
 
   -- the operation that is marked has the location that its entry gives, if it gives one
   abbrev pub Applies : Option (Ptr Operation) → Option (Location A) → ContextView T A → ContextView T A → Type 0

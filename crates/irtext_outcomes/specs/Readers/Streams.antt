@@ -1,8 +1,8 @@
 -- For callers: a stream as its own view, an operation as it is made, and what a reading leaves as it was.
-use Rattle.std.specs.Prelude.{◌≡◌, List, []}
+use Rattle.std.specs.Prelude.{◌≡◌, List}
 use Rattle.irtext_base.specs.Text.{Text}
 use Rattle.irtext_base.specs.Stream.{StreamView}
-use Rattle.irtext_context.specs.Context.{OperationView}
+use Rattle.irtext_context.specs.declared.base.operation.OperationData.{OperationData}
 use Rattle.irtext_base.specs.declared.base.attributes.AttrObj.{AttrObj}
 use Rattle.irtext_base.specs.declared.base.identifier.OpId.{OpId}
 use Rattle.irtext_base.specs.declared.location.Location.{Location}
@@ -16,9 +16,9 @@ itself v = v
 abbrev pub replaced : StreamView → StreamView → StreamView
 replaced v w = w
 
--- an operation as it is made: no region stands in it yet
-abbrev pub made_view : {T A : Type 0} → OpId → List (Text × AttrObj A) → Location A → OperationView T A
-made_view id attributes loc = record { id = id; result_types = []; attributes = attributes; loc = loc; regions = [] }
+-- what a context holds of an operation as it is made
+abbrev pub held_of : {A : Type 0} → OpId → List (Text × AttrObj A) → Location A → OperationData A
+held_of id attributes loc = record { id = id; attributes = attributes; loc = loc }
 
 module _ {T A U : Type 0} where
   -- the source and the caller's data are as they were

@@ -22,7 +22,7 @@ use irtext_base::location::Location;
 use irtext_base::parsable::{CharStream, ParseResult, TextStream};
 use irtext_base::result::Cause;
 use irtext_base::text::{AttrText, IrText};
-use irtext_context::base::{Context, Operation, Ptr};
+use irtext_context::base::{Context, Operation, OperationAccess, Ptr};
 use irtext_parse_locations::location::nested::location_demanded;
 use irtext_read::irfmt::demanded::{index_demanded, spaced_text_demanded, text_demanded};
 use irtext_read::irfmt::faults::{next_is, refuse, refuse_at};

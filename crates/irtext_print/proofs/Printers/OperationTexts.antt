@@ -13,10 +13,10 @@ use Rattle.irtext_base.specs.Format as format
 use Rattle.irtext_base.specs.Format.{Format, Directive, same_text, has, sym_name_key}
 use Rattle.irtext_base.specs.Own.{Language}
 use Rattle.irtext_base.specs.Text.{Text, begins}
-use Rattle.irtext_context.specs.declared.base.arena.Ptr.{Ptr}
+use Rattle.irtext_graph.specs.declared.arena.Ptr.{Ptr}
 use Rattle.irtext_base.specs.declared.base.attributes.AttrObj.{AttrObj}
 use Rattle.irtext_base.specs.declared.base.identifier.OpId.{OpId}
-use Rattle.irtext_context.specs.declared.base.region.Region.{Region}
+use Rattle.irtext_graph.specs.declared.object.Region.{Region}
 use Rattle.irtext_base.proofs.Characters.{and_left}
 use Rattle.irtext_print.specs.Printers.ConcreteText.{concrete_text, directives_in}
 use Rattle.irtext_grammar.specs.Graphs.Graph.{GraphOp, Printing, lookup, outlined, inline, entries, written_keys, part_of, body_of, tree_regions}

@@ -12,9 +12,9 @@ use Rattle.irtext_base.specs.Format as format
 use Rattle.irtext_base.specs.Format.{Format, Directive}
 use Rattle.irtext_base.specs.Own.{Language}
 use Rattle.irtext_base.specs.Text.{Text}
-use Rattle.irtext_context.specs.declared.base.arena.Ptr.{Ptr}
-use Rattle.irtext_context.specs.declared.base.operation.Operation.{Operation}
-use Rattle.irtext_context.specs.declared.base.region.Region.{Region}
+use Rattle.irtext_graph.specs.declared.arena.Ptr.{Ptr}
+use Rattle.irtext_graph.specs.declared.object.Operation.{Operation}
+use Rattle.irtext_graph.specs.declared.object.Region.{Region}
 use Rattle.irtext_base.specs.declared.location.Location.{Location}
 use Rattle.irtext_print.specs.Printers.ConcreteText.{concrete_of, concrete_text, printed_concrete, debugging, debug_text}
 use Rattle.irtext_grammar.specs.Graphs.Graph.{Graph, Printing, Limit, Entry, is_elided, mark_at, marks_in_regions, entries_of_regions, own_entry, outlined, outlined_entries}

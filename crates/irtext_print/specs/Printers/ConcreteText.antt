@@ -7,8 +7,8 @@ use Rattle.irtext_base.specs.Format.{Format, Directive}
 use Rattle.irtext_base.specs.Text.{Text}
 use Rattle.irtext_base.specs.Own.{Language}
 use Rattle.irtext_context.specs.Context.{ContextView, OperationView, operation}
-use Rattle.irtext_context.specs.declared.base.arena.Ptr.{Ptr}
-use Rattle.irtext_context.specs.declared.base.operation.Operation.{Operation}
+use Rattle.irtext_graph.specs.declared.arena.Ptr.{Ptr}
+use Rattle.irtext_graph.specs.declared.object.Operation.{Operation}
 use Rattle.irtext_grammar.specs.Graphs.Graph.{Graph, Printing, Limit, written}
 use Rattle.irtext_print.specs.Printers.PrintedOperation.{is_printed_in, levels}
 use Rattle.irtext_print.specs.Printers.Shown.{Shown}

@@ -9,8 +9,8 @@ use Rattle.irtext_base.specs.declared.text.AttrText as attr_text
 use Rattle.irtext_base.specs.declared.text.IrText as ir_text
 use Rattle.irtext_base.specs.Own.{Language}
 use Rattle.irtext_context.specs.Context.{ContextView, OperationView, operation}
-use Rattle.irtext_context.specs.declared.base.arena.Ptr.{Ptr}
-use Rattle.irtext_context.specs.declared.base.operation.Operation.{Operation}
+use Rattle.irtext_graph.specs.declared.arena.Ptr.{Ptr}
+use Rattle.irtext_graph.specs.declared.object.Operation.{Operation}
 use Rattle.irtext_grammar.specs.Graphs.Graph.{Printing}
 use Rattle.irtext_print.specs.Printers.ConcreteText.{concrete_text, printed_concrete, debug_text, debugging}
 use Rattle.irtext_print.specs.Printers.PrintedOperation.{is_printed, root_text, printed, language_in, printing_in}

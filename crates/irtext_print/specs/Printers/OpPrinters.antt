@@ -6,8 +6,8 @@ use Rattle.irtext_base.specs.Causes.{id_text}
 use Rattle.irtext_context.specs.Context.{ContextView, OperationView, operation}
 use Rattle.irtext_base.specs.Format.{sym_name_key}
 use Rattle.irtext_base.specs.Text.{Text}
-use Rattle.irtext_context.specs.declared.base.arena.Ptr.{Ptr}
-use Rattle.irtext_context.specs.declared.base.operation.Operation.{Operation}
+use Rattle.irtext_graph.specs.declared.arena.Ptr.{Ptr}
+use Rattle.irtext_graph.specs.declared.object.Operation.{Operation}
 use Rattle.irtext_grammar.specs.Graphs.Graph.{lookup}
 use Rattle.irtext_print.specs.Printers.PieceText.{symbol_in, region_text}
 use Rattle.irtext_print.specs.Printers.Shown.{Shown}

@@ -16,8 +16,8 @@ use Rattle.irtext_base.specs.declared.base.attributes.AttrObj.{AttrObj}
 use Rattle.irtext_base.specs.declared.format.Directive as code
 use Rattle.irtext_context.specs.Directives.{directives_of}
 use Rattle.irtext_context.specs.Context.{ContextView, OperationView, operation, regions_in}
-use Rattle.irtext_context.specs.declared.base.arena.Ptr.{Ptr}
-use Rattle.irtext_context.specs.declared.base.operation.Operation.{Operation}
+use Rattle.irtext_graph.specs.declared.arena.Ptr.{Ptr}
+use Rattle.irtext_graph.specs.declared.object.Operation.{Operation}
 use Rattle.irtext_base.specs.declared.location.Location.{Location, Unknown}
 use Rattle.irtext_grammar.specs.Contexts.Formats.{format_of}
 use Rattle.irtext_grammar.specs.Graphs.Graph.{Printing, Limit, lookup, outlined, written_keys}

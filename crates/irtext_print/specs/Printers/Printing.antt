@@ -1,8 +1,8 @@
 -- For callers: words on the printing state and its guards.
 use Rattle.std.specs.Prelude.{ℕ, zero, suc, List, Option, Some, None}
 use Rattle.std.specs.Borrow.{GName}
-use Rattle.irtext_context.specs.declared.base.arena.Ptr.{Ptr}
-use Rattle.irtext_context.specs.declared.base.operation.Operation.{Operation}
+use Rattle.irtext_graph.specs.declared.arena.Ptr.{Ptr}
+use Rattle.irtext_graph.specs.declared.object.Operation.{Operation}
 use Rattle.irtext_print.specs.Printers.Shown.{Shown}
 use Rattle.irtext_print.specs.declared.printable.guards.IndentGuard.{IndentGuard}
 use Rattle.irtext_print.specs.declared.printable.guards.RegionDepthGuard.{RegionDepthGuard}

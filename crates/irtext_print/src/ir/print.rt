@@ -15,7 +15,7 @@ use crate::printable::state::State;
 use crate::printable::{Printable, Refusal};
 use irtext_base::location::Location;
 use irtext_base::text::{AttrText, IrText};
-use irtext_context::base::{Context, Operation, Ptr};
+use irtext_context::base::{Context, Operation, OperationAccess, Ptr};
 use std::fmt;
 
 pub mod concrete;

@@ -64,8 +64,8 @@ impl<'c, T: IrText<A>, A: AttrText, U> State<'c, T, A, U> {
 /// What notes the marks of operations, as the state of a reading does: for the readers of operations and of the section behind
 /// them. Callers of the text layer are not handed it.
 pub trait Noting {
-    ghost use Rattle.irtext_context.specs.declared.base.arena.Ptr.{Ptr};
-    ghost use Rattle.irtext_context.specs.declared.base.operation.Operation.{Operation};
+    ghost use Rattle.irtext_graph.specs.declared.arena.Ptr.{Ptr};
+    ghost use Rattle.irtext_graph.specs.declared.object.Operation.{Operation};
 
     // the marks that are noted, each with its operation
     ghost noted: { Self → List (ℕ × Ptr Operation) };

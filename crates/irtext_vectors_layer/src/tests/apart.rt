@@ -9,7 +9,7 @@ use irtext_types::DemoAttr;
 use irtext_vectors_common::contexts::{Ctx, named};
 use irtext_vectors_roots::reading::concrete;
 use irtext_vectors_roots::registering::register_operation;
-use pliron_text::base::{Context, OpId, Operation, Ptr};
+use pliron_text::base::{Context, NewOperation, OpId, Operation, Ptr};
 use pliron_text::dialect::DialectName;
 use pliron_text::format::{Directive, OpFormat};
 use pliron_text::laws::two_calls::printed_and_read;

@@ -2,7 +2,9 @@
 use irtext_types::DemoAttr;
 use irtext_vectors_common::contexts::{Ctx, named, with_demo};
 use irtext_vectors_roots::reading::root;
-use pliron_text::base::{AttrObj, AttributeDict, Identifier, OpId, Operation, Ptr, Region};
+use pliron_text::base::{
+    AttrObj, AttributeDict, Identifier, OpId, Operation, OperationAccess, Ptr, Region,
+};
 use pliron_text::dialect::OpInfo;
 use pliron_text::format::{FormatFault, OpFormat, check_format};
 use pliron_text::ir::{BasicBlockVerifyErr, DefUseVerifyErr, OpObj, OperationText};
@@ -63,7 +65,7 @@ fn stands(ctx: &Ctx, op: Ptr<Operation>) -> bool {
     }
     let region: Ptr<Region> = op.get_region(ctx, 0);
     let value: OpObj = Operation::get_op_dyn(op, ctx);
-    ctx.contains_region(region) && region.get_parent_op(ctx) == op && value == OpObj { op }
+    ctx.contains_region(region) && region.get_parent_op(ctx) == Some(op) && value == OpObj { op }
 }
 
 /// Whether a module's location is known, and no more once it is erased.

@@ -3,7 +3,7 @@ use irtext_base::base::{AttrObj, GIVEN_NAMES_KEY, Identifier, OpId, SYM_NAME_KEY
 use irtext_base::location::Location;
 use irtext_base::result::{Error, Result as Answer};
 use irtext_context::base::context::making::Making;
-use irtext_context::base::{Operation, Ptr};
+use irtext_context::base::{Operation, OperationAccess, Ptr};
 use irtext_dict::base::AttributeDict;
 use irtext_types::DemoAttr;
 use irtext_vectors_common::contexts::{Ctx, named, with_context};

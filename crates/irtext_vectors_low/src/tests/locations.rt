@@ -4,7 +4,7 @@ use irtext_base::base::{AttrObj, OpId};
 use irtext_base::location::{CloneIntoContext, Location, Source};
 use irtext_base::parsable::SourcePosition;
 use irtext_context::base::context::making::Making;
-use irtext_context::base::{Operation, Ptr};
+use irtext_context::base::{Operation, OperationAccess, Ptr};
 use irtext_context::location::erase_locations;
 use irtext_dict::base::AttributeDict;
 use irtext_types::DemoAttr;
@@ -150,7 +150,7 @@ fn carried(alloc: Global, from: &mut Ctx, to: &mut Ctx) -> Result<bool, Fail> {
 }
 
 /// Makes a module with a place.
-fn make(alloc: Global, ctx: &mut Ctx) -> Result<Ptr<Operation>, Fail> {
+pub(crate) fn make(alloc: Global, ctx: &mut Ctx) -> Result<Ptr<Operation>, Fail> {
     let id = OpId {
         dialect: named(alloc, "builtin")?,
         name: named(alloc, "module")?,

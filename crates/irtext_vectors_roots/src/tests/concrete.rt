@@ -3,7 +3,7 @@ use crate::reading::{concrete, root, whole};
 use irtext_types::DemoType;
 use irtext_vectors_common::contexts::{Ctx, with_demo};
 use irtext_vectors_common::tables::differing;
-use pliron_text::base::{Operation, Ptr};
+use pliron_text::base::{Operation, OperationAccess, Ptr};
 use pliron_text::ir::{OpDbg, print_dbg};
 use pliron_text::irfmt::printers::op::{region, symb_op_header, typed_symb_op_header};
 use pliron_text::location::{Location, Source};

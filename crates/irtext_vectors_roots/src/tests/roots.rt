@@ -2,7 +2,7 @@
 use crate::reading::{root, whole};
 use irtext_types::{DemoAttr, DemoType};
 use irtext_vectors_common::contexts::{Ctx, Stream, with_demo};
-use pliron_text::base::{Operation, Ptr};
+use pliron_text::base::{Operation, OperationAccess, Ptr};
 use pliron_text::ir::{OperationParserConfig, OperationText};
 use pliron_text::irfmt::parsers::location;
 use pliron_text::location::{Location, Source};

@@ -8,8 +8,8 @@ use Rattle.irtext_base.specs.Faults.{id_of}
 use Rattle.irtext_base.specs.Format as format
 use Rattle.irtext_base.specs.Format.{Format, Directive, same_text, has, count, keys, operand_places, successor_places, type_places, region_places, is_operands, is_successors, is_regions, is_dictionary, is_header, sym_name_key, first_fault, Accepted}
 use Rattle.irtext_context.specs.Context.{ContextView, OperationView}
-use Rattle.irtext_context.specs.declared.base.arena.Ptr.{Ptr}
-use Rattle.irtext_context.specs.declared.base.region.Region.{Region}
+use Rattle.irtext_graph.specs.declared.arena.Ptr.{Ptr}
+use Rattle.irtext_graph.specs.declared.object.Region.{Region}
 use Rattle.irtext_grammar.specs.Grammar.Forest.{regions_list}
 use Rattle.irtext_grammar.specs.Graphs.Closed.{count_fits}
 use Rattle.irtext_grammar.specs.Contexts.Formats.{isolated}

@@ -6,8 +6,8 @@ use Rattle.std.specs.Str.{chars, encode_utf8_all}
 use Rattle.irtext_base.specs.Text.{Text}
 use Rattle.irtext_context.specs.Context.{ContextView, OperationView, operation}
 use Rattle.irtext_base.specs.Own.{Language, Lawful}
-use Rattle.irtext_context.specs.declared.base.arena.Ptr.{Ptr}
-use Rattle.irtext_context.specs.declared.base.operation.Operation.{Operation}
+use Rattle.irtext_graph.specs.declared.arena.Ptr.{Ptr}
+use Rattle.irtext_graph.specs.declared.object.Operation.{Operation}
 use Rattle.irtext_base.proofs.Characters.{and_left}
 use Rattle.irtext_base.proofs.Scalars.{AreScalars}
 use Rattle.irtext_grammar.specs.Contexts.Formats.{isolated}

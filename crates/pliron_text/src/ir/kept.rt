@@ -18,7 +18,7 @@ use irtext_base::base::{AttrObj, Identifier, OpId};
 use irtext_base::location::{Location, Source};
 use irtext_base::parsable::SourcePosition;
 use irtext_base::text::{AttrText, IrText};
-use irtext_context::base::{Context, Operation, Ptr};
+use irtext_context::base::{Context, Operation, OperationAccess, Ptr};
 use irtext_dict::base::AttributeDict;
 
 /// An identifier is the text of one.

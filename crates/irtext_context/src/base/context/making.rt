@@ -2,15 +2,21 @@
 //! safe. Callers of the text layer are not handed the trait, so that no operation of theirs comes to hold a region that is gone.
 ghost use Rattle.std.specs.Prelude.{◌≡◌, ◌≤◌, ℕ, [], None, IsSome, IfOk, OnOk, OnErr};
 ghost use Rattle.irtext_base.specs.Paths.{path_index, with_path, MayBeRefused};
-ghost use Rattle.irtext_context.specs.Context.{operation, before, KeepsOlder, AllOlder, RollsBack, MakesOperation, AddsRegion};
+ghost use Rattle.irtext_graph.specs.Back.{AllOlder, IsClosedBelow};
+ghost use Rattle.irtext_graph.specs.Graph.{Stands};
+ghost use Rattle.irtext_graph.specs.Store.{before};
+ghost use Rattle.irtext_graph.specs.declared.object.Object.TheVariants.{TheOperation};
+ghost use Rattle.irtext_context.specs.Context.{KeepsOlder, RollsBack, MakesOperation, MakesBlock, AddsRegion};
 
-use crate::base::operation::{OperationData, push_region, reserve_region};
-use crate::base::region::RegionData;
-use crate::base::{Context, Operation, Ptr, Region};
-use irtext_base::base::OpId;
+use crate::base::block::BlockData;
+use crate::base::operation::OperationData;
+use crate::base::types::known_types;
+use crate::base::{BasicBlock, Context, Operation, Ptr, Region};
+use irtext_base::base::{Identifier, OpId};
 use irtext_base::location::{Location, PathKey};
 use irtext_base::text::{AttrText, IrText};
 use irtext_dict::base::AttributeDict;
+use irtext_few::Few;
 use std::alloc::AllocError;
 
 /// What makes objects, and gives them back, as a context does.
@@ -22,8 +28,9 @@ pub trait Making<T: IrText<A>, A: AttrText> {
 
     /// How many objects were made, those that are gone among them. Each that stands was made before as many.
     fn made(&self) -> u64
-        ensures made { result ≡ (seen self.now).made }
-        ensures older { AllOlder result (seen self.now) };
+        ensures made { result ≡ (seen self.now).graph.made }
+        ensures older { AllOlder result (seen self.now).graph }
+        ensures closed { IsClosedBelow result (seen self.now).graph };
 
     /// Makes an operation without results and regions. Where memory is refused, or a counter is full, nothing changes.
     fn make_operation(
@@ -33,20 +40,35 @@ pub trait Making<T: IrText<A>, A: AttrText> {
         loc: Location<A>,
     ) -> Result<Ptr<Operation>, AllocError>
         ensures made { IfOk result (λ p. MakesOperation (seen self.old) (seen self.new) p
-            (record { id = id; result_types = []; attributes = attributes; loc = loc; regions = [] })) }
+            (record { id = id; attributes = attributes; loc = loc })) }
         ensures err { OnErr result (seen self.new ≡ seen self.old) }
-        ensures kept { (mark : ℕ) → mark ≤ (seen self.old).made → KeepsOlder mark (seen self.old) (seen self.new) };
+        ensures kept { (mark : ℕ) → mark ≤ (seen self.old).graph.made → KeepsOlder mark (seen self.old) (seen self.new) };
+
+    /// Makes a block that stands nowhere and holds no operation, with arguments of these types. Where memory is refused, or a counter
+    /// is full, nothing changes.
+    fn make_block(
+        &mut self,
+        label: Option<Identifier>,
+        attributes: AttributeDict<A>,
+        loc: Location<A>,
+        arg_types: Few<T>,
+    ) -> Result<Ptr<BasicBlock>, AllocError>
+        ensures made { IfOk result (λ p. MakesBlock (seen self.old) (seen self.new) p
+            (record { label = label; attributes = attributes; loc = loc }) arg_types) }
+        ensures err { OnErr result (seen self.new ≡ seen self.old) }
+        ensures kept { (mark : ℕ) → mark ≤ (seen self.old).graph.made → KeepsOlder mark (seen self.old) (seen self.new) };
 
     /// Makes an empty region, the last of an operation. Where memory is refused, or a counter is full, nothing changes.
     fn add_region(&mut self, op: Ptr<Operation>) -> Result<Ptr<Region>, AllocError>
-        requires { IsSome (operation (seen self.old) op) }
+        requires { Stands (seen self.old).graph (TheOperation op) }
         ensures added { IfOk result (λ r. AddsRegion (seen self.old) (seen self.new) op r) }
         ensures err { OnErr result (seen self.new ≡ seen self.old) }
-        ensures kept { (mark : ℕ) → mark ≤ (seen self.old).made → before mark (seen self.old).operations op ≡ None →
+        ensures kept { (mark : ℕ) → mark ≤ (seen self.old).graph.made → before mark (seen self.old).graph.operations op ≡ None →
             KeepsOlder mark (seen self.old) (seen self.new) };
 
     /// Takes every object out that is no older than the mark, where `made` gave the mark. Paths and dialects stay. It takes no memory.
     fn roll_back(&mut self, mark: u64)
+        requires closed { IsClosedBelow mark (seen self.old).graph }
         ensures back { RollsBack mark (seen self.old) (seen self.new) }
         ensures kept { (m : ℕ) → m ≤ mark → KeepsOlder m (seen self.old) (seen self.new) };
 
@@ -63,7 +85,7 @@ impl<T: IrText<A>, A: AttrText> Making<T, A> for Context<T, A> {
     ghost seen = { λ c. c };
 
     fn made(&self) -> u64 {
-        self.made
+        self.graph.made()
     }
 
     fn make_operation(
@@ -73,42 +95,45 @@ impl<T: IrText<A>, A: AttrText> Making<T, A> for Context<T, A> {
         loc: Location<A>,
     ) -> Result<Ptr<Operation>, AllocError>
         ensures made { IfOk result (λ p. MakesOperation self.old self.new p
-            (record { id = id; result_types = []; attributes = attributes; loc = loc; regions = [] })) }
+            (record { id = id; attributes = attributes; loc = loc })) }
         ensures err { OnErr result (self.new ≡ self.old) }
-        ensures kept { (mark : ℕ) → mark ≤ self.old.made → KeepsOlder mark self.old self.new }
+        ensures kept { (mark : ℕ) → mark ≤ self.old.graph.made → KeepsOlder mark self.old self.new }
     {
-        let made = self.made;
-        if made == u64::MAX {
-            return Err(AllocError);
-        }
-        let alloc = self.alloc;
-        let operation = OperationData {
+        let held = OperationData {
             id,
-            result_types: Vec::new(alloc),
             attributes,
             loc,
-            regions: Vec::new(alloc),
         };
-        let p = self.operations.insert(made, operation)?;
-        self.made = made + 1;
-        Ok(p)
+        self.graph.make_operation(Some(held), Few::none(), &[], &[])
+    }
+
+    fn make_block(
+        &mut self,
+        label: Option<Identifier>,
+        attributes: AttributeDict<A>,
+        loc: Location<A>,
+        arg_types: Few<T>,
+    ) -> Result<Ptr<BasicBlock>, AllocError>
+        ensures made { IfOk result (λ p. MakesBlock self.old self.new p
+            (record { label = label; attributes = attributes; loc = loc }) arg_types) }
+        ensures err { OnErr result (self.new ≡ self.old) }
+        ensures kept { (mark : ℕ) → mark ≤ self.old.graph.made → KeepsOlder mark self.old self.new }
+    {
+        let held = BlockData {
+            label,
+            attributes,
+            loc,
+        };
+        let types = known_types(self.alloc, arg_types)?;
+        self.graph.make_block(held, types)
     }
 
     fn add_region(&mut self, op: Ptr<Operation>) -> Result<Ptr<Region>, AllocError> {
-        let made = self.made;
-        if made == u64::MAX {
-            return Err(AllocError);
-        }
-        reserve_region(&mut self.operations, op)?;
-        let r = self.regions.insert(made, RegionData { parent: op })?;
-        push_region(&mut self.operations, op, r);
-        self.made = made + 1;
-        Ok(r)
+        self.graph.add_region(op)
     }
 
     fn roll_back(&mut self, mark: u64) {
-        self.operations.vacate_since(mark);
-        self.regions.vacate_since(mark);
+        self.graph.roll_back(mark);
     }
 
     fn keep_path(&mut self, path: &str) -> Result<PathKey, AllocError> {

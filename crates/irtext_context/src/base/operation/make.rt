@@ -1,6 +1,9 @@
 //! The making of operations that are registered.
 ghost use Rattle.std.specs.Prelude.{◌≡◌, ◌≤◌, ◌⊎◌, ℕ, None, IsSome, IfOk, IfErr, OnOk, OnErr};
-ghost use Rattle.irtext_context.specs.Context.{operation, before, KeepsOlder};
+ghost use Rattle.irtext_graph.specs.Graph.{Stands};
+ghost use Rattle.irtext_graph.specs.Store.{before};
+ghost use Rattle.irtext_graph.specs.declared.object.Object.TheVariants.{TheOperation};
+ghost use Rattle.irtext_context.specs.Context.{KeepsOlder};
 ghost use Rattle.irtext_context.specs.DialectTable.{registered};
 ghost use Rattle.irtext_context.specs.Made.{IsUnregistered, AddsRegions, MakesWithRegions, SameObjects};
 ghost use Rattle.irtext_base.specs.declared.location.Location.{Unknown};
@@ -22,9 +25,9 @@ pub fn add_regions<T: IrText<A>, A: AttrText>(
     op: Ptr<Operation>,
     count: usize,
 ) -> Result<(), AllocError>
-    requires { IsSome (operation ctx.old op) }
+    requires { Stands ctx.old.graph (TheOperation op) }
     ensures adds { OnOk result (AddsRegions count ctx.old ctx.new op) }
-    ensures kept { (mark : ℕ) → mark ≤ ctx.old.made → before mark ctx.old.operations op ≡ None → KeepsOlder mark ctx.old ctx.new }
+    ensures kept { (mark : ℕ) → mark ≤ ctx.old.graph.made → before mark ctx.old.graph.operations op ≡ None → KeepsOlder mark ctx.old ctx.new }
 {
     for _region in 0..count {
         ctx.add_region(op)?;
@@ -39,7 +42,7 @@ fn make<T: IrText<A>, A: AttrText>(
     num_regions: usize,
 ) -> Result<Ptr<Operation>, AllocError>
     ensures made { IfOk result (λ op. MakesWithRegions num_regions ctx.old ctx.new op id) }
-    ensures kept { (mark : ℕ) → mark ≤ ctx.old.made → KeepsOlder mark ctx.old ctx.new }
+    ensures kept { (mark : ℕ) → mark ≤ ctx.old.graph.made → KeepsOlder mark ctx.old ctx.new }
 {
     let attributes = AttributeDict::new(ctx.allocator());
     let op = ctx.make_operation(id, attributes, Location::Unknown)?;
@@ -47,23 +50,31 @@ fn make<T: IrText<A>, A: AttrText>(
     Ok(op)
 }
 
-impl Operation {
+/// How operations are made by their kind.
+pub trait NewOperation {
     /// Makes an operation with as many regions, without results, attributes and a location. Where it isn't registered it answers
     /// `UnregisteredDialect` or `UnregisteredOp`, else where memory is refused or a counter is full `Memory`. The error is of kind
     /// invalid argument without a location, and all objects are as they were.
-    pub fn new<T: IrText<A>, A: AttrText>(
+    fn new<T: IrText<A>, A: AttrText>(
         ctx: &mut Context<T, A>,
         id: OpId,
         num_regions: usize,
     ) -> result::Result<Ptr<Operation>, A>
         ensures made { IfOk result (λ op. MakesWithRegions num_regions ctx.old ctx.new op id) }
         ensures registered { OnOk result (IsSome (registered ctx.old.dialects id)) }
-        ensures kept { (mark : ℕ) → mark ≤ ctx.old.made → KeepsOlder mark ctx.old ctx.new }
+        ensures kept { (mark : ℕ) → mark ≤ ctx.old.graph.made → KeepsOlder mark ctx.old ctx.new }
         ensures objects { OnErr result (SameObjects ctx.old ctx.new) }
         ensures refused { IfErr result (λ e. (IsSome (registered ctx.old.dialects id) × (e.err ≡ Cause.Memory)) ⊎
             IsUnregistered ctx.old.dialects id e.err) }
-        ensures kind { IfErr result (λ e. (e.kind ≡ ErrorKind.InvalidArgument) × (e.loc ≡ Unknown)) }
-    {
+        ensures kind { IfErr result (λ e. (e.kind ≡ ErrorKind.InvalidArgument) × (e.loc ≡ Unknown)) };
+}
+
+impl NewOperation for Operation {
+    fn new<T: IrText<A>, A: AttrText>(
+        ctx: &mut Context<T, A>,
+        id: OpId,
+        num_regions: usize,
+    ) -> result::Result<Ptr<Operation>, A> {
         let id = match ctx.known_id(id) {
             Ok(id) => id,
             Err(cause) => return Err(invalid(cause)),

@@ -28,7 +28,7 @@ loop-of_type-preserved g c =
     let ds = c.loop-of_type.defined.items in
     let d : Definition _ = record { of_type = c.in-Some.of_type; number = n; first = None } in
     let steps = c.in-Some.ensures.steps.0 in
-    let e = c.in_ok-push.ensures.items in
+    let e = c.in_ok-push.ensures.items ∙ ap (λ x. ds ++ x ∷ []) c.definition.ensures in
     let count = ap length steps in
     record {
       values = ap (λ xs. map typed xs ++ numbered (n + 1) left) e ∙ appended ds d (numbered (n + 1) left) ∙ ap (λ ts. map typed ds ++ numbered n ts) (sym steps) ∙ inv.values;

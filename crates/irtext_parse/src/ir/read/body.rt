@@ -1,7 +1,10 @@
 //! What is read of an operation, and the operation that is made of it.
-ghost use Rattle.std.specs.Prelude.{◌≡◌, ◌≤◌, ℕ, None, IsSome, IfOk, IfErr, OnOk};
+ghost use Rattle.std.specs.Prelude.{◌≡◌, ◌≤◌, ℕ, None, IfOk, IfErr, OnOk};
 ghost use Rattle.irtext_base.specs.Answers.{StarvesHere};
-ghost use Rattle.irtext_context.specs.Context.{operation, before, KeepsOlder};
+ghost use Rattle.irtext_graph.specs.Graph.{Stands};
+ghost use Rattle.irtext_graph.specs.declared.object.Object.TheVariants.{TheOperation};
+ghost use Rattle.irtext_context.specs.Context.{KeepsOlder};
+ghost use Rattle.irtext_graph.specs.Store.{before};
 ghost use Rattle.irtext_context.specs.Made.{AddsRegions};
 ghost use Rattle.irtext_read.specs.AttrTexts.{attr_at};
 ghost use Rattle.irtext_state.specs.States.{marks_of};
@@ -48,7 +51,7 @@ pub(crate) fn make_read<T: IrText<A>, A: AttrText, U>(
     ensures makes { IfOk result (λ op. MakesWith id pieces.attributes loc pieces.regions op s.old.state.ctx.now s.new.state.ctx.now) }
     ensures stream { OnOk result (s.new.stream ≡ s.old.stream) }
     ensures starved { IfErr result (λ fault. StarvesHere itself replaced s.old.stream fault s.new.stream) }
-    ensures kept { (mark : ℕ) → mark ≤ s.old.state.ctx.now.made → KeepsOlder mark s.old.state.ctx.now s.new.state.ctx.now }
+    ensures kept { (mark : ℕ) → mark ≤ s.old.state.ctx.now.graph.made → KeepsOlder mark s.old.state.ctx.now s.new.state.ctx.now }
 {
     let Pieces {
         attributes,
@@ -66,15 +69,15 @@ fn with_regions<T: IrText<A>, A: AttrText, U>(
     op: Ptr<Operation>,
     regions: usize,
 ) -> ParseResult<Ptr<Operation>, A>
-    requires { IsSome (operation s.old.state.ctx.now op) }
+    requires { Stands s.old.state.ctx.now.graph (TheOperation op) }
     ensures lent { s.new.state.ctx.ghost_name ≡ s.old.state.ctx.ghost_name }
     ensures rest { KeepsRest s.old.state s.new.state }
     ensures marks { marks_of s.new.state ≡ marks_of s.old.state }
     ensures adds { IfOk result (λ p. (p ≡ op) × AddsRegions regions s.old.state.ctx.now s.new.state.ctx.now op) }
     ensures stream { OnOk result (s.new.stream ≡ s.old.stream) }
     ensures starved { IfErr result (λ fault. StarvesHere itself replaced s.old.stream fault s.new.stream) }
-    ensures kept { (mark : ℕ) → mark ≤ s.old.state.ctx.now.made →
-        before mark s.old.state.ctx.now.operations op ≡ None →
+    ensures kept { (mark : ℕ) → mark ≤ s.old.state.ctx.now.graph.made →
+        before mark s.old.state.ctx.now.graph.operations op ≡ None →
         KeepsOlder mark s.old.state.ctx.now s.new.state.ctx.now }
 {
     let ctx = &mut *s.state.ctx;

@@ -32,7 +32,7 @@ pub(crate) fn operation_parse<T: IrText<A>, A: AttrText, U>(
         (OperationRefused s.old.state.ctx.now.dialects (attr_at A.IrText.reading)
         (fresh_mark_at (marks_of s.old.state)) s.old.stream.rest) s.old.stream fault) }
     ensures unmarked { OnErr result (marks_of s.new.state ≡ marks_of s.old.state) }
-    ensures kept { (mark : ℕ) → mark ≤ s.old.state.ctx.now.made → KeepsOlder mark s.old.state.ctx.now s.new.state.ctx.now }
+    ensures kept { (mark : ℕ) → mark ≤ s.old.state.ctx.now.graph.made → KeepsOlder mark s.old.state.ctx.now s.new.state.ctx.now }
 {
     let loc = s.loc();
     let ctx = &mut *s.state.ctx;

@@ -1,5 +1,6 @@
 //! A root: an operation with its section, reported as one that nothing stands round, and given back where it is refused.
 ghost use Rattle.std.specs.Prelude.{◌≡◌, ◌≤◌, ℕ, true, false, List, ◌++◌, IfOk, IfErr, OnOk, OnErr};
+ghost use Rattle.irtext_graph.specs.Back.{IsClosedBelow};
 ghost use Rattle.irtext_context.specs.Context.{KeepsOlder};
 ghost use Rattle.irtext_base.specs.Faults.{fault_of};
 ghost use Rattle.irtext_context.specs.Made.{SameObjects};
@@ -68,10 +69,12 @@ fn root_parse<T: IrText<A>, A: AttrText, U>(
         s.old fault) }
     ensures refused { IfErr result (λ fault. Refusal s.old.stream fault s.new.stream) }
     ensures marks { OnErr result ((more : List (ℕ × Ptr Operation)) × (marks_of s.new.state ≡ marks_of s.old.state ++ more)) }
-    ensures kept { OnErr result ((mark : ℕ) → mark ≤ s.old.state.ctx.now.made → KeepsOlder mark s.old.state.ctx.now s.new.state.ctx.now) }
+    ensures kept { OnErr result ((mark : ℕ) → mark ≤ s.old.state.ctx.now.graph.made → KeepsOlder mark s.old.state.ctx.now s.new.state.ctx.now) }
     ensures keeps { IsFresh s.old →
-        OnOk result ((mark : ℕ) → mark ≤ s.old.state.ctx.now.made →
+        OnOk result ((mark : ℕ) → mark ≤ s.old.state.ctx.now.graph.made →
         KeepsOlder mark s.old.state.ctx.now s.new.state.ctx.now) }
+    ensures closed { OnOk result ((mark : ℕ) → mark ≤ s.old.state.ctx.now.graph.made →
+        IsClosedBelow mark s.old.state.ctx.now.graph → IsClosedBelow mark s.new.state.ctx.now.graph) }
 {
     let op = match operation_parse(s) {
         Ok(op) => op,
@@ -111,8 +114,10 @@ pub fn outermost_parse<T: IrText<A>, A: AttrText, U>(
         IfErr result (λ fault. MissesWith (attr_at A.IrText.reading) config.look_for_outlined_attrs
         s.old fault) }
     ensures keeps { IsFresh s.old →
-        OnOk result ((mark : ℕ) → mark ≤ s.old.state.ctx.now.made →
+        OnOk result ((mark : ℕ) → mark ≤ s.old.state.ctx.now.graph.made →
         KeepsOlder mark s.old.state.ctx.now s.new.state.ctx.now) }
+    ensures closed { OnOk result ((mark : ℕ) → mark ≤ s.old.state.ctx.now.graph.made →
+        IsClosedBelow mark s.old.state.ctx.now.graph → IsClosedBelow mark s.new.state.ctx.now.graph) }
     ensures objects { OnErr result (SameObjects s.old.state.ctx.now s.new.state.ctx.now) }
     ensures marks { OnErr result (marks_of s.new.state ≡ marks_of s.old.state) }
 {

@@ -18,7 +18,7 @@ use crate::printable::{Printable, Refusal};
 use irtext_base::base::OpId;
 use irtext_base::format::{Directive, OpFormat};
 use irtext_base::text::{AttrText, IrText};
-use irtext_context::base::{Context, Operation, Ptr};
+use irtext_context::base::{Context, Operation, OperationAccess, Ptr};
 use std::fmt;
 
 /// The directives of an operation's format, where it is registered and its format has directives.

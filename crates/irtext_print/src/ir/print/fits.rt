@@ -14,7 +14,7 @@ use crate::ir::print::pieces::{is_key_written, is_outlined, symbol_of};
 use irtext_base::base::Identifier;
 use irtext_base::format::{Directive, OpFormat};
 use irtext_base::text::{AttrText, IrText};
-use irtext_context::base::{Context, Operation, Ptr};
+use irtext_context::base::{Context, Operation, OperationAccess, Ptr};
 use irtext_dict::base::AttributeDict;
 use std::fmt;
 use std::fmt::Display;

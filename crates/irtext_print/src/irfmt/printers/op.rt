@@ -12,7 +12,7 @@ use crate::printable::refusal::memory_alone;
 use crate::printable::state::State;
 use crate::printable::{Printable, Refusal};
 use irtext_base::text::{AttrText, IrText};
-use irtext_context::base::{Context, Operation, Ptr};
+use irtext_context::base::{Context, Operation, OperationAccess, Ptr};
 use std::fmt;
 
 /// Prints an operation's id and its symbol's name. Made by [`symb_op_header`].

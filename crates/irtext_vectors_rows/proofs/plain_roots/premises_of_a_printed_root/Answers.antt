@@ -2,8 +2,8 @@ use Rattle.std.specs.Prelude.{[], refl}
 use Rattle.std.proofs.Common.{inr, sym, subst}
 use Rattle.irtext_base.specs.Text.{Text}
 use Rattle.irtext_base.specs.Paths.{written_with}
-use Rattle.irtext_context.specs.declared.base.arena.Ptr.{Ptr}
-use Rattle.irtext_context.specs.declared.base.region.Region.{Region}
+use Rattle.irtext_graph.specs.declared.arena.Ptr.{Ptr}
+use Rattle.irtext_graph.specs.declared.object.Region.{Region}
 use Rattle.irtext_grammar.specs.Spelling.AttrText.{IsSpellableAttr}
 use Rattle.irtext_outcomes.specs.Promises.KeptRoot.{AllHold, IsKept}
 use Rattle.irtext_outcomes.specs.Promises.LocationsBack.{AllFit}

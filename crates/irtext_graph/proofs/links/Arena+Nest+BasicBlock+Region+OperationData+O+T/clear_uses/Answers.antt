@@ -1,6 +1,6 @@
 use Rattle.std.proofs.Common.{refl}
 use Rattle.irtext_graph.specs.Content.{operation_content, node_of}
-use Rattle.irtext_graph.specs.Erasing.{without_uses_in}
+use Rattle.irtext_graph.specs.Used.{without_uses_in}
 use Rattle.irtext_graph.proofs.Stores.{content_edits}
 use Rattle.irtext_graph.proofs.links.Arena+Nest+BasicBlock+Region+OperationData+O+T.clear_uses.Goals as goal
 

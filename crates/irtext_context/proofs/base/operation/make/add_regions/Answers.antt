@@ -14,7 +14,7 @@ loop-region-preserved g c =
       stands = still_stands i.stands a;
       adds = adds_last _ _ _ _ _ c.loop-region._region i.adds a;
       kept = λ mark h none. kept_more c.args.op mark i.count (i.kept mark) c.add_region.ensures.kept h none;
-      count = let m = a.made in omega (arith, i.count, m);
+      count = let m = a.graph.made in omega (arith, i.count, m);
     }
 
 pub returns-in_err-add_region-clause-kept : goal.returns-in_err-add_region-clause-kept

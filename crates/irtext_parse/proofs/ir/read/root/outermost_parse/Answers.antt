@@ -1,8 +1,11 @@
 use Rattle.std.proofs.Common.{ap, ◌∙◌, length, take, arith}
 use Rattle.std.proofs.Math.Seq.{take-append_seam}
 use Rattle.irtext_state.specs.States.{marks_of}
-use Rattle.irtext_context.proofs.Kept.{rolled_back}
+use Rattle.irtext_context.proofs.Kept.{kept_closed, rolled_back}
 use Rattle.irtext_parse.proofs.ir.read.root.outermost_parse.Goals as goal
+
+pub roll_back-requires : goal.roll_back-requires
+roll_back-requires g c = record { closed = kept_closed c.made-made.ensures.closed (c.in-Err.ensures.kept c.made-made.result (omega (arith, c.made-made.ensures.made))) }
 
 pub returns-in-Err-clause-objects : goal.returns-in-Err-clause-objects
 returns-in-Err-clause-objects g c =

@@ -1,7 +1,7 @@
 use Rattle.std.proofs.Common.{◌≡◌, false, ◌&&◌, refl, sym, ◌∙◌}
 use Rattle.irtext_read.specs.AttrTexts.{attr_at}
 use Rattle.irtext_state.specs.States.{marks_of}
-use Rattle.irtext_context.proofs.Kept.{kept_trans}
+use Rattle.irtext_context.proofs.Kept.{kept_trans, kept_closed}
 use Rattle.irtext_outcomes.specs.Readers.Marks.{fresh_mark_at}
 use Rattle.irtext_outcomes.specs.Promises.Section.{indices_of, is_noted, no_operation, no_section}
 use Rattle.irtext_outcomes.specs.Promises.Supported.{OperationRefused, SectionRefused}
@@ -11,6 +11,7 @@ use Rattle.irtext_outcomes.proofs.Readers.NewPaths.{adds_kept}
 use Rattle.irtext_outcomes.proofs.Readers.EntryIndices.{refusal, demanded_refusal, reported_refusal, read_fine}
 use Rattle.irtext_outcomes.proofs.Readers.OperationNeverFailed.{operation_spares}
 use Rattle.irtext_outcomes.proofs.Readers.RootKept.{root_kept}
+use Rattle.irtext_outcomes.proofs.Readers.RootClosed.{root_closed}
 use Rattle.irtext_outcomes.proofs.Readers.FirstMissing.{operation_missing}
 use Rattle.irtext_parse.proofs.ir.read.root.root_parse.Goals as goal
 use Rattle.irtext_parse.proofs.ir.read.root.root_parse.Goals.{then-not-config-via-then-not-config, then-not-config-via-else-not-config+then-not-has_marks}
@@ -63,3 +64,10 @@ returns-in-Ok-section_parse-clause-keeps g c = λ fresh mark h. root_kept (attr_
 
 pub returns-then-not-config-clause-keeps : goal.returns-then-not-config-clause-keeps
 returns-then-not-config-clause-keeps g c = λ fresh mark h. c.in-Ok.ensures.kept mark h
+
+pub returns-in-Ok-section_parse-clause-closed : goal.returns-in-Ok-section_parse-clause-closed
+unfolding returns-in-Ok-section_parse-clause-read
+returns-in-Ok-section_parse-clause-closed g c = λ mark h. root_closed (attr_at g.A.IrText.reading) c.args.config.look_for_outlined_attrs mark (returns-in-Ok-section_parse-clause-read g c) (c.in-Ok.ensures.kept mark h)
+
+pub returns-then-not-config-clause-closed : goal.returns-then-not-config-clause-closed
+returns-then-not-config-clause-closed g c = λ mark h closed. kept_closed closed (c.in-Ok.ensures.kept mark h)

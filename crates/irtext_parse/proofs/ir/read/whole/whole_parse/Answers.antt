@@ -6,6 +6,9 @@ use Rattle.irtext_outcomes.proofs.Readers.TopLevel.{builds, refuses}
 use Rattle.irtext_outcomes.proofs.Readers.WholeSteps.{whole_built, whole_left, whole_refused}
 use Rattle.irtext_parse.proofs.ir.read.whole.whole_parse.Goals as goal
 
+pub roll_back-requires : goal.roll_back-requires
+roll_back-requires g c = record { closed = c.in-Ok.ensures.closed c.made-made.result (omega (arith, c.made-made.ensures.made)) c.made-made.ensures.closed }
+
 pub returns-in-Err-clause-unresolved : goal.returns-in-Err-clause-unresolved
 returns-in-Err-clause-unresolved g c = λ fresh.
     let types = texts_of g.T.IrText.reading g.T.IrText.written in

@@ -6,6 +6,7 @@ use Rattle.irtext_context.specs.Directives.{directives_of, format_of}
 use Rattle.irtext_context.specs.declared.dialect.OpInfo.{OpInfo}
 use Rattle.irtext_base.specs.Faults.{id_of}
 use Rattle.irtext_base.specs.Format as format
+use Rattle.irtext_context.proofs.Parts.{stands_seen, regions_counted}
 use Rattle.irtext_print.specs.Printers.ConcreteText.{directives_in}
 use Rattle.irtext_print.specs.Printers.PrintedOperation.{printing_in}
 use Rattle.irtext_print.proofs.Printers.Appended.{then-err}
@@ -19,6 +20,9 @@ use Rattle.irtext_print.proofs.ir.print.fits.check_fits.Goals as goal
 format_found : {o : Option Known} {found info : Option (Bor OpInfo)} → option_map (λ (i : Bor OpInfo). known_of i.now) found ≡ o → found ≡ info
     → option_map (λ (known : Known). known.format) o ≡ option_map (λ (known : Known). known.format) (option_map (λ (i : Bor OpInfo). known_of i.now) info)
 format_found f e = ap (option_map (λ (known : Known). known.format)) (sym f ∙ ap (option_map (λ (i : Bor OpInfo). known_of i.now)) e)
+
+pub num_regions-requires : goal.num_regions-requires
+num_regions-requires g c = stands_seen c.args.ctx.now c.args.op c.requires.live
 
 pub returns-in-Canonical : goal.returns-in-Canonical
 returns-in-Canonical g c =
@@ -44,12 +48,12 @@ returns-in-Custom g c =
     let ds = directives_of c.deref.result.now in
     let known : C.format_of (id_of c.get_opid.result.now) ≡ Some (format.custom ds) =
     format_found c.op_info.ensures.found c.in-Some.is ∙ ap (λ z. Some (format_of z)) c.in-Custom.is ∙ ap (λ items. Some (format.custom (directives_of items))) (sym c.deref.ensures.value) in
-    let live = given_live C o c.get_opid.result.now c.attributes.result.now c.num_regions.result ds c.requires.live c.get_opid.ensures c.attributes.ensures c.num_regions.ensures (ap directives_in known) in
+    let live = given_live C o c.get_opid.result.now c.attributes.result.now c.num_regions.result ds c.requires.live c.get_opid.ensures c.attributes.ensures (regions_counted c.args.ctx.now c.args.op c.requires.live c.num_regions.result c.num_regions.ensures) (ap directives_in known) in
     record {
       fits = c.check_parts.ensures.fits ∙ sym (live_printed C o c.get_opid.result.now c.attributes.result.now c.num_regions.result ds live);
       fault = then-err c.check_parts.result
           (λ reason first. λ view stands.
-          let given = given_of C o view c.get_opid.result.now c.attributes.result.now c.num_regions.result ds stands c.get_opid.ensures c.attributes.ensures c.num_regions.ensures (ap directives_in known) in
+          let given = given_of C o view c.get_opid.result.now c.attributes.result.now c.num_regions.result ds stands c.get_opid.ensures c.attributes.ensures (regions_counted c.args.ctx.now c.args.op c.requires.live c.num_regions.result c.num_regions.ensures) (ap directives_in known) in
           first_fault C view c.get_opid.result.now c.attributes.result.now c.num_regions.result ds given known reason first)
           c.check_parts.ensures.fault;
     }

@@ -1,9 +1,0 @@
-use Rattle.std.proofs.Common.{arith}
-use Rattle.irtext_context.proofs.Kept.{kept_trans, rolled_back}
-use Rattle.irtext_context.proofs.base.operation.Operation.new.Goals as goal
-
-pub returns-in-Err-make-clause-kept : goal.returns-in-Err-make-clause-kept
-returns-in-Err-make-clause-kept g c = λ mark h. kept_trans (c.in-Err-make.ensures.kept mark h) (c.roll_back.ensures.kept mark (omega (arith, h, c.made-made.ensures.made)))
-
-pub returns-in-Err-make-clause-objects : goal.returns-in-Err-make-clause-objects
-returns-in-Err-make-clause-objects g c = rolled_back c.made-made.ensures.older (c.in-Err-make.ensures.kept c.made-made.result (omega (arith, c.made-made.ensures.made))) c.roll_back.ensures.back

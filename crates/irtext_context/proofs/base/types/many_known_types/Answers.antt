@@ -1,0 +1,12 @@
+use Rattle.std.proofs.Common.{◌++◌, ◌∷◌, ◌∙◌, sym, ap, [], Some, append_assoc, append-nil}
+use Rattle.irtext_context.specs.Context.{known}
+use Rattle.irtext_context.proofs.base.types.many_known_types.Goals as goal
+
+pub loop-of_type-preserved : goal.loop-of_type-preserved
+loop-of_type-preserved g c =
+    let all = c.loop-of_type.all.items in
+    let left = c.next.new.self.rest.items in
+    record {
+      types = ap (λ xs. xs ++ known left) c.in_ok-push.ensures.items ∙ append_assoc all (Some c.in-Some.of_type ∷ []) (known left)
+          ∙ ap (λ ts. all ++ known ts) (sym c.in-Some.ensures.steps.0) ∙ c.loop-of_type.invariant.types;
+    }

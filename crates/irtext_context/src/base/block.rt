@@ -1,0 +1,135 @@
+//! Blocks: what a context holds of one, and how it is read and written.
+ghost use Rattle.std.specs.Prelude.{◌≡◌, ◌≤◌, ℕ, Some, None, false, IsSome, IfErr, OnOk, OnErr, option_map, option_copied};
+ghost use Rattle.irtext_dict.specs.Dictionary.{is_reserved_for, RefusesEntry};
+ghost use Rattle.irtext_graph.specs.Parts.{block_at};
+ghost use Rattle.irtext_graph.specs.Store.{before};
+ghost use Rattle.irtext_context.specs.Context.{block, with_label, with_block_attribute, with_block_loc, EditsBlock, KeepsOlder};
+
+mod make;
+
+use crate::base::{BasicBlock, Context, Ptr};
+use irtext_base::base::{AttrObj, Identifier, Refusal};
+use irtext_base::location::Location;
+use irtext_base::text::{AttrText, IrText};
+use irtext_dict::base::AttributeDict;
+pub use make::NewBlock;
+
+/// A block's label, where it has one, its attributes and where it comes from.
+#[derive(Drop)]
+pub struct BlockData<A> {
+    pub(crate) label: Option<Identifier>,
+    pub(crate) attributes: AttributeDict<A>,
+    pub(crate) loc: Location<A>,
+}
+
+/// What the context holds of a block.
+fn held<T: IrText<A>, A: AttrText>(ctx: &Context<T, A>, p: Ptr<BasicBlock>) -> &BlockData<A>
+    requires { IsSome (block ctx.now p) }
+    ensures { option_map (λ c. c.data_of) (block_at ctx.now.graph p) ≡ Some result.now }
+{
+    ctx.graph.block(p)
+}
+
+/// How a block of a context is read and written, by its pointer. None of these calls but `set_attribute` takes memory.
+pub trait BlockAccess: Sized {
+    ghost use Rattle.irtext_graph.specs.declared.arena.Ptr.{Ptr};
+    ghost use Rattle.irtext_graph.specs.declared.object.BasicBlock.{BasicBlock};
+
+    // the pointer
+    ghost pointer: { Self → Ptr BasicBlock };
+
+    /// The block's label, where it has one.
+    fn label<'c, T: IrText<A>, A: AttrText>(self, ctx: &'c Context<T, A>) -> Option<&'c Identifier>
+        requires { IsSome (block ctx.now (pointer self)) }
+        ensures { option_map (λ b. b.label) (block ctx.now (pointer self)) ≡ Some (option_copied result) };
+
+    /// The block's attributes.
+    fn attributes<'c, T: IrText<A>, A: AttrText>(
+        self,
+        ctx: &'c Context<T, A>,
+    ) -> &'c AttributeDict<A>
+        requires { IsSome (block ctx.now (pointer self)) }
+        ensures { option_map (λ b. b.attributes) (block ctx.now (pointer self)) ≡ Some result.now };
+
+    /// Where the block comes from.
+    fn loc<'c, T: IrText<A>, A: AttrText>(self, ctx: &'c Context<T, A>) -> &'c Location<A>
+        requires { IsSome (block ctx.now (pointer self)) }
+        ensures { option_map (λ b. b.loc) (block ctx.now (pointer self)) ≡ Some result.now };
+
+    /// Gives the block this label, or takes its label away, and changes nothing else.
+    fn set_label<T: IrText<A>, A: AttrText>(
+        self,
+        ctx: &mut Context<T, A>,
+        label: Option<Identifier>,
+    )
+        requires { IsSome (block ctx.old (pointer self)) }
+        ensures edits { EditsBlock ctx.old ctx.new (pointer self) (with_label label) }
+        ensures kept { (mark : ℕ) → before mark ctx.old.graph.blocks (pointer self) ≡ None → KeepsOlder mark ctx.old ctx.new };
+
+    /// Sets where the block comes from, and changes nothing else.
+    fn set_loc<T: IrText<A>, A: AttrText>(self, ctx: &mut Context<T, A>, loc: Location<A>)
+        requires { IsSome (block ctx.old (pointer self)) }
+        ensures edits { EditsBlock ctx.old ctx.new (pointer self) (with_block_loc loc) }
+        ensures kept { (mark : ℕ) → before mark ctx.old.graph.blocks (pointer self) ≡ None → KeepsOlder mark ctx.old ctx.new };
+
+    /// Puts an attribute under a key of the block, as `OperationAccess::set_attribute` does for an operation: a refusal is the same
+    /// and changes nothing.
+    fn set_attribute<T: IrText<A>, A: AttrText>(
+        self,
+        ctx: &mut Context<T, A>,
+        key: Identifier,
+        attr: AttrObj<A>,
+    ) -> Result<(), Refusal>
+        requires { IsSome (block ctx.old (pointer self)) }
+        ensures edits { OnOk result (EditsBlock ctx.old ctx.new (pointer self) (with_block_attribute key attr)) }
+        ensures allowed { OnOk result (is_reserved_for key attr ≡ false) }
+        ensures err { OnErr result (ctx.new ≡ ctx.old) }
+        ensures refused { IfErr result (RefusesEntry key attr) }
+        ensures kept { (mark : ℕ) → before mark ctx.old.graph.blocks (pointer self) ≡ None → KeepsOlder mark ctx.old ctx.new };
+}
+
+impl BlockAccess for Ptr<BasicBlock> {
+    ghost pointer = { λ p. p };
+
+    fn label<'c, T: IrText<A>, A: AttrText>(
+        self,
+        ctx: &'c Context<T, A>,
+    ) -> Option<&'c Identifier> {
+        match &held(ctx, self).label {
+            Some(label) => Some(label),
+            None => None,
+        }
+    }
+
+    fn attributes<'c, T: IrText<A>, A: AttrText>(
+        self,
+        ctx: &'c Context<T, A>,
+    ) -> &'c AttributeDict<A> {
+        &held(ctx, self).attributes
+    }
+
+    fn loc<'c, T: IrText<A>, A: AttrText>(self, ctx: &'c Context<T, A>) -> &'c Location<A> {
+        &held(ctx, self).loc
+    }
+
+    fn set_label<T: IrText<A>, A: AttrText>(
+        self,
+        ctx: &mut Context<T, A>,
+        label: Option<Identifier>,
+    ) {
+        ctx.graph.block_mut(self).label = label;
+    }
+
+    fn set_loc<T: IrText<A>, A: AttrText>(self, ctx: &mut Context<T, A>, loc: Location<A>) {
+        ctx.graph.block_mut(self).loc = loc;
+    }
+
+    fn set_attribute<T: IrText<A>, A: AttrText>(
+        self,
+        ctx: &mut Context<T, A>,
+        key: Identifier,
+        attr: AttrObj<A>,
+    ) -> Result<(), Refusal> {
+        ctx.graph.block_mut(self).attributes.insert(key, attr)
+    }
+}

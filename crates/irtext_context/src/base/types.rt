@@ -1,0 +1,32 @@
+//! The types of values, as the graph holds them: that of a placeholder isn't known.
+ghost use Rattle.std.specs.Prelude.{◌≡◌, IfOk};
+ghost use Rattle.irtext_context.specs.Context.{known};
+
+use irtext_few::{Few, Items};
+use std::alloc::{AllocError, Global};
+
+/// These types, each of them known, in a vector.
+fn many_known_types<T: Drop>(alloc: Global, types: Vec<T>) -> Result<Vec<Option<T>>, AllocError>
+    ensures { IfOk result (λ all. all.items ≡ known types.items) }
+{
+    let mut all = Vec::with_capacity(alloc, types.len())?;
+    for of_type in types {
+        all.push(Some(of_type))?;
+    }
+    Ok(all)
+}
+
+/// These types of values, each of them known. It takes no memory for up to two.
+pub(crate) fn known_types<T: Drop>(
+    alloc: Global,
+    types: Few<T>,
+) -> Result<Few<Option<T>>, AllocError>
+    ensures { IfOk result (λ all. all ≡ known types) }
+{
+    match types.into_items() {
+        Items::Nothing => Ok(Few::none()),
+        Items::One(only) => Ok(Few::one(Some(only))),
+        Items::Two(first, second) => Ok(Few::two(Some(first), Some(second))),
+        Items::Many(types) => Ok(Few::from_vec(many_known_types(alloc, types)?)),
+    }
+}

@@ -1,0 +1,4 @@
+use Rattle.irtext_graph.proofs.arena.Ptr.erase.Goals as goal
+
+pub returns-clause-kept : goal.returns-clause-kept
+returns-clause-kept g c = rw (g.met.C.HasGraph.graph_with c.args.ctx.now c.erase.new.self) (rw (← c.graph_mut.ensures.value) (rw (← c.object.ensures) c.erase.ensures.kept))

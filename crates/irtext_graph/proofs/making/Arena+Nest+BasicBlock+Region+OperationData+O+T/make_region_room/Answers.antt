@@ -1,0 +1,10 @@
+use Rattle.std.proofs.Common.{ap}
+use Rattle.irtext_graph.specs.Content.{operation_content, node_of}
+use Rattle.irtext_graph.proofs.Stores.{content_same}
+use Rattle.irtext_graph.proofs.making.Arena+Nest+BasicBlock+Region+OperationData+O+T.make_region_room.Goals as goal
+
+pub returns-clause-seen : goal.returns-clause-seen
+returns-clause-seen g c =
+    let x = c.content_mut.result.now in
+    content_same (node_of operation_content) c.args.self.now c.args.p x _ c.content_mut.ensures.value
+    (ap (λ cs. record { parent = x.parent; children = cs; content = operation_content x.data }) c.reserve.ensures.items)

@@ -1,0 +1,11 @@
+use Rattle.std.proofs.Common.{ap}
+use Rattle.irtext_graph.specs.Content.{operation_content, node_of}
+use Rattle.irtext_graph.specs.Regions.{with_child}
+use Rattle.irtext_graph.proofs.Stores.{content_edits}
+use Rattle.irtext_graph.proofs.making.Arena+Nest+BasicBlock+Region+OperationData+O+T.push_region.Goals as goal
+
+pub returns-clause-edits : goal.returns-clause-edits
+returns-clause-edits g c =
+    let x = c.content_mut.result.now in
+    content_edits (node_of operation_content) (with_child c.args.r) c.args.self.now c.args.p x _ c.content_mut.ensures.value
+    (ap (λ cs. record { parent = x.parent; children = cs; content = operation_content x.data }) c.in-Ok.ensures.items)

@@ -1,0 +1,10 @@
+pub mod SameBut
+pub mod Loses
+pub mod Entries
+pub mod Ties
+pub mod Settled
+pub mod Gained
+pub mod Pairs
+pub mod Named
+pub mod Nested
+pub mod Added

@@ -1,0 +1,45 @@
+use Rattle.std.proofs.Common.{◌∙◌, sym, refl}
+use Rattle.irtext_graph.specs.declared.object.Defined.TheVariants.{OfBlock}
+use Rattle.irtext_names.proofs.Named.{one_block, label_defined_ties, label_defined_waits}
+use Rattle.irtext_names.proofs.Pairs.{held_here, waits_here, not_itself, settles_some, settles_none}
+use Rattle.irtext_names.proofs.labels.block_def.Goals as goal
+
+pub settle-requires-clause-placeholder : goal.settle-requires-clause-placeholder
+settle-requires-clause-placeholder g c =
+    held_here OfBlock c.args.name c.args.names.now.labels c.requires.tied.label_ties c.in-Some.placeholder (sym c.in_ok-placeholder.ensures.placeholder ∙ c.in-Some.is)
+
+pub settle-requires-clause-differ : goal.settle-requires-clause-differ
+settle-requires-clause-differ g c =
+    not_itself OfBlock c.args.name c.args.names.now.labels c.requires.tied.label_ties c.in-Some.placeholder c.args.def one_block (sym c.in_ok-placeholder.ensures.placeholder ∙ c.in-Some.is) c.requires.no_placeholder
+
+pub returns-in-Some-clause-defines : goal.returns-in-Some-clause-defines
+returns-in-Some-clause-defines g c = record {
+  scopes_are = c.in_ok-placeholder.ensures.ok;
+  settles = settles_some OfBlock c.args.graph.now c.settle.new.graph c.args.def c.in-Some.placeholder (sym c.in_ok-placeholder.ensures.placeholder ∙ c.in-Some.is) c.settle.ensures.settles;
+}
+
+pub returns-in-Some-clause-tied : goal.returns-in-Some-clause-tied
+returns-in-Some-clause-tied g c =
+    label_defined_ties c.args.names.now.values c.block_def.new.self.values c.args.names.now.labels c.block_def.new.self.labels c.requires.tied c.args.name c.args.def (returns-in-Some-clause-defines g c) c.block_def.ensures.rest.1 c.requires.there c.requires.no_placeholder
+
+pub returns-in-Some-clause-waiting : goal.returns-in-Some-clause-waiting
+returns-in-Some-clause-waiting g c =
+    label_defined_waits c.args.names.now.values c.block_def.new.self.values c.args.names.now.labels c.block_def.new.self.labels c.requires.tied c.args.name c.args.def (returns-in-Some-clause-defines g c) c.block_def.ensures.rest.1
+
+pub returns-in-Some-clause-kept : goal.returns-in-Some-clause-kept
+returns-in-Some-clause-kept g c = λ m own closed w.
+    c.settle.ensures.kept m closed (w.label_waits.late 0 c.args.name c.in-Some.placeholder (waits_here OfBlock c.args.name c.args.names.now.labels c.requires.tied.label_ties c.in-Some.placeholder (sym c.in_ok-placeholder.ensures.placeholder ∙ c.in-Some.is)))
+
+pub returns-in_default-clause-defines : goal.returns-in_default-clause-defines
+returns-in_default-clause-defines g c = record {
+  scopes_are = c.in_ok-placeholder.ensures.ok;
+  settles = settles_none OfBlock c.args.graph.now c.args.graph.now c.args.def c.in_ok-placeholder.field-0 c.in_default.not-Some c.in_ok-placeholder.ensures.placeholder refl;
+}
+
+pub returns-in_default-clause-tied : goal.returns-in_default-clause-tied
+returns-in_default-clause-tied g c =
+    label_defined_ties c.args.names.now.values c.block_def.new.self.values c.args.names.now.labels c.block_def.new.self.labels c.requires.tied c.args.name c.args.def (returns-in_default-clause-defines g c) c.block_def.ensures.rest.1 c.requires.there c.requires.no_placeholder
+
+pub returns-in_default-clause-waiting : goal.returns-in_default-clause-waiting
+returns-in_default-clause-waiting g c =
+    label_defined_waits c.args.names.now.values c.block_def.new.self.values c.args.names.now.labels c.block_def.new.self.labels c.requires.tied c.args.name c.args.def (returns-in_default-clause-defines g c) c.block_def.ensures.rest.1

@@ -1,0 +1,12 @@
+use Rattle.irtext_names.proofs.Nested.{entered_ties, entered_waits}
+use Rattle.irtext_names.proofs.regions.enter_region.Goals as goal
+
+pub returns-clause-tied : goal.returns-clause-tied
+returns-clause-tied g c =
+    let e = c.enter_region.ensures in
+    entered_ties c.args.graph.now c.args.names.now.values c.enter_region.new.self.values c.args.names.now.labels c.enter_region.new.self.labels c.enter_region.result c.args.isolated e.values e.labels e.err_values e.err_labels c.requires
+
+pub returns-clause-waiting : goal.returns-clause-waiting
+returns-clause-waiting g c =
+    let e = c.enter_region.ensures in
+    entered_waits c.args.graph.now c.args.names.now.values c.enter_region.new.self.values c.args.names.now.labels c.enter_region.new.self.labels c.enter_region.result c.args.isolated e.values e.labels e.err_values e.err_labels

@@ -1,0 +1,87 @@
+//! Labels of blocks, used and defined.
+ghost use Rattle.std.specs.Prelude.{◌≡◌, ◌<◌, ◌≤◌, ◌↔◌, ℕ, List, length, true, None, Some, Err, OnOk, OnErr, IfOk};
+ghost use Rattle.irtext_graph.specs.Back.{IsClosedBelow};
+ghost use Rattle.irtext_graph.specs.Graph.{KeepsOlder, Stands};
+ghost use Rattle.irtext_graph.specs.declared.arena.Ptr.{Ptr};
+ghost use Rattle.irtext_graph.specs.declared.object.BasicBlock.{BasicBlock};
+ghost use Rattle.irtext_graph.specs.declared.object.Defined.TheVariants.{OfBlock};
+ghost use Rattle.irtext_graph.specs.declared.object.Object.TheVariants.{TheBlock};
+ghost use Rattle.irtext_scopes.specs.Scopes.{innermost, is_open, find, is_defined};
+ghost use Rattle.irtext_scopes.specs.declared.scopes.DefineFault.{DefineFault};
+ghost use Rattle.irtext_names.specs.Placeholders.{MakesLabel, Uses, Defines, StandsAsBefore};
+ghost use Rattle.irtext_names.specs.Tied.{AreTied, AreWaiting, IsNoPlaceholder};
+
+use crate::placeholders::settle;
+use irtext_few::Few;
+use irtext_graph::arena::Ptr;
+use irtext_graph::graph::Graph;
+use irtext_graph::object::{BasicBlock, Defined, Value};
+use irtext_scopes::scopes::DefineFault;
+use irtext_scopes::tracker::NameTracker;
+use std::alloc::AllocError;
+
+/// The block that a label stands for where it is used, a region being open: its definition, or the placeholder that waits for it. A label
+/// that is new in its region gets a placeholder, a block with this data that has no arguments and stands nowhere. Where memory is
+/// refused, or a counter is full, the scopes are as they were, and each object stands as it did.
+pub fn block_opd<O: Drop, B: Drop, T: Drop>(
+    names: &mut NameTracker<Value, Ptr<BasicBlock>>,
+    graph: &mut Graph<Option<O>, B, Option<T>>,
+    name: usize,
+    value: B,
+) -> Result<Ptr<BasicBlock>, AllocError>
+    requires open { is_open names.old.labels ≡ true }
+    requires known { name < length names.old.names }
+    requires tied { AreTied names.old.values names.old.labels graph.old }
+    ensures uses { IfOk result (λ b. Uses (MakesLabel value) names.old.labels names.new.labels graph.old graph.new name b) }
+    ensures there { IfOk result (λ b. Stands graph.new (TheBlock b)) }
+    ensures scopes { OnErr result (names.new.labels ≡ names.old.labels) }
+    ensures objects { OnErr result (StandsAsBefore graph.old graph.new) }
+    ensures rest { (names.new.names ≡ names.old.names) × (names.new.values ≡ names.old.values) }
+    ensures tied { AreTied names.new.values names.new.labels graph.new }
+    ensures waiting { (m : ℕ) (own : List (Ptr BasicBlock)) → m ≤ graph.old.made
+        → AreWaiting m own names.old.values names.old.labels graph.old → AreWaiting m own names.new.values names.new.labels graph.new }
+    ensures kept { (m : ℕ) → m ≤ graph.old.made → KeepsOlder m graph.old graph.new }
+{
+    if let Some(block) = names.block_use(name) {
+        return Ok(block);
+    }
+    let mark = graph.made();
+    let block = graph.make_block(value, Few::none())?;
+    if names.block_forward(name, block).is_err() {
+        graph.roll_back(mark);
+        return Err(AllocError);
+    }
+    Ok(block)
+}
+
+/// Defines a label, a region being open. The block takes the place of the placeholder in all uses, if the label was used before, and the
+/// placeholder goes. A label that its region defines already is refused, and memory may be for a label that is new in it: then nothing
+/// changes.
+pub fn block_def<O: Drop, B: Drop, T: Drop>(
+    names: &mut NameTracker<Value, Ptr<BasicBlock>>,
+    graph: &mut Graph<Option<O>, B, Option<T>>,
+    name: usize,
+    def: Ptr<BasicBlock>,
+) -> Result<(), DefineFault>
+    requires open { is_open names.old.labels ≡ true }
+    requires known { name < length names.old.names }
+    requires tied { AreTied names.old.values names.old.labels graph.old }
+    requires there { Stands graph.old (TheBlock def) }
+    requires no_placeholder { IsNoPlaceholder names.old.labels def }
+    ensures twice { (result ≡ Err DefineFault.MultipleDefinitions) ↔ (is_defined (find name (innermost names.old.labels)) ≡ true) }
+    ensures memory { result ≡ Err DefineFault.Memory → find name (innermost names.old.labels) ≡ None }
+    ensures defines { OnOk result (Defines OfBlock names.old.labels names.new.labels graph.old graph.new name def) }
+    ensures scopes { OnErr result (names.new.labels ≡ names.old.labels) }
+    ensures objects { OnErr result (graph.new ≡ graph.old) }
+    ensures rest { (names.new.names ≡ names.old.names) × (names.new.values ≡ names.old.values) }
+    ensures tied { AreTied names.new.values names.new.labels graph.new }
+    ensures waiting { (m : ℕ) (own : List (Ptr BasicBlock))
+        → AreWaiting m own names.old.values names.old.labels graph.old → AreWaiting m own names.new.values names.new.labels graph.new }
+    ensures kept { (m : ℕ) (own : List (Ptr BasicBlock)) → IsClosedBelow m graph.old
+        → AreWaiting m own names.old.values names.old.labels graph.old → KeepsOlder m graph.old graph.new }
+{
+    if let Some(placeholder) = names.block_def(name, def)? {
+        settle(graph, Defined::OfBlock(placeholder), Defined::OfBlock(def));
+    }
+    Ok(())
+}

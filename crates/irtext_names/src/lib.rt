@@ -1,0 +1,7 @@
+//! Names over a graph: an early use of a name holds a placeholder, and the definition takes its place in all uses.
+#![tactic(auto)]
+
+pub mod labels;
+mod placeholders;
+pub mod regions;
+pub mod values;

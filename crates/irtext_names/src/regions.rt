@@ -1,0 +1,76 @@
+//! Regions, entered and left: the graph stays as it is, and so does what ties the names that wait to it.
+ghost use Rattle.std.specs.Prelude.{◌≡◌, ◌<◌, ◌↔◌, ℕ, List, [], ◌∷◌, length, false, Err, OnOk, OnErr, IfSome, IfNone};
+ghost use Rattle.irtext_graph.specs.declared.arena.Ptr.{Ptr};
+ghost use Rattle.irtext_graph.specs.declared.object.BasicBlock.{BasicBlock};
+ghost use Rattle.irtext_scopes.specs.Scopes.{is_open, outer};
+ghost use Rattle.irtext_scopes.specs.Tracker.{entered, left, unresolved};
+ghost use Rattle.irtext_scopes.specs.declared.tracker.EnterFault.{EnterFault};
+ghost use Rattle.irtext_names.specs.Tied.{AreTied, AreWaiting, NoneIsLeft};
+
+use irtext_graph::arena::Ptr;
+use irtext_graph::graph::Graph;
+use irtext_graph::object::{BasicBlock, Value};
+use irtext_scopes::tracker::{EnterFault, NameTracker};
+use std::alloc::Global;
+
+/// No name is known, and no region is open: nothing waits, and of what will be made from now on nothing is blank yet. It takes no memory.
+pub fn no_names<O: Drop, B: Drop, T: Drop>(
+    alloc: Global,
+    graph: &Graph<Option<O>, B, Option<T>>,
+) -> NameTracker<Value, Ptr<BasicBlock>>
+    ensures names { result.names ≡ [] }
+    ensures values { result.values ≡ [] }
+    ensures labels { result.labels ≡ [] }
+    ensures tied { AreTied result.values result.labels graph.now }
+    ensures waiting { AreWaiting graph.now.made [] result.values result.labels graph.now }
+{
+    let _made = graph.made();
+    NameTracker::new(alloc)
+}
+
+/// Enters a region: labels get a scope of their own, and values get one where the region's operation is isolated. A region that is not
+/// isolated is refused where no scope of values is open. Where it is refused, or memory is, nothing changes.
+pub fn enter_region<O: Drop, B: Drop, T: Drop>(
+    names: &mut NameTracker<Value, Ptr<BasicBlock>>,
+    graph: &Graph<Option<O>, B, Option<T>>,
+    isolated: bool,
+) -> Result<(), EnterFault>
+    requires { AreTied names.old.values names.old.labels graph.now }
+    ensures values { OnOk result (names.new.values ≡ entered isolated names.old.values) }
+    ensures labels { OnOk result (names.new.labels ≡ [] ∷ names.old.labels) }
+    ensures shared { (result ≡ Err EnterFault.TopLevelOpRegionNotIsolatedFromAbove) ↔
+        ((isolated ≡ false) × (is_open names.old.values ≡ false)) }
+    ensures err_values { OnErr result (names.new.values ≡ names.old.values) }
+    ensures err_labels { OnErr result (names.new.labels ≡ names.old.labels) }
+    ensures names { names.new.names ≡ names.old.names }
+    ensures tied { AreTied names.new.values names.new.labels graph.now }
+    ensures waiting { (m : ℕ) (own : List (Ptr BasicBlock))
+        → AreWaiting m own names.old.values names.old.labels graph.now → AreWaiting m own names.new.values names.new.labels graph.now }
+{
+    let _graph = graph;
+    names.enter_region(isolated)
+}
+
+/// Leaves a region, and answers the first name that it leaves without a definition: of its values, where its operation is isolated, and
+/// then of its labels, each in the order in which they were first mentioned. Its scopes are closed whatever the answer. Where there is
+/// none, no placeholder of the region is left, and none at all where no scope is open any more. It takes no memory.
+pub fn exit_region<O: Drop, B: Drop, T: Drop>(
+    names: &mut NameTracker<Value, Ptr<BasicBlock>>,
+    graph: &Graph<Option<O>, B, Option<T>>,
+    isolated: bool,
+) -> Option<usize>
+    requires { AreTied names.old.values names.old.labels graph.now }
+    ensures first { result ≡ unresolved isolated names.old.values names.old.labels }
+    ensures known { IfSome result (λ n. n < length names.old.names) }
+    ensures values { names.new.values ≡ left isolated names.old.values }
+    ensures labels { names.new.labels ≡ outer names.old.labels }
+    ensures names { names.new.names ≡ names.old.names }
+    ensures tied { AreTied names.new.values names.new.labels graph.now }
+    ensures waiting { IfNone result ((m : ℕ) (own : List (Ptr BasicBlock))
+        → AreWaiting m own names.old.values names.old.labels graph.now → AreWaiting m own names.new.values names.new.labels graph.now) }
+    ensures none_left { IfNone result ((m : ℕ) (own : List (Ptr BasicBlock)) → AreWaiting m own names.old.values names.old.labels graph.now
+        → names.new.values ≡ [] → names.new.labels ≡ [] → NoneIsLeft m own graph.now) }
+{
+    let _graph = graph;
+    names.exit_region(isolated)
+}

@@ -1,0 +1,86 @@
+//! Names of values, used and defined.
+ghost use Rattle.std.specs.Prelude.{◌≡◌, ◌<◌, ◌≤◌, ◌↔◌, ℕ, List, length, true, None, Some, Err, OnOk, OnErr, IfOk};
+ghost use Rattle.irtext_graph.specs.Back.{IsClosedBelow};
+ghost use Rattle.irtext_graph.specs.Graph.{KeepsOlder};
+ghost use Rattle.irtext_graph.specs.Parts.{ValueStands};
+ghost use Rattle.irtext_graph.specs.declared.arena.Ptr.{Ptr};
+ghost use Rattle.irtext_graph.specs.declared.object.BasicBlock.{BasicBlock};
+ghost use Rattle.irtext_graph.specs.declared.object.Defined.TheVariants.{OfValue};
+ghost use Rattle.irtext_scopes.specs.Scopes.{innermost, is_open, find, is_defined};
+ghost use Rattle.irtext_scopes.specs.declared.scopes.DefineFault.{DefineFault};
+ghost use Rattle.irtext_names.specs.Placeholders.{MakesValue, Uses, Defines, StandsAsBefore};
+ghost use Rattle.irtext_names.specs.Tied.{AreTied, AreWaiting, IsNoPlaceholder};
+
+use crate::placeholders::settle;
+use irtext_few::Few;
+use irtext_graph::arena::Ptr;
+use irtext_graph::graph::Graph;
+use irtext_graph::object::{BasicBlock, Defined, Value};
+use irtext_scopes::scopes::DefineFault;
+use irtext_scopes::tracker::NameTracker;
+use std::alloc::AllocError;
+
+/// The value that a name stands for where it is used, a scope of values being open: its definition, or the placeholder that waits for
+/// it. A name that is new in its scope gets a placeholder, the result of an operation without data that stands nowhere. Where memory is
+/// refused, or a counter is full, the scopes are as they were, and each object stands as it did.
+pub fn ssa_opd<O: Drop, B: Drop, T: Drop>(
+    names: &mut NameTracker<Value, Ptr<BasicBlock>>,
+    graph: &mut Graph<Option<O>, B, Option<T>>,
+    name: usize,
+) -> Result<Value, AllocError>
+    requires open { is_open names.old.values ≡ true }
+    requires known { name < length names.old.names }
+    requires tied { AreTied names.old.values names.old.labels graph.old }
+    ensures uses { IfOk result (λ v. Uses MakesValue names.old.values names.new.values graph.old graph.new name v) }
+    ensures there { IfOk result (λ v. ValueStands graph.new v) }
+    ensures scopes { OnErr result (names.new.values ≡ names.old.values) }
+    ensures objects { OnErr result (StandsAsBefore graph.old graph.new) }
+    ensures rest { (names.new.names ≡ names.old.names) × (names.new.labels ≡ names.old.labels) }
+    ensures tied { AreTied names.new.values names.new.labels graph.new }
+    ensures waiting { (m : ℕ) (own : List (Ptr BasicBlock)) → m ≤ graph.old.made
+        → AreWaiting m own names.old.values names.old.labels graph.old → AreWaiting m own names.new.values names.new.labels graph.new }
+    ensures kept { (m : ℕ) → m ≤ graph.old.made → KeepsOlder m graph.old graph.new }
+{
+    if let Some(value) = names.ssa_use(name) {
+        return Ok(value);
+    }
+    let mark = graph.made();
+    let value = Value::Result(graph.make_operation(None, Few::one(None), &[], &[])?, 0);
+    if names.ssa_forward(name, value).is_err() {
+        graph.roll_back(mark);
+        return Err(AllocError);
+    }
+    Ok(value)
+}
+
+/// Defines the name of a value, a scope of values being open. The definition takes the place of the placeholder in all uses, if the name
+/// was used before, and the placeholder goes. A name that its scope defines already is refused, and memory may be for a name that is new
+/// in it: then nothing changes.
+pub fn ssa_def<O: Drop, B: Drop, T: Drop>(
+    names: &mut NameTracker<Value, Ptr<BasicBlock>>,
+    graph: &mut Graph<Option<O>, B, Option<T>>,
+    name: usize,
+    def: Value,
+) -> Result<(), DefineFault>
+    requires open { is_open names.old.values ≡ true }
+    requires known { name < length names.old.names }
+    requires tied { AreTied names.old.values names.old.labels graph.old }
+    requires there { ValueStands graph.old def }
+    requires no_placeholder { IsNoPlaceholder names.old.values def }
+    ensures twice { (result ≡ Err DefineFault.MultipleDefinitions) ↔ (is_defined (find name (innermost names.old.values)) ≡ true) }
+    ensures memory { result ≡ Err DefineFault.Memory → find name (innermost names.old.values) ≡ None }
+    ensures defines { OnOk result (Defines OfValue names.old.values names.new.values graph.old graph.new name def) }
+    ensures scopes { OnErr result (names.new.values ≡ names.old.values) }
+    ensures objects { OnErr result (graph.new ≡ graph.old) }
+    ensures rest { (names.new.names ≡ names.old.names) × (names.new.labels ≡ names.old.labels) }
+    ensures tied { AreTied names.new.values names.new.labels graph.new }
+    ensures waiting { (m : ℕ) (own : List (Ptr BasicBlock))
+        → AreWaiting m own names.old.values names.old.labels graph.old → AreWaiting m own names.new.values names.new.labels graph.new }
+    ensures kept { (m : ℕ) (own : List (Ptr BasicBlock)) → IsClosedBelow m graph.old
+        → AreWaiting m own names.old.values names.old.labels graph.old → KeepsOlder m graph.old graph.new }
+{
+    if let Some(placeholder) = names.ssa_def(name, def)? {
+        settle(graph, Defined::OfValue(placeholder), Defined::OfValue(def));
+    }
+    Ok(())
+}

@@ -1,0 +1,7 @@
+//! What objects of a graph use, define and hold, by pointers and values, in whatever holds the graph: counted, one by one, and as lists.
+#![tactic(auto)]
+
+pub mod block;
+pub mod operation;
+pub mod region;
+pub mod value;

@@ -1,0 +1,49 @@
+//! Which blocks stand in a region.
+ghost use Rattle.std.specs.Prelude.{◌≡◌, IfOk, slice_get};
+ghost use Rattle.irtext_graph.specs.declared.object.Object.TheVariants.{TheRegion};
+ghost use Rattle.irtext_graph.specs.Graph.{Stands};
+ghost use Rattle.irtext_graph.specs.Parts.{blocks};
+
+use irtext_graph::arena::Ptr;
+use irtext_graph::held::HasGraph;
+use irtext_graph::object::{BasicBlock, Region};
+use std::alloc::AllocError;
+
+/// What stands in a region, by its pointer, in whatever holds a graph.
+pub trait RegionParts: Sized {
+    ghost use Rattle.irtext_graph.specs.declared.arena.Ptr.{Ptr};
+    ghost use Rattle.irtext_graph.specs.declared.object.Region.{Region};
+
+    // the pointer
+    ghost pointer: { Self → Ptr Region };
+
+    /// The blocks of the region, in order.
+    fn blocks<C: HasGraph>(self, ctx: &C) -> Result<Vec<Ptr<BasicBlock>>, AllocError>
+        requires { Stands (C.graph ctx.now) (TheRegion (pointer self)) }
+        ensures { IfOk result (λ all. all.items ≡ blocks (C.graph ctx.now) (pointer self)) };
+
+    /// The first block of the region, where there is one.
+    fn get_entry_block<C: HasGraph>(self, ctx: &C) -> Option<Ptr<BasicBlock>>
+        requires { Stands (C.graph ctx.now) (TheRegion (pointer self)) }
+        ensures { result ≡ slice_get (blocks (C.graph ctx.now) (pointer self)) 0 };
+}
+
+impl RegionParts for Ptr<Region> {
+    ghost pointer = { λ p. p };
+
+    fn blocks<C: HasGraph>(self, ctx: &C) -> Result<Vec<Ptr<BasicBlock>>, AllocError> {
+        let count = self.num_blocks(ctx);
+        let mut all = Vec::with_capacity(ctx.graph().allocator(), count)?;
+        for i in 0..count {
+            all.push(self.get_block(ctx, i))?;
+        }
+        Ok(all)
+    }
+
+    fn get_entry_block<C: HasGraph>(self, ctx: &C) -> Option<Ptr<BasicBlock>> {
+        if self.num_blocks(ctx) == 0 {
+            return None;
+        }
+        Some(self.get_block(ctx, 0))
+    }
+}

@@ -1,0 +1,98 @@
+//! Who uses a value, and how another takes its place.
+ghost use Rattle.std.specs.Prelude.{◌≡◌, ◌↔◌, ℕ, Some, IfOk, IsTrue, option_map};
+ghost use Rattle.irtext_graph.specs.declared.object.Defined.TheVariants.{OfValue};
+ghost use Rattle.irtext_graph.specs.declared.object.Site.{Site};
+ghost use Rattle.irtext_graph.specs.Chained.{Lists, Counts};
+ghost use Rattle.irtext_graph.specs.Graph.{KeepsOlder};
+ghost use Rattle.irtext_graph.specs.Parts.{value_at, ValueStands};
+ghost use Rattle.irtext_graph.specs.Used.{IsUse, Replaces, IsUnusedBelow, user};
+
+use irtext_graph::arena::Ptr;
+use irtext_graph::held::HasGraph;
+use irtext_graph::object::{Defined, Operation, Site, Value};
+use std::alloc::AllocError;
+
+/// Who uses what is used at a place.
+pub trait UseSite: Sized {
+    ghost use Rattle.irtext_graph.specs.declared.object.Site.{Site};
+
+    // the place
+    ghost site: { Self → Site };
+
+    /// The operation whose operand or successor the use is.
+    fn user(self) -> Ptr<Operation>
+        ensures { result ≡ user (site self) };
+}
+
+impl UseSite for Site {
+    ghost site = { λ u. u };
+
+    fn user(self) -> Ptr<Operation> {
+        match self {
+            Site::AtOperand(p, _) => p,
+            Site::AtSuccessor(p, _) => p,
+        }
+    }
+}
+
+/// A value's type and its uses, in whatever holds a graph.
+pub trait ValueUses: Sized {
+    ghost use Rattle.irtext_graph.specs.declared.object.Value.{Value};
+
+    // the value
+    ghost value: { Self → Value };
+
+    /// The type of the value.
+    fn get_type<C: HasGraph>(self, ctx: &C) -> &C::T
+        requires { ValueStands (C.graph ctx.now) (value self) }
+        ensures { option_map (λ v. v.of_type) (value_at (C.graph ctx.now) (value self)) ≡ Some result.now };
+
+    /// Whether an operand names the value.
+    fn has_use<C: HasGraph>(self, ctx: &C) -> bool
+        requires { ValueStands (C.graph ctx.now) (value self) }
+        ensures { IsTrue result ↔ (u : Site) × IsUse (C.graph ctx.now) (OfValue (value self)) u };
+
+    /// How many operands name the value, or the greatest `usize` where there are more.
+    fn num_uses<C: HasGraph>(self, ctx: &C) -> usize
+        requires { ValueStands (C.graph ctx.now) (value self) }
+        ensures { Counts (IsUse (C.graph ctx.now) (OfValue (value self))) result };
+
+    /// The operands that name the value, each once, in no order that is promised.
+    fn uses<C: HasGraph>(self, ctx: &C) -> Result<Vec<Site>, AllocError>
+        requires { ValueStands (C.graph ctx.now) (value self) }
+        ensures { IfOk result (λ us. Lists (IsUse (C.graph ctx.now) (OfValue (value self))) us.items) };
+
+    /// Makes each operand that names the value name the other. It takes no memory.
+    fn replace_all_uses<C: HasGraph>(self, ctx: &mut C, other: Value)
+        requires stands { ValueStands (C.graph ctx.old) (value self) }
+        requires stands_too { ValueStands (C.graph ctx.old) other }
+        ensures replaces { Replaces (C.graph ctx.old) (C.graph ctx.new) (OfValue (value self)) (OfValue other) }
+        ensures kept { (m : ℕ) → IsUnusedBelow m (C.graph ctx.old) (OfValue (value self))
+            → KeepsOlder m (C.graph ctx.old) (C.graph ctx.new) }
+        ensures rest { ctx.new ≡ C.with_graph ctx.old (C.graph ctx.new) };
+}
+
+impl ValueUses for Value {
+    ghost value = { λ v. v };
+
+    fn get_type<C: HasGraph>(self, ctx: &C) -> &C::T {
+        ctx.graph().type_of(self)
+    }
+
+    fn has_use<C: HasGraph>(self, ctx: &C) -> bool {
+        ctx.graph().has_use(Defined::OfValue(self))
+    }
+
+    fn num_uses<C: HasGraph>(self, ctx: &C) -> usize {
+        ctx.graph().num_uses(Defined::OfValue(self))
+    }
+
+    fn uses<C: HasGraph>(self, ctx: &C) -> Result<Vec<Site>, AllocError> {
+        ctx.graph().uses(Defined::OfValue(self))
+    }
+
+    fn replace_all_uses<C: HasGraph>(self, ctx: &mut C, other: Value) {
+        let (value, other) = (Defined::OfValue(self), Defined::OfValue(other));
+        ctx.graph_mut().replace_all_uses(value, other);
+    }
+}
