@@ -159,6 +159,19 @@ CALLS = (
     ("definition of a known name, and its end", "definitions 1000 11", "definitions 1000 1", 10000),
     ("new name", "names 10000 0", "texts 10000 0", 10000),
     ("region entered and left", "regions 100 110", "regions 100 10", 10000),
+    ("use of a known name over a graph, with its look-up", "rounds 1000 10 define use", "rounds 1000 10 define skip", 10000),
+    ("use of a known label", "rounds 1000 10 define_label use_label", "rounds 1000 10 define_label skip", 10000),
+    ("definition of a known name", "rounds 1000 10 mention define", "rounds 1000 10 mention make", 10000),
+    ("definition of a known label", "rounds 1000 10 mention define_label", "rounds 1000 10 mention make_block", 10000),
+    ("definition of a new name", "rounds 10000 1 define", "rounds 10000 1 make", 10000),
+    ("use of a new name, with its placeholder", "rounds 10000 1 use", "rounds 10000 1 skip", 10000),
+    ("definition of a name that waits", "rounds 10000 1 use define", "rounds 10000 1 use make", 10000),
+    ("use of a new label, with its placeholder", "rounds 10000 1 use_label", "rounds 10000 1 skip", 10000),
+    ("definition of a label that waits", "rounds 10000 1 use_label define_label", "rounds 10000 1 use_label make_block", 10000),
+    ("definition among 100,000 new names", "rounds 100000 1 define", "rounds 100000 1 make", 100000),
+    ("definition among 100,000 new labels", "rounds 100000 1 define_label", "rounds 100000 1 make_block", 100000),
+    ("use of one name that a definition moves, 100,000 of them", "repeated 100000 1 use_by define", "repeated 100000 1 use_by make", 100000),
+    ("definition of one name in 10,000 scopes", "nested 10000 1 define", "nested 10000 1 make", 10000),
 )
 
 

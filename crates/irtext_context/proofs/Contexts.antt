@@ -1,5 +1,5 @@
 -- What the calls of a context do to what is seen of it, and that each keeps what is older.
-use Rattle.std.proofs.Common.{◌≡◌, ◌≢◌, ◌≤◌, ◌++◌, ◌+◌, ◌∷◌, ◌∙◌, ℕ, refl, ap, Option, None, Some, [], slice_get, map, List}
+use Rattle.std.proofs.Common.{◌≡◌, ◌≢◌, ◌++◌, ◌+◌, ◌∷◌, ◌∙◌, ℕ, refl, ap, Option, None, Some, [], slice_get, map, List}
 use Rattle.std.specs.Option.{option_map}
 use Rattle.std.specs.Prelude.{option_and_then}
 use Rattle.irtext_base.specs.Paths.{KeepsPaths}
@@ -13,9 +13,10 @@ use Rattle.irtext_graph.specs.declared.arena.Ptr.{Ptr}
 use Rattle.irtext_graph.specs.declared.object.BasicBlock.{BasicBlock}
 use Rattle.irtext_graph.specs.declared.object.Operation.{Operation}
 use Rattle.irtext_graph.specs.declared.object.Region.{Region}
+use Rattle.irtext_graph.specs.declared.object.Value.{Value}
 use Rattle.irtext_graph.proofs.Made.{same_keeps}
 use Rattle.irtext_graph.proofs.Data.{edited-keeps, edited_block-keeps}
-use Rattle.irtext_context.specs.Context.{ContextView, OperationView, BlockView, RegionView, operation, operation_of, block, block_of, block_view, known, region, region_of, view_of, KeepsOlder, MakesOperation, MakesBlock, AddsRegion, EditsOperation, EditsBlock}
+use Rattle.irtext_context.specs.Context.{ContextView, OperationView, BlockView, operation, operation_of, block, block_of, block_view, known, region, region_of, view_of, KeepsOlder, MakesOperation, MakesBlock, AddsRegion, EditsOperation, EditsBlock}
 use Rattle.irtext_context.specs.Made.{made_view, made_block}
 use Rattle.irtext_context.specs.declared.base.block.BlockData.{BlockData}
 use Rattle.irtext_context.specs.declared.base.operation.OperationData.{OperationData}
@@ -67,8 +68,10 @@ module _ {T A : Type 0} where
 
   module _ (old new : ContextView T A) where
     -- an operation that was made is seen
-    pub made_seen : (p : Ptr Operation) (held : OperationData A) → MakesOperation old new p held → operation new p ≡ Some (made_view held)
-    made_seen p held m = ap (option_and_then operation_of) m.graph.operations.updates.changed
+    pub made_seen : (p : Ptr Operation) (held : OperationData A) (types : List T) {operands : List Value} {successors : List (Ptr BasicBlock)}
+        → MakesOperation old new p held types operands successors → operation new p ≡ Some (made_view held types)
+    made_seen p held types m = ap (option_and_then operation_of) m.graph.operations.updates.changed
+        ∙ ap (λ ts. Some (record (made_view held types) { result_types = ts })) (types_numbered old.graph.values (known types))
 
     -- an operation whose data changed is seen with the change
     pub edited_seen : (p : Ptr Operation) (change : OperationData A → OperationData A) (shown : OperationView T A → OperationView T A)

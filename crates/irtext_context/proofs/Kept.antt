@@ -1,5 +1,5 @@
 -- What was made before a mark is kept, and comes back as what was made since is given back.
-use Rattle.std.proofs.Common.{◌≡◌, ℕ, ◌≤◌, List, Some, None, ◌∙◌, []}
+use Rattle.std.proofs.Common.{◌≡◌, ℕ, ◌≤◌, List, Some, None, ◌∙◌}
 use Rattle.irtext_context.specs.Context.{ContextView, known, KeepsOlder, RollsBack, MakesOperation, MakesBlock}
 use Rattle.irtext_context.specs.Made.{SameObjects}
 use Rattle.irtext_context.specs.declared.base.block.BlockData.{BlockData}
@@ -9,6 +9,7 @@ use Rattle.irtext_graph.specs.Store.{before}
 use Rattle.irtext_graph.specs.declared.arena.Ptr.{Ptr}
 use Rattle.irtext_graph.specs.declared.object.BasicBlock.{BasicBlock}
 use Rattle.irtext_graph.specs.declared.object.Operation.{Operation}
+use Rattle.irtext_graph.specs.declared.object.Value.{Value}
 use Rattle.irtext_graph.proofs.Closed.{older_on, closed_kept, back_to}
 use Rattle.irtext_graph.proofs.Marks.{operation_came, block_came}
 use Rattle.irtext_context.proofs.Contexts.{same-paths}
@@ -22,8 +23,9 @@ module _ {T A : Type 0} where
   }
 
   -- an operation that was made stood nowhere before
-  pub before_made : {old new : ContextView T A} {p : Ptr Operation} {held : OperationData A} → (mark : ℕ) → mark ≤ old.graph.made → MakesOperation old new p held → before mark new.graph.operations p ≡ None
-  before_made {old} {new} {p} {held} mark up m = operation_came mark old.graph new.graph p (Some held) [] [] [] up m.graph
+  pub before_made : {old new : ContextView T A} {p : Ptr Operation} {held : OperationData A} {types : List T} {operands : List Value} {successors : List (Ptr BasicBlock)} → (mark : ℕ) → mark ≤ old.graph.made
+      → MakesOperation old new p held types operands successors → before mark new.graph.operations p ≡ None
+  before_made {old} {new} {p} {held} {types} {operands} {successors} mark up m = operation_came mark old.graph new.graph p (Some held) (known types) operands successors up m.graph
 
   -- a block that was made stood nowhere before
   pub before_block_made : {old new : ContextView T A} {p : Ptr BasicBlock} {held : BlockData A} {types : List T} → (mark : ℕ) → mark ≤ old.graph.made → MakesBlock old new p held types → before mark new.graph.blocks p ≡ None

@@ -2,10 +2,7 @@ pub mod Contexts
 pub mod Kept
 pub mod Made
 pub mod Parts
-pub mod Formats
 pub mod Dialects
 pub mod Named
 pub mod DialectTables
-pub mod Conditions
-pub mod Meetings
 pub mod Locations

@@ -1,13 +1,15 @@
 -- Regions that come to an operation one after the other, and what is older than they are.
-use Rattle.std.proofs.Common.{◌≡◌, ◌≤◌, ◌+◌, ◌∙◌, ℕ, suc, Option, None, Some, IsSome, sym, subst, arith}
+use Rattle.std.proofs.Common.{◌≡◌, ◌≤◌, ◌+◌, ◌∙◌, ℕ, suc, Option, None, Some, IsSome, sym, subst, arith, List}
 use Rattle.std.specs.Option.{option_map}
 use Rattle.irtext_graph.specs.Content.{OperationContent, Content, Content.{AnOperation}}
 use Rattle.irtext_graph.specs.Graph.{Stands, content_of}
 use Rattle.irtext_graph.specs.Regions.{with_child}
 use Rattle.irtext_graph.specs.Store.{get, before, object_of}
 use Rattle.irtext_graph.specs.declared.arena.Ptr.{Ptr}
+use Rattle.irtext_graph.specs.declared.object.BasicBlock.{BasicBlock}
 use Rattle.irtext_graph.specs.declared.object.Operation.{Operation}
 use Rattle.irtext_graph.specs.declared.object.Region.{Region}
+use Rattle.irtext_graph.specs.declared.object.Value.{Value}
 use Rattle.irtext_graph.specs.declared.object.Object.TheVariants.{TheOperation}
 use Rattle.irtext_context.specs.Context.{ContextView, MakesOperation, AddsRegion, KeepsOlder}
 use Rattle.irtext_context.specs.Made.{AddsRegions}
@@ -41,7 +43,8 @@ module _ {T A : Type 0} where
       kept_trans k (more mark (omega (arith, h, up)) (k.graph.operations op ∙ none))
 
   -- what is kept as an operation is made is kept by what comes to it
-  pub kept_made : {old mid new : ContextView T A} {op : Ptr Operation} {held : OperationData A} (mark : ℕ) → mark ≤ old.graph.made → MakesOperation old mid op held → KeepsOlder mark old mid
+  pub kept_made : {old mid new : ContextView T A} {op : Ptr Operation} {held : OperationData A} {types : List T} {operands : List Value} {successors : List (Ptr BasicBlock)} (mark : ℕ) → mark ≤ old.graph.made
+      → MakesOperation old mid op held types operands successors → KeepsOlder mark old mid
       → ((m : ℕ) → m ≤ mid.graph.made → before m mid.graph.operations op ≡ None → KeepsOlder m mid new) → KeepsOlder mark old new
   kept_made mark h m k more = let n = m.graph.made in kept_trans k (more mark (omega (arith, h, n)) (before_made mark h m))
 

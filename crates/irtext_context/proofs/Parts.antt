@@ -1,5 +1,5 @@
 -- What is seen of an operation and of its regions by the calls on its pointer.
-use Rattle.std.proofs.Common.{◌≡◌, ℕ, refl, Option, None, Some, IsSome, List, length}
+use Rattle.std.proofs.Common.{◌≡◌, ℕ, refl, Option, None, Some, IsSome, length}
 use Rattle.std.specs.Option.{option_map}
 use Rattle.std.specs.Prelude.{option_and_then}
 use Rattle.irtext_graph.specs.Graph.{Stands, children_of}
@@ -7,9 +7,8 @@ use Rattle.irtext_graph.specs.Parts.{regions}
 use Rattle.irtext_graph.specs.Store.{get}
 use Rattle.irtext_graph.specs.declared.arena.Ptr.{Ptr}
 use Rattle.irtext_graph.specs.declared.object.Operation.{Operation}
-use Rattle.irtext_graph.specs.declared.object.Region.{Region}
 use Rattle.irtext_graph.specs.declared.object.Object.TheVariants.{TheOperation}
-use Rattle.irtext_context.specs.Context.{ContextView, OperationView, operation, operation_of, regions_in, view_of}
+use Rattle.irtext_context.specs.Context.{ContextView, operation, operation_of, regions_in, view_of}
 use Rattle.irtext_context.specs.declared.base.operation.OperationData.{OperationData}
 use Rattle.irtext_context.proofs.Contexts.{OperationEntry}
 use Rattle.irtext_context.proofs.Made.{There}

@@ -20,6 +20,7 @@ use Rattle.irtext_graph.specs.declared.arena.Ptr.{Ptr}
 use Rattle.irtext_graph.specs.declared.object.BasicBlock.{BasicBlock}
 use Rattle.irtext_graph.specs.declared.object.Operation.{Operation}
 use Rattle.irtext_graph.specs.declared.object.Region.{Region}
+use Rattle.irtext_graph.specs.declared.object.Value.{Value}
 use Rattle.irtext_context.specs.Dialects.{Table}
 use Rattle.irtext_context.specs.declared.base.block.BlockData.{BlockData}
 use Rattle.irtext_context.specs.declared.base.operation.OperationData.{OperationData}
@@ -133,9 +134,10 @@ module _ {T A : Type 0} where
     pub paths : new.paths ≡ old.paths
     pub dialects : new.dialects ≡ old.dialects
 
-  -- an operation without operands, results and regions came to stand under a new pointer
-  pub record MakesOperation (old new : ContextView T A) (p : Ptr Operation) (held : OperationData A) : Type 0 where
-    pub graph : objects.MakesOperation old.graph new.graph p (Some held) [] [] []
+  -- an operation without regions, with results of these types, which uses these values and these blocks, came to stand under a new pointer
+  pub record MakesOperation (old new : ContextView T A) (p : Ptr Operation) (held : OperationData A) (types : List T) (operands : List Value)
+      (successors : List (Ptr BasicBlock)) : Type 0 where
+    pub graph : objects.MakesOperation old.graph new.graph p (Some held) (known types) operands successors
     pub paths : new.paths ≡ old.paths
     pub dialects : new.dialects ≡ old.dialects
 

@@ -1,5 +1,3 @@
-pub mod Conditions
-pub mod Directives
 pub mod Dialects
 pub mod Named
 pub mod Context

@@ -1,15 +1,19 @@
 -- An operation that is made with its regions: whether it is registered, what comes to the context, and what a refusal leaves.
-use Rattle.std.specs.Prelude.{◌≡◌, ℕ, zero, suc, List, [], Option, None, IsSome}
+use Rattle.std.specs.Prelude.{◌≡◌, ℕ, zero, suc, List, [], Option, Some, None, IsSome, slice_get}
 use Rattle.irtext_base.specs.Text.{Text}
 use Rattle.irtext_context.specs.Dialects.{Table}
 use Rattle.irtext_context.specs.DialectTable.{dialect_of, registered}
 use Rattle.irtext_context.specs.Context.{ContextView, OperationView, BlockView, known, MakesOperation, AddsRegion}
+use Rattle.irtext_graph.specs.Graph.{Stands}
+use Rattle.irtext_graph.specs.Parts.{ValueStands}
 use Rattle.irtext_graph.specs.Store.{get}
 use Rattle.irtext_base.specs.Paths.{KeepsPaths}
 use Rattle.irtext_graph.specs.declared.arena.Ptr.{Ptr}
 use Rattle.irtext_graph.specs.declared.object.BasicBlock.{BasicBlock}
 use Rattle.irtext_graph.specs.declared.object.Operation.{Operation}
 use Rattle.irtext_graph.specs.declared.object.Region.{Region}
+use Rattle.irtext_graph.specs.declared.object.Value.{Value}
+use Rattle.irtext_graph.specs.declared.object.Object.TheVariants.{TheBlock}
 use Rattle.irtext_base.specs.declared.base.identifier.OpId.{OpId}
 use Rattle.irtext_context.specs.declared.base.block.BlockData.{BlockData}
 use Rattle.irtext_context.specs.declared.base.operation.OperationData.{OperationData}
@@ -31,9 +35,17 @@ abbrev pub bare_block : {A : Type 0} → Option Text → BlockData A
 bare_block label = record { label = label; attributes = []; loc = Unknown }
 
 module _ {T A : Type 0} where
-  -- what is seen of an operation that was made, without results and regions
-  abbrev pub made_view : OperationData A → OperationView T A
-  made_view held = record { id = held.id; result_types = []; attributes = held.attributes; loc = held.loc; regions = [] }
+  -- each of these values is there
+  abbrev pub ValuesStand : ContextView T A → List Value → Type 0
+  ValuesStand c values = (i : ℕ) (v : Value) → slice_get values i ≡ Some v → ValueStands c.graph v
+
+  -- each of these blocks is there
+  abbrev pub BlocksStand : ContextView T A → List (Ptr BasicBlock) → Type 0
+  BlocksStand c blocks = (i : ℕ) (b : Ptr BasicBlock) → slice_get blocks i ≡ Some b → Stands c.graph (TheBlock b)
+
+  -- what is seen of an operation that was made with results of these types, and without regions
+  abbrev pub made_view : OperationData A → List T → OperationView T A
+  made_view held types = record { id = held.id; result_types = known types; attributes = held.attributes; loc = held.loc; regions = [] }
 
   -- what is seen of a block that was made with arguments of these types, and holds no operation
   abbrev pub made_block : BlockData A → List T → BlockView T A
@@ -44,10 +56,12 @@ module _ {T A : Type 0} where
   AddsRegions zero old new op = new ≡ old
   AddsRegions (suc n) old new op = (mid : ContextView T A) × (r : Ptr Region) × AddsRegions n old mid op × AddsRegion mid new op r
 
-  -- such an operation came to stand under a new pointer, and then as many regions in it
-  pub record MakesWithRegions (n : ℕ) (old new : ContextView T A) (op : Ptr Operation) (id : OpId) : Type 0 where
+  -- an operation with results of these types, which uses these values and these blocks, without attributes and a location, came to stand
+  -- under a new pointer, and then as many regions in it
+  pub record MakesWithRegions (n : ℕ) (old new : ContextView T A) (op : Ptr Operation) (id : OpId) (types : List T) (operands : List Value)
+      (successors : List (Ptr BasicBlock)) : Type 0 where
     pub middle : ContextView T A
-    pub makes : MakesOperation old middle op (bare id)
+    pub makes : MakesOperation old middle op (bare id) types operands successors
     pub adds : AddsRegions n middle new op
 
   -- every object that stood stands as it did, none else does, each path stays under its key, and the dialects are the same

@@ -8,5 +8,5 @@ mod types;
 pub use block::{BlockAccess, BlockData, NewBlock};
 pub use context::Context;
 pub use irtext_graph::arena::Ptr;
-pub use irtext_graph::object::{BasicBlock, Operation, Region};
-pub use operation::{NewOperation, OperationAccess, OperationData};
+pub use irtext_graph::object::{BasicBlock, Operation, Region, Value};
+pub use operation::{NewBareOperation, NewOperation, OperationAccess, OperationData};

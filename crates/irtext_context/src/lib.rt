@@ -3,6 +3,4 @@
 
 pub mod base;
 pub mod dialect;
-pub mod format;
-pub mod laws;
 pub mod location;

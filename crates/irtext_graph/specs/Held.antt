@@ -25,6 +25,10 @@ abbrev pub to_region : Object → ℕ
 to_region o = by_kind o 2 1 3
 
 module _ {O B T : Type 0} where
+  -- what is older than a mark stands as it did, where neither o nor what it stands in is older
+  abbrev pub KeepsBeside : GraphView O B T → GraphView O B T → Object → Type 0
+  KeepsBeside old new o = (m : ℕ) → IsNew m old o → ((k : Object) → parent old o ≡ Some k → IsNew m old k) → KeepsOlder m old new
+
   -- what is older than a mark stands as it did, where no operation inside o is older
   abbrev pub KeepsRound : GraphView O B T → GraphView O B T → Object → Type 0
   KeepsRound old new o = (m : ℕ) → ((p : Ptr Operation) → IsInside old o (TheOperation p) → IsNew m old (TheOperation p)) → KeepsOlder m old new

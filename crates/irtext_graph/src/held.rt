@@ -4,7 +4,7 @@ ghost use Rattle.std.specs.Borrow.{sem};
 ghost use Rattle.irtext_graph.specs.Objects.{Fits};
 ghost use Rattle.irtext_graph.specs.Graph.{GraphView, Stands, parent, children, ancestor, CanInsert, Appends, Unlinks, IsNew, KeepsOlder};
 ghost use Rattle.irtext_graph.specs.Erasing.{CanErase, DropsUses, Erases};
-ghost use Rattle.irtext_graph.specs.Held.{KeepsRound, KeepsOutside, by_kind, to_operation, to_block, to_region};
+ghost use Rattle.irtext_graph.specs.Held.{KeepsBeside, KeepsRound, KeepsOutside, by_kind, to_operation, to_block, to_region};
 ghost use Rattle.irtext_graph.specs.Parts.{regions, blocks, operations_in};
 ghost use Rattle.irtext_graph.specs.declared.object.Object.TheVariants.{TheOperation, TheBlock, TheRegion};
 
@@ -150,6 +150,7 @@ impl<K: Kind> Ptr<K> {
     pub fn unlink<C: HasGraph>(self, ctx: &mut C)
         requires { Stands (C.graph ctx.old) (K.object self) }
         ensures unlinks { Unlinks (C.graph ctx.old) (C.graph ctx.new) (K.object self) }
+        ensures kept { KeepsBeside (C.graph ctx.old) (C.graph ctx.new) (K.object self) }
         ensures rest { ctx.new ≡ C.with_graph ctx.old (C.graph ctx.new) }
     {
         ctx.graph_mut().unlink(K::object(self));

@@ -1,16 +1,33 @@
 //! The program that the bench script counts calls on graphs and names with. Its words say what is done, within how many objects or
-//! names, and how often.
+//! names, and how often; then come the calls that are made for each name, where names and a graph are counted together.
 #![tactic(auto)]
 
+mod named;
 mod names;
 mod objects;
 
+use crate::named::Call;
 use std::alloc::{AllocError, Global};
 use std::process::ExitCode;
 use std::{env, io};
 
 /// Does what the word says, and says whether each call was answered as it should be.
-fn done(alloc: Global, word: &str, size: usize, times: usize) -> Result<bool, AllocError> {
+fn done(
+    alloc: Global,
+    word: &str,
+    size: usize,
+    times: usize,
+    calls: &[Call],
+) -> Result<bool, AllocError> {
+    if word == "rounds" {
+        return named::rounds(alloc, size, times, calls);
+    }
+    if word == "nested" {
+        return Ok(named::nested(alloc, size, calls));
+    }
+    if word == "repeated" {
+        return Ok(named::repeated(alloc, size, calls));
+    }
     if word == "make" {
         return objects::make(alloc, size, times);
     }
@@ -49,6 +66,14 @@ fn number(word: Option<String>) -> io::Result<usize> {
     }
 }
 
+/// The call that a word says.
+fn call_of(word: &str) -> io::Result<Call> {
+    match named::call_of(word) {
+        Some(call) => Ok(call),
+        None => Err(io::Error::from(io::ErrorKind::InvalidInput)),
+    }
+}
+
 /// Does what the words say, and writes whether it was done.
 fn measure(rt: &HostRuntime) -> io::Result<()> {
     let mut words = env::args(rt)?.skip(1);
@@ -57,7 +82,11 @@ fn measure(rt: &HostRuntime) -> io::Result<()> {
     };
     let size = number(words.next())?;
     let times = number(words.next())?;
-    let answer = if done(rt.alloc(), word.as_str(), size, times)? {
+    let mut calls = Vec::new(rt.alloc());
+    for said in words {
+        calls.push(call_of(said.as_str())?)?;
+    }
+    let answer = if done(rt.alloc(), word.as_str(), size, times, &calls)? {
         "done"
     } else {
         "refused"

@@ -17,10 +17,10 @@ module _ {V : Type 0} where
       go None true is same k = inr (sym (eqb-true n l same), sym (some_eq k))
       go None false is same k = absurd (cc)
 
-  mentioned_stays : (l n : ℕ) (e x : Entry V) (s : Scope V) → find l s ≡ Some x → find l (mentioned n e s) ≡ Some x
+  pub mentioned_stays : (l n : ℕ) (e x : Entry V) (s : Scope V) → find l s ≡ Some x → find l (mentioned n e s) ≡ Some x
   mentioned_stays l n e x s f = find_mentioned l n e s ∙ ap (λ o. option_or o (cond (nat_eq n l) (Some e) None)) f
 
-  mentioned_here : (n : ℕ) (e : Entry V) (s : Scope V) → find n s ≡ None → find n (mentioned n e s) ≡ Some e
+  pub mentioned_here : (n : ℕ) (e : Entry V) (s : Scope V) → find n s ≡ None → find n (mentioned n e s) ≡ Some e
   mentioned_here n e s f = find_mentioned n n e s ∙ ap (λ o. option_or o (cond (nat_eq n n) (Some e) None)) f ∙ ap (λ b. cond b (Some e) None) (eq-eqb n n refl)
 
   found_resolved : (l n : ℕ) (v : V) (x : Entry V) (s : Scope V) → find l (resolved n v s) ≡ Some x → ((l ≡ n) × (x ≡ Defined v)) ⊎ ((find l s ≡ Some x) × (l ≡ n → ⊥))
@@ -54,7 +54,7 @@ module _ {V : Type 0} where
         | inr new ↦ inl new
       ]
 
-  defined_stays : (l n : ℕ) (v : V) (x : Entry V) (s : Scope V) → find l s ≡ Some x → (l ≡ n → ⊥) → find l (defined n v s) ≡ Some x
+  pub defined_stays : (l n : ℕ) (v : V) (x : Entry V) (s : Scope V) → find l s ≡ Some x → (l ≡ n → ⊥) → find l (defined n v s) ≡ Some x
   defined_stays l n v x s f ne = go (find n s)
     where
       go : (o : Option (Entry V)) → find l (defined_from n v s o) ≡ Some x

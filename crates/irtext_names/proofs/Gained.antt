@@ -1,5 +1,5 @@
 -- What a graph is once a placeholder was made, or was made and went again.
-use Rattle.std.proofs.Common.{◌≡◌, ◌≢◌, ◌+◌, ◌==◌, ◌∙◌, ℕ, zero, suc, refl, sym, ap, subst, arith, Bool, true, false, cond, map, List, [], ◌∷◌, Option, Some, None, IsSome, slice_get, eqb-true, ltb-true, nat_lt, ◌≤◌}
+use Rattle.std.proofs.Common.{◌≡◌, ◌+◌, ◌==◌, ◌∙◌, ℕ, zero, suc, refl, sym, ap, subst, arith, Bool, true, false, cond, map, List, [], ◌∷◌, Option, Some, None, IsSome, slice_get, eqb-true, ltb-true, nat_lt, ◌≤◌}
 use Rattle.std.specs.Option.{option_map}
 use Rattle.irtext_graph.specs.declared.arena.Ptr.{Ptr}
 use Rattle.irtext_graph.specs.declared.object.BasicBlock.{BasicBlock}

@@ -8,3 +8,4 @@ pub mod Pairs
 pub mod Named
 pub mod Nested
 pub mod Added
+pub mod Linked

@@ -1,5 +1,5 @@
 -- A graph that lost one placeholder, or nothing: what is defined in it, and what waits.
-use Rattle.std.proofs.Common.{◌≡◌, ◌∙◌, ℕ, refl, sym, ap, Option, Some, None}
+use Rattle.std.proofs.Common.{◌≡◌, ℕ, refl, sym, ap, Option, Some, None}
 use Rattle.std.specs.Option.{option_map}
 use Rattle.irtext_graph.specs.declared.object.Defined.{Defined}
 use Rattle.irtext_graph.specs.Erasing.{owner}

@@ -1,5 +1,5 @@
 -- What a call about values, or about labels, leaves of the ties of both.
-use Rattle.std.proofs.Common.{◌≡◌, ◌∙◌, ℕ, refl, sym, ap, true, Option, Some, None, List, []}
+use Rattle.std.proofs.Common.{◌≡◌, ℕ, true, Option, Some, None, List, []}
 use Rattle.irtext_graph.specs.declared.arena.Ptr.{Ptr}
 use Rattle.irtext_graph.specs.declared.object.BasicBlock.{BasicBlock}
 use Rattle.irtext_graph.specs.declared.object.Value.{Value}
@@ -12,7 +12,7 @@ use Rattle.irtext_scopes.specs.Scopes.{Scope, find, innermost, in_innermost, is_
 use Rattle.irtext_names.specs.Placeholders.{IsPlaceholder, Defines, StandsAsBefore}
 use Rattle.irtext_names.specs.Tied.{AreTied, AreWaiting, IsNoPlaceholder}
 use Rattle.irtext_names.proofs.Loses.{Loses}
-use Rattle.irtext_names.proofs.Pairs.{same_ties, same_waits, made_ties, made_waits, defined_ties, defined_waits}
+use Rattle.irtext_names.proofs.Pairs.{same_ties, made_ties, made_waits, defined_ties, defined_waits}
 
 pub one_value : (v w : Value) → OfValue v ≡ OfValue w → v ≡ w
 one_value v w e = cc
@@ -20,10 +20,10 @@ one_value v w e = cc
 pub one_block : (b c : Ptr BasicBlock) → OfBlock b ≡ OfBlock c → b ≡ c
 one_block b c e = cc
 
-no_block : (v : Value) (b : Ptr BasicBlock) → OfValue v ≡ OfBlock b → ⊥
+pub no_block : (v : Value) (b : Ptr BasicBlock) → OfValue v ≡ OfBlock b → ⊥
 no_block v b e = cc
 
-no_value : (b : Ptr BasicBlock) (v : Value) → OfBlock b ≡ OfValue v → ⊥
+pub no_value : (b : Ptr BasicBlock) (v : Value) → OfBlock b ≡ OfValue v → ⊥
 no_value b v e = cc
 
 module _ {O B T : Type 0} {g k : GraphView (Option O) B T} (vs vs' : List (Scope Value)) (ls ls' : List (Scope (Ptr BasicBlock))) (t : AreTied vs ls g) where

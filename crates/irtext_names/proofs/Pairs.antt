@@ -1,6 +1,7 @@
 -- Names of two kinds, values and labels, over one graph: what a call about one kind leaves of both.
-use Rattle.std.proofs.Common.{◌≡◌, ◌∙◌, ℕ, refl, sym, Bool, true, false, Result, Ok, Err, OnOk, OnErr, IfNone, Option, Some, None, List}
-use Rattle.std.specs.Result.{is_err}
+use Rattle.std.proofs.Common.{◌≡◌, ◌∙◌, ℕ, refl, sym, ap, Bool, true, false, Result, Ok, Err, OnOk, OnErr, IfNone, Option, Some, None, List}
+use Rattle.std.specs.Result.{is_err, IsErrAnd}
+use Rattle.std.proofs.lemmas.Result.{err_from_is_err_and}
 use Rattle.std.specs.Option.{option_map}
 use Rattle.irtext_graph.specs.declared.object.Defined.{Defined}
 use Rattle.irtext_graph.specs.Erasing.{owner}
@@ -8,9 +9,10 @@ use Rattle.irtext_graph.specs.Graph.{GraphView, IsNew}
 use Rattle.irtext_graph.specs.Used.{IsDefined}
 use Rattle.irtext_graph.proofs.Nests.{some_eq}
 use Rattle.irtext_scopes.specs.declared.scopes.Entry.{Entry}
+use Rattle.irtext_scopes.specs.declared.scopes.Entry.TheVariants as entry
 use Rattle.irtext_scopes.specs.declared.scopes.Entry.TheVariants.{Pending}
-use Rattle.irtext_scopes.specs.Scopes.{Scope, find, innermost, in_innermost, is_open, mentioned, defined, placeholder_of, value_of}
-use Rattle.irtext_names.specs.Placeholders.{IsPlaceholder, Defines, Settles, SettlesIfAny, StandsAsBefore}
+use Rattle.irtext_scopes.specs.Scopes.{Scope, find, innermost, in_innermost, is_open, is_defined, mentioned, placeholder_of, value_of}
+use Rattle.irtext_names.specs.Placeholders.{IsPlaceholder, Uses, Defines, Settles, SettlesIfAny, StandsAsBefore}
 use Rattle.irtext_names.specs.Tied.{entry_at, Tied, Waiting, IsNoPlaceholder}
 use Rattle.irtext_names.proofs.Entries.{entry_innermost, waits_with}
 use Rattle.irtext_names.proofs.Gained.{before_same}
@@ -38,7 +40,7 @@ module _ {O B T V : Type 0} (of : V → Defined) {g : GraphView (Option O) B T} 
   pub not_itself : (h v : V) → ((a b : V) → of a ≡ of b → a ≡ b) → placeholder_of (find n (innermost ss)) ≡ Some h → IsNoPlaceholder ss v → of h ≡ of v → ⊥
   not_itself h v same e none s = none 0 n (rw (← same h v s) (waits_here h e))
 
-  held_if : (d : Defined) → option_map of (placeholder_of (find n (innermost ss))) ≡ Some d → IsPlaceholder g d
+  pub held_if : (d : Defined) → option_map of (placeholder_of (find n (innermost ss))) ≡ Some d → IsPlaceholder g d
   held_if d e = go (placeholder_of (find n (innermost ss))) refl e
     where
       go : (q : Option V) → placeholder_of (find n (innermost ss)) ≡ q → option_map of q ≡ Some d → IsPlaceholder g d
@@ -65,10 +67,10 @@ module _ {O B T V W : Type 0} (of : V → Defined) (at : W → Defined) (same : 
 
   -- ---- a name of the one kind was defined
   module _ (vs' : List (Scope V)) (n : ℕ) (v : V) (d : Defines of vs vs' g k n v) where
-    lost : Loses g k (option_map of (placeholder_of (find n (innermost vs))))
+    pub lost : Loses g k (option_map of (placeholder_of (find n (innermost vs))))
     lost = settled_if (of v) (option_map of (placeholder_of (find n (innermost vs)))) (held_if of n vs t) d.settles
 
-    other : (b : W) → option_map of (placeholder_of (find n (innermost vs))) ≡ Some (at b) → ⊥
+    pub other : (b : W) → option_map of (placeholder_of (find n (innermost vs))) ≡ Some (at b) → ⊥
     other b e = go (placeholder_of (find n (innermost vs))) e
       where
         go : (q : Option V) → option_map of q ≡ Some (at b) → ⊥
@@ -109,3 +111,32 @@ module _ {A E : Type 0} {P : Type 0} (r : Result A E) (b : Bool) (is : b ≡ is_
 pub unknown_here : {V P : Type 0} (r : Option V) → ((v : V) → r ≡ Some v → ⊥) → IfNone r P → P
 unknown_here None n p = p
 unknown_here (Some v) n p = absurd (n v refl)
+
+-- a name that waits has no definition
+pub waits_free : {V : Type 0} (o : Option (Entry V)) (h : V) → placeholder_of o ≡ Some h → is_defined o ≡ false
+waits_free None h e = refl
+waits_free (Some (entry.Pending x)) h e = refl
+waits_free (Some (entry.Defined v)) h e = absurd (cc)
+
+-- a name of which a definition was accepted has none before
+pub accepted_free : {A E V : Type 0} (r : Result A E) (x : E) (a : A) (o : Option (Entry V)) → r ≡ Ok a → (is_defined o ≡ true → r ≡ Err x) → is_defined o ≡ false
+accepted_free r x a o is f = go (is_defined o) refl
+  where
+    go : (b : Bool) → is_defined o ≡ b → b ≡ false
+    go false e = refl
+    go true e = let g = f e in absurd (cc)
+
+-- ---- a use, by what a call answered
+module _ {O B T V : Type 0} {Makes : GraphView (Option O) B T → GraphView (Option O) B T → V → Type 0} (n : ℕ) (v : V) where
+  pub uses_known : (ss : List (Scope V)) (g : GraphView (Option O) B T) → option_map value_of (find n (innermost ss)) ≡ Some v → Uses Makes ss ss g g n v
+  uses_known ss g e = record { known = λ x f. (some_eq (sym e ∙ ap (option_map value_of) f), refl, refl); unknown = λ f. let k : None ≡ Some v = sym (ap (option_map value_of) f) ∙ e in absurd (cc) }
+
+  pub uses_new : (ss ss' : List (Scope V)) (g k : GraphView (Option O) B T) → find n (innermost ss) ≡ None → ss' ≡ in_innermost (mentioned n (Pending v)) ss → Makes g k v → Uses Makes ss ss' g k n v
+  uses_new ss ss' g k e f m = record { known = λ x h. absurd (cc); unknown = λ h. (f, m) }
+
+-- ---- a refusal that is handed on
+pub handed_on : {T E : Type 0} {e : E} (r : Result T E) → IsErrAnd r (λ y. y ≡ e) → r ≡ Err e
+handed_on r h = let p = err_from_is_err_and r h in p.1 ∙ ap Err p.2
+
+pub same_refusal : {A C E : Type 0} (r : Result A E) (s : Result C E) (x y : E) → r ≡ Err x → s ≡ Err x → s ≡ Err y → r ≡ Err y
+same_refusal r s x y a b e = let f = sym b ∙ e in let same : x ≡ y = cc in a ∙ ap (λ z. Err z) same

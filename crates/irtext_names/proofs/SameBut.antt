@@ -1,5 +1,5 @@
 -- Two graphs that differ in one object alone, and in what operations use.
-use Rattle.std.proofs.Common.{◌≡◌, ◌∙◌, ℕ, refl, sym, ap, subst, List, [], Option, Some, None, IsSome, slice_get, false}
+use Rattle.std.proofs.Common.{◌≡◌, ◌∙◌, ℕ, refl, sym, ap, subst, List, [], Option, Some, None, IsSome, slice_get}
 use Rattle.std.specs.Option.{option_map}
 use Rattle.irtext_graph.specs.declared.arena.Entry.{Entry}
 use Rattle.irtext_graph.specs.declared.object.BasicBlock.{BasicBlock}
@@ -7,15 +7,15 @@ use Rattle.irtext_graph.specs.declared.object.Region.{Region}
 use Rattle.irtext_graph.specs.declared.object.Operation.{Operation}
 use Rattle.irtext_graph.specs.declared.arena.Ptr.{Ptr}
 use Rattle.irtext_graph.specs.declared.object.Object.{Object}
-use Rattle.irtext_graph.specs.declared.object.Object.TheVariants.{TheOperation, TheBlock, TheRegion}
+use Rattle.irtext_graph.specs.declared.object.Object.TheVariants.{TheOperation, TheBlock}
 use Rattle.irtext_graph.specs.declared.object.Value.TheVariants.{Result, Argument}
 use Rattle.irtext_graph.specs.declared.object.Defined.{Defined}
 use Rattle.irtext_graph.specs.declared.object.Defined.TheVariants.{OfValue, OfBlock}
 use Rattle.irtext_graph.specs.Content.{Typed, Node, Content, Content.{AnOperation, ABlock, ARegion}, OperationContent, BlockContent}
 use Rattle.irtext_graph.specs.Erasing.{without_uses, owner}
-use Rattle.irtext_graph.specs.Graph.{GraphView, content, content_of, parent, children, IsNew, Stands}
+use Rattle.irtext_graph.specs.Graph.{GraphView, content, content_of, parent, children, Stands}
 use Rattle.irtext_graph.specs.Objects.{is_older}
-use Rattle.irtext_graph.specs.Parts.{operation_at, block_at, results, results_of, arguments, arguments_of}
+use Rattle.irtext_graph.specs.Parts.{operation_at, results, results_of, arguments, arguments_of}
 use Rattle.irtext_graph.specs.Store.{get}
 use Rattle.irtext_graph.specs.Used.{IsDefined}
 use Rattle.irtext_graph.proofs.PartsSeen.{some_of, of_some}
@@ -37,7 +37,7 @@ module _ {O B T : Type 0} where
   arguments_in (Some (ARegion b c)) = []
 
   -- the data of an operation, by what it is
-  abbrev data_in : Option (Content O B T) → Option O
+  abbrev pub data_in : Option (Content O B T) → Option O
   data_in None = None
   data_in (Some (AnOperation b c)) = Some c.data_of
   data_in (Some (ABlock b c)) = None
@@ -57,7 +57,7 @@ module _ {O B T : Type 0} where
       go None = refl
       go (Some e) = refl
 
-  data_is : (g : GraphView O B T) (p : Ptr Operation) → option_map (λ c. c.data_of) (operation_at g p) ≡ data_in (option_map without_uses (content g (TheOperation p)))
+  pub data_is : (g : GraphView O B T) (p : Ptr Operation) → option_map (λ c. c.data_of) (operation_at g p) ≡ data_in (option_map without_uses (content g (TheOperation p)))
   data_is g p = go (get g.operations p)
     where
       go : (e : Option (Entry (Node BasicBlock Region (OperationContent O T)))) → option_map (λ c. c.data_of) (option_map (λ e. e.content.content) e) ≡ data_in (option_map without_uses (option_map (λ d. AnOperation d.0 d.1) (content_of e)))
@@ -94,7 +94,7 @@ module _ {O B T : Type 0} where
   same_age m g k q e = age_bare m (content k q) ∙ ap (is_older m) e ∙ sym (age_bare m (content g q))
 
 module _ {O B T : Type 0} where
-  same_blank : (g k : GraphView (Option O) B T) (x : Defined) → option_map without_uses (content k (owner x)) ≡ option_map without_uses (content g (owner x)) → parent k (owner x) ≡ parent g (owner x) → IsBlank g x → IsBlank k x
+  pub same_blank : (g k : GraphView (Option O) B T) (x : Defined) → option_map without_uses (content k (owner x)) ≡ option_map without_uses (content g (owner x)) → parent k (owner x) ≡ parent g (owner x) → IsBlank g x → IsBlank k x
   same_blank g k (OfValue (Result p i)) e f b = data_is k p ∙ ap data_in e ∙ sym (data_is g p) ∙ b
   same_blank g k (OfValue (Argument c i)) e f b = b
   same_blank g k (OfBlock c) e f b = f ∙ b

@@ -4,7 +4,6 @@ use Rattle.std.specs.Option.{option_map}
 use Rattle.irtext_graph.specs.declared.arena.Entry.{Entry}
 use Rattle.irtext_graph.specs.declared.arena.Ptr.{Ptr}
 use Rattle.irtext_graph.specs.declared.object.BasicBlock.{BasicBlock}
-use Rattle.irtext_graph.specs.declared.object.Operation.{Operation}
 use Rattle.irtext_graph.specs.declared.object.Region.{Region}
 use Rattle.irtext_graph.specs.declared.object.Object.{Object}
 use Rattle.irtext_graph.specs.declared.object.Object.TheVariants.{TheOperation, TheBlock, TheRegion}
@@ -16,9 +15,9 @@ use Rattle.irtext_graph.specs.declared.object.Site.{Site}
 use Rattle.irtext_graph.specs.declared.object.Site.TheVariants.{AtOperand, AtSuccessor}
 use Rattle.irtext_graph.specs.Back as back
 use Rattle.irtext_graph.specs.Back.{IsClosedBelow}
-use Rattle.irtext_graph.specs.Content.{Node, Content, Content.{AnOperation, ABlock, ARegion}, OperationContent}
+use Rattle.irtext_graph.specs.Content.{Node, Content.{AnOperation}, OperationContent}
 use Rattle.irtext_graph.specs.Erasing.{without_uses, owner, user, named_at, CanErase, Erases}
-use Rattle.irtext_graph.specs.Graph.{GraphView, content, content_of, parent, parent_of, children, children_of, IsNew, IsInside, KeepsOlder}
+use Rattle.irtext_graph.specs.Graph.{GraphView, content, content_of, parent, parent_of, children, children_of, IsNew, IsInside}
 use Rattle.irtext_graph.specs.Nested.{Nested}
 use Rattle.irtext_graph.specs.Parts.{operands_of, successors_of}
 use Rattle.irtext_graph.specs.Store.{get, object_of}
@@ -27,10 +26,10 @@ use Rattle.irtext_graph.specs.Used.{replaced, used_at, IsUse, IsDefined, Replace
 use Rattle.irtext_graph.specs.Uses.{eq_defined}
 use Rattle.irtext_graph.proofs.Inside.{alone}
 use Rattle.irtext_graph.proofs.Linked.{defined_tells}
-use Rattle.irtext_graph.proofs.Nests.{told, some_eq}
+use Rattle.irtext_graph.proofs.Nests.{some_eq}
 use Rattle.irtext_graph.proofs.Stores.{get_mapped}
 use Rattle.irtext_names.specs.Placeholders.{IsPlaceholder, Settles, SettlesIfAny}
-use Rattle.irtext_names.proofs.SameBut.{SameBut, same_self, same_then, was_defined, still_placeholder}
+use Rattle.irtext_names.proofs.SameBut.{SameBut, same_self, same_then, still_placeholder}
 use Rattle.irtext_names.proofs.Loses.{Loses, loses, loses_none}
 
 module _ {O B T : Type 0} where
@@ -63,7 +62,7 @@ module _ {O B T : Type 0} where
   bare_children g (TheRegion r) = refl
 
   -- what is named in an operation is used there
-  named_used : (g : GraphView O B T) (u : Site) (d : Defined) → named_at (content g (user u)) u ≡ Some d → IsUse g d u
+  pub named_used : (g : GraphView O B T) (u : Site) (d : Defined) → named_at (content g (user u)) u ≡ Some d → IsUse g d u
   named_used g (AtOperand p i) d e = go (get g.operations p) e
     where
       go : (s : Option (Entry (Node BasicBlock Region (OperationContent O T)))) → named_at {O = O} {B = B} (option_map (λ d. AnOperation d.0 d.1) (content_of s)) (AtOperand p i) ≡ Some d → option_map OfValue (slice_get (operands_of (option_map (λ e. e.content.content) s)) i) ≡ Some d

@@ -1,15 +1,13 @@
 -- What ties names to placeholders is kept, whatever is made, lost or defined.
-use Rattle.std.proofs.Common.{◌≡◌, ◌⊎◌, ◌∙◌, inl, inr, ℕ, refl, sym, ap, true, Option, Some, None, List}
+use Rattle.std.proofs.Common.{◌≡◌, ◌∙◌, inl, inr, ℕ, refl, sym, ap, true, Option, Some, None, List}
 use Rattle.std.specs.Option.{option_map}
 use Rattle.irtext_graph.specs.declared.object.Defined.{Defined}
 use Rattle.irtext_graph.specs.Erasing.{owner}
 use Rattle.irtext_graph.specs.Graph.{GraphView, IsNew}
 use Rattle.irtext_graph.specs.Used.{IsDefined}
-use Rattle.irtext_graph.specs.Uses.{eq_defined}
 use Rattle.irtext_graph.proofs.Linked.{defined_tells}
 use Rattle.irtext_graph.proofs.Nests.{told, some_eq}
 use Rattle.irtext_scopes.specs.declared.scopes.Entry.{Entry}
-use Rattle.irtext_scopes.specs.declared.scopes.Entry.TheVariants as entry
 use Rattle.irtext_scopes.specs.declared.scopes.Entry.TheVariants.{Pending}
 use Rattle.irtext_scopes.specs.Scopes.{Scope, find, innermost, in_innermost, is_open, mentioned, defined, placeholder_of, value_of}
 use Rattle.irtext_names.specs.Placeholders.{IsPlaceholder}
@@ -95,10 +93,10 @@ module _ {O B T V : Type 0} (of : V → Defined) where
     placeholder_at (Some y) x e = ap (λ z. Some z) (same y x (some_eq e))
 
     -- what is lost waited for the definition
-    waited : (x : V) → o ≡ Some (of x) → entry_at 0 n ss ≡ Some (Pending x)
+    pub waited : (x : V) → o ≡ Some (of x) → entry_at 0 n ss ≡ Some (Pending x)
     waited x e = entry_innermost n ss ∙ waits_with (find n (innermost ss)) x (placeholder_at (placeholder_of (find n (innermost ss))) x (sym is ∙ e))
 
-    not_lost : Tied of ss g → (i m : ℕ) (e : Entry V) → entry_at i m ss ≡ Some e → (i ≡ 0 → m ≡ n → ⊥) → o ≡ Some (of (value_of e)) → ⊥
+    pub not_lost : Tied of ss g → (i m : ℕ) (e : Entry V) → entry_at i m ss ≡ Some e → (i ≡ 0 → m ≡ n → ⊥) → o ≡ Some (of (value_of e)) → ⊥
     not_lost t i m e f ne lost = let a = t.alone i m 0 n e (value_of e) f (waited (value_of e) lost) refl in ne a.0 a.1
 
     pub tied_defined : Tied of ss g → IsDefined g (of v) → IsNoPlaceholder ss v → Tied of (in_innermost (defined n v) ss) k

@@ -1,2 +1,3 @@
 pub mod Placeholders
 pub mod Tied
+pub mod Linked

@@ -1,5 +1,5 @@
 //! Labels of blocks, used and defined.
-ghost use Rattle.std.specs.Prelude.{◌≡◌, ◌<◌, ◌≤◌, ◌↔◌, ℕ, List, length, true, None, Some, Err, OnOk, OnErr, IfOk};
+ghost use Rattle.std.specs.Prelude.{◌≡◌, ◌<◌, ◌≤◌, ◌↔◌, ℕ, List, length, slice_get, true, None, Some, Err, OnOk, OnErr, IfOk};
 ghost use Rattle.irtext_graph.specs.Back.{IsClosedBelow};
 ghost use Rattle.irtext_graph.specs.Graph.{KeepsOlder, Stands};
 ghost use Rattle.irtext_graph.specs.declared.arena.Ptr.{Ptr};
@@ -8,6 +8,10 @@ ghost use Rattle.irtext_graph.specs.declared.object.Defined.TheVariants.{OfBlock
 ghost use Rattle.irtext_graph.specs.declared.object.Object.TheVariants.{TheBlock};
 ghost use Rattle.irtext_scopes.specs.Scopes.{innermost, is_open, find, is_defined};
 ghost use Rattle.irtext_scopes.specs.declared.scopes.DefineFault.{DefineFault};
+ghost use Rattle.irtext_grammar.specs.Names.History.{act};
+ghost use Rattle.irtext_grammar.specs.Names.Script.{Place, User, use_label, define_label, MultipleDefinitions};
+ghost use Rattle.irtext_grammar.specs.Names.TextScopes.{Word};
+ghost use Rattle.irtext_names.specs.Linked.{TakesUse, TakesDefinition, FailsBy};
 ghost use Rattle.irtext_names.specs.Placeholders.{MakesLabel, Uses, Defines, StandsAsBefore};
 ghost use Rattle.irtext_names.specs.Tied.{AreTied, AreWaiting, IsNoPlaceholder};
 
@@ -34,6 +38,8 @@ pub fn block_opd<O: Drop, B: Drop, T: Drop>(
     requires tied { AreTied names.old.values names.old.labels graph.old }
     ensures uses { IfOk result (λ b. Uses (MakesLabel value) names.old.labels names.new.labels graph.old graph.new name b) }
     ensures there { IfOk result (λ b. Stands graph.new (TheBlock b)) }
+    ensures follows { IfOk result (λ b. (w : Word) (u : User) → slice_get names.old.names name ≡ Some w.name
+        → TakesUse (use_label w u) names.old names.new graph.old graph.new u (OfBlock b)) }
     ensures scopes { OnErr result (names.new.labels ≡ names.old.labels) }
     ensures objects { OnErr result (StandsAsBefore graph.old graph.new) }
     ensures rest { (names.new.names ≡ names.old.names) × (names.new.values ≡ names.old.values) }
@@ -71,6 +77,10 @@ pub fn block_def<O: Drop, B: Drop, T: Drop>(
     ensures twice { (result ≡ Err DefineFault.MultipleDefinitions) ↔ (is_defined (find name (innermost names.old.labels)) ≡ true) }
     ensures memory { result ≡ Err DefineFault.Memory → find name (innermost names.old.labels) ≡ None }
     ensures defines { OnOk result (Defines OfBlock names.old.labels names.new.labels graph.old graph.new name def) }
+    ensures follows { OnOk result ((w : Word) (p : Place) → slice_get names.old.names name ≡ Some w.name
+        → TakesDefinition (define_label w p) names.old names.new graph.old graph.new p (OfBlock def)) }
+    ensures fails { result ≡ Err DefineFault.MultipleDefinitions → (w : Word) (p : Place) → slice_get names.old.names name ≡ Some w.name
+        → FailsBy (act (define_label w p)) names.old graph.old (record { cause = MultipleDefinitions w.name; at = Some w.at }) }
     ensures scopes { OnErr result (names.new.labels ≡ names.old.labels) }
     ensures objects { OnErr result (graph.new ≡ graph.old) }
     ensures rest { (names.new.names ≡ names.old.names) × (names.new.values ≡ names.old.values) }

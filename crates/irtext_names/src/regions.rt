@@ -1,10 +1,16 @@
-//! Regions, entered and left: the graph stays as it is, and so does what ties the names that wait to it.
-ghost use Rattle.std.specs.Prelude.{◌≡◌, ◌<◌, ◌↔◌, ℕ, List, [], ◌∷◌, length, false, Err, OnOk, OnErr, IfSome, IfNone};
+//! Regions, entered and left: the graph stays as it is, and so does what ties the names that wait to it. Each call is a step of the
+//! machine that reads acts.
+ghost use Rattle.std.specs.Prelude.{◌≡◌, ◌<◌, ◌↔◌, ℕ, List, [], ◌∷◌, length, slice_get, false, Some, None, Err, OnOk, OnErr, IfSome, IfNone};
+ghost use Rattle.irtext_base.specs.Text.{Text};
+ghost use Rattle.irtext_grammar.specs.Names.History as history;
+ghost use Rattle.irtext_grammar.specs.Names.History.{enter, leave, start};
+ghost use Rattle.irtext_grammar.specs.Names.Script.{NotIsolated, UnresolvedReference};
 ghost use Rattle.irtext_graph.specs.declared.arena.Ptr.{Ptr};
 ghost use Rattle.irtext_graph.specs.declared.object.BasicBlock.{BasicBlock};
 ghost use Rattle.irtext_scopes.specs.Scopes.{is_open, outer};
 ghost use Rattle.irtext_scopes.specs.Tracker.{entered, left, unresolved};
 ghost use Rattle.irtext_scopes.specs.declared.tracker.EnterFault.{EnterFault};
+ghost use Rattle.irtext_names.specs.Linked.{StandsAt, Takes, FailsBy, nothing_made};
 ghost use Rattle.irtext_names.specs.Tied.{AreTied, AreWaiting, NoneIsLeft};
 
 use irtext_graph::arena::Ptr;
@@ -23,6 +29,7 @@ pub fn no_names<O: Drop, B: Drop, T: Drop>(
     ensures labels { result.labels ≡ [] }
     ensures tied { AreTied result.values result.labels graph.now }
     ensures waiting { AreWaiting graph.now.made [] result.values result.labels graph.now }
+    ensures stands { StandsAt result graph.now nothing_made [] start }
 {
     let _made = graph.made();
     NameTracker::new(alloc)
@@ -46,6 +53,9 @@ pub fn enter_region<O: Drop, B: Drop, T: Drop>(
     ensures tied { AreTied names.new.values names.new.labels graph.now }
     ensures waiting { (m : ℕ) (own : List (Ptr BasicBlock))
         → AreWaiting m own names.old.values names.old.labels graph.now → AreWaiting m own names.new.values names.new.labels graph.now }
+    ensures enters { OnOk result (Takes (enter isolated) (history.entered isolated) names.old names.new graph.now) }
+    ensures shut { result ≡ Err EnterFault.TopLevelOpRegionNotIsolatedFromAbove
+        → FailsBy (enter isolated) names.old graph.now (record { cause = NotIsolated; at = None }) }
 {
     let _graph = graph;
     names.enter_region(isolated)
@@ -70,6 +80,9 @@ pub fn exit_region<O: Drop, B: Drop, T: Drop>(
         → AreWaiting m own names.old.values names.old.labels graph.now → AreWaiting m own names.new.values names.new.labels graph.now) }
     ensures none_left { IfNone result ((m : ℕ) (own : List (Ptr BasicBlock)) → AreWaiting m own names.old.values names.old.labels graph.now
         → names.new.values ≡ [] → names.new.labels ≡ [] → NoneIsLeft m own graph.now) }
+    ensures leaves { IfNone result ((a : ℕ) → Takes (leave isolated a) (history.left isolated) names.old names.new graph.now) }
+    ensures unresolved { IfSome result (λ n. (a : ℕ) → (t : Text) × (slice_get names.old.names n ≡ Some t)
+        × FailsBy (leave isolated a) names.old graph.now (record { cause = UnresolvedReference t; at = Some a })) }
 {
     let _graph = graph;
     names.exit_region(isolated)

@@ -1,5 +1,5 @@
 //! Names of values, used and defined.
-ghost use Rattle.std.specs.Prelude.{◌≡◌, ◌<◌, ◌≤◌, ◌↔◌, ℕ, List, length, true, None, Some, Err, OnOk, OnErr, IfOk};
+ghost use Rattle.std.specs.Prelude.{◌≡◌, ◌<◌, ◌≤◌, ◌↔◌, ℕ, List, length, slice_get, true, None, Some, Err, OnOk, OnErr, IfOk};
 ghost use Rattle.irtext_graph.specs.Back.{IsClosedBelow};
 ghost use Rattle.irtext_graph.specs.Graph.{KeepsOlder};
 ghost use Rattle.irtext_graph.specs.Parts.{ValueStands};
@@ -8,6 +8,10 @@ ghost use Rattle.irtext_graph.specs.declared.object.BasicBlock.{BasicBlock};
 ghost use Rattle.irtext_graph.specs.declared.object.Defined.TheVariants.{OfValue};
 ghost use Rattle.irtext_scopes.specs.Scopes.{innermost, is_open, find, is_defined};
 ghost use Rattle.irtext_scopes.specs.declared.scopes.DefineFault.{DefineFault};
+ghost use Rattle.irtext_grammar.specs.Names.History.{act};
+ghost use Rattle.irtext_grammar.specs.Names.Script.{Place, User, use_value, define_value, MultipleDefinitions};
+ghost use Rattle.irtext_grammar.specs.Names.TextScopes.{Word};
+ghost use Rattle.irtext_names.specs.Linked.{TakesUse, TakesDefinition, FailsBy};
 ghost use Rattle.irtext_names.specs.Placeholders.{MakesValue, Uses, Defines, StandsAsBefore};
 ghost use Rattle.irtext_names.specs.Tied.{AreTied, AreWaiting, IsNoPlaceholder};
 
@@ -33,6 +37,8 @@ pub fn ssa_opd<O: Drop, B: Drop, T: Drop>(
     requires tied { AreTied names.old.values names.old.labels graph.old }
     ensures uses { IfOk result (λ v. Uses MakesValue names.old.values names.new.values graph.old graph.new name v) }
     ensures there { IfOk result (λ v. ValueStands graph.new v) }
+    ensures follows { IfOk result (λ v. (w : Word) (u : User) → slice_get names.old.names name ≡ Some w.name
+        → TakesUse (use_value w u) names.old names.new graph.old graph.new u (OfValue v)) }
     ensures scopes { OnErr result (names.new.values ≡ names.old.values) }
     ensures objects { OnErr result (StandsAsBefore graph.old graph.new) }
     ensures rest { (names.new.names ≡ names.old.names) × (names.new.labels ≡ names.old.labels) }
@@ -70,6 +76,10 @@ pub fn ssa_def<O: Drop, B: Drop, T: Drop>(
     ensures twice { (result ≡ Err DefineFault.MultipleDefinitions) ↔ (is_defined (find name (innermost names.old.values)) ≡ true) }
     ensures memory { result ≡ Err DefineFault.Memory → find name (innermost names.old.values) ≡ None }
     ensures defines { OnOk result (Defines OfValue names.old.values names.new.values graph.old graph.new name def) }
+    ensures follows { OnOk result ((w : Word) (p : Place) → slice_get names.old.names name ≡ Some w.name
+        → TakesDefinition (define_value w p) names.old names.new graph.old graph.new p (OfValue def)) }
+    ensures fails { result ≡ Err DefineFault.MultipleDefinitions → (w : Word) (p : Place) → slice_get names.old.names name ≡ Some w.name
+        → FailsBy (act (define_value w p)) names.old graph.old (record { cause = MultipleDefinitions w.name; at = Some w.at }) }
     ensures scopes { OnErr result (names.new.values ≡ names.old.values) }
     ensures objects { OnErr result (graph.new ≡ graph.old) }
     ensures rest { (names.new.names ≡ names.old.names) × (names.new.labels ≡ names.old.labels) }

@@ -23,7 +23,7 @@ use Rattle.irtext_grammar.specs.Graphs.Build.{put}
 use Rattle.irtext_read.specs.MustRead.{MustRead, MayRead}
 use Rattle.irtext_read.proofs.SetBack.{set_within}
 use Rattle.irtext_read.proofs.Steps.{onward}
-use Rattle.irtext_context.specs.Directives.{directive_of, directives_of}
+use Rattle.irtext_formats.specs.Directives.{directive_of, directives_of}
 use Rattle.irtext_outcomes.specs.Readers.Directives.{Pieces, allowed_entry, piece_after, pieces_after}
 use Rattle.irtext_parse_formats.specs.PiecesOf.{entry_of, Allows, Adds}
 use Rattle.irtext_outcomes.specs.Readers.Operations.{RefusesAt}

@@ -12,7 +12,7 @@ use Rattle.irtext_read.specs.AttrTexts.{attr_at}
 use Rattle.irtext_read.specs.Infix.{Reader}
 use Rattle.irtext_read.specs.MustRead.{MustRead}
 use Rattle.irtext_read.specs.Tokens.{identifier_at}
-use Rattle.irtext_context.specs.Directives.{directive_of, directives_of, format_of}
+use Rattle.irtext_formats.specs.Directives.{directive_of, directives_of, format_of}
 use Rattle.irtext_context.specs.declared.dialect.OpInfo.{OpInfo}
 use Rattle.irtext_base.specs.declared.format.Directive.{Directive}
 use Rattle.irtext_grammar.specs.Names.Acts.{may_hold}

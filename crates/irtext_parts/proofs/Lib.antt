@@ -1,2 +1,4 @@
-mod Pushed
 mod Preds
+mod Unions
+mod FirstResults
+mod Gathered

@@ -10,6 +10,7 @@ ghost use Rattle.irtext_graph.specs.Parts.{arguments, operations_in, ValueStands
 ghost use Rattle.irtext_graph.specs.Used.{IsUse};
 ghost use Rattle.irtext_parts.specs.Lists.{each, ArePreds};
 
+use crate::gather::gather;
 use crate::value::UseSite;
 use irtext_graph::arena::Ptr;
 use irtext_graph::held::HasGraph;
@@ -74,11 +75,7 @@ impl BlockParts for Ptr<BasicBlock> {
 
     fn arguments<C: HasGraph>(self, ctx: &C) -> Result<Vec<Value>, AllocError> {
         let count = self.get_num_arguments(ctx);
-        let mut all = Vec::with_capacity(ctx.graph().allocator(), count)?;
-        for i in 0..count {
-            all.push(Value::Argument(self, i))?;
-        }
-        Ok(all)
+        gather(ctx.graph().allocator(), count, |i| Value::Argument(self, i))
     }
 
     fn has_pred<C: HasGraph>(self, ctx: &C) -> bool {
@@ -102,10 +99,10 @@ impl BlockParts for Ptr<BasicBlock> {
 
     fn operations<C: HasGraph>(self, ctx: &C) -> Result<Vec<Ptr<Operation>>, AllocError> {
         let count = self.num_operations(ctx);
-        let mut all = Vec::with_capacity(ctx.graph().allocator(), count)?;
-        for i in 0..count {
-            all.push(self.get_operation(ctx, i))?;
-        }
-        Ok(all)
+        gather(
+            ctx.graph().allocator(),
+            count,
+            |i| self.get_operation(ctx, i),
+        )
     }
 }

@@ -2,6 +2,7 @@
 #![tactic(auto)]
 
 pub mod block;
+mod gather;
 pub mod operation;
 pub mod region;
 pub mod value;

@@ -2,7 +2,7 @@
 
 use crate::{Ctx, Fault};
 use irtext_types::DemoAttr;
-use pliron_text::base::{Context, Identifier, NewOperation, OpId, Operation};
+use pliron_text::base::{Context, Identifier, NewBareOperation, OpId, Operation};
 use pliron_text::dialect::{Dialect, DialectName};
 use pliron_text::format::OpFormat;
 use pliron_text::result::{Cause, Error, Result as Answer};

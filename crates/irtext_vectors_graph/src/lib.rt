@@ -24,6 +24,8 @@ mod places;
 #[cfg(test)]
 mod random;
 #[cfg(test)]
+mod results;
+#[cfg(test)]
 mod script;
 #[cfg(test)]
 mod used;

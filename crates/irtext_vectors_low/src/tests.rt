@@ -6,4 +6,6 @@ mod edges;
 mod formats;
 mod lists;
 mod locations;
+mod made;
 mod nested;
+mod unique;

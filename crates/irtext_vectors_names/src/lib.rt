@@ -1,7 +1,18 @@
-//! Worked rows of names over a graph: values and labels that are used before they are defined.
+//! Worked rows of names over a graph: values and labels that are used before they are defined, regions, and memory that is refused;
+//! and a random script beside a plain model.
 #![tactic(auto)]
 
 #[cfg(test)]
-mod branch;
+mod held;
 #[cfg(test)]
-mod early;
+mod memory;
+#[cfg(test)]
+mod model;
+#[cfg(test)]
+mod random;
+#[cfg(test)]
+mod rows;
+#[cfg(test)]
+mod script;
+#[cfg(test)]
+mod steps;

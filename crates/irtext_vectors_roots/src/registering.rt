@@ -2,7 +2,7 @@
 ghost use Rattle.std.specs.Prelude.{◌≡◌, ◌⊎◌, OnOk, OnErr};
 ghost use Rattle.irtext_context.specs.Dialects.{with_op};
 ghost use Rattle.irtext_context.specs.DialectTable.{dialect_or_new, with_dialect};
-ghost use Rattle.irtext_context.specs.Directives.{format_of};
+ghost use Rattle.irtext_formats.specs.Directives.{format_of};
 
 use pliron_text::base::{Context, OpId};
 use pliron_text::dialect::{Dialect, DialectName};

@@ -2,7 +2,7 @@
 
 pub use irtext_base::base::{AttrObj, GIVEN_NAMES_KEY, Identifier, OpId, Refusal, SYM_NAME_KEY};
 pub use irtext_context::base::{
-    BasicBlock, BlockAccess, Context, NewOperation, Operation, OperationAccess, Ptr, Region,
+    BasicBlock, BlockAccess, Context, NewBareOperation, Operation, OperationAccess, Ptr, Region,
 };
 pub use irtext_dict::base::AttributeDict;
 pub use irtext_graph::object::{Site, Value};
@@ -10,3 +10,4 @@ pub use irtext_parts::block::BlockParts;
 pub use irtext_parts::operation::OperationParts;
 pub use irtext_parts::region::RegionParts;
 pub use irtext_parts::value::{UseSite, ValueUses};
+pub use irtext_unique::UniqueName;

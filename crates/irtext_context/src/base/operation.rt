@@ -1,18 +1,22 @@
 //! Operations: what a context holds of one, and how it is read and written.
-ghost use Rattle.std.specs.Prelude.{◌≡◌, ◌≤◌, ℕ, Some, None, false, IsSome, IfErr, OnOk, OnErr, option_map, option_and_then};
+ghost use Rattle.std.specs.Prelude.{◌≡◌, ◌≤◌, ℕ, Some, None, false, IsSome, IfOk, IfErr, OnOk, OnErr, option_map, option_and_then};
 ghost use Rattle.irtext_dict.specs.Dictionary.{is_reserved_for, RefusesEntry};
 ghost use Rattle.irtext_graph.specs.Parts.{operation_at};
 ghost use Rattle.irtext_graph.specs.Store.{before};
-ghost use Rattle.irtext_context.specs.Context.{operation, with_attribute, with_loc, EditsOperation, KeepsOlder};
+ghost use Rattle.irtext_context.specs.Context.{operation, with_attribute, with_loc, AddsRegion, EditsOperation, KeepsOlder};
 
+mod bare;
 mod make;
 
-use crate::base::{Context, Operation, Ptr};
+use crate::base::context::making::Making;
+use crate::base::{Context, Operation, Ptr, Region};
+pub use bare::NewBareOperation;
 use irtext_base::base::{AttrObj, Identifier, OpId, Refusal};
 use irtext_base::location::Location;
 use irtext_base::text::{AttrText, IrText};
 use irtext_dict::base::AttributeDict;
 pub use make::{NewOperation, add_regions};
+use std::alloc::AllocError;
 
 /// What a context holds of an operation, beside its operands, successors, results and regions.
 #[derive(Drop)]
@@ -82,6 +86,18 @@ pub trait OperationAccess: Sized {
         ensures err { OnErr result (ctx.new ≡ ctx.old) }
         ensures refused { IfErr result (RefusesEntry key attr) }
         ensures kept { (mark : ℕ) → before mark ctx.old.graph.operations (pointer self) ≡ None → KeepsOlder mark ctx.old ctx.new };
+
+    /// Adds an empty region to the operation, behind those that it has, and changes nothing else. Where memory is refused, or a
+    /// counter is full, nothing changes.
+    fn add_region<T: IrText<A>, A: AttrText>(
+        self,
+        ctx: &mut Context<T, A>,
+    ) -> Result<Ptr<Region>, AllocError>
+        requires { IsSome (operation ctx.old (pointer self)) }
+        ensures added { IfOk result (λ r. AddsRegion ctx.old ctx.new (pointer self) r) }
+        ensures err { OnErr result (ctx.new ≡ ctx.old) }
+        ensures kept { (mark : ℕ) → mark ≤ ctx.old.graph.made → before mark ctx.old.graph.operations (pointer self) ≡ None →
+            KeepsOlder mark ctx.old ctx.new };
 }
 
 impl OperationAccess for Ptr<Operation> {
@@ -119,5 +135,12 @@ impl OperationAccess for Ptr<Operation> {
             Some(held) => held.attributes.insert(key, attr),
             None => unreachable!(),
         }
+    }
+
+    fn add_region<T: IrText<A>, A: AttrText>(
+        self,
+        ctx: &mut Context<T, A>,
+    ) -> Result<Ptr<Region>, AllocError> {
+        ctx.add_region(self)
     }
 }

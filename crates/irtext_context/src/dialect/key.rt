@@ -3,10 +3,10 @@ ghost use Rattle.std.specs.Prelude.{◌≡◌, IfSome};
 ghost use Rattle.irtext_base.specs.Format.{sym_name_key};
 
 use crate::dialect::OpInfo;
-use crate::format::parts;
-use crate::format::parts::Sole;
 use irtext_base::base::Identifier;
 use irtext_base::format::OpFormat;
+use irtext_formats::format::parts;
+use irtext_formats::format::parts::Sole;
 use std::alloc::{AllocError, Global};
 use std::marker::Model;
 

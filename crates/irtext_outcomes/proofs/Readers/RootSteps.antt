@@ -120,9 +120,9 @@ module _ {T A : Type 0} where
     pub dialects : new.dialects ≡ old.dialects
 
   -- an operation that was made without regions
-  made_stands : {old new : ContextView T A} {op : Ptr Operation} (held : OperationData A) → MakesOperation old new op held → Stood old new op (made_view held)
+  made_stands : {old new : ContextView T A} {op : Ptr Operation} (held : OperationData A) → MakesOperation old new op held [] [] [] → Stood old new op (made_view held [])
   made_stands {old = old} {new = new} {op = op} held m = record {
-    here = made_seen old new op held m;
+    here = made_seen old new op held [] m;
     op_new = inserted_new m.graph.operations;
     operations = m.graph.operations.updates.others;
     blocks = m.graph.blocks;
@@ -273,12 +273,12 @@ module _ {T A : Type 0} (attr : Text → Outcome (AttrView A)) where
   applied_paths marks (e ∷ es) old new (mid, h, k) = applied_one (lookup (same_index e.0) marks) e.1 mid new k ∙ applied_paths marks es old mid h
 
   -- what stands behind an operation is what is built of it
-  built_stands : {old new : ContextView T A} {op : Ptr Operation} (n : ℕ) (id : OpId) (attributes : List (Text × AttrObj A)) (rs : List (Ptr Region)) (loc : Location A) → length rs ≡ n → Stood old new op (record (made_view (held_of id attributes loc)) { regions = rs })
+  built_stands : {old new : ContextView T A} {op : Ptr Operation} (n : ℕ) (id : OpId) (attributes : List (Text × AttrObj A)) (rs : List (Ptr Region)) (loc : Location A) → length rs ≡ n → Stood old new op (record (made_view (held_of id attributes loc) []) { regions = rs })
       → held_root new op ≡ Some (operation_built (id_of id) (record { attributes = entries_of attributes; regions = n }) (location_over new.paths loc))
   built_stands {new = new} n id attributes rs loc count s =
       let count_is = bare_count rs ∙ ap bare_regions count in
       ap (option_map (built_of new.paths)) s.here
-      ∙ ap (λ regions. Some (record { own = stood_operation new.paths (record (made_view (held_of id attributes loc)) { regions = rs }); regions = regions })) count_is
+      ∙ ap (λ regions. Some (record { own = stood_operation new.paths (record (made_view (held_of id attributes loc) []) { regions = rs }); regions = regions })) count_is
 
 -- the location that entries give, over paths
 given_over-is : {A : Type 0} (paths : List (List ℕ)) (loc : Location A) (es : List (ℕ × Option (Location A))) → location_over paths (location_given loc es) ≡ location_given (location_over paths loc) (entries_over paths es)
@@ -318,12 +318,12 @@ module _ {T A U : Type 0} (attr : Text → Outcome (AttrView A)) (op : Ptr Opera
   pub marks_are : marks_of mid.state ≡ noted r.read.mark op
   marks_are = r.marks ∙ ap (λ ms. ms ++ noted r.read.mark op) fresh.marks
 
-  operation_stands : WithRegions r.read.pieces.regions old.state.ctx.now mid.state.ctx.now op (made_view (held_of r.id r.attributes loc))
+  operation_stands : WithRegions r.read.pieces.regions old.state.ctx.now mid.state.ctx.now op (made_view (held_of r.id r.attributes loc) [])
   operation_stands = regions_stand r.read.pieces.regions refl (made_stands (held_of r.id r.attributes loc) r.makes.makes) r.makes.adds
 
   -- the operation as it was made, with this location
   abbrev view_at : Location A → OperationView T A
-  view_at l = record (made_view (held_of r.id r.attributes l)) { regions = operation_stands.regions }
+  view_at l = record (made_view (held_of r.id r.attributes l) []) { regions = operation_stands.regions }
 
   root_with : (es : List (ℕ × Option (Location A))) → SectionStands attr r.read.mark (entries_over new.state.ctx.now.paths es) mid.stream.rest new.stream.rest → Moves mid.stream new.stream → marks_of new.state ≡ []
       → Stood old.state.ctx.now new.state.ctx.now op (view_at (location_given loc es)) → ReadsRoot attr op old new

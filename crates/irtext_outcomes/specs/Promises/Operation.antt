@@ -1,5 +1,5 @@
 -- For callers: what reading an operation does to the context.
-use Rattle.std.specs.Prelude.{◌≡◌, ℕ, Ok, Err, List, ◌++◌}
+use Rattle.std.specs.Prelude.{◌≡◌, ℕ, Ok, Err, List, [], ◌++◌}
 use Rattle.irtext_base.specs.Text.{Text}
 use Rattle.irtext_base.specs.Answers.{Outcome}
 use Rattle.irtext_context.specs.Context.{ContextView, MakesOperation}
@@ -29,7 +29,7 @@ operation_at dialects attr marks text = operation_by dialects attr (fresh_mark_a
 -- an operation with these attributes and this location came to stand under a new pointer, and then as many regions in it
 pub record MakesWith {T A : Type 0} (id : OpId) (attributes : List (Text × AttrObj A)) (loc : Location A) (regions : ℕ) (op : Ptr Operation) (old new : ContextView T A) : Type 0 where
   pub middle : ContextView T A
-  pub makes : MakesOperation old middle op (held_of id attributes loc)
+  pub makes : MakesOperation old middle op (held_of id attributes loc) [] [] []
   pub adds : AddsRegions regions middle new op
 
 module _ {T A U : Type 0} where

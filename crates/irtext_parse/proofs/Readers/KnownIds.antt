@@ -14,7 +14,7 @@ use Rattle.irtext_base.specs.declared.base.identifier.OpId.{OpId}
 use Rattle.irtext_base.specs.declared.parsable.fault.ParseFault.{ParseFault}
 use Rattle.irtext_base.proofs.Compose.{seen_after, takes_more, takes_stands, starves_behind}
 use Rattle.irtext_context.specs.Dialects.{Known, Table, known_of, same_id}
-use Rattle.irtext_context.specs.Directives as directives
+use Rattle.irtext_formats.specs.Directives as directives
 use Rattle.irtext_context.specs.DialectTable.{dialect_of, registered}
 use Rattle.irtext_context.specs.Named.{id_of_texts}
 use Rattle.irtext_context.specs.declared.dialect.OpInfo.{OpInfo}

@@ -10,7 +10,7 @@ use Rattle.irtext_base.specs.Locations.{AttrView}
 use Rattle.irtext_base.specs.declared.parsable.fault.ParseFault.{ParseFault}
 use Rattle.irtext_context.specs.DialectTable.{registered}
 use Rattle.irtext_context.specs.Dialects.{Table, known_of}
-use Rattle.irtext_context.specs.Directives.{format_of}
+use Rattle.irtext_formats.specs.Directives.{format_of}
 use Rattle.irtext_context.specs.declared.dialect.OpInfo.{OpInfo}
 use Rattle.irtext_read.specs.MustRead.{MayRead, MustRead}
 use Rattle.irtext_read.specs.Tokens.{id_at}

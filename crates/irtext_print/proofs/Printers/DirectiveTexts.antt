@@ -1,7 +1,7 @@
 -- What directives write, one behind the other, as it is appended.
 use Rattle.std.proofs.Common.{◌≡◌, ◌≤◌, ◌++◌, ◌∙◌, ℕ, List, ◌∷◌, Bool, refl, sym, ap, arith}
 use Rattle.std.specs.Str.{encode_utf8_all}
-use Rattle.irtext_context.specs.Directives.{directive_of, directives_of}
+use Rattle.irtext_formats.specs.Directives.{directive_of, directives_of}
 use Rattle.irtext_base.specs.Format as format
 use Rattle.irtext_base.specs.Format.{Directive}
 use Rattle.irtext_base.specs.Text.{Text}

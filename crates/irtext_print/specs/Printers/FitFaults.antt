@@ -8,7 +8,7 @@ use Rattle.irtext_base.specs.Format.{Directive, count, keys, is_dictionary}
 use Rattle.irtext_base.specs.declared.base.attributes.AttrObj.{AttrObj}
 use Rattle.irtext_base.specs.declared.format.Directive as code
 use Rattle.irtext_context.specs.Context.{OperationView}
-use Rattle.irtext_context.specs.Directives.{directives_of}
+use Rattle.irtext_formats.specs.Directives.{directives_of}
 use Rattle.irtext_grammar.specs.Contexts.Held.{entries_of}
 use Rattle.irtext_grammar.specs.Grammar.Tree.{Attribute}
 use Rattle.irtext_grammar.specs.Graphs.Graph.{Printing, lookup, outlined}

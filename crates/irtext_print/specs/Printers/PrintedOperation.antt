@@ -14,7 +14,7 @@ use Rattle.irtext_base.specs.declared.text.AttrText as attr_text
 use Rattle.irtext_base.specs.declared.text.IrText as ir_text
 use Rattle.irtext_base.specs.declared.base.attributes.AttrObj.{AttrObj}
 use Rattle.irtext_base.specs.declared.format.Directive as code
-use Rattle.irtext_context.specs.Directives.{directives_of}
+use Rattle.irtext_formats.specs.Directives.{directives_of}
 use Rattle.irtext_context.specs.Context.{ContextView, OperationView, operation, regions_in}
 use Rattle.irtext_graph.specs.declared.arena.Ptr.{Ptr}
 use Rattle.irtext_graph.specs.declared.object.Operation.{Operation}

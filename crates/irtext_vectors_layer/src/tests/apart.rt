@@ -2,14 +2,14 @@
 //! back over the other.
 ghost use Rattle.std.specs.Prelude.{◌≡◌, [], IfOk, OnOk, codes};
 ghost use Rattle.irtext_base.specs.Format as format;
-ghost use Rattle.irtext_context.specs.Directives.{directive_of, format_of};
+ghost use Rattle.irtext_formats.specs.Directives.{directive_of, format_of};
 ghost use Rattle.irtext_vectors_layer.specs.Apart.{lab_dialects, lab_format, lab_id};
 
 use irtext_types::DemoAttr;
 use irtext_vectors_common::contexts::{Ctx, named};
 use irtext_vectors_roots::reading::concrete;
 use irtext_vectors_roots::registering::register_operation;
-use pliron_text::base::{Context, NewOperation, OpId, Operation, Ptr};
+use pliron_text::base::{Context, NewBareOperation, OpId, Operation, Ptr};
 use pliron_text::dialect::DialectName;
 use pliron_text::format::{Directive, OpFormat};
 use pliron_text::laws::two_calls::printed_and_read;

@@ -4,7 +4,7 @@ use irtext_vectors_common::answers::printed;
 use irtext_vectors_common::contexts::{Ctx, named};
 use irtext_vectors_common::tables::differing_alone;
 use irtext_vectors_roots::registering::register_operation;
-use pliron_text::base::{NewOperation, OpId, Operation, Ptr};
+use pliron_text::base::{NewBareOperation, OpId, Operation, Ptr};
 use pliron_text::dialect::{Dialect, DialectName};
 use pliron_text::format::OpFormat;
 use pliron_text::parsable::{Parsable, parse_from_str};

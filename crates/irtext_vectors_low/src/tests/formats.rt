@@ -3,7 +3,7 @@ use irtext_base::base::{Identifier, OpId};
 use irtext_base::format::{FormatFault, OpFormat};
 use irtext_base::result::Result as Answer;
 use irtext_context::dialect::{Dialect, DialectName};
-use irtext_context::format::check_format;
+use irtext_formats::format::check_format;
 use irtext_types::DemoAttr;
 use irtext_vectors_common::contexts::named;
 use irtext_vectors_common::formats::format_of;

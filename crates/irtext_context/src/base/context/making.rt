@@ -32,7 +32,7 @@ pub trait Making<T: IrText<A>, A: AttrText> {
         ensures older { AllOlder result (seen self.now).graph }
         ensures closed { IsClosedBelow result (seen self.now).graph };
 
-    /// Makes an operation without results and regions. Where memory is refused, or a counter is full, nothing changes.
+    /// Makes an operation without results, operands, successors and regions. Where memory is refused, or a counter is full, nothing changes.
     fn make_operation(
         &mut self,
         id: OpId,
@@ -40,7 +40,7 @@ pub trait Making<T: IrText<A>, A: AttrText> {
         loc: Location<A>,
     ) -> Result<Ptr<Operation>, AllocError>
         ensures made { IfOk result (λ p. MakesOperation (seen self.old) (seen self.new) p
-            (record { id = id; attributes = attributes; loc = loc })) }
+            (record { id = id; attributes = attributes; loc = loc }) [] [] []) }
         ensures err { OnErr result (seen self.new ≡ seen self.old) }
         ensures kept { (mark : ℕ) → mark ≤ (seen self.old).graph.made → KeepsOlder mark (seen self.old) (seen self.new) };
 
@@ -95,7 +95,7 @@ impl<T: IrText<A>, A: AttrText> Making<T, A> for Context<T, A> {
         loc: Location<A>,
     ) -> Result<Ptr<Operation>, AllocError>
         ensures made { IfOk result (λ p. MakesOperation self.old self.new p
-            (record { id = id; attributes = attributes; loc = loc })) }
+            (record { id = id; attributes = attributes; loc = loc }) [] [] []) }
         ensures err { OnErr result (self.new ≡ self.old) }
         ensures kept { (mark : ℕ) → mark ≤ self.old.graph.made → KeepsOlder mark self.old self.new }
     {

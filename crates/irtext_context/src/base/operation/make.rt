@@ -3,13 +3,15 @@ ghost use Rattle.std.specs.Prelude.{◌≡◌, ◌≤◌, ◌⊎◌, ℕ, None, 
 ghost use Rattle.irtext_graph.specs.Graph.{Stands};
 ghost use Rattle.irtext_graph.specs.Store.{before};
 ghost use Rattle.irtext_graph.specs.declared.object.Object.TheVariants.{TheOperation};
-ghost use Rattle.irtext_context.specs.Context.{KeepsOlder};
+ghost use Rattle.irtext_context.specs.Context.{KeepsOlder, MakesOperation};
 ghost use Rattle.irtext_context.specs.DialectTable.{registered};
-ghost use Rattle.irtext_context.specs.Made.{IsUnregistered, AddsRegions, MakesWithRegions, SameObjects};
+ghost use Rattle.irtext_context.specs.Made.{bare, AddsRegions, BlocksStand, IsUnregistered, MakesWithRegions, SameObjects, ValuesStand};
 ghost use Rattle.irtext_base.specs.declared.location.Location.{Unknown};
 
 use crate::base::context::making::Making;
-use crate::base::{Context, Operation, Ptr};
+use crate::base::operation::OperationData;
+use crate::base::types::known_types;
+use crate::base::{BasicBlock, Context, Operation, Ptr, Value};
 use crate::dialect::invalid;
 use irtext_base::base::OpId;
 use irtext_base::location::Location;
@@ -17,6 +19,7 @@ use irtext_base::result;
 use irtext_base::result::{Cause, ErrorKind};
 use irtext_base::text::{AttrText, IrText};
 use irtext_dict::base::AttributeDict;
+use irtext_few::Few;
 use std::alloc::AllocError;
 
 /// Adds as many empty regions to an operation. Those that were added stay where memory is refused or a counter is full.
@@ -35,32 +38,68 @@ pub fn add_regions<T: IrText<A>, A: AttrText>(
     Ok(())
 }
 
-/// An operation with as many regions. What was made stays where memory is refused.
+/// An operation with results of these types, which uses these values and these blocks, without regions, attributes and a location.
+/// Where memory is refused or a counter is full, nothing changes.
+fn make_alone<T: IrText<A>, A: AttrText>(
+    ctx: &mut Context<T, A>,
+    id: OpId,
+    result_types: Few<T>,
+    operands: &[Value],
+    successors: &[Ptr<BasicBlock>],
+) -> Result<Ptr<Operation>, AllocError>
+    requires operands { ValuesStand ctx.old operands.now }
+    requires successors { BlocksStand ctx.old successors.now }
+    ensures made { IfOk result (λ op. MakesOperation ctx.old ctx.new op (bare id) result_types operands.now successors.now) }
+    ensures err { OnErr result (ctx.new ≡ ctx.old) }
+    ensures kept { (mark : ℕ) → mark ≤ ctx.old.graph.made → KeepsOlder mark ctx.old ctx.new }
+{
+    let held = OperationData {
+        id,
+        attributes: AttributeDict::new(ctx.allocator()),
+        loc: Location::Unknown,
+    };
+    let types = known_types(ctx.allocator(), result_types)?;
+    ctx.graph
+        .make_operation(Some(held), types, operands, successors)
+}
+
+/// An operation with results of these types, which uses these values and these blocks, and with as many regions. What was made stays
+/// where memory is refused or a counter is full.
 fn make<T: IrText<A>, A: AttrText>(
     ctx: &mut Context<T, A>,
     id: OpId,
+    result_types: Few<T>,
+    operands: &[Value],
+    successors: &[Ptr<BasicBlock>],
     num_regions: usize,
 ) -> Result<Ptr<Operation>, AllocError>
-    ensures made { IfOk result (λ op. MakesWithRegions num_regions ctx.old ctx.new op id) }
+    requires operands { ValuesStand ctx.old operands.now }
+    requires successors { BlocksStand ctx.old successors.now }
+    ensures made { IfOk result (λ op. MakesWithRegions num_regions ctx.old ctx.new op id result_types operands.now successors.now) }
     ensures kept { (mark : ℕ) → mark ≤ ctx.old.graph.made → KeepsOlder mark ctx.old ctx.new }
 {
-    let attributes = AttributeDict::new(ctx.allocator());
-    let op = ctx.make_operation(id, attributes, Location::Unknown)?;
+    let op = make_alone(ctx, id, result_types, operands, successors)?;
     add_regions(ctx, op, num_regions)?;
     Ok(op)
 }
 
-/// How operations are made by their kind.
+/// How operations are made by their kind, with all that they have.
 pub trait NewOperation {
-    /// Makes an operation with as many regions, without results, attributes and a location. Where it isn't registered it answers
-    /// `UnregisteredDialect` or `UnregisteredOp`, else where memory is refused or a counter is full `Memory`. The error is of kind
-    /// invalid argument without a location, and all objects are as they were.
+    /// Makes an operation that stands nowhere, with results of these types, with these operands and successors, and with as many
+    /// regions, without attributes and a location. Where it isn't registered it answers `UnregisteredDialect` or `UnregisteredOp`,
+    /// else where memory is refused or a counter is full `Memory`. The error is of kind invalid argument without a location, and all
+    /// objects are as they were, what they use and what uses them too.
     fn new<T: IrText<A>, A: AttrText>(
         ctx: &mut Context<T, A>,
         id: OpId,
+        result_types: Few<T>,
+        operands: &[Value],
+        successors: &[Ptr<BasicBlock>],
         num_regions: usize,
     ) -> result::Result<Ptr<Operation>, A>
-        ensures made { IfOk result (λ op. MakesWithRegions num_regions ctx.old ctx.new op id) }
+        requires operands { ValuesStand ctx.old operands.now }
+        requires successors { BlocksStand ctx.old successors.now }
+        ensures made { IfOk result (λ op. MakesWithRegions num_regions ctx.old ctx.new op id result_types operands.now successors.now) }
         ensures registered { OnOk result (IsSome (registered ctx.old.dialects id)) }
         ensures kept { (mark : ℕ) → mark ≤ ctx.old.graph.made → KeepsOlder mark ctx.old ctx.new }
         ensures objects { OnErr result (SameObjects ctx.old ctx.new) }
@@ -73,6 +112,9 @@ impl NewOperation for Operation {
     fn new<T: IrText<A>, A: AttrText>(
         ctx: &mut Context<T, A>,
         id: OpId,
+        result_types: Few<T>,
+        operands: &[Value],
+        successors: &[Ptr<BasicBlock>],
         num_regions: usize,
     ) -> result::Result<Ptr<Operation>, A> {
         let id = match ctx.known_id(id) {
@@ -80,7 +122,7 @@ impl NewOperation for Operation {
             Err(cause) => return Err(invalid(cause)),
         };
         let made = ctx.made();
-        match make(ctx, id, num_regions) {
+        match make(ctx, id, result_types, operands, successors, num_regions) {
             Ok(op) => Ok(op),
             Err(AllocError) => {
                 ctx.roll_back(made);

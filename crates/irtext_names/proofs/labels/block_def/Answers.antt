@@ -1,7 +1,10 @@
 use Rattle.std.proofs.Common.{◌∙◌, sym, refl}
 use Rattle.irtext_graph.specs.declared.object.Defined.TheVariants.{OfBlock}
 use Rattle.irtext_names.proofs.Named.{one_block, label_defined_ties, label_defined_waits}
-use Rattle.irtext_names.proofs.Pairs.{held_here, waits_here, not_itself, settles_some, settles_none}
+use Rattle.irtext_scopes.specs.Scopes.{find, innermost}
+use Rattle.irtext_scopes.specs.declared.scopes.DefineFault.TheVariants.{MultipleDefinitions}
+use Rattle.irtext_names.proofs.Linked.Definitions.{takes_label_definition, label_twice}
+use Rattle.irtext_names.proofs.Pairs.{held_here, waits_here, not_itself, settles_some, settles_none, waits_free, accepted_free, handed_on, same_refusal}
 use Rattle.irtext_names.proofs.labels.block_def.Goals as goal
 
 pub settle-requires-clause-placeholder : goal.settle-requires-clause-placeholder
@@ -43,3 +46,19 @@ returns-in_default-clause-tied g c =
 pub returns-in_default-clause-waiting : goal.returns-in_default-clause-waiting
 returns-in_default-clause-waiting g c =
     label_defined_waits c.args.names.now.values c.block_def.new.self.values c.args.names.now.labels c.block_def.new.self.labels c.requires.tied c.args.name c.args.def (returns-in_default-clause-defines g c) c.block_def.ensures.rest.1
+
+pub returns-in-Some-clause-follows : goal.returns-in-Some-clause-follows
+returns-in-Some-clause-follows g c = λ w p is.
+    takes_label_definition c.args.names.now c.args.graph.now c.args.name w p is c.block_def.new.self c.args.def c.block_def.ensures.rest.0 c.block_def.ensures.rest.1 (returns-in-Some-clause-tied g c) c.requires.open
+    (waits_free (find c.args.name (innermost c.args.names.now.labels)) c.in-Some.placeholder (sym c.in_ok-placeholder.ensures.placeholder ∙ c.in-Some.is))
+    (returns-in-Some-clause-defines g c)
+
+pub returns-in_default-clause-follows : goal.returns-in_default-clause-follows
+returns-in_default-clause-follows g c = λ w p is.
+    takes_label_definition c.args.names.now c.args.graph.now c.args.name w p is c.block_def.new.self c.args.def c.block_def.ensures.rest.0 c.block_def.ensures.rest.1 (returns-in_default-clause-tied g c) c.requires.open
+    (accepted_free c.block_def.result MultipleDefinitions c.in_ok-placeholder.field-0 (find c.args.name (innermost c.args.names.now.labels)) c.in_ok-placeholder.was c.block_def.ensures.twice.1)
+    (returns-in_default-clause-defines g c)
+
+pub returns-in_err-placeholder-clause-fails : goal.returns-in_err-placeholder-clause-fails
+returns-in_err-placeholder-clause-fails g c = λ e w p is. label_twice c.args.names.now c.args.graph.now c.args.name w p is c.requires.open
+    (c.block_def.ensures.twice.0 (same_refusal c.block_def.result c.from_residual.result c.in_err-placeholder.field-0.0 MultipleDefinitions c.in_err-placeholder.was (handed_on c.from_residual.result c.from_residual.ensures.1) e))

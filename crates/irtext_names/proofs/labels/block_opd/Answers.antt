@@ -1,10 +1,11 @@
-use Rattle.std.proofs.Common.{◌∙◌, sym, arith}
+use Rattle.std.proofs.Common.{◌∙◌, refl, sym, arith}
 use Rattle.irtext_graph.specs.declared.object.Defined.TheVariants.{OfBlock}
 use Rattle.irtext_graph.proofs.Closed.{closed_kept, older_on}
 use Rattle.irtext_names.proofs.Gained.{back_again, made_label, block_same, block_placeholder, block_new}
 use Rattle.irtext_names.proofs.Loses.{loses_one}
 use Rattle.irtext_names.proofs.Named.{before_ties, label_made_ties, label_made_waits}
-use Rattle.irtext_names.proofs.Pairs.{there_here, accepted, refused, unknown_here}
+use Rattle.irtext_names.proofs.Linked.Uses.{takes_label_use}
+use Rattle.irtext_names.proofs.Pairs.{there_here, accepted, refused, unknown_here, uses_known, uses_new}
 use Rattle.irtext_names.proofs.labels.block_opd.Goals as goal
 
 pub returns-in-Some-clause-there : goal.returns-in-Some-clause-there
@@ -48,3 +49,16 @@ returns-clause-waiting g c = λ n own up.
     label_made_waits c.args.names.now.values c.block_forward.new.self.values c.args.names.now.labels c.block_forward.new.self.labels c.requires.tied c.args.name v
     (accepted c.block_forward.result c.is_err.result c.is_err.ensures.value c.if-is_err.false c.block_forward.ensures.ok) c.block_forward.ensures.rest.1 (loses_one (OfBlock v) p (block_same c.args.value v m)) p c.requires.open
     (unknown_here c.block_use.result c.in_default.not-Some c.block_use.ensures.unknown) n own (block_new c.args.value v m n up)
+
+pub returns-in-Some-clause-follows : goal.returns-in-Some-clause-follows
+returns-in-Some-clause-follows g c = λ w u is.
+    takes_label_use c.args.names.now c.args.names.now c.args.name w u is refl c.requires.tied c.args.value c.in-Some.block c.requires.open refl
+    (uses_known c.args.name c.in-Some.block c.args.names.now.labels c.args.graph.now (sym c.block_use.ensures.value ∙ c.in-Some.is))
+
+pub returns-clause-follows : goal.returns-clause-follows
+returns-clause-follows g c = λ w u is.
+    let v = c.in_ok-block.block in
+    let m = made_label c.args.value v c.none.result c.none.ensures c.in_ok-block.ensures.made in
+    takes_label_use c.args.names.now c.block_forward.new.self c.args.name w u is c.block_forward.ensures.rest.0 (returns-clause-tied g c) c.args.value v c.requires.open c.block_forward.ensures.rest.1
+    (uses_new c.args.name v c.args.names.now.labels c.block_forward.new.self.labels c.args.graph.now c.make_block.new.self (unknown_here c.block_use.result c.in_default.not-Some c.block_use.ensures.unknown)
+    (accepted c.block_forward.result c.is_err.result c.is_err.ensures.value c.if-is_err.false c.block_forward.ensures.ok) m)

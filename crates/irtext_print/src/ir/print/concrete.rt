@@ -3,7 +3,7 @@ ghost use Rattle.std.specs.Prelude.{◌≡◌, OnOk, IfErr, IsSome, option_map};
 ghost use Rattle.irtext_print.specs.Printers.Appended.{AppendsText};
 ghost use Rattle.irtext_base.specs.Causes.{id_text};
 ghost use Rattle.irtext_context.specs.Context.{operation};
-ghost use Rattle.irtext_context.specs.Directives.{directives_of};
+ghost use Rattle.irtext_formats.specs.Directives.{directives_of};
 ghost use Rattle.irtext_base.specs.Faults.{id_of};
 ghost use Rattle.irtext_print.specs.Printers.ConcreteText as concrete;
 ghost use Rattle.irtext_grammar.specs.Contexts.Formats.{format_of};

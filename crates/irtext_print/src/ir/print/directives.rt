@@ -1,7 +1,7 @@
 //! What the directives of a format write.
 ghost use Rattle.std.specs.Prelude.{◌≡◌, OnOk, IfOk, IfErr, IsOk};
 ghost use Rattle.irtext_print.specs.Printers.Appended.{AppendsText};
-ghost use Rattle.irtext_context.specs.Directives.{directive_of, directives_of};
+ghost use Rattle.irtext_formats.specs.Directives.{directive_of, directives_of};
 ghost use Rattle.irtext_print.specs.Printers.PieceText as pieces;
 ghost use Rattle.irtext_grammar.specs.Contexts.Held.{entries_of};
 ghost use Rattle.irtext_print.specs.declared.printable.refusal.Refusal.TheVariants as refusal;

@@ -1,7 +1,7 @@
 //! Whether an operation fits its format, where that names no value, block or type, and why not.
 ghost use Rattle.std.specs.Prelude.{◌≡◌, ◌==◌, not, length, is_ok, is_some, option_copied, IfErr, IsSome, Some, None};
 ghost use Rattle.std.specs.List.{list_all};
-ghost use Rattle.irtext_context.specs.Directives.{directive_of, directives_of};
+ghost use Rattle.irtext_formats.specs.Directives.{directive_of, directives_of};
 ghost use Rattle.irtext_base.specs.Format as format;
 ghost use Rattle.irtext_base.specs.Format.{count, region_places};
 ghost use Rattle.irtext_context.specs.Context.{operation};

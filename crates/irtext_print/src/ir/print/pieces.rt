@@ -2,7 +2,7 @@
 ghost use Rattle.std.specs.Prelude.{◌≡◌, ◌++◌, ◌&&◌, [], Some, OnOk, codes, cond, not, option_copied};
 ghost use Rattle.std.specs.Str.{chars};
 ghost use Rattle.irtext_print.specs.Printers.Appended.{AppendsText};
-ghost use Rattle.irtext_context.specs.Directives.{directive_of, directives_of};
+ghost use Rattle.irtext_formats.specs.Directives.{directive_of, directives_of};
 ghost use Rattle.irtext_base.specs.Format.{sym_name_key};
 ghost use Rattle.irtext_base.specs.Text.{begins};
 ghost use Rattle.irtext_grammar.specs.Graphs.Graph as graph;

@@ -1,4 +1,4 @@
-use Rattle.std.proofs.Common.{◌++◌, ◌∷◌, ◌∙◌, sym, ap, [], Some, append_assoc, append-nil}
+use Rattle.std.proofs.Common.{◌++◌, ◌∷◌, ◌∙◌, sym, ap, [], Some, append_assoc}
 use Rattle.irtext_context.specs.Context.{known}
 use Rattle.irtext_context.proofs.base.types.many_known_types.Goals as goal
 

@@ -1,8 +1,7 @@
+use Rattle.std.proofs.Common.{rules}
 use Rattle.irtext_graph.specs.Parts.{regions}
-use Rattle.irtext_parts.proofs.Pushed.{pushed_next}
+use Rattle.irtext_parts.proofs.Gathered.{gathered}
 use Rattle.irtext_parts.proofs.operation.PtrOperationOperationParts.regions.Goals as goal
 
-pub loop-i-preserved : goal.loop-i-preserved
-loop-i-preserved g c = record {
-  read = pushed_next (regions (g.C.HasGraph.graph c.args.ctx.now) c.args.self) c.loop-i.i c.get_region.result c.loop-i.all.items c.push.new.self.items c.get_region.ensures c.loop-i.invariant.read c.in_ok-push.ensures.items;
-}
+pub returns : goal.returns
+returns g c = gathered (λ all. all.items) c.num_regions-count.result (regions (g.C.HasGraph.graph c.args.ctx.now) c.args.self) c.gather.result c.gather.ensures c.num_regions-count.ensures (λ i x less e. search rules)

@@ -1,16 +1,13 @@
-use Rattle.std.proofs.Common.{◌∷◌, ◌∙◌, ap, [], map}
-use Rattle.std.proofs.lemmas.List.{map-append}
+use Rattle.std.proofs.Common.{◌≡◌, ◌∙◌, sym, rules, Some, map, slice_get}
+use Rattle.std.specs.Option.{option_map}
+use Rattle.std.proofs.lemmas.List.{length-map}
 use Rattle.std.proofs.lemmas.Option.{slice_get-map}
 use Rattle.irtext_graph.specs.Parts.{results}
-use Rattle.irtext_parts.proofs.Pushed.{pushed_next}
+use Rattle.irtext_parts.proofs.Gathered.{gathered_seen}
 use Rattle.irtext_parts.proofs.operation.PtrOperationOperationParts.result_types.Goals as goal
 
-pub loop-i-preserved : goal.loop-i-preserved
-loop-i-preserved g c =
+pub returns : goal.returns
+returns g c =
     let xs = results (g.C.HasGraph.graph c.args.ctx.now) c.args.self in
-    record {
-      read = pushed_next (map (λ v. v.of_type) xs) c.loop-i.i c.get_type.result.now (map (λ t. t.now) c.loop-i.all.items) (map (λ t. t.now) c.push.new.self.items)
-          (slice_get-map (λ v. v.of_type) xs c.loop-i.i ∙ c.get_type.ensures)
-          c.loop-i.invariant.read
-          (ap (map (λ t. t.now)) c.in_ok-push.ensures.items ∙ map-append (λ t. t.now) c.loop-i.all.items (c.get_type.result ∷ []));
-    }
+    gathered_seen (λ all. all.items) c.get_num_results-count.result (λ t. t.now) (map (λ v. v.of_type) xs) c.gather.result c.gather.ensures (c.get_num_results-count.ensures ∙ sym (length-map xs (λ v. v.of_type)))
+    (λ i x less e. let typed : option_map (λ v. v.of_type) (slice_get xs i) ≡ Some x.now = search rules in slice_get-map (λ v. v.of_type) xs i ∙ typed)

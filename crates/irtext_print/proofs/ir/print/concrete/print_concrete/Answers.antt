@@ -1,6 +1,6 @@
 use Rattle.std.proofs.Common.{◌∙◌, not, sym, ap, string_bytes, option_map}
 use Rattle.irtext_context.specs.Context.{operation}
-use Rattle.irtext_context.specs.Directives.{directives_of}
+use Rattle.irtext_formats.specs.Directives.{directives_of}
 use Rattle.irtext_context.proofs.Parts.{stands_seen, regions_counted}
 use Rattle.irtext_print.specs.Printers.PrintedOperation.{language_in, printing_in}
 use Rattle.irtext_print.proofs.Printers.Appended.{then, then-err}

@@ -1,7 +1,7 @@
 use Rattle.std.proofs.Common.{◌++◌, ◌+◌, ◌∙◌, ◌∷◌, drop, sym, ap, string_bytes}
 use Rattle.std.proofs.lemmas.List.{drop_more}
 use Rattle.std.specs.Str.{encode_utf8_all}
-use Rattle.irtext_context.specs.Directives.{directive_of, directives_of}
+use Rattle.irtext_formats.specs.Directives.{directive_of, directives_of}
 use Rattle.irtext_print.specs.Printers.PieceText.{region_text, directive_text, directives_text}
 use Rattle.irtext_grammar.specs.Contexts.Held.{entries_of}
 use Rattle.irtext_print.proofs.Printers.DirectiveTexts.{directive_more, fewer_left}

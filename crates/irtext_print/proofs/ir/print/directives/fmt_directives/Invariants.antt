@@ -1,6 +1,6 @@
 use Rattle.std.proofs.Common.{◌≡◌, ◌≤◌, ◌++◌, drop, string_bytes}
 use Rattle.std.specs.Str.{encode_utf8_all}
-use Rattle.irtext_context.specs.Directives.{directives_of}
+use Rattle.irtext_formats.specs.Directives.{directives_of}
 use Rattle.irtext_print.specs.Printers.PieceText.{region_text, directives_text}
 use Rattle.irtext_grammar.specs.Contexts.Held.{entries_of}
 use Rattle.irtext_print.proofs.ir.print.directives.fmt_directives.Given as goal

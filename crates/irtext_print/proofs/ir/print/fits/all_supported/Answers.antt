@@ -3,7 +3,7 @@ use Rattle.std.proofs.lemmas.Iterator.{YieldsList-from_slice}
 use Rattle.std.proofs.lemmas.Iterator.Search.{all_from_yields_List}
 use Rattle.std.specs.List.{list_all}
 use borrow.Author.Tests.{tests}
-use Rattle.irtext_context.specs.Directives.{directive_of}
+use Rattle.irtext_formats.specs.Directives.{directive_of}
 use Rattle.irtext_print.specs.Printers.PrintedOperation.{is_supported}
 use Rattle.irtext_print.proofs.Printers.FitsTests.{all_mapped}
 use Rattle.irtext_print.proofs.ir.print.fits.all_supported.Goals as goal

@@ -2,7 +2,7 @@ use Rattle.std.proofs.Common.{◌≡◌, ◌∙◌, Option, Some, None, sym, ap,
 use denote.Ref.{Bor}
 use Rattle.irtext_context.specs.Context.{operation}
 use Rattle.irtext_context.specs.Dialects.{Known, known_of}
-use Rattle.irtext_context.specs.Directives.{directives_of, format_of}
+use Rattle.irtext_formats.specs.Directives.{directives_of, format_of}
 use Rattle.irtext_context.specs.declared.dialect.OpInfo.{OpInfo}
 use Rattle.irtext_base.specs.Faults.{id_of}
 use Rattle.irtext_base.specs.Format as format

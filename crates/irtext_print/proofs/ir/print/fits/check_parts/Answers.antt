@@ -1,5 +1,5 @@
 use Rattle.std.proofs.Common.{◌∙◌, sym, ap, option_copied}
-use Rattle.irtext_context.specs.Directives.{directives_of}
+use Rattle.irtext_formats.specs.Directives.{directives_of}
 use Rattle.irtext_grammar.specs.Contexts.Held.{entries_of}
 use Rattle.irtext_print.proofs.Printers.FirstFaults.{unsupported, other_count, missing, no_symbol, unwritten, outlined_one, nothing}
 use Rattle.irtext_print.proofs.ir.print.fits.check_parts.Goals as goal

@@ -3,7 +3,7 @@ use Rattle.std.proofs.lemmas.Iterator.{YieldsList-from_slice}
 use Rattle.std.proofs.lemmas.Iterator.Search.{any_from_yields_List}
 use Rattle.std.specs.List.{list_any}
 use borrow.Author.Tests.{tests}
-use Rattle.irtext_context.specs.Directives.{directive_of, directives_of}
+use Rattle.irtext_formats.specs.Directives.{directive_of, directives_of}
 use Rattle.irtext_print.specs.Printers.PrintedOperation.{is_of_kind}
 use Rattle.irtext_print.proofs.Printers.FitsTests.{any_count}
 use Rattle.irtext_print.proofs.Printers.PieceTexts.{any_mapped}

@@ -1,5 +1,5 @@
 use Rattle.std.proofs.Common.{◌∙◌, sym, ap, Some, None, cond, is_some, option_copied}
-use Rattle.irtext_context.specs.Directives.{directive_of}
+use Rattle.irtext_formats.specs.Directives.{directive_of}
 use Rattle.irtext_grammar.specs.Contexts.Held.{entries_of}
 use Rattle.irtext_print.specs.Printers.FitFaults.{lacking_key}
 use Rattle.irtext_print.proofs.Printers.PieceTexts.{found_under}

@@ -1,0 +1,43 @@
+//! The making of operations that are registered, without results, operands and successors.
+ghost use Rattle.std.specs.Prelude.{◌≡◌, ◌≤◌, ◌⊎◌, ℕ, [], IsSome, IfOk, IfErr, OnOk, OnErr};
+ghost use Rattle.irtext_context.specs.Context.{KeepsOlder};
+ghost use Rattle.irtext_context.specs.DialectTable.{registered};
+ghost use Rattle.irtext_context.specs.Made.{IsUnregistered, MakesWithRegions, SameObjects};
+ghost use Rattle.irtext_base.specs.declared.location.Location.{Unknown};
+
+use crate::base::operation::NewOperation;
+use crate::base::{Context, Operation, Ptr};
+use irtext_base::base::OpId;
+use irtext_base::result;
+use irtext_base::result::{Cause, ErrorKind};
+use irtext_base::text::{AttrText, IrText};
+use irtext_few::Few;
+
+/// How operations without results, operands and successors are made by their kind.
+pub trait NewBareOperation {
+    /// Makes an operation with as many regions, without results, operands, successors, attributes and a location. Where it isn't
+    /// registered it answers `UnregisteredDialect` or `UnregisteredOp`, else where memory is refused or a counter is full `Memory`. The
+    /// error is of kind invalid argument without a location, and all objects are as they were.
+    fn new<T: IrText<A>, A: AttrText>(
+        ctx: &mut Context<T, A>,
+        id: OpId,
+        num_regions: usize,
+    ) -> result::Result<Ptr<Operation>, A>
+        ensures made { IfOk result (λ op. MakesWithRegions num_regions ctx.old ctx.new op id [] [] []) }
+        ensures registered { OnOk result (IsSome (registered ctx.old.dialects id)) }
+        ensures kept { (mark : ℕ) → mark ≤ ctx.old.graph.made → KeepsOlder mark ctx.old ctx.new }
+        ensures objects { OnErr result (SameObjects ctx.old ctx.new) }
+        ensures refused { IfErr result (λ e. (IsSome (registered ctx.old.dialects id) × (e.err ≡ Cause.Memory)) ⊎
+            IsUnregistered ctx.old.dialects id e.err) }
+        ensures kind { IfErr result (λ e. (e.kind ≡ ErrorKind.InvalidArgument) × (e.loc ≡ Unknown)) };
+}
+
+impl NewBareOperation for Operation {
+    fn new<T: IrText<A>, A: AttrText>(
+        ctx: &mut Context<T, A>,
+        id: OpId,
+        num_regions: usize,
+    ) -> result::Result<Ptr<Operation>, A> {
+        <Operation as NewOperation>::new(ctx, id, Few::none(), &[], &[], num_regions)
+    }
+}

@@ -1,0 +1,23 @@
+//! Which formats of operations read uniquely.
+ghost use Rattle.std.specs.Prelude.{◌≡◌, MatchResult};
+ghost use Rattle.irtext_base.specs.Format.{first_fault};
+ghost use Rattle.irtext_formats.specs.Directives.{format_of, condition_number};
+
+mod conditions;
+mod followers;
+pub mod parts;
+mod rules;
+
+use irtext_base::format::{FormatFault, OpFormat};
+
+/// Whether a format reads uniquely. `Canonical` does. Of directives it answers the first of the conditions `C1` to `C8` that they
+/// fail. It takes no memory.
+pub fn check_format(format: &OpFormat) -> Result<(), FormatFault>
+    ensures { MatchResult result (λ _. first_fault (format_of format.now) ≡ 0)
+        (λ fault. first_fault (format_of format.now) ≡ condition_number fault) }
+{
+    match format {
+        OpFormat::Canonical => Ok(()),
+        OpFormat::Custom(directives) => conditions::check(directives),
+    }
+}

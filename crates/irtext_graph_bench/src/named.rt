@@ -1,0 +1,303 @@
+//! Calls on names and a graph together.
+ghost use Rattle.irtext_names.specs.Tied.{AreTied};
+
+use crate::names::texts;
+use irtext_few::Few;
+use irtext_graph::arena::Ptr;
+use irtext_graph::graph::Graph;
+use irtext_graph::object::{BasicBlock, Object, Value};
+use irtext_names::labels::{block_def, block_opd};
+use irtext_names::regions::{enter_region, exit_region, no_names};
+use irtext_names::values::{ssa_def, ssa_opd};
+use irtext_scopes::tracker::NameTracker;
+use std::alloc::{AllocError, Global};
+
+type Names = NameTracker<Value, Ptr<BasicBlock>>;
+
+type Measured = Graph<Option<u32>, u32, Option<u8>>;
+
+/// What is done for each name: nothing, so that what the loops cost can be taken off; it is looked up; an operation or a block is
+/// made, and made and defined; a value or a label is used; and an operation is made that uses a value.
+#[derive(Clone, Copy)]
+pub enum Call {
+    Skip,
+    Mention,
+    Make,
+    Define,
+    Use,
+    UseBy,
+    MakeBlock,
+    DefineLabel,
+    UseLabel,
+}
+
+/// The call that a word says.
+pub fn call_of(word: &str) -> Option<Call> {
+    match word {
+        "skip" => Some(Call::Skip),
+        "mention" => Some(Call::Mention),
+        "make" => Some(Call::Make),
+        "define" => Some(Call::Define),
+        "use" => Some(Call::Use),
+        "use_by" => Some(Call::UseBy),
+        "make_block" => Some(Call::MakeBlock),
+        "define_label" => Some(Call::DefineLabel),
+        "use_label" => Some(Call::UseLabel),
+        _ => None,
+    }
+}
+
+/// Looks up a name.
+fn mention(names: &mut Names, graph: &Measured, text: &str) -> bool
+    requires { AreTied names.old.values names.old.labels graph.now }
+    ensures { AreTied names.new.values names.new.labels graph.now }
+{
+    let _graph = graph;
+    names.intern(text).is_ok()
+}
+
+/// Makes an operation with one result.
+fn make(names: &Names, graph: &mut Measured) -> bool
+    requires { AreTied names.now.values names.now.labels graph.old }
+    ensures { AreTied names.now.values names.now.labels graph.new }
+{
+    let _names = names;
+    graph
+        .make_operation(Some(2), Few::one(Some(7)), &[], &[])
+        .is_ok()
+}
+
+/// Makes an operation with one result, and defines the name of this number as that.
+fn define_number(names: &mut Names, graph: &mut Measured, name: usize) -> bool
+    requires { AreTied names.old.values names.old.labels graph.old }
+    ensures { AreTied names.new.values names.new.labels graph.new }
+{
+    if !names.has_value_scope() || name >= names.num_names() {
+        return false;
+    }
+    let Ok(made) = graph.make_operation(Some(2), Few::one(Some(7)), &[], &[]) else {
+        return false;
+    };
+    let def = Value::Result(made, 0);
+    if !graph.contains_value(def) {
+        return false;
+    }
+    ssa_def(names, graph, name, def).is_ok()
+}
+
+/// Makes an operation with one result, and defines a name as that.
+fn define(names: &mut Names, graph: &mut Measured, text: &str) -> bool
+    requires { AreTied names.old.values names.old.labels graph.old }
+    ensures { AreTied names.new.values names.new.labels graph.new }
+{
+    match names.intern(text) {
+        Ok(name) => define_number(names, graph, name),
+        Err(_) => false,
+    }
+}
+
+/// Uses a name.
+fn use_name(names: &mut Names, graph: &mut Measured, text: &str) -> bool
+    requires { AreTied names.old.values names.old.labels graph.old }
+    ensures { AreTied names.new.values names.new.labels graph.new }
+{
+    let Ok(name) = names.intern(text) else {
+        return false;
+    };
+    names.has_value_scope() && ssa_opd(names, graph, name).is_ok()
+}
+
+/// Makes an operation that uses the name of this number.
+fn use_number(names: &mut Names, graph: &mut Measured, name: usize) -> bool
+    requires { AreTied names.old.values names.old.labels graph.old }
+    ensures { AreTied names.new.values names.new.labels graph.new }
+{
+    if !names.has_value_scope() || name >= names.num_names() {
+        return false;
+    }
+    let Ok(value) = ssa_opd(names, graph, name) else {
+        return false;
+    };
+    graph
+        .make_operation(Some(1), Few::none(), &[value], &[])
+        .is_ok()
+}
+
+/// Makes an operation that uses a name.
+fn use_by(names: &mut Names, graph: &mut Measured, text: &str) -> bool
+    requires { AreTied names.old.values names.old.labels graph.old }
+    ensures { AreTied names.new.values names.new.labels graph.new }
+{
+    match names.intern(text) {
+        Ok(name) => use_number(names, graph, name),
+        Err(_) => false,
+    }
+}
+
+/// Makes a block.
+fn make_block(names: &Names, graph: &mut Measured) -> bool
+    requires { AreTied names.now.values names.now.labels graph.old }
+    ensures { AreTied names.now.values names.now.labels graph.new }
+{
+    let _names = names;
+    let Ok(_made) = graph.make_block(5, Few::none()) else {
+        return false;
+    };
+    true
+}
+
+/// Makes a block, and defines the label of this number as that.
+fn define_label_number(names: &mut Names, graph: &mut Measured, name: usize) -> bool
+    requires { AreTied names.old.values names.old.labels graph.old }
+    ensures { AreTied names.new.values names.new.labels graph.new }
+{
+    if !names.has_label_scope() || name >= names.num_names() {
+        return false;
+    }
+    let Ok(made) = graph.make_block(5, Few::none()) else {
+        return false;
+    };
+    if !graph.contains(Object::TheBlock(made)) {
+        return false;
+    }
+    block_def(names, graph, name, made).is_ok()
+}
+
+/// Makes a block, and defines a label as that.
+fn define_label(names: &mut Names, graph: &mut Measured, text: &str) -> bool
+    requires { AreTied names.old.values names.old.labels graph.old }
+    ensures { AreTied names.new.values names.new.labels graph.new }
+{
+    match names.intern(text) {
+        Ok(name) => define_label_number(names, graph, name),
+        Err(_) => false,
+    }
+}
+
+/// Uses a label.
+fn use_label(names: &mut Names, graph: &mut Measured, text: &str) -> bool
+    requires { AreTied names.old.values names.old.labels graph.old }
+    ensures { AreTied names.new.values names.new.labels graph.new }
+{
+    let Ok(name) = names.intern(text) else {
+        return false;
+    };
+    names.has_label_scope() && block_opd(names, graph, name, 0).is_ok()
+}
+
+/// Does this for one name.
+fn call_one(names: &mut Names, graph: &mut Measured, call: Call, text: &str) -> bool
+    requires { AreTied names.old.values names.old.labels graph.old }
+    ensures { AreTied names.new.values names.new.labels graph.new }
+{
+    match call {
+        Call::Skip => true,
+        Call::Mention => mention(names, graph, text),
+        Call::Make => make(names, graph),
+        Call::Define => define(names, graph, text),
+        Call::Use => use_name(names, graph, text),
+        Call::UseBy => use_by(names, graph, text),
+        Call::MakeBlock => make_block(names, graph),
+        Call::DefineLabel => define_label(names, graph, text),
+        Call::UseLabel => use_label(names, graph, text),
+    }
+}
+
+/// Does this for each name.
+fn call_all(names: &mut Names, graph: &mut Measured, call: Call, texts: &[String]) -> bool
+    requires { AreTied names.old.values names.old.labels graph.old }
+    ensures { AreTied names.new.values names.new.labels graph.new }
+{
+    let mut all = true;
+    for text in texts {
+        all = call_one(names, graph, call, text.as_str()) && all;
+    }
+    all
+}
+
+/// Enters a region with a scope of its own, makes each of these calls for all names, and leaves it.
+fn round(names: &mut Names, graph: &mut Measured, calls: &[Call], texts: &[String]) -> bool
+    requires { AreTied names.old.values names.old.labels graph.old }
+    ensures { AreTied names.new.values names.new.labels graph.new }
+{
+    let mut all = enter_region(names, graph, true).is_ok();
+    for call in calls {
+        all = call_all(names, graph, *call, texts) && all;
+    }
+    exit_region(names, graph, true);
+    all
+}
+
+/// Makes so many rounds of these calls with so many names.
+pub fn rounds(
+    alloc: Global,
+    size: usize,
+    times: usize,
+    calls: &[Call],
+) -> Result<bool, AllocError> {
+    let texts = texts(alloc, size)?;
+    let mut graph = Graph::new(alloc);
+    let mut names = no_names(alloc, &graph);
+    let mut all = true;
+    for _ in 0..times {
+        all = round(&mut names, &mut graph, calls, &texts) && all;
+    }
+    Ok(all)
+}
+
+/// Leaves so many regions.
+fn leave_all(names: &mut Names, graph: &Measured, size: usize) -> bool
+    requires { AreTied names.old.values names.old.labels graph.now }
+{
+    let mut all = true;
+    for _ in 0..size {
+        all = exit_region(names, graph, true).is_none() && all;
+    }
+    all
+}
+
+/// Enters so many regions, each in the one before and with a scope of its own, and makes a call for one name in each.
+fn nest(names: &mut Names, graph: &mut Measured, size: usize, call: Call) -> bool
+    requires { AreTied names.old.values names.old.labels graph.old }
+    ensures { AreTied names.new.values names.new.labels graph.new }
+{
+    let mut all = true;
+    for _ in 0..size {
+        let entered = enter_region(names, graph, true).is_ok();
+        all = entered && call_one(names, graph, call, "name") && all;
+    }
+    all
+}
+
+/// Does the first of these calls for one name in so many regions, of which each stands in the one before, and leaves them all.
+pub fn nested(alloc: Global, size: usize, calls: &[Call]) -> bool {
+    let Some(call) = calls.first() else {
+        return false;
+    };
+    let mut graph = Graph::new(alloc);
+    let mut names = no_names(alloc, &graph);
+    let entered = nest(&mut names, &mut graph, size, *call);
+    let left = leave_all(&mut names, &graph, size);
+    entered && left
+}
+
+/// Enters a region, makes a call for one name so often, and then the last call once.
+fn repeat(names: &mut Names, graph: &mut Measured, size: usize, often: Call, last: Call) -> bool
+    requires { AreTied names.old.values names.old.labels graph.old }
+{
+    let mut all = enter_region(names, graph, true).is_ok();
+    for _ in 0..size {
+        all = call_one(names, graph, often, "name") && all;
+    }
+    call_one(names, graph, last, "name") && all
+}
+
+/// Does the first of two calls for one name so often, and then the second once.
+pub fn repeated(alloc: Global, size: usize, calls: &[Call]) -> bool {
+    let (Some(often), Some(last)) = (calls.first(), calls.get(1)) else {
+        return false;
+    };
+    let mut graph = Graph::new(alloc);
+    let mut names = no_names(alloc, &graph);
+    repeat(&mut names, &mut graph, size, *often, *last)
+}

@@ -1,0 +1,22 @@
+-- What the machine comes to over the events of a whole script is what the two passes say of it.
+use Rattle.std.proofs.Common.{◌≡◌, ◌∙◌, refl, sym, ap, List, [], ◌∷◌}
+use Rattle.irtext_grammar.specs.Names.Scopes.{no_scope}
+use Rattle.irtext_grammar.specs.Names.TextScopes.{Failure, Script, facts, failures}
+use Rattle.irtext_grammar.specs.Names.History.{State, after, going, failed, outcome, run, start, events}
+use Rattle.irtext_grammar.proofs.Names.OnePass.{one_pass}
+
+went_on : (us : List Failure) (st last : State) → going st ≡ outcome us last → (us ≡ []) × (st ≡ last)
+went_on [] st last e = (refl, cc)
+went_on (u ∷ us) st last e = absurd (cc)
+
+went_wrong : (us : List Failure) (f : Failure) (last : State) → failed f ≡ outcome us last → (rest : List Failure) × (us ≡ f ∷ rest)
+went_wrong [] f last e = absurd (cc)
+went_wrong (u ∷ us) f last e = let same : f ≡ u = cc in (us, ap (λ x. x ∷ us) (sym same))
+
+-- where it goes through, nothing is wrong, and it stands behind all that the script says
+pub ran_through : (x : Script) (st : State) → run (going start) (events x) ≡ going st → (failures no_scope x ≡ []) × (st ≡ after start (facts x))
+ran_through x st e = went_on (failures no_scope x) st (after start (facts x)) (sym e ∙ one_pass x)
+
+-- where it fails, it fails as the first failure
+pub ran_into : (x : Script) (f : Failure) → run (going start) (events x) ≡ failed f → (rest : List Failure) × (failures no_scope x ≡ f ∷ rest)
+ran_into x f e = went_wrong (failures no_scope x) f (after start (facts x)) (sym e ∙ one_pass x)

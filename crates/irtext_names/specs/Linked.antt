@@ -1,0 +1,141 @@
+-- What ties the names of a reading, and the graph in which its operations use what they stand for, to the machine that reads acts
+-- one by one.
+use Rattle.std.specs.Prelude.{◌≡◌, ◌⊎◌, ℕ, Bool, true, false, cond, List, [], ◌∷◌, ◌++◌, Option, Some, None, map, slice_get}
+use Rattle.std.specs.Option.{option_map}
+use Rattle.irtext_base.specs.Text.{Text}
+use Rattle.irtext_base.specs.Format.{same_text}
+use Rattle.irtext_graph.specs.declared.arena.Ptr.{Ptr}
+use Rattle.irtext_graph.specs.declared.object.BasicBlock.{BasicBlock}
+use Rattle.irtext_graph.specs.declared.object.Value.{Value}
+use Rattle.irtext_graph.specs.declared.object.Defined.{Defined}
+use Rattle.irtext_graph.specs.declared.object.Defined.TheVariants.{OfValue, OfBlock}
+use Rattle.irtext_graph.specs.declared.object.Site.{Site}
+use Rattle.irtext_graph.specs.Chained.{Among}
+use Rattle.irtext_graph.specs.Graph.{GraphView}
+use Rattle.irtext_graph.specs.Parts.{operation_at}
+use Rattle.irtext_graph.specs.Used.{IsDefined, IsUse, user}
+use Rattle.irtext_scopes.specs.declared.scopes.Entry.{Entry}
+use Rattle.irtext_scopes.specs.declared.scopes.Entry.TheVariants as entries
+use Rattle.irtext_scopes.specs.Names.{AreDistinct}
+use Rattle.irtext_scopes.specs.Scopes.{Scope, find, value_of}
+use Rattle.irtext_scopes.specs.declared.tracker.NameTracker.{NameTracker}
+use Rattle.irtext_grammar.specs.Names.Script.{Place, User}
+use Rattle.irtext_grammar.specs.Names.Scopes.{uses, defines, fact_of}
+use Rattle.irtext_grammar.specs.Names.TextScopes.{Fact, Act, Failure, lookup}
+use Rattle.irtext_grammar.specs.Names.History.{Event, act, State, after, going, failed, step}
+use Rattle.irtext_names.specs.Tied.{AreTied, IsNoPlaceholder}
+
+-- the name that a fact speaks of
+abbrev pub name_of : Fact → Text
+name_of (uses n u) = n
+name_of (defines n p) = n
+
+-- the text is one of these
+abbrev pub is_listed : Text → List Text → Bool
+is_listed t [] = false
+is_listed t (n ∷ ns) = cond (same_text n t) true (is_listed t ns)
+
+-- the names with one more behind them, where it is not among them
+abbrev pub with_mention : List Text → Text → List Text
+with_mention ns t = cond (is_listed t ns) ns (ns ++ t ∷ [])
+
+-- the names, and behind them those that facts mention, in order of first mention
+abbrev pub mentioned_from : List Text → List Fact → List Text
+mentioned_from ns [] = ns
+mentioned_from ns (f ∷ fs) = mentioned_from (with_mention ns (name_of f)) fs
+
+-- the names that facts mention, in order of first mention
+abbrev pub mentioned_in : List Fact → List Text
+mentioned_in fs = mentioned_from [] fs
+
+-- what the reading has made so far: the value and the block of each place of the text, and the operand or successor of each user whose
+-- operation is made
+pub record Known : Type 0 where
+  pub values : List (Place × Value)
+  pub blocks : List (Place × Ptr BasicBlock)
+  pub sites : List (User × Site)
+
+-- nothing is made yet
+abbrev pub nothing_made : Known
+nothing_made = record { values = []; blocks = []; sites = [] }
+
+-- the place of the text was made into d
+abbrev pub Became : Known → Place → Defined → Type 0
+Became known p (OfValue v) = Among (p, v) known.values
+Became known p (OfBlock b) = Among (p, b) known.blocks
+
+module _ {V : Type 0} where
+  -- what a name stands for in a scope, by the definition that the facts have of it: its value, or, where they have none, a placeholder or
+  -- nothing
+  abbrev pub IsMeant : List (Place × V) → Option Place → Option (Entry V) → Type 0
+  IsMeant made (Some p) (Some (entries.Defined v)) = Among (p, v) made
+  IsMeant made (Some p) _ = ⊥
+  IsMeant made None (Some (entries.Defined v)) = ⊥
+  IsMeant made None _ = Unit {0}
+
+  -- the texts of the names of a scope, in order
+  abbrev pub texts_of : List Text → Scope V → List (Option Text)
+  texts_of names scope = map (λ e. slice_get names e.0) scope
+
+  -- a scope has the names of its facts, in order of first mention, and each stands for what the facts say of it
+  pub record Means (names : List Text) (made : List (Place × V)) (facts : List Fact) (scope : Scope V) : Type 0 where
+    pub order : texts_of names scope ≡ map Some (mentioned_in facts)
+    pub each : (n : ℕ) (t : Text) → slice_get names n ≡ Some t → IsMeant made (lookup t facts) (find n scope)
+
+module _ {O B T : Type 0} where
+  -- an operation that has its data names d at the place
+  abbrev pub IsInPlace : GraphView (Option O) B T → Defined → Site → Type 0
+  IsInPlace g d s = IsUse g d s × (x : O) × (option_map (λ c. c.data_of) (operation_at g (user s)) ≡ Some (Some x))
+
+  -- the user names d: at its place in the graph, or in hand, where its operation is not made yet
+  abbrev pub Holds : List (User × Site) → List (User × Defined) → GraphView (Option O) B T → User → Defined → Type 0
+  Holds sites held g u d = ((s : Site) × Among (u, s) sites × IsInPlace g d s) ⊎ Among (u, d) held
+
+  module _ {V : Type 0} where
+    -- each user of a name in a scope holds what the name stands for there
+    abbrev pub AreUsed : List Text → (V → Defined) → List (User × Site) → List (User × Defined) → GraphView (Option O) B T → List Fact → Scope V → Type 0
+    AreUsed names of sites held g facts scope = (n : ℕ) (t : Text) (u : User) → slice_get names n ≡ Some t → Among (uses t u) facts
+        → (e : Entry V) × (find n scope ≡ Some e) × Holds sites held g u (of (value_of e))
+
+    -- each open scope has the names of its facts, and their users hold what they stand for
+    abbrev pub AreLinked : List Text → (V → Defined) → List (Place × V) → List (User × Site) → List (User × Defined) → GraphView (Option O) B T
+        → List (List Fact) → List (Scope V) → Type 0
+    AreLinked names of made sites held g [] [] = Unit {0}
+    AreLinked names of made sites held g (fs ∷ rest) (s ∷ ss) = Means names made fs s × AreUsed names of sites held g fs s
+        × AreLinked names of made sites held g rest ss
+    AreLinked names of made sites held g _ _ = ⊥
+
+    -- what the places of the text were made into is there, and no name waits with it
+    abbrev pub AreMade : (V → Defined) → List (Place × V) → List (Scope V) → GraphView (Option O) B T → Type 0
+    AreMade of made scopes g = (p : Place) (v : V) → Among (p, v) made → IsDefined g (of v) × IsNoPlaceholder scopes v
+
+  -- the names, the graph and what is in hand stand where the machine stands: no name has two numbers, each open scope has the names of the
+  -- facts read so far, what they define is there, each use holds what its name stands for, and what scopes that ended bind is bound
+  pub record StandsAt (names : NameTracker Value (Ptr BasicBlock)) (g : GraphView (Option O) B T) (known : Known) (held : List (User × Defined))
+      (st : State) : Type 0 where
+    pub distinct : AreDistinct names.names
+    pub tied : AreTied names.values names.labels g
+    pub value_links : AreLinked names.names OfValue known.values known.sites held g st.values names.values
+    pub label_links : AreLinked names.names OfBlock known.blocks known.sites held g st.labels names.labels
+    pub values_made : AreMade OfValue known.values names.values g
+    pub blocks_made : AreMade OfBlock known.blocks names.labels g
+    pub bound : (u : User) (p : Place) → Among (u, p) st.bound → (d : Defined) × Became known p d × Holds known.sites held g u d
+
+  -- wherever the machine stands with what was, a use in hand besides, the act takes it to where it stands with what is, and d is in hand too
+  pub record TakesUse (a : Act) (old new : NameTracker Value (Ptr BasicBlock)) (g k : GraphView (Option O) B T) (u : User) (d : Defined) : Type 0 where
+    pub so : (known : Known) (held : List (User × Defined)) (st : State) → StandsAt old g known held st
+        → (step st (act a) ≡ going (after st (fact_of a))) × StandsAt new k known (held ++ (u, d) ∷ []) (after st (fact_of a))
+
+  -- wherever the machine stands with what was, and nothing is in hand, the act defines the place as d and takes it to where it stands
+  -- with what is
+  pub record TakesDefinition (a : Act) (old new : NameTracker Value (Ptr BasicBlock)) (g k : GraphView (Option O) B T) (p : Place) (d : Defined) : Type 0 where
+    pub so : (known : Known) (st : State) → Became known p d → StandsAt old g known [] st
+        → (step st (act a) ≡ going (after st (fact_of a))) × StandsAt new k known [] (after st (fact_of a))
+
+  -- wherever the machine stands with what was, and nothing is in hand, the event takes it on to where it stands with what is
+  pub record Takes (event : Event) (next : State → State) (old new : NameTracker Value (Ptr BasicBlock)) (g : GraphView (Option O) B T) : Type 0 where
+    pub so : (known : Known) (st : State) → StandsAt old g known [] st → (step st event ≡ going (next st)) × StandsAt new g known [] (next st)
+
+  -- wherever the machine stands with these names and this graph, whatever is in hand, the event fails so
+  pub record FailsBy (event : Event) (names : NameTracker Value (Ptr BasicBlock)) (g : GraphView (Option O) B T) (failure : Failure) : Type 0 where
+    pub so : (known : Known) (held : List (User × Defined)) (st : State) → StandsAt names g known held st → step st event ≡ failed failure

@@ -1,0 +1,22 @@
+//! Numbers that look random, the same in each run.
+
+/// A generator of numbers: an xorshift over 64 bits, which never stands at 0.
+#[derive(Drop)]
+pub(crate) struct Random {
+    pub(crate) state: u64,
+}
+
+impl Random {
+    /// A number below the bound, or 0 where the bound is 0.
+    pub(crate) fn below(&mut self, bound: usize) -> usize {
+        let mut x = self.state;
+        x ^= x << 13;
+        x ^= x >> 7;
+        x ^= x << 17;
+        self.state = x;
+        if bound == 0 {
+            return 0;
+        }
+        ((x >> 11) % bound as u64) as usize
+    }
+}

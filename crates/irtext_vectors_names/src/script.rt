@@ -1,0 +1,129 @@
+//! A random script: names over a graph and a plain model of them are asked the same.
+ghost use Rattle.irtext_names.specs.Tied.{AreTied};
+
+use crate::held::holds_all;
+use crate::model::Model;
+use crate::random::Random;
+use crate::steps::Call::{
+    Define, DefineLabel, Enter, EnterIsolated, Exit, ExitIsolated, Use, UseLabel,
+};
+use crate::steps::{Call, Made, Names, Tested, step};
+use irtext_graph::graph::Graph;
+use irtext_names::regions::no_names;
+use std::alloc::{AllocError, Global};
+use std::test::Fail;
+
+// how many calls are made, and then how many regions are left
+const CALLS: usize = 20000;
+
+const LEFT: usize = 1000;
+
+// the calls, each as often as it is to come
+const KINDS: &[Call] = &[
+    Enter,
+    EnterIsolated,
+    EnterIsolated,
+    Exit,
+    ExitIsolated,
+    ExitIsolated,
+    Use,
+    Use,
+    Use,
+    Use,
+    Define,
+    Define,
+    UseLabel,
+    UseLabel,
+    UseLabel,
+    DefineLabel,
+];
+
+const NAMES: &[&str] = &[
+    "a", "b", "c", "d", "e", "f", "g", "h", "aa", "ab", "ba", "bb", "block", "block_1", "v", "v_1",
+];
+
+/// The next call, and the index of the name that it is about: regions alone are left behind the last one.
+fn next(random: &mut Random, number: usize) -> (Call, usize) {
+    let name = random.below(NAMES.len());
+    if number >= CALLS {
+        return (ExitIsolated, name);
+    }
+    match KINDS.get(random.below(KINDS.len())) {
+        Some(call) => (*call, name),
+        None => (ExitIsolated, name),
+    }
+}
+
+/// Whether names and their model answer a call about the name of this index alike.
+fn answer_alike(
+    names: &mut Names,
+    graph: &mut Tested,
+    made: &mut Made,
+    model: &mut Model,
+    next: (Call, usize),
+) -> Result<bool, AllocError>
+    requires { AreTied names.old.values names.old.labels graph.old }
+    ensures { AreTied names.new.values names.new.labels graph.new }
+{
+    let (call, index) = next;
+    let Some(text) = NAMES.get(index) else {
+        return Ok(false);
+    };
+    let name = names.intern(text)?;
+    if name != model.intern(index)? {
+        return Ok(false);
+    }
+    let (asked, answer) = model.answer(call, name)?;
+    Ok(step(names, graph, made, call, asked)? == answer)
+}
+
+/// The number of the first call that the two answer differently. To look at the call, let the script end there.
+fn differing(
+    names: &mut Names,
+    graph: &mut Tested,
+    made: &mut Made,
+    model: &mut Model,
+) -> Result<Option<usize>, AllocError>
+    requires { AreTied names.old.values names.old.labels graph.old }
+{
+    let mut random = Random {
+        state: 88172645463325252,
+    };
+    for number in 0..CALLS + LEFT {
+        let next = next(&mut random, number);
+        if !answer_alike(names, graph, made, model, next)? {
+            return Ok(Some(number));
+        }
+    }
+    Ok(None)
+}
+
+/// Whether each use holds what the model says, and there are no other objects.
+fn ends_alike(graph: &Tested, made: &Made, model: &Model) -> Result<bool, AllocError> {
+    let values = model.values.helds()?;
+    let labels = model.labels.helds()?;
+    let count = graph.num_live();
+    Ok(
+        !model.is_open()
+            && holds_all(graph, &made.values, &values)
+            && holds_all(graph, &made.labels, &labels)
+            && count == model.num_objects(),
+    )
+}
+
+/// Whether a script is answered as its model says to its end.
+fn goes_alike(alloc: Global) -> bool {
+    let mut graph = Graph::new(alloc);
+    let mut names = no_names(alloc, &graph);
+    let mut made = Made::new(alloc);
+    let mut model = Model::new(alloc);
+    differing(&mut names, &mut graph, &mut made, &mut model).ok() == Some(None)
+        && ends_alike(&graph, &made, &model).ok() == Some(true)
+}
+
+#[test]
+fn twenty_thousand_calls(rt: HostRuntime) -> Result<(), Fail> {
+    let done = goes_alike(rt.alloc());
+    assert!(rt; done);
+    Ok(())
+}
