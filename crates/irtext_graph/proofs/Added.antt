@@ -31,6 +31,7 @@ use Rattle.irtext_graph.proofs.Arenas.{older_later, older_inserted, new_view, wa
 use Rattle.irtext_graph.proofs.Logs.{logged_same, logged_list, logged_kept, region_noted, region_ages}
 use Rattle.irtext_graph.proofs.Made.{regions_same}
 use Rattle.irtext_graph.proofs.Nests.{attached, renested, some_eq}
+use Rattle.irtext_graph.proofs.Numbers.{what_kept}
 use Rattle.irtext_graph.proofs.Same.{object_tells}
 use Rattle.irtext_graph.proofs.Sounds.{same_use, uses_kept, sound_moved, sound_same}
 use Rattle.irtext_graph.proofs.Stores.{inserts_seen, inserted-keeps, edited-keeps}
@@ -81,20 +82,23 @@ module _ {O B T : Type 0} where
     room_what (TheRegion q) = refl
 
     -- with more room all is kept
-    pub room_kept : (made : ℕ) (log : List Made) → IsKept made log x → IsKept made log roomy
-    room_kept made log i = record {
+    pub room_kept : (made : ℕ) (v : Counters) (log : List Made) → IsKept made v log x → IsKept made v log roomy
+    room_kept made v log i = record {
       sound = sound_moved x roomy (record { operation_data = r.all_data; block_data = λ q. refl }) made i.sound (renested eq_object object_tells i.sound.forest room_kids room_up)
           (record { operation_places = r.places; block_places = same_places x.blocks; region_places = same_places x.regions });
       logged = logged_same made log x roomy i.logged room_what;
+      numbered = what_kept made made v x roomy room_what i.numbered;
     }
 
     -- where the region is refused, all is kept too
-    pub refused_kept : (made : ℕ) (log after : List Made) (a : Arena (Nest Operation BasicBlock RegionData)) → after ≡ log → a.slots.items ≡ x.regions.slots.items → IsKept made log x → IsKept made after (record x { operations = room; regions = a })
-    refused_kept made log after a f e i =
-        let k = room_kept made log i in
+    pub refused_kept : (made : ℕ) (v : Counters) (log after : List Made) (a : Arena (Nest Operation BasicBlock RegionData)) → after ≡ log → a.slots.items ≡ x.regions.slots.items → IsKept made v log x
+        → IsKept made v after (record x { operations = room; regions = a })
+    refused_kept made v log after a f e i =
+        let k = room_kept made v log i in
         record {
           sound = sound_same made roomy (record roomy { regions = a }) refl refl e k.sound;
           logged = logged_list made log after (record roomy { regions = a }) f (logged_kept made log roomy (record roomy { regions = a }) k.logged (region_ages roomy a e));
+          numbered = record { below = k.numbered.below; differ = k.numbered.differ };
         }
 
     -- more room is not seen
@@ -182,10 +186,11 @@ module _ {O B T : Type 0} where
     what_same (TheRegion q) = refl
 
     -- with the region all is kept
-    pub added_kept : (log noted : List Made) → noted ≡ log ++ record { born = made; object = TheRegion p } ∷ [] → e.born ≡ made → HasFew after → IsKept made log x → IsKept (made + 1) noted added
-    added_kept log noted n born few k = record {
+    pub added_kept : (v : Counters) (log noted : List Made) → noted ≡ log ++ record { born = made; object = TheRegion p } ∷ [] → e.born ≡ made → HasFew after → IsKept made v log x → IsKept (made + 1) v noted added
+    added_kept v log noted n born few k = record {
       sound = sound_added k.sound (omega (arith, born)) few;
       logged = region_noted made log noted (record x { operations = grown }) after p e n (logged_same made log x (record x { operations = grown }) k.logged what_same) i.updates born;
+      numbered = let same = what_kept made made v x (record x { operations = grown }) what_same k.numbered in record { below = same.below; differ = same.differ };
     }
 
     -- what is seen of it

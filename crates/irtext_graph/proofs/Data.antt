@@ -26,12 +26,13 @@ use Rattle.irtext_graph.specs.declared.objects.Objects.{Objects}
 use Rattle.irtext_graph.specs.declared.objects.BlockData.{BlockData}
 use Rattle.irtext_graph.specs.declared.objects.OperationData.{OperationData}
 use Rattle.irtext_graph.specs.Store.{Cell, Store, Edits, store_of, cell_of, object_of, object_in, drawn, get, before}
-use Rattle.irtext_graph.specs.Content.{Node, Content, Content.{AnOperation, ABlock}, OperationContent, BlockContent, node_of, operation_content, block_content}
+use Rattle.irtext_graph.specs.Content.{Node, Content, Content.{AnOperation, ABlock}, node_of, operation_content, block_content}
 use Rattle.irtext_graph.specs.Data.{edited_at, with_object, with_data, with_block, with_operation_data, with_block_data, EditsOperation, EditsBlock}
 use Rattle.irtext_graph.specs.Graph.{GraphView, graph_of, content_of, IsNew, KeepsOlder}
 use Rattle.irtext_graph.specs.Lending.{with_content_at}
 use Rattle.irtext_graph.specs.Log.{age}
 use Rattle.irtext_graph.specs.Nest.{parent_in, children_in}
+use Rattle.irtext_graph.specs.Numbers.{AreNumbered}
 use Rattle.irtext_graph.specs.Objects.{up, kids, eq_object, born_of, is_older}
 use Rattle.irtext_graph.specs.Parts.{operation_at, block_at}
 use Rattle.irtext_graph.specs.Sound.{IsSound, IsKept}
@@ -42,6 +43,8 @@ use Rattle.irtext_graph.proofs.Frames.{new_operation, new_block}
 use Rattle.irtext_graph.proofs.Linked.{site_tells, defined_tells}
 use Rattle.irtext_graph.proofs.Logs.{logged_kept}
 use Rattle.irtext_graph.proofs.Nests.{renested, some_eq}
+use Rattle.irtext_graph.proofs.Numbers.{numbers_kept, edited_numbers, edited_block_numbers}
+use Rattle.irtext_graph.proofs.PartsSeen.{operation_seen, block_seen}
 use Rattle.irtext_graph.proofs.Pointers.{equal_or_not, ptr_same, slice_get-set_same, slice_get-set_other}
 use Rattle.irtext_graph.proofs.Same.{object_tells}
 use Rattle.irtext_graph.proofs.Stores.{get_seen, edited-keeps as store-keeps}
@@ -301,15 +304,20 @@ module _ {O B T : Type 0} (x : Objects O B T) (p : Ptr Operation) (n : Nest Basi
     older_regions = s.older_regions;
   }
 
-  -- with other data of an operation all is kept
-  pub data_kept : (made : ℕ) (log : List Made) → IsKept made log x → IsKept made log after
-  data_kept made log i = record { sound = sound_data made i.sound; logged = logged_kept made log x after i.logged (λ o b f. sym (same_age o) ∙ f) }
-
   -- what is seen of it is the graph with these data
   pub data_seen : (made : ℕ) (values : Counters) → graph_of made values after ≡ with_operation_data (graph_of made values x) p d
   data_seen made values =
       ap (λ s. record (graph_of made values x) { operations = s })
       (content_set (node_of operation_content) (with_data (λ _. d)) x.operations p n with_d e refl)
+
+  -- with other data of an operation all is kept
+  pub data_kept : (made : ℕ) (v : Counters) (log : List Made) → IsKept made v log x → IsKept made v log after
+  data_kept made v log i = record {
+    sound = sound_data made i.sound;
+    logged = logged_kept made log x after i.logged (λ o b f. sym (same_age o) ∙ f);
+    numbered = subst (λ g. AreNumbered g) (sym (data_seen made v))
+        (numbers_kept (graph_of made v x) _ (edited_numbers (graph_of made v x) _ p (λ _. d) (edited (graph_of made v x) p n.data.«data» (λ _. d) (ap (option_map (λ c. c.data_of)) (operation_seen made v x p n e)))) i.numbered);
+  }
 
 module _ {O B T : Type 0} (x : Objects O B T) (p : Ptr BasicBlock) (n : Nest Region Operation (BlockData B T)) (e : option_map (λ o. o.content) (arena.get x.blocks p) ≡ Some n) (d : B) where
   abbrev with_b : Nest Region Operation (BlockData B T)
@@ -366,12 +374,17 @@ module _ {O B T : Type 0} (x : Objects O B T) (p : Ptr BasicBlock) (n : Nest Reg
     older_regions = s.older_regions;
   }
 
-  -- with other data of a block all is kept
-  pub block_data_kept : (made : ℕ) (log : List Made) → IsKept made log x → IsKept made log then
-  block_data_kept made log i = record { sound = sound_block_data made i.sound; logged = logged_kept made log x then i.logged (λ o b f. sym (block_age o) ∙ f) }
-
   -- what is seen of it is the graph with these data
   pub block_data_seen : (made : ℕ) (values : Counters) → graph_of made values then ≡ with_block_data (graph_of made values x) p d
   block_data_seen made values =
       ap (λ s. record (graph_of made values x) { blocks = s })
       (content_set (node_of block_content) (with_block (λ _. d)) x.blocks p n with_b e refl)
+
+  -- with other data of a block all is kept
+  pub block_data_kept : (made : ℕ) (v : Counters) (log : List Made) → IsKept made v log x → IsKept made v log then
+  block_data_kept made v log i = record {
+    sound = sound_block_data made i.sound;
+    logged = logged_kept made log x then i.logged (λ o b f. sym (block_age o) ∙ f);
+    numbered = subst (λ g. AreNumbered g) (sym (block_data_seen made v))
+        (numbers_kept (graph_of made v x) _ (edited_block_numbers (graph_of made v x) _ p (λ _. d) (edited_block (graph_of made v x) p n.data.«data» (λ _. d) (ap (option_map (λ c. c.data_of)) (block_seen made v x p n e)))) i.numbered);
+  }

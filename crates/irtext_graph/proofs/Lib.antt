@@ -50,3 +50,4 @@ pub mod Rounds
 pub mod Throughout
 pub mod Going
 pub mod Alone
+pub mod Numbers

@@ -8,6 +8,7 @@ pub mod Chained
 pub mod Graph
 pub mod Uses
 pub mod Log
+pub mod Numbers
 pub mod Sound
 pub mod Preorder
 pub mod Erasing

@@ -1,9 +1,12 @@
 -- What is always true of the objects of a graph.
 use Rattle.std.specs.Prelude.{ℕ, List}
+use Rattle.irtext_graph.specs.declared.graph.Counters.{Counters}
 use Rattle.irtext_graph.specs.declared.log.Made.{Made}
 use Rattle.irtext_graph.specs.declared.objects.Objects.{Objects}
 use Rattle.irtext_graph.specs.Arena.{HasFew, AreOlder}
+use Rattle.irtext_graph.specs.Graph.{graph_of}
 use Rattle.irtext_graph.specs.Log.{IsLogged}
+use Rattle.irtext_graph.specs.Numbers.{AreNumbered}
 use Rattle.irtext_graph.specs.Objects.{IsForest}
 use Rattle.irtext_graph.specs.Uses.{AreUsesLinked, AreAllUsed}
 
@@ -19,7 +22,8 @@ pub record IsSound {O B T : Type 0} (made : ℕ) (x : Objects O B T) : Type 0 wh
   pub older_blocks : AreOlder made x.blocks
   pub older_regions : AreOlder made x.regions
 
--- the objects are sound, and the list of what was made has them all
-pub record IsKept {O B T : Type 0} (made : ℕ) (log : List Made) (x : Objects O B T) : Type 0 where
+-- the objects are sound, the list of what was made has them all, and the numbers of values differ and are below the counter
+pub record IsKept {O B T : Type 0} (made : ℕ) (counters : Counters) (log : List Made) (x : Objects O B T) : Type 0 where
   pub sound : IsSound made x
   pub logged : IsLogged made log x
+  pub numbered : AreNumbered (graph_of made counters x)

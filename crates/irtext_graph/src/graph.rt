@@ -9,6 +9,9 @@ ghost use Rattle.irtext_graph.specs.Objects.{Fits};
 ghost use Rattle.irtext_graph.specs.Erasing.{DropsUses, CanErase, Erases};
 ghost use Rattle.irtext_graph.specs.declared.object.Object.TheVariants.{TheOperation};
 ghost use Rattle.irtext_graph.specs.Used.{IsUse, IsDefined};
+ghost use Rattle.irtext_graph.specs.Parts.{value_at};
+ghost use Rattle.irtext_graph.specs.Numbers.{NumbersDiffer};
+ghost use Rattle.irtext_graph.specs.declared.object.Value.{Value};
 
 use crate::arena::{Arena, Ptr};
 use crate::log::{Made, forget_gone};
@@ -45,7 +48,7 @@ impl<O, B, T> Model for Graph<O, B, T> {
 
     ghost view = { λ g. graph_of g.made g.counters g.objects };
 
-    ghost invariant = { λ g. IsKept g.made g.log.items g.objects };
+    ghost invariant = { λ g. IsKept g.made g.counters g.log.items g.objects };
 }
 
 impl<O: Drop, B: Drop, T: Drop> Graph<O, B, T> {
@@ -147,6 +150,15 @@ impl<O: Drop, B: Drop, T: Drop> Graph<O, B, T> {
         ensures kinds { (k c : _) (i : ℕ) → slice_get (children self.now k) i ≡ Some c → Fits k c }
         ensures uses { (u d : _) → IsUse self.now d u → IsDefined self.now d }
         ensures all { (o q : _) → IsInside self.now o q → Among q (all_from self.now o (Some o)) }
+    {
+        let _objects = &self.objects;
+    }
+
+    /// What always holds of the numbers of values, as this contract says of a call that does nothing: each is below the counter from
+    /// which the next value draws its number, and values with the same number are the same value.
+    pub fn keeps_numbers(&self)
+        ensures below { (v : Value) (t : _) → value_at self.now v ≡ Some t → t.number < self.now.values }
+        ensures differ { NumbersDiffer self.now }
     {
         let _objects = &self.objects;
     }

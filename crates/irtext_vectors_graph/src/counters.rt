@@ -1,4 +1,6 @@
-//! Counters that are nearly full, and the places and generations that are handed out.
+//! Counters that are nearly full, the places and generations that are handed out, and the numbers of values.
+ghost use Rattle.irtext_graph.specs.Parts.{ValueStands};
+
 use crate::nesting::erased;
 use irtext_few::Few;
 use irtext_graph::arena::Ptr;
@@ -51,6 +53,44 @@ fn numbers_end(graph: &mut Graph<u32, u32, u8>) -> Result<bool, AllocError> {
     let refused = graph.make_block(2, Few::one(6)).is_err() && graph.num_live() == 1;
     graph.make_block(3, Few::none())?;
     Ok(last && refused && graph.num_live() == 2)
+}
+
+/// Whether two values have different numbers, as they do where they are not the same value.
+fn numbers_differ(graph: &Graph<u32, u32, u8>, v: Value, w: Value) -> bool
+    requires first { ValueStands graph.now v }
+    requires second { ValueStands graph.now w }
+{
+    graph.keeps_numbers();
+    graph.number_of(v) != graph.number_of(w)
+}
+
+/// The same where they may not be there: then they have none.
+fn stand_apart(graph: &Graph<u32, u32, u8>, v: Value, w: Value) -> bool {
+    graph.contains_value(v) && graph.contains_value(w) && numbers_differ(graph, v, w)
+}
+
+/// Values that are made together, and those of an operation and of a block, have different numbers.
+fn numbers_are_apart(graph: &mut Graph<u32, u32, u8>) -> Result<bool, AllocError> {
+    let op = graph.make_operation(1, Few::two(5, 6), &[], &[])?;
+    let block = graph.make_block(2, Few::one(7))?;
+    let first = Value::Result(op, 0);
+    let second = Value::Result(op, 1);
+    let argument = Value::Argument(block, 0);
+    Ok(
+        stand_apart(graph, first, second)
+            && stand_apart(graph, second, argument)
+            && stand_apart(graph, argument, first)
+            && !stand_apart(graph, first, first),
+    )
+}
+
+#[test]
+fn values_have_numbers_of_their_own(rt: HostRuntime) -> Result<(), Fail> {
+    let alloc = rt.alloc();
+    let mut graph = Graph::new(alloc);
+    let done = numbers_are_apart(&mut graph).ok() == Some(true);
+    assert!(rt; done);
+    Ok(())
 }
 
 #[test]

@@ -18,8 +18,8 @@ pub invariant_of-self-in_err-make_region_room : goal.invariant_of-self-in_err-ma
 invariant_of-self-in_err-make_region_room g c =
     let s = c.make_region_room.ensures in
     let x = c.self.inside.objects in
-    let k = room_kept x c.make_region_room.new.self (record { ups = s.ups; lists = s.kids; all_data = s.«data»; places = s.places }) c.self.inside.made c.self.inside.log.items c.self.invariant in
-    record { sound = k.sound; logged = logged_list c.self.inside.made c.self.inside.log.items c.make_room.new.log.items _ c.make_room.ensures.same k.logged }
+    let k = room_kept x c.make_region_room.new.self (record { ups = s.ups; lists = s.kids; all_data = s.«data»; places = s.places }) c.self.inside.made c.self.inside.counters c.self.inside.log.items c.self.invariant in
+    record { sound = k.sound; logged = logged_list c.self.inside.made c.self.inside.log.items c.make_room.new.log.items _ c.make_room.ensures.same k.logged; numbered = k.numbered }
 
 pub returns-in_err-make_region_room-clause-kept : goal.returns-in_err-make_region_room-clause-kept
 returns-in_err-make_region_room-clause-kept g c = λ m up none.
@@ -29,7 +29,7 @@ returns-in_err-make_region_room-clause-kept g c = λ m up none.
 pub invariant_of-self-in_err-p : goal.invariant_of-self-in_err-p
 invariant_of-self-in_err-p g c =
     let s = c.make_region_room.ensures in
-    refused_kept c.self.inside.objects c.make_region_room.new.self (record { ups = s.ups; lists = s.kids; all_data = s.«data»; places = s.places }) c.self.inside.made c.self.inside.log.items c.make_room.new.log.items
+    refused_kept c.self.inside.objects c.make_region_room.new.self (record { ups = s.ups; lists = s.kids; all_data = s.«data»; places = s.places }) c.self.inside.made c.self.inside.counters c.self.inside.log.items c.make_room.new.log.items
     c.insert.new.self c.make_room.ensures.same c.in_err-p.ensures.err c.self.invariant
 
 pub returns-in_err-p-clause-kept : goal.returns-in_err-p-clause-kept
@@ -46,7 +46,7 @@ invariant_of-self-2 g c =
     let e = c.in_ok-p.ensures in
     let r : Roomier x c.make_region_room.new.self = record { ups = s.ups; lists = s.kids; all_data = s.«data»; places = s.places } in
     let grown = grown_in x c.make_region_room.new.self c.push_region.new.self c.args.op c.in_ok-p.p r (record { here = t.here; others = t.others; ups = t.ups; all_data = t.«data»; places = t.places }) in
-    added_kept x c.self.inside.made c.push_region.new.self c.insert.new.self c.args.op c.in_ok-p.p _ grown e.inserts refl c.new.ensures.items c.self.inside.log.items c.note.new.log.items
+    added_kept x c.self.inside.made c.push_region.new.self c.insert.new.self c.args.op c.in_ok-p.p _ grown e.inserts refl c.new.ensures.items c.self.inside.counters c.self.inside.log.items c.note.new.log.items
     (noted_list c.self.inside.log.items c.make_room.new.log.items c.note.new.log.items _ c.make_room.ensures.same c.note.ensures) refl (e.few c.self.invariant.sound.few_regions) c.self.invariant
 
 pub returns-clause-added : goal.returns-clause-added

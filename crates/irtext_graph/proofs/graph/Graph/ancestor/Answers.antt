@@ -1,5 +1,5 @@
 use Rattle.std.proofs.Common.{rules, refl, ◌≡◌, ◌<◌, ◌∙◌, ◌-◌, ◌+◌, sym, arith, Some, None}
-use Rattle.irtext_graph.specs.Graph.{parent, ancestor}
+use Rattle.irtext_graph.specs.Graph.{parent}
 use Rattle.irtext_graph.proofs.Rounds.{ended, risen}
 use Rattle.irtext_graph.proofs.graph.Graph.ancestor.Goals as goal
 

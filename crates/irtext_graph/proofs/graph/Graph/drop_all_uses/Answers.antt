@@ -1,6 +1,7 @@
 use Rattle.irtext_graph.proofs.Views.{lives_at}
 use Rattle.irtext_graph.proofs.Erasures.{sound_dropped, drops_seen, dropped-keeps, inside_known}
 use Rattle.irtext_graph.proofs.LogsSeen.{logged_dropped}
+use Rattle.irtext_graph.proofs.Numbers.{numbers_kept, dropped_numbers}
 use Rattle.irtext_graph.proofs.graph.Graph.drop_all_uses.Goals as goal
 
 pub drop_all_uses-requires-clause-lives : goal.drop_all_uses-requires-clause-lives
@@ -12,6 +13,8 @@ invariant_of-self g c =
     record {
       sound = sound_dropped c.self.inside.made c.self.inside.objects c.drop_all_uses.new.self c.self.invariant.sound s.forest s.linked s.used s.places;
       logged = logged_dropped c.self.inside.made c.self.inside.log.items c.self.inside.objects c.drop_all_uses.new.self c.args.o c.self.invariant.sound.forest s.inside s.others c.self.invariant.logged;
+      numbered = numbers_kept _ _ (dropped_numbers _ _ c.args.o (λ q. inside_known c.self.inside.made c.self.inside.counters c.self.inside.objects c.args.o q c.self.invariant.sound.forest)
+          (drops_seen c.self.inside.made c.self.inside.counters c.self.inside.objects c.drop_all_uses.new.self c.args.o s.inside s.others s.ups s.kids s.places)) c.self.invariant.numbered;
     }
 
 pub returns-clause-drops : goal.returns-clause-drops

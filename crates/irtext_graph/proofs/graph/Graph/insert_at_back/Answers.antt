@@ -2,6 +2,7 @@ use Rattle.irtext_graph.proofs.Views.{lives_at, can_at, moved_seen, refused_seen
 use Rattle.irtext_graph.proofs.Frames.{inserted-keeps}
 use Rattle.irtext_graph.proofs.Logs.{logged_same, moved_what}
 use Rattle.irtext_graph.proofs.Sounds.{sound_moved}
+use Rattle.irtext_graph.proofs.Numbers.{what_kept}
 use Rattle.irtext_graph.proofs.graph.Graph.insert_at_back.Goals as goal
 
 pub insert_last-requires-clause-holder : goal.insert_last-requires-clause-holder
@@ -21,6 +22,7 @@ invariant_of-self g c =
     record {
       sound = sound_moved x y s.data c.self.inside.made c.self.invariant.sound s.forest s.places;
       logged = logged_same c.self.inside.made c.self.inside.log.items x y c.self.invariant.logged (moved_what x y c.args.k c.args.c c.insert_last.result s.ok s.err);
+      numbered = what_kept c.self.inside.made c.self.inside.made c.self.inside.counters x y (moved_what x y c.args.k c.args.c c.insert_last.result s.ok s.err) c.self.invariant.numbered;
     }
 
 pub returns-clause-ok : goal.returns-clause-ok

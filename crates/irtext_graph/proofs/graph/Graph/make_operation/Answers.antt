@@ -4,6 +4,7 @@ use Rattle.irtext_graph.specs.declared.linking.Side.TheVariants.{Operands, Succe
 use Rattle.irtext_graph.specs.Uses.{val}
 use Rattle.irtext_graph.specs.Used.{without_uses}
 use Rattle.irtext_graph.specs.Linking.{site_of}
+use Rattle.irtext_graph.specs.Numbers.{AreNumbered}
 use Rattle.irtext_graph.specs.declared.object.Defined.TheVariants.{OfValue, OfBlock}
 use Rattle.irtext_graph.proofs.UsesSeen.{head_there}
 use Rattle.irtext_graph.proofs.Sounds.{sound_same}
@@ -12,6 +13,7 @@ use Rattle.irtext_graph.proofs.Linkings.{linked_here, there_here, free_here, hea
 use Rattle.irtext_graph.proofs.Logs.{logged_list, noted_list, logged_kept, operation_noted, operation_ages as same_ages}
 use Rattle.irtext_graph.proofs.LogsSeen.{logged_bare}
 use Rattle.irtext_graph.proofs.Made.{on_err, same_keeps, operations_same, operation_made, operation_made_seen, operation-keeps}
+use Rattle.irtext_graph.proofs.Numbers.{operation_numbers}
 use Rattle.irtext_graph.proofs.graph.Graph.make_operation.Goals as goal
 
 pub invariant_of-self-in_err-p : goal.invariant_of-self-in_err-p
@@ -21,6 +23,7 @@ invariant_of-self-in_err-p g c =
     record {
       sound = sound_same c.self.inside.made x (record x { operations = c.insert.new.self }) c.in_err-p.ensures.err refl refl c.self.invariant.sound;
       logged = logged_list c.self.inside.made c.self.inside.log.items c.make_room.new.log.items y c.make_room.ensures.same (logged_kept c.self.inside.made c.self.inside.log.items x y c.self.invariant.logged (same_ages x c.insert.new.self c.in_err-p.ensures.err));
+      numbered = subst (λ v. AreNumbered v) (sym (operations_same c.self.inside.made c.self.inside.counters x c.insert.new.self c.in_err-p.ensures.err c.in_err-p.ensures.err_free)) c.self.invariant.numbered;
     }
 
 pub returns-in_err-make_room-clause-kept : goal.returns-in_err-make_room-clause-kept
@@ -81,6 +84,10 @@ invariant_of-self-2 g c =
           c.self.invariant.sound (omega arith) (e.few c.self.invariant.sound.few_operations);
       logged = logged_bare (c.self.inside.made + 1) c.note.new.log.items (record x { operations = c.insert.new.self }) c.attach_all-2.new.self (ap without_uses (two.seen ∙ one.seen))
           (operation_noted c.self.inside.made c.self.inside.log.items c.note.new.log.items x c.insert.new.self c.in_ok-p.p _ (noted_list c.self.inside.log.items c.make_room.new.log.items c.note.new.log.items _ c.make_room.ensures.same c.note.ensures) c.self.invariant.logged e.inserts.updates refl);
+      numbered = operation_numbers _ _ c.in_ok-p.p _ _ _ _
+          (operation_made_seen c.self.inside.made c.self.inside.counters c.in-Some.next x (record x { operations = c.insert.new.self }) c.attach_all-2.new.self c.in_ok-p.p _ _ _ _ (two.seen ∙ one.seen)
+          (operation_made c.self.inside.made c.self.inside.counters c.in-Some.next x c.insert.new.self c.in_ok-p.p _ _ _ _ _ e.inserts refl c.in_ok-blank.ensures (omega (arith, c.in-Some.ensures.1, c.len.ensures))))
+          c.self.invariant.numbered;
     }
   where
     used : (s : Side) (j : ℕ) → IsSome (named_by c.args.operands.now c.args.successors.now s j) → IsSome (val c.attach_all-2.new.self (site_of s c.in_ok-p.p j))

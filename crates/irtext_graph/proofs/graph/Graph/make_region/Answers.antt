@@ -11,6 +11,7 @@ invariant_of-self-in_err-p g c =
     record {
       sound = sound_same c.self.inside.made x (record x { regions = c.insert.new.self }) refl refl c.in_err-p.ensures.err c.self.invariant.sound;
       logged = logged_list c.self.inside.made c.self.inside.log.items c.make_room.new.log.items y c.make_room.ensures.same (logged_kept c.self.inside.made c.self.inside.log.items x y c.self.invariant.logged (same_ages x c.insert.new.self c.in_err-p.ensures.err));
+      numbered = record { below = c.self.invariant.numbered.below; differ = c.self.invariant.numbered.differ };
     }
 
 pub returns-in_err-make_room-clause-kept : goal.returns-in_err-make_room-clause-kept
@@ -25,6 +26,7 @@ invariant_of-self-2 g c =
     record {
       sound = sound_region c.self.inside.objects c.self.inside.made c.insert.new.self c.in_ok-p.p _ e.inserts refl c.new.ensures.items c.self.invariant.sound (omega arith) (e.few c.self.invariant.sound.few_regions);
       logged = region_noted c.self.inside.made c.self.inside.log.items c.note.new.log.items c.self.inside.objects c.insert.new.self c.in_ok-p.p _ (noted_list c.self.inside.log.items c.make_room.new.log.items c.note.new.log.items _ c.make_room.ensures.same c.note.ensures) c.self.invariant.logged e.inserts.updates refl;
+      numbered = record { below = c.self.invariant.numbered.below; differ = c.self.invariant.numbered.differ };
     }
 
 pub returns-clause-made : goal.returns-clause-made

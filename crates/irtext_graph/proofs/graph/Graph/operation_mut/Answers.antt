@@ -10,7 +10,7 @@ content_mut-requires g c = operation_there c.self.inside.made c.self.inside.coun
 
 pub invariant_of-self-lent : goal.invariant_of-self-lent
 invariant_of-self-lent g c = λ w.
-    data_kept c.self.inside.objects c.args.op c.content_mut.result.now c.content_mut.ensures.value w c.self.inside.made c.self.inside.log.items c.self.invariant
+    data_kept c.self.inside.objects c.args.op c.content_mut.result.now c.content_mut.ensures.value w c.self.inside.made c.self.inside.counters c.self.inside.log.items c.self.invariant
 
 pub returns : goal.returns
 returns g c =

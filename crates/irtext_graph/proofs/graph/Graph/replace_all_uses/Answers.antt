@@ -3,6 +3,7 @@ use Rattle.irtext_graph.proofs.Made.{same_keeps}
 use Rattle.irtext_graph.proofs.LogsSeen.{logged_bare}
 use Rattle.irtext_graph.proofs.Bare.{sound_bare, replaces_seen, replaces_self, replaces_keeps}
 use Rattle.irtext_graph.proofs.UsesSeen.{head_there}
+use Rattle.irtext_graph.proofs.Numbers.{numbers_kept, replaced_numbers}
 use Rattle.irtext_graph.proofs.graph.Graph.replace_all_uses.Goals as goal
 
 pub replace_uses-requires-clause-stands : goal.replace_uses-requires-clause-stands
@@ -17,6 +18,8 @@ invariant_of-self g c =
     record {
       sound = sound_bare c.self.inside.objects c.replace_uses.new.self s.bare c.self.inside.made c.self.invariant.sound s.linked s.all_used;
       logged = logged_bare c.self.inside.made c.self.inside.log.items c.self.inside.objects c.replace_uses.new.self s.bare c.self.invariant.logged;
+      numbered = numbers_kept _ _ (replaced_numbers _ _ c.args.d c.args.e
+          (replaces_seen c.self.inside.objects c.replace_uses.new.self s.bare c.self.inside.made c.self.inside.counters c.args.d c.args.e c.self.invariant.sound s.all_used s.uses)) c.self.invariant.numbered;
     }
 
 pub replace_uses-requires-clause-differ : goal.replace_uses-requires-clause-differ

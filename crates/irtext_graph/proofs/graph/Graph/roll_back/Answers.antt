@@ -4,6 +4,7 @@ use Rattle.irtext_graph.specs.Graph.{graph_of}
 use Rattle.irtext_graph.specs.Log.{IsLogged}
 use Rattle.irtext_graph.proofs.Backs.{given_back, back_keeps}
 use Rattle.irtext_graph.proofs.Logs.{logged_list}
+use Rattle.irtext_graph.proofs.Numbers.{numbers_kept, rolled_numbers}
 use Rattle.irtext_graph.proofs.graph.Graph.roll_back.Goals as goal
 
 pub count_before-start-requires : goal.count_before-start-requires
@@ -23,6 +24,7 @@ invariant_of-self g c =
     record {
       sound = r.sound;
       logged = logged_list i.made (take c.count_before-start.result log) c.truncate.new.self.items c.take_out_since.new.self (c.truncate.ensures.items ∙ ap (take c.count_before-start.result) (sym c.as_slice-log.ensures.value)) r.logged;
+      numbered = numbers_kept _ _ (rolled_numbers c.args.mark _ _ r.view) c.self.invariant.numbered;
     }
 
 pub returns-clause-back : goal.returns-clause-back

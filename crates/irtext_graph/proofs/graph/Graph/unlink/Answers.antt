@@ -4,6 +4,7 @@ use Rattle.irtext_graph.proofs.Views.{lives_at, up_seen, kids_seen, keeps_seen}
 use Rattle.irtext_graph.proofs.Frames.{unlinked-keeps}
 use Rattle.irtext_graph.proofs.Logs.{logged_same}
 use Rattle.irtext_graph.proofs.Sounds.{sound_moved}
+use Rattle.irtext_graph.proofs.Numbers.{what_kept}
 use Rattle.irtext_graph.proofs.graph.Graph.unlink.Goals as goal
 
 pub unlink-requires-clause-lives : goal.unlink-requires-clause-lives
@@ -17,6 +18,7 @@ invariant_of-self g c =
     record {
       sound = sound_moved x y s.all_data c.self.inside.made c.self.invariant.sound s.forest s.places;
       logged = logged_same c.self.inside.made c.self.inside.log.items x y c.self.invariant.logged s.data;
+      numbered = what_kept c.self.inside.made c.self.inside.made c.self.inside.counters x y s.data c.self.invariant.numbered;
     }
 
 pub returns-clause-unlinks : goal.returns-clause-unlinks

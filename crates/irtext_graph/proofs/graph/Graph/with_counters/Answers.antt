@@ -1,6 +1,7 @@
 use Rattle.irtext_graph.proofs.Sounds.{sound_empty}
 use Rattle.irtext_graph.proofs.Logs.{logged_empty}
 use Rattle.irtext_graph.specs.declared.objects.Objects.{Objects}
+use Rattle.irtext_graph.proofs.Numbers.{numbered_empty}
 use Rattle.irtext_graph.proofs.graph.Graph.with_counters.Goals as goal
 
 pub invariant_of-result : goal.invariant_of-result
@@ -9,4 +10,5 @@ invariant_of-result g c =
     record {
       sound = sound_empty x c.new.ensures c.new-2.ensures c.new-3.ensures;
       logged = logged_empty x c.new.ensures c.new-2.ensures c.new-3.ensures c.new-4.result.items c.new-4.ensures.items;
+      numbered = numbered_empty 0 _ x c.new.ensures c.new-2.ensures;
     }
