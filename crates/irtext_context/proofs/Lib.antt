@@ -1,5 +1,6 @@
 pub mod Contexts
 pub mod Kept
+pub mod Attributes
 pub mod Made
 pub mod Parts
 pub mod Dialects

@@ -14,6 +14,7 @@ use Rattle.irtext_graph.specs.Graph as objects
 use Rattle.irtext_graph.specs.Graph.{GraphView}
 use Rattle.irtext_graph.specs.Back as back
 use Rattle.irtext_graph.specs.Data as edits
+use Rattle.irtext_graph.specs.Data.{edited_at, with_data, with_block}
 use Rattle.irtext_graph.specs.Regions as parts
 use Rattle.irtext_graph.specs.declared.arena.Entry.{Entry}
 use Rattle.irtext_graph.specs.declared.arena.Ptr.{Ptr}
@@ -56,6 +57,10 @@ pub record ContextView (T A : Type 0) : Type 0 where
 abbrev pub with_attribute : {A : Type 0} → Text → AttrObj A → OperationData A → OperationData A
 with_attribute key attr held = record held { attributes = insert_entry bytes_eq held.attributes key attr }
 
+-- an operation with other attributes
+abbrev pub with_attributes : {A : Type 0} → List (Text × AttrObj A) → OperationData A → OperationData A
+with_attributes attributes held = record held { attributes = attributes }
+
 -- an operation with another location
 abbrev pub with_loc : {A : Type 0} → Location A → OperationData A → OperationData A
 with_loc loc held = record held { loc = loc }
@@ -67,6 +72,10 @@ with_label label held = record held { label = label }
 -- a block with an attribute under a key, in place of the one that is there, or else last
 abbrev pub with_block_attribute : {A : Type 0} → Text → AttrObj A → BlockData A → BlockData A
 with_block_attribute key attr held = record held { attributes = insert_entry bytes_eq held.attributes key attr }
+
+-- a block with other attributes
+abbrev pub with_block_attributes : {A : Type 0} → List (Text × AttrObj A) → BlockData A → BlockData A
+with_block_attributes attributes held = record held { attributes = attributes }
 
 -- a block with another location
 abbrev pub with_block_loc : {A : Type 0} → Location A → BlockData A → BlockData A
@@ -88,6 +97,14 @@ module _ {T A : Type 0} where
   -- a context with another graph, and all else as it was
   abbrev pub with_graph : ContextView T A → GraphView (Option (OperationData A)) (BlockData A) (Option T) → ContextView T A
   with_graph c graph = record c { graph = graph }
+
+  -- a context with one operation changed, and all else as it was
+  abbrev pub with_changed_operation : ContextView T A → Ptr Operation → (OperationData A → OperationData A) → ContextView T A
+  with_changed_operation c p change = record c { graph = record c.graph { operations = edited_at c.graph.operations p (with_data (option_map change)) } }
+
+  -- a context with one block changed, and all else as it was
+  abbrev pub with_changed_block : ContextView T A → Ptr BasicBlock → (BlockData A → BlockData A) → ContextView T A
+  with_changed_block c p change = record c { graph = record c.graph { blocks = edited_at c.graph.blocks p (with_block change) } }
 
   -- what is seen of an operation with these results and these regions
   abbrev pub view_of : List (Typed (Option T)) → List (Ptr Region) → OperationData A → OperationView T A

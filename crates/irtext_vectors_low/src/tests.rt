@@ -4,6 +4,7 @@ mod contexts;
 mod demo;
 mod edges;
 mod formats;
+mod lent;
 mod lists;
 mod locations;
 mod made;

@@ -1,9 +1,11 @@
 //! Blocks: what a context holds of one, and how it is read and written.
-ghost use Rattle.std.specs.Prelude.{◌≡◌, ◌≤◌, ℕ, Some, None, false, IsSome, IfErr, OnOk, OnErr, option_map, option_copied};
+ghost use Rattle.std.specs.Prelude.{◌≡◌, ◌≤◌, ℕ, List, Some, None, false, IsSome, IfErr, OnOk, OnErr, option_map, option_copied};
+ghost use Rattle.std.specs.Borrow.{sem};
+ghost use Rattle.irtext_base.specs.Text.{Text};
 ghost use Rattle.irtext_dict.specs.Dictionary.{is_reserved_for, RefusesEntry};
 ghost use Rattle.irtext_graph.specs.Parts.{block_at};
 ghost use Rattle.irtext_graph.specs.Store.{before};
-ghost use Rattle.irtext_context.specs.Context.{block, with_label, with_block_attribute, with_block_loc, EditsBlock, KeepsOlder};
+ghost use Rattle.irtext_context.specs.Context.{block, with_label, with_block_attribute, with_block_attributes, with_block_loc, with_changed_block, EditsBlock, KeepsOlder};
 
 mod make;
 
@@ -28,6 +30,24 @@ fn held<T: IrText<A>, A: AttrText>(ctx: &Context<T, A>, p: Ptr<BasicBlock>) -> &
     ensures { option_map (λ c. c.data_of) (block_at ctx.now.graph p) ≡ Some result.now }
 {
     ctx.graph.block(p)
+}
+
+impl<T: IrText<A>, A: AttrText> Context<T, A> {
+    ghost use Rattle.irtext_base.specs.declared.base.attributes.AttrObj.{AttrObj};
+    ghost use Rattle.irtext_context.specs.AttributeLends.{LendsBlockAttributes};
+
+    /// The attributes of a block, for writing. Whatever is written, all else of the context stays as it is. It takes no memory.
+    pub fn block_attributes_mut(&mut self, p: Ptr<BasicBlock>) -> &mut AttributeDict<A>
+        requires { IsSome (block self.old p) }
+        ensures* lends { sem 𝓛 (LendsBlockAttributes T.row A.row self.entry p result) }
+        ensures value { option_map (λ b. b.attributes) (block self.old p) ≡ Some result.now }
+        ensures edits { (left : List (Text × AttrObj A)) →
+            EditsBlock self.old (with_changed_block self.old p (with_block_attributes left)) p (with_block_attributes left) }
+        ensures kept { (left : List (Text × AttrObj A)) (mark : ℕ) → before mark self.old.graph.blocks p ≡ None →
+            KeepsOlder mark self.old (with_changed_block self.old p (with_block_attributes left)) }
+    {
+        &mut self.graph.block_mut(p).attributes
+    }
 }
 
 /// How a block of a context is read and written, by its pointer. None of these calls but `set_attribute` takes memory.
@@ -130,6 +150,6 @@ impl BlockAccess for Ptr<BasicBlock> {
         key: Identifier,
         attr: AttrObj<A>,
     ) -> Result<(), Refusal> {
-        ctx.graph.block_mut(self).attributes.insert(key, attr)
+        ctx.block_attributes_mut(self).insert(key, attr)
     }
 }

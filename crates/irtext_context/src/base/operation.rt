@@ -1,9 +1,12 @@
 //! Operations: what a context holds of one, and how it is read and written.
-ghost use Rattle.std.specs.Prelude.{◌≡◌, ◌≤◌, ℕ, Some, None, false, IsSome, IfOk, IfErr, OnOk, OnErr, option_map, option_and_then};
+ghost use Rattle.std.specs.Prelude.{◌≡◌, ◌≤◌, ℕ, List, Some, None, false, IsSome, IfOk, IfErr, OnOk, OnErr, option_map, option_and_then};
+ghost use Rattle.std.specs.Borrow.{sem};
+ghost use Rattle.irtext_base.specs.Text.{Text};
 ghost use Rattle.irtext_dict.specs.Dictionary.{is_reserved_for, RefusesEntry};
 ghost use Rattle.irtext_graph.specs.Parts.{operation_at};
 ghost use Rattle.irtext_graph.specs.Store.{before};
-ghost use Rattle.irtext_context.specs.Context.{operation, with_attribute, with_loc, AddsRegion, EditsOperation, KeepsOlder};
+ghost use Rattle.irtext_context.specs.Context.{operation, with_attribute, with_attributes, with_changed_operation, with_loc, AddsRegion, EditsOperation, KeepsOlder};
+ghost use Rattle.irtext_context.specs.AttributeLends.{LendsHeld};
 
 mod bare;
 mod make;
@@ -37,6 +40,36 @@ fn held<'c, T: IrText<A>, A: AttrText>(
     match ctx.graph.operation(op) {
         Some(held) => held,
         None => unreachable!(),
+    }
+}
+
+/// The attributes of an operation that is no placeholder, for writing.
+fn attributes_of<A: Drop>(held: &mut Option<OperationData<A>>) -> &mut AttributeDict<A>
+    requires { IsSome held.old }
+    ensures* lends { sem 𝓛 (LendsHeld A.row held.entry result) }
+    ensures value { option_map (λ op. op.attributes) held.old ≡ Some result.now }
+{
+    match held {
+        Some(held) => &mut held.attributes,
+        None => unreachable!(),
+    }
+}
+
+impl<T: IrText<A>, A: AttrText> Context<T, A> {
+    ghost use Rattle.irtext_base.specs.declared.base.attributes.AttrObj.{AttrObj};
+    ghost use Rattle.irtext_context.specs.AttributeLends.{LendsAttributes};
+
+    /// The attributes of an operation, for writing. Whatever is written, all else of the context stays as it is. It takes no memory.
+    pub fn operation_attributes_mut(&mut self, p: Ptr<Operation>) -> &mut AttributeDict<A>
+        requires { IsSome (operation self.old p) }
+        ensures* lends { sem 𝓛 (LendsAttributes T.row A.row self.entry p result) }
+        ensures value { option_map (λ op. op.attributes) (operation self.old p) ≡ Some result.now }
+        ensures edits { (left : List (Text × AttrObj A)) →
+            EditsOperation self.old (with_changed_operation self.old p (with_attributes left)) p (with_attributes left) }
+        ensures kept { (left : List (Text × AttrObj A)) (mark : ℕ) → before mark self.old.graph.operations p ≡ None →
+            KeepsOlder mark self.old (with_changed_operation self.old p (with_attributes left)) }
+    {
+        attributes_of(self.graph.operation_mut(p))
     }
 }
 
@@ -131,10 +164,7 @@ impl OperationAccess for Ptr<Operation> {
         key: Identifier,
         attr: AttrObj<A>,
     ) -> Result<(), Refusal> {
-        match ctx.graph.operation_mut(self) {
-            Some(held) => held.attributes.insert(key, attr),
-            None => unreachable!(),
-        }
+        ctx.operation_attributes_mut(self).insert(key, attr)
     }
 
     fn add_region<T: IrText<A>, A: AttrText>(

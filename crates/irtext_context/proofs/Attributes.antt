@@ -1,0 +1,151 @@
+-- Attributes that are lent for writing: what the context holds behind them, and what stays.
+use Rattle.std.proofs.Common.{◌≡◌, ◌∙◌, refl, sym, ap, subst, List, Option, None, Some}
+use Rattle.std.specs.Option.{option_map}
+use Rattle.std.specs.Prelude.{option_and_then}
+use Rattle.std.specs.Str.{bytes_eq}
+use Rattle.indexmap.specs.IndexMap.{insert_entry}
+use Rattle.irtext_base.specs.Text.{Text}
+use Rattle.irtext_base.specs.declared.base.attributes.AttrObj.{AttrObj}
+use Rattle.irtext_graph.specs.Data as edits
+use Rattle.irtext_graph.specs.Data.{with_object, with_data, with_block, with_operation_data, with_block_data}
+use Rattle.irtext_graph.specs.Parts.{operation_at, block_at}
+use Rattle.irtext_graph.specs.Store.{Store, get}
+use Rattle.irtext_graph.specs.Content.{Node, OperationContent, BlockContent}
+use Rattle.irtext_graph.specs.declared.arena.Ptr.{Ptr}
+use Rattle.irtext_graph.specs.declared.object.BasicBlock.{BasicBlock}
+use Rattle.irtext_graph.specs.declared.object.Operation.{Operation}
+use Rattle.irtext_graph.specs.declared.object.Region.{Region}
+use Rattle.irtext_graph.proofs.Data.{edited, unedited, edited_block, unedited_block}
+use Rattle.irtext_graph.proofs.Nests.{some_eq}
+use Rattle.irtext_context.specs.Context.{ContextView, OperationView, BlockView, operation, operation_of, view_of, block, block_of, with_attribute, with_attributes, with_block_attribute, with_block_attributes, with_changed_operation, with_changed_block, EditsOperation, EditsBlock}
+use Rattle.irtext_context.specs.declared.base.block.BlockData.{BlockData}
+use Rattle.irtext_context.specs.declared.base.operation.OperationData.{OperationData}
+use Rattle.irtext_context.proofs.Contexts.{OperationEntry, BlockEntry}
+
+module _ {T A : Type 0} (c : ContextView T A) where
+  module _ (p : Ptr Operation) where
+    -- the context holds this of an operation
+    abbrev pub Holds : Option (OperationData A) → Type 0
+    Holds held = option_map (λ x. x.data_of) (operation_at c.graph p) ≡ Some held
+
+    -- what it holds is seen
+    pub held_seen : (held : Option (OperationData A)) → Holds held → option_map (λ op. op.attributes) (operation c p) ≡ option_map (λ op. op.attributes) held
+    held_seen held e = go (get c.graph.operations p) e
+      where
+        inner : (x : OperationEntry T A) (d : Option (OperationData A)) → option_map (λ op. op.attributes) (option_map (view_of x.content.content.results x.content.children) d) ≡ option_map (λ op. op.attributes) d
+        inner x None = refl
+        inner x (Some d) = refl
+
+        go : (s : Option (OperationEntry T A)) → option_map (λ x. x.data_of) (option_map (λ x. x.content.content) s) ≡ Some held
+            → option_map (λ op. op.attributes) (option_and_then operation_of s) ≡ option_map (λ op. op.attributes) held
+        go None h = absurd (cc)
+        go (Some x) h = inner x x.content.content.data_of ∙ ap (option_map (λ op. op.attributes)) (some_eq h)
+
+    -- the operation with these attributes is what the context holds
+    pub seen_held : (w : List (Text × AttrObj A)) → option_map (λ op. op.attributes) (operation c p) ≡ Some w → (held : OperationData A) × Holds (Some held) × (held.attributes ≡ w)
+    seen_held w e = go (get c.graph.operations p) refl e
+      where
+        inner : (x : OperationEntry T A) (d : Option (OperationData A)) → x.content.content.data_of ≡ d → option_map (λ op. op.attributes) (option_map (view_of x.content.content.results x.content.children) d) ≡ Some w
+            → (held : OperationData A) × (x.content.content.data_of ≡ Some held) × (held.attributes ≡ w)
+        inner x None f h = absurd (cc)
+        inner x (Some held) f h = (held, f, some_eq h)
+
+        go : (s : Option (OperationEntry T A)) → get c.graph.operations p ≡ s → option_map (λ op. op.attributes) (option_and_then operation_of s) ≡ Some w
+            → (held : OperationData A) × Holds (Some held) × (held.attributes ≡ w)
+        go None f h = absurd (cc)
+        go (Some x) f h =
+            let i = inner x x.content.content.data_of refl h in
+            (i.0, ap (λ s. option_map (λ y. y.data_of) (option_map (λ y. y.content.content) s)) f ∙ ap (λ d. Some d) i.1, i.2)
+
+    -- the operation's data are written once they are changed
+    pub changed : (held : Option (OperationData A)) (change : OperationData A → OperationData A) → Holds held
+        → record c { graph = with_operation_data c.graph p (option_map change held) } ≡ with_changed_operation c p change
+    changed held change e = ap (λ s. record c { graph = record c.graph { operations = s } }) (go (get c.graph.operations p) e)
+      where
+        go : (s : Option (OperationEntry T A)) → option_map (λ x. x.data_of) (option_map (λ x. x.content.content) s) ≡ Some held
+            → with_object s c.graph.operations p (with_data (λ _. option_map change held)) ≡ with_object s c.graph.operations p (with_data (option_map change))
+        go None h = refl
+        go (Some x) h = ap (λ d. with_object (Some x) c.graph.operations p (with_data (λ _. option_map change d))) (sym (some_eq h))
+
+    -- a change is an edit of the operation alone
+    pub changed_edits : (held : Option (OperationData A)) (change : OperationData A → OperationData A) → Holds held → EditsOperation c (with_changed_operation c p change) p change
+    changed_edits held change e = subst (λ new. EditsOperation c new p change) (changed held change e)
+        (record { graph = edited c.graph p held (option_map change) e; paths = refl; dialects = refl })
+
+    -- changes that do the same there are the same
+    pub changed_alike : (held : Option (OperationData A)) (f h : OperationData A → OperationData A) → Holds held → option_map f held ≡ option_map h held → with_changed_operation c p f ≡ with_changed_operation c p h
+    changed_alike held f h e same = sym (changed held f e) ∙ ap (λ d. record c { graph = with_operation_data c.graph p d }) same ∙ changed held h e
+
+    -- a change that does nothing there leaves the context as it is
+    pub unchanged : (held : Option (OperationData A)) (f : OperationData A → OperationData A) → Holds held → option_map f held ≡ held → with_changed_operation c p f ≡ c
+    unchanged held f e same = sym (changed held f e) ∙ ap (λ d. record c { graph = with_operation_data c.graph p d }) same
+        ∙ ap (λ g. record c { graph = g }) (unedited c.graph p held e)
+
+    module _ (w a : List (Text × AttrObj A)) (value : option_map (λ op. op.attributes) (operation c p) ≡ Some w) where
+      -- attributes with one more are written back: that one was put in
+      pub put_edits : (key : Text) (attr : AttrObj A) → a ≡ insert_entry bytes_eq w key attr → EditsOperation c (with_changed_operation c p (with_attributes a)) p (with_attribute key attr)
+      put_edits key attr e =
+          let h = seen_held w value in
+          let same : Some (with_attributes a h.0) ≡ Some (with_attribute key attr h.0) = ap (λ l. Some (with_attributes l h.0)) (e ∙ ap (λ l. insert_entry bytes_eq l key attr) (sym h.2)) in
+          subst (λ new. EditsOperation c new p (with_attribute key attr)) (sym (changed_alike (Some h.0) (with_attributes a) (with_attribute key attr) h.1 same)) (changed_edits (Some h.0) (with_attribute key attr) h.1)
+
+      -- attributes are written back as they are: nothing changed
+      pub put_back : a ≡ w → with_changed_operation c p (with_attributes a) ≡ c
+      put_back e = let h = seen_held w value in unchanged (Some h.0) (with_attributes a) h.1 (ap (λ l. Some (with_attributes l h.0)) (e ∙ sym h.2))
+
+  module _ (p : Ptr BasicBlock) where
+    -- the context holds this of a block
+    abbrev pub HoldsBlock : BlockData A → Type 0
+    HoldsBlock held = option_map (λ x. x.data_of) (block_at c.graph p) ≡ Some held
+
+    -- what it holds is seen
+    pub block_held_seen : (held : BlockData A) → HoldsBlock held → option_map (λ b. b.attributes) (block c p) ≡ Some held.attributes
+    block_held_seen held e = go (get c.graph.blocks p) e
+      where
+        go : (s : Option (BlockEntry T A)) → option_map (λ x. x.data_of) (option_map (λ x. x.content.content) s) ≡ Some held → option_map (λ b. b.attributes) (option_map block_of s) ≡ Some held.attributes
+        go None h = absurd (cc)
+        go (Some x) h = ap (λ d. Some d.attributes) (some_eq h)
+
+    -- the block with these attributes is what the context holds
+    pub block_seen_held : (w : List (Text × AttrObj A)) → option_map (λ b. b.attributes) (block c p) ≡ Some w → (held : BlockData A) × HoldsBlock held × (held.attributes ≡ w)
+    block_seen_held w e = go (get c.graph.blocks p) refl e
+      where
+        go : (s : Option (BlockEntry T A)) → get c.graph.blocks p ≡ s → option_map (λ b. b.attributes) (option_map block_of s) ≡ Some w → (held : BlockData A) × HoldsBlock held × (held.attributes ≡ w)
+        go None f h = absurd (cc)
+        go (Some x) f h = (x.content.content.data_of, ap (λ s. option_map (λ y. y.data_of) (option_map (λ y. y.content.content) s)) f, some_eq h)
+
+    -- the block's data are written once they are changed
+    pub changed_block : (held : BlockData A) (change : BlockData A → BlockData A) → HoldsBlock held
+        → record c { graph = with_block_data c.graph p (change held) } ≡ with_changed_block c p change
+    changed_block held change e = ap (λ s. record c { graph = record c.graph { blocks = s } }) (go (get c.graph.blocks p) e)
+      where
+        go : (s : Option (BlockEntry T A)) → option_map (λ x. x.data_of) (option_map (λ x. x.content.content) s) ≡ Some held
+            → with_object s c.graph.blocks p (with_block (λ _. change held)) ≡ with_object s c.graph.blocks p (with_block change)
+        go None h = refl
+        go (Some x) h = ap (λ d. with_object (Some x) c.graph.blocks p (with_block (λ _. change d))) (sym (some_eq h))
+
+    -- a change is an edit of the block alone
+    pub changed_block_edits : (held : BlockData A) (change : BlockData A → BlockData A) → HoldsBlock held → EditsBlock c (with_changed_block c p change) p change
+    changed_block_edits held change e = subst (λ new. EditsBlock c new p change) (changed_block held change e)
+        (record { graph = edited_block c.graph p held change e; paths = refl; dialects = refl })
+
+    -- changes that do the same there are the same
+    pub changed_block_alike : (held : BlockData A) (f h : BlockData A → BlockData A) → HoldsBlock held → f held ≡ h held → with_changed_block c p f ≡ with_changed_block c p h
+    changed_block_alike held f h e same = sym (changed_block held f e) ∙ ap (λ d. record c { graph = with_block_data c.graph p d }) same ∙ changed_block held h e
+
+    -- a change that does nothing there leaves the context as it is
+    pub unchanged_block : (held : BlockData A) (f : BlockData A → BlockData A) → HoldsBlock held → f held ≡ held → with_changed_block c p f ≡ c
+    unchanged_block held f e same = sym (changed_block held f e) ∙ ap (λ d. record c { graph = with_block_data c.graph p d }) same
+        ∙ ap (λ g. record c { graph = g }) (unedited_block c.graph p held e)
+
+    module _ (w a : List (Text × AttrObj A)) (value : option_map (λ b. b.attributes) (block c p) ≡ Some w) where
+      -- attributes with one more are written back: that one was put in
+      pub block_put_edits : (key : Text) (attr : AttrObj A) → a ≡ insert_entry bytes_eq w key attr → EditsBlock c (with_changed_block c p (with_block_attributes a)) p (with_block_attribute key attr)
+      block_put_edits key attr e =
+          let h = block_seen_held w value in
+          let same : with_block_attributes a h.0 ≡ with_block_attribute key attr h.0 = ap (λ l. with_block_attributes l h.0) (e ∙ ap (λ l. insert_entry bytes_eq l key attr) (sym h.2)) in
+          subst (λ new. EditsBlock c new p (with_block_attribute key attr)) (sym (changed_block_alike h.0 (with_block_attributes a) (with_block_attribute key attr) h.1 same)) (changed_block_edits h.0 (with_block_attribute key attr) h.1)
+
+      -- attributes are written back as they are: nothing changed
+      pub block_put_back : a ≡ w → with_changed_block c p (with_block_attributes a) ≡ c
+      block_put_back e = let h = block_seen_held w value in unchanged_block h.0 (with_block_attributes a) h.1 (ap (λ l. with_block_attributes l h.0) (e ∙ sym h.2))
