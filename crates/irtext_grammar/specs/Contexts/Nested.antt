@@ -9,17 +9,17 @@ use Rattle.irtext_base.specs.Faults.{id_of}
 use Rattle.irtext_base.specs.declared.base.attributes.AttrObj.{AttrObj}
 use Rattle.irtext_base.specs.declared.base.attributes.AttrObj.TheVariants.{GivenNames}
 use Rattle.irtext_context.specs.Context.{ContextView, OperationView, BlockView, operation, block}
-use Rattle.irtext_context.specs.Dialects.{Table}
+use Rattle.irtext_context.specs.declared.base.block.BlockData.{BlockData}
+use Rattle.irtext_context.specs.declared.base.operation.OperationData.{OperationData}
 use Rattle.irtext_graph.specs.declared.arena.Ptr.{Ptr}
 use Rattle.irtext_graph.specs.declared.arena.Entry.{Entry}
 use Rattle.irtext_graph.specs.declared.object.Operation.{Operation}
 use Rattle.irtext_graph.specs.declared.object.BasicBlock.{BasicBlock}
 use Rattle.irtext_graph.specs.declared.object.Region.{Region}
 use Rattle.irtext_graph.specs.declared.object.Value.{Value}
-use Rattle.irtext_graph.specs.Content.{Typed}
+use Rattle.irtext_graph.specs.Content.{Node, Typed, OperationContent, BlockContent}
 use Rattle.irtext_graph.specs.Graph.{GraphView}
 use Rattle.irtext_graph.specs.Parts.{results, arguments, operands, successors, regions, blocks, operations_in, value_at}
-use Rattle.irtext_graph.specs.Store.{Cell}
 use Rattle.irtext_grammar.specs.Contexts.Formats.{format_of}
 use Rattle.irtext_grammar.specs.Contexts.Held.{entries_of}
 use Rattle.irtext_grammar.specs.Grammar.Forest.{Regions, no_regions, region, Blocks, no_blocks, Operations, no_operations, Root}
@@ -76,14 +76,20 @@ module _ {A : Type 0} where
   abbrev pub given_at : ℕ → List (Text × AttrObj A) → Option Text
   given_at i attributes = option_and_then (name_in i) (lookup (bytes_eq given_names_key) attributes)
 
+  -- the attributes of an operation; a placeholder has none
+  abbrev pub attributes_in : Option (OperationData A) → List (Text × AttrObj A)
+  attributes_in None = []
+  attributes_in (Some held) = held.attributes
+
   -- the values of an operation or a block with these attributes, from the index i on
   abbrev pub named_from : {T : Type 0} → List (Text × AttrObj A) → ℕ → List (Typed (Option T)) → List (NamedValue T)
   named_from attributes i [] = []
   named_from attributes i (v ∷ vs) = record { number = v.number; of_type = v.of_type; given = given_at i attributes } ∷ named_from attributes (suc i) vs
 
--- what stands at a place, where something does, as a list
-abbrev pub standing_at : {X Y : Type 0} → (Entry X → List Y) → Cell X → List Y
-standing_at f c = elim c.object [ Some e ↦ f e | None ↦ [] ]
+-- what an object gives, where one stands
+abbrev pub standing : {X Y : Type 0} → (Entry X → List Y) → Option (Entry X) → List Y
+standing f None = []
+standing f (Some e) = f e
 
 -- the value of this number
 abbrev pub numbered_as : {T : Type 0} → ℕ → List (NamedValue T) → Option (NamedValue T)
@@ -91,10 +97,17 @@ numbered_as n [] = None
 numbered_as n (v ∷ vs) = cond (v.number == n) (Some v) (numbered_as n vs)
 
 module _ {T A : Type 0} where
-  -- the values of a context: results of operations that have their data, and arguments of blocks
+  -- the results of an operation
+  abbrev pub named_results : Entry (Node BasicBlock Region (OperationContent (Option (OperationData A)) (Option T))) → List (NamedValue T)
+  named_results e = named_from (attributes_in e.content.content.data_of) 0 e.content.content.results
+
+  -- the arguments of a block
+  abbrev pub named_arguments : Entry (Node Region Operation (BlockContent (BlockData A) (Option T))) → List (NamedValue T)
+  named_arguments e = named_from e.content.content.data_of.attributes 0 e.content.content.arguments
+
+  -- the values of a context: results of operations, also of placeholders, and arguments of blocks
   abbrev pub values_of : ContextView T A → List (NamedValue T)
-  values_of ctx = flat_map (standing_at (λ e. elim e.content.content.data_of [ Some d ↦ named_from d.attributes 0 e.content.content.results | None ↦ [] ])) ctx.graph.operations.cells
-      ++ flat_map (standing_at (λ e. named_from e.content.content.data_of.attributes 0 e.content.content.arguments)) ctx.graph.blocks.cells
+  values_of ctx = flat_map (λ c. standing named_results c.object) ctx.graph.operations.cells ++ flat_map (λ c. standing named_arguments c.object) ctx.graph.blocks.cells
 
   -- the name that is given to the value of this number, where one is
   abbrev pub given_to : ContextView T A → ℕ → Option Text
@@ -106,7 +119,7 @@ module _ {T A : Type 0} where
 
   -- the label of the block of this place and this generation, where it has one
   abbrev pub label_of : ContextView T A → ℕ × ℕ → Option Text
-  label_of ctx at = option_and_then (λ b. b.label) (block ctx (record { index = at.0 - ctx.graph.first_place; generation = at.1 }))
+  label_of ctx at = option_and_then (λ b. b.label) (block ctx (record { index = at.0 - ctx.graph.first_place; generation = at.1; of = record {} }))
 
   -- what printing asks of this context, and of the attributes of the caller
   abbrev pub printing_over : ContextView T A → (A → Bool) → (A → Bool) → (A → A → Bool) → Printing T A
@@ -146,6 +159,14 @@ module _ {T A : Type 0} where
       attributes = entries_of view.attributes;
       location = known_text written ctx.paths view.loc;
     }
+
+    -- the same of what stands under a pointer
+    abbrev pub seen_own : Ptr Operation → Option (GraphOp T A)
+    seen_own p = option_map (seen_operation p) (operation ctx p)
+
+    -- the same of a block
+    abbrev pub seen_head : Ptr BasicBlock → Option (GraphBlock T A)
+    seen_head b = option_map (seen_block b) (block ctx b)
 
     abbrev mutual
       -- regions of pointers as printing sees them: what isn't there is left out
