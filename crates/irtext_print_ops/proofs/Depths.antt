@@ -33,6 +33,7 @@ module _ {X K : Type 0} (s : Store X) where
       test : (c : Cell X) (t : Bool) → (c.generation == p.generation) ≡ t → cond t c.object None ≡ Some x → c.generation ≡ p.generation
       test c true q f = eqb-true c.generation p.generation q
       test c false q f = absurd (cc)
+
       go : (o : Option (Cell X)) → slice_get s.cells p.index ≡ o → object_in o p.generation ≡ Some x → (c : Cell X) × (slice_get s.cells p.index ≡ Some c) × (c.generation ≡ p.generation)
       go None q f = absurd (cc)
       go (Some c) q f = (c, q, test c (c.generation == p.generation) refl f)

@@ -41,6 +41,7 @@ module _ {T A : Type 0} (C : Printing T A) (L : Language ⊤ T A) (width : ℕ) 
     where
       one : (a : ℕ) → a ≡ 0 + a
       one a = omega arith
+
       two : (k a b : ℕ) → k + (a + b) ≡ k + ((0 + a) + b)
       two k a b = omega arith
 
@@ -205,11 +206,12 @@ module _ {T A : Type 0} (C : Printing T A) (L : Language ⊤ T A) (width : ℕ) 
       enters (a_region i l first (block h os bs)) n (unless_first first b ++ block_front L d head) k (a_region i l false bs) (a_block (i + width) l true os)
       (ap (λ z. z ++ closing i) (joined_more first b (block_text L width (i + width) head ops) more)
       ∙ regroup (unless_first first b) (label L head.label) (codes "(") (joined comma (map (argument L) head.arguments)) (codes ")") (dictionary_if L head.attributes) (mark_if L head.mark) (codes ":") (newline d)
-        (joined (between_operations d) ops) (joined_on false b more) (closing i))
+      (joined (between_operations d) ops) (joined_on false b more) (closing i))
       (three k mo (marks_in_blocks C l bs))
     where
       three : (a b c : ℕ) → (a + b) + c ≡ a + (b + c)
       three a b c = omega arith
+
       regroup : (u a b c d e m k nl o r cl : Text) → (u ++ ((a ++ (b ++ (c ++ (d ++ (e ++ (m ++ (k ++ (nl ++ o)))))))) ++ r)) ++ cl
           ≡ (u ++ ((a ++ (b ++ (c ++ (d ++ e)))) ++ (m ++ (k ++ nl)))) ++ (o ++ (r ++ cl))
       regroup u a b c d e m k nl o r cl = simp append_assoc
@@ -240,6 +242,7 @@ module _ {T A : Type 0} (C : Printing T A) (L : Language ⊤ T A) (width : ℕ) 
     where
       regroup : (a b c d : Text) → (a ++ (b ++ c)) ++ d ≡ a ++ (b ++ (c ++ d))
       regroup a b c d = simp append_assoc
+
       regroup_back : (a b c d : Text) → a ++ (b ++ (c ++ d)) ≡ (a ++ (b ++ c)) ++ d
       regroup_back a b c d = simp append_assoc
 
@@ -266,5 +269,6 @@ module _ {T A : Type 0} (C : Printing T A) (L : Language ⊤ T A) (width : ℕ) 
     where
       sum : (a b c : ℕ) → (a + b) + c ≡ a + (b + c)
       sum a b c = omega arith
+
       regroup : (a b c d : Text) → a ++ ((b ++ c) ++ d) ≡ (a ++ b) ++ (c ++ d)
       regroup a b c d = simp append_assoc

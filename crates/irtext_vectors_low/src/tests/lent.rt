@@ -22,12 +22,7 @@ fn is_named(attributes: &AttributeDict<DemoAttr>) -> bool {
 }
 
 /// Puts an identifier under a key of an operation, and says whether that was allowed.
-fn put_there(
-    alloc: Global,
-    ctx: &mut Ctx,
-    op: Ptr<Operation>,
-    key: &str,
-) -> Result<bool, Fail> {
+fn put_there(alloc: Global, ctx: &mut Ctx, op: Ptr<Operation>, key: &str) -> Result<bool, Fail> {
     if !ctx.contains_operation(op) {
         return Err(Fail::from("no such operation"));
     }
@@ -61,12 +56,7 @@ fn make_block(ctx: &mut Ctx) -> Result<Ptr<BasicBlock>, Fail> {
 }
 
 /// Puts an identifier under a key of a block, and says whether that was allowed.
-fn put_into(
-    alloc: Global,
-    ctx: &mut Ctx,
-    block: Ptr<BasicBlock>,
-    key: &str,
-) -> Result<bool, Fail> {
+fn put_into(alloc: Global, ctx: &mut Ctx, block: Ptr<BasicBlock>, key: &str) -> Result<bool, Fail> {
     if !ctx.contains_block(block) {
         return Err(Fail::from("no such block"));
     }
