@@ -96,6 +96,10 @@ abbrev pub numbered_as : {T : Type 0} → ℕ → List (NamedValue T) → Option
 numbered_as n [] = None
 numbered_as n (v ∷ vs) = cond (v.number == n) (Some v) (numbered_as n vs)
 
+-- a value's number and its type, where that is known
+abbrev pub typed_number : {T : Type 0} → Typed (Option T) → Option (ℕ × T)
+typed_number v = option_map (λ t. (v.number, t)) v.of_type
+
 module _ {T A : Type 0} where
   -- the results of an operation
   abbrev pub named_results : Entry (Node BasicBlock Region (OperationContent (Option (OperationData A)) (Option T))) → List (NamedValue T)
@@ -126,10 +130,6 @@ module _ {T A : Type 0} where
   printing_over ctx outlined once same = record { given = given_to ctx; label = label_of ctx; type_of = type_of ctx; own_outlined = outlined; own_once = once; same_own = same; format_of = format_of ctx.dialects }
 
   -- ---- what printing sees
-
-  -- a value's number and its type, where that is known
-  abbrev pub typed_number : Typed (Option T) → Option (ℕ × T)
-  typed_number v = option_map (λ t. (v.number, t)) v.of_type
 
   -- the number of a value, where it is there
   abbrev pub number_of : ContextView T A → Value → Option ℕ
