@@ -1,0 +1,3 @@
+-- What the readers of nested text answer, in reading order: one item's own parts, and then what nests
+pub mod Heads
+pub mod Reached
