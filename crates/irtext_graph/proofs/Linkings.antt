@@ -28,7 +28,8 @@ use Rattle.irtext_graph.specs.Content.{node_of, operation_content, block_content
 use Rattle.irtext_graph.specs.Graph.{seen}
 use Rattle.irtext_graph.specs.Objects.{up, kids, eq_object}
 use Rattle.irtext_graph.specs.Uses.{operand_in, successor_in, result_in, first_of, either, def_of, prev_of, next_of, use_at, head_at, val, eq_site, eq_defined, AreUsesLinked}
-use Rattle.irtext_graph.specs.Linking.{unlinked, site_of, IsBlank}
+use Rattle.irtext_graph.specs.declared.objects.Definition.{Definition}
+use Rattle.irtext_graph.specs.Linking.{unlinked, site_of, Defines, IsBlank}
 use Rattle.irtext_graph.specs.Sound.{IsSound}
 use Rattle.irtext_graph.proofs.Same.{ptr_tells, object_tells}
 use Rattle.irtext_graph.proofs.Nests.{told, renested}
@@ -50,6 +51,20 @@ index_apart Successors p i j ne e = ne (cc)
 pub unlinked_defs : {D : Type 0} (ds : List D) → map (λ u. u.def) (map unlinked ds) ≡ ds
 unlinked_defs [] = refl
 unlinked_defs (d ∷ ds) = ap (λ xs. d ∷ xs) (unlinked_defs ds)
+
+-- an operation is blank whose lists are new uses and new values
+pub blank : {O T : Type 0} (n : Nest BasicBlock Region (OperationData O T)) (value : O) (types : List T) (from : ℕ) (operands : List Value) (successors : List (Ptr BasicBlock))
+    (uses : List (Use Value)) (leads : List (Use (Ptr BasicBlock))) (results : List (Definition T))
+    → n.parent ≡ None → n.children.items ≡ [] → n.data.data ≡ value → n.data.operands ≡ uses → n.data.successors ≡ leads → n.data.results ≡ results
+    → uses ≡ map unlinked operands → leads ≡ map unlinked successors → Defines results types from → IsBlank n value types from operands successors
+blank n value types from operands successors uses leads results alone childless v o s r u l d = record {
+  parent = alone;
+  children = childless;
+  value_is = v;
+  operand_uses = o ∙ u;
+  successor_uses = s ∙ l;
+  results = subst (λ ds. Defines ds types from) (sym r) d;
+}
 
 -- what stands at an index of new uses
 new_use : {D : Type 0} (f : D → Defined) (ds : List D) (i : ℕ) → option_map (either f) (slice_get (map unlinked ds) i) ≡ option_map unlinked (option_map f (slice_get ds i))

@@ -88,6 +88,7 @@ impl<X: Drop> Arena<X> {
 
     /// Stores an object. Its place is the one that was given back last, or else the next new one, and its generation the next of
     /// that place. Places count from `first`, each below the greatest `u32`. Memory is refused, or no place is left: then nothing changes.
+    #[inline(always)]
     pub(crate) fn insert<K>(
         &mut self,
         first: u32,
@@ -99,7 +100,6 @@ impl<X: Drop> Arena<X> {
         ensures err { OnErr result (self.new.slots.items ≡ self.old.slots.items) }
         ensures err_free { OnErr result (self.new.free ≡ self.old.free) }
     {
-        let object = Entry { born, content };
         let index = self.free;
         if (index as usize) < self.slots.len() {
             if let Slot::Vacant(last, next) = &self.slots[index as usize] {
@@ -107,7 +107,7 @@ impl<X: Drop> Arena<X> {
                 let next = *next;
                 if last < u32::MAX - 1 {
                     self.free = next;
-                    self.slots[index as usize] = Slot::Full(last + 1, object);
+                    self.slots[index as usize] = Slot::Full(last + 1, Entry { born, content });
                     return Ok(Ptr {
                         index,
                         generation: last + 1,
@@ -116,11 +116,22 @@ impl<X: Drop> Arena<X> {
                 }
             }
         }
+        self.insert_last(first, born, content)
+    }
+
+    /// Stores an object at a new place, where none that was given back can be used again.
+    fn insert_last<K>(&mut self, first: u32, born: u64, content: X) -> Result<Ptr<K>, AllocError>
+        requires { free_place self.old ≡ None }
+        ensures inserts { IfOk result (λ p. Inserts self.old self.new p (record { born = born; content = content })) }
+        ensures few { HasFew self.old → HasFew self.new }
+        ensures err { OnErr result (self.new.slots.items ≡ self.old.slots.items) }
+        ensures err_free { OnErr result (self.new.free ≡ self.old.free) }
+    {
         let index = self.slots.len();
         if index >= (u32::MAX - first) as usize {
             return Err(AllocError);
         }
-        match self.slots.push(Slot::Full(1, object)) {
+        match self.slots.push(Slot::Full(1, Entry { born, content })) {
             Ok(()) => Ok(Ptr {
                 index: index as u32,
                 generation: 1,

@@ -26,6 +26,7 @@ fn site_at(side: Side, p: Ptr<Operation>, i: usize) -> Site
 }
 
 /// A use of this, in no use list.
+#[inline(always)]
 fn unlinked_use<D>(def: D) -> Use<D>
     ensures { result ≡ unlinked def }
 {
@@ -51,6 +52,7 @@ fn many_unlinked_uses<D: Copy + Drop>(alloc: Global, defs: &[D]) -> Result<Vec<U
 }
 
 /// Uses of these, in no use list. It takes no memory for up to two.
+#[inline(always)]
 pub(crate) fn unlinked_uses<D: Copy + Drop>(
     alloc: Global,
     defs: &[D],

@@ -2,7 +2,7 @@
 ghost use Rattle.std.specs.Prelude.{◌≡◌, ◌≢◌, ◌≤◌, ◌+◌, ◌++◌, ◌∷◌, ℕ, Some, None, [], IsSome, IfOk, OnOk, OnErr, length, slice_get};
 ghost use Rattle.irtext_graph.specs.Graph.{MakesRegion, MakesBlock, MakesOperation, KeepsOlder, Stands};
 ghost use Rattle.irtext_graph.specs.Parts.{ValueStands};
-ghost use Rattle.irtext_graph.specs.Linking.{Defines, IsBlank};
+ghost use Rattle.irtext_graph.specs.Linking.{Defines};
 ghost use Rattle.irtext_graph.specs.Regions.{HasRoom, with_child, AddsRegion};
 ghost use Rattle.irtext_graph.specs.Store.{Edits, before};
 
@@ -12,11 +12,12 @@ use crate::linking::{Side, unlinked_uses};
 use crate::log::{make_room, note};
 use crate::nest::Nest;
 use crate::object::{BasicBlock, Object, Operation, Region, Value};
-use crate::objects::{BlockData, Definition, OperationData, RegionData};
+use crate::objects::{BlockData, Definition, OperationData, RegionData, Use};
 use irtext_few::{Few, Items};
 use std::alloc::{AllocError, Global};
 
 /// A value with this type and this number, which nothing uses.
+#[inline(always)]
 fn definition<T>(of_type: T, number: u64) -> Definition<T>
     ensures { result ≡ record { of_type = of_type; number = number; first = None } }
 {
@@ -46,6 +47,7 @@ fn many_definitions<T: Drop>(
 }
 
 /// Values with these types, numbered from a number on, which nothing uses. It takes no memory for up to two.
+#[inline(always)]
 fn definitions<T: Drop>(
     alloc: Global,
     types: Few<T>,
@@ -65,24 +67,23 @@ fn definitions<T: Drop>(
     }
 }
 
-/// An operation with this data that stands nowhere, holds no region, and names these values and these blocks without being in
-/// their use lists, with results of these types, numbered from a number on, which nothing uses. It takes all memory that the
-/// operation needs, and none for a list of up to two.
+/// An operation with this data and these lists that stands nowhere and holds no region.
+#[inline(always)]
 fn blank_operation<O: Drop, T: Drop>(
     alloc: Global,
     value: O,
-    types: Few<T>,
-    from: u64,
-    operands: &[Value],
-    successors: &[Ptr<BasicBlock>],
-) -> Result<Nest<BasicBlock, Region, OperationData<O, T>>, AllocError>
-    requires { from + length types ≤ 18446744073709551615 }
-    ensures { IfOk result (λ n. IsBlank n value types from operands.now successors.now) }
+    results: Few<Definition<T>>,
+    operands: Few<Use<Value>>,
+    successors: Few<Use<Ptr<BasicBlock>>>,
+) -> Nest<BasicBlock, Region, OperationData<O, T>>
+    ensures parent { result.parent ≡ None }
+    ensures children { result.children.items ≡ [] }
+    ensures value { result.data.data ≡ value }
+    ensures operands { result.data.operands ≡ operands }
+    ensures successors { result.data.successors ≡ successors }
+    ensures results { result.data.results ≡ results }
 {
-    let results = definitions(alloc, types, from)?;
-    let operands = unlinked_uses(alloc, operands)?;
-    let successors = unlinked_uses(alloc, successors)?;
-    Ok(Nest {
+    Nest {
         parent: None,
         children: Vec::new(alloc),
         noted: 0,
@@ -92,7 +93,7 @@ fn blank_operation<O: Drop, T: Drop>(
             successors,
             results,
         },
-    })
+    }
 }
 
 impl<O: Drop, T: Drop> Arena<Nest<BasicBlock, Region, OperationData<O, T>>> {
@@ -248,8 +249,11 @@ impl<O: Drop, B: Drop, T: Drop> Graph<O, B, T> {
         if made == u64::MAX {
             return Err(AllocError);
         }
-        let blank = blank_operation(self.alloc, value, types, values, operands, successors)?;
+        let results = definitions(self.alloc, types, values)?;
+        let used = unlinked_uses(self.alloc, operands)?;
+        let led_to = unlinked_uses(self.alloc, successors)?;
         make_room(&mut self.log)?;
+        let blank = blank_operation(self.alloc, value, results, used, led_to);
         let first = self.counters.first_place;
         let p = self.objects.operations.insert(first, made, blank)?;
         note(&mut self.log, made, Object::TheOperation(p));

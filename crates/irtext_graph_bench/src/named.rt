@@ -56,15 +56,16 @@ fn mention(names: &mut Names, graph: &Measured, text: &str) -> bool
     names.intern(text).is_ok()
 }
 
-/// Makes an operation with one result.
+/// Makes an operation with one result, and looks whether that is there, as whoever defines a name as it does.
 fn make(names: &Names, graph: &mut Measured) -> bool
     requires { AreTied names.now.values names.now.labels graph.old }
     ensures { AreTied names.now.values names.now.labels graph.new }
 {
     let _names = names;
-    graph
-        .make_operation(Some(2), Few::one(Some(7)), &[], &[])
-        .is_ok()
+    let Ok(made) = graph.make_operation(Some(2), Few::one(Some(7)), &[], &[]) else {
+        return false;
+    };
+    graph.contains_value(Value::Result(made, 0))
 }
 
 /// Makes an operation with one result, and defines the name of this number as that.
@@ -134,16 +135,16 @@ fn use_by(names: &mut Names, graph: &mut Measured, text: &str) -> bool
     }
 }
 
-/// Makes a block.
+/// Makes a block, and looks whether it is there.
 fn make_block(names: &Names, graph: &mut Measured) -> bool
     requires { AreTied names.now.values names.now.labels graph.old }
     ensures { AreTied names.now.values names.now.labels graph.new }
 {
     let _names = names;
-    let Ok(_made) = graph.make_block(5, Few::none()) else {
+    let Ok(made) = graph.make_block(5, Few::none()) else {
         return false;
     };
-    true
+    graph.contains(Object::TheBlock(made))
 }
 
 /// Makes a block, and defines the label of this number as that.

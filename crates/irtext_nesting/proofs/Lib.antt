@@ -1,0 +1,4 @@
+pub mod Exact
+pub mod Knot
+pub mod Naming
+pub mod Resume

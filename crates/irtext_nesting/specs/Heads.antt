@@ -1,6 +1,6 @@
 -- Between functions: what a text is to the readers of an operation's own parts and of a block's header: all but what nests, with each
 -- fault's cause and place. A place is the number of characters from it to the end of the text.
-use Rattle.std.specs.Prelude.{ℕ, Bool, true, false, cond, is_some, List, [], ◌∷◌, ◌++◌, length, map, Option, Some, None, codes}
+use Rattle.std.specs.Prelude.{ℕ, Bool, true, false, List, [], ◌∷◌, length, map, Option, Some, None, codes}
 use Rattle.irtext_base.specs.Text.{Text, begins}
 use Rattle.irtext_base.specs.Reading.{the}
 use Rattle.irtext_base.specs.Format as format

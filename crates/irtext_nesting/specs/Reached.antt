@@ -1,9 +1,9 @@
 -- Between functions: what a text is to the readers of operations, blocks and regions, however deep, with what its items do as they are
 -- read at its side. A fault of the text carries what had been done there.
-use Rattle.std.specs.Prelude.{ℕ, zero, suc, ◌-◌, Bool, true, cond, ◌==◌, ◌||◌, List, [], ◌∷◌, ◌++◌, length, Option, Some, None, codes, ⊤}
+use Rattle.std.specs.Prelude.{ℕ, zero, suc, ◌-◌, Bool, true, cond, ◌==◌, ◌||◌, List, [], ◌∷◌, ◌++◌, length, Option, Some, None, codes}
 use Rattle.irtext_base.specs.Text.{Text, begins, begins_word, after_space}
 use Rattle.irtext_base.specs.Reading.{the}
-use Rattle.irtext_base.specs.Format.{Format, Id}
+use Rattle.irtext_base.specs.Format.{Id}
 use Rattle.irtext_base.specs.Faults.{Fault, Memory}
 use Rattle.irtext_base.specs.Answers.{Outcome, Read, Missing, Bad}
 use Rattle.irtext_base.specs.Locations.{AttrView}
@@ -142,11 +142,6 @@ module _ {T A S : Type 0} (dialects : List (Text × Table)) (types_at : Text →
 
 -- ---- what a tree does
 
--- where a region stands; one that is left out stands nowhere
-abbrev pub brace_place : Brace ℕ → ℕ
-brace_place (shown place) = place
-brace_place elided = 0
-
 module _ {T A : Type 0} where
   -- the parts of a body in front of its first region
   abbrev pub front_parts : List (Part ℕ T A) → List (Part ℕ T A)
@@ -179,11 +174,16 @@ module _ {T A S : Type 0} (isolated : Id → Bool) (does : Doing T A S) where
   do_operation o rs s = does.marks o.mark (does.closes o.place o.names o.id (parts_of o.body)
       (do_parts o.place o.id (region_parts (parts_of o.body)) rs (does.uses o.place o.id (front_parts (parts_of o.body)) s)))
 
+  -- what a region does in its braces, where its operation is isolated or not, with what its blocks do; one that is left out does nothing
+  abbrev pub do_region : Bool → Brace ℕ → (S → S) → S → S
+  do_region iso (shown place) inside s = does.leaves iso place (inside (does.enters iso s))
+  do_region iso elided inside s = s
+
   abbrev mutual
     -- what each region does, where its operation is isolated or not
     pub do_regions : Bool → Regions (Op ℕ T A) (Head ℕ T A) (Brace ℕ) → List (S → S)
     do_regions iso no_regions = []
-    do_regions iso (region brace bs rs) = (λ s. does.leaves iso (brace_place brace) (do_blocks bs (does.enters iso s))) ∷ do_regions iso rs
+    do_regions iso (region brace bs rs) = do_region iso brace (do_blocks bs) ∷ do_regions iso rs
 
     -- what blocks do
     pub do_blocks : Blocks (Op ℕ T A) (Head ℕ T A) (Brace ℕ) → S → S

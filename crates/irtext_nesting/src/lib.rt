@@ -1,3 +1,5 @@
-//! Theory without code: what a text is to the readers of operations, blocks and regions, however deep, with what its items do as they
-//! are read at its side. Only definitions stand here so far: no call promises anything of them.
+//! What a text is to the readers of operations, blocks and regions, however deep, with what its items do as they are read at its side:
+//! theory, and the laws that it ends in.
 #![tactic(auto)]
+
+pub mod laws;

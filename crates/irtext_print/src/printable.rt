@@ -57,7 +57,7 @@ const SPACES: &str = "                                                          
 const NEWLINE: &str = "\n                                                                ";
 
 /// Appends a newline and so many spaces. It fails only where memory is refused.
-pub(crate) fn fmt_newline(indent: u16, f: &mut String) -> fmt::Result
+pub fn fmt_newline(indent: u16, f: &mut String) -> fmt::Result
     ensures { OnOk result (string_bytes f.new ≡ string_bytes f.old ++ newline indent) }
 {
     f.push_str(&NEWLINE[..1 + (indent % 64) as usize])?;

@@ -21,17 +21,19 @@ pub data Open (T A : Type 0) : Type 0 where
 abbrev pub joined_on : Bool → Text → List Text → Text
 joined_on first between ts = cond first (joined between ts) (joined_from between ts)
 
--- what stands in front of a region's blocks, and behind them, at an indentation, with the width of one more
+-- what stands in front of a region's blocks at an indentation, with the width of one more
 abbrev pub opening : ℕ → ℕ → Text
 opening width i = newline i ++ (codes "{" ++ newline (i + width))
 
+-- what stands behind them
 abbrev pub closing : ℕ → Text
 closing i = newline i ++ codes "}"
 
--- what stands between blocks and between operations at an indentation
+-- what stands between blocks at an indentation
 abbrev pub between_blocks : ℕ → Text
 between_blocks i = 10 ∷ newline i
 
+-- what stands between operations
 abbrev pub between_operations : ℕ → Text
 between_operations i = codes ";" ++ newline i
 

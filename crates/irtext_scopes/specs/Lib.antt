@@ -2,3 +2,4 @@ pub mod Names
 pub mod Scopes
 pub mod Bindings
 pub mod Tracker
+pub mod Texts

@@ -1,12 +1,11 @@
 -- Names that are kept once, each under its number.
-use Rattle.std.specs.Prelude.{◌≡◌, ℕ, Option, Some, None, List, [], ◌∷◌, ◌++◌, length, position, slice_get, map, string_bytes, String}
+use Rattle.std.specs.Prelude.{◌≡◌, ℕ, Option, Some, None, List, [], ◌∷◌, ◌++◌, length, position, slice_get}
 use Rattle.std.specs.HashSet.{HashSet}
-use Rattle.std.specs.declared.alloc.Global.{Global}
 use Rattle.std.specs.Str.{bytes_eq}
 
 -- the texts of names, in bytes
-abbrev pub name_texts : {S : Type 0} → HashSet (String Global) S → List (List ℕ)
-name_texts names = map string_bytes names.keys
+abbrev pub name_texts : {S : Type 0} → HashSet (List ℕ) S → List (List ℕ)
+name_texts names = names.keys
 
 -- the number that was found, or else the next one
 abbrev pub number_or_next : Option ℕ → List (List ℕ) → ℕ

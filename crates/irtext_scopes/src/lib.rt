@@ -4,4 +4,5 @@
 
 pub mod names;
 pub mod scopes;
+mod text;
 pub mod tracker;

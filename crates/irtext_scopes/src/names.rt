@@ -4,6 +4,7 @@ ghost use Rattle.std.specs.List.{list_any};
 ghost use Rattle.std.specs.Str.{bytes_eq};
 ghost use Rattle.irtext_scopes.specs.Names.{name_texts, number_of, with_name, KeepsNames, AreDistinct};
 
+use crate::text::NameText;
 use indexmap::IndexSet;
 use std::alloc::{AllocError, Global};
 use std::marker::Model;
@@ -11,7 +12,7 @@ use std::marker::Model;
 /// Names, each kept once under its number.
 #[derive(Drop)]
 pub struct Names {
-    texts: IndexSet<String>,
+    texts: IndexSet<NameText>,
     alloc: Global,
 }
 
@@ -26,24 +27,24 @@ impl Model for Names {
     ghost invariant = { λ n. AreDistinct (name_texts n.texts) };
 }
 
-fn find(names: &IndexSet<String>, text: &str) -> Option<usize>
+fn find(names: &IndexSet<NameText>, text: &str) -> Option<usize>
     ensures index { result ≡ position (bytes_eq text.now) (name_texts names.now) }
     ensures found { is_some result ≡ list_any (bytes_eq text.now) (name_texts names.now) }
 {
     names.get_index_of(text)
 }
 
-fn put_last(names: &mut IndexSet<String>, alloc: Global, text: &str) -> Result<(), AllocError>
+fn put_last(names: &mut IndexSet<NameText>, alloc: Global, text: &str) -> Result<(), AllocError>
     requires { list_any (bytes_eq text.now) (name_texts names.old) ≡ false }
     ensures ok { OnOk result (name_texts names.new ≡ name_texts names.old ++ text.now ∷ []) }
     ensures err { OnErr result (name_texts names.new ≡ name_texts names.old) }
 {
-    let text = String::from_str(alloc, text)?;
+    let text = NameText::of(alloc, text)?;
     names.insert(text)?;
     Ok(())
 }
 
-fn keep(names: &mut IndexSet<String>, alloc: Global, text: &str) -> Result<usize, AllocError>
+fn keep(names: &mut IndexSet<NameText>, alloc: Global, text: &str) -> Result<usize, AllocError>
     ensures number { IfOk result (λ i. i ≡ number_of (name_texts names.old) text.now) }
     ensures kept { OnOk result (name_texts names.new ≡ with_name (name_texts names.old) text.now) }
     ensures err { OnErr result (name_texts names.new ≡ name_texts names.old) }
@@ -57,7 +58,7 @@ fn keep(names: &mut IndexSet<String>, alloc: Global, text: &str) -> Result<usize
     Ok(number)
 }
 
-fn text_at(names: &IndexSet<String>, number: usize) -> &str
+fn text_at(names: &IndexSet<NameText>, number: usize) -> &str
     requires { number < length (name_texts names.now) }
     ensures { slice_get (name_texts names.now) number ≡ Some result.now }
 {

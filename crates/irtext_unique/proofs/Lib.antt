@@ -1,1 +1,1 @@
-mod AsciiNames
+pub mod AsciiNames

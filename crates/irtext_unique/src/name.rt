@@ -54,7 +54,7 @@ fn given_to_argument<'c, T: IrText<A>, A: AttrText>(
 }
 
 /// The name that is given to a value, where one is.
-fn given_name<T: IrText<A>, A: AttrText>(ctx: &Context<T, A>, v: Value) -> Option<&Identifier>
+pub fn given_name<T: IrText<A>, A: AttrText>(ctx: &Context<T, A>, v: Value) -> Option<&Identifier>
     requires { ValueStands ctx.now.graph v }
     ensures { option_copied result ≡ given_name ctx.now v }
 {

@@ -22,8 +22,6 @@ mod parts;
 #[cfg(test)]
 mod places;
 #[cfg(test)]
-mod random;
-#[cfg(test)]
 mod results;
 #[cfg(test)]
 mod script;

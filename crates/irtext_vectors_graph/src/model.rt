@@ -1,8 +1,8 @@
 //! A plain model of a graph: its objects in one vector, in the order in which they were made. Everything is found by looking through
 //! it, and there are no lists of uses.
-use crate::random::Random;
 use irtext_graph::arena::Ptr;
 use irtext_graph::object::{BasicBlock, Defined, Object, Operation, Site, Value};
+use irtext_vectors_scripts::random::Random;
 use std::alloc::{AllocError, Global};
 
 /// What an object is made of: its data, how many results or arguments it has, and what it uses. What its kind does not have is

@@ -7,10 +7,10 @@ ghost use Rattle.irtext_graph.specs.Used.{AreAlike};
 use crate::compared::{agree, is_defined, type_of};
 use crate::model::{Model, Parts};
 use crate::nesting::put;
-use crate::random::Random;
 use irtext_few::Few;
 use irtext_graph::graph::Graph;
 use irtext_graph::object::{Defined, Object};
+use irtext_vectors_scripts::random::Random;
 use std::alloc::{AllocError, Global};
 use std::test::Fail;
 
@@ -119,9 +119,7 @@ impl Script {
     pub(crate) fn new(alloc: Global) -> Script {
         Script {
             alloc,
-            random: Random {
-                state: 88172645463325252,
-            },
+            random: Random::new(),
             model: Model {
                 alloc,
                 items: Vec::new(alloc),

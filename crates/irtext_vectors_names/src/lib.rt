@@ -9,7 +9,7 @@ mod memory;
 #[cfg(test)]
 mod model;
 #[cfg(test)]
-mod random;
+mod rowed;
 #[cfg(test)]
 mod rows;
 #[cfg(test)]

@@ -1,7 +1,9 @@
 //! A plain model of names over a graph: the scopes that are open as vectors of what they bind, which are searched, and what each use
 //! has to hold.
 use crate::held::Held;
-use crate::steps::{Answer, Call};
+use crate::steps::Answer;
+use irtext_vectors_scripts::calls::Call;
+use irtext_vectors_scripts::mentioned::Mentioned;
 use std::alloc::{AllocError, Global};
 
 /// A name as a scope binds it, and the index of what it stands for.
@@ -144,12 +146,12 @@ impl Table {
     }
 }
 
-/// The names of values and of labels, and the names that were mentioned, each by its index in the table of texts.
+/// The names of values and of labels, and the names that were mentioned.
 #[derive(Drop)]
 pub(crate) struct Model {
     pub(crate) values: Table,
     pub(crate) labels: Table,
-    names: Vec<usize>,
+    pub(crate) names: Mentioned,
 }
 
 impl Model {
@@ -158,20 +160,8 @@ impl Model {
         Model {
             values: Table::new(alloc),
             labels: Table::new(alloc),
-            names: Vec::new(alloc),
+            names: Mentioned::new(alloc),
         }
-    }
-
-    /// The number of a name, which is where it stands among those that were mentioned.
-    pub(crate) fn intern(&mut self, text: usize) -> Result<usize, AllocError> {
-        for (number, known) in self.names.iter().enumerate() {
-            if *known == text {
-                return Ok(number);
-            }
-        }
-        let number = self.names.len();
-        self.names.push(text)?;
-        Ok(number)
     }
 
     /// Whether a region is open.
@@ -208,7 +198,7 @@ impl Model {
         call: Call,
         name: usize,
     ) -> Result<(usize, Answer), AllocError> {
-        let isolated = matches!(call, Call::EnterIsolated | Call::ExitIsolated);
+        let isolated = call.is_isolated();
         let answer = match call {
             Call::Enter | Call::EnterIsolated => self.enter(isolated)?,
             Call::Exit | Call::ExitIsolated => {

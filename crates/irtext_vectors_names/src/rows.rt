@@ -4,13 +4,14 @@ ghost use Rattle.irtext_names.specs.Tied.{AreTied};
 use crate::held::Held::{Definition, Waits};
 use crate::held::{Held, holds_all};
 use crate::steps::Answer::{Done, Lacks, NoScope, NotIsolated, Twice};
-use crate::steps::Call::{
-    Define, DefineLabel, Enter, EnterIsolated, Exit, ExitIsolated, Use, UseLabel,
-};
-use crate::steps::{Answer, Call, Made, Names, Tested, step};
+use crate::steps::{Answer, Made, Names, Tested, step};
 use irtext_graph::graph::Graph;
 use irtext_graph::object::Defined;
 use irtext_names::regions::no_names;
+use irtext_vectors_scripts::calls::Call;
+use irtext_vectors_scripts::calls::Call::{
+    Define, DefineLabel, Enter, EnterIsolated, Exit, ExitIsolated, Use, UseLabel,
+};
 use std::alloc::{AllocError, Global};
 use std::test::Fail;
 

@@ -3,13 +3,11 @@ ghost use Rattle.irtext_names.specs.Tied.{AreTied};
 
 use crate::held::holds_all;
 use crate::model::Model;
-use crate::random::Random;
-use crate::steps::Call::{
-    Define, DefineLabel, Enter, EnterIsolated, Exit, ExitIsolated, Use, UseLabel,
-};
-use crate::steps::{Call, Made, Names, Tested, step};
+use crate::steps::{Made, Names, Tested, step};
 use irtext_graph::graph::Graph;
 use irtext_names::regions::no_names;
+use irtext_vectors_scripts::calls::{Call, NAMES, next_call};
+use irtext_vectors_scripts::random::Random;
 use std::alloc::{AllocError, Global};
 use std::test::Fail;
 
@@ -18,40 +16,13 @@ const CALLS: usize = 20000;
 
 const LEFT: usize = 1000;
 
-// the calls, each as often as it is to come
-const KINDS: &[Call] = &[
-    Enter,
-    EnterIsolated,
-    EnterIsolated,
-    Exit,
-    ExitIsolated,
-    ExitIsolated,
-    Use,
-    Use,
-    Use,
-    Use,
-    Define,
-    Define,
-    UseLabel,
-    UseLabel,
-    UseLabel,
-    DefineLabel,
-];
-
-const NAMES: &[&str] = &[
-    "a", "b", "c", "d", "e", "f", "g", "h", "aa", "ab", "ba", "bb", "block", "block_1", "v", "v_1",
-];
-
 /// The next call, and the index of the name that it is about: regions alone are left behind the last one.
 fn next(random: &mut Random, number: usize) -> (Call, usize) {
-    let name = random.below(NAMES.len());
+    let (call, name) = next_call(random);
     if number >= CALLS {
-        return (ExitIsolated, name);
+        return (Call::ExitIsolated, name);
     }
-    match KINDS.get(random.below(KINDS.len())) {
-        Some(call) => (*call, name),
-        None => (ExitIsolated, name),
-    }
+    (call, name)
 }
 
 /// Whether names and their model answer a call about the name of this index alike.
@@ -70,7 +41,7 @@ fn answer_alike(
         return Ok(false);
     };
     let name = names.intern(text)?;
-    if name != model.intern(index)? {
+    if name != model.names.intern(index)? {
         return Ok(false);
     }
     let (asked, answer) = model.answer(call, name)?;
@@ -86,9 +57,7 @@ fn differing(
 ) -> Result<Option<usize>, AllocError>
     requires { AreTied names.old.values names.old.labels graph.old }
 {
-    let mut random = Random {
-        state: 88172645463325252,
-    };
+    let mut random = Random::new();
     for number in 0..CALLS + LEFT {
         let next = next(&mut random, number);
         if !answer_alike(names, graph, made, model, next)? {

@@ -10,24 +10,12 @@ use irtext_names::regions::{enter_region, exit_region};
 use irtext_names::values::{ssa_def, ssa_opd};
 use irtext_scopes::scopes::DefineFault;
 use irtext_scopes::tracker::{EnterFault, NameTracker};
+use irtext_vectors_scripts::calls::Call;
 use std::alloc::{AllocError, Global};
 
 pub(crate) type Names = NameTracker<Value, Ptr<BasicBlock>>;
 
 pub(crate) type Tested = Graph<Option<u32>, u32, Option<u8>>;
-
-/// What is asked of names over a graph.
-#[derive(Clone, Copy)]
-pub(crate) enum Call {
-    Enter,
-    EnterIsolated,
-    Exit,
-    ExitIsolated,
-    Use,
-    Define,
-    UseLabel,
-    DefineLabel,
-}
 
 /// What is answered: that it was done, that no scope is open for it, that a region is not isolated where it has to be, that a name is
 /// defined already, that a region lacks this name or another one, or that memory was refused.

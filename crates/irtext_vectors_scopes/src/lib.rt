@@ -5,8 +5,6 @@
 #[cfg(test)]
 mod model;
 #[cfg(test)]
-mod random;
-#[cfg(test)]
 mod script;
 #[cfg(test)]
 mod sizes;

@@ -1,5 +1,7 @@
 //! A plain model of a tracker: the scopes that are open as vectors of what they bind, which are searched.
-use crate::steps::{Answer, Call};
+use crate::steps::Answer;
+use irtext_vectors_scripts::calls::Call;
+use irtext_vectors_scripts::mentioned::Mentioned;
 use std::alloc::{AllocError, Global};
 
 /// A name as a scope binds it: to a definition, or to the placeholder that waits for one.
@@ -100,12 +102,12 @@ impl Table {
     }
 }
 
-/// The scopes of values and of labels, and the names that were mentioned, each by its index in the table of texts.
+/// The scopes of values and of labels, and the names that were mentioned.
 #[derive(Drop)]
 pub(crate) struct Model {
     values: Table,
     labels: Table,
-    names: Vec<usize>,
+    pub(crate) names: Mentioned,
 }
 
 impl Model {
@@ -114,20 +116,8 @@ impl Model {
         Model {
             values: Table::new(alloc),
             labels: Table::new(alloc),
-            names: Vec::new(alloc),
+            names: Mentioned::new(alloc),
         }
-    }
-
-    /// The number of a name, which is where it stands among those that were mentioned.
-    pub(crate) fn intern(&mut self, text: usize) -> Result<usize, AllocError> {
-        for (number, known) in self.names.iter().enumerate() {
-            if *known == text {
-                return Ok(number);
-            }
-        }
-        let number = self.names.len();
-        self.names.push(text)?;
-        Ok(number)
     }
 
     fn enter(&mut self, isolated: bool) -> Result<Answer, AllocError> {
@@ -154,7 +144,7 @@ impl Model {
         name: usize,
         value: u32,
     ) -> Result<(usize, Answer), AllocError> {
-        let isolated = matches!(call, Call::EnterIsolated | Call::ExitIsolated);
+        let isolated = call.is_isolated();
         let answer = match call {
             Call::Enter | Call::EnterIsolated => self.enter(isolated)?,
             Call::Exit | Call::ExitIsolated => {

@@ -1,40 +1,14 @@
 //! A random script: a tracker and a plain model of it are asked the same.
 use crate::model::Model;
-use crate::random::Random;
-use crate::steps::Call::{
-    Define, DefineLabel, Enter, EnterIsolated, Exit, ExitIsolated, Use, UseLabel,
-};
-use crate::steps::{Call, Tracker, step};
+use crate::steps::{Tracker, step};
 use irtext_scopes::tracker::NameTracker;
+use irtext_vectors_scripts::calls::{NAMES, next_call};
+use irtext_vectors_scripts::random::Random;
 use std::alloc::AllocError;
 use std::test::Fail;
 
 // how many calls are made
 const CALLS: usize = 20000;
-
-// the calls, each as often as it is to come
-const KINDS: &[Call] = &[
-    Enter,
-    EnterIsolated,
-    EnterIsolated,
-    Exit,
-    ExitIsolated,
-    ExitIsolated,
-    Use,
-    Use,
-    Use,
-    Use,
-    Define,
-    Define,
-    UseLabel,
-    UseLabel,
-    UseLabel,
-    DefineLabel,
-];
-
-const NAMES: &[&str] = &[
-    "a", "b", "c", "d", "e", "f", "g", "h", "aa", "ab", "ba", "bb", "block", "block_1", "v", "v_1",
-];
 
 /// Whether a tracker and its model answer the next call alike.
 fn answer_alike(
@@ -42,17 +16,17 @@ fn answer_alike(
     model: &mut Model,
     random: &mut Random,
 ) -> Result<bool, AllocError> {
-    let index = random.below(NAMES.len());
-    let (Some(text), Some(call)) = (NAMES.get(index), KINDS.get(random.below(KINDS.len()))) else {
+    let (call, index) = next_call(random);
+    let Some(text) = NAMES.get(index) else {
         return Ok(false);
     };
     let name = tracker.intern(text)?;
-    if name != model.intern(index)? || tracker.name(name) != *text {
+    if name != model.names.intern(index)? || tracker.name(name) != *text {
         return Ok(false);
     }
     let value = (random.state % 1000000) as u32;
-    let (asked, answer) = model.answer(*call, name, value)?;
-    Ok(asked < tracker.num_names() && step(tracker, *call, asked, value)? == answer)
+    let (asked, answer) = model.answer(call, name, value)?;
+    Ok(asked < tracker.num_names() && step(tracker, call, asked, value)? == answer)
 }
 
 /// The number of the first call that the two answer differently. To look at the call, let the script end there.
@@ -61,9 +35,7 @@ fn differing(
     model: &mut Model,
     calls: usize,
 ) -> Result<Option<usize>, AllocError> {
-    let mut random = Random {
-        state: 88172645463325252,
-    };
+    let mut random = Random::new();
     for number in 0..calls {
         if !answer_alike(tracker, model, &mut random)? {
             return Ok(Some(number));

@@ -1,8 +1,11 @@
 //! Many names, many uses, and many scopes.
 use crate::steps::Answer::{Done, Holds};
-use crate::steps::Call::{Define, DefineLabel, EnterIsolated, ExitIsolated, Use, UseLabel};
-use crate::steps::{Answer, Call, Tracker, step};
+use crate::steps::{Answer, Tracker, step};
 use irtext_scopes::tracker::NameTracker;
+use irtext_vectors_scripts::calls::Call;
+use irtext_vectors_scripts::calls::Call::{
+    Define, DefineLabel, EnterIsolated, ExitIsolated, Use, UseLabel,
+};
 use std::alloc::{AllocError, Global};
 use std::test::Fail;
 

@@ -2,22 +2,10 @@
 ghost use Rattle.std.specs.Prelude.{◌<◌, length};
 
 use irtext_scopes::tracker::NameTracker;
+use irtext_vectors_scripts::calls::Call;
 use std::alloc::{AllocError, Global};
 
 pub(crate) type Tracker = NameTracker<u32, u32>;
-
-/// What is asked of a tracker.
-#[derive(Clone, Copy)]
-pub(crate) enum Call {
-    Enter,
-    EnterIsolated,
-    Exit,
-    ExitIsolated,
-    Use,
-    Define,
-    UseLabel,
-    DefineLabel,
-}
 
 /// What it answers: that it was done, that it was refused, what a name stands for or stood for, or that a
 /// region lacks this name.

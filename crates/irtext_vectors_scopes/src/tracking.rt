@@ -1,10 +1,10 @@
 //! What names stand for in scopes that begin, hide one another and end.
 use crate::steps::Answer::{Done, Holds, Lacks, Refused};
-use crate::steps::Call::{
-    Define, DefineLabel, Enter, EnterIsolated, Exit, ExitIsolated, Use, UseLabel,
-};
 use crate::steps::{Row, Tracker, differing};
 use irtext_scopes::tracker::NameTracker;
+use irtext_vectors_scripts::calls::Call::{
+    Define, DefineLabel, Enter, EnterIsolated, Exit, ExitIsolated, Use, UseLabel,
+};
 use std::test::Fail;
 
 // a name is used before it is defined, and defined once

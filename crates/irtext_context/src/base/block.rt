@@ -1,5 +1,5 @@
 //! Blocks: what a context holds of one, and how it is read and written.
-ghost use Rattle.std.specs.Prelude.{◌≡◌, ◌≤◌, ℕ, List, Some, None, false, IsSome, IfErr, OnOk, OnErr, option_map, option_copied};
+ghost use Rattle.std.specs.Prelude.{◌≡◌, ◌≤◌, ℕ, List, [], Some, None, false, IsSome, IfErr, OnOk, OnErr, option_map, option_copied};
 ghost use Rattle.std.specs.Borrow.{sem};
 ghost use Rattle.irtext_base.specs.Text.{Text};
 ghost use Rattle.irtext_dict.specs.Dictionary.{is_reserved_for, RefusesEntry};
@@ -15,6 +15,7 @@ use irtext_base::location::Location;
 use irtext_base::text::{AttrText, IrText};
 use irtext_dict::base::AttributeDict;
 pub use make::NewBlock;
+use std::alloc::Global;
 
 /// A block's label, where it has one, its attributes and where it comes from.
 #[derive(Drop)]
@@ -22,6 +23,21 @@ pub struct BlockData<A> {
     pub(crate) label: Option<Identifier>,
     pub(crate) attributes: AttributeDict<A>,
     pub(crate) loc: Location<A>,
+}
+
+impl<A: Drop> BlockData<A> {
+    ghost use Rattle.irtext_base.specs.declared.location.Location.{Unknown};
+
+    /// Neither a label nor attributes nor a location. It takes no memory.
+    pub fn blank(alloc: Global) -> BlockData<A>
+        ensures { result ≡ record { label = None; attributes = []; loc = Unknown } }
+    {
+        BlockData {
+            label: None,
+            attributes: AttributeDict::new(alloc),
+            loc: Location::Unknown,
+        }
+    }
 }
 
 /// What the context holds of a block.

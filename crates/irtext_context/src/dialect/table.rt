@@ -114,10 +114,10 @@ impl<T: IrText<A>, A: AttrText> Context<T, A> {
         ensures ok { IfOk result (λ i. (i ≡ id) × IsSome (registered self.now.dialects id)) }
         ensures refused { IfErr result (λ cause. IsUnregistered self.now.dialects id cause) }
     {
-        if !self.has_dialect(&id.dialect) {
+        let Some(dialect) = self.dialects.get(&id.dialect) else {
             return Err(Cause::UnregisteredDialect(id.dialect));
-        }
-        if self.op_info(&id).is_none() {
+        };
+        if dialect.op(&id).is_none() {
             return Err(Cause::UnregisteredOp(id));
         }
         Ok(id)

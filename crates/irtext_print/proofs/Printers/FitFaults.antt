@@ -1,5 +1,6 @@
 -- Why an operation does not fit its format, as the code goes through its parts.
 use Rattle.std.proofs.Common.{◌≡◌, ◌∙◌, ◌&&◌, ◌||◌, ◌==◌, not, Bool, true, false, cond, ℕ, List, [], ◌∷◌, refl, sym, ap, Option, Some, None, is_some, is_none, length, subst}
+use denote.Ref.{Bor}
 use Rattle.std.specs.List.{find, list_all}
 use Rattle.std.specs.Option.{option_map}
 use Rattle.irtext_base.specs.Text.{Text}
@@ -7,6 +8,8 @@ use Rattle.irtext_base.specs.Format as format
 use Rattle.irtext_base.specs.Faults.{id_of}
 use Rattle.irtext_base.specs.declared.base.identifier.OpId.{OpId}
 use Rattle.irtext_context.specs.Context.{OperationView}
+use Rattle.irtext_context.specs.Dialects.{Known, known_of}
+use Rattle.irtext_context.specs.declared.dialect.OpInfo.{OpInfo}
 use Rattle.irtext_base.specs.Format.{Format, Directive, count, keys, has, same_text, is_dictionary}
 use Rattle.irtext_base.specs.declared.base.attributes.AttrObj.{AttrObj}
 use Rattle.irtext_grammar.specs.Contexts.Held.{attribute_of, entries_of}
@@ -20,7 +23,8 @@ use Rattle.irtext_print.specs.Printers.PrintedOperation.{is_supported, regions_f
 use Rattle.irtext_print.proofs.Printers.FitsTests.{written_key}
 use Rattle.irtext_print.proofs.Printers.OperationTexts.{Given, seen}
 
-not_not : (b : Bool) → not (not b) ≡ b
+-- not true is false, and not false is true
+pub not_not : (b : Bool) → not (not b) ≡ b
 not_not true = refl
 not_not false = refl
 
@@ -34,13 +38,18 @@ found_none fails passes h (x ∷ xs) = ap (λ b. b && list_all passes xs) (sym (
     go false e = e
 
 -- the same of the keys of entries
-key_none : {X : Type 0} (fails passes : Text × X → Bool) → ((e : Text × X) → not (fails e) ≡ passes e) → (es : List (Text × X)) → list_all passes es ≡ is_none (first_key fails es)
+pub key_none : {X : Type 0} (fails passes : Text × X → Bool) → ((e : Text × X) → not (fails e) ≡ passes e) → (es : List (Text × X)) → list_all passes es ≡ is_none (first_key fails es)
 key_none fails passes h [] = refl
 key_none fails passes h (e ∷ es) = ap (λ b. b && list_all passes es) (sym (h e)) ∙ go (fails e) (key_none fails passes h es)
   where
     go : (b : Bool) → list_all passes es ≡ is_none (first_key fails es) → (not b && list_all passes es) ≡ is_none (cond b (Some e.0) (first_key fails es))
     go true q = refl
     go false q = q
+
+-- the format of what is known of an operation, where that is found
+pub format_found : {o : Option Known} {found info : Option (Bor OpInfo)} → option_map (λ (i : Bor OpInfo). known_of i.now) found ≡ o → found ≡ info
+    → option_map (λ (known : Known). known.format) o ≡ option_map (λ (known : Known). known.format) (option_map (λ (i : Bor OpInfo). known_of i.now) info)
+format_found f e = ap (option_map (λ (known : Known). known.format)) (sym f ∙ ap (option_map (λ (i : Bor OpInfo). known_of i.now)) e)
 
 module _ {A : Type 0} (es : List (Text × Attribute A)) where
   -- whether the keys that are named are there

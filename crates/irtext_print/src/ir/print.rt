@@ -22,7 +22,7 @@ pub mod concrete;
 pub mod debug;
 mod directives;
 pub mod fits;
-pub(crate) mod pieces;
+pub mod pieces;
 pub(crate) mod regions;
 
 /// Appends a mark with this index.

@@ -18,7 +18,7 @@ pub enum Refusal {
 }
 
 /// The answer of a call that fails only where memory is refused.
-pub(crate) fn memory_alone(answer: fmt::Result) -> Result<(), Refusal>
+pub fn memory_alone(answer: fmt::Result) -> Result<(), Refusal>
     ensures ok { OnOk result (IsOk answer) }
     ensures refused { IfErr result (λ e. e ≡ refusal.Memory) }
 {

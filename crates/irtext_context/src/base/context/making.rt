@@ -6,12 +6,13 @@ ghost use Rattle.irtext_graph.specs.Back.{AllOlder, IsClosedBelow};
 ghost use Rattle.irtext_graph.specs.Graph.{Stands};
 ghost use Rattle.irtext_graph.specs.Store.{before};
 ghost use Rattle.irtext_graph.specs.declared.object.Object.TheVariants.{TheOperation};
+ghost use Rattle.irtext_context.specs.Made.{BlocksStand, ValuesStand};
 ghost use Rattle.irtext_context.specs.Context.{KeepsOlder, RollsBack, MakesOperation, MakesBlock, AddsRegion};
 
 use crate::base::block::BlockData;
 use crate::base::operation::OperationData;
 use crate::base::types::known_types;
-use crate::base::{BasicBlock, Context, Operation, Ptr, Region};
+use crate::base::{BasicBlock, Context, Operation, Ptr, Region, Value};
 use irtext_base::base::{Identifier, OpId};
 use irtext_base::location::{Location, PathKey};
 use irtext_base::text::{AttrText, IrText};
@@ -41,6 +42,24 @@ pub trait Making<T: IrText<A>, A: AttrText> {
     ) -> Result<Ptr<Operation>, AllocError>
         ensures made { IfOk result (λ p. MakesOperation (seen self.old) (seen self.new) p
             (record { id = id; attributes = attributes; loc = loc }) [] [] []) }
+        ensures err { OnErr result (seen self.new ≡ seen self.old) }
+        ensures kept { (mark : ℕ) → mark ≤ (seen self.old).graph.made → KeepsOlder mark (seen self.old) (seen self.new) };
+
+    /// Makes an operation without regions, with results of these types, which uses these values and these blocks. Where memory is refused,
+    /// or a counter is full, nothing changes.
+    fn make_operation_with(
+        &mut self,
+        id: OpId,
+        attributes: AttributeDict<A>,
+        loc: Location<A>,
+        result_types: Few<T>,
+        operands: &[Value],
+        successors: &[Ptr<BasicBlock>],
+    ) -> Result<Ptr<Operation>, AllocError>
+        requires operands { ValuesStand (seen self.old) operands.now }
+        requires successors { BlocksStand (seen self.old) successors.now }
+        ensures made { IfOk result (λ p. MakesOperation (seen self.old) (seen self.new) p
+            (record { id = id; attributes = attributes; loc = loc }) result_types operands.now successors.now) }
         ensures err { OnErr result (seen self.new ≡ seen self.old) }
         ensures kept { (mark : ℕ) → mark ≤ (seen self.old).graph.made → KeepsOlder mark (seen self.old) (seen self.new) };
 
@@ -99,12 +118,33 @@ impl<T: IrText<A>, A: AttrText> Making<T, A> for Context<T, A> {
         ensures err { OnErr result (self.new ≡ self.old) }
         ensures kept { (mark : ℕ) → mark ≤ self.old.graph.made → KeepsOlder mark self.old self.new }
     {
+        self.make_operation_with(id, attributes, loc, Few::none(), &[], &[])
+    }
+
+    fn make_operation_with(
+        &mut self,
+        id: OpId,
+        attributes: AttributeDict<A>,
+        loc: Location<A>,
+        result_types: Few<T>,
+        operands: &[Value],
+        successors: &[Ptr<BasicBlock>],
+    ) -> Result<Ptr<Operation>, AllocError>
+        requires operands { ValuesStand self.old operands.now }
+        requires successors { BlocksStand self.old successors.now }
+        ensures made { IfOk result (λ p. MakesOperation self.old self.new p
+            (record { id = id; attributes = attributes; loc = loc }) result_types operands.now successors.now) }
+        ensures err { OnErr result (self.new ≡ self.old) }
+        ensures kept { (mark : ℕ) → mark ≤ self.old.graph.made → KeepsOlder mark self.old self.new }
+    {
         let held = OperationData {
             id,
             attributes,
             loc,
         };
-        self.graph.make_operation(Some(held), Few::none(), &[], &[])
+        let types = known_types(self.alloc, result_types)?;
+        self.graph
+            .make_operation(Some(held), types, operands, successors)
     }
 
     fn make_block(

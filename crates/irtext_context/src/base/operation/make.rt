@@ -38,31 +38,6 @@ pub fn add_regions<T: IrText<A>, A: AttrText>(
     Ok(())
 }
 
-/// An operation with results of these types, which uses these values and these blocks, without regions, attributes and a location.
-/// Where memory is refused or a counter is full, nothing changes.
-fn make_alone<T: IrText<A>, A: AttrText>(
-    ctx: &mut Context<T, A>,
-    id: OpId,
-    result_types: Few<T>,
-    operands: &[Value],
-    successors: &[Ptr<BasicBlock>],
-) -> Result<Ptr<Operation>, AllocError>
-    requires operands { ValuesStand ctx.old operands.now }
-    requires successors { BlocksStand ctx.old successors.now }
-    ensures made { IfOk result (λ op. MakesOperation ctx.old ctx.new op (bare id) result_types operands.now successors.now) }
-    ensures err { OnErr result (ctx.new ≡ ctx.old) }
-    ensures kept { (mark : ℕ) → mark ≤ ctx.old.graph.made → KeepsOlder mark ctx.old ctx.new }
-{
-    let held = OperationData {
-        id,
-        attributes: AttributeDict::new(ctx.allocator()),
-        loc: Location::Unknown,
-    };
-    let types = known_types(ctx.allocator(), result_types)?;
-    ctx.graph
-        .make_operation(Some(held), types, operands, successors)
-}
-
 /// An operation with results of these types, which uses these values and these blocks, and with as many regions. What was made stays
 /// where memory is refused or a counter is full.
 fn make<T: IrText<A>, A: AttrText>(
@@ -78,7 +53,15 @@ fn make<T: IrText<A>, A: AttrText>(
     ensures made { IfOk result (λ op. MakesWithRegions num_regions ctx.old ctx.new op id result_types operands.now successors.now) }
     ensures kept { (mark : ℕ) → mark ≤ ctx.old.graph.made → KeepsOlder mark ctx.old ctx.new }
 {
-    let op = make_alone(ctx, id, result_types, operands, successors)?;
+    let attributes = AttributeDict::new(ctx.allocator());
+    let op = ctx.make_operation_with(
+        id,
+        attributes,
+        Location::Unknown,
+        result_types,
+        operands,
+        successors,
+    )?;
     add_regions(ctx, op, num_regions)?;
     Ok(op)
 }

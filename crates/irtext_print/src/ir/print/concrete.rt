@@ -36,7 +36,7 @@ fn directives_in<'c, T: IrText<A>, A: AttrText>(
 }
 
 /// Appends an id.
-pub(crate) fn fmt_id(id: &OpId, f: &mut String) -> Result<(), Refusal>
+pub fn fmt_id(id: &OpId, f: &mut String) -> Result<(), Refusal>
     ensures text { OnOk result (AppendsText f.old (id_text id.now) f.new) }
     ensures refused { IfErr result (λ e. e ≡ refusal.Memory) }
 {

@@ -95,9 +95,12 @@ fn count_regions(directives: &[Directive]) -> usize
 
 /// The kinds of directives that stand once at most.
 #[derive(Clone, Copy)]
-enum SingleKind {
+pub enum SingleKind {
+    /// The directive that writes all regions that have no directive of their own.
     Regions,
+    /// The directive that writes the attributes that no other one writes.
     Dictionary,
+    /// The directive that writes the symbol's name.
     Header,
 }
 
@@ -112,14 +115,14 @@ fn is_of_kind(sole: SingleKind, directive: &Directive) -> bool
 }
 
 /// Whether a directive stands among others.
-fn has_directive(sole: SingleKind, directives: &[Directive]) -> bool
+pub fn has_directive(sole: SingleKind, directives: &[Directive]) -> bool
     ensures { result ≡ not (count (printed.is_of_kind sole) (directives_of directives.now) == 0) }
 {
     directives.iter().any(|d| is_of_kind(sole, d))
 }
 
 /// Whether directives write so many regions.
-fn regions_fit(directives: &[Directive], regions: usize) -> bool
+pub fn regions_fit(directives: &[Directive], regions: usize) -> bool
     ensures { result ≡ printed.regions_fit (directives_of directives.now) regions }
 {
     let places = count_regions(directives);
@@ -147,7 +150,7 @@ fn lacking_key<'d, A: AttrText>(
 }
 
 /// The first key that a directive names and that no attribute has.
-fn missing_key<'d, A: AttrText>(
+pub fn missing_key<'d, A: AttrText>(
     attributes: &AttributeDict<A>,
     directives: &'d [Directive],
 ) -> Option<&'d Identifier>
@@ -163,7 +166,7 @@ fn missing_key<'d, A: AttrText>(
 }
 
 /// Whether the symbol's name is there, where a directive writes it.
-fn symbol_fits<A: AttrText>(attributes: &AttributeDict<A>, directives: &[Directive]) -> bool
+pub fn symbol_fits<A: AttrText>(attributes: &AttributeDict<A>, directives: &[Directive]) -> bool
     ensures { result ≡ printed.symbol_fits (entries_of attributes.now) (directives_of directives.now) }
 {
     !has_directive(SingleKind::Header, directives) || symbol_of(attributes).is_some()

@@ -35,7 +35,7 @@ fn word_joins_left(word: &str) -> bool
 }
 
 /// Appends a fixed word, behind a space unless it joins what stands before it.
-pub(crate) fn fmt_word(word: &str, f: &mut String) -> fmt::Result
+pub fn fmt_word(word: &str, f: &mut String) -> fmt::Result
     ensures { OnOk result (AppendsText f.old (pieces.word_text (chars word.now)) f.new) }
 {
     if !word_joins_left(word) {
@@ -46,7 +46,7 @@ pub(crate) fn fmt_word(word: &str, f: &mut String) -> fmt::Result
 }
 
 /// Whether an attribute is written in the section, and not where it stands.
-pub(crate) fn is_outlined<A: AttrText>(attr: &AttrObj<A>) -> bool
+pub fn is_outlined<A: AttrText>(attr: &AttrObj<A>) -> bool
     ensures { result ≡ graph.outlined (pieces.outlining A.outlined) (attribute_of attr.now) }
 {
     match attr {
@@ -68,7 +68,7 @@ fn fmt_inline<A: AttrText>(attr: &AttrObj<A>, f: &mut String) -> fmt::Result
 }
 
 /// Appends the attribute under a key, behind a space, where it is there.
-pub(crate) fn fmt_keyed<A: AttrText>(
+pub fn fmt_keyed<A: AttrText>(
     attributes: &AttributeDict<A>,
     key: &Identifier,
     f: &mut String,
@@ -93,7 +93,7 @@ fn ident_of<A: AttrText>(attr: &AttrObj<A>) -> Option<&Identifier>
 }
 
 /// The symbol's name, where the attribute under its key is an identifier.
-pub(crate) fn symbol_of<A: AttrText>(attributes: &AttributeDict<A>) -> Option<&Identifier>
+pub fn symbol_of<A: AttrText>(attributes: &AttributeDict<A>) -> Option<&Identifier>
     ensures { option_copied result ≡ pieces.symbol_in (graph.lookup sym_name_key (entries_of attributes.now)) }
 {
     match attributes.get_str("builtin_sym_name") {
@@ -103,7 +103,7 @@ pub(crate) fn symbol_of<A: AttrText>(attributes: &AttributeDict<A>) -> Option<&I
 }
 
 /// Appends the symbol's name behind a space and `@`, where it is there.
-pub(crate) fn fmt_symbol<A: AttrText>(attributes: &AttributeDict<A>, f: &mut String) -> fmt::Result
+pub fn fmt_symbol<A: AttrText>(attributes: &AttributeDict<A>, f: &mut String) -> fmt::Result
     ensures { OnOk result (AppendsText f.old (pieces.header_text (entries_of attributes.now)) f.new) }
 {
     let Some(symbol) = symbol_of(attributes) else {
@@ -126,7 +126,7 @@ fn names_key(directive: &Directive, key: &str) -> bool
 }
 
 /// Whether one of the directives writes the attribute under a key.
-pub(crate) fn is_key_written(directives: &[Directive], key: &str) -> bool
+pub fn is_key_written(directives: &[Directive], key: &str) -> bool
     ensures { result ≡ pieces.is_key_written key.now (directives_of directives.now) }
 {
     directives.iter().any(|d| names_key(d, key))
@@ -176,7 +176,7 @@ fn fmt_entries<A: AttrText>(
 }
 
 /// Appends the dictionary of the attributes that no other directive writes, behind a space.
-pub(crate) fn fmt_dictionary<A: AttrText>(
+pub fn fmt_dictionary<A: AttrText>(
     attributes: &AttributeDict<A>,
     directives: &[Directive],
     f: &mut String,

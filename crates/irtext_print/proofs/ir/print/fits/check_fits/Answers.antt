@@ -1,25 +1,17 @@
 use Rattle.std.proofs.Common.{◌≡◌, ◌∙◌, Option, Some, None, sym, ap, option_map}
-use denote.Ref.{Bor}
 use Rattle.irtext_context.specs.Context.{operation}
-use Rattle.irtext_context.specs.Dialects.{Known, known_of}
 use Rattle.irtext_formats.specs.Directives.{directives_of, format_of}
-use Rattle.irtext_context.specs.declared.dialect.OpInfo.{OpInfo}
 use Rattle.irtext_base.specs.Faults.{id_of}
 use Rattle.irtext_base.specs.Format as format
 use Rattle.irtext_context.proofs.Parts.{stands_seen, regions_counted}
 use Rattle.irtext_print.specs.Printers.ConcreteText.{directives_in}
 use Rattle.irtext_print.specs.Printers.PrintedOperation.{printing_in}
 use Rattle.irtext_print.proofs.Printers.Appended.{then-err}
-use Rattle.irtext_print.proofs.Printers.FitFaults.{printed_by}
+use Rattle.irtext_print.proofs.Printers.FitFaults.{format_found, printed_by}
 use Rattle.irtext_print.proofs.Printers.FirstFaults.{first_unregistered, first_canonical, first_fault}
 use Rattle.irtext_print.proofs.Printers.OperationTexts.{given_of, given_live, live_printed}
 use Rattle.irtext_print.proofs.Printers.RootParts.{there}
 use Rattle.irtext_print.proofs.ir.print.fits.check_fits.Goals as goal
-
--- the format of what is known of an operation, where that is found
-format_found : {o : Option Known} {found info : Option (Bor OpInfo)} → option_map (λ (i : Bor OpInfo). known_of i.now) found ≡ o → found ≡ info
-    → option_map (λ (known : Known). known.format) o ≡ option_map (λ (known : Known). known.format) (option_map (λ (i : Bor OpInfo). known_of i.now) info)
-format_found f e = ap (option_map (λ (known : Known). known.format)) (sym f ∙ ap (option_map (λ (i : Bor OpInfo). known_of i.now)) e)
 
 pub num_regions-requires : goal.num_regions-requires
 num_regions-requires g c = stands_seen c.args.ctx.now c.args.op c.requires.live

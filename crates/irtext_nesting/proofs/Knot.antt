@@ -1,0 +1,12 @@
+-- What the readers of nested text answer is what the grammar reads, and their bounds are enough.
+pub mod Leaving
+pub mod Alike
+pub mod Bound
+pub mod Heads
+pub mod Steps
+pub mod Loops
+pub mod Found
+pub mod Read
+pub mod Roots
+pub mod Whole
+pub mod Formats

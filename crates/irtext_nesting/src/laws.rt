@@ -1,0 +1,44 @@
+//! The laws of nested reading, over definitions alone: what is read is the grammar's tree, and what is done beside it is what the tree
+//! does.
+ghost use Rattle.std.specs.Prelude.{◌≡◌, ℕ, List, true};
+ghost use Rattle.irtext_base.specs.Text.{Text};
+ghost use Rattle.irtext_base.specs.Format.{Id};
+ghost use Rattle.irtext_base.specs.Own.{texts_of, language};
+ghost use Rattle.irtext_context.specs.Dialects.{Table};
+ghost use Rattle.irtext_read.specs.AttrTexts.{attr_at};
+ghost use Rattle.irtext_grammar.specs.Contexts.Formats.{format_of, isolated, IsAccepted};
+ghost use Rattle.irtext_grammar.specs.Grammar.Reads.{reads};
+ghost use Rattle.irtext_grammar.specs.Grammar.Tree.{Tree};
+ghost use Rattle.irtext_grammar.specs.Names.Acts.{tree_script};
+ghost use Rattle.irtext_grammar.specs.Names.History as history;
+ghost use Rattle.irtext_grammar.specs.Names.History.{events, run};
+ghost use Rattle.irtext_grammar.specs.Names.Script.{Path, done};
+ghost use Rattle.irtext_nesting.specs.Naming.{naming, Names};
+ghost use Rattle.irtext_nesting.specs.Reached.{Came, Doing, do_tree, operation_at};
+
+use irtext_base::text::{AttrText, IrText};
+
+/// Whatever items do as they are read: where each registered format reads uniquely, what an operation's reader reads of a text inside of
+/// a region, with all that nests in it, the grammar reads as a tree, and what was done is what the tree does. And what the grammar reads
+/// as a tree the reader reads, up to the same rest, and does what the tree does.
+pub fn nested_text_is_a_tree<T: IrText<A>, A: AttrText, U>()
+    ensures read { (dialects : List (Text × Table)) (does : Doing T A U) (text rest : Text) (s t : U) →
+        ((id : Id) → IsAccepted dialects id) →
+        operation_at dialects T.reading (attr_at A.reading) does true text s ≡ Came tt t rest →
+        (x : Tree ℕ T A) × reads (language (texts_of T.reading T.written) (texts_of A.reading A.written) (format_of dialects)) x text rest
+        × (t ≡ do_tree (isolated dialects) does x s) }
+    ensures found { (dialects : List (Text × Table)) (does : Doing T A U) (x : Tree ℕ T A) (text rest : Text) (s : U) →
+        reads (language (texts_of T.reading T.written) (texts_of A.reading A.written) (format_of dialects)) x text rest →
+        operation_at dialects T.reading (attr_at A.reading) does true text s ≡ Came tt (do_tree (isolated dialects) does x s) rest }
+{}
+
+/// What names are used for and defined as while nested text is read, act by act, is what the two passes over the tree say of it: each
+/// item of a text that reads as a tree has a place of its own, and with the items named by their places the reader comes to what the
+/// machine comes to that reads the script of the tree.
+pub fn names_run_the_machine<T: IrText<A>, A: AttrText>()
+    ensures { (dialects : List (Text × Table)) (x : Tree ℕ T A) (text rest : Text) →
+        reads (language (texts_of T.reading T.written) (texts_of A.reading A.written) (format_of dialects)) x text rest →
+        (path : ℕ → Path) × Names path x × ((o : history.Outcome) →
+        operation_at dialects T.reading (attr_at A.reading) (naming (format_of dialects) path) true text o
+        ≡ Came tt (run o (events (tree_script (isolated dialects) x done))) rest) }
+{}

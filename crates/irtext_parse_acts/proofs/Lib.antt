@@ -1,0 +1,4 @@
+pub mod Rows
+pub mod Results
+pub mod Made
+pub mod Lists

@@ -1,0 +1,10 @@
+-- Steps of the readers of names.
+pub mod Meanings
+pub mod NameSteps
+pub mod Listings
+pub mod Looks
+pub mod Leads
+pub mod MarkSteps
+pub mod EntrySteps
+pub mod PieceSteps
+pub mod FrontSteps

@@ -1,0 +1,15 @@
+//! Reading of names, of dictionaries and of the headers of blocks, of what stands in front of an operation's own parts, and of these up
+//! to its first region. Names are kept once for the reading, and what is read holds their numbers.
+#![tactic(auto)]
+
+pub mod arguments;
+pub mod entries;
+pub mod fronts;
+pub mod headers;
+pub mod ids;
+pub mod lists;
+pub mod marks;
+pub mod names;
+pub mod pieces;
+pub mod results;
+pub mod types;

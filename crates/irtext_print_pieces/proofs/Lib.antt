@@ -1,0 +1,11 @@
+pub mod ValuesByNumber
+pub mod NamesWritten
+pub mod ItemTexts
+pub mod ListTexts
+pub mod Standing
+pub mod PartTexts
+pub mod ResultTexts
+pub mod UsesStand
+pub mod CanonicalTexts
+pub mod BlockTexts
+pub mod FitTexts

@@ -1,0 +1,35 @@
+-- What stands in a context, and what is seen of it.
+use Rattle.std.proofs.Common.{◌≡◌, refl, Option, Some, None, IsSome, IfSome}
+use Rattle.std.specs.Option.{option_map}
+use Rattle.irtext_context.specs.Context.{ContextView, block, block_of}
+use Rattle.irtext_context.proofs.Contexts.{BlockEntry}
+use Rattle.irtext_context.specs.declared.base.block.BlockData.{BlockData}
+use Rattle.irtext_context.specs.declared.base.operation.OperationData.{OperationData}
+use Rattle.irtext_graph.specs.Content.{Content, Content.{ABlock}}
+use Rattle.irtext_graph.specs.Graph.{Stands, content_of}
+use Rattle.irtext_graph.specs.Store.{get}
+use Rattle.irtext_graph.specs.declared.arena.Ptr.{Ptr}
+use Rattle.irtext_graph.specs.declared.object.BasicBlock.{BasicBlock}
+use Rattle.irtext_graph.specs.declared.object.Object.TheVariants.{TheBlock}
+
+-- what is seen of something keeps what holds of each that is seen
+pub for_seen : {X Y : Type 0} (o : Option X) (see : X → Y) (Q : Y → Type 0) → ((x : X) → o ≡ Some x → Q (see x)) → IfSome (option_map see o) Q
+for_seen None see Q h = tt
+for_seen (Some x) see Q h = h x refl
+
+module _ {T A : Type 0} (ctx : ContextView T A) (b : Ptr BasicBlock) where
+  -- a block of the graph is seen
+  pub block_there : Stands ctx.graph (TheBlock b) → IsSome (block ctx b)
+  block_there h = go (get ctx.graph.blocks b) h
+    where
+      go : (o : Option (BlockEntry T A)) → IsSome {T = Content (Option (OperationData A)) (BlockData A) (Option T)} (option_map (λ d. ABlock d.0 d.1) (content_of o)) → IsSome (option_map block_of o)
+      go None h = absurd (cc)
+      go (Some e) h = refl
+
+  -- a block that is seen stands in the graph
+  pub block_stands : IsSome (block ctx b) → Stands ctx.graph (TheBlock b)
+  block_stands h = go (get ctx.graph.blocks b) h
+    where
+      go : (o : Option (BlockEntry T A)) → IsSome (option_map block_of o) → IsSome {T = Content (Option (OperationData A)) (BlockData A) (Option T)} (option_map (λ d. ABlock d.0 d.1) (content_of o))
+      go None h = absurd (cc)
+      go (Some e) h = refl

@@ -1,0 +1,252 @@
+//! Whether an operation fits its format, and why not.
+ghost use Rattle.std.specs.Prelude.{◌≡◌, is_some, not, ◌==◌, length, option_copied, Some, None, IsSome, IfSome, IfErr, OnOk};
+ghost use Rattle.irtext_base.specs.Format as format;
+ghost use Rattle.irtext_base.specs.Format.{type_places, is_operands, is_successors};
+ghost use Rattle.irtext_context.specs.Context.{operation};
+ghost use Rattle.irtext_formats.specs.Directives.{directive_of, directives_of};
+ghost use Rattle.irtext_graph.specs.Graph.{Stands};
+ghost use Rattle.irtext_graph.specs.Parts.{regions};
+ghost use Rattle.irtext_graph.specs.declared.object.Object.TheVariants.{TheOperation};
+ghost use Rattle.irtext_grammar.specs.Contexts.Formats.{isolated};
+ghost use Rattle.irtext_grammar.specs.Contexts.Held.{attribute_of, entries_of, known_types};
+ghost use Rattle.irtext_grammar.specs.Contexts.Nested.{seen_own};
+ghost use Rattle.irtext_print_pieces.specs.Fits as fits;
+ghost use Rattle.irtext_print_pieces.specs.Listed as texts;
+ghost use Rattle.irtext_print_pieces.specs.Names.{printing_by};
+ghost use Rattle.irtext_print_pieces.specs.declared.lists.Listed.TheVariants as listed;
+
+use crate::lists::{Listed, count};
+use crate::pieces::{count_operands, count_successors, keeps_operands, known_type};
+use irtext_base::base::{AttrObj, Identifier};
+use irtext_base::format::{Directive, OpFormat};
+use irtext_base::text::{AttrText, IrText};
+use irtext_context::base::{Context, Operation, OperationAccess, Ptr, Value};
+use irtext_dict::base::AttributeDict;
+use irtext_print::ir::print::fits::{
+    SingleKind, has_directive, missing_key, regions_fit, symbol_fits,
+};
+use irtext_print::ir::print::pieces::{is_key_written, is_outlined};
+
+/// Why an operation does not fit its format, in the order in which it is looked for. Keys are lent, so that it takes no memory.
+#[non_exhaustive]
+#[derive(Clone, Copy)]
+pub enum FitFault<'c> {
+    /// The operation is not registered with a dialect of the context.
+    NotRegistered,
+    /// The operation has so many operands, and the format writes another number.
+    OperandCount(usize),
+    /// The operation has so many successors, and the format writes another number.
+    SuccessorCount(usize),
+    /// The operation has so many results whose types are known, and the format writes another number of types.
+    ResultCount(usize),
+    /// The operation has so many regions, and the format writes another number.
+    RegionCount(usize),
+    /// A directive writes the attribute under this key, and the operation has none.
+    MissingAttribute(&'c Identifier),
+    /// A directive writes the symbol's name, and the operation has none.
+    NoSymbol,
+    /// Neither a directive nor the section writes the operation's attribute under this key.
+    UnwrittenAttribute(&'c Identifier),
+}
+
+/// How many operands, successors and regions an operation has, and results whose types are known.
+#[derive(Clone, Copy)]
+struct Counts {
+    operands: usize,
+    successors: usize,
+    results: usize,
+    regions: usize,
+}
+
+fn lists_operands(directive: &Directive) -> bool
+    ensures { result ≡ is_operands (directive_of directive.now) }
+{
+    matches!(directive, Directive::Operands)
+}
+
+fn lists_successors(directive: &Directive) -> bool
+    ensures { result ≡ is_successors (directive_of directive.now) }
+{
+    matches!(directive, Directive::Successors)
+}
+
+fn writes_type(directive: &Directive) -> bool
+    ensures { result ≡ is_some (elim (directive_of directive.now) [ format.result_type i ↦ Some i | _ ↦ None ]) }
+{
+    matches!(directive, Directive::ResultType(_))
+}
+
+/// Whether a directive writes the operands that have no directive of their own.
+fn has_operand_list(directives: &[Directive]) -> bool
+    ensures { result ≡ not (format.count is_operands (directives_of directives.now) == 0) }
+{
+    directives.iter().any(|d| lists_operands(d))
+}
+
+/// Whether a directive writes the successors that have no directive of their own.
+fn has_successor_list(directives: &[Directive]) -> bool
+    ensures { result ≡ not (format.count is_successors (directives_of directives.now) == 0) }
+{
+    directives.iter().any(|d| lists_successors(d))
+}
+
+/// How many types of results directives write.
+fn count_types(directives: &[Directive]) -> usize
+    ensures { result ≡ length (type_places (directives_of directives.now)) }
+{
+    directives.iter().filter(|d| writes_type(*d)).count()
+}
+
+/// Whether directives write so many operands.
+fn operands_fit(directives: &[Directive], operands: usize) -> bool
+    ensures { result ≡ fits.counts_fit (length (format.operand_places (directives_of directives.now))) (format.count is_operands (directives_of directives.now)) operands }
+{
+    let places = count_operands(directives);
+    if has_operand_list(directives) {
+        operands >= places
+    } else {
+        operands == places
+    }
+}
+
+/// Whether directives write so many successors.
+fn successors_fit(directives: &[Directive], successors: usize) -> bool
+    ensures { result ≡ fits.counts_fit (length (format.successor_places (directives_of directives.now))) (format.count is_successors (directives_of directives.now)) successors }
+{
+    let places = count_successors(directives);
+    if has_successor_list(directives) {
+        successors >= places
+    } else {
+        successors == places
+    }
+}
+
+/// Whether directives write so many types of results.
+fn results_fit(directives: &[Directive], results: usize) -> bool
+    ensures { result ≡ (results == length (type_places (directives_of directives.now))) }
+{
+    results == count_types(directives)
+}
+
+/// Whether an attribute is written by a directive that names its key, or in the section.
+fn is_covered<A: AttrText>(directives: &[Directive], key: &Identifier, attr: &AttrObj<A>) -> bool
+    ensures { result ≡ fits.is_covered A.outlined (directives_of directives.now) (key.now, attribute_of attr.now) }
+{
+    is_key_written(directives, key.as_str()) || is_outlined(attr)
+}
+
+/// The key of the first attribute that neither one of the directives nor the section writes.
+fn first_uncovered<'c, A: AttrText>(
+    attributes: &'c AttributeDict<A>,
+    directives: &[Directive],
+) -> Option<&'c Identifier>
+    ensures { option_copied result ≡ fits.first_uncovered A.outlined (directives_of directives.now) (entries_of attributes.now) }
+{
+    for (key, attr) in attributes.iter() {
+        if !is_covered(directives, key, attr) {
+            return Some(key);
+        }
+    }
+    None
+}
+
+/// The key of the first attribute that is not written at all.
+fn uncovered_key<'c, A: AttrText>(
+    attributes: &'c AttributeDict<A>,
+    directives: &[Directive],
+) -> Option<&'c Identifier>
+    ensures { option_copied result ≡ fits.uncovered_key A.outlined (directives_of directives.now) (entries_of attributes.now) }
+{
+    if has_directive(SingleKind::Dictionary, directives) {
+        return None;
+    }
+    first_uncovered(attributes, directives)
+}
+
+/// Whether directives write so many parts and all of these attributes, and nothing that is not there; else the first reason why not.
+fn check_parts<'c, A: AttrText>(
+    directives: &'c [Directive],
+    counts: Counts,
+    attributes: &'c AttributeDict<A>,
+) -> Result<(), FitFault<'c>>
+    ensures first { fits.refused_by result ≡ fits.first_failed 1 (fits.tests A.outlined (directives_of directives.now) counts (entries_of attributes.now)) }
+    ensures names { IfErr result (fits.Names A.outlined (directives_of directives.now) counts (entries_of attributes.now)) }
+{
+    if !operands_fit(directives, counts.operands) {
+        return Err(FitFault::OperandCount(counts.operands));
+    }
+    if !successors_fit(directives, counts.successors) {
+        return Err(FitFault::SuccessorCount(counts.successors));
+    }
+    if !results_fit(directives, counts.results) {
+        return Err(FitFault::ResultCount(counts.results));
+    }
+    if !regions_fit(directives, counts.regions) {
+        return Err(FitFault::RegionCount(counts.regions));
+    }
+    match missing_key(attributes, directives) {
+        Some(key) => return Err(FitFault::MissingAttribute(key)),
+        None => {}
+    }
+    if !symbol_fits(attributes, directives) {
+        return Err(FitFault::NoSymbol);
+    }
+    match uncovered_key(attributes, directives) {
+        Some(key) => Err(FitFault::UnwrittenAttribute(key)),
+        None => Ok(()),
+    }
+}
+
+/// How many results of an operation have a type that is known.
+fn count_typed<T: IrText<A>, A: AttrText>(ctx: &Context<T, A>, op: Ptr<Operation>) -> usize
+    requires { Stands ctx.now.graph (TheOperation op) }
+    ensures { result ≡ length (known_types (texts.texts_of T.IrText.written ctx.now (listed.ResultTypes op))) }
+{
+    let mut typed = 0;
+    for place in 0..count(ctx, Listed::ResultTypes(op)) {
+        let Some(_of_type) = known_type(ctx, Value::Result(op, place)) else {
+            continue;
+        };
+        typed += 1;
+    }
+    typed
+}
+
+/// How many parts an operation has.
+fn count_parts<T: IrText<A>, A: AttrText>(ctx: &Context<T, A>, op: Ptr<Operation>) -> Counts
+    requires { IsSome (operation ctx.now op) }
+    ensures { IfSome (seen_own A.IrText.written ctx.now op) (λ o. result ≡ fits.counts_of o (length (regions ctx.now.graph op))) }
+{
+    keeps_operands(ctx, op);
+    Counts {
+        operands: count(ctx, Listed::Operands(op)),
+        successors: count(ctx, Listed::Successors(op)),
+        results: count_typed(ctx, op),
+        regions: op.num_regions(ctx),
+    }
+}
+
+/// Whether an operation fits its format; else the first reason why not, in the order of [`FitFault`], and of several such attributes
+/// the first: a missing one as the directives name them, one that is not written as the operation has them. An operation that is
+/// written as any operation can be always fits. It takes no memory.
+pub fn check_fits<'c, T: IrText<A>, A: AttrText>(
+    ctx: &'c Context<T, A>,
+    op: Ptr<Operation>,
+) -> Result<(), FitFault<'c>>
+    requires live { IsSome (operation ctx.now op) }
+    ensures fits { OnOk result (IfSome (seen_own A.IrText.written ctx.now op) (λ o.
+        fits.FitsOwn (printing_by A.AttrText.own A.eq ctx.now) (isolated ctx.now.dialects) o (length (regions ctx.now.graph op)))) }
+    ensures fault { IfErr result (λ reason. IfSome (seen_own A.IrText.written ctx.now op) (λ o.
+        fits.IsFirstReason (printing_by A.AttrText.own A.eq ctx.now) (isolated ctx.now.dialects) o (length (regions ctx.now.graph op)) reason)) }
+{
+    let Some(info) = ctx.op_info(op.get_opid(ctx)) else {
+        return Err(FitFault::NotRegistered);
+    };
+    match &info.format {
+        OpFormat::Canonical => Ok(()),
+        OpFormat::Custom(directives) => {
+            let counts = count_parts(ctx, op);
+            check_parts(directives, counts, op.attributes(ctx))
+        }
+    }
+}

@@ -1,0 +1,161 @@
+-- For callers: what an operation's own and a block's head are written as, by the formats of a context and the texts of the caller's types
+-- and attributes; and the text of all that stands under an operation, or why there is none.
+use Rattle.std.specs.Prelude.{◌≢◌, ◌+◌, ◌⊎◌, ℕ, Bool, cond, List, [], ◌++◌, length, Option, Some, None, ⊤}
+use Rattle.irtext_base.specs.Format.{Directive}
+use Rattle.irtext_base.specs.Own.{Language}
+use Rattle.irtext_base.specs.Text.{Text}
+use Rattle.irtext_base.specs.declared.text.AttrText as attr_text
+use Rattle.irtext_base.specs.declared.text.IrText as ir_text
+use Rattle.irtext_context.specs.Context.{ContextView}
+use Rattle.irtext_graph.specs.declared.arena.Ptr.{Ptr}
+use Rattle.irtext_graph.specs.declared.object.BasicBlock.{BasicBlock}
+use Rattle.irtext_graph.specs.declared.object.Operation.{Operation}
+use Rattle.irtext_graph.specs.Parts.{regions}
+use Rattle.irtext_grammar.specs.Contexts.Formats.{isolated}
+use Rattle.irtext_grammar.specs.Contexts.Nested.{printing_over, seen_head, seen_regions}
+use Rattle.irtext_grammar.specs.Grammar.Forest.{Regions}
+use Rattle.irtext_grammar.specs.Graphs.Closed.{FitsFormat}
+use Rattle.irtext_grammar.specs.Graphs.Graph.{GraphOp, GraphBlock, Printing, is_marked, op_outlined, block_outlined, mark_at, tree_op, tree_head, tree_regions, marks_in_regions}
+use Rattle.irtext_grammar.specs.Spelling.Spell.{concrete, mark_if, region_texts}
+use Rattle.irtext_print.specs.Printers.PrintedOperation.{language_in, levels}
+use Rattle.irtext_print.specs.Printers.Shown.{Shown}
+use Rattle.irtext_print.specs.declared.printable.refusal.Refusal.{Refusal}
+use Rattle.irtext_print.specs.declared.printable.refusal.Refusal.TheVariants.{Memory, Depth, Misfit}
+use Rattle.irtext_print.specs.declared.printable.state.RegionPrintDepthLimit.{RegionPrintDepthLimit}
+use Rattle.irtext_print_ops.specs.Opened.{operation_front, block_head, mark_text}
+use Rattle.irtext_print_walk.specs.Faults.{OperationFault, RegionsFault, OpenFault}
+use Rattle.irtext_print_walk.specs.Walk.{is_canonical, part_text, pieces_text, part_at, parts_left, seen_at, regions_left, marked_own, open_of, FrameFits, marked_operation, marked_block, items_in_regions, Steps, StopsBefore}
+use Rattle.irtext_print_walk.specs.declared.frame.Frame.{Frame}
+use Rattle.irtext_print_walk.specs.declared.frame.Item.{Item}
+use Rattle.irtext_print_walk.specs.declared.frame.OperationFrame.{OperationFrame}
+use Rattle.irtext_print_walk.specs.declared.step.Stop.{Stop}
+use Rattle.std.specs.declared.string.String.{String}
+use Rattle.std.specs.declared.alloc.Global.{Global}
+use Rattle.std.specs.String.{string_bytes}
+
+-- what printing sees of a block that isn't there
+abbrev pub no_block : {T A : Type 0} → GraphBlock T A
+no_block = record { place = (0, 0); arguments = []; attributes = []; location = None }
+
+-- a block as printing sees it, where it is there
+abbrev pub or_no_block : {T A : Type 0} → Option (GraphBlock T A) → GraphBlock T A
+or_no_block None = no_block
+or_no_block (Some h) = h
+
+module _ {T A : Type 0} (types : ir_text.Ghosts T A) (owns : ir_text.Ghosts A A) (attributes : attr_text.Ghosts A) (same : A → A → Bool) (ctx : ContextView T A) where
+  -- what the caller's types and attributes mean by their texts, and the formats of the context
+  abbrev pub language_of : Language ⊤ T A
+  language_of = language_in types owns ctx
+
+  -- what printing asks of the context, and of the attributes of the caller
+  abbrev pub printing_of : Printing T A
+  printing_of = printing_over ctx attributes.outlined attributes.print_once same
+
+  -- an operation as printing sees it
+  abbrev pub operation_at : Ptr Operation → GraphOp T A
+  operation_at p = seen_at printing_of language_of ctx p
+
+  -- a block as printing sees it
+  abbrev pub block_at : Ptr BasicBlock → GraphBlock T A
+  block_at b = or_no_block (seen_head language_of.owns.written ctx b)
+
+  -- an operation fits its format
+  abbrev pub FitsAt : Ptr Operation → Type 0
+  FitsAt p = FitsFormat printing_of (isolated ctx.dialects) (printing_of.format_of (operation_at p).id) (operation_at p) (length (regions ctx.graph p))
+
+  -- an operation is written as any operation can be
+  abbrev pub is_canonical_at : Ptr Operation → Bool
+  is_canonical_at p = is_canonical (printing_of.format_of (operation_at p).id)
+
+  -- an operation's results and id, and what stands in front of its parts
+  abbrev pub operation_front_at : Ptr Operation → Text
+  operation_front_at p = operation_front language_of (tree_op printing_of 0 (operation_at p))
+
+  -- what a directive of an operation's format writes, where it writes no region
+  abbrev pub piece_at : Ptr Operation → Directive → Text
+  piece_at p d = part_text language_of (part_at printing_of (operation_at p) d)
+
+  -- a block's label, its arguments and its dictionary
+  abbrev pub block_head_at : Ptr BasicBlock → Text
+  block_head_at b = block_head language_of (tree_head printing_of 0 (block_at b))
+
+  -- a mark is written of an operation
+  abbrev pub is_operation_marked : Ptr Operation → Bool
+  is_operation_marked p = is_marked printing_of (operation_at p).location (op_outlined printing_of (operation_at p))
+
+  -- a mark is written of a block
+  abbrev pub is_block_marked : Ptr BasicBlock → Bool
+  is_block_marked b = is_marked printing_of (block_at b).location (block_outlined printing_of (block_at b))
+
+  -- what the directives of an operation's format write from one of them on, in front of the first that writes a region
+  abbrev pub pieces_at : Ptr Operation → ℕ → Text
+  pieces_at p k = pieces_text language_of (parts_left printing_of (operation_at p) k)
+
+  -- where these pieces end
+  abbrev pub StopsAt : Ptr Operation → ℕ → Stop → Type 0
+  StopsAt p k stop = StopsBefore printing_of (operation_at p) k stop
+
+  -- an operation of which nothing is written but what stands in front of its parts
+  abbrev pub begun_at : Ptr Operation → Bool → ℕ → RegionPrintDepthLimit → OperationFrame
+  begun_at p marked indent limit = record { op = p; directive = 0; region = 0; repeats = is_canonical_at p; marked = marked; indent = indent; limit = limit }
+
+  -- an operation's mark, where it has one and it is to be written, with n marks before it
+  abbrev pub own_mark_at : Ptr Operation → Bool → ℕ → Text
+  own_mark_at p marked n = mark_text printing_of language_of 0 n (marked_own printing_of language_of ctx marked p)
+
+  -- the operation, where its mark is written
+  abbrev pub own_items_at : Ptr Operation → Bool → List Item
+  own_items_at p marked = cond marked (marked_operation printing_of language_of ctx p (operation_at p)) []
+
+  -- a block's mark, where it has one, with n marks before it
+  abbrev pub block_mark_at : Ptr BasicBlock → ℕ → Text
+  block_mark_at b n = mark_if language_of (mark_at printing_of n (block_at b).location (block_outlined printing_of (block_at b)))
+
+  -- the block, where it has a mark
+  abbrev pub block_items_at : Ptr BasicBlock → List Item
+  block_items_at b = marked_block printing_of language_of ctx b (block_at b)
+
+  -- what a frame is of stands in the context
+  abbrev pub FrameFitsAt : Frame → Type 0
+  FrameFitsAt f = FrameFits printing_of language_of ctx f
+
+  -- a turn of a frame
+  abbrev pub StepsAt : ℕ → Frame → List Item → List Item → List Frame → List Frame → String Global → String Global → Type 0
+  StepsAt width f items items' frames frames' old new = Steps printing_of language_of ctx width f items items' frames frames' (string_bytes old) (string_bytes new)
+
+  -- a frame is refused: memory may be refused at any time, but all else only where what is left of it gives this reason
+  abbrev pub RefusesFrame : ℕ → Frame → Refusal → Type 0
+  RefusesFrame width f e = e ≢ Memory → OpenFault printing_of (isolated ctx.dialects) width e (open_of printing_of language_of ctx f)
+
+  -- the regions of an operation, with all that nests in them, as printing sees them
+  abbrev pub regions_under : Ptr Operation → Regions (GraphOp T A) (GraphBlock T A) ⊤
+  regions_under p = seen_regions language_of.owns.written ctx (regions_left printing_of language_of ctx p 0)
+
+  -- an operation, or what is shown of its regions, gives this reason to refuse
+  abbrev pub FaultUnder : {U : Type 0} → Ptr Operation → Shown U → Refusal → Type 0
+  FaultUnder p s e = OperationFault printing_of (isolated ctx.dialects) s.width e (operation_at p) (regions_under p) ⊎ RegionsFault printing_of (isolated ctx.dialects) s.width e s.indent (levels s.limit) (regions_under p)
+
+  -- some indentation inside a region or a block that is shown under an operation does not fit 16 bits
+  abbrev pub IsTooDeepUnder : {U : Type 0} → Ptr Operation → Shown U → Type 0
+  IsTooDeepUnder p s = RegionsFault printing_of (isolated ctx.dialects) s.width Depth s.indent (levels s.limit) (regions_under p)
+
+  -- the operation, or one that is shown under it, doesn't fit its format
+  abbrev pub MisfitsUnder : {U : Type 0} → Ptr Operation → Shown U → Type 0
+  MisfitsUnder p s = FaultUnder p s Misfit
+
+  -- what a refusal says: memory may be refused at any time, but all else only for this reason
+  abbrev pub RefusesUnder : {U : Type 0} → Ptr Operation → Shown U → Refusal → Type 0
+  RefusesUnder p s Memory = ⊤
+  RefusesUnder p s Depth = IsTooDeepUnder p s
+  RefusesUnder p s Misfit = MisfitsUnder p s
+
+  -- the text of an operation with all that nests in it, and its mark if it is to be written, with n marks before it
+  abbrev pub text_under : {U : Type 0} → Ptr Operation → Shown U → Bool → ℕ → Text
+  text_under p s marked n =
+      let rs = seen_regions language_of.owns.written ctx (regions_left printing_of language_of ctx p 0) in
+      let m = n + marks_in_regions printing_of (levels s.limit) rs in
+      concrete language_of (tree_op printing_of m (operation_at p)) (region_texts language_of s.width s.indent (tree_regions printing_of (levels s.limit) n rs)) ++ own_mark_at p marked m
+
+  -- the marked items under an operation, in the order of their marks, with the operation itself if its mark is to be written
+  abbrev pub items_under : {U : Type 0} → Ptr Operation → Shown U → Bool → List Item
+  items_under p s marked = items_in_regions printing_of language_of ctx (levels s.limit) (regions_left printing_of language_of ctx p 0) ++ own_items_at p marked

@@ -1,0 +1,91 @@
+//! What is open while an operation is printed: an operation, a region or a block that was begun, and how far it was written.
+ghost use Rattle.std.specs.Prelude.{◌≡◌, ◌++◌, ◌∷◌, [], OnOk, IfOk, IfErr, length};
+ghost use Rattle.irtext_print.specs.declared.printable.refusal.Refusal.TheVariants as refusal;
+
+use irtext_context::base::{BasicBlock, Operation, Ptr, Region};
+use irtext_print::printable::{Refusal, RegionPrintDepthLimit};
+
+/// An operation whose results and id were written.
+#[derive(Clone, Copy)]
+pub struct OperationFrame {
+    pub op: Ptr<Operation>,
+    /// The index of the directive of its format that is written next.
+    pub directive: usize,
+    /// The index of the region that is written next.
+    pub region: usize,
+    /// Whether all regions that are left are written before the next directive.
+    pub repeats: bool,
+    /// Whether its mark is written behind it.
+    pub marked: bool,
+    /// How many spaces stand at the beginning of its lines.
+    pub indent: u16,
+    /// How many levels of its regions are printed.
+    pub limit: RegionPrintDepthLimit,
+}
+
+/// A region whose first brace was written.
+#[derive(Clone, Copy)]
+pub struct RegionFrame {
+    pub region: Ptr<Region>,
+    /// The index of the block that is written next.
+    pub block: usize,
+    /// Whether no block was written so far.
+    pub first: bool,
+    /// How many spaces stand in front of its braces.
+    pub indent: u16,
+    /// How many levels of regions are printed in it.
+    pub limit: RegionPrintDepthLimit,
+}
+
+/// A block whose head was written.
+#[derive(Clone, Copy)]
+pub struct BlockFrame {
+    pub block: Ptr<BasicBlock>,
+    /// The index of the operation that is written next.
+    pub operation: usize,
+    /// Whether no operation was written so far.
+    pub first: bool,
+    /// How many spaces stand in front of its head.
+    pub indent: u16,
+    /// How many levels of regions are printed in it.
+    pub limit: RegionPrintDepthLimit,
+}
+
+/// What is open.
+#[derive(Clone, Copy)]
+pub enum Frame {
+    Operation(OperationFrame),
+    Region(RegionFrame),
+    Block(BlockFrame),
+}
+
+/// What a mark is written of.
+#[derive(Clone, Copy)]
+pub enum Item {
+    Operation(Ptr<Operation>),
+    Block(Ptr<BasicBlock>),
+}
+
+/// Opens a frame inside of those that are open.
+pub(crate) fn open(frames: &mut Vec<Frame>, frame: Frame) -> Result<(), Refusal>
+    ensures ok { OnOk result (frames.new.items ≡ frames.old.items ++ frame ∷ []) }
+    ensures refused { IfErr result (λ e. e ≡ refusal.Memory) }
+{
+    match frames.push(frame) {
+        Ok(()) => Ok(()),
+        Err(_) => Err(Refusal::Memory),
+    }
+}
+
+/// Gathers a marked item, and answers its index.
+pub(crate) fn gather(items: &mut Vec<Item>, item: Item) -> Result<usize, Refusal>
+    ensures ok { OnOk result (items.new.items ≡ items.old.items ++ item ∷ []) }
+    ensures place { IfOk result (λ index. index ≡ length items.old.items) }
+    ensures refused { IfErr result (λ e. e ≡ refusal.Memory) }
+{
+    let index = items.len();
+    match items.push(item) {
+        Ok(()) => Ok(index),
+        Err(_) => Err(Refusal::Memory),
+    }
+}

@@ -1,0 +1,138 @@
+//! What stands in front of regions, blocks and operations, and behind them.
+ghost use Rattle.std.specs.Prelude.{◌≡◌, ◌≢◌, ◌+◌, ◌≤◌, ◌^◌, ◌++◌, OnOk, IfOk, IfErr, codes, decimal};
+ghost use Rattle.irtext_grammar.specs.Spelling.Spell.{newline};
+ghost use Rattle.irtext_print.specs.Printers.Appended.{AppendsText};
+ghost use Rattle.irtext_print.specs.Printers.Printing.{lowered};
+ghost use Rattle.irtext_print.specs.declared.printable.refusal.Refusal.TheVariants as refusal;
+ghost use Rattle.irtext_print_ops.specs.Opened.{closing, between_blocks, between_operations, unless_first};
+ghost use Rattle.irtext_print_walk.specs.Steps.{IsTooDeep, region_front, region_frames};
+
+use crate::frame::{Frame, RegionFrame, open};
+use irtext_context::base::{Ptr, Region};
+use irtext_print::printable::{Refusal, RegionPrintDepthLimit, fmt_newline};
+
+/// One indentation more, where the spaces fit 16 bits.
+pub(crate) fn deeper(indent: u16, width: u16) -> Result<u16, Refusal>
+    ensures ok { IfOk result (λ inner. inner ≡ indent + width) }
+    ensures refused { IfErr result (λ e. (e ≡ refusal.Depth) × (2 ^ 16 ≤ indent + width)) }
+{
+    match indent.checked_add(width) {
+        Some(inner) => Ok(inner),
+        None => Err(Refusal::Depth),
+    }
+}
+
+/// The limit inside a region; none where the region is elided.
+pub(crate) fn inside(limit: RegionPrintDepthLimit) -> Option<RegionPrintDepthLimit>
+    ensures { result ≡ lowered limit }
+{
+    match limit {
+        RegionPrintDepthLimit::Unlimited => Some(RegionPrintDepthLimit::Unlimited),
+        RegionPrintDepthLimit::Max(levels) => {
+            if levels == 0 {
+                return None;
+            }
+            Some(RegionPrintDepthLimit::Max(levels - 1))
+        }
+    }
+}
+
+/// Appends a newline and so many spaces.
+fn fmt_line(indent: u16, f: &mut String) -> Result<(), Refusal>
+    ensures text { OnOk result (AppendsText f.old (newline indent) f.new) }
+    ensures refused { IfErr result (λ e. e ≡ refusal.Memory) }
+{
+    match fmt_newline(indent, f) {
+        Ok(()) => Ok(()),
+        Err(_) => Err(Refusal::Memory),
+    }
+}
+
+/// Appends what stands in front of the next operation of a block.
+pub(crate) fn fmt_between_operations(
+    first: bool,
+    indent: u16,
+    f: &mut String,
+) -> Result<(), Refusal>
+    ensures text { OnOk result (AppendsText f.old (unless_first first (between_operations indent)) f.new) }
+    ensures refused { IfErr result (λ e. e ≡ refusal.Memory) }
+{
+    if first {
+        return Ok(());
+    }
+    f.push_str(";")?;
+    fmt_line(indent, f)
+}
+
+/// Appends what stands in front of the next block of a region.
+pub(crate) fn fmt_between_blocks(first: bool, indent: u16, f: &mut String) -> Result<(), Refusal>
+    ensures text { OnOk result (AppendsText f.old (unless_first first (between_blocks indent)) f.new) }
+    ensures refused { IfErr result (λ e. e ≡ refusal.Memory) }
+{
+    if first {
+        return Ok(());
+    }
+    f.push_str("\n")?;
+    fmt_line(indent, f)
+}
+
+/// Appends what stands behind a block's mark.
+pub(crate) fn fmt_colon(indent: u16, f: &mut String) -> Result<(), Refusal>
+    ensures text { OnOk result (AppendsText f.old (codes ":" ++ newline indent) f.new) }
+    ensures refused { IfErr result (λ e. e ≡ refusal.Memory) }
+{
+    f.push_str(":")?;
+    fmt_line(indent, f)
+}
+
+/// Appends what stands behind a region's blocks.
+pub(crate) fn fmt_closing(indent: u16, f: &mut String) -> Result<(), Refusal>
+    ensures text { OnOk result (AppendsText f.old (closing indent) f.new) }
+    ensures refused { IfErr result (λ e. e ≡ refusal.Memory) }
+{
+    fmt_line(indent, f)?;
+    f.push_str("}")?;
+    Ok(())
+}
+
+/// Appends a mark with this index.
+pub(crate) fn fmt_index(index: usize, f: &mut String) -> Result<(), Refusal>
+    ensures text { OnOk result (AppendsText f.old (codes " !" ++ decimal index) f.new) }
+    ensures refused { IfErr result (λ e. e ≡ refusal.Memory) }
+{
+    write!(f, " !{index}")?;
+    Ok(())
+}
+
+/// Begins a region: appends that it is elided, or what stands in front of its blocks, which are then open.
+pub(crate) fn begin_region(
+    region: Ptr<Region>,
+    indent: u16,
+    width: u16,
+    limit: RegionPrintDepthLimit,
+    frames: &mut Vec<Frame>,
+    f: &mut String,
+) -> Result<(), Refusal>
+    ensures text { OnOk result (AppendsText f.old (region_front width indent limit) f.new) }
+    ensures stack { OnOk result (frames.new.items ≡ frames.old.items ++ region_frames region indent limit) }
+    ensures refused { IfErr result (λ e. e ≢ refusal.Memory → (e ≡ refusal.Depth) × IsTooDeep width indent limit) }
+{
+    let Some(limit) = inside(limit) else {
+        f.push_str("{..}")?;
+        return Ok(());
+    };
+    let inner = deeper(indent, width)?;
+    fmt_line(indent, f)?;
+    f.push_str("{")?;
+    fmt_line(inner, f)?;
+    open(
+        frames,
+        Frame::Region(RegionFrame {
+            region,
+            block: 0,
+            first: true,
+            indent,
+            limit,
+        }),
+    )
+}

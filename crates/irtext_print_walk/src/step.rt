@@ -1,0 +1,354 @@
+//! The turns of the walk: what is written next of what is open innermost, and what is open then.
+ghost use Rattle.std.specs.Prelude.{◌≡◌, ◌≢◌, ◌++◌, ◌∷◌, [], OnOk, IfOk, IfErr, IsSome, length, option_map, cond, codes};
+ghost use Rattle.irtext_base.specs.Faults.{id_of};
+ghost use Rattle.irtext_context.specs.Context.{operation};
+ghost use Rattle.irtext_context.specs.Context as context;
+ghost use Rattle.irtext_formats.specs.Directives.{directive_of, directives_of};
+ghost use Rattle.irtext_grammar.specs.Contexts.Formats.{format_of};
+ghost use Rattle.irtext_graph.specs.Graph.{Stands};
+ghost use Rattle.irtext_graph.specs.declared.object.Object.TheVariants.{TheBlock, TheRegion};
+ghost use Rattle.irtext_print.specs.Printers.Appended.{AppendsText};
+ghost use Rattle.irtext_print.specs.declared.printable.refusal.Refusal.TheVariants as refusal;
+ghost use Rattle.irtext_print_walk.specs.Heads as heads;
+ghost use Rattle.irtext_print_walk.specs.Steps as steps;
+ghost use Rattle.irtext_print_walk.specs.declared.frame.Frame.TheVariants as framed;
+
+use crate::frame::{BlockFrame, Frame, Item, OperationFrame, RegionFrame, gather, open};
+use crate::heads::WritesHeads;
+use crate::opening::{
+    begin_region, deeper, fmt_between_blocks, fmt_between_operations, fmt_closing, fmt_colon,
+    fmt_index,
+};
+use irtext_base::base::OpId;
+use irtext_base::format::{Directive, OpFormat};
+use irtext_base::text::{AttrText, IrText};
+use irtext_context::base::{BasicBlock, Context, Operation, OperationAccess, Ptr};
+use irtext_graph::held::HasGraph;
+use irtext_print::printable::{Refusal, RegionPrintDepthLimit};
+
+/// Where the pieces of an operation end.
+#[derive(Clone, Copy)]
+pub(crate) enum Stop {
+    /// Behind the last directive.
+    End,
+    /// At a region; the directive behind it has this index.
+    Region(usize),
+    /// At all regions that are left; the directive behind them has this index.
+    Regions(usize),
+}
+
+/// The directives of an operation's format, where it is registered and its format has directives.
+fn directives_in<'c, T: IrText<A>, A: AttrText>(
+    ctx: &'c Context<T, A>,
+    id: &OpId,
+) -> Option<&'c [Directive]>
+    ensures { option_map (λ ds. directives_of ds.now) result ≡ steps.custom_directives (format_of ctx.now.dialects (id_of id.now)) }
+{
+    let info = ctx.op_info(id)?;
+    match &info.format {
+        OpFormat::Canonical => None,
+        OpFormat::Custom(directives) => Some(directives),
+    }
+}
+
+/// Whether an operation is written as any operation can be.
+fn is_canonical<T: IrText<A>, A: AttrText>(ctx: &Context<T, A>, op: Ptr<Operation>) -> bool
+    requires live { IsSome (operation ctx.now op) }
+    ensures { result ≡ heads.is_canonical_at T.IrText.own A.IrText.own A.AttrText.own A.eq ctx.now op }
+{
+    match ctx.op_info(op.get_opid(ctx)) {
+        Some(info) => matches!(info.format, OpFormat::Canonical),
+        None => false,
+    }
+}
+
+/// Appends what the directives write from one of them on, in front of the first that writes a region.
+fn fmt_pieces<H: WritesHeads<T, A>, T: IrText<A>, A: AttrText>(
+    ctx: &Context<T, A>,
+    op: Ptr<Operation>,
+    from: usize,
+    f: &mut String,
+) -> Result<Stop, Refusal>
+    requires live { IsSome (operation ctx.now op) }
+    ensures text { OnOk result (AppendsText f.old (heads.pieces_at T.IrText.own A.IrText.own A.AttrText.own A.eq ctx.now op from) f.new) }
+    ensures stop { IfOk result (λ stop. heads.StopsAt T.IrText.own A.IrText.own A.AttrText.own A.eq ctx.now op from stop) }
+    ensures refused { IfErr result (λ e. e ≡ refusal.Memory) }
+{
+    let Some(directives) = directives_in(ctx, op.get_opid(ctx)) else {
+        return Ok(Stop::End);
+    };
+    let mut at = from;
+    while at < directives.len() {
+        let directive = &directives[at];
+        at += 1;
+        match directive {
+            Directive::Region(_) => return Ok(Stop::Region(at)),
+            Directive::Regions => return Ok(Stop::Regions(at)),
+            _ => H::fmt_piece(ctx, op, directive, f)?,
+        }
+    }
+    Ok(Stop::End)
+}
+
+/// Checks that an operation fits its format, and appends what stands in front of its parts, which are then open.
+pub(crate) fn begin_operation<H: WritesHeads<T, A>, T: IrText<A>, A: AttrText>(
+    ctx: &Context<T, A>,
+    op: Ptr<Operation>,
+    marked: bool,
+    indent: u16,
+    limit: RegionPrintDepthLimit,
+    f: &mut String,
+) -> Result<OperationFrame, Refusal>
+    requires live { IsSome (operation ctx.now op) }
+    ensures text { OnOk result (AppendsText f.old (heads.operation_front_at T.IrText.own A.IrText.own A.AttrText.own A.eq ctx.now op) f.new) }
+    ensures begun { IfOk result (λ begun. begun ≡ heads.begun_at T.IrText.own A.IrText.own A.AttrText.own A.eq ctx.now op marked indent limit) }
+    ensures fits { OnOk result (heads.FitsAt T.IrText.own A.IrText.own A.AttrText.own A.eq ctx.now op) }
+    ensures refused { IfErr result (λ e. e ≢ refusal.Memory → (e ≡ refusal.Misfit) × (heads.FitsAt T.IrText.own A.IrText.own A.AttrText.own A.eq ctx.now op → ⊥)) }
+{
+    H::check_fits(ctx, op)?;
+    H::fmt_operation_front(ctx, op, f)?;
+    Ok(OperationFrame {
+        op,
+        directive: 0,
+        region: 0,
+        repeats: is_canonical(ctx, op),
+        marked,
+        indent,
+        limit,
+    })
+}
+
+/// Appends what stands in front of a region: a space, but nothing where all regions that are left stand one behind the other.
+fn fmt_space(repeats: bool, f: &mut String) -> Result<(), Refusal>
+    ensures text { OnOk result (AppendsText f.old (cond repeats [] (codes " ")) f.new) }
+    ensures refused { IfErr result (λ e. e ≡ refusal.Memory) }
+{
+    if repeats {
+        return Ok(());
+    }
+    f.push_str(" ")?;
+    Ok(())
+}
+
+/// Appends the next region of an operation, or nothing where none is left.
+fn region_turn<T: IrText<A>, A: AttrText>(
+    ctx: &Context<T, A>,
+    width: u16,
+    frame: OperationFrame,
+    frames: &mut Vec<Frame>,
+    f: &mut String,
+) -> Result<(), Refusal>
+    requires live { IsSome (operation ctx.now frame.op) }
+    ensures text { OnOk result (AppendsText f.old (steps.region_turn_text ctx.now width frame) f.new) }
+    ensures stack { OnOk result (frames.new.items ≡ frames.old.items ++ steps.region_turn_frames ctx.now frame) }
+    ensures refused { IfErr result (λ e. e ≢ refusal.Memory → (e ≡ refusal.Depth) × steps.NextTooDeep ctx.now width frame) }
+{
+    if frame.region >= frame.op.num_regions(ctx) {
+        open(
+            frames,
+            Frame::Operation(OperationFrame {
+                repeats: false,
+                ..frame
+            }),
+        )?;
+        return Ok(());
+    }
+    let region = frame.op.get_region(ctx, frame.region);
+    fmt_space(frame.repeats, f)?;
+    open(
+        frames,
+        Frame::Operation(OperationFrame {
+            region: frame.region + 1,
+            ..frame
+        }),
+    )?;
+    begin_region(region, frame.indent, width, frame.limit, frames, f)
+}
+
+/// Appends the mark of an operation that was written, where it has one and it is to be written.
+fn end_operation<H: WritesHeads<T, A>, T: IrText<A>, A: AttrText>(
+    ctx: &Context<T, A>,
+    frame: OperationFrame,
+    items: &mut Vec<Item>,
+    f: &mut String,
+) -> Result<(), Refusal>
+    requires live { IsSome (operation ctx.now frame.op) }
+    ensures text { OnOk result (AppendsText f.old (heads.own_mark_at T.IrText.own A.IrText.own A.AttrText.own A.eq ctx.now frame.op frame.marked (length items.old.items)) f.new) }
+    ensures items { OnOk result (items.new.items ≡ items.old.items ++ heads.own_items_at T.IrText.own A.IrText.own A.AttrText.own A.eq ctx.now frame.op frame.marked) }
+    ensures refused { IfErr result (λ e. e ≡ refusal.Memory) }
+{
+    if !frame.marked {
+        return Ok(());
+    }
+    if !H::is_operation_marked(ctx, frame.op) {
+        return Ok(());
+    }
+    let index = gather(items, Item::Operation(frame.op))?;
+    fmt_index(index, f)
+}
+
+/// Appends the mark of a block, where it has one.
+fn fmt_block_mark<H: WritesHeads<T, A>, T: IrText<A>, A: AttrText>(
+    ctx: &Context<T, A>,
+    block: Ptr<BasicBlock>,
+    items: &mut Vec<Item>,
+    f: &mut String,
+) -> Result<(), Refusal>
+    requires live { IsSome (context.block ctx.now block) }
+    ensures text { OnOk result (AppendsText f.old (heads.block_mark_at T.IrText.own A.IrText.own A.AttrText.own A.eq ctx.now block (length items.old.items)) f.new) }
+    ensures items { OnOk result (items.new.items ≡ items.old.items ++ heads.block_items_at T.IrText.own A.IrText.own A.AttrText.own A.eq ctx.now block) }
+    ensures refused { IfErr result (λ e. e ≡ refusal.Memory) }
+{
+    if !H::is_block_marked(ctx, block) {
+        return Ok(());
+    }
+    let index = gather(items, Item::Block(block))?;
+    fmt_index(index, f)
+}
+
+/// Writes what is next of an operation: its pieces up to a region, and that; or its mark behind the last.
+fn operation_step<H: WritesHeads<T, A>, T: IrText<A>, A: AttrText>(
+    ctx: &Context<T, A>,
+    width: u16,
+    frame: OperationFrame,
+    frames: &mut Vec<Frame>,
+    items: &mut Vec<Item>,
+    f: &mut String,
+) -> Result<(), Refusal>
+    requires fits { heads.FrameFitsAt T.IrText.own A.IrText.own A.AttrText.own A.eq ctx.now (framed.Operation frame) }
+    ensures steps { OnOk result (heads.StepsAt T.IrText.own A.IrText.own A.AttrText.own A.eq ctx.now width (framed.Operation frame) items.old.items items.new.items frames.old.items frames.new.items f.old f.new) }
+    ensures refused { IfErr result (heads.RefusesFrame T.IrText.own A.IrText.own A.AttrText.own A.eq ctx.now width (framed.Operation frame)) }
+{
+    ctx.graph().keeps_nesting();
+    if frame.repeats {
+        return region_turn(ctx, width, frame, frames, f);
+    }
+    match fmt_pieces::<H, T, A>(ctx, frame.op, frame.directive, f)? {
+        Stop::End => end_operation::<H, T, A>(ctx, frame, items, f),
+        Stop::Region(directive) => {
+            let behind = OperationFrame { directive, ..frame };
+            region_turn(ctx, width, behind, frames, f)
+        }
+        Stop::Regions(directive) => {
+            f.push_str(" ")?;
+            open(
+                frames,
+                Frame::Operation(OperationFrame {
+                    directive,
+                    repeats: true,
+                    ..frame
+                }),
+            )?;
+            Ok(())
+        }
+    }
+}
+
+/// Writes what is next of a region: its next block's head, or its last brace.
+fn region_step<H: WritesHeads<T, A>, T: IrText<A>, A: AttrText>(
+    ctx: &Context<T, A>,
+    width: u16,
+    frame: RegionFrame,
+    frames: &mut Vec<Frame>,
+    items: &mut Vec<Item>,
+    f: &mut String,
+) -> Result<(), Refusal>
+    requires fits { heads.FrameFitsAt T.IrText.own A.IrText.own A.AttrText.own A.eq ctx.now (framed.Region frame) }
+    ensures steps { OnOk result (heads.StepsAt T.IrText.own A.IrText.own A.AttrText.own A.eq ctx.now width (framed.Region frame) items.old.items items.new.items frames.old.items frames.new.items f.old f.new) }
+    ensures refused { IfErr result (heads.RefusesFrame T.IrText.own A.IrText.own A.AttrText.own A.eq ctx.now width (framed.Region frame)) }
+{
+    ctx.graph().keeps_nesting();
+    if frame.block >= frame.region.num_blocks(ctx) {
+        return fmt_closing(frame.indent, f);
+    }
+    let block = frame.region.get_block(ctx, frame.block);
+    let indent = deeper(frame.indent, width)?;
+    let inner = deeper(indent, width)?;
+    fmt_between_blocks(frame.first, indent, f)?;
+    H::fmt_block_head(ctx, block, f)?;
+    fmt_block_mark::<H, T, A>(ctx, block, items, f)?;
+    fmt_colon(inner, f)?;
+    open(
+        frames,
+        Frame::Region(RegionFrame {
+            block: frame.block + 1,
+            first: false,
+            ..frame
+        }),
+    )?;
+    open(
+        frames,
+        Frame::Block(BlockFrame {
+            block,
+            operation: 0,
+            first: true,
+            indent,
+            limit: frame.limit,
+        }),
+    )?;
+    Ok(())
+}
+
+/// Writes what is next of a block: what stands in front of its next operation's parts, or nothing behind the last. A placeholder is
+/// left out.
+fn block_step<H: WritesHeads<T, A>, T: IrText<A>, A: AttrText>(
+    ctx: &Context<T, A>,
+    width: u16,
+    frame: BlockFrame,
+    frames: &mut Vec<Frame>,
+    items: &mut Vec<Item>,
+    f: &mut String,
+) -> Result<(), Refusal>
+    requires fits { heads.FrameFitsAt T.IrText.own A.IrText.own A.AttrText.own A.eq ctx.now (framed.Block frame) }
+    ensures steps { OnOk result (heads.StepsAt T.IrText.own A.IrText.own A.AttrText.own A.eq ctx.now width (framed.Block frame) items.old.items items.new.items frames.old.items frames.new.items f.old f.new) }
+    ensures refused { IfErr result (heads.RefusesFrame T.IrText.own A.IrText.own A.AttrText.own A.eq ctx.now width (framed.Block frame)) }
+{
+    ctx.graph().keeps_nesting();
+    if frame.operation >= frame.block.num_operations(ctx) {
+        return Ok(());
+    }
+    let op = frame.block.get_operation(ctx, frame.operation);
+    if !ctx.contains_operation(op) {
+        open(
+            frames,
+            Frame::Block(BlockFrame {
+                operation: frame.operation + 1,
+                ..frame
+            }),
+        )?;
+        return Ok(());
+    }
+    let indent = deeper(frame.indent, width)?;
+    fmt_between_operations(frame.first, indent, f)?;
+    let begun = begin_operation::<H, T, A>(ctx, op, true, indent, frame.limit, f)?;
+    open(
+        frames,
+        Frame::Block(BlockFrame {
+            operation: frame.operation + 1,
+            first: false,
+            ..frame
+        }),
+    )?;
+    open(frames, Frame::Operation(begun))?;
+    Ok(())
+}
+
+/// Writes what is next of what is open innermost.
+pub(crate) fn step<H: WritesHeads<T, A>, T: IrText<A>, A: AttrText>(
+    ctx: &Context<T, A>,
+    width: u16,
+    frame: Frame,
+    frames: &mut Vec<Frame>,
+    items: &mut Vec<Item>,
+    f: &mut String,
+) -> Result<(), Refusal>
+    requires fits { heads.FrameFitsAt T.IrText.own A.IrText.own A.AttrText.own A.eq ctx.now frame }
+    ensures steps { OnOk result (heads.StepsAt T.IrText.own A.IrText.own A.AttrText.own A.eq ctx.now width frame items.old.items items.new.items frames.old.items frames.new.items f.old f.new) }
+    ensures refused { IfErr result (heads.RefusesFrame T.IrText.own A.IrText.own A.AttrText.own A.eq ctx.now width frame) }
+{
+    match frame {
+        Frame::Operation(frame) => operation_step::<H, T, A>(ctx, width, frame, frames, items, f),
+        Frame::Region(frame) => region_step::<H, T, A>(ctx, width, frame, frames, items, f),
+        Frame::Block(frame) => block_step::<H, T, A>(ctx, width, frame, frames, items, f),
+    }
+}

@@ -1,0 +1,113 @@
+//! Texts of names, as they are kept: a short one takes no memory of its own.
+ghost use Rattle.std.specs.Prelude.{◌≡◌, IfOk, nat_eq};
+ghost use Rattle.std.specs.Cmp.{on_equiv, on_per, partial_equiv_from_equiv};
+ghost use Rattle.std.specs.Cmp.Lexicographic.{pointwise, bytes_decides, nat_list_eq_equiv};
+ghost use Rattle.std.specs.Cmp.Rules.{hashing};
+ghost use Rattle.std.specs.Hash as fed;
+ghost use Rattle.std.specs.Str.{bytes_eq};
+ghost use Rattle.std.proofs.Common.{rules, ap};
+
+use arrayvec::ArrayString;
+use indexmap::Equivalent;
+use std::alloc::{AllocError, Global};
+use std::hash::{Hash, Hasher};
+use std::marker::Model;
+
+/// Where a text stands: in place, if it is of up to 24 bytes, or in a string.
+#[derive(Drop)]
+enum Kept {
+    Short(ArrayString<24>),
+    Long(String),
+}
+
+/// The text of a name.
+#[derive(Drop)]
+pub(crate) struct NameText {
+    kept: Kept,
+}
+
+impl Model for NameText {
+    ghost use Rattle.std.specs.Prelude.{ℕ, List};
+    ghost use Rattle.irtext_scopes.specs.Texts.{kept_bytes};
+
+    ghost Value = { List ℕ };
+
+    ghost view = { λ t. kept_bytes t.kept };
+}
+
+impl Kept {
+    ghost use Rattle.irtext_scopes.specs.Texts.{kept_bytes};
+
+    /// A copy of a text. Only a long one asks for memory.
+    fn of(alloc: Global, text: &str) -> Result<Kept, AllocError>
+        ensures { IfOk result (λ kept. kept_bytes kept ≡ text.now) }
+    {
+        if let Ok(short) = ArrayString::from(text) {
+            return Ok(Kept::Short(short));
+        }
+        let long = String::from_str(alloc, text)?;
+        Ok(Kept::Long(long))
+    }
+
+    fn as_str(&self) -> &str
+        ensures { result.now ≡ kept_bytes self.now }
+    {
+        match self {
+            Kept::Short(text) => text.as_str(),
+            Kept::Long(text) => text.as_str(),
+        }
+    }
+}
+
+impl NameText {
+    /// A copy of a text. Only one of more than 24 bytes asks for memory.
+    pub(crate) fn of(alloc: Global, text: &str) -> Result<NameText, AllocError>
+        ensures { IfOk result (λ t. t ≡ text.now) }
+    {
+        let kept = Kept::of(alloc, text)?;
+        Ok(NameText { kept })
+    }
+
+    /// The text.
+    pub(crate) fn as_str(&self) -> &str
+        ensures { result.now ≡ self.now }
+    {
+        self.kept.as_str()
+    }
+}
+
+impl PartialEq for NameText {
+    ghost eq = { λ x y. pointwise nat_eq x y };
+
+    ghost laws = { on_per (λ s. s) (partial_equiv_from_equiv nat_list_eq_equiv) };
+
+    fn eq(&self, other: &Self) -> bool {
+        self.as_str() == other.as_str()
+    }
+}
+
+impl Eq for NameText {
+    ghost laws = { on_equiv (λ s. s) nat_list_eq_equiv };
+}
+
+impl Hash for NameText {
+    ghost hash_input = { λ s. fed.str s };
+
+    ghost respects_eq = { Prim.search (hashing, rules) };
+
+    fn hash<H: Hasher>(&self, state: &mut H) {
+        self.as_str().hash(state);
+    }
+}
+
+impl Equivalent<NameText> for &str {
+    ghost equivalent = { λ q k. bytes_eq q.now k };
+
+    ghost respects_hash = { λ q k h. ap fed.str ((bytes_decides q.now k).0 h) };
+
+    ghost respects_eq = { λ q x y. nat_list_eq_equiv.congr q.now x y };
+
+    fn equivalent(&self, key: &NameText) -> bool {
+        *self == key.as_str()
+    }
+}

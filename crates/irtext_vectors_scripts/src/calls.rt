@@ -1,0 +1,59 @@
+//! The calls of a random script about names: regions are entered and left, and names of values and labels are used and defined.
+use crate::calls::Call::{
+    Define, DefineLabel, Enter, EnterIsolated, Exit, ExitIsolated, Use, UseLabel,
+};
+use crate::random::Random;
+
+/// What is asked of those who keep names.
+#[derive(Clone, Copy)]
+pub enum Call {
+    Enter,
+    EnterIsolated,
+    Exit,
+    ExitIsolated,
+    Use,
+    Define,
+    UseLabel,
+    DefineLabel,
+}
+
+// the calls, each as often as it is to come
+const KINDS: &[Call] = &[
+    Enter,
+    EnterIsolated,
+    EnterIsolated,
+    Exit,
+    ExitIsolated,
+    ExitIsolated,
+    Use,
+    Use,
+    Use,
+    Use,
+    Define,
+    Define,
+    UseLabel,
+    UseLabel,
+    UseLabel,
+    DefineLabel,
+];
+
+/// The names that a script speaks of.
+pub const NAMES: &[&str] = &[
+    "a", "b", "c", "d", "e", "f", "g", "h", "aa", "ab", "ba", "bb", "block", "block_1", "v", "v_1",
+];
+
+impl Call {
+    /// Whether the call is about a region of an isolated operation.
+    pub fn is_isolated(self) -> bool {
+        matches!(self, EnterIsolated | ExitIsolated)
+    }
+}
+
+/// The next call, and the index of the name that it is about.
+pub fn next_call(random: &mut Random) -> (Call, usize) {
+    let name = random.below(NAMES.len());
+    match KINDS.get(random.below(KINDS.len())) {
+        Some(call) => (*call, name),
+        None => (ExitIsolated, name),
+    }
+}
