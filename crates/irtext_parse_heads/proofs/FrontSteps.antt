@@ -1,33 +1,26 @@
 -- How far the reader of what stands in front of an operation's regions has come.
-use Rattle.std.proofs.Common.{◌≡◌, ℕ, Bool, true, false, true≢false, Ok, Err, List, [], ◌∷◌, ◌++◌, length, map, refl, sym, ◌∙◌, ap, subst, arith}
+use Rattle.std.proofs.Common.{◌≡◌, ℕ, Bool, true, false, Ok, Err, List, [], ◌∷◌, ◌++◌, refl, sym, ◌∙◌, ap, subst}
 use Rattle.std.specs.Char.{is_whitespace}
 use Rattle.irtext_base.specs.Text.{Text, front, after}
-use Rattle.irtext_base.specs.Format as format
-use Rattle.irtext_base.specs.Format.{Directive, is_any_region}
 use Rattle.irtext_base.specs.Answers.{Outcome, Read, Missing, Bad, Takes, StarvesHere, followed, prefixed}
 use Rattle.irtext_base.specs.Locations.{AttrView}
-use Rattle.irtext_base.specs.declared.format.Directive as code
 use Rattle.irtext_base.specs.declared.parsable.fault.ParseFault.{ParseFault}
-use Rattle.irtext_formats.specs.Directives.{directive_of, directives_of}
 use Rattle.irtext_scopes.specs.Names.{KeepsNames}
 use Rattle.irtext_read.specs.Tokens.{space_at}
 use Rattle.irtext_read.proofs.Spelling.{prefixed-prefixed}
 use Rattle.irtext_read.proofs.Steps.{Lens, Passed, starts, more, refuses, spaced, starved, turned, ends}
 use Rattle.irtext_grammar.specs.Grammar.Tree as tree
 use Rattle.irtext_grammar.specs.Grammar.Tree.{Name, Piece, Part}
-use Rattle.irtext_nesting.specs.Heads.{Step, flat, step_of, front_steps, directive_at}
+use Rattle.irtext_nesting.specs.Heads.{Step, front_steps, piece_at}
+use Rattle.irtext_nesting.specs.Resume.{is_flat, front_at}
+use Rattle.irtext_nesting.proofs.Resume.Front.{in_front}
 use Rattle.irtext_parse_heads.specs.declared.pieces.ReadPiece.{ReadPiece}
 use Rattle.irtext_parse_heads.specs.declared.pieces.ReadPiece.TheVariants as read
-use Rattle.irtext_parse_heads.specs.Fronts.{IsPart, front_at, front_of, MustFront}
+use Rattle.irtext_parse_heads.specs.Fronts.{IsPart, front_of, MustFront}
 use Rattle.irtext_parse_heads.specs.Pieces.{IsPiece, MustPiece}
 use Rattle.irtext_parse_heads.specs.Named.{whole, StandsFor, Each}
 use Rattle.irtext_parse_heads.proofs.Listings.{each_on, each_more}
 use Rattle.irtext_parse_heads.proofs.Meanings.{stands_on, must_refuse, passed_whole}
-
--- a list without length has no items
-pub nothing_left : {X : Type 0} (xs : List X) → length xs ≡ 0 → xs ≡ []
-nothing_left [] e = refl
-nothing_left (x ∷ xs) e = absurd (omega (arith, e))
 
 followed_prefixed : {X Y : Type 0} (t : Text) (o : Outcome X) (k : X → Text → Outcome Y) → followed (prefixed t o) k ≡ prefixed t (followed o k)
 followed_prefixed t (Read x taken rest) k = sym (prefixed-prefixed t taken (k x rest))
@@ -39,34 +32,6 @@ followed_followed : {X Y V : Type 0} (o : Outcome X) (k : X → Text → Outcome
 followed_followed (Read x taken rest) k n = followed_prefixed taken (k x rest) n
 followed_followed (Missing cause) k n = refl
 followed_followed (Bad cause upto) k n = refl
-
--- a directive that reads no region is the first step of the front
-front_step : (d : Directive) (ss : List Step) → is_any_region d ≡ false → front_steps (step_of d ∷ ss) ≡ flat d ∷ front_steps ss
-front_step (format.word s) ss e = refl
-front_step (format.operand i) ss e = refl
-front_step format.operands ss e = refl
-front_step (format.successor i) ss e = refl
-front_step format.successors ss e = refl
-front_step (format.attribute k) ss e = refl
-front_step format.dictionary ss e = refl
-front_step (format.result_type i) ss e = refl
-front_step (format.region i) ss e = absurd (true≢false e)
-front_step format.regions ss e = absurd (true≢false e)
-front_step format.header ss e = refl
-
--- and one that reads regions ends it
-front_end : (d : Directive) (ss : List Step) → is_any_region d ≡ true → front_steps (step_of d ∷ ss) ≡ []
-front_end (format.word s) ss e = absurd (true≢false (sym e))
-front_end (format.operand i) ss e = absurd (true≢false (sym e))
-front_end format.operands ss e = absurd (true≢false (sym e))
-front_end (format.successor i) ss e = absurd (true≢false (sym e))
-front_end format.successors ss e = absurd (true≢false (sym e))
-front_end (format.attribute k) ss e = absurd (true≢false (sym e))
-front_end format.dictionary ss e = absurd (true≢false (sym e))
-front_end (format.result_type i) ss e = absurd (true≢false (sym e))
-front_end (format.region i) ss e = refl
-front_end format.regions ss e = refl
-front_end format.header ss e = absurd (true≢false (sym e))
 
 module _ {T A : Type 0} where
   -- a piece stands for the same while more names come
@@ -84,38 +49,38 @@ module _ {T A : Type 0} where
 
 module _ {S T A : Type 0} (l : Lens S) (types : Text → Outcome T) (attr : Text → Outcome (AttrView A)) (inside : Bool) where
   -- what stands behind a piece, where these parts stand in front of it
-  abbrev pub behind_piece : List code.Directive → List (Part ℕ T A) → Piece ℕ T A → Text → Outcome (List (Part ℕ T A))
+  abbrev pub behind_piece : List Step → List (Part ℕ T A) → Piece ℕ T A → Text → Outcome (List (Part ℕ T A))
   behind_piece rest parts p = front_of types attr inside rest (parts ++ (tree.piece p ∷ []))
 
-  -- the pieces found so far, and what is left of the directives
-  pub record Fronting (names : List Text) (all left : List code.Directive) (old now : S) (found : List (ReadPiece T A)) : Type 0 where
+  -- the pieces found so far, and what is left of the steps
+  pub record Fronting (names : List Text) (all left : List Step) (old now : S) (found : List (ReadPiece T A)) : Type 0 where
     pub parts : List (Part ℕ T A)
     pub each : Each (IsPart names (whole (l.view old))) found parts
     pub passed : Passed l (front_of types attr inside all []) (front_of types attr inside left parts) old now
 
   -- nothing was read so far
-  pub front_begins : (names : List Text) (all : List code.Directive) (old : S) → (l.view old).failed ≡ false → Fronting names all all old old []
+  pub front_begins : (names : List Text) (all : List Step) (old : S) → (l.view old).failed ≡ false → Fronting names all all old old []
   front_begins names all old fine = record { parts = []; each = tt; passed = starts l (front_of types attr inside all []) (front_of types attr inside all []) old fine refl }
 
-  next_is : (left rest : List code.Directive) (d : code.Directive) (parts : List (Part ℕ T A)) (text : Text) → left ≡ d ∷ rest → is_any_region (directive_of d) ≡ false
-      → front_of types attr inside left parts text ≡ followed (space_at text) (λ _ u. followed (directive_at types attr inside (directive_of d) u) (behind_piece rest parts))
-  next_is left rest d parts text e b =
-      ap (λ ds. front_of types attr inside ds parts text) e
-      ∙ ap (λ ss. front_at types attr inside ss parts text) (front_step (directive_of d) (map step_of (directives_of rest)) b)
-      ∙ followed_followed (space_at text) (λ _ u. directive_at types attr inside (directive_of d) u) (behind_piece rest parts)
+  next_is : (left rest : List Step) (step : Step) (parts : List (Part ℕ T A)) (text : Text) → left ≡ step ∷ rest → is_flat step ≡ true
+      → front_of types attr inside left parts text ≡ followed (space_at text) (λ _ u. followed (piece_at types attr inside step u) (behind_piece rest parts))
+  next_is left rest step parts text e b =
+      ap (λ ss. front_of types attr inside ss parts text) e
+      ∙ ap (λ ss. front_at types attr inside ss parts text) (in_front step rest b).0
+      ∙ followed_followed (space_at text) (λ _ u. piece_at types attr inside step u) (behind_piece rest parts)
 
-  module _ {names : List Text} {all left : List code.Directive} {old now : S} {found : List (ReadPiece T A)} where
+  module _ {names : List Text} {all left : List Step} {old now : S} {found : List (ReadPiece T A)} where
     -- a piece is to be read behind white space
-    pub front_next : {mid : S} (rest : List code.Directive) (d : code.Directive) → left ≡ d ∷ rest → is_any_region (directive_of d) ≡ false → (p : Fronting names all left old now found) → Takes l.view l.at (front is_whitespace (l.view now).rest) (after is_whitespace (l.view now).rest) now mid
-        → Passed l (front_of types attr inside all []) (λ t. followed (directive_at types attr inside (directive_of d) t) (behind_piece rest p.parts)) old mid
-    front_next rest d e b p k =
-        spaced l (λ _ u. followed (directive_at types attr inside (directive_of d) u) (behind_piece rest p.parts)) (turned l (λ t. followed (space_at t) (λ _ u. followed (directive_at types attr inside (directive_of d) u) (behind_piece rest p.parts))) (next_is left rest d p.parts (l.view now).rest e b) p.passed) k
+    pub front_next : {mid : S} (rest : List Step) (step : Step) → left ≡ step ∷ rest → is_flat step ≡ true → (p : Fronting names all left old now found) → Takes l.view l.at (front is_whitespace (l.view now).rest) (after is_whitespace (l.view now).rest) now mid
+        → Passed l (front_of types attr inside all []) (λ t. followed (piece_at types attr inside step t) (behind_piece rest p.parts)) old mid
+    front_next rest step e b p k =
+        spaced l (λ _ u. followed (piece_at types attr inside step u) (behind_piece rest p.parts)) (turned l (λ t. followed (space_at t) (λ _ u. followed (piece_at types attr inside step u) (behind_piece rest p.parts))) (next_is left rest step p.parts (l.view now).rest e b) p.passed) k
 
     -- it was read
-    pub front_more : {mid new : S} {y : ReadPiece T A} (rest : List code.Directive) (d : code.Directive) (more_names : List Text) → left ≡ d ∷ rest → is_any_region (directive_of d) ≡ false → (p : Fronting names all left old now found) → Takes l.view l.at (front is_whitespace (l.view now).rest) (after is_whitespace (l.view now).rest) now mid
-        → KeepsNames names more_names → MustPiece {A = A} l.view l.at more_names (directive_at types attr inside (directive_of d)) mid (Ok y) new → Fronting more_names all rest old new (found ++ (y ∷ []))
-    front_more {mid = mid} {y = y} rest d more_names e b p k keeps h =
-        let q = front_next rest d e b p k in
+    pub front_more : {mid new : S} {y : ReadPiece T A} (rest : List Step) (step : Step) (more_names : List Text) → left ≡ step ∷ rest → is_flat step ≡ true → (p : Fronting names all left old now found) → Takes l.view l.at (front is_whitespace (l.view now).rest) (after is_whitespace (l.view now).rest) now mid
+        → KeepsNames names more_names → MustPiece {A = A} l.view l.at more_names (piece_at types attr inside step) mid (Ok y) new → Fronting more_names all rest old new (found ++ (y ∷ []))
+    front_more {mid = mid} {y = y} rest step more_names e b p k keeps h =
+        let q = front_next rest step e b p k in
         let text = whole (l.view old) in
         let x = h.meant y in
         let m : IsPiece more_names text y x = subst (λ t. IsPiece more_names t y x) (passed_whole l q) h.means in
@@ -126,25 +91,18 @@ module _ {S T A : Type 0} (l : Lens S) (types : Text → Outcome T) (attr : Text
         }
 
     -- it is refused
-    pub front_refused : {mid new : S} {fault : ParseFault A} {others more_names : List Text} (rest : List code.Directive) (d : code.Directive) → left ≡ d ∷ rest → is_any_region (directive_of d) ≡ false → Fronting names all left old now found → Takes l.view l.at (front is_whitespace (l.view now).rest) (after is_whitespace (l.view now).rest) now mid
-        → MustPiece {A = A} l.view l.at others (directive_at types attr inside (directive_of d)) mid (Err fault) new → MustFront l.view l.at more_names types attr inside all old (Err fault) new
-    front_refused rest d e b p k h = must_refuse l (refuses l {sees = λ _. []} (behind_piece rest p.parts) (front_next rest d e b p k) h.read)
+    pub front_refused : {mid new : S} {fault : ParseFault A} {others more_names : List Text} (rest : List Step) (step : Step) → left ≡ step ∷ rest → is_flat step ≡ true → Fronting names all left old now found → Takes l.view l.at (front is_whitespace (l.view now).rest) (after is_whitespace (l.view now).rest) now mid
+        → MustPiece {A = A} l.view l.at others (piece_at types attr inside step) mid (Err fault) new → MustFront l.view l.at more_names types attr inside all old (Err fault) new
+    front_refused rest step e b p k h = must_refuse l (refuses l {sees = λ _. []} (behind_piece rest p.parts) (front_next rest step e b p k) h.read)
 
     -- memory is refused
     pub front_starved : {more_names : List Text} {new : S} {fault : ParseFault A} → Fronting names all left old now found → StarvesHere l.view l.at now fault new → MustFront l.view l.at more_names types attr inside all old (Err fault) new
     front_starved p h = must_refuse l (starved l {sees = λ _. []} p.passed h)
 
-    front_ends : front_steps (map step_of (directives_of left)) ≡ [] → Fronting names all left old now found → MustFront {A = A} l.view l.at names types attr inside all old (Ok found) now
+    -- none of the front is left
+    pub front_ends : front_steps left ≡ [] → Fronting names all left old now found → MustFront {A = A} l.view l.at names types attr inside all old (Ok found) now
     front_ends e p = record {
       meant = λ _. p.parts;
       means = p.each;
       read = ends l {A = A} (λ _. p.parts) found (turned l (λ t. Read p.parts [] t) (ap (λ ss. front_at types attr inside ss p.parts (l.view now).rest) e) p.passed);
     }
-
-    -- no directive is left
-    pub front_done : left ≡ [] → Fronting names all left old now found → MustFront {A = A} l.view l.at names types attr inside all old (Ok found) now
-    front_done e p = front_ends (ap (λ ds. front_steps (map step_of (directives_of ds))) e) p
-
-    -- a directive comes that reads regions
-    pub front_stops : (rest : List code.Directive) (d : code.Directive) → left ≡ d ∷ rest → is_any_region (directive_of d) ≡ true → Fronting names all left old now found → MustFront {A = A} l.view l.at names types attr inside all old (Ok found) now
-    front_stops rest d e b p = front_ends (ap (λ ds. front_steps (map step_of (directives_of ds))) e ∙ front_end (directive_of d) (map step_of (directives_of rest)) b) p

@@ -1,5 +1,6 @@
 -- Steps of the readers of names.
 pub mod Meanings
+pub mod Interned
 pub mod NameSteps
 pub mod Listings
 pub mod Looks
@@ -7,4 +8,6 @@ pub mod Leads
 pub mod MarkSteps
 pub mod EntrySteps
 pub mod PieceSteps
+pub mod FormatSteps
 pub mod FrontSteps
+pub mod FrontTold

@@ -26,11 +26,11 @@ means_on Means Other on meant (Err fault) h = tt
 module _ {V B : Type 0} where
   -- no names have come
   pub names_none : (names : NameTracker V B) → NamesRead names names
-  names_none names = record { kept = λ i text h. h; values = refl; labels = refl }
+  names_none names = record { kept = λ i text h. h; words = λ w. w; values = refl; labels = refl }
 
   -- names have come twice
   pub names_more : (old mid new : NameTracker V B) → NamesRead old mid → NamesRead mid new → NamesRead old new
-  names_more old mid new h k = record { kept = λ i text e. k.kept i text (h.kept i text e); values = k.values ∙ h.values; labels = k.labels ∙ h.labels }
+  names_more old mid new h k = record { kept = λ i text e. k.kept i text (h.kept i text e); words = λ w. k.words (h.words w); values = k.values ∙ h.values; labels = k.labels ∙ h.labels }
 
 module _ {S : Type 0} (l : Lens S) where
   pub takes_whole : (old mid : S) (t r : Text) → Takes l.view l.at t r old mid → whole (l.view mid) ≡ whole (l.view old)

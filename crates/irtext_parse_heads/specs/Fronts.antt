@@ -1,17 +1,15 @@
 -- Between functions: what was read in front of an operation's first region.
-use Rattle.std.specs.Prelude.{◌≡◌, ℕ, Bool, List, [], ◌∷◌, ◌++◌, map, Result}
+use Rattle.std.specs.Prelude.{◌≡◌, ℕ, Bool, List, [], Result}
 use Rattle.irtext_base.specs.Text.{Text}
 use Rattle.irtext_base.specs.Stream.{StreamView}
 use Rattle.irtext_base.specs.Answers.{Outcome}
 use Rattle.irtext_base.specs.Locations.{AttrView}
-use Rattle.irtext_base.specs.declared.format.Directive as code
 use Rattle.irtext_base.specs.declared.parsable.fault.ParseFault.{ParseFault}
-use Rattle.irtext_formats.specs.Directives.{directives_of}
-use Rattle.irtext_read.specs.Infix.{Reader, nothing, ◌▷◌, ◌▶◌}
-use Rattle.irtext_read.specs.Tokens.{space_at}
+use Rattle.irtext_read.specs.Infix.{Reader}
 use Rattle.irtext_grammar.specs.Grammar.Tree as tree
 use Rattle.irtext_grammar.specs.Grammar.Tree.{Piece, Part}
-use Rattle.irtext_nesting.specs.Heads.{Step, step_of, front_steps, piece_at}
+use Rattle.irtext_nesting.specs.Heads.{Step, front_steps}
+use Rattle.irtext_nesting.specs.Resume.{front_at}
 use Rattle.irtext_parse_heads.specs.declared.pieces.ReadPiece.{ReadPiece}
 use Rattle.irtext_parse_heads.specs.Pieces.{IsPiece}
 use Rattle.irtext_parse_heads.specs.Named.{whole, Each, MustMean}
@@ -20,16 +18,11 @@ use Rattle.irtext_parse_heads.specs.Named.{whole, Each, MustMean}
 abbrev pub IsPart : {T A : Type 0} → List Text → Text → ReadPiece T A → Part ℕ T A → Type 0
 IsPart {T = T} {A = A} names text read part = (p : Piece ℕ T A) × (part ≡ tree.piece p) × IsPiece names text read p
 
--- the parts found and those that steps read in front of a region, with white space before each
-abbrev pub front_at : {T A : Type 0} → (Text → Outcome T) → (Text → Outcome (AttrView A)) → Bool → List Step → List (Part ℕ T A) → Reader (List (Part ℕ T A))
-front_at types_at attr inside [] found = nothing found
-front_at types_at attr inside (step ∷ ss) found = (space_at ▷ piece_at types_at attr inside step) ▶ λ p. front_at types_at attr inside ss (found ++ tree.piece p ∷ [])
-
--- the parts found and those that the code's directives read in front of a region
-abbrev pub front_of : {T A : Type 0} → (Text → Outcome T) → (Text → Outcome (AttrView A)) → Bool → List code.Directive → List (Part ℕ T A) → Reader (List (Part ℕ T A))
-front_of types_at attr inside directives = front_at types_at attr inside (front_steps (map step_of (directives_of directives)))
+-- the parts found and those that steps read in front of the first region
+abbrev pub front_of : {T A : Type 0} → (Text → Outcome T) → (Text → Outcome (AttrView A)) → Bool → List Step → List (Part ℕ T A) → Reader (List (Part ℕ T A))
+front_of types_at attr inside steps = front_at types_at attr inside (front_steps steps)
 
 module _ {S T A : Type 0} (view : S → StreamView) (at : S → StreamView → S) where
-  -- the answer is the pieces that stand there, or their fault
-  abbrev pub MustFront : List Text → (Text → Outcome T) → (Text → Outcome (AttrView A)) → Bool → List code.Directive → S → Result (List (ReadPiece T A)) (ParseFault A) → S → Type 0
-  MustFront names types_at attr inside directives old result new = MustMean view at (Each (IsPart names (whole (view old)))) (front_of types_at attr inside directives []) old result new
+  -- the answer is the pieces that stand there, by these steps, or their fault
+  abbrev pub MustFront : List Text → (Text → Outcome T) → (Text → Outcome (AttrView A)) → Bool → List Step → S → Result (List (ReadPiece T A)) (ParseFault A) → S → Type 0
+  MustFront names types_at attr inside steps old result new = MustMean view at (Each (IsPart names (whole (view old)))) (front_of types_at attr inside steps []) old result new

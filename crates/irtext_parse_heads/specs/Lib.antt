@@ -7,5 +7,6 @@ pub mod Marks
 pub mod Arguments
 pub mod Entries
 pub mod Headers
+pub mod Steps
 pub mod Pieces
 pub mod Fronts

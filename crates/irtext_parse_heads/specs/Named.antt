@@ -1,6 +1,6 @@
 -- Between functions: what the names that were read stand for, and what a reader answers whose value holds such names.
-use Rattle.std.specs.Prelude.{◌≡◌, ◌⊎◌, ℕ, false, List, [], ◌∷◌, ◌++◌, length, slice_get, Option, Some, None, Result, IfOk}
-use Rattle.irtext_base.specs.Text.{Text}
+use Rattle.std.specs.Prelude.{◌≡◌, ◌⊎◌, ℕ, true, false, List, [], ◌∷◌, ◌++◌, length, slice_get, Option, Some, None, Result, IfOk}
+use Rattle.irtext_base.specs.Text.{Text, is_identifier}
 use Rattle.irtext_base.specs.Stream.{StreamView}
 use Rattle.irtext_base.specs.Answers.{Outcome, Starves, Refuses, unless_failed}
 use Rattle.irtext_base.specs.declared.parsable.fault.ParseFault.{ParseFault}
@@ -50,9 +50,14 @@ Optional R None (Some x) = ⊥
 Optional R (Some y) None = ⊥
 Optional R (Some y) (Some x) = R y x
 
--- names may have come, and the scopes are as they were
+-- each name is an identifier
+abbrev pub AreWords : List Text → Type 0
+AreWords names = (i : ℕ) (text : Text) → slice_get names i ≡ Some text → is_identifier text ≡ true
+
+-- names may have come, which are identifiers, and the scopes are as they were
 pub record NamesRead {V B : Type 0} (old new : NameTracker V B) : Type 0 where
   pub kept : KeepsNames old.names new.names
+  pub words : AreWords old.names → AreWords new.names
   pub values : new.values ≡ old.values
   pub labels : new.labels ≡ old.labels
 

@@ -12,4 +12,5 @@ pub mod marks;
 pub mod names;
 pub mod pieces;
 pub mod results;
+pub mod steps;
 pub mod types;

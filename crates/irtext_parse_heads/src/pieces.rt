@@ -1,4 +1,4 @@
-//! Reading of what one directive of a format reads, where that is no region.
+//! Reading of what one step of a format reads, where that is no region.
 ghost use Rattle.std.specs.Prelude.{List};
 ghost use Rattle.irtext_base.specs.Answers.{Missing};
 ghost use Rattle.irtext_base.specs.Faults.{characters, Unexpected, AnOperation};
@@ -11,13 +11,15 @@ ghost use Rattle.irtext_read.specs.MustRead.{MustRead};
 ghost use Rattle.irtext_read.specs.Tokens.{text_at};
 ghost use Rattle.irtext_grammar.specs.Grammar.Tree.{word, operand, operands, successor, successors, attribute, dictionary, result_type, header, types};
 ghost use Rattle.irtext_formats.specs.Directives.{directive_of};
-ghost use Rattle.irtext_nesting.specs.Heads.{outlined_or_at, used_at, target_at, symbol_at, dictionary_at, directive_at};
+ghost use Rattle.irtext_nesting.specs.Heads.{outlined_or_at, used_at, target_at, symbol_at, dictionary_at, directive_at, piece_at};
 ghost use Rattle.irtext_parse_heads.specs.Pieces.{seen_attribute, Accepts, MustPiece};
 ghost use Rattle.irtext_parse_heads.specs.Named.{NamesRead};
+ghost use Rattle.irtext_parse_heads.specs.Steps.{seen_step};
 
 use crate::entries::{ReadEntry, attr_demanded, dictionary_parse};
 use crate::lists::{NameKind, names_parse};
 use crate::names::{ReadName, Symbol, symbol_demanded, target_demanded, used_demanded};
+use crate::steps::FormatStep;
 use crate::types::types_parse;
 use irtext_base::base::{AttrObj, Identifier};
 use irtext_base::format::Directive;
@@ -196,7 +198,7 @@ fn header_piece<S: OwnStream, T: IrText<A>, A: AttrText>(
 }
 
 /// Reads a list of types, as it stands in the form that any operation has.
-pub fn types_piece<S: OwnStream, T: IrText<A>, A: AttrText>(
+fn types_piece<S: OwnStream, T: IrText<A>, A: AttrText>(
     stream: &mut S,
 ) -> ParseResult<ReadPiece<T, A>, A>
     ensures { (names : List Text) → MustPiece S.CharStream.view S.CharStream.at names
@@ -219,10 +221,8 @@ fn no_piece<S: OwnStream, T: IrText<A>, A: AttrText>(
     Err(commit_unexpected(stream, Expected::Operation))
 }
 
-/// Reads what a directive reads, inside of some region or outside of each, where no name can be used. For an attribute the marker
-/// `!outlined` may stand; which keys a dictionary has is not looked at. Where the directive reads regions, an operation is expected. A
-/// fault is committed, and leaves the stream failed.
-pub fn piece_parse<S: OwnStream, V: Copy, B: Copy, T: IrText<A>, A: AttrText>(
+/// Reads what a directive reads.
+fn piece_parse<S: OwnStream, V: Copy, B: Copy, T: IrText<A>, A: AttrText>(
     stream: &mut S,
     names: &mut NameTracker<V, B>,
     directive: &Directive,
@@ -244,5 +244,29 @@ pub fn piece_parse<S: OwnStream, V: Copy, B: Copy, T: IrText<A>, A: AttrText>(
         Directive::SymbolHeader => header_piece(stream),
         Directive::Region(_) => no_piece(stream),
         Directive::Regions => no_piece(stream),
+    }
+}
+
+/// Reads what a step of a format reads, inside of some region or outside of each, where no name can be used. For an attribute the
+/// marker `!outlined` may stand; which keys a dictionary has is not looked at. Where the step reads regions, an operation is expected. A
+/// fault is committed, and leaves the stream failed.
+pub fn step_parse<S: OwnStream, V: Copy, B: Copy, T: IrText<A>, A: AttrText>(
+    stream: &mut S,
+    names: &mut NameTracker<V, B>,
+    step: FormatStep<'_>,
+    inside: bool,
+) -> ParseResult<ReadPiece<T, A>, A>
+    ensures read { MustPiece S.CharStream.view S.CharStream.at names.new.names
+        (piece_at T.IrText.reading (attr_at A.IrText.reading) inside (seen_step step.entry)) stream.old result stream.new }
+    ensures names { NamesRead names.old names.new }
+{
+    match step {
+        FormatStep::Directive(directive) => piece_parse(stream, names, directive, inside),
+        FormatStep::Word(text) => word_piece(stream, text),
+        FormatStep::Operands => operands_piece(stream, names, inside),
+        FormatStep::Successors => successors_piece(stream, names, inside),
+        FormatStep::Dictionary => dictionary_piece(stream),
+        FormatStep::Types => types_piece(stream),
+        FormatStep::Regions => no_piece(stream),
     }
 }

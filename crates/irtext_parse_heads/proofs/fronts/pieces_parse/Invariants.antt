@@ -1,7 +1,10 @@
-use Rattle.std.proofs.Common.{◌≡◌, false, length}
+use Rattle.std.proofs.Common.{◌≡◌, false, drop, length}
+use Rattle.irtext_formats.specs.Directives.{format_of}
 use Rattle.irtext_read.specs.AttrTexts.{attr_at}
 use Rattle.irtext_read.proofs.Steps.{Lens, lens}
+use Rattle.irtext_nesting.specs.Heads.{steps_of}
 use Rattle.irtext_parse_heads.specs.Named.{NamesRead}
+use Rattle.irtext_parse_heads.proofs.FormatSteps.{Counts}
 use Rattle.irtext_parse_heads.proofs.FrontSteps.{Fronting}
 use Rattle.irtext_parse_heads.proofs.fronts.pieces_parse.Given as goal
 
@@ -9,11 +12,14 @@ use Rattle.irtext_parse_heads.proofs.fronts.pieces_parse.Given as goal
 abbrev stream : (g : goal.Over) → Lens g.row.S.Denot
 stream g = let m = g.met.S.CharStream in lens g.S.CharStream.view g.S.CharStream.at m.view_at m.at_view m.at_at
 
--- what is left of the directives reads what is left of the text
-abbrev pub invariant-loop-directive : goal.invariant-loop-directive
-invariant-loop-directive g l =
+-- what is left of the steps reads what is left of the text, and as many pieces were found as steps were passed
+abbrev pub invariant-loop-step : goal.invariant-loop-step
+invariant-loop-step g l =
+    let steps = steps_of (format_of l.format) in
+    let left = drop (length l.found) steps in
     NamesRead l.fn.names l.names
-    × ((g.S.CharStream.view l.fn.stream).failed ≡ false → Fronting (stream g) g.T.IrText.reading (attr_at g.A.IrText.reading) l.inside l.names.names l.directives l.left l.fn.stream l.stream l.found)
+    × Counts (length l.found) steps left
+    × ((g.S.CharStream.view l.fn.stream).failed ≡ false → Fronting (stream g) g.T.IrText.reading (attr_at g.A.IrText.reading) l.inside l.names.names steps left l.fn.stream l.stream l.found)
 
-abbrev pub decreases-loop-directive : goal.decreases-loop-directive
-decreases-loop-directive g l = length l.left
+abbrev pub decreases-loop-step : goal.decreases-loop-step
+decreases-loop-step g l = length (drop (length l.found) (steps_of (format_of l.format)))

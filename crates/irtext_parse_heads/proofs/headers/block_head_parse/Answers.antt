@@ -169,6 +169,9 @@ returns-clause-read g c =
       read = last_seen l (λ _. whole_head) (λ _. whole_head) (record { label = c.in_ok-label.label; arguments = c.in_ok-arguments.arguments; attributes = c.in_ok-attributes.attributes; mark = c.in_ok-mark.mark }) refl p6 c.in_ok-text_demanded-2.ensures;
     }
 
+pub returns-in_err-arguments-clause-names : goal.returns-in_err-arguments-clause-names
+returns-in_err-arguments-clause-names g c = names_more _ _ _ c.in_ok-label.ensures.names c.in_err-arguments.ensures.names
+
 pub returns-in_err-text_demanded-clause-names : goal.returns-in_err-text_demanded-clause-names
 returns-in_err-text_demanded-clause-names g c = names_more _ _ _ c.in_ok-label.ensures.names c.in_ok-arguments.ensures.names
 

@@ -33,6 +33,9 @@ returns-in-Err-clause-looks g c = λ name means fine.
     let m = missing_unread l c.in-Err.ensures.read.read c.if-fault.false in
     (passed_unread l q.2 (next_unread q.0 p.items (l.view c.skip_white_space.new.stream).rest m.0), subst (λ s. Stands l.view l.at false c.args.stream.now s) (sym m.1) (passed_stands l q.2))
 
+pub returns-in-Err-clause-names : goal.returns-in-Err-clause-names
+returns-in-Err-clause-names g c = names_more _ _ _ c.loop-stream.invariant.0 c.name_parse.ensures.names
+
 pub loop-stream-preserved : goal.loop-stream-preserved
 loop-stream-preserved g c =
     let l = stream g in
