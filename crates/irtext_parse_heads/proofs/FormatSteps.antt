@@ -85,7 +85,7 @@ module _ {X : Type 0} (steps : List Step) (found : List X) (x : X) where
     pub count_more : is_flat step ≡ true → Counts (length found) steps (drop (length found) steps) → Counts (length (found ++ (x ∷ []))) steps (drop (length (found ++ (x ∷ []))) steps)
     count_more b h =
         let front : length (front_steps (drop (length found) steps)) ≡ suc (length (front_steps (drop (suc (length found)) steps))) =
-            ap (λ ss. length (front_steps ss)) (next_left steps (length found) step there) ∙ ap length (in_front step (drop (suc (length found)) steps) b).0 in
+        ap (λ ss. length (front_steps ss)) (next_left steps (length found) step there) ∙ ap length (in_front step (drop (suc (length found)) steps) b).0 in
         let same : length (front_steps (drop (suc (length found)) steps)) ≡ length (front_steps (drop (length (found ++ (x ∷ []))) steps)) = ap (λ ss. length (front_steps ss)) left_more in
         omega (arith, h, front, same, one_more)
 
