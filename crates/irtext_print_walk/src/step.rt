@@ -1,10 +1,7 @@
 //! The turns of the walk: what is written next of what is open innermost, and what is open then.
-ghost use Rattle.std.specs.Prelude.{◌≡◌, ◌≢◌, ◌++◌, ◌∷◌, [], OnOk, IfOk, IfErr, IsSome, length, option_map, cond, codes};
-ghost use Rattle.irtext_base.specs.Faults.{id_of};
+ghost use Rattle.std.specs.Prelude.{◌≡◌, ◌≢◌, ◌++◌, ◌∷◌, [], OnOk, IfOk, IfErr, IsSome, length, cond, codes};
 ghost use Rattle.irtext_context.specs.Context.{operation};
 ghost use Rattle.irtext_context.specs.Context as context;
-ghost use Rattle.irtext_formats.specs.Directives.{directive_of, directives_of};
-ghost use Rattle.irtext_grammar.specs.Contexts.Formats.{format_of};
 ghost use Rattle.irtext_graph.specs.Graph.{Stands};
 ghost use Rattle.irtext_graph.specs.declared.object.Object.TheVariants.{TheBlock, TheRegion};
 ghost use Rattle.irtext_print.specs.Printers.Appended.{AppendsText};
@@ -13,14 +10,14 @@ ghost use Rattle.irtext_print_walk.specs.Heads as heads;
 ghost use Rattle.irtext_print_walk.specs.Steps as steps;
 ghost use Rattle.irtext_print_walk.specs.declared.frame.Frame.TheVariants as framed;
 
+use crate::formats::{directives_in, is_canonical};
 use crate::frame::{BlockFrame, Frame, Item, OperationFrame, RegionFrame, gather, open};
 use crate::heads::WritesHeads;
 use crate::opening::{
     begin_region, deeper, fmt_between_blocks, fmt_between_operations, fmt_closing, fmt_colon,
     fmt_index,
 };
-use irtext_base::base::OpId;
-use irtext_base::format::{Directive, OpFormat};
+use irtext_base::format::Directive;
 use irtext_base::text::{AttrText, IrText};
 use irtext_context::base::{BasicBlock, Context, Operation, OperationAccess, Ptr};
 use irtext_graph::held::HasGraph;
@@ -35,31 +32,6 @@ pub(crate) enum Stop {
     Region(usize),
     /// At all regions that are left; the directive behind them has this index.
     Regions(usize),
-}
-
-/// The directives of an operation's format, where it is registered and its format has directives.
-fn directives_in<'c, T: IrText<A>, A: AttrText>(
-    ctx: &'c Context<T, A>,
-    id: &OpId,
-) -> Option<&'c [Directive]>
-    ensures { option_map (λ ds. directives_of ds.now) result ≡ steps.custom_directives (format_of ctx.now.dialects (id_of id.now)) }
-{
-    let info = ctx.op_info(id)?;
-    match &info.format {
-        OpFormat::Canonical => None,
-        OpFormat::Custom(directives) => Some(directives),
-    }
-}
-
-/// Whether an operation is written as any operation can be.
-fn is_canonical<T: IrText<A>, A: AttrText>(ctx: &Context<T, A>, op: Ptr<Operation>) -> bool
-    requires live { IsSome (operation ctx.now op) }
-    ensures { result ≡ heads.is_canonical_at T.IrText.own A.IrText.own A.AttrText.own A.eq ctx.now op }
-{
-    match ctx.op_info(op.get_opid(ctx)) {
-        Some(info) => matches!(info.format, OpFormat::Canonical),
-        None => false,
-    }
 }
 
 /// Appends what the directives write from one of them on, in front of the first that writes a region.

@@ -1,0 +1,73 @@
+-- What stands in front of an operation's parts, and what a directive writes, as they are appended and as the walk has them.
+use Rattle.std.proofs.Common.{◌≡◌, ◌∙◌, ◌++◌, ℕ, refl, sym, ap, true, false, true≢false, List, [], map, Option, Some, None}
+use Rattle.std.proofs.lemmas.List.{append-nil}
+use Rattle.std.specs.Prelude.{⊤}
+use Rattle.std.specs.Str.{encode_utf8_all}
+use Rattle.irtext_base.specs.Causes.{id_text}
+use Rattle.irtext_base.specs.Faults.{id_of}
+use Rattle.irtext_base.specs.Format as format
+use Rattle.irtext_base.specs.Format.{Format, Directive}
+use Rattle.irtext_base.specs.Own.{Language}
+use Rattle.irtext_base.specs.Text.{Text}
+use Rattle.irtext_base.specs.declared.base.identifier.OpId.{OpId}
+use Rattle.irtext_grammar.specs.Grammar.Tree as tree
+use Rattle.irtext_grammar.specs.Grammar.Tree.{Part}
+use Rattle.irtext_grammar.specs.Graphs.Graph.{GraphOp, Printing, body_of, part_of, tree_op, value}
+use Rattle.irtext_grammar.specs.Spelling.Spell as spell
+use Rattle.irtext_grammar.specs.Spelling.Spell.{results}
+use Rattle.irtext_print.proofs.Printers.Locations.{more}
+use Rattle.irtext_print_ops.specs.Opened.{body_front, operation_front}
+use Rattle.irtext_print_pieces.specs.Written as pieces
+use Rattle.irtext_print_walk.specs.Steps.{custom_directives}
+use Rattle.irtext_print_walk.specs.Walk as walk
+use Rattle.irtext_print_walk.specs.Walk.{is_canonical, directives_in, part_at}
+
+-- the format that is written as any operation can be
+canonical_is : (form : Option Format) → is_canonical form ≡ true → form ≡ Some format.canonical
+canonical_is None e = absurd (true≢false (sym e))
+canonical_is (Some format.canonical) e = refl
+canonical_is (Some (format.custom ds)) e = absurd (true≢false (sym e))
+
+-- no directives were found
+pub none_found : (form : Option Format) → None ≡ custom_directives form → directives_in form ≡ []
+none_found None e = refl
+none_found (Some format.canonical) e = refl
+none_found (Some (format.custom ds)) e = absurd (cc)
+
+module _ {T A : Type 0} (L : Language ⊤ T A) (C : Printing T A) (o : GraphOp T A) where
+  -- nothing stands in front of the parts in any other form
+  no_front : (form : Option Format) → is_canonical form ≡ false → body_front L (body_of C o form) ≡ []
+  no_front None e = refl
+  no_front (Some format.canonical) e = absurd (true≢false e)
+  no_front (Some (format.custom ds)) e = refl
+
+  -- both crates have one text of a part
+  same_text : (x : Option (Part ⊤ T A)) → pieces.part_text L x ≡ walk.part_text L x
+  same_text None = refl
+  same_text (Some (tree.piece p)) = refl
+  same_text (Some (tree.region i)) = refl
+  same_text (Some tree.regions) = refl
+
+  -- what a directive writes was appended
+  pub piece_written : (ds : List Directive) (d : Directive) (old new : List ℕ) → directives_in (C.format_of o.id) ≡ ds → new ≡ old ++ encode_utf8_all (pieces.part_text L (part_of C ds o d))
+      → new ≡ old ++ encode_utf8_all (walk.part_text L (part_at C o d))
+  piece_written ds d old new e p = p ∙ ap (λ z. old ++ encode_utf8_all (pieces.part_text L (part_of C z o d))) (sym e) ∙ ap (λ t. old ++ encode_utf8_all t) (same_text (part_at C o d))
+
+  module _ (id : OpId) (named : o.id ≡ id_of id) (old first second : List ℕ) (defined : first ≡ old ++ encode_utf8_all (results L (map (λ r. value C r.0) o.results))) (called : second ≡ first ++ encode_utf8_all (id_text id)) where
+    -- the names of its results
+    abbrev names : Text
+    names = results L (map (λ r. value C r.0) o.results)
+
+    -- results and id alone
+    pub front_custom : is_canonical (C.format_of o.id) ≡ false → second ≡ old ++ encode_utf8_all (operation_front L (tree_op C 0 o))
+    front_custom e =
+        more old first second names (id_text id) defined called
+        ∙ ap (λ z. old ++ encode_utf8_all (names ++ z)) (sym (append-nil (id_text id)) ∙ ap (λ i. spell.id L i ++ []) (sym named) ∙ ap (λ z. spell.id L o.id ++ z) (sym (no_front (C.format_of o.id) e)))
+
+    -- and what stands behind them in the form that any operation has
+    pub front_canonical : (new : List ℕ) → is_canonical (C.format_of o.id) ≡ true → new ≡ second ++ encode_utf8_all (body_front L (body_of C o (Some format.canonical)))
+        → new ≡ old ++ encode_utf8_all (operation_front L (tree_op C 0 o))
+    front_canonical new e p =
+        let body = body_front L (body_of C o (Some format.canonical)) in
+        more old first new names (id_text id ++ body) defined (more first second new (id_text id) body called p)
+        ∙ ap (λ z. old ++ encode_utf8_all (names ++ z)) (ap (λ i. spell.id L i ++ body) (sym named) ∙ ap (λ f. spell.id L o.id ++ body_front L (body_of C o f)) (sym (canonical_is (C.format_of o.id) e)))

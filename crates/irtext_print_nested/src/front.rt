@@ -1,0 +1,70 @@
+//! What is written of an operation's own by its format: what stands in front of its parts, and what a directive writes.
+ghost use Rattle.std.specs.Prelude.{◌≡◌, OnOk, IfErr, IsSome};
+ghost use Rattle.irtext_context.specs.Context.{operation};
+ghost use Rattle.irtext_formats.specs.Directives.{directive_of};
+ghost use Rattle.irtext_print.specs.Printers.Appended.{AppendsText};
+ghost use Rattle.irtext_print.specs.declared.printable.refusal.Refusal.TheVariants as refusal;
+ghost use Rattle.irtext_print_walk.specs.Heads as heads;
+
+use irtext_base::format::Directive;
+use irtext_base::text::{AttrText, IrText};
+use irtext_context::base::{Context, Operation, OperationAccess, Ptr};
+use irtext_print::ir::print::concrete::fmt_id;
+use irtext_print::printable::Refusal;
+use irtext_print_pieces::canonical::fmt_canonical_front;
+use irtext_print_pieces::fits::check_fits;
+use irtext_print_pieces::pieces::fmt_piece;
+use irtext_print_pieces::results::fmt_results;
+use irtext_print_walk::formats::{directives_in, is_canonical};
+
+/// Checks that an operation fits its format. It takes no memory, and is refused with `Misfit` alone.
+pub fn check_format<T: IrText<A>, A: AttrText>(
+    ctx: &Context<T, A>,
+    op: Ptr<Operation>,
+) -> Result<(), Refusal>
+    requires live { IsSome (operation ctx.now op) }
+    ensures fits { OnOk result (heads.FitsAt T.IrText.own A.IrText.own A.AttrText.own A.eq ctx.now op) }
+    ensures refused { IfErr result (λ e. (e ≡ refusal.Misfit) × (heads.FitsAt T.IrText.own A.IrText.own A.AttrText.own A.eq ctx.now op → ⊥)) }
+{
+    match check_fits(ctx, op) {
+        Ok(()) => Ok(()),
+        Err(_) => Err(Refusal::Misfit),
+    }
+}
+
+/// Appends the names of an operation's results and its id, and all that stands in front of its regions where it is written as any
+/// operation can be. It fails only where memory is refused; what was written until then stays.
+pub fn fmt_operation_front<T: IrText<A>, A: AttrText>(
+    ctx: &Context<T, A>,
+    op: Ptr<Operation>,
+    f: &mut String,
+) -> Result<(), Refusal>
+    requires live { IsSome (operation ctx.now op) }
+    ensures text { OnOk result (AppendsText f.old (heads.operation_front_at T.IrText.own A.IrText.own A.AttrText.own A.eq ctx.now op) f.new) }
+    ensures refused { IfErr result (λ e. e ≡ refusal.Memory) }
+{
+    fmt_results(ctx, op, f)?;
+    fmt_id(op.get_opid(ctx), f)?;
+    if !is_canonical(ctx, op) {
+        return Ok(());
+    }
+    fmt_canonical_front(ctx, op, f)
+}
+
+/// Appends what a directive of the operation's format writes, with the space in front of it: nothing where it writes a region, and
+/// nothing where what it names is not there. It fails only where memory is refused; what was written until then stays.
+pub fn fmt_format_piece<T: IrText<A>, A: AttrText>(
+    ctx: &Context<T, A>,
+    op: Ptr<Operation>,
+    directive: &Directive,
+    f: &mut String,
+) -> Result<(), Refusal>
+    requires live { IsSome (operation ctx.now op) }
+    ensures text { OnOk result (AppendsText f.old (heads.piece_at T.IrText.own A.IrText.own A.AttrText.own A.eq ctx.now op (directive_of directive.now)) f.new) }
+    ensures refused { IfErr result (λ e. e ≡ refusal.Memory) }
+{
+    match directives_in(ctx, op.get_opid(ctx)) {
+        Some(directives) => fmt_piece(ctx, op, directives, directive, f),
+        None => fmt_piece(ctx, op, &[], directive, f),
+    }
+}

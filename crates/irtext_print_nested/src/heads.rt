@@ -1,0 +1,51 @@
+//! Who writes an operation's own and a block's head for the walk.
+use crate::front::{check_format, fmt_format_piece, fmt_operation_front};
+use crate::marks::{is_block_marked, is_operation_marked};
+use irtext_base::format::Directive;
+use irtext_base::text::{AttrText, IrText};
+use irtext_context::base::{BasicBlock, Context, Operation, Ptr};
+use irtext_print::printable::Refusal;
+use irtext_print_pieces::blocks::fmt_block_head;
+use irtext_print_walk::heads::WritesHeads;
+
+/// What writes the heads of all operations and blocks, by the formats of their context.
+pub struct Heads;
+
+impl<T: IrText<A>, A: AttrText> WritesHeads<T, A> for Heads {
+    fn check_fits(ctx: &Context<T, A>, op: Ptr<Operation>) -> Result<(), Refusal> {
+        check_format(ctx, op)
+    }
+
+    fn fmt_operation_front(
+        ctx: &Context<T, A>,
+        op: Ptr<Operation>,
+        f: &mut String,
+    ) -> Result<(), Refusal> {
+        fmt_operation_front(ctx, op, f)
+    }
+
+    fn fmt_piece(
+        ctx: &Context<T, A>,
+        op: Ptr<Operation>,
+        directive: &Directive,
+        f: &mut String,
+    ) -> Result<(), Refusal> {
+        fmt_format_piece(ctx, op, directive, f)
+    }
+
+    fn fmt_block_head(
+        ctx: &Context<T, A>,
+        block: Ptr<BasicBlock>,
+        f: &mut String,
+    ) -> Result<(), Refusal> {
+        fmt_block_head(ctx, block, f)
+    }
+
+    fn is_operation_marked(ctx: &Context<T, A>, op: Ptr<Operation>) -> bool {
+        is_operation_marked(ctx, op)
+    }
+
+    fn is_block_marked(ctx: &Context<T, A>, block: Ptr<BasicBlock>) -> bool {
+        is_block_marked(ctx, block)
+    }
+}
