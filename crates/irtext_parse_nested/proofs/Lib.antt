@@ -1,0 +1,22 @@
+-- Lemmas on the reading of nested text: what stands through acts and edits, pieces that are gathered, and the turns of the loop.
+pub mod Standing
+pub mod RegionAdded
+pub mod Losing
+pub mod Rowed
+pub mod Numbered
+pub mod Lasting
+pub mod Faults
+pub mod Ends
+pub mod Marking
+pub mod Ended
+pub mod BlockPlaced
+pub mod RegionBegun
+pub mod BlockKept
+pub mod StepParts
+pub mod Steady
+pub mod Gathers
+pub mod Pieces
+pub mod Stores
+pub mod Begins
+pub mod Entering
+pub mod Leaving

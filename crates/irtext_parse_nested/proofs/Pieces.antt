@@ -1,0 +1,451 @@
+-- One piece that is gathered.
+use Rattle.std.proofs.Common.{◌≡◌, ◌+◌, ◌∙◌, ◌⊎◌, inl, inr, ℕ, zero, suc, Bool, true, false, cond, List, [], ◌∷◌, ◌++◌, length, map, flat_map, slice_get, Option, Some, None, Result, Ok, Err, IfErr, OnOk, refl, sym, ap, ap₂, subst, arith, append-nil}
+use Rattle.irtext_base.specs.Text.{Text}
+use Rattle.irtext_base.specs.Format.{sym_name_key}
+use Rattle.irtext_base.specs.declared.base.attributes.AttrObj.{AttrObj}
+use Rattle.irtext_context.specs.declared.base.block.BlockData.{BlockData}
+use Rattle.irtext_context.specs.declared.base.operation.OperationData.{OperationData}
+use Rattle.irtext_graph.specs.declared.arena.Ptr.{Ptr}
+use Rattle.irtext_graph.specs.declared.object.BasicBlock.{BasicBlock}
+use Rattle.irtext_graph.specs.declared.object.Value.{Value}
+use Rattle.irtext_graph.specs.declared.object.Defined.{Defined}
+use Rattle.irtext_graph.specs.declared.object.Defined.TheVariants.{OfValue, OfBlock}
+use Rattle.irtext_graph.specs.Chained.{Among}
+use Rattle.irtext_graph.specs.Graph.{GraphView}
+use Rattle.irtext_graph.specs.Used.{IsDefined}
+use Rattle.irtext_graph.proofs.Preorders.{among_left, among_right}
+use Rattle.irtext_grammar.specs.Contexts.Held.{attribute_of, entries_of}
+use Rattle.irtext_grammar.specs.Grammar.Tree as tree
+use Rattle.irtext_grammar.specs.Grammar.Tree.{Name, Attribute, ident, Piece, Part, views}
+use Rattle.irtext_grammar.specs.Graphs.Build.{put_all}
+use Rattle.irtext_grammar.specs.Names.Acts.{piece_acts, word_of, value_uses, label_uses, key_act, may_hold}
+use Rattle.irtext_grammar.specs.Names.History.{State, going, after, outcome}
+use Rattle.irtext_grammar.specs.Names.Scopes.{fact_of, nothing}
+use Rattle.irtext_grammar.specs.Names.Script.{Path, User, operand, successor, use_value, use_label, claim, ReservedKey}
+use Rattle.irtext_grammar.specs.Names.TextScopes.{Act, Failure}
+use Rattle.irtext_names.specs.Linked.{StandsAt}
+use Rattle.irtext_names.proofs.Linked.Moving.{among_split, onto_nothing}
+use Rattle.irtext_parse_acts.specs.Rows.{AreNamed, uses_from, in_hand_from, TakesUses, UsesRow}
+use Rattle.irtext_parse_heads.specs.declared.entries.Key.{Key}
+use Rattle.irtext_parse_heads.specs.declared.names.ReadName.{ReadName}
+use Rattle.irtext_parse_heads.specs.declared.names.Symbol.{Symbol}
+use Rattle.irtext_parse_heads.specs.declared.pieces.ReadPiece.{ReadPiece}
+use Rattle.irtext_parse_heads.specs.declared.pieces.ReadPiece.TheVariants as read
+use Rattle.irtext_parse_heads.specs.Entries.{IsEntry, IsKey}
+use Rattle.irtext_parse_heads.specs.Fronts.{IsPart}
+use Rattle.irtext_parse_heads.specs.Named.{Each, StandsFor}
+use Rattle.irtext_parse_heads.specs.Pieces.{IsPiece}
+use Rattle.irtext_parse_nested.specs.declared.gathering.Gathered.{Gathered}
+use Rattle.irtext_parse_nested.specs.declared.gathering.NotGathered.{NotGathered}
+use Rattle.irtext_parse_nested.specs.declared.gathering.NotGathered.TheVariants as refusal
+use Rattle.irtext_parse_nested.specs.Items.{Names}
+use Rattle.irtext_parse_nested.specs.Gathered.{entry_read, operand_place, successor_place, placed_type, type_list, stored_of, last_list, IsInHand, Grows, FailsUses, TakesParts, TakesName, AllStand, MayAllHold, IsFirstReserved, RefusesEntries, GathersAlone, RefusesAlone, RefusesGathering, Gathers, GatherFails}
+use Rattle.irtext_parse_nested.proofs.Gathers.{grows_itself, map_both, takes_none, takes_both, fails_then, fails_first, gather_fails_first}
+
+-- ---- names
+-- names that were read have their texts under their numbers
+pub named_row : (table : List Text) (text : Text) (ns : List ReadName) (ms : List (Name ℕ)) → Each (StandsFor table text) ns ms → AreNamed table (map (λ n. n.name) ns) ms
+named_row table text [] [] e = tt
+named_row table text [] (m ∷ ms) e = absurd e
+named_row table text (n ∷ ns) [] e = absurd e
+named_row table text (n ∷ ns) (m ∷ ms) e = (e.0.named, named_row table text ns ms e.1)
+
+value_uses_are : (p : Path) (k : ℕ) (ms : List (Name ℕ)) → uses_from use_value (operand p) k ms ≡ value_uses p k ms
+value_uses_are p k [] = refl
+value_uses_are p k (m ∷ ms) = ap (λ acts. use_value (word_of m) (operand p k) ∷ acts) (value_uses_are p (suc k) ms)
+
+label_uses_are : (p : Path) (k : ℕ) (ms : List (Name ℕ)) → uses_from use_label (successor p) k ms ≡ label_uses p k ms
+label_uses_are p k [] = refl
+label_uses_are p k (m ∷ ms) = ap (λ acts. use_label (word_of m) (successor p k) ∷ acts) (label_uses_are p (suc k) ms)
+
+-- what is in hand in a row stands at its place in the list
+row_hand : {X : Type 0} (of : X → Defined) (user : ℕ → User) (k : ℕ) (xs : List X) (u : User) (d : Defined) → Among {U = User × Defined} (u, d) (in_hand_from of user k xs)
+    → (j : ℕ) × (x : X) × (u ≡ user (k + j)) × (d ≡ of x) × (slice_get xs j ≡ Some x)
+row_hand of user k [] u d a = absurd a
+row_hand of user k (x ∷ xs) u d (inl e) = (0, x, ap (λ z. z.0) e ∙ ap user (omega arith), ap (λ z. z.1) e, refl)
+row_hand of user k (x ∷ xs) u d (inr a) = let r = row_hand of user (suc k) xs u d a in (suc r.0, r.1, r.2 ∙ ap user (omega arith), r.3, r.4)
+
+-- ---- one piece
+module _ {T A : Type 0} where
+  -- what is so of the acts of the piece is so of those of the only part
+  one_part : (piece : ReadPiece T A) (table : List Text) (P : Path → ℕ → ℕ → List Act → Type 0)
+      → ((text : Text) (q : Piece ℕ T A) → IsPiece table text piece q → (p : Path) (k l : ℕ) → P p k l (piece_acts p k l q))
+      → (text : Text) (parts : List (Part ℕ T A)) → Each (IsPart table text) (piece ∷ []) parts → (p : Path) (k l : ℕ) → P p k l (views (piece_acts p k l) parts)
+  one_part piece table P so text [] e p k l = absurd e
+  one_part piece table P so text (part ∷ z ∷ parts) e p k l = absurd e.1
+  one_part piece table P so text (part ∷ []) e p k l =
+      subst (λ z. P p k l (views (piece_acts p k l) (z ∷ []))) (sym e.0.1) (subst (P p k l) (sym (append-nil (piece_acts p k l e.0.0))) (so text e.0.0 e.0.2 p k l))
+
+module _ {O B T A : Type 0} {old new : Names} {g h : GraphView (Option O) B (Option T)} {x y : Gathered T A} where
+  -- an operand that has a directive of its own
+  pub operand_one : (i : ℕ) (n : ReadName) (v : Value) → TakesName OfValue use_value n.name old new g h v → y.operands.single.items ≡ x.operands.single.items ++ (i, v) ∷ []
+      → y.operands.list.items ≡ x.operands.list.items → y.successors ≡ x.successors → y.types ≡ x.types → y.listed ≡ x.listed → y.attributes ≡ x.attributes
+      → Gathers (read.Operand i n ∷ []) old g x new h y
+  operand_one i n v t single list successors types listed attributes = record {
+    uses = one_part (read.Operand i n) old.names (λ p k l acts. TakesParts p k l acts old g new h y.operands y.successors) uses;
+    operands_unlisted = λ l. list;
+    successors_unlisted = λ l. ap (λ z. z.list.items) successors;
+    operands_grow = record {
+      single = λ e a. subst (Among e) (sym single) (among_left e x.operands.single.items ((i, v) ∷ []) a);
+      list = λ j w e. ap (λ ws. slice_get ws j) list ∙ e;
+    };
+    successors_grow = subst (Grows x.successors) (sym successors) (grows_itself x.successors);
+    operand_places = ap (map (λ e. e.0)) single ∙ map_both (λ e. e.0) x.operands.single.items ((i, v) ∷ []);
+    successor_places = ap (λ s. map (λ e. e.0) s.single.items) successors ∙ sym (append-nil (map (λ e. e.0) x.successors.single.items));
+    types = ap (λ s. s.items) types ∙ sym (append-nil x.types.items);
+    listed = listed;
+    attributes = ap entries_of attributes;
+    there = λ s. record {
+      operands = λ e a. there s e (among_split e x.operands.single.items ((i, v) ∷ []) (subst (Among e) single a));
+      listed_operands = λ w a. t.still (OfValue w) (s.listed_operands w (subst (Among w) list a));
+      successors = λ e a. t.still (OfBlock e.1) (s.successors e (subst (λ z. Among e z.single.items) successors a));
+      listed_successors = λ b a. t.still (OfBlock b) (s.listed_successors b (subst (λ z. Among b z.list.items) successors a));
+    };
+  }
+    where
+      there : AllStand g x → (e : ℕ × Value) → Among {U = ℕ × Value} e x.operands.single.items ⊎ Among {U = ℕ × Value} e ((i, v) ∷ []) → IsDefined h (OfValue e.1)
+      there s e (inl a) = t.still (OfValue e.1) (s.operands e a)
+      there s e (inr (inl f)) = subst (λ z. IsDefined h (OfValue z.1)) (sym f) t.there
+      there s e (inr (inr f)) = absurd f
+
+      hand : (p : Path) (k : ℕ) (u : User) (d : Defined) → Among {U = User × Defined} (u, d) ((operand p i, OfValue v) ∷ []) → IsInHand OfValue (operand p) k y.operands.single.items y.operands.list.items u d
+      hand p k u d (inl e) = inl (i, v, ap (λ z. z.0) e, ap (λ z. z.1) e, subst (Among {U = ℕ × Value} (i, v)) (sym single) (among_right (i, v) x.operands.single.items ((i, v) ∷ []) (inl refl)))
+      hand p k u d (inr a) = absurd a
+
+      uses : (text : Text) (q : Piece ℕ T A) → IsPiece old.names text (read.Operand i n) q → (p : Path) (k l : ℕ) → TakesParts p k l (piece_acts p k l q) old g new h y.operands y.successors
+      uses text q is p k l = subst (λ z. TakesParts p k l (piece_acts p k l z) old g new h y.operands y.successors) (sym is.1) (record {
+        more = (operand p i, OfValue v) ∷ [];
+        takes = record { so = λ known held st s. let r = (t.follows (word_of is.0) (operand p i) is.2.named).so known held st s in (after st (fact_of (use_value (word_of is.0) (operand p i))), r.0, r.1) };
+        held = record { so = λ u d a. inl (hand p k u d a) };
+      })
+
+  -- a successor that has a directive of its own
+  pub successor_one : (i : ℕ) (n : ReadName) (b : Ptr BasicBlock) → TakesName OfBlock use_label n.name old new g h b → y.successors.single.items ≡ x.successors.single.items ++ (i, b) ∷ []
+      → y.successors.list.items ≡ x.successors.list.items → y.operands ≡ x.operands → y.types ≡ x.types → y.listed ≡ x.listed → y.attributes ≡ x.attributes
+      → Gathers (read.Successor i n ∷ []) old g x new h y
+  successor_one i n v t single list operands types listed attributes = record {
+    uses = one_part (read.Successor i n) old.names (λ p k l acts. TakesParts p k l acts old g new h y.operands y.successors) uses;
+    operands_unlisted = λ l. ap (λ z. z.list.items) operands;
+    successors_unlisted = λ l. list;
+    successors_grow = record {
+      single = λ e a. subst (Among e) (sym single) (among_left e x.successors.single.items ((i, v) ∷ []) a);
+      list = λ j w e. ap (λ ws. slice_get ws j) list ∙ e;
+    };
+    operands_grow = subst (Grows x.operands) (sym operands) (grows_itself x.operands);
+    successor_places = ap (map (λ e. e.0)) single ∙ map_both (λ e. e.0) x.successors.single.items ((i, v) ∷ []);
+    operand_places = ap (λ s. map (λ e. e.0) s.single.items) operands ∙ sym (append-nil (map (λ e. e.0) x.operands.single.items));
+    types = ap (λ s. s.items) types ∙ sym (append-nil x.types.items);
+    listed = listed;
+    attributes = ap entries_of attributes;
+    there = λ s. record {
+      successors = λ e a. there s e (among_split e x.successors.single.items ((i, v) ∷ []) (subst (Among e) single a));
+      listed_successors = λ w a. t.still (OfBlock w) (s.listed_successors w (subst (Among w) list a));
+      operands = λ e a. t.still (OfValue e.1) (s.operands e (subst (λ z. Among e z.single.items) operands a));
+      listed_operands = λ b a. t.still (OfValue b) (s.listed_operands b (subst (λ z. Among b z.list.items) operands a));
+    };
+  }
+    where
+      there : AllStand g x → (e : ℕ × Ptr BasicBlock) → Among e x.successors.single.items ⊎ Among {U = ℕ × Ptr BasicBlock} e ((i, v) ∷ []) → IsDefined h (OfBlock e.1)
+      there s e (inl a) = t.still (OfBlock e.1) (s.successors e a)
+      there s e (inr (inl f)) = subst (λ z. IsDefined h (OfBlock z.1)) (sym f) t.there
+      there s e (inr (inr f)) = absurd f
+
+      hand : (p : Path) (l : ℕ) (u : User) (d : Defined) → Among {U = User × Defined} (u, d) ((successor p i, OfBlock v) ∷ []) → IsInHand OfBlock (successor p) l y.successors.single.items y.successors.list.items u d
+      hand p l u d (inl e) = inl (i, v, ap (λ z. z.0) e, ap (λ z. z.1) e, subst (Among {U = ℕ × Ptr BasicBlock} (i, v)) (sym single) (among_right (i, v) x.successors.single.items ((i, v) ∷ []) (inl refl)))
+      hand p l u d (inr a) = absurd a
+
+      uses : (text : Text) (q : Piece ℕ T A) → IsPiece old.names text (read.Successor i n) q → (p : Path) (k l : ℕ) → TakesParts p k l (piece_acts p k l q) old g new h y.operands y.successors
+      uses text q is p k l = subst (λ z. TakesParts p k l (piece_acts p k l z) old g new h y.operands y.successors) (sym is.1) (record {
+        more = (successor p i, OfBlock v) ∷ [];
+        takes = record { so = λ known held st s. let r = (t.follows (word_of is.0) (successor p i) is.2.named).so known held st s in (after st (fact_of (use_label (word_of is.0) (successor p i))), r.0, r.1) };
+        held = record { so = λ u d a. inr (hand p l u d a) };
+      })
+
+  -- a list of operands, of which none came before
+  pub operands_one : (ns : List ReadName) (more : List Value) → x.operands.list.items ≡ [] → UsesRow OfValue use_value (map (λ n. n.name) ns) old new g h more
+      → y.operands.list.items ≡ x.operands.list.items ++ more → y.operands.single.items ≡ x.operands.single.items → y.successors ≡ x.successors → y.types ≡ x.types → y.listed ≡ x.listed → y.attributes ≡ x.attributes
+      → Gathers (read.Operands ns ∷ []) old g x new h y
+  operands_one ns more none row list single successors types listed attributes = record {
+    uses = one_part (read.Operands ns) old.names (λ p k l acts. TakesParts p k l acts old g new h y.operands y.successors) uses;
+    operands_unlisted = λ l. absurd l;
+    successors_unlisted = λ l. ap (λ z. z.list.items) successors;
+    operands_grow = record {
+      single = λ e a. subst (Among e) (sym single) a;
+      list = λ j w e. absurd (let f : slice_get [] j ≡ Some w = subst (λ z. slice_get z j ≡ Some w) none e in nothing_there j w f);
+    };
+    successors_grow = subst (Grows x.successors) (sym successors) (grows_itself x.successors);
+    operand_places = ap (map (λ e. e.0)) single ∙ sym (append-nil (map (λ e. e.0) x.operands.single.items));
+    successor_places = ap (λ s. map (λ e. e.0) s.single.items) successors ∙ sym (append-nil (map (λ e. e.0) x.successors.single.items));
+    types = ap (λ s. s.items) types ∙ sym (append-nil x.types.items);
+    listed = listed;
+    attributes = ap entries_of attributes;
+    there = λ s. record {
+      operands = λ e a. row.there.still (OfValue e.1) (s.operands e (subst (Among e) single a));
+      listed_operands = λ w a. row.there.each w (subst (Among w) all a);
+      successors = λ e a. row.there.still (OfBlock e.1) (s.successors e (subst (λ z. Among e z.single.items) successors a));
+      listed_successors = λ b a. row.there.still (OfBlock b) (s.listed_successors b (subst (λ z. Among b z.list.items) successors a));
+    };
+  }
+    where
+      all : y.operands.list.items ≡ more
+      all = list ∙ ap (λ z. z ++ more) none
+
+      nothing_there : (j : ℕ) (w : Value) → slice_get [] j ≡ Some w → ⊥
+      nothing_there zero w e = cc
+      nothing_there (suc j) w e = cc
+
+      uses : (text : Text) (q : Piece ℕ T A) → IsPiece old.names text (read.Operands ns) q → (p : Path) (k l : ℕ) → TakesParts p k l (piece_acts p k l q) old g new h y.operands y.successors
+      uses text q is p k l = subst (λ z. TakesParts p k l (piece_acts p k l z) old g new h y.operands y.successors) (sym is.1) (record {
+        more = in_hand_from OfValue (operand p) k more;
+        takes = subst (λ acts. TakesUses acts old new g h (in_hand_from OfValue (operand p) k more)) (value_uses_are p k is.0) (row.follows is.0 (named_row old.names text ns is.0 is.2) (operand p) k);
+        held = record { so = λ u d a. let r = row_hand OfValue (operand p) k more u d a in inl (inr (r.0, r.1, r.2, r.3, ap (λ z. slice_get z r.0) all ∙ r.4)) };
+      })
+
+  -- a list of successors, of which none came before
+  pub successors_one : (ns : List ReadName) (more : List (Ptr BasicBlock)) → x.successors.list.items ≡ [] → UsesRow OfBlock use_label (map (λ n. n.name) ns) old new g h more
+      → y.successors.list.items ≡ x.successors.list.items ++ more → y.successors.single.items ≡ x.successors.single.items → y.operands ≡ x.operands → y.types ≡ x.types → y.listed ≡ x.listed → y.attributes ≡ x.attributes
+      → Gathers (read.Successors ns ∷ []) old g x new h y
+  successors_one ns more none row list single operands types listed attributes = record {
+    uses = one_part (read.Successors ns) old.names (λ p k l acts. TakesParts p k l acts old g new h y.operands y.successors) uses;
+    operands_unlisted = λ l. ap (λ z. z.list.items) operands;
+    successors_unlisted = λ l. absurd l;
+    successors_grow = record {
+      single = λ e a. subst (Among e) (sym single) a;
+      list = λ j w e. absurd (let f : slice_get [] j ≡ Some w = subst (λ z. slice_get z j ≡ Some w) none e in nothing_there j w f);
+    };
+    operands_grow = subst (Grows x.operands) (sym operands) (grows_itself x.operands);
+    successor_places = ap (map (λ e. e.0)) single ∙ sym (append-nil (map (λ e. e.0) x.successors.single.items));
+    operand_places = ap (λ s. map (λ e. e.0) s.single.items) operands ∙ sym (append-nil (map (λ e. e.0) x.operands.single.items));
+    types = ap (λ s. s.items) types ∙ sym (append-nil x.types.items);
+    listed = listed;
+    attributes = ap entries_of attributes;
+    there = λ s. record {
+      successors = λ e a. row.there.still (OfBlock e.1) (s.successors e (subst (Among e) single a));
+      listed_successors = λ w a. row.there.each w (subst (Among w) all a);
+      operands = λ e a. row.there.still (OfValue e.1) (s.operands e (subst (λ z. Among e z.single.items) operands a));
+      listed_operands = λ b a. row.there.still (OfValue b) (s.listed_operands b (subst (λ z. Among b z.list.items) operands a));
+    };
+  }
+    where
+      all : y.successors.list.items ≡ more
+      all = list ∙ ap (λ z. z ++ more) none
+
+      nothing_there : (j : ℕ) (w : Ptr BasicBlock) → slice_get [] j ≡ Some w → ⊥
+      nothing_there zero w e = cc
+      nothing_there (suc j) w e = cc
+
+      uses : (text : Text) (q : Piece ℕ T A) → IsPiece old.names text (read.Successors ns) q → (p : Path) (k l : ℕ) → TakesParts p k l (piece_acts p k l q) old g new h y.operands y.successors
+      uses text q is p k l = subst (λ z. TakesParts p k l (piece_acts p k l z) old g new h y.operands y.successors) (sym is.1) (record {
+        more = in_hand_from OfBlock (successor p) l more;
+        takes = subst (λ acts. TakesUses acts old new g h (in_hand_from OfBlock (successor p) l more)) (label_uses_are p l is.0) (row.follows is.0 (named_row old.names text ns is.0 is.2) (successor p) l);
+        held = record { so = λ u d a. let r = row_hand OfBlock (successor p) l more u d a in inr (inr (r.0, r.1, r.2, r.3, ap (λ z. slice_get z r.0) all ∙ r.4)) };
+      })
+
+module _ {O B T A : Type 0} (names : Names) (g : GraphView (Option O) B (Option T)) where
+  -- the piece does nothing with names
+  silent : (q q' : Piece ℕ T A) → q ≡ q' → (p : Path) (k l : ℕ) → piece_acts p k l q' ≡ [] → TakesUses (piece_acts p k l q) names names g g []
+  silent q q' e p k l none = subst (λ acts. TakesUses acts names names g g []) (sym (ap (piece_acts p k l) e ∙ none)) (takes_none names g)
+
+-- ---- a piece that uses no name
+module _ {O B T A : Type 0} (names : Names) (g : GraphView (Option O) B (Option T)) {x y : Gathered T A} where
+  alone : (piece : ReadPiece T A) → ((text : Text) (q : Piece ℕ T A) → IsPiece names.names text piece q → (p : Path) (k l : ℕ) → TakesUses (piece_acts p k l q) names names g g [])
+      → operand_place piece ≡ [] → successor_place piece ≡ []
+      → y.operands ≡ x.operands → y.successors ≡ x.successors → y.types.items ≡ x.types.items ++ flat_map placed_type (piece ∷ []) → y.listed ≡ last_list x.listed (flat_map type_list (piece ∷ []))
+      → entries_of y.attributes ≡ put_all (entries_of x.attributes) (flat_map stored_of (piece ∷ [])) → Gathers (piece ∷ []) names g x names g y
+  alone piece takes no_operand no_successor operands successors types listed attributes = record {
+    uses = one_part piece names.names (λ p k l acts. TakesParts p k l acts names g names g y.operands y.successors)
+        (λ text q is p k l. record { more = []; takes = takes text q is p k l; held = record { so = λ u d a. absurd a } });
+    operands_unlisted = λ l. ap (λ z. z.list.items) operands;
+    successors_unlisted = λ l. ap (λ z. z.list.items) successors;
+    operands_grow = subst (Grows x.operands) (sym operands) (grows_itself x.operands);
+    successors_grow = subst (Grows x.successors) (sym successors) (grows_itself x.successors);
+    operand_places = ap (λ s. map (λ e. e.0) s.single.items) operands ∙ (sym (append-nil (map (λ e. e.0) x.operands.single.items)) ∙ ap (λ z. map (λ e. e.0) x.operands.single.items ++ (z ++ [])) (sym no_operand));
+    successor_places = ap (λ s. map (λ e. e.0) s.single.items) successors ∙ (sym (append-nil (map (λ e. e.0) x.successors.single.items)) ∙ ap (λ z. map (λ e. e.0) x.successors.single.items ++ (z ++ [])) (sym no_successor));
+    types = types;
+    listed = listed;
+    attributes = attributes;
+    there = λ s. record {
+      operands = λ e a. s.operands e (subst (λ z. Among e z.single.items) operands a);
+      listed_operands = λ v a. s.listed_operands v (subst (λ z. Among v z.list.items) operands a);
+      successors = λ e a. s.successors e (subst (λ z. Among e z.single.items) successors a);
+      listed_successors = λ b a. s.listed_successors b (subst (λ z. Among b z.list.items) successors a);
+    };
+  }
+
+  -- a marker stands in the place of the attribute
+  pub marker_one : (k : Text) → y ≡ x → Gathers {O = O} {B = B} (read.Attr k None ∷ []) names g x names g y
+  marker_one k e = alone (read.Attr k None) (λ text q is p a b. silent names g q (tree.attribute k None) is p a b refl) refl refl
+      (ap (λ z. z.operands) e) (ap (λ z. z.successors) e) (ap (λ z. z.types.items) e ∙ sym (append-nil x.types.items)) (ap (λ z. z.listed) e) (ap (λ z. entries_of z.attributes) e)
+
+  -- a fixed text
+  pub word_one : y ≡ x → Gathers {O = O} {B = B} (read.Word ∷ []) names g x names g y
+  word_one e = alone read.Word (λ text q is p a b. silent names g q (tree.word is.0) is.1 p a b refl) refl refl
+      (ap (λ z. z.operands) e) (ap (λ z. z.successors) e) (ap (λ z. z.types.items) e ∙ sym (append-nil x.types.items)) (ap (λ z. z.listed) e) (ap (λ z. entries_of z.attributes) e)
+
+  -- no operands
+  pub no_operands_one : (ns : List ReadName) → ns ≡ [] → y ≡ x → Gathers {O = O} {B = B} (read.Operands ns ∷ []) names g x names g y
+  no_operands_one [] none e = alone (read.Operands []) none_used refl refl
+      (ap (λ z. z.operands) e) (ap (λ z. z.successors) e) (ap (λ z. z.types.items) e ∙ sym (append-nil x.types.items)) (ap (λ z. z.listed) e) (ap (λ z. entries_of z.attributes) e)
+    where
+      none_used : (text : Text) (q : Piece ℕ T A) → IsPiece names.names text (read.Operands []) q → (p : Path) (k l : ℕ) → TakesUses (piece_acts p k l q) names names g g []
+      none_used text q ([], is, each) p k l = silent names g q (tree.operands []) is p k l refl
+      none_used text q (m ∷ ms, is, each) p k l = absurd each
+  no_operands_one (n ∷ ns) none e = absurd (cc)
+
+  -- no successors
+  pub no_successors_one : (ns : List ReadName) → ns ≡ [] → y ≡ x → Gathers {O = O} {B = B} (read.Successors ns ∷ []) names g x names g y
+  no_successors_one [] none e = alone (read.Successors []) none_used refl refl
+      (ap (λ z. z.operands) e) (ap (λ z. z.successors) e) (ap (λ z. z.types.items) e ∙ sym (append-nil x.types.items)) (ap (λ z. z.listed) e) (ap (λ z. entries_of z.attributes) e)
+    where
+      none_used : (text : Text) (q : Piece ℕ T A) → IsPiece names.names text (read.Successors []) q → (p : Path) (k l : ℕ) → TakesUses (piece_acts p k l q) names names g g []
+      none_used text q ([], is, each) p k l = silent names g q (tree.successors []) is p k l refl
+      none_used text q (m ∷ ms, is, each) p k l = absurd each
+  no_successors_one (n ∷ ns) none e = absurd (cc)
+
+  -- the attribute of a directive
+  pub attribute_one : (k : Text) (a : AttrObj A) → y.operands ≡ x.operands → y.successors ≡ x.successors → y.types ≡ x.types → y.listed ≡ x.listed
+      → entries_of y.attributes ≡ put_all (entries_of x.attributes) ((k, attribute_of a) ∷ []) → Gathers {O = O} {B = B} (read.Attr k (Some a) ∷ []) names g x names g y
+  attribute_one k a operands successors types listed attributes = alone (read.Attr k (Some a)) (λ text q is p b c. silent names g q (tree.attribute k (Some (attribute_of a))) is p b c refl) refl refl
+      operands successors (ap (λ z. z.items) types ∙ sym (append-nil x.types.items)) listed attributes
+
+  -- a symbol's name
+  pub header_one : (s : Symbol) → y.operands ≡ x.operands → y.successors ≡ x.successors → y.types ≡ x.types → y.listed ≡ x.listed
+      → entries_of y.attributes ≡ put_all (entries_of x.attributes) ((sym_name_key, ident s.name) ∷ []) → Gathers {O = O} {B = B} (read.Header s ∷ []) names g x names g y
+  header_one s operands successors types listed attributes = alone (read.Header s) (λ text q is p b c. silent names g q (tree.header is.0) is.1 p b c refl) refl refl
+      operands successors (ap (λ z. z.items) types ∙ sym (append-nil x.types.items)) listed attributes
+
+  -- the type of a result
+  pub type_one : (i : ℕ) (t : T) → y.operands ≡ x.operands → y.successors ≡ x.successors → y.types.items ≡ x.types.items ++ (i, t) ∷ [] → y.listed ≡ x.listed → y.attributes ≡ x.attributes
+      → Gathers {O = O} {B = B} (read.ResultType i t ∷ []) names g x names g y
+  type_one i t operands successors types listed attributes = alone (read.ResultType i t) (λ text q is p b c. silent names g q (tree.result_type i t) is p b c refl) refl refl
+      operands successors types listed (ap entries_of attributes)
+
+  -- a list of types
+  pub types_one : (ts : List T) → y.operands ≡ x.operands → y.successors ≡ x.successors → y.types ≡ x.types → y.listed ≡ ts → y.attributes ≡ x.attributes
+      → Gathers {O = O} {B = B} (read.Types ts ∷ []) names g x names g y
+  types_one ts operands successors types listed attributes = alone (read.Types ts) (λ text q is p b c. silent names g q (tree.types ts) is p b c refl) refl refl
+      operands successors (ap (λ z. z.items) types ∙ sym (append-nil x.types.items)) listed (ap entries_of attributes)
+
+-- ---- entries of a dictionary
+after_nothing : (st : State) → after st nothing ≡ st
+after_nothing st = λ i. record {
+  values = onto_nothing st.values i;
+  labels = onto_nothing st.labels i;
+  marks = append-nil st.marks i;
+  entries = append-nil st.entries i;
+  bound = append-nil st.bound i;
+}
+
+module _ {O B T : Type 0} (names : Names) (g : GraphView (Option O) B T) where
+  -- what holds changes nothing
+  holds_passes : (b : Bool) (f : Failure) → b ≡ true → TakesUses (claim b f ∷ []) names names g g []
+  holds_passes b f e = record {
+    so = λ known held st s. (st, ap (λ z. outcome (cond z [] (f ∷ [])) (after st nothing)) e ∙ ap going (after_nothing st), subst (λ xs. StandsAt names g known xs st) (sym (append-nil held)) s);
+  }
+
+  fails_not : (b : Bool) (f : Failure) → b ≡ false → FailsUses (claim b f ∷ []) names g f
+  fails_not b f e = record { so = λ known held st s. ap (λ z. outcome (cond z [] (f ∷ [])) (after st nothing)) e }
+
+  module _ {A : Type 0} (text : Text) where
+    -- whether the attribute may stand under the key
+    same_holds : (e : Key × AttrObj A) (d : Name ℕ × Attribute A) → IsEntry text e d → may_hold d.0.text d.1 ≡ may_hold e.0.name (attribute_of e.1)
+    same_holds e d is = ap₂ may_hold (sym is.0.named) (sym is.1)
+
+    pub entries_pass : (es : List (Key × AttrObj A)) (ds : List (Name ℕ × Attribute A)) → Each (IsEntry text) es ds → MayAllHold es → TakesUses (map (key_act may_hold) ds) names names g g []
+    entries_pass [] [] each h = takes_none names g
+    entries_pass [] (d ∷ ds) each h = absurd each
+    entries_pass (e ∷ es) [] each h = absurd each
+    entries_pass (e ∷ es) (d ∷ ds) each h = takes_both (holds_passes _ _ (same_holds e d each.0 ∙ h.0)) (entries_pass es ds each.1 h.1)
+
+    pub entries_fail : (es : List (Key × AttrObj A)) (ds : List (Name ℕ × Attribute A)) (key : Key) → Each (IsEntry text) es ds → IsFirstReserved es key
+        → (n : Name ℕ) × IsKey text key n × FailsUses (map (key_act may_hold) ds) names g (record { cause = ReservedKey n.text; at = Some n.place })
+    entries_fail [] ds key each r = absurd r
+    entries_fail (e ∷ es) [] key each r = absurd each
+    entries_fail (e ∷ es) (d ∷ ds) key each (inl here) = (d.0, subst (λ k. IsKey text k d.0) (sym here.1) each.0.0, fails_first (map (key_act may_hold) ds) (fails_not _ _ (same_holds e d each.0 ∙ here.0)))
+    entries_fail (e ∷ es) (d ∷ ds) key each (inr later) = let r = entries_fail es ds key each.1 later.1 in (r.0, r.1, fails_then (holds_passes _ _ (same_holds e d each.0 ∙ later.0)) r.2)
+
+module _ {O B T A : Type 0} (names : Names) (g : GraphView (Option O) B (Option T)) {x y : Gathered T A} where
+  -- a dictionary whose entries may all stand there
+  pub dictionary_one : (es : List (Key × AttrObj A)) → MayAllHold es → y.operands ≡ x.operands → y.successors ≡ x.successors → y.types ≡ x.types → y.listed ≡ x.listed
+      → entries_of y.attributes ≡ put_all (entries_of x.attributes) (map entry_read es) → Gathers {O = O} {B = B} (read.Dictionary es ∷ []) names g x names g y
+  dictionary_one es h operands successors types listed attributes = alone names g (read.Dictionary es)
+      (λ text q is p b c. subst (λ z. TakesUses (piece_acts p b c z) names names g g []) (sym is.1) (entries_pass names g text es is.0 is.2 h)) refl refl
+      operands successors (ap (λ z. z.items) types ∙ sym (append-nil x.types.items)) listed (attributes ∙ ap (put_all (entries_of x.attributes)) (sym (append-nil (map entry_read es))))
+
+module _ {O B T A : Type 0} (names : Names) (g : GraphView (Option O) B (Option T)) where
+  -- a dictionary with a key that is reserved
+  pub dictionary_fails : (es : List (Key × AttrObj A)) (key : Key) → IsFirstReserved es key → GatherFails {T = T} (read.Dictionary es ∷ []) names g key
+  dictionary_fails es key r = record { so = fails }
+    where
+      fails : (text : Text) (parts : List (Part ℕ T A)) → Each (IsPart names.names text) (read.Dictionary es ∷ []) parts
+          → (n : Name ℕ) × IsKey text key n × ((p : Path) (k l : ℕ) → FailsUses (views (piece_acts p k l) parts) names g (record { cause = ReservedKey n.text; at = Some n.place }))
+      fails text [] e = absurd e
+      fails text (part ∷ z ∷ parts) e = absurd e.1
+      fails text (part ∷ []) e =
+          let q = e.0.2 in
+          let f = entries_fail names g text es q.0 key q.2 r in
+          let full = e.0.1 ∙ ap (λ z. tree.piece z) q.1 in (
+            f.0,
+            f.1,
+            λ p k l. subst (λ z. FailsUses (views (piece_acts p k l) (z ∷ [])) names g (record { cause = ReservedKey f.0.text; at = Some f.0.place })) (sym full)
+                (subst (λ acts. FailsUses acts names g (record { cause = ReservedKey f.0.text; at = Some f.0.place })) (sym (append-nil (map (key_act may_hold) q.0))) f.2),
+          )
+
+-- ---- lists that are none or some
+pub none_of_length : (ns : List ReadName) → length ns ≡ 0 → ns ≡ []
+none_of_length [] e = refl
+none_of_length (n ∷ ns) e = absurd (omega (arith, e))
+
+pub open_of_some : {b : Bool} (ns : List ReadName) → (length ns ≡ 0 → ⊥) → (ns ≡ []) ⊎ (b ≡ true) → b ≡ true
+open_of_some ns some (inl e) = absurd (some (ap length e))
+open_of_some ns some (inr o) = o
+
+-- ---- pieces that may have been refused
+module _ {T A : Type 0} (x y : Gathered T A) where
+  pub marker_if : (k : Text) (o : Option (AttrObj A)) → o ≡ None → y ≡ x → GathersAlone (read.Attr k o ∷ []) x y
+  marker_if k None e f = λ names g. marker_one names g k f
+  marker_if k (Some a) e f = absurd (cc)
+
+  pub attribute_tried : {X E : Type 0} (r : Result X E) (k : Text) (o : Option (AttrObj A)) (a : AttrObj A) → o ≡ Some a → y.operands ≡ x.operands → y.successors ≡ x.successors → y.types ≡ x.types → y.listed ≡ x.listed
+      → OnOk r (entries_of y.attributes ≡ put_all (entries_of x.attributes) ((k, attribute_of a) ∷ [])) → OnOk r (GathersAlone (read.Attr k o ∷ []) x y)
+  attribute_tried (Err z) k o a e operands successors types listed s = tt
+  attribute_tried (Ok z) k o a e operands successors types listed s = λ names g. subst (λ o. Gathers (read.Attr k o ∷ []) names g x names g y) (sym e) (attribute_one names g k a operands successors types listed s)
+
+  pub header_tried : {X E : Type 0} (r : Result X E) (key : Text) (s : Symbol) → key ≡ sym_name_key → y.operands ≡ x.operands → y.successors ≡ x.successors → y.types ≡ x.types → y.listed ≡ x.listed
+      → OnOk r (entries_of y.attributes ≡ put_all (entries_of x.attributes) ((key, ident s.name) ∷ [])) → OnOk r (GathersAlone (read.Header s ∷ []) x y)
+  header_tried (Err z) key s e operands successors types listed h = tt
+  header_tried (Ok z) key s e operands successors types listed h = λ names g. header_one names g s operands successors types listed (h ∙ ap (λ k. put_all (entries_of x.attributes) ((k, ident s.name) ∷ [])) e)
+
+module _ {T A : Type 0} (x y : Gathered T A) where
+  pub dictionary_tried : {X E : Type 0} (r : Result X E) (es ds : List (Key × AttrObj A)) → ds ≡ es → y.operands ≡ x.operands → y.successors ≡ x.successors → y.types ≡ x.types → y.listed ≡ x.listed
+      → OnOk r (entries_of y.attributes ≡ put_all (entries_of x.attributes) (map entry_read ds)) → OnOk r (MayAllHold ds) → OnOk r (GathersAlone (read.Dictionary es ∷ []) x y)
+  dictionary_tried (Err z) es ds e operands successors types listed s h = tt
+  dictionary_tried (Ok z) es ds e operands successors types listed s h = λ names g. subst (λ zs. Gathers (read.Dictionary zs ∷ []) names g x names g y) e (dictionary_one names g ds h operands successors types listed s)
+
+module _ (T : Type 0) {A : Type 0} where
+  pub dictionary_refused : {X : Type 0} (r : Result X NotGathered) (es ds : List (Key × AttrObj A)) → ds ≡ es → IfErr r (RefusesEntries ds) → IfErr r (RefusesAlone {T = T} {A = A} (read.Dictionary es ∷ []))
+  dictionary_refused (Ok z) es ds e h = tt
+  dictionary_refused (Err refusal.Memory) es ds e h = λ names g. tt
+  dictionary_refused (Err (refusal.ReservedKey key)) es ds e h = λ names g. dictionary_fails names g es key (subst (λ zs. IsFirstReserved zs key) e h)
+
+-- ---- refusals
+module _ {O B T A : Type 0} where
+  -- the first piece is refused
+  pub gather_refused_first : (piece : ReadPiece T A) (ps : List (ReadPiece T A)) (names : Names) (g : GraphView (Option O) B (Option T)) (r : NotGathered) → RefusesGathering (piece ∷ []) names g r → RefusesGathering (piece ∷ ps) names g r
+  gather_refused_first piece ps names g refusal.Memory h = tt
+  gather_refused_first piece ps names g (refusal.ReservedKey key) h = gather_fails_first piece ps h
+
+  -- what is refused later is refused from the beginning
+  pub gather_refused_from : (ps qs : List (ReadPiece T A)) (names mid : Names) (g h : GraphView (Option O) B (Option T)) → ((key : Key) → GatherFails ps mid h key → GatherFails qs names g key)
+      → (r : NotGathered) → RefusesGathering ps mid h r → RefusesGathering qs names g r
+  gather_refused_from ps qs names mid g h from refusal.Memory r = tt
+  gather_refused_from ps qs names mid g h from (refusal.ReservedKey key) r = from key r
+
+-- ---- pieces by their kind
+module _ {T A : Type 0} (names : Names) (g : GraphView (Option (OperationData A)) (BlockData A) (Option T)) (x y : Gathered T A) where
+  pub alone_at : (piece q : ReadPiece T A) → piece ≡ q → GathersAlone (q ∷ []) x y → Gathers (piece ∷ []) names g x names g y
+  alone_at piece q e h = subst (λ p. Gathers (p ∷ []) names g x names g y) (sym e) (h names g)
+
+  pub alone_if : {X E : Type 0} (r : Result X E) (piece q : ReadPiece T A) → piece ≡ q → OnOk r (GathersAlone (q ∷ []) x y) → OnOk r (Gathers (piece ∷ []) names g x names g y)
+  alone_if (Ok z) piece q e h = alone_at piece q e h
+  alone_if (Err z) piece q e h = tt

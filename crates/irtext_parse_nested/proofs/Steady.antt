@@ -1,0 +1,105 @@
+-- As many scopes stay open, and all stays tied, from call to call.
+use Rattle.std.proofs.Common.{◌≡◌, ◌<◌, ◌≤◌, ◌+◌, ◌∙◌, ℕ, zero, suc, List, [], ◌∷◌, ◌++◌, length, map, take, get_or, slice_get, Option, Some, None, Result, Ok, Err, IfOk, OnErr, refl, ap, subst, arith}
+use Rattle.irtext_graph.specs.declared.arena.Ptr.{Ptr}
+use Rattle.irtext_graph.specs.declared.object.BasicBlock.{BasicBlock}
+use Rattle.irtext_graph.specs.declared.object.Value.{Value}
+use Rattle.irtext_graph.specs.declared.object.Defined.TheVariants.{OfValue, OfBlock}
+use Rattle.irtext_graph.specs.declared.object.Object.TheVariants.{TheBlock}
+use Rattle.irtext_graph.specs.Graph.{GraphView, Stands}
+use Rattle.irtext_graph.specs.Parts.{ValueStands}
+use Rattle.irtext_graph.proofs.Closed.{older_on}
+use Rattle.irtext_scopes.specs.declared.scopes.Entry.{Entry}
+use Rattle.irtext_scopes.specs.Scopes.{Scope, find, innermost, in_innermost, is_open}
+use Rattle.irtext_grammar.specs.Names.Script.{User, use_value, use_label}
+use Rattle.irtext_grammar.specs.Names.TextScopes.{Word}
+use Rattle.irtext_names.specs.Linked.{TakesUse}
+use Rattle.irtext_names.specs.Placeholders.{Uses, MakesValue, MakesLabel}
+use Rattle.irtext_names.specs.Tied.{AreTied}
+use Rattle.irtext_parse_acts.specs.Rows.{AreKnown}
+use Rattle.irtext_parse_acts.proofs.Lists.{older_itself}
+use Rattle.irtext_parse_acts.proofs.Rows.{use_there, value_there, label_there}
+use Rattle.irtext_parse_nested.specs.Items.{Names}
+use Rattle.irtext_parse_nested.specs.Gathered.{IsSteady, TakesName}
+
+-- ---- scopes
+-- as many scopes are open where one is
+pub open_by_depth : {V : Type 0} (ss ts : List (Scope V)) → length ss ≡ length ts → is_open ss ≡ is_open ts
+open_by_depth [] [] e = refl
+open_by_depth [] (t ∷ ts) e = absurd (omega (arith, e))
+open_by_depth (s ∷ ss) [] e = absurd (omega (arith, e))
+open_by_depth (s ∷ ss) (t ∷ ts) e = refl
+
+depth_in_innermost : {V : Type 0} (f : Scope V → Scope V) (ss : List (Scope V)) → length (in_innermost f ss) ≡ length ss
+depth_in_innermost f [] = refl
+depth_in_innermost f (s ∷ ss) = refl
+
+module _ {O B T V : Type 0} (Makes : GraphView (Option O) B T → GraphView (Option O) B T → V → Type 0) (old new : List (Scope V)) (g h : GraphView (Option O) B T) (n : ℕ) where
+  use_depth : (v : V) → Uses Makes old new g h n v → length new ≡ length old
+  use_depth v u = go (find n (innermost old)) refl
+    where
+      go : (o : Option (Entry V)) → find n (innermost old) ≡ o → length new ≡ length old
+      go (Some e) f = ap length (u.known e f).1
+      go None f = ap length (u.unknown f).0 ∙ depth_in_innermost _ old
+
+  -- a use opens no scope and leaves none
+  pub depth_used : {E : Type 0} (r : Result V E) → IfOk r (λ v. Uses Makes old new g h n v) → OnErr r (new ≡ old) → length new ≡ length old
+  depth_used (Ok v) u e = use_depth v u
+  depth_used (Err x) u e = ap length e
+
+-- ---- calls one after another
+module _ {O B T : Type 0} where
+  pub steady_itself : (names : Names) (g : GraphView (Option O) B T) → AreTied names.values names.labels g → IsSteady names names g g
+  steady_itself names g t = record { names = refl; values = refl; labels = refl; tied = t; waiting = λ m own le w. w; kept = λ m le. older_itself m g }
+
+  pub steady_both : {old mid new : Names} {g h k : GraphView (Option O) B T} → IsSteady old mid g h → IsSteady mid new h k → IsSteady old new g k
+  steady_both {g} {h} {k} s t = record {
+    names = t.names ∙ s.names;
+    values = t.values ∙ s.values;
+    labels = t.labels ∙ s.labels;
+    tied = t.tied;
+    waiting = λ m own le w. let up = (s.kept m le).made in t.waiting m own (omega (arith, le, up)) (s.waiting m own le w);
+    kept = λ m le. let up = (s.kept m le).made in older_on m g h k (s.kept m le) (t.kept m (omega (arith, le, up)));
+  }
+
+-- ---- a name that is used
+module _ {O B T E : Type 0} (old new : Names) (g h : GraphView (Option O) B (Option T)) (n : ℕ) where
+  pub value_named : (r : Result Value E) → IfOk r (λ v. Uses MakesValue old.values new.values g h n v) → IfOk r (λ v. ValueStands h v)
+      → IfOk r (λ v. (w : Word) (u : User) → slice_get old.names n ≡ Some w.name → TakesUse (use_value w u) old new g h u (OfValue v)) → IfOk r (TakesName OfValue use_value n old new g h)
+  value_named (Ok v) u t f = record { still = use_there MakesValue old.values new.values g h n v u (λ d m e. value_there v d m e); there = t; follows = f }
+  value_named (Err x) u t f = tt
+
+  pub block_named : (value : B) (r : Result (Ptr BasicBlock) E) → IfOk r (λ b. Uses (MakesLabel value) old.labels new.labels g h n b) → IfOk r (λ b. Stands h (TheBlock b))
+      → IfOk r (λ b. (w : Word) (u : User) → slice_get old.names n ≡ Some w.name → TakesUse (use_label w u) old new g h u (OfBlock b)) → IfOk r (TakesName OfBlock use_label n old new g h)
+  block_named value (Ok b) u t f = record { still = use_there (MakesLabel value) old.labels new.labels g h n b u (λ d m e. label_there value b d m e); there = t; follows = f }
+  block_named value (Err x) u t f = tt
+
+-- ---- names in a row
+take_one : {X : Type 0} (xs : List X) (i : ℕ) (x : X) → slice_get xs i ≡ Some x → take (suc i) xs ≡ take i xs ++ x ∷ []
+take_one [] zero x e = absurd (cc)
+take_one [] (suc i) x e = absurd (cc)
+take_one (y ∷ ys) zero x e = let f : y ≡ x = cc in ap (λ z. z ∷ []) f
+take_one (y ∷ ys) (suc i) x e = ap (λ zs. y ∷ zs) (take_one ys i x e)
+
+pub take_next : {X : Type 0} (xs : List X) (i : ℕ) (x : X) → slice_get xs i ≡ Some x → take (i + 1) xs ≡ take i xs ++ x ∷ []
+take_next xs i x e = let m : i + 1 ≡ suc i = omega arith in ap (λ n. take n xs) m ∙ take_one xs i x e
+
+pub known_here : (count : ℕ) (ns : List ℕ) (i n : ℕ) → slice_get ns i ≡ Some n → AreKnown count ns → n < count
+known_here count [] zero n e k = absurd (cc)
+known_here count [] (suc i) n e k = absurd (cc)
+known_here count (m ∷ ms) zero n e k = let f : m ≡ n = cc in subst (λ z. z < count) f k.0
+known_here count (m ∷ ms) (suc i) n e k = known_here count ms i n e k.1
+
+pub take_whole : {X : Type 0} (xs : List X) (i : ℕ) → length xs ≤ i → take i xs ≡ xs
+take_whole [] zero l = refl
+take_whole [] (suc i) l = refl
+take_whole (x ∷ xs) zero l = absurd (omega (arith, l))
+take_whole (x ∷ xs) (suc i) l = ap (λ zs. x ∷ zs) (take_whole xs i (omega (arith, l)))
+
+pub length_names : {X Y : Type 0} (f : X → Y) (xs : List X) → length (map f xs) ≡ length xs
+length_names f [] = refl
+length_names f (x ∷ xs) = ap suc (length_names f xs)
+
+pub number_here : {X Y : Type 0} (f : X → Y) (xs : List X) (i : ℕ) (x : X) → i < length xs → slice_get (map f xs) i ≡ Some (f (get_or xs i x))
+number_here f [] i x l = absurd (omega (arith, l))
+number_here f (y ∷ ys) zero x l = refl
+number_here f (y ∷ ys) (suc i) x l = number_here f ys i x (omega (arith, l))

@@ -1,0 +1,47 @@
+use Rattle.std.proofs.Common.{◌∙◌, [], refl, sym, subst, IsSome}
+use Rattle.std.proofs.lemmas.Result.{err_from_is_err_and}
+use Rattle.irtext_context.specs.Context.{operation, AddsRegion}
+use Rattle.irtext_read.specs.AttrTexts.{attr_at}
+use Rattle.irtext_parse_nested.specs.Items.{Lasts}
+use Rattle.irtext_parse_nested.proofs.Entering.{unentered, unbraced, braced}
+use Rattle.irtext_parse_nested.proofs.RegionBegun.{region_lasts, region_sound}
+use Rattle.irtext_parse_nested.proofs.regions.region_begin.Goals as goal
+
+pub add-requires : goal.add-requires
+add-requires g c = record { stands = subst (λ x. IsSome (operation x c.args.op)) (sym c.in_ok-enter_here.ensures.ctx) c.requires.stands }
+
+pub returns-in_err-enter_here-clause-refused : goal.returns-in_err-enter_here-clause-refused
+returns-in_err-enter_here-clause-refused g c =
+    let p = err_from_is_err_and c.from_residual.result c.from_residual.ensures.1 in
+    rw (p.1, p.2) (unentered g.T.IrText.reading (attr_at g.A.IrText.reading) c.args.isolated c.args.names.now c.args.s.now _ c.in_err-enter_here.ensures.refused)
+
+pub returns-in_err-brace_demanded-clause-refused : goal.returns-in_err-brace_demanded-clause-refused
+returns-in_err-brace_demanded-clause-refused g c =
+    let e = c.in_ok-enter_here.ensures in
+    let a = c.in_ok-region.ensures in
+    let p = err_from_is_err_and c.from_residual-in_err-brace_demanded.result c.from_residual-in_err-brace_demanded.ensures.1 in
+    rw (p.1, p.2) (unbraced g.T.IrText.reading (attr_at g.A.IrText.reading) c.args.isolated c.args.names.now c.args.s.now c.enter_here.new.names c.add.new.s c.args.op c.in_ok-region.region e.takes
+    (subst (λ x. AddsRegion x c.add.new.s.state.ctx.now c.args.op c.in_ok-region.region) e.ctx a.adds) c.requires.stands e.tied (a.marks ∙ e.marks) (a.stream ∙ e.stream) _ _ c.requires.fine c.in_err-brace_demanded.ensures)
+
+pub returns-clause-begins : goal.returns-clause-begins
+returns-clause-begins g c =
+    let e = c.in_ok-enter_here.ensures in
+    let a = c.in_ok-region.ensures in
+    braced g.T.IrText.reading (attr_at g.A.IrText.reading) c.args.isolated c.args.names.now c.args.s.now c.enter_here.new.names c.add.new.s c.args.op c.in_ok-region.region e.takes
+    (subst (λ x. AddsRegion x c.add.new.s.state.ctx.now c.args.op c.in_ok-region.region) e.ctx a.adds) c.requires.stands e.tied (a.marks ∙ e.marks) (a.stream ∙ e.stream)
+    (record { region = c.in_ok-region.region; isolated = c.args.isolated; at = c.position-at.result }) _ refl c.in_ok-brace_demanded.ensures refl refl
+    (record { passed = c.args.s.now.stream.passed; rest = c.args.s.now.stream.rest; same = refl; stands = c.position-at.ensures; counts = refl })
+
+pub returns-clause-lasts : goal.returns-clause-lasts
+returns-clause-lasts g c = subst (λ x. Lasts x c.add.new.s.state.ctx.now) c.in_ok-enter_here.ensures.ctx (region_lasts _ _ c.args.op c.in_ok-region.region c.in_ok-region.ensures.adds)
+
+pub returns-clause-sound : goal.returns-clause-sound
+returns-clause-sound g c = λ m le h.
+    let e = c.in_ok-enter_here.ensures in
+    let a = c.in_ok-region.ensures in
+    let adds = subst (λ x. AddsRegion x c.add.new.s.state.ctx.now c.args.op c.in_ok-region.region) e.ctx a.adds in
+    region_sound c.args.s.now.state.ctx.now c.add.new.s.state.ctx.now c.args.op c.in_ok-region.region adds c.requires.stands c.enter_here.new.names m c.args.s.now.state c.add.new.s.state refl refl
+    (record { tied = e.tied; waiting = e.waiting m [] h.waiting })
+
+pub returns-clause-open : goal.returns-clause-open
+returns-clause-open g c = c.in_ok-enter_here.ensures.open

@@ -1,0 +1,25 @@
+use Rattle.std.proofs.Common.{refl, subst, ℕ}
+use Rattle.std.proofs.lemmas.Result.{err_from_is_err_and}
+use Rattle.irtext_grammar.specs.Contexts.Held.{whole}
+use Rattle.irtext_grammar.specs.Names.History as history
+use Rattle.irtext_grammar.specs.Names.History.{leave}
+use Rattle.irtext_names.specs.Linked.{Takes}
+use Rattle.irtext_outcomes.specs.Promises.Root.{UnlessMemory}
+use Rattle.irtext_read.specs.AttrTexts.{attr_at}
+use Rattle.irtext_parse_nested.specs.Leaving.{IsUnresolved}
+use Rattle.irtext_parse_nested.proofs.Leaving.{unclosed, closed, unleft}
+use Rattle.irtext_parse_nested.proofs.Marking.{on_both, if_err}
+use Rattle.irtext_parse_nested.proofs.regions.region_end.Goals as goal
+
+pub returns-in_err-text_demanded-clause-refused : goal.returns-in_err-text_demanded-clause-refused
+returns-in_err-text_demanded-clause-refused g c =
+    let p = err_from_is_err_and c.from_residual.result c.from_residual.ensures.1 in
+    rw (p.1, p.2) (λ place r. unclosed g.T.IrText.reading (attr_at g.A.IrText.reading) c.args.names.now c.args.s.now c.args.region place _ _ c.requires.fine c.in_err-text_demanded.ensures)
+
+pub returns-clause-ends : goal.returns-clause-ends
+returns-clause-ends g c = on_both c.leave.result (λ takes stream. λ place r. closed g.T.IrText.reading (attr_at g.A.IrText.reading) c.args.names.now c.args.s.now c.args.region place _ c.in_ok-text_demanded.ensures
+    c.leave.new.names _ refl stream (subst (λ k. (a : ℕ) → Takes (leave c.args.region.isolated a) (history.left c.args.region.isolated) c.args.names.now c.leave.new.names k) c.graph_of.ensures takes)) c.leave.ensures.takes c.leave.ensures.stream
+
+pub returns-clause-refused : goal.returns-clause-refused
+returns-clause-refused g c = if_err c.leave.result (λ f u. λ place r. unleft g.T.IrText.reading (attr_at g.A.IrText.reading) c.args.names.now c.args.s.now c.args.region place _ c.in_ok-text_demanded.ensures f r.placed
+    (subst (λ k. UnlessMemory (IsUnresolved c.args.names.now k (whole c.text_demanded.new.stream) c.args.region) f) c.graph_of.ensures u)) c.leave.ensures.refused

@@ -1,0 +1,71 @@
+-- Between functions: what is open while nested text is read, as the code has it, and what it stands for.
+use Rattle.std.specs.Prelude.{◌≡◌, ℕ, Bool, List, [], ◌∷◌, ◌++◌, drop, length, IsSome, ⊤}
+use Rattle.std.specs.List.{All}
+use Rattle.irtext_base.specs.Text.{Text}
+use Rattle.irtext_base.specs.Faults.{id_of}
+use Rattle.irtext_formats.specs.Conditions.{WritesNamesOrType}
+use Rattle.irtext_context.specs.Context.{ContextView, operation, block}
+use Rattle.irtext_graph.specs.declared.object.Object.TheVariants.{TheBlock, TheRegion}
+use Rattle.irtext_graph.specs.Graph.{parent, Stands}
+use Rattle.irtext_graph.specs.Parts.{results}
+use Rattle.irtext_grammar.specs.Contexts.Formats.{format_of}
+use Rattle.irtext_grammar.specs.Grammar.Tree as tree
+use Rattle.irtext_grammar.specs.Grammar.Tree.{Part}
+use Rattle.irtext_grammar.specs.Names.Acts.{result_types}
+use Rattle.irtext_nesting.specs.Heads.{Step, flat, types}
+use Rattle.irtext_nesting.specs.Naming.{body_of}
+use Rattle.irtext_nesting.specs.Reached.{steps_in}
+use Rattle.irtext_nesting.specs.Resume.{Begun}
+use Rattle.irtext_parse_heads.specs.Named.{Leaves, StandsFor, Each}
+use Rattle.irtext_parse_nested.specs.declared.frame.BegunOperation.{BegunOperation}
+use Rattle.irtext_parse_nested.specs.declared.frame.BegunRegion.{BegunRegion}
+use Rattle.irtext_parse_nested.specs.declared.frame.BegunBlock.{BegunBlock}
+use Rattle.irtext_parse_nested.specs.Items.{Pledge}
+
+-- the part gives no result its type
+abbrev pub HasNoType : {T A : Type 0} → Part ℕ T A → Type 0
+HasNoType (tree.piece (tree.result_type i t)) = ⊥
+HasNoType (tree.piece (tree.types ts)) = ⊥
+HasNoType _ = ⊤
+
+-- the step reads no name and no type
+abbrev pub ReadsNeither : Step → Type 0
+ReadsNeither (flat d) = WritesNamesOrType d → ⊥
+ReadsNeither types = ⊥
+ReadsNeither _ = ⊤
+
+-- the same of each of these steps
+abbrev pub ReadNeither : List Step → Type 0
+ReadNeither [] = ⊤
+ReadNeither (s ∷ ss) = ReadsNeither s × ReadNeither ss
+
+-- what an open operation has promised: at this place, the results that it was made with
+abbrev pub pledge_of : BegunOperation → ℕ → Pledge
+pledge_of b place = record { place = place; op = b.op; results = b.results }
+
+module _ {T A : Type 0} (names : List Text) (text : Text) (ctx : ContextView T A) where
+  -- The operation that was begun is this one: its names, its place, its id, the steps that are left, which read no names and no types,
+  -- and as many results as its parts give types, whatever parts without types come.
+  pub record IsBegun (b : BegunOperation) (o : Begun T A) : Type 0 where
+    pub inside : b.inside ≡ o.inside
+    pub place : Leaves text b.at o.place
+    pub names_are : Each (StandsFor names text) b.names o.names
+    pub id : id_of b.id ≡ o.id
+    pub known : IsSome (format_of ctx.dialects o.id)
+    pub steps : o.steps ≡ drop b.step (steps_in ctx.dialects o.id)
+    pub late : ReadNeither o.steps
+    pub stands : IsSome (operation ctx b.op)
+    pub counts : length (results ctx.graph b.op) ≡ b.results
+    pub typed : (later : List (Part ℕ T A)) → All HasNoType later → length (result_types (body_of (format_of ctx.dialects o.id) (o.parts ++ later))) ≡ b.results
+
+  -- The region that was begun is this one, of an isolated operation or not, with the place of its brace.
+  pub record IsRegion (r : BegunRegion) (iso : Bool) (place : ℕ) : Type 0 where
+    pub is_isolated : r.isolated ≡ iso
+    pub placed : Leaves text r.at place
+    pub stands : Stands ctx.graph (TheRegion r.region)
+
+  -- The block that was begun stands in a region.
+  pub record IsBlock (b : BegunBlock) (first : Bool) : Type 0 where
+    pub is_first : b.first ≡ first
+    pub stands : IsSome (block ctx b.block)
+    pub inside : IsSome (parent ctx.graph (TheBlock b.block))

@@ -1,0 +1,82 @@
+-- Between functions: what names that are defined one after another come to, as the results of an operation or as the arguments of a block.
+use Rattle.std.specs.Prelude.{◌≡◌, ◌<◌, ℕ, true, suc, List, [], ◌∷◌, length, map, Option, Some, slice_get}
+use Rattle.std.specs.Option.{option_map}
+use Rattle.irtext_base.specs.Text.{Text}
+use Rattle.irtext_base.specs.Faults.{Fault, fault_of}
+use Rattle.irtext_base.specs.Stream.{IsAt}
+use Rattle.irtext_base.specs.declared.parsable.fault.ParseFault.{ParseFault}
+use Rattle.irtext_stream.specs.Places.{AtOffset}
+use Rattle.irtext_graph.specs.declared.arena.Ptr.{Ptr}
+use Rattle.irtext_graph.specs.declared.object.BasicBlock.{BasicBlock}
+use Rattle.irtext_graph.specs.declared.object.Operation.{Operation}
+use Rattle.irtext_graph.specs.declared.object.Region.{Region}
+use Rattle.irtext_graph.specs.declared.object.Object.{Object}
+use Rattle.irtext_graph.specs.declared.object.Object.TheVariants.{TheBlock, TheRegion}
+use Rattle.irtext_graph.specs.declared.object.Value.{Value}
+use Rattle.irtext_graph.specs.declared.object.Value.TheVariants.{Result, Argument}
+use Rattle.irtext_graph.specs.declared.object.Defined.TheVariants.{OfValue}
+use Rattle.irtext_graph.specs.Chained.{Among}
+use Rattle.irtext_graph.specs.Graph.{GraphView, Stands, IsNew, parent}
+use Rattle.irtext_graph.specs.Parts.{operation_at, results}
+use Rattle.irtext_graph.specs.Used.{IsDefined}
+use Rattle.irtext_scopes.specs.declared.tracker.NameTracker.{NameTracker}
+use Rattle.irtext_scopes.specs.Scopes.{Scope}
+use Rattle.irtext_grammar.specs.Grammar.Tree.{Name}
+use Rattle.irtext_grammar.specs.Names.Acts.{word_of}
+use Rattle.irtext_grammar.specs.Names.Script.{Place, define_value, MultipleDefinitions}
+use Rattle.irtext_grammar.specs.Names.TextScopes.{Act}
+use Rattle.irtext_grammar.specs.Names.History.{act, State, going, failed, run}
+use Rattle.irtext_names.specs.Linked.{Known, StandsAt}
+use Rattle.irtext_names.specs.Tied.{IsNoPlaceholder}
+use Rattle.irtext_parse_acts.specs.Rows.{AreNamed}
+use Rattle.irtext_parse_heads.specs.declared.names.ReadName.{ReadName}
+use Rattle.irtext_parse_nested.specs.declared.rows.Row.{Row}
+use Rattle.irtext_parse_nested.specs.declared.rows.Row.TheVariants.{Results, Arguments}
+
+-- the value of a row that has this index
+abbrev pub row_value : Row → ℕ → Value
+row_value (Results op) i = Result op i
+row_value (Arguments b) i = Argument b i
+
+-- names are defined as the places from i on
+abbrev pub definitions_from : (ℕ → Place) → ℕ → List (Name ℕ) → List Act
+definitions_from place i [] = []
+definitions_from place i (w ∷ ws) = define_value (word_of w) (place i) ∷ definitions_from place (suc i) ws
+
+-- the first places were made into the first values, as many as there are of these
+abbrev pub AreMadeAs : {X : Type 0} → (ℕ → Place) → (ℕ → Value) → List X → Known → Type 0
+AreMadeAs place value xs known = (i : ℕ) → i < length xs → Among (place i, value i) known.values
+
+module _ {O B T : Type 0} where
+  -- the first values, so many of them, are there, and no name waits with one of them
+  abbrev pub ValuesReady : (ℕ → Value) → ℕ → List (Scope Value) → GraphView (Option O) B T → Type 0
+  ValuesReady value count scopes g = (i : ℕ) → i < count → IsDefined g (OfValue (value i)) × IsNoPlaceholder scopes (value i)
+
+  -- wherever the machine stands with what was, nothing is in hand, and places are made into these values, the definitions of names of these
+  -- numbers as these places take it to where it stands with what is
+  pub record DefinesRow (value : ℕ → Value) (numbers : List ℕ) (old new : NameTracker Value (Ptr BasicBlock)) (g k : GraphView (Option O) B T) : Type 0 where
+    pub so : (ws : List (Name ℕ)) → AreNamed old.names numbers ws → (place : ℕ → Place) (known : Known) (st : State) → AreMadeAs place value numbers known → StandsAt old g known [] st
+        → (next : State) × (run (going st) (map act (definitions_from place 0 ws)) ≡ going next) × StandsAt new k known [] next
+
+  -- wherever it stands so, these definitions fail at the name of this index, which its scope defines already
+  pub record FailsRow (value : ℕ → Value) (numbers : List ℕ) (index : ℕ) (names : NameTracker Value (Ptr BasicBlock)) (g : GraphView (Option O) B T) : Type 0 where
+    pub so : (ws : List (Name ℕ)) → AreNamed names.names numbers ws → (place : ℕ → Place) (known : Known) (st : State) → AreMadeAs place value numbers known → StandsAt names g known [] st
+        → (w : Name ℕ) × (slice_get ws index ≡ Some w) × (run (going st) (map act (definitions_from place 0 ws)) ≡ failed (record { cause = MultipleDefinitions w.text; at = Some w.place }))
+
+  -- what is no placeholder stands as it stood: each operation that has data, with its data and as many results; each block that stands
+  -- somewhere, there; each region; and what is younger than a mark is so still
+  pub record LosesPlaceholders (g k : GraphView (Option O) B T) : Type 0 where
+    pub operations : (p : Ptr Operation) (x : O) → option_map (λ c. c.data_of) (operation_at g p) ≡ Some (Some x) → option_map (λ c. c.data_of) (operation_at k p) ≡ Some (Some x)
+    pub results : (p : Ptr Operation) (x : O) → option_map (λ c. c.data_of) (operation_at g p) ≡ Some (Some x) → length (results k p) ≡ length (results g p)
+    pub blocks : (b : Ptr BasicBlock) (o : Object) → parent g (TheBlock b) ≡ Some o → (parent k (TheBlock b) ≡ Some o) × (Stands g (TheBlock b) → Stands k (TheBlock b))
+    pub regions : (r : Ptr Region) → Stands g (TheRegion r) → Stands k (TheRegion r)
+    pub newer : (m : ℕ) (q : Object) → IsNew m g q → IsNew m k q
+    pub made : k.made ≡ g.made
+
+-- the fault is committed, says this of the name's text, and stands at the name's place
+pub record IsFaultOf {A : Type 0} (names : List Text) (text : Text) (cause : Text → Fault) (read : ReadName) (fault : ParseFault A) : Type 0 where
+  pub name : Text
+  pub named : slice_get names read.name ≡ Some name
+  pub because : fault_of fault.cause ≡ cause name
+  pub flag : fault.committed ≡ true
+  pub place : AtOffset read.at.offset text (λ passed rest. IsAt fault.pos.line fault.pos.column passed)

@@ -1,0 +1,61 @@
+-- Between functions: what the end of an operation does, in steps: its results are defined, and its mark is noted.
+use Rattle.std.specs.Prelude.{◌≡◌, ℕ, true, false, List, length, map, Option, Some, None, slice_get}
+use Rattle.std.specs.Map.{lookup}
+use Rattle.irtext_base.specs.Text.{Text}
+use Rattle.irtext_base.specs.Faults as causes
+use Rattle.irtext_base.specs.Faults.{fault_of}
+use Rattle.irtext_base.specs.Stream.{IsAt}
+use Rattle.irtext_base.specs.declared.parsable.fault.ParseFault.{ParseFault}
+use Rattle.irtext_stream.specs.Places.{AtOffset}
+use Rattle.irtext_graph.specs.declared.object.Value.TheVariants.{Result}
+use Rattle.irtext_graph.specs.Graph.{GraphView}
+use Rattle.irtext_scopes.specs.Scopes.{is_open}
+use Rattle.irtext_scopes.specs.declared.scopes.DefineFault.{DefineFault}
+use Rattle.irtext_parse_acts.specs.declared.definitions.UndefinedName.{UndefinedName}
+use Rattle.irtext_state.specs.States.{same_index, Notes}
+use Rattle.irtext_parse_heads.specs.declared.marks.ReadMark.{ReadMark}
+use Rattle.irtext_parse_heads.specs.declared.names.ReadName.{ReadName}
+use Rattle.irtext_parse_nested.specs.declared.frame.BegunOperation.{BegunOperation}
+use Rattle.irtext_parse_nested.specs.Definitions.{FailsRow, IsFaultOf}
+use Rattle.irtext_state.specs.declared.parsable.state.State as code
+use Rattle.irtext_grammar.specs.Names.History.{Outcome}
+use Rattle.irtext_grammar.specs.Names.Script.{Path}
+use Rattle.irtext_nesting.specs.Resume.{Begun}
+use Rattle.irtext_parse_nested.specs.Items.{Names, doing}
+
+-- the numbers of names that were read
+abbrev pub numbers_of : List ReadName → List ℕ
+numbers_of ns = map (λ n. n.name) ns
+
+-- the operation's results are not defined: its names are not as many; or they stand where no scope of values is open; or a name is defined already
+pub data RefusesResults {O B T A : Type 0} (b : BegunOperation) (names : Names) (g : GraphView (Option O) B T) (text : Text) (fault : ParseFault A) : Type 0 where
+  uncounted : (length b.names ≡ b.results → ⊥) → fault_of fault.cause ≡ causes.ResultCount b.results (length b.names) → fault.committed ≡ true
+      → AtOffset b.at.offset text (λ passed rest. IsAt fault.pos.line fault.pos.column passed) → RefusesResults b names g text fault
+  no_scope : (first : ReadName) → slice_get b.names 0 ≡ Some first → length b.names ≡ b.results → is_open names.values ≡ false → IsFaultOf names.names text causes.NoActiveScope first fault → RefusesResults b names g text fault
+  defined_twice : (index : ℕ) (read : ReadName) → slice_get b.names index ≡ Some read → length b.names ≡ b.results → FailsRow (Result b.op) (numbers_of b.names) index names g
+      → IsFaultOf names.names text causes.MultipleDefinitions read fault → RefusesResults b names g text fault
+
+-- the mark, where one was read, came to be noted last
+abbrev pub NotesMark : {X : Type 0} → Option ReadMark → X → List (ℕ × X) → List (ℕ × X) → Type 0
+NotesMark None item old new = new ≡ old
+NotesMark (Some mark) item old new = Notes mark.index item true old new
+
+-- the index of the mark that was read is noted already, and the fault says so, at the mark's place
+pub record RefusesMark {X A : Type 0} (text : Text) (mark : Option ReadMark) (marks : List (ℕ × X)) (fault : ParseFault A) : Type 0 where
+  pub read : ReadMark
+  pub is : mark ≡ Some read
+  pub noted : lookup (same_index read.index) marks ≡ None → ⊥
+  pub because : fault_of fault.cause ≡ causes.DuplicateIndex read.index
+  pub flag : fault.committed ≡ true
+  pub place : AtOffset read.at.offset text (λ passed rest. IsAt fault.pos.line fault.pos.column passed)
+
+-- the name of this index was refused since its scope defines it already, and the fault says so, at the name's place
+pub record RefusesTwice {A : Type 0} (names : List Text) (text : Text) (defined : List ReadName) (undefined : UndefinedName) (fault : ParseFault A) : Type 0 where
+  pub twice : undefined.fault ≡ DefineFault.MultipleDefinitions
+  pub read : ReadName
+  pub is : slice_get defined undefined.index ≡ Some read
+  pub says : IsFaultOf names text causes.MultipleDefinitions read fault
+
+-- what the end of an operation does, up to its mark
+abbrev pub closes_at : {T A U : Type 0} → Begun T A → code.State T A U → (ℕ → Path) → Outcome → Outcome
+closes_at {T} {A} o s path = (doing {T = T} {A = A} s.ctx.now.dialects path).closes o.place o.names o.id o.parts

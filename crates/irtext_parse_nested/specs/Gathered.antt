@@ -1,0 +1,240 @@
+-- Between functions: what the pieces in front of an operation's first region come to: what they use, and what they give the operation.
+use Rattle.std.specs.Prelude.{◌≡◌, ◌⊎◌, ◌+◌, ◌<◌, ◌≤◌, ℕ, Bool, true, false, List, [], ◌∷◌, ◌++◌, length, map, flat_map, slice_get, Option, Some, None, ⊤}
+use Rattle.irtext_base.specs.Text.{Text}
+use Rattle.irtext_base.specs.Format.{sym_name_key}
+use Rattle.irtext_base.specs.declared.base.attributes.AttrObj.{AttrObj}
+use Rattle.irtext_base.specs.declared.base.attributes.Refusal.{Refusal}
+use Rattle.irtext_base.specs.declared.base.attributes.Refusal.TheVariants as entry
+use Rattle.irtext_stream.specs.declared.position.Place.{Place}
+use Rattle.irtext_context.specs.declared.base.block.BlockData.{BlockData}
+use Rattle.irtext_context.specs.declared.base.operation.OperationData.{OperationData}
+use Rattle.irtext_graph.specs.declared.arena.Ptr.{Ptr}
+use Rattle.irtext_graph.specs.declared.object.BasicBlock.{BasicBlock}
+use Rattle.irtext_graph.specs.declared.object.Value.{Value}
+use Rattle.irtext_graph.specs.declared.object.Defined.{Defined}
+use Rattle.irtext_graph.specs.declared.object.Defined.TheVariants.{OfValue, OfBlock}
+use Rattle.irtext_graph.specs.Chained.{Among}
+use Rattle.irtext_graph.specs.Graph.{GraphView, KeepsOlder}
+use Rattle.irtext_graph.specs.Used.{IsDefined}
+use Rattle.irtext_grammar.specs.Contexts.Held.{attribute_of, entries_of}
+use Rattle.irtext_grammar.specs.Grammar.Tree.{Name, Attribute, ident, Part, views}
+use Rattle.irtext_grammar.specs.Graphs.Build.{put_all}
+use Rattle.irtext_grammar.specs.Names.Acts.{piece_acts, may_hold}
+use Rattle.irtext_grammar.specs.Names.History.{State, act, going, failed, run}
+use Rattle.irtext_grammar.specs.Names.Script.{Path, User, operand, successor, ReservedKey}
+use Rattle.irtext_grammar.specs.Names.TextScopes.{Act, Word, Failure}
+use Rattle.irtext_scopes.specs.Scopes.{is_open}
+use Rattle.irtext_names.specs.Linked.{Known, StandsAt, TakesUse}
+use Rattle.irtext_names.specs.Tied.{AreTied, AreWaiting}
+use Rattle.irtext_parse_acts.specs.Rows.{AreKnown, TakesUses}
+use Rattle.irtext_parse_heads.specs.declared.entries.Key.{Key}
+use Rattle.irtext_parse_heads.specs.declared.pieces.ReadPiece.{ReadPiece}
+use Rattle.irtext_parse_heads.specs.declared.pieces.ReadPiece.TheVariants as read
+use Rattle.irtext_parse_heads.specs.Entries.{IsKey}
+use Rattle.irtext_parse_heads.specs.Fronts.{IsPart}
+use Rattle.irtext_parse_heads.specs.Named.{Each}
+use Rattle.irtext_parse_nested.specs.declared.gathering.Gathered.{Gathered}
+use Rattle.irtext_parse_nested.specs.declared.gathering.NotGathered.{NotGathered}
+use Rattle.irtext_parse_nested.specs.declared.gathering.NotGathered.TheVariants as refusal
+use Rattle.irtext_parse_nested.specs.declared.uses.Placed.{Placed}
+use Rattle.irtext_parse_nested.specs.Items.{Names}
+
+-- ---- what pieces give
+-- an entry that was read, with its key as a text
+abbrev pub entry_read : {A : Type 0} → Key × AttrObj A → Text × Attribute A
+entry_read e = (e.0.name, attribute_of e.1)
+
+-- the last of these lists, or else the first one given
+abbrev pub last_list : {X : Type 0} → List X → List (List X) → List X
+last_list xs [] = xs
+last_list xs (ys ∷ lists) = last_list ys lists
+
+module _ {T A : Type 0} where
+  -- the place of an operand that has a directive of its own
+  abbrev pub operand_place : ReadPiece T A → List ℕ
+  operand_place (read.Operand i n) = i ∷ []
+  operand_place _ = []
+
+  -- the place of a successor that has a directive of its own
+  abbrev pub successor_place : ReadPiece T A → List ℕ
+  successor_place (read.Successor i n) = i ∷ []
+  successor_place _ = []
+
+  -- the type of a result, with its place
+  abbrev pub placed_type : ReadPiece T A → List (ℕ × T)
+  placed_type (read.ResultType i t) = (i, t) ∷ []
+  placed_type _ = []
+
+  -- a list of types
+  abbrev pub type_list : ReadPiece T A → List (List T)
+  type_list (read.Types ts) = ts ∷ []
+  type_list _ = []
+
+  -- the attributes that are stored of a piece, under their keys
+  abbrev pub stored_of : ReadPiece T A → List (Text × Attribute A)
+  stored_of (read.Attr k None) = []
+  stored_of (read.Attr k (Some a)) = (k, attribute_of a) ∷ []
+  stored_of (read.Dictionary es) = map entry_read es
+  stored_of (read.Header s) = (sym_name_key, ident s.name) ∷ []
+  stored_of _ = []
+
+  -- ---- which pieces may come
+  -- the piece's names are among so many, and stand where scopes of values and of labels are open, or there are none
+  abbrev pub CanUse : ℕ → Bool → Bool → ReadPiece T A → Type 0
+  CanUse count values labels (read.Operand i n) = (values ≡ true) × (n.name < count)
+  CanUse count values labels (read.Operands ns) = ((ns ≡ []) ⊎ (values ≡ true)) × AreKnown count (map (λ n. n.name) ns)
+  CanUse count values labels (read.Successor i n) = (labels ≡ true) × (n.name < count)
+  CanUse count values labels (read.Successors ns) = ((ns ≡ []) ⊎ (labels ≡ true)) × AreKnown count (map (λ n. n.name) ns)
+  CanUse count values labels _ = ⊤
+
+  -- so is each of them
+  abbrev pub CanUseAll : ℕ → Bool → Bool → List (ReadPiece T A) → Type 0
+  CanUseAll count values labels [] = ⊤
+  CanUseAll count values labels (p ∷ ps) = CanUse count values labels p × CanUseAll count values labels ps
+
+  -- no list of operands is among these
+  abbrev pub LackOperands : List (ReadPiece T A) → Type 0
+  LackOperands [] = ⊤
+  LackOperands (read.Operands ns ∷ ps) = ⊥
+  LackOperands (_ ∷ ps) = LackOperands ps
+
+  -- no list of successors is among these
+  abbrev pub LackSuccessors : List (ReadPiece T A) → Type 0
+  LackSuccessors [] = ⊤
+  LackSuccessors (read.Successors ns ∷ ps) = ⊥
+  LackSuccessors (_ ∷ ps) = LackSuccessors ps
+
+  -- one list of operands at most is among these, and none where some came already
+  abbrev pub OperandsOnce : List Value → List (ReadPiece T A) → Type 0
+  OperandsOnce vs [] = ⊤
+  OperandsOnce vs (read.Operands ns ∷ ps) = (vs ≡ []) × LackOperands ps
+  OperandsOnce vs (_ ∷ ps) = OperandsOnce vs ps
+
+  -- one list of successors at most is among these, and none where some came already
+  abbrev pub SuccessorsOnce : List (Ptr BasicBlock) → List (ReadPiece T A) → Type 0
+  SuccessorsOnce bs [] = ⊤
+  SuccessorsOnce bs (read.Successors ns ∷ ps) = (bs ≡ []) × LackSuccessors ps
+  SuccessorsOnce bs (_ ∷ ps) = SuccessorsOnce bs ps
+
+  -- The pieces can be used where these names are, and these lists of operands and of successors came already.
+  pub record CanGather (names : Names) (values : List Value) (blocks : List (Ptr BasicBlock)) (ps : List (ReadPiece T A)) : Type 0 where
+    pub names_are : CanUseAll (length names.names) (is_open names.values) (is_open names.labels) ps
+    pub operands_once : OperandsOnce values ps
+    pub successors_once : SuccessorsOnce blocks ps
+
+  -- nothing was gathered
+  pub record IsNothing (x : Gathered T A) : Type 0 where
+    pub operands : (x.operands.single.items ≡ []) × (x.operands.list.items ≡ [])
+    pub successors : (x.successors.single.items ≡ []) × (x.successors.list.items ≡ [])
+    pub types : (x.types.items ≡ []) × (x.listed ≡ [])
+    pub attributes : x.attributes ≡ []
+
+-- ---- entries of a dictionary
+-- the refusal of an entry, where its key stands at a place
+abbrev pub refused_at : Refusal → Place → NotGathered
+refused_at entry.Memory at = refusal.Memory
+refused_at (entry.ReservedKey name) at = refusal.ReservedKey (record { name = name; at = at })
+
+module _ {A : Type 0} where
+  -- each entry's attribute may stand under its key
+  abbrev pub MayAllHold : List (Key × AttrObj A) → Type 0
+  MayAllHold [] = ⊤
+  MayAllHold (e ∷ es) = (may_hold e.0.name (attribute_of e.1) ≡ true) × MayAllHold es
+
+  -- this is the key of the first entry whose attribute may not stand there
+  abbrev pub IsFirstReserved : List (Key × AttrObj A) → Key → Type 0
+  IsFirstReserved [] key = ⊥
+  IsFirstReserved (e ∷ es) key = ((may_hold e.0.name (attribute_of e.1) ≡ false) × (key ≡ e.0))
+      ⊎ ((may_hold e.0.name (attribute_of e.1) ≡ true) × IsFirstReserved es key)
+
+  -- why entries were not stored: memory was refused, or a key is reserved
+  abbrev pub RefusesEntries : List (Key × AttrObj A) → NotGathered → Type 0
+  RefusesEntries es refusal.Memory = ⊤
+  RefusesEntries es (refusal.ReservedKey key) = IsFirstReserved es key
+
+-- ---- what pieces use
+module _ {X : Type 0} where
+  -- at its own place, or so many places behind the first of the list's, the user has what stands there in hand
+  abbrev pub IsInHand : (X → Defined) → (ℕ → User) → ℕ → List (ℕ × X) → List X → User → Defined → Type 0
+  IsInHand of user k single list u d = ((i : ℕ) × (x : X) × (u ≡ user i) × (d ≡ of x) × Among (i, x) single)
+      ⊎ ((j : ℕ) × (x : X) × (u ≡ user (k + j)) × (d ≡ of x) × (slice_get list j ≡ Some x))
+
+  -- all that there was is there
+  pub record Grows (old new : Placed X) : Type 0 where
+    pub single : (e : ℕ × X) → Among e old.single.items → Among e new.single.items
+    pub list : (j : ℕ) (x : X) → slice_get old.list.items j ≡ Some x → slice_get new.list.items j ≡ Some x
+
+-- What is in hand is in the hands of the operation at a path, where the lists of operands and successors begin at these places.
+pub record AreInHand (p : Path) (k l : ℕ) (operands : Placed Value) (successors : Placed (Ptr BasicBlock)) (held : List (User × Defined)) : Type 0 where
+  pub so : (u : User) (d : Defined) → Among (u, d) held → IsInHand OfValue (operand p) k operands.single.items operands.list.items u d
+      ⊎ IsInHand OfBlock (successor p) l successors.single.items successors.list.items u d
+
+module _ {O B T : Type 0} where
+  -- The names are the same, as many scopes are open, all is tied, and what is older stands as it did.
+  pub record IsSteady (old new : Names) (g k : GraphView (Option O) B T) : Type 0 where
+    pub names : new.names ≡ old.names
+    pub values : length new.values ≡ length old.values
+    pub labels : length new.labels ≡ length old.labels
+    pub tied : AreTied new.values new.labels k
+    pub waiting : (m : ℕ) (own : List (Ptr BasicBlock)) → m ≤ g.made → AreWaiting m own old.values old.labels g → AreWaiting m own new.values new.labels k
+    pub kept : (m : ℕ) → m ≤ g.made → KeepsOlder m g k
+
+  -- a name of this number was used, by any user, and stands for this
+  pub record TakesName {X : Type 0} (of : X → Defined) (uses : Word → User → Act) (number : ℕ) (old new : Names) (g h : GraphView (Option O) B T) (x : X) : Type 0 where
+    pub still : (d : Defined) → IsDefined g d → IsDefined h d
+    pub there : IsDefined h (of x)
+    pub follows : (w : Word) (u : User) → slice_get old.names number ≡ Some w.name → TakesUse (uses w u) old new g h u (of x)
+
+  -- wherever the machine stands with what was, whatever is in hand, the acts fail so
+  pub record FailsUses (acts : List Act) (names : Names) (g : GraphView (Option O) B T) (failure : Failure) : Type 0 where
+    pub so : (known : Known) (held : List (User × Defined)) (st : State) → StandsAt names g known held st → run (going st) (map act acts) ≡ failed failure
+
+  -- the acts take the machine to where it stands with what is, and what they use is in the hands of the operation at a path
+  pub record TakesParts (p : Path) (k l : ℕ) (acts : List Act) (old : Names) (g : GraphView (Option O) B T) (new : Names) (h : GraphView (Option O) B T)
+      (operands : Placed Value) (successors : Placed (Ptr BasicBlock)) : Type 0 where
+    pub more : List (User × Defined)
+    pub takes : TakesUses acts old new g h more
+    pub held : AreInHand p k l operands successors more
+
+module _ {O B T A : Type 0} where
+  -- all that is used so far is there
+  pub record AllStand (g : GraphView (Option O) B (Option T)) (x : Gathered T A) : Type 0 where
+    pub operands : (e : ℕ × Value) → Among e x.operands.single.items → IsDefined g (OfValue e.1)
+    pub listed_operands : (v : Value) → Among v x.operands.list.items → IsDefined g (OfValue v)
+    pub successors : (e : ℕ × Ptr BasicBlock) → Among e x.successors.single.items → IsDefined g (OfBlock e.1)
+    pub listed_successors : (b : Ptr BasicBlock) → Among b x.successors.list.items → IsDefined g (OfBlock b)
+
+  -- The pieces were used and stored, in their order.
+  pub record Gathers (ps : List (ReadPiece T A)) (old : Names) (g : GraphView (Option O) B (Option T)) (x : Gathered T A)
+      (new : Names) (h : GraphView (Option O) B (Option T)) (y : Gathered T A) : Type 0 where
+    pub uses : (text : Text) (parts : List (Part ℕ T A)) → Each (IsPart old.names text) ps parts → (p : Path) (k l : ℕ)
+        → TakesParts p k l (views (piece_acts p k l) parts) old g new h y.operands y.successors
+    pub operands_unlisted : LackOperands ps → y.operands.list.items ≡ x.operands.list.items
+    pub successors_unlisted : LackSuccessors ps → y.successors.list.items ≡ x.successors.list.items
+    pub operands_grow : Grows x.operands y.operands
+    pub successors_grow : Grows x.successors y.successors
+    pub operand_places : map (λ e. e.0) y.operands.single.items ≡ map (λ e. e.0) x.operands.single.items ++ flat_map operand_place ps
+    pub successor_places : map (λ e. e.0) y.successors.single.items ≡ map (λ e. e.0) x.successors.single.items ++ flat_map successor_place ps
+    pub types : y.types.items ≡ x.types.items ++ flat_map placed_type ps
+    pub listed : y.listed ≡ last_list x.listed (flat_map type_list ps)
+    pub attributes : entries_of y.attributes ≡ put_all (entries_of x.attributes) (flat_map stored_of ps)
+    pub there : AllStand g x → AllStand h y
+
+  -- wherever the machine stands with what was, the acts of the pieces fail at this key, which is reserved
+  pub record GatherFails (ps : List (ReadPiece T A)) (names : Names) (g : GraphView (Option O) B (Option T)) (key : Key) : Type 0 where
+    pub so : (text : Text) (parts : List (Part ℕ T A)) → Each (IsPart names.names text) ps parts
+        → (n : Name ℕ) × IsKey text key n × ((p : Path) (k l : ℕ) → FailsUses (views (piece_acts p k l) parts) names g (record { cause = ReservedKey n.text; at = Some n.place }))
+
+  -- why the pieces were not gathered: memory was refused, or their acts fail
+  abbrev pub RefusesGathering : List (ReadPiece T A) → Names → GraphView (Option O) B (Option T) → NotGathered → Type 0
+  RefusesGathering ps names g refusal.Memory = ⊤
+  RefusesGathering ps names g (refusal.ReservedKey key) = GatherFails ps names g key
+
+module _ {T A : Type 0} where
+  -- The pieces were stored, wherever names and graph stand, which stay so.
+  abbrev pub GathersAlone : List (ReadPiece T A) → Gathered T A → Gathered T A → Type 0
+  GathersAlone ps x y = (names : Names) (g : GraphView (Option (OperationData A)) (BlockData A) (Option T)) → Gathers ps names g x names g y
+
+  -- why the pieces were not stored, wherever names and graph stand
+  abbrev pub RefusesAlone : List (ReadPiece T A) → NotGathered → Type 0
+  RefusesAlone ps refusal = (names : Names) (g : GraphView (Option (OperationData A)) (BlockData A) (Option T)) → RefusesGathering ps names g refusal

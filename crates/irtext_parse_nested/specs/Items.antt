@@ -1,0 +1,112 @@
+-- Between functions: what names come to as items are read, over the names, the graph and the marks of a reading.
+use Rattle.std.specs.Prelude.{◌≡◌, ◌<◌, ◌≤◌, true, ℕ, List, [], ◌++◌, IsSome, length}
+use Rattle.irtext_base.specs.Text.{Text}
+use Rattle.irtext_base.specs.Faults as fault
+use Rattle.irtext_base.specs.Faults.{Fault, fault_of}
+use Rattle.irtext_base.specs.declared.parsable.fault.ParseFault.{ParseFault}
+use Rattle.irtext_context.specs.Context.{ContextView, operation, block}
+use Rattle.irtext_context.specs.Dialects.{Table}
+use Rattle.irtext_graph.specs.declared.arena.Ptr.{Ptr}
+use Rattle.irtext_graph.specs.declared.object.BasicBlock.{BasicBlock}
+use Rattle.irtext_graph.specs.declared.object.Object.TheVariants.{TheBlock, TheRegion}
+use Rattle.irtext_graph.specs.declared.object.Operation.{Operation}
+use Rattle.irtext_graph.specs.declared.object.Region.{Region}
+use Rattle.irtext_graph.specs.declared.object.Value.{Value}
+use Rattle.irtext_graph.specs.declared.object.Value.TheVariants.{Result}
+use Rattle.irtext_graph.specs.Chained.{Among}
+use Rattle.irtext_graph.specs.declared.object.Object.{Object}
+use Rattle.irtext_graph.specs.Graph.{parent, Stands, IsNew}
+use Rattle.irtext_graph.specs.Parts.{results}
+use Rattle.irtext_scopes.specs.declared.tracker.NameTracker.{NameTracker}
+use Rattle.irtext_state.specs.States.{marks_of}
+use Rattle.irtext_state.specs.declared.parsable.state.State as code
+use Rattle.irtext_grammar.specs.Contexts.Formats.{format_of}
+use Rattle.irtext_grammar.specs.Contexts.Held.{StandsAt as IsPosition}
+use Rattle.irtext_grammar.specs.Names.History.{State, Outcome, going, failed}
+use Rattle.irtext_grammar.specs.Names.Script as script
+use Rattle.irtext_grammar.specs.Names.Script.{Path, result, Cause}
+use Rattle.irtext_grammar.specs.Names.TextScopes.{Failure}
+use Rattle.irtext_names.specs.Linked.{Known, StandsAt}
+use Rattle.irtext_names.specs.Tied.{AreTied, AreWaiting}
+use Rattle.irtext_outcomes.specs.Promises.Section.{indices_of}
+use Rattle.irtext_outcomes.specs.Promises.Root.{IsPlace}
+use Rattle.irtext_nesting.specs.Naming.{naming}
+use Rattle.irtext_nesting.specs.Reached.{Doing}
+
+-- the names of a reading, with what values and labels they stand for
+abbrev pub Names : Type 0
+Names = NameTracker Value (Ptr BasicBlock)
+
+-- what items do with names, where the item of a place of the text is the one of its path
+abbrev pub doing : {T A : Type 0} → List (Text × Table) → (ℕ → Path) → Doing T A Outcome
+doing dialects path = naming (format_of dialects) path
+
+-- An operation that is open: its place in the text, its pointer, and how many results it has.
+pub record Pledge : Type 0 where
+  pub place : ℕ
+  pub op : Ptr Operation
+  pub results : ℕ
+
+-- the results of an open operation are those that its path has in what was made
+abbrev pub AreMadeAt : (ℕ → Path) → Known → Pledge → Type 0
+AreMadeAt path known w = (i : ℕ) → i < w.results → Among (result (path w.place) i, Result w.op i) known.values
+
+-- Names, graph and marks stand where the machine of names stands, nothing is in hand, and these operations are open.
+pub record StandsAs {T A U : Type 0} (path : ℕ → Path) (pledges : List Pledge) (names : Names) (s : code.State T A U) (o : Outcome) : Type 0 where
+  pub known : Known
+  pub state : State
+  pub going : o ≡ going state
+  pub stands : StandsAt names s.ctx.now.graph known [] state
+  pub marks : state.marks ≡ indices_of (marks_of s)
+  pub results : (w : Pledge) → Among w pledges → AreMadeAt path known w
+
+-- the cause that readers answer for this failure of names
+abbrev pub IsNameCause : Cause Text → Fault → Type 0
+IsNameCause (script.ResultCount types names) cause = cause ≡ fault.ResultCount types names
+IsNameCause (script.NoActiveScope n) cause = cause ≡ fault.NoActiveScope n
+IsNameCause (script.UnresolvedReference n) cause = cause ≡ fault.Unresolved n
+IsNameCause (script.MultipleDefinitions n) cause = cause ≡ fault.MultipleDefinitions n
+IsNameCause script.NotIsolated cause = cause ≡ fault.NotIsolated
+IsNameCause (script.DuplicateIndex i) cause = cause ≡ fault.DuplicateIndex i
+IsNameCause (script.UnknownIndex i) cause = cause ≡ fault.UnknownIndex i
+IsNameCause (script.UnknownPrintOnce i) cause = cause ≡ fault.UnknownPrintOnce i
+IsNameCause (script.ReservedKey k) cause = cause ≡ fault.ReservedKey k
+
+-- the fault is this failure: it has its cause, and is at its place of the text, or at the text's beginning where it has none
+pub record IsFailure {A : Type 0} (text : Text) (failure : Failure) (fault : ParseFault A) : Type 0 where
+  pub cause : IsNameCause failure.cause (fault_of fault.cause)
+  pub place : IsPlace text failure.at fault.pos
+  pub committed : fault.committed ≡ true
+
+-- the fault is one of the text: it has this cause, and is at this place of the text
+pub record IsTextFault {A : Type 0} (text : Text) (cause : Fault) (place : ℕ) (fault : ParseFault A) : Type 0 where
+  pub because : fault_of fault.cause ≡ cause
+  pub placed : IsPosition text place fault.pos
+
+module _ {T A U : Type 0} where
+  -- wherever the machine stands with what was, besides open operations, the act takes it to where it stands with what is
+  pub record Acts (act : (ℕ → Path) → Outcome → Outcome) (old : Names) (s : code.State T A U) (pledges : List Pledge) (new : Names) (z : code.State T A U) (pledges' : List Pledge) : Type 0 where
+    pub so : (path : ℕ → Path) (more : List Pledge) (o : Outcome) → StandsAs path (more ++ pledges) old s o → StandsAs path (more ++ pledges') new z (act path o)
+
+  -- wherever it stands with what was, the act fails, and the fault says how
+  pub record ActFails (text : Text) (act : (ℕ → Path) → Outcome → Outcome) (old : Names) (s : code.State T A U) (pledges : List Pledge) (fault : ParseFault A) : Type 0 where
+    pub failure : Failure
+    pub is : IsFailure text failure fault
+    pub so : (path : ℕ → Path) (more : List Pledge) (o : Outcome) → StandsAs path (more ++ pledges) old s o → act path o ≡ failed failure
+
+  -- Of what was made since m the names wait with placeholders alone, and no older name waits.
+  pub record IsSound (m : ℕ) (names : Names) (s : code.State T A U) : Type 0 where
+    pub tied : AreTied names.values names.labels s.ctx.now.graph
+    pub waiting : AreWaiting m [] names.values names.labels s.ctx.now.graph
+
+module _ {T A : Type 0} where
+  -- What was there and is no placeholder is there still: each operation that has data, with as many results, each block that stands in a
+  -- region, each region; what is younger than a mark is so still; and the dialects are the same.
+  pub record Lasts (old new : ContextView T A) : Type 0 where
+    pub operations : (p : Ptr Operation) → IsSome (operation old p) → IsSome (operation new p)
+    pub results : (p : Ptr Operation) → IsSome (operation old p) → length (results new.graph p) ≡ length (results old.graph p)
+    pub blocks : (b : Ptr BasicBlock) → IsSome (block old b) → IsSome (parent old.graph (TheBlock b)) → IsSome (block new b) × (parent new.graph (TheBlock b) ≡ parent old.graph (TheBlock b))
+    pub regions : (r : Ptr Region) → Stands old.graph (TheRegion r) → Stands new.graph (TheRegion r)
+    pub newer : (m : ℕ) (q : Object) → m ≤ old.graph.made → IsNew m old.graph q → IsNew m new.graph q
+    pub made : old.graph.made ≤ new.graph.made
+    pub dialects : new.dialects ≡ old.dialects

@@ -1,0 +1,18 @@
+-- Between functions: why a region can't be left.
+use Rattle.std.specs.Prelude.{◌≡◌, ℕ, Some, Option, slice_get}
+use Rattle.irtext_base.specs.Text.{Text}
+use Rattle.irtext_base.specs.Faults.{Unresolved}
+use Rattle.irtext_base.specs.declared.parsable.fault.ParseFault.{ParseFault}
+use Rattle.irtext_graph.specs.Graph.{GraphView}
+use Rattle.irtext_grammar.specs.Names.History.{leave}
+use Rattle.irtext_grammar.specs.Names.Script.{UnresolvedReference}
+use Rattle.irtext_names.specs.Linked.{FailsBy}
+use Rattle.irtext_parse_nested.specs.declared.frame.BegunRegion.{BegunRegion}
+use Rattle.irtext_parse_nested.specs.Definitions.{IsFaultOf}
+use Rattle.irtext_parse_nested.specs.Items.{Names}
+
+-- the fault says that this name is left without a definition, where the region begins, and so does the machine
+pub record IsUnresolved {O B T A : Type 0} (names : Names) (g : GraphView (Option O) B T) (text : Text) (region : BegunRegion) (fault : ParseFault A) : Type 0 where
+  pub name : ℕ
+  pub said : IsFaultOf names.names text Unresolved (record { name = name; at = region.at }) fault
+  pub fails : (a : ℕ) → (t : Text) × (slice_get names.names name ≡ Some t) × FailsBy (leave region.isolated a) names g (record { cause = UnresolvedReference t; at = Some a })

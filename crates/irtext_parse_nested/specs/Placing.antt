@@ -1,0 +1,32 @@
+-- Between functions: a block that is made in a region, and its label.
+use Rattle.std.specs.Prelude.{◌≡◌, List, Option, Some, slice_get}
+use Rattle.irtext_base.specs.Text.{Text}
+use Rattle.irtext_base.specs.Faults as causes
+use Rattle.irtext_base.specs.declared.parsable.fault.ParseFault.{ParseFault}
+use Rattle.irtext_context.specs.Context.{ContextView, MakesBlock}
+use Rattle.irtext_context.specs.declared.base.block.BlockData.{BlockData}
+use Rattle.irtext_graph.specs.declared.arena.Ptr.{Ptr}
+use Rattle.irtext_graph.specs.declared.object.BasicBlock.{BasicBlock}
+use Rattle.irtext_graph.specs.declared.object.Region.{Region}
+use Rattle.irtext_graph.specs.declared.object.Object.TheVariants.{TheBlock, TheRegion}
+use Rattle.irtext_graph.specs.Graph.{GraphView, Appends}
+use Rattle.irtext_grammar.specs.Names.History.{act}
+use Rattle.irtext_grammar.specs.Names.Script.{Place, define_label, MultipleDefinitions}
+use Rattle.irtext_grammar.specs.Names.TextScopes.{Word}
+use Rattle.irtext_names.specs.Linked.{FailsBy}
+use Rattle.irtext_parse_heads.specs.declared.names.ReadName.{ReadName}
+use Rattle.irtext_parse_nested.specs.Definitions.{IsFaultOf}
+use Rattle.irtext_parse_nested.specs.Items.{Names}
+
+-- a block with this data and with arguments of these types was made, and came last into a region
+pub record PlacesBlock {T A : Type 0} (old new : ContextView T A) (r : Ptr Region) (b : Ptr BasicBlock) (held : BlockData A) (types : List T) : Type 0 where
+  pub between : ContextView T A
+  pub makes : MakesBlock old between b held types
+  pub appends : Appends between.graph new.graph (TheRegion r) (TheBlock b)
+  pub paths : new.paths ≡ old.paths
+  pub dialects : new.dialects ≡ old.dialects
+
+-- the label is defined already: its definition fails wherever the machine stands so, and the fault says so, at the label
+pub record RefusesLabel {O B T A : Type 0} (names : Names) (g : GraphView (Option O) B T) (text : Text) (label : ReadName) (fault : ParseFault A) : Type 0 where
+  pub says : IsFaultOf names.names text causes.MultipleDefinitions label fault
+  pub fails : (w : Word) (p : Place) → slice_get names.names label.name ≡ Some w.name → FailsBy (act (define_label w p)) names g (record { cause = MultipleDefinitions w.name; at = Some w.at })

@@ -1,0 +1,160 @@
+-- Between functions: what each turn of the reading of nested text reads, does, and refuses.
+use Rattle.std.specs.Prelude.{◌≡◌, ◌⊎◌, ℕ, ◌-◌, Bool, true, ◌||◌, List, [], ◌∷◌, codes, length, Option}
+use Rattle.irtext_base.specs.Text.{Text}
+use Rattle.irtext_base.specs.Format.{Id}
+use Rattle.irtext_base.specs.Faults.{Fault}
+use Rattle.irtext_base.specs.Answers.{Outcome, Read, Bad, demanded}
+use Rattle.irtext_base.specs.Locations.{AttrView}
+use Rattle.irtext_base.specs.declared.parsable.fault.ParseFault.{ParseFault}
+use Rattle.irtext_read.specs.Infix.{Reader, ◌▷◌}
+use Rattle.irtext_read.specs.Tokens.{space_at, word}
+use Rattle.irtext_state.specs.declared.parsable.state.StateStream.{StateStream}
+use Rattle.irtext_grammar.specs.Contexts.Held.{whole}
+use Rattle.irtext_grammar.specs.Grammar.Tree.{Name, Mark, Piece, Part, Head}
+use Rattle.irtext_grammar.specs.Names.History.{Outcome as Machine}
+use Rattle.irtext_grammar.specs.Names.Script.{Path}
+use Rattle.irtext_outcomes.specs.Promises.Section.{Moves}
+use Rattle.irtext_outcomes.specs.Promises.Supported.{is_committed}
+use Rattle.irtext_nesting.specs.Heads.{Step, front_steps, piece_at, head_at, led_at, mark_if_at}
+use Rattle.irtext_nesting.specs.Reached.{steps_in}
+use Rattle.irtext_nesting.specs.Resume.{Begun, begun, front_at}
+use Rattle.irtext_parse_nested.specs.declared.frame.BegunOperation.{BegunOperation}
+use Rattle.irtext_parse_nested.specs.declared.frame.BegunRegion.{BegunRegion}
+use Rattle.irtext_parse_nested.specs.declared.frame.BegunBlock.{BegunBlock}
+use Rattle.irtext_parse_nested.specs.Begun.{IsBegun, IsRegion, IsBlock, pledge_of}
+use Rattle.irtext_parse_nested.specs.Items.{Names, doing, Acts, ActFails, IsTextFault}
+
+-- the fault is that of a reader at a text that is the end of the whole, where what it reads must stand
+pub record Demands {X A : Type 0} (text : Text) (o : Outcome X) (rest : Text) (fault : ParseFault A) : Type 0 where
+  pub cause : Fault
+  pub upto : Text
+  pub bad : demanded o ≡ Bad cause upto
+  pub fault_is : IsTextFault text cause (length rest - length upto) fault
+
+module _ {T A U : Type 0} (types_at : Reader T) (attr : Reader (AttrView A)) where
+  -- ---- an operation begins
+
+  -- Names of results, an id and the pieces in front of the first region stand at a text, inside of some region or outside of each.
+  pub record ReadsFront (inside : Bool) (old : StateStream T A U) (rest : Text) : Type 0 where
+    pub names : List (Name ℕ)
+    pub id : Id
+    pub lead : Text
+    pub middle : Text
+    pub led : led_at old.state.ctx.now.dialects old.stream.rest ≡ Read (names, id) lead middle
+    pub parts : List (Part ℕ T A)
+    pub taken : Text
+    pub front : front_at types_at attr inside (front_steps (steps_in old.state.ctx.now.dialects id)) [] middle ≡ Read parts taken rest
+
+  -- what is begun where these were read
+  abbrev pub begun_by : (inside : Bool) (old : StateStream T A U) (rest : Text) → ReadsFront inside old rest → Begun T A
+  begun_by inside old rest r = begun old.state.ctx.now.dialects inside (length old.stream.rest) r.names r.id r.parts
+
+  -- what is done with these
+  abbrev pub uses_of : (inside : Bool) (old : StateStream T A U) (rest : Text) → ReadsFront inside old rest → (ℕ → Path) → Machine → Machine
+  uses_of inside old rest r path = (doing old.state.ctx.now.dialects path).uses (length old.stream.rest) r.id r.parts
+
+  -- the operation was begun: what stands in front of its first region was read and done
+  pub record BeginsOperation (inside : Bool) (before : Names) (old : StateStream T A U) (b : BegunOperation) (names : Names) (new : StateStream T A U) : Type 0 where
+    pub read : ReadsFront inside old new.stream.rest
+    pub moves : Moves old.stream new.stream
+    pub begun : IsBegun names.names (whole old.stream) new.state.ctx.now b (begun_by inside old new.stream.rest read)
+    pub acts : Acts (uses_of inside old new.stream.rest read) before old.state [] names new.state (pledge_of b (length old.stream.rest) ∷ [])
+
+  -- no operation begins there: by its lead, by a piece in front of its first region, or by what these do
+  pub data RefusesOperation (inside : Bool) (before : Names) (old : StateStream T A U) (fault : ParseFault A) : Type 0 where
+    no_lead : Demands (whole old.stream) (led_at old.state.ctx.now.dialects old.stream.rest) old.stream.rest fault
+        → fault.committed ≡ (inside || is_committed (led_at old.state.ctx.now.dialects old.stream.rest)) → RefusesOperation inside before old fault
+    no_front : (names : List (Name ℕ)) (id : Id) (lead middle : Text) → led_at old.state.ctx.now.dialects old.stream.rest ≡ Read (names, id) lead middle
+        → Demands (whole old.stream) (front_at types_at attr inside (front_steps (steps_in old.state.ctx.now.dialects id)) [] middle) middle fault → fault.committed ≡ true → RefusesOperation inside before old fault
+    no_uses : (rest : Text) (r : ReadsFront inside old rest) → ActFails (whole old.stream) (uses_of inside old rest r) before old.state [] fault → RefusesOperation inside before old fault
+
+  -- ---- a piece behind a region
+
+  -- the piece that the operation's next step reads was read and done
+  pub record ReadsPiece (o : Begun T A) (step : Step) (b : BegunOperation) (before : Names) (old : StateStream T A U) (names : Names) (new : StateStream T A U) : Type 0 where
+    pub piece : Piece ℕ T A
+    pub taken : Text
+    pub read : (space_at ▷ piece_at types_at attr o.inside step) old.stream.rest ≡ Read piece taken new.stream.rest
+    pub moves : Moves old.stream new.stream
+    pub acts : Acts (λ path. (doing old.state.ctx.now.dialects path).late o.place o.id piece) before old.state [] names new.state []
+
+  -- no such piece stands there, or what it does fails
+  abbrev pub RefusesPiece : Begun T A → Step → Names → StateStream T A U → ParseFault A → Type 0
+  RefusesPiece o step before old fault = Demands (whole old.stream) ((space_at ▷ piece_at types_at attr o.inside step) old.stream.rest) old.stream.rest fault
+      ⊎ ((piece : Piece ℕ T A) × (taken : Text) × (rest : Text) × ((space_at ▷ piece_at types_at attr o.inside step) old.stream.rest ≡ Read piece taken rest)
+      × ActFails (whole old.stream) (λ path. (doing {T = T} {A = A} old.state.ctx.now.dialects path).late o.place o.id piece) before old.state [] fault)
+
+  -- ---- an operation ends
+
+  -- what the operation's end does, up to its mark, and with it
+  abbrev pub closes_of : Begun T A → StateStream T A U → (ℕ → Path) → Machine → Machine
+  closes_of o old path = (doing {T = T} {A = A} old.state.ctx.now.dialects path).closes o.place o.names o.id o.parts
+
+  -- its mark was read, where one stands, and it was closed and marked
+  pub record EndsOperation (o : Begun T A) (b : BegunOperation) (before : Names) (old : StateStream T A U) (names : Names) (new : StateStream T A U) : Type 0 where
+    pub mark : Option (Mark ℕ)
+    pub taken : Text
+    pub read : (space_at ▷ mark_if_at) old.stream.rest ≡ Read mark taken new.stream.rest
+    pub moves : Moves old.stream new.stream
+    pub acts : Acts (λ path z. (doing {T = T} {A = A} old.state.ctx.now.dialects path).marks mark (closes_of o old path z)) before old.state (pledge_of b o.place ∷ []) names new.state []
+
+  -- what its end does fails; or it was closed, and no mark can be read there, or what the mark does fails
+  pub data RefusesEnd (o : Begun T A) (b : BegunOperation) (before : Names) (old : StateStream T A U) (fault : ParseFault A) : Type 0 where
+    no_results : ActFails (whole old.stream) (closes_of o old) before old.state (pledge_of b o.place ∷ []) fault → RefusesEnd o b before old fault
+    no_mark : (names : Names) (mid : StateStream T A U) → Acts (closes_of o old) before old.state (pledge_of b o.place ∷ []) names mid.state [] → Demands (whole old.stream) ((space_at ▷ mark_if_at) old.stream.rest) old.stream.rest fault → RefusesEnd o b before old fault
+    same_mark : (mark : Option (Mark ℕ)) (taken rest : Text) → (space_at ▷ mark_if_at) old.stream.rest ≡ Read mark taken rest
+        → ActFails (whole old.stream) (λ path z. (doing {T = T} {A = A} old.state.ctx.now.dialects path).marks mark (closes_of o old path z)) before old.state (pledge_of b o.place ∷ []) fault → RefusesEnd o b before old fault
+
+  -- ---- a region begins and ends
+
+  -- what entering it does, and leaving it
+  abbrev pub enters_of : Bool → StateStream T A U → (ℕ → Path) → Machine → Machine
+  enters_of iso old path = (doing {T = T} {A = A} old.state.ctx.now.dialects path).enters iso
+
+  abbrev pub leaves_of : Bool → ℕ → StateStream T A U → (ℕ → Path) → Machine → Machine
+  leaves_of iso place old path = (doing {T = T} {A = A} old.state.ctx.now.dialects path).leaves iso place
+
+  -- the region was entered, and its brace was read, with white space behind
+  pub record BeginsRegion (iso : Bool) (r : BegunRegion) (before : Names) (old : StateStream T A U) (names : Names) (new : StateStream T A U) : Type 0 where
+    pub taken : Text
+    pub read : (word (codes "{") ▷ space_at) old.stream.rest ≡ Read tt taken new.stream.rest
+    pub moves : Moves old.stream new.stream
+    pub region : IsRegion names.names (whole old.stream) new.state.ctx.now r iso (length old.stream.rest)
+    pub acts : Acts (enters_of iso old) before old.state [] names new.state []
+
+  -- it can't be entered; or it was entered, and no brace stands there
+  pub data RefusesRegion (iso : Bool) (before : Names) (old : StateStream T A U) (fault : ParseFault A) : Type 0 where
+    not_isolated : ActFails (whole old.stream) (enters_of iso old) before old.state [] fault → RefusesRegion iso before old fault
+    no_brace : (names : Names) (mid : StateStream T A U) → Acts (enters_of iso old) before old.state [] names mid.state [] → Demands (whole old.stream) ((word (codes "{") ▷ space_at) old.stream.rest) old.stream.rest fault → RefusesRegion iso before old fault
+
+  -- its other brace was read, and it was left
+  pub record EndsRegion (iso : Bool) (place : ℕ) (before : Names) (old : StateStream T A U) (names : Names) (new : StateStream T A U) : Type 0 where
+    pub taken : Text
+    pub read : word (codes "}") old.stream.rest ≡ Read tt taken new.stream.rest
+    pub moves : Moves old.stream new.stream
+    pub acts : Acts (leaves_of iso place old) before old.state [] names new.state []
+
+  -- no brace stands there, or a name is left without a definition
+  abbrev pub RefusesRegionEnd : Bool → ℕ → Names → StateStream T A U → ParseFault A → Type 0
+  RefusesRegionEnd iso place before old fault = Demands (whole old.stream) (word (codes "}") old.stream.rest) old.stream.rest fault
+      ⊎ ((taken rest : Text) × (word (codes "}") old.stream.rest ≡ Read tt taken rest) × ActFails (whole old.stream) (leaves_of iso place old) before old.state [] fault)
+
+  -- ---- a block begins
+
+  -- what a block's header does
+  abbrev pub heads_of : Head ℕ T A → StateStream T A U → (ℕ → Path) → Machine → Machine
+  heads_of h old path = (doing old.state.ctx.now.dialects path).heads h
+
+  -- its header was read and done
+  pub record BeginsBlock (b : BegunBlock) (before : Names) (old : StateStream T A U) (names : Names) (new : StateStream T A U) : Type 0 where
+    pub head : Head ℕ T A
+    pub taken : Text
+    pub read : head_at types_at attr old.stream.rest ≡ Read head taken new.stream.rest
+    pub moves : Moves old.stream new.stream
+    pub block : IsBlock names.names (whole old.stream) new.state.ctx.now b true
+    pub acts : Acts (heads_of head old) before old.state [] names new.state []
+
+  -- no header stands there, or what it does fails
+  abbrev pub RefusesBlock : Names → StateStream T A U → ParseFault A → Type 0
+  RefusesBlock before old fault = Demands (whole old.stream) (head_at types_at attr old.stream.rest) old.stream.rest fault
+      ⊎ ((head : Head ℕ T A) × (taken rest : Text) × (head_at types_at attr old.stream.rest ≡ Read head taken rest) × ActFails (whole old.stream) (heads_of head old) before old.state [] fault)

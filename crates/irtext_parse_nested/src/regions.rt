@@ -1,0 +1,257 @@
+//! The beginning and the end of a region.
+ghost use Rattle.std.specs.Prelude.{◌≡◌, ◌≤◌, ◌⊎◌, ℕ, List, true, false, codes, [], ◌∷◌, None, IfOk, IfErr, OnOk, IsSome};
+ghost use Rattle.irtext_base.specs.Faults as fault;
+ghost use Rattle.irtext_base.specs.Faults.{fault_of};
+ghost use Rattle.irtext_base.specs.Answers.{StarvesHere};
+ghost use Rattle.irtext_base.specs.Stream.{IsAt};
+ghost use Rattle.irtext_context.specs.Context.{operation, AddsRegion, KeepsOlder};
+ghost use Rattle.irtext_graph.specs.Graph.{IsNew};
+ghost use Rattle.irtext_graph.specs.declared.object.Object.TheVariants.{TheOperation, TheRegion};
+ghost use Rattle.irtext_graph.specs.declared.arena.Ptr.{Ptr};
+ghost use Rattle.irtext_graph.specs.declared.object.BasicBlock.{BasicBlock};
+ghost use Rattle.irtext_read.specs.Infix.{◌▷◌};
+ghost use Rattle.irtext_read.specs.MustRead.{MustRead};
+ghost use Rattle.irtext_read.specs.Tokens.{space_at, word};
+ghost use Rattle.irtext_read.specs.AttrTexts.{attr_at};
+ghost use Rattle.irtext_scopes.specs.Scopes.{is_open, outer};
+ghost use Rattle.irtext_scopes.specs.Tracker.{entered, left};
+ghost use Rattle.irtext_state.specs.States.{marks_of};
+ghost use Rattle.irtext_grammar.specs.Contexts.Held.{whole};
+ghost use Rattle.irtext_grammar.specs.Names.History.{enter, leave};
+ghost use Rattle.irtext_grammar.specs.Names.History as history;
+ghost use Rattle.irtext_grammar.specs.Names.Script.{NotIsolated};
+ghost use Rattle.irtext_names.specs.Linked.{Takes, FailsBy};
+ghost use Rattle.irtext_names.specs.Tied.{AreTied, AreWaiting};
+ghost use Rattle.irtext_outcomes.specs.Readers.Streams.{itself, replaced, KeepsRest};
+ghost use Rattle.irtext_outcomes.specs.Promises.Root.{UnlessMemory};
+ghost use Rattle.irtext_outcomes.specs.Promises.Section.{IsStarved};
+ghost use Rattle.irtext_parse_nested.specs.Begun.{IsRegion};
+ghost use Rattle.irtext_parse_nested.specs.Items.{IsSound, Lasts};
+ghost use Rattle.irtext_parse_nested.specs.Leaving.{IsUnresolved};
+ghost use Rattle.irtext_parse_nested.specs.Read.{BeginsRegion, RefusesRegion, EndsRegion, RefusesRegionEnd};
+
+use crate::frame::{BegunRegion, Names};
+use crate::naming::unresolved_fault;
+use irtext_base::parsable::{
+    CharStream, ParseFault, ParseResult, ParserNameTrackerError, SourcePosition, TextStream,
+};
+use irtext_base::result::Cause;
+use irtext_base::text::{AttrText, IrText};
+use irtext_context::base::block::BlockData;
+use irtext_context::base::context::making::Making;
+use irtext_context::base::operation::OperationData;
+use irtext_context::base::{Operation, Ptr, Region};
+use irtext_graph::graph::Graph;
+use irtext_graph::held::HasGraph;
+use irtext_names::regions::{enter_region, exit_region};
+use irtext_parse_heads::names::ReadName;
+use irtext_read::irfmt::demanded::text_demanded;
+use irtext_read::irfmt::faults::out_of_memory;
+use irtext_read::irfmt::parsers::skip_white_space;
+use irtext_scopes::tracker::EnterFault;
+use irtext_state::parsable::StateStream;
+use irtext_state::parsable::state::State;
+use std::alloc::AllocError;
+
+/// The fault of a region that is not isolated where no scope of values is open, at the beginning of the text. The stream has failed.
+#[cold]
+fn not_isolated<A>(stream: &mut TextStream) -> ParseFault<A>
+    ensures cause { fault_of result.cause ≡ fault.NotIsolated }
+    ensures committed { result.committed ≡ true }
+    ensures place { IsAt result.pos.line result.pos.column [] }
+{
+    stream.fail();
+    ParseFault {
+        pos: SourcePosition::default(),
+        cause: Cause::ParserNameTrackerError(
+            ParserNameTrackerError::TopLevelOpRegionNotIsolatedFromAbove,
+        ),
+        committed: true,
+    }
+}
+
+/// Enters a region. Where it is refused, or memory is, the names stay as they were.
+fn enter<O: Drop, B: Drop, T: Drop, A>(
+    stream: &mut TextStream,
+    names: &mut Names,
+    graph: &Graph<Option<O>, B, Option<T>>,
+    isolated: bool,
+) -> ParseResult<(), A>
+    requires tied { AreTied names.old.values names.old.labels graph.now }
+    ensures stream { OnOk result (stream.new ≡ stream.old) }
+    ensures values { OnOk result (names.new.values ≡ entered isolated names.old.values) }
+    ensures labels { OnOk result (names.new.labels ≡ [] ∷ names.old.labels) }
+    ensures names { names.new.names ≡ names.old.names }
+    ensures tied { AreTied names.new.values names.new.labels graph.now }
+    ensures waiting { (m : ℕ) (own : List (Ptr BasicBlock))
+        → AreWaiting m own names.old.values names.old.labels graph.now → AreWaiting m own names.new.values names.new.labels graph.now }
+    ensures takes { OnOk result (Takes (enter isolated) (history.entered isolated) names.old names.new graph.now) }
+    ensures open { OnOk result (is_open names.new.values ≡ true) }
+    ensures refused { IfErr result (λ f. IsStarved f ⊎ ((fault_of f.cause ≡ fault.NotIsolated) × (f.committed ≡ true) × IsAt f.pos.line f.pos.column []
+        × FailsBy (enter isolated) names.old graph.now (record { cause = NotIsolated; at = None }))) }
+{
+    match enter_region(names, graph, isolated) {
+        Ok(()) => Ok(()),
+        Err(EnterFault::Memory) => Err(out_of_memory(stream)),
+        Err(EnterFault::TopLevelOpRegionNotIsolatedFromAbove) => Err(not_isolated(stream)),
+    }
+}
+
+/// The graph of the context of a reading.
+fn graph_of<'s, T: IrText<A>, A: AttrText, U>(
+    state: &'s State<'_, T, A, U>,
+) -> &'s Graph<Option<OperationData<A>>, BlockData<A>, Option<T>>
+    ensures { result.now ≡ state.now.ctx.now.graph }
+{
+    state.ctx.graph()
+}
+
+/// Enters a region of the text that is read. Where it is refused, or memory is, the names stay as they were.
+fn enter_here<T: IrText<A>, A: AttrText, U>(
+    s: &mut StateStream<'_, T, A, U>,
+    names: &mut Names,
+    isolated: bool,
+) -> ParseResult<(), A>
+    requires tied { AreTied names.old.values names.old.labels s.old.state.ctx.now.graph }
+    ensures lent { s.new.state.ctx.ghost_name ≡ s.old.state.ctx.ghost_name }
+    ensures ctx { s.new.state.ctx.now ≡ s.old.state.ctx.now }
+    ensures rest { KeepsRest s.old.state s.new.state }
+    ensures marks { marks_of s.new.state ≡ marks_of s.old.state }
+    ensures stream { OnOk result (s.new.stream ≡ s.old.stream) }
+    ensures values { OnOk result (names.new.values ≡ entered isolated names.old.values) }
+    ensures labels { OnOk result (names.new.labels ≡ [] ∷ names.old.labels) }
+    ensures names { names.new.names ≡ names.old.names }
+    ensures tied { AreTied names.new.values names.new.labels s.old.state.ctx.now.graph }
+    ensures waiting { (m : ℕ) (own : List (Ptr BasicBlock)) → AreWaiting m own names.old.values names.old.labels s.old.state.ctx.now.graph
+        → AreWaiting m own names.new.values names.new.labels s.old.state.ctx.now.graph }
+    ensures takes { OnOk result (Takes (enter isolated) (history.entered isolated) names.old names.new s.old.state.ctx.now.graph) }
+    ensures open { OnOk result (is_open names.new.values ≡ true) }
+    ensures refused { IfErr result (λ f. IsStarved f ⊎ ((fault_of f.cause ≡ fault.NotIsolated) × (f.committed ≡ true) × IsAt f.pos.line f.pos.column []
+        × FailsBy (enter isolated) names.old s.old.state.ctx.now.graph (record { cause = NotIsolated; at = None }))) }
+{
+    enter(&mut s.stream, names, graph_of(&s.state), isolated)
+}
+
+/// Adds a region to an operation, behind those that it has.
+fn add<T: IrText<A>, A: AttrText, U>(
+    s: &mut StateStream<'_, T, A, U>,
+    op: Ptr<Operation>,
+) -> ParseResult<Ptr<Region>, A>
+    requires stands { IsSome (operation s.old.state.ctx.now op) }
+    ensures lent { s.new.state.ctx.ghost_name ≡ s.old.state.ctx.ghost_name }
+    ensures rest { KeepsRest s.old.state s.new.state }
+    ensures marks { marks_of s.new.state ≡ marks_of s.old.state }
+    ensures stream { OnOk result (s.new.stream ≡ s.old.stream) }
+    ensures adds { IfOk result (λ r. AddsRegion s.old.state.ctx.now s.new.state.ctx.now op r) }
+    ensures starved { IfErr result (λ f. StarvesHere itself replaced s.old.stream f s.new.stream) }
+    ensures kept { (m : ℕ) → m ≤ s.old.state.ctx.now.graph.made → IsNew m s.old.state.ctx.now.graph (TheOperation op)
+        → KeepsOlder m s.old.state.ctx.now s.new.state.ctx.now }
+{
+    let ctx = &mut *s.state.ctx;
+    match ctx.add_region(op) {
+        Ok(region) => Ok(region),
+        Err(AllocError) => Err(out_of_memory(&mut s.stream)),
+    }
+}
+
+/// Reads a region's first brace, and the white space behind it. A fault is committed.
+fn brace_demanded<A>(stream: &mut TextStream) -> ParseResult<(), A>
+    ensures { MustRead itself replaced (λ u. u) (word (codes "{") ▷ space_at) stream.old result stream.new }
+{
+    text_demanded(stream, "{")?;
+    skip_white_space(stream);
+    Ok(())
+}
+
+/// Enters a region, the last of an operation which is isolated from above or not, and reads its brace and the white space behind it. A
+/// region that is not isolated is refused where no scope of values is open, at the beginning of the text. A fault is committed.
+pub fn region_begin<T: IrText<A>, A: AttrText, U>(
+    s: &mut StateStream<'_, T, A, U>,
+    names: &mut Names,
+    op: Ptr<Operation>,
+    isolated: bool,
+) -> ParseResult<BegunRegion, A>
+    requires stands { IsSome (operation s.old.state.ctx.now op) }
+    requires fine { s.old.stream.failed ≡ false }
+    requires tied { AreTied names.old.values names.old.labels s.old.state.ctx.now.graph }
+    ensures lent { s.new.state.ctx.ghost_name ≡ s.old.state.ctx.ghost_name }
+    ensures rest { KeepsRest s.old.state s.new.state }
+    ensures marks { marks_of s.new.state ≡ marks_of s.old.state }
+    ensures begins { IfOk result (λ r. BeginsRegion T.IrText.reading (attr_at A.IrText.reading) isolated r names.old s.old names.new s.new) }
+    ensures refused { IfErr result (UnlessMemory (RefusesRegion T.IrText.reading (attr_at A.IrText.reading) isolated names.old s.old)) }
+    ensures committed { IfErr result (λ fault. fault.committed ≡ true) }
+    ensures names { names.new.names ≡ names.old.names }
+    ensures values { OnOk result (names.new.values ≡ entered isolated names.old.values) }
+    ensures labels { OnOk result (names.new.labels ≡ [] ∷ names.old.labels) }
+    ensures open { OnOk result (is_open names.new.values ≡ true) }
+    ensures new { IfOk result (λ r. (m : ℕ) → m ≤ s.old.state.ctx.now.graph.made → IsNew m s.new.state.ctx.now.graph (TheRegion r.region)) }
+    ensures lasts { OnOk result (Lasts s.old.state.ctx.now s.new.state.ctx.now) }
+    ensures sound { OnOk result ((m : ℕ) → m ≤ s.old.state.ctx.now.graph.made → IsSound m names.old s.old.state → IsSound m names.new s.new.state) }
+    ensures kept { (m : ℕ) → m ≤ s.old.state.ctx.now.graph.made → IsNew m s.old.state.ctx.now.graph (TheOperation op)
+        → KeepsOlder m s.old.state.ctx.now s.new.state.ctx.now }
+{
+    let at = s.stream.position();
+    enter_here(s, names, isolated)?;
+    let region = add(s, op)?;
+    brace_demanded(&mut s.stream)?;
+    Ok(BegunRegion {
+        region,
+        isolated,
+        at,
+    })
+}
+
+/// Leaves a region. The first name that has no definition there is refused, where the region begins; its scopes are closed whatever the
+/// answer.
+fn leave<O: Drop, B: Drop, T: Drop, A>(
+    stream: &mut TextStream,
+    names: &mut Names,
+    graph: &Graph<Option<O>, B, Option<T>>,
+    region: BegunRegion,
+) -> ParseResult<(), A>
+    requires tied { AreTied names.old.values names.old.labels graph.now }
+    ensures stream { OnOk result (stream.new ≡ stream.old) }
+    ensures values { names.new.values ≡ left region.isolated names.old.values }
+    ensures labels { names.new.labels ≡ outer names.old.labels }
+    ensures names { names.new.names ≡ names.old.names }
+    ensures tied { AreTied names.new.values names.new.labels graph.now }
+    ensures waiting { OnOk result ((m : ℕ) (own : List (Ptr BasicBlock))
+        → AreWaiting m own names.old.values names.old.labels graph.now → AreWaiting m own names.new.values names.new.labels graph.now) }
+    ensures takes { OnOk result ((a : ℕ) → Takes (leave region.isolated a) (history.left region.isolated) names.old names.new graph.now) }
+    ensures refused { IfErr result (UnlessMemory (IsUnresolved names.old graph.now (whole stream.old) region)) }
+    ensures committed { IfErr result (λ fault. fault.committed ≡ true) }
+{
+    let Some(name) = exit_region(names, graph, region.isolated) else {
+        return Ok(());
+    };
+    let read = ReadName {
+        name,
+        at: region.at,
+    };
+    Err(unresolved_fault(stream, names, read))
+}
+
+/// Reads the other brace of a region, and leaves it. The first name that has no definition there is refused, where the region begins. A
+/// fault is committed.
+pub fn region_end<T: IrText<A>, A: AttrText, U>(
+    s: &mut StateStream<'_, T, A, U>,
+    names: &mut Names,
+    region: BegunRegion,
+) -> ParseResult<(), A>
+    requires fine { s.old.stream.failed ≡ false }
+    requires tied { AreTied names.old.values names.old.labels s.old.state.ctx.now.graph }
+    ensures lent { s.new.state.ctx.ghost_name ≡ s.old.state.ctx.ghost_name }
+    ensures state { s.new.state ≡ s.old.state }
+    ensures ends { OnOk result ((place : ℕ) → IsRegion names.old.names (whole s.old.stream) s.old.state.ctx.now region region.isolated place
+        → EndsRegion T.IrText.reading (attr_at A.IrText.reading) region.isolated place names.old s.old names.new s.new) }
+    ensures refused { IfErr result (λ fault. (place : ℕ) → IsRegion names.old.names (whole s.old.stream) s.old.state.ctx.now region region.isolated place
+        → UnlessMemory (RefusesRegionEnd T.IrText.reading (attr_at A.IrText.reading) region.isolated place names.old s.old) fault) }
+    ensures committed { IfErr result (λ fault. fault.committed ≡ true) }
+    ensures names { names.new.names ≡ names.old.names }
+    ensures values { OnOk result (names.new.values ≡ left region.isolated names.old.values) }
+    ensures labels { OnOk result (names.new.labels ≡ outer names.old.labels) }
+    ensures sound { OnOk result ((m : ℕ) → IsSound m names.old s.old.state → IsSound m names.new s.new.state) }
+{
+    text_demanded(&mut s.stream, "}")?;
+    leave(&mut s.stream, names, graph_of(&s.state), region)
+}
