@@ -2,6 +2,7 @@
 
 pub mod block;
 pub mod context;
+pub mod item;
 pub mod operation;
 mod types;
 
@@ -9,4 +10,5 @@ pub use block::{BlockAccess, BlockData, NewBlock};
 pub use context::Context;
 pub use irtext_graph::arena::Ptr;
 pub use irtext_graph::object::{BasicBlock, Operation, Region, Value};
+pub use item::Item;
 pub use operation::{NewBareOperation, NewOperation, OperationAccess, OperationData};

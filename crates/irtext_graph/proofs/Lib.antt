@@ -51,3 +51,4 @@ pub mod Throughout
 pub mod Going
 pub mod Alone
 pub mod Numbers
+pub mod PlacesSeen

@@ -22,3 +22,4 @@ pub mod Held
 pub mod Linking
 pub mod Back
 pub mod Throughout
+pub mod Places

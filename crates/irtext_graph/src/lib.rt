@@ -15,5 +15,6 @@ mod nest;
 pub mod object;
 mod objects;
 mod parts;
+mod standing;
 mod uses;
 mod using;

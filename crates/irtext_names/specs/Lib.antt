@@ -1,3 +1,4 @@
 pub mod Placeholders
 pub mod Tied
 pub mod Linked
+pub mod OfItems

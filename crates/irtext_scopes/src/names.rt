@@ -95,6 +95,13 @@ impl Names {
         keep(&mut self.texts, alloc, text)
     }
 
+    /// What always holds, as this contract says of a call that does nothing: no name stands under two numbers.
+    pub fn keeps_names(&self)
+        ensures { AreDistinct self.now }
+    {
+        let _texts = &self.texts;
+    }
+
     /// How many names are kept.
     pub fn len(&self) -> usize
         ensures { result ≡ length self.now }

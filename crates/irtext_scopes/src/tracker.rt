@@ -102,6 +102,13 @@ impl<V: Copy, B: Copy> NameTracker<V, B> {
         self.names.intern(text)
     }
 
+    /// What always holds, as this contract says of a call that does nothing: no name stands under two numbers.
+    pub fn keeps_names(&self)
+        ensures { AreDistinct self.now.names }
+    {
+        self.names.keeps_names();
+    }
+
     /// How many names are known; their numbers are those below.
     pub fn num_names(&self) -> usize
         ensures { result ≡ length self.now.names }

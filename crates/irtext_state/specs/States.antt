@@ -3,8 +3,7 @@ use Rattle.std.specs.Prelude.{◌≡◌, ℕ, ◌==◌, Bool, true, false, List,
 use Rattle.std.specs.Map.{lookup}
 use Rattle.irtext_base.specs.Text.{Text}
 use Rattle.irtext_base.specs.Stream.{IsAt}
-use Rattle.irtext_graph.specs.declared.arena.Ptr.{Ptr}
-use Rattle.irtext_graph.specs.declared.object.Operation.{Operation}
+use Rattle.irtext_context.specs.declared.base.item.Item.{Item}
 use Rattle.irtext_base.specs.declared.location.Location.{Location, SrcPos}
 use Rattle.irtext_base.specs.declared.location.Source.{Source}
 use Rattle.irtext_stream.specs.declared.position.SourcePosition.{SourcePosition}
@@ -15,7 +14,7 @@ abbrev pub same_index : ℕ → ℕ → Bool
 same_index i j = i == j
 
 -- the marks that a state keeps, in the order in which they were seen
-abbrev pub marks_of : {T A U : Type 0} → State T A U → List (ℕ × Ptr Operation)
+abbrev pub marks_of : {T A U : Type 0} → State T A U → List (ℕ × Item)
 marks_of s = s.marks
 
 -- an item was noted last under an index, unless that is noted already

@@ -11,7 +11,7 @@ use crate::parsable::numbered::Numbered;
 use irtext_base::location::{Location, Source};
 use irtext_base::parsable::{CharStream, Class, ParseResult, Place, SourcePosition, TextStream};
 use irtext_base::text::{AttrText, IrText};
-use irtext_context::base::{Context, Operation, Ptr};
+use irtext_context::base::{Context, Item};
 use irtext_read::parsable::OwnStream;
 use std::alloc::{AllocError, Global};
 
@@ -24,8 +24,8 @@ pub struct State<'c, T, A, U> {
     pub src: Source,
     /// The caller's own.
     pub aux_data: U,
-    // the operations that carry a mark for which no section was read yet
-    marks: Numbered<Ptr<Operation>>,
+    // the operations and blocks that carry a mark for which no section was read yet
+    marks: Numbered<Item>,
 }
 
 impl<'c, T: IrText<A>, A: AttrText, U> State<'c, T, A, U> {
@@ -46,8 +46,8 @@ impl<'c, T: IrText<A>, A: AttrText, U> State<'c, T, A, U> {
         }
     }
 
-    /// The operation that carries a mark of this index, where one is noted.
-    pub fn marked(&self, index: usize) -> Option<Ptr<Operation>>
+    /// The operation or block that carries a mark of this index, where one is noted.
+    pub fn marked(&self, index: usize) -> Option<Item>
         ensures { result ≡ lookup (same_index index) (marks_of self.now) }
     {
         self.marks.get(index).copied()
@@ -61,18 +61,17 @@ impl<'c, T: IrText<A>, A: AttrText, U> State<'c, T, A, U> {
     }
 }
 
-/// What notes the marks of operations, as the state of a reading does: for the readers of operations and of the section behind
+/// What notes the marks of operations and blocks, as the state of a reading does: for the readers of these and of the section behind
 /// them. Callers of the text layer are not handed it.
 pub trait Noting {
-    ghost use Rattle.irtext_graph.specs.declared.arena.Ptr.{Ptr};
-    ghost use Rattle.irtext_graph.specs.declared.object.Operation.{Operation};
+    ghost use Rattle.irtext_context.specs.declared.base.item.Item.{Item};
 
-    // the marks that are noted, each with its operation
-    ghost noted: { Self → List (ℕ × Ptr Operation) };
+    // the marks that are noted, each with the operation or block that carries it
+    ghost noted: { Self → List (ℕ × Item) };
 
-    /// Notes the mark of an operation; false, and nothing is noted, where the index is noted already.
-    fn mark(&mut self, index: usize, op: Ptr<Operation>) -> Result<bool, AllocError>
-        ensures marks { IfOk result (λ noting. Notes index op noting (noted self.old) (noted self.new)) }
+    /// Notes the mark of an operation or a block; false, and nothing is noted, where the index is noted already.
+    fn mark(&mut self, index: usize, item: Item) -> Result<bool, AllocError>
+        ensures marks { IfOk result (λ noting. Notes index item noting (noted self.old) (noted self.new)) }
         ensures err { OnErr result (noted self.new ≡ noted self.old) };
 
     /// How many marks are noted.
@@ -88,15 +87,15 @@ pub trait Noting {
 impl<'c, T: IrText<A>, A: AttrText, U> Noting for State<'c, T, A, U> {
     ghost noted = { λ s. marks_of s };
 
-    fn mark(&mut self, index: usize, op: Ptr<Operation>) -> Result<bool, AllocError>
+    fn mark(&mut self, index: usize, item: Item) -> Result<bool, AllocError>
         ensures lent { self.new.ctx.ghost_name ≡ self.old.ctx.ghost_name }
         ensures ctx { self.new.ctx.now ≡ self.old.ctx.now }
         ensures src { self.new.src ≡ self.old.src }
         ensures aux_data { self.new.aux_data ≡ self.old.aux_data }
-        ensures marks { IfOk result (λ noted. Notes index op noted (marks_of self.old) (marks_of self.new)) }
+        ensures marks { IfOk result (λ noted. Notes index item noted (marks_of self.old) (marks_of self.new)) }
         ensures err { OnErr result (marks_of self.new ≡ marks_of self.old) }
     {
-        self.marks.note(index, op)
+        self.marks.note(index, item)
     }
 
     fn num_marks(&self) -> usize {
