@@ -17,12 +17,12 @@ use Rattle.irtext_grammar.specs.Grammar.Tree.{Name, Mark, Piece, Part, Op, Head,
 use Rattle.irtext_nesting.specs.Naming.{body_of, unmarked}
 use Rattle.irtext_nesting.specs.Reached.{Doing}
 use Rattle.irtext_building.specs.Building.{append_regions, append_blocks, append_operations, Unfinished, operation_so_far, region_so_far, but_its_mark, Building, nothing_open, building, with_mark, whole_blocks, block_begun, region_ended, operation_closed, operation_marked}
-use Rattle.irtext_building.specs.Stands.{OwnSoFar, own_of, RegionsHold, BlocksHold, OperationsHold, OpenAt, operation_under, ended_under, region_under, open_objects, OperationIsOpen, RegionIsOpen, BlockIsOpen, AreOpenAt, TreeHolds, IsThere, IsAsItWas, AreApart, HoldsSoFar, Spares}
+use Rattle.irtext_building.specs.Stands.{OwnSoFar, own_of, HasUses, UsesAsMany, RegionsHold, BlocksHold, OperationsHold, OpenAt, operation_under, ended_under, region_under, open_objects, OperationIsOpen, RegionIsOpen, BlockIsOpen, AreOpenAt, TreeHolds, IsThere, IsAsItWas, AreApart, HoldsSoFar, Spares}
 use Rattle.irtext_building.specs.Grows.{with_last_region, with_last_block, with_last_operation, RegionCame, OperationGains, RegionGains, BlockGains, OperationCame, BlockCame, OwnBecame}
-use Rattle.irtext_building.proofs.Kept.{there_still, regions_kept, blocks_kept, operations_kept, tree_kept, operation_kept, region_kept, block_kept, all_kept}
+use Rattle.irtext_building.proofs.Kept.{there_still, uses_kept, regions_kept, blocks_kept, operations_kept, tree_kept, operation_kept, region_kept, block_kept, all_kept}
 
 -- ---- one behind another
-module _ {T A : Type 0} (IsLocation : ℕ → Location A → Type 0) (c : ContextView T A) (whole : List Object) where
+module _ {T A : Type 0} (IsLocation : Object → ℕ → Location A → Type 0) (c : ContextView T A) (whole : List Object) where
   regions_behind : (ps qs : List (Ptr Region)) (rs more : Regions (Op ℕ T A) (Head ℕ T A) (Brace ℕ)) → RegionsHold IsLocation c whole ps rs → RegionsHold IsLocation c whole qs more
       → RegionsHold IsLocation c whole (ps ++ qs) (append_regions rs more)
   regions_behind [] qs no_regions more h k = k
@@ -45,22 +45,19 @@ module _ {T A : Type 0} (IsLocation : ℕ → Location A → Type 0) (c : Contex
   operations_behind (p ∷ ps) qs (forest.operation o rs os) more (i, v, h) k = (i, v, operations_behind ps qs os more h k)
 
 -- ---- objects that are spared
-module _ {T A : Type 0} (IsLocation : ℕ → Location A → Type 0) (old new : ContextView T A) (whole : List Object) (ats : List (OpenAt T A)) (root : Option (Ptr Operation)) (b : Building T A)
+module _ {T A : Type 0} (IsLocation : Object → ℕ → Location A → Type 0) (old new : ContextView T A) (whole : List Object) (ats : List (OpenAt T A)) (root : Option (Ptr Operation)) (b : Building T A)
     (h : HoldsSoFar IsLocation old whole ats root b) (but : List Object) (s : Spares but old new) where
   -- what is whole is as it was, where no object of it is one that changed
-  whole_spared : ((o : Object) → Among o but → Among o (open_objects ats)) → (o : Object) → Among o whole → IsAsItWas old new o
-  whole_spared within o i = s.spared o (h.whole_there o i) (λ j. h.not_whole o (within o j) i)
+  whole_spared : ((o : Object) → Among o but → IsThere old o → Among o (open_objects ats)) → (o : Object) → Among o whole → IsAsItWas old new o
+  whole_spared within o i = s.spared o (h.whole_there o i) (λ j. h.not_whole o (within o j (h.whole_there o i)) i)
 
   -- and so is what is open
   open_spared : (o : Object) → Among o (open_objects ats) → (Among o but → ⊥) → IsAsItWas old new o
   open_spared o i apart = s.spared o (h.open_there o i) apart
 
   -- what is whole is there
-  whole_stays : ((o : Object) → Among o but → Among o (open_objects ats)) → (o : Object) → Among o whole → IsThere new o
+  whole_stays : ((o : Object) → Among o but → IsThere old o → Among o (open_objects ats)) → (o : Object) → Among o whole → IsThere new o
   whole_stays within o i = there_still old new o (whole_spared within o i) (h.whole_there o i)
-
-none_changed : (o : Object) → Among o [] → ⊥
-none_changed o i = i
 
 -- an object is none of a list that does not have it
 is_none_of : (k o : Object) (os : List Object) → (Among k os → ⊥) → Among o os → Among o (k ∷ []) → ⊥
@@ -73,14 +70,32 @@ apart_head k os (a, r) = a
 apart_tail : (k : Object) (os : List Object) → AreApart (k ∷ os) → AreApart os
 apart_tail k os (a, r) = r
 
--- one that is in the one list of an object is in each that begins with it
-first_within : (k : Object) (os : List Object) (o : Object) → Among o (k ∷ []) → Among o (k ∷ os)
-first_within k os o (inl e) = inl e
-first_within k os o (inr j) = absurd j
+-- one that changed is the innermost of what is open, whatever of what came besides was not there
+module _ {T A : Type 0} (c : ContextView T A) where
+  -- where nothing came
+  first_within : (k : Object) (os : List Object) (o : Object) → Among o (k ∷ []) → IsThere c o → Among o (k ∷ os)
+  first_within k os o (inl e) there = inl e
+  first_within k os o (inr j) there = absurd j
 
-second_within : (k j : Object) (os : List Object) (o : Object) → Among o (j ∷ []) → Among o (k ∷ j ∷ os)
-second_within k j os o (inl e) = inr (inl e)
-second_within k j os o (inr i) = absurd i
+  -- where one came
+  behind_new : (n k : Object) (os : List Object) → (IsThere c n → ⊥) → (o : Object) → Among o (n ∷ k ∷ []) → IsThere c o → Among o (k ∷ os)
+  behind_new n k os is_new o (inl e) there = absurd (is_new (subst (λ z. IsThere c z) e there))
+  behind_new n k os is_new o (inr i) there = first_within k os o i there
+
+  -- what came alone was not there
+  none_within : (n : Object) (os : List Object) → (IsThere c n → ⊥) → (o : Object) → Among o (n ∷ []) → IsThere c o → Among o os
+  none_within n os is_new o (inl e) there = absurd (is_new (subst (λ z. IsThere c z) e there))
+  none_within n os is_new o (inr i) there = absurd i
+
+  -- an object that was there is none that came
+  not_new : (n : Object) → (IsThere c n → ⊥) → (o : Object) → IsThere c o → Among o (n ∷ []) → ⊥
+  not_new n is_new o there (inl e) = is_new (subst (λ z. IsThere c z) e there)
+  not_new n is_new o there (inr i) = i
+
+  -- and none of one that came and one that changed, where it is not among those with it
+  not_behind : (n k o : Object) (os : List Object) → (IsThere c n → ⊥) → (Among k os → ⊥) → Among o os → IsThere c o → Among o (n ∷ k ∷ []) → ⊥
+  not_behind n k o os is_new apart i there (inl e) = is_new (subst (λ z. IsThere c z) e there)
+  not_behind n k o os is_new apart i there (inr j) = is_none_of k o os apart i j
 
 -- an object besides is there
 besides_there : {T A : Type 0} (c : ContextView T A) (k : Object) (os : List Object) → IsThere c k → ((o : Object) → Among o os → IsThere c o) → (o : Object) → Among o (k ∷ os) → IsThere c o
@@ -101,23 +116,25 @@ some_map : {X Y : Type 0} (f : X → Y) (o : Option X) → IsSome o → IsSome (
 some_map f (Some x) h = refl
 some_map f None h = absurd (cc h)
 
-module _ {T A : Type 0} (IsLocation : ℕ → Location A → Type 0) (old new : ContextView T A) (whole : List Object) (root : Option (Ptr Operation)) where
-  -- nothing of what is held changes
-  pub holds_still : (ats : List (OpenAt T A)) (b : Building T A) → HoldsSoFar IsLocation old whole ats root b → Spares [] old new → HoldsSoFar IsLocation new whole ats root b
-  holds_still ats b h s =
-      let same = whole_spared IsLocation old new whole ats root b h [] s (λ o i. absurd i) in
-      let others = λ (o : Object) (i : Among o (open_objects ats)). open_spared IsLocation old new whole ats root b h [] s o i (λ j. j) in
+module _ {T A : Type 0} (IsLocation : Object → ℕ → Location A → Type 0) (old new : ContextView T A) (whole : List Object) (root : Option (Ptr Operation)) where
+  -- nothing of what is held changes, whatever else does
+  pub holds_still : (but : List Object) (ats : List (OpenAt T A)) (b : Building T A) → HoldsSoFar IsLocation old whole ats root b → ((o : Object) → IsThere old o → Among o but → ⊥) → Spares but old new
+      → HoldsSoFar IsLocation new whole ats root b
+  holds_still but ats b h none s =
+      let within = λ (o : Object) (i : Among o but) (there : IsThere old o). absurd {A = Among o (open_objects ats)} (none o there i) in
+      let same = whole_spared IsLocation old new whole ats root b h but s within in
+      let others = λ (o : Object) (i : Among o (open_objects ats)). open_spared IsLocation old new whole ats root b h but s o i (none o (h.open_there o i)) in
       record {
         are_open = all_kept IsLocation old new whole whole (λ o i. i) same ats b.unfinished None others h.are_open;
         tree = tree_kept IsLocation old new whole whole (λ o i. i) same root b.tree h.tree;
-        whole_there = whole_stays IsLocation old new whole ats root b h [] s (λ o i. absurd i);
+        whole_there = whole_stays IsLocation old new whole ats root b h but s within;
         open_there = λ o i. there_still old new o (others o i) (h.open_there o i);
         not_whole = h.not_whole;
         apart = h.apart;
       }
 
 -- where nothing was read, nothing is held
-pub holds_nothing : {T A : Type 0} (IsLocation : ℕ → Location A → Type 0) (c : ContextView T A) → HoldsSoFar IsLocation c [] [] None nothing_open
+pub holds_nothing : {T A : Type 0} (IsLocation : Object → ℕ → Location A → Type 0) (c : ContextView T A) → HoldsSoFar IsLocation c [] [] None nothing_open
 holds_nothing IsLocation c = record {
   are_open = tt;
   tree = tt;
@@ -128,15 +145,15 @@ holds_nothing IsLocation c = record {
 }
 
 -- ---- the items, each with what comes to the context
-module _ {T A : Type 0} (IsLocation : ℕ → Location A → Type 0) (old new : ContextView T A) (whole : List Object) where
+module _ {T A : Type 0} (IsLocation : Object → ℕ → Location A → Type 0) (old new : ContextView T A) (whole : List Object) where
   -- what is left where nothing is open
   nothing_inner : (c : ContextView T A) (us : List (Unfinished T A)) (i j : Option Object) → AreOpenAt IsLocation c whole [] us i → AreOpenAt IsLocation c whole [] us j
   nothing_inner c [] i j h = tt
   nothing_inner c (u ∷ us) i j h = absurd h
 
   -- what came is an operation that is open and has no regions
-  operation_opens : (p : Ptr Operation) (own : OwnSoFar T A) → OperationCame old new IsLocation p own → OperationIsOpen IsLocation new whole p own no_regions None
-  operation_opens p own came = record { view = came.view; is = came.is; has = came.has; done = []; regions = came.regions; hold = tt }
+  operation_opens : (p : Ptr Operation) (own : OwnSoFar T A) → OperationCame old new (IsLocation (TheOperation p)) p own → OperationIsOpen IsLocation new whole p own no_regions None
+  operation_opens p own came = record { view = came.view; is = came.is; has = came.has; uses = came.uses; done = []; regions = came.regions; hold = tt }
 
   module _ (same : (o : Object) → Among o whole → IsAsItWas old new o) where
     block_gained : (b : Ptr BasicBlock) (p : Ptr Operation) (head : Head ℕ T A) (os : Operations (Op ℕ T A) (Head ℕ T A) (Brace ℕ)) → BlockGains old new b p
@@ -156,6 +173,7 @@ module _ {T A : Type 0} (IsLocation : ℕ → Location A → Type 0) (old new : 
       view = with_last_region r k.view;
       is = g.gains ∙ ap (option_map (with_last_region r)) k.is;
       has = record { id = k.has.id; types = k.has.types; entries = k.has.entries; location = k.has.location };
+      uses = uses_kept old new p own g.uses k.uses;
       done = k.done;
       regions = ap (λ z. z ++ r ∷ []) (k.regions ∙ append-nil k.done);
       hold = regions_kept IsLocation old new whole whole (λ o i. i) same k.done rs k.hold;
@@ -193,10 +211,10 @@ module _ {T A : Type 0} (IsLocation : ℕ → Location A → Type 0) (old new : 
     }
 
     -- what came is a block that is open and has no operations
-    block_opens : (b : Ptr BasicBlock) (head : Head ℕ T A) → BlockCame old new IsLocation b head → BlockIsOpen IsLocation new whole b head no_operations None
+    block_opens : (b : Ptr BasicBlock) (head : Head ℕ T A) → BlockCame old new (IsLocation (TheBlock b)) b head → BlockIsOpen IsLocation new whole b head no_operations None
     block_opens b head came = record { view = came.view; is = came.is; has = came.has; done = []; operations = came.operations; hold = tt }
 
-    heads_first_open : (r : Ptr Region) (b : Ptr BasicBlock) (head : Head ℕ T A) (ats : List (OpenAt T A)) (us : List (Unfinished T A)) → BlockCame old new IsLocation b head → RegionGains old new r b
+    heads_first_open : (r : Ptr Region) (b : Ptr BasicBlock) (head : Head ℕ T A) (ats : List (OpenAt T A)) (us : List (Unfinished T A)) → BlockCame old new (IsLocation (TheBlock b)) b head → RegionGains old new r b
         → ((o : Object) → Among o (open_objects ats) → IsAsItWas old new o)
         → AreOpenAt IsLocation old whole (region_under r None ∷ ats) us None → AreOpenAt IsLocation new whole (region_under r (Some b) ∷ ats) (block_begun head us) None
     heads_first_open r b head ats [] came g others h = absurd h
@@ -206,18 +224,19 @@ module _ {T A : Type 0} (IsLocation : ℕ → Location A → Type 0) (old new : 
     heads_first_open r b head ats (region_so_far bs None ∷ us) came g others ((f, k), h) =
         ((region_gained r b bs g k, block_opens b head came), all_kept IsLocation old new whole whole (λ o i. i) same ats us (Some (TheRegion r)) others h)
 
-    own_changed : (p : Ptr Operation) (own next : OwnSoFar T A) (rs : Regions (Op ℕ T A) (Head ℕ T A) (Brace ℕ)) → OwnBecame old new IsLocation p next
+    own_changed : (p : Ptr Operation) (own next : OwnSoFar T A) (rs : Regions (Op ℕ T A) (Head ℕ T A) (Brace ℕ)) → OwnBecame old new (IsLocation (TheOperation p)) p next
         → OperationIsOpen IsLocation old whole p own rs None → OperationIsOpen IsLocation new whole p next rs None
     own_changed p own next rs became k = record {
       view = became.view;
       is = became.is;
       has = became.has;
+      uses = became.uses;
       done = k.done;
       regions = became.regions k.view k.is ∙ k.regions;
       hold = regions_kept IsLocation old new whole whole (λ o i. i) same k.done rs k.hold;
     }
 
-    own_changed_open : (p : Ptr Operation) (own next : OwnSoFar T A) (ats : List (OpenAt T A)) (us : List (Unfinished T A)) → OwnBecame old new IsLocation p next → next.place ≡ own.place → next.id ≡ own.id
+    own_changed_open : (p : Ptr Operation) (own next : OwnSoFar T A) (ats : List (OpenAt T A)) (us : List (Unfinished T A)) → OwnBecame old new (IsLocation (TheOperation p)) p next → next.place ≡ own.place → next.id ≡ own.id
         → ((o : Object) → Among o (open_objects ats) → IsAsItWas old new o)
         → AreOpenAt IsLocation old whole (operation_under p own ∷ ats) us None → AreOpenAt IsLocation new whole (operation_under p next ∷ ats) us None
     own_changed_open p own next ats [] became place id others h = absurd h
@@ -227,7 +246,7 @@ module _ {T A : Type 0} (IsLocation : ℕ → Location A → Type 0) (old new : 
         ((place ∙ e, id ∙ f, own_changed p own next rs became k), all_kept IsLocation old new whole whole (λ o i. i) same ats us (Some (TheOperation p)) others h)
 
 -- ---- what becomes whole
-module _ {T A : Type 0} (IsLocation : ℕ → Location A → Type 0) (c : ContextView T A) (whole : List Object) where
+module _ {T A : Type 0} (IsLocation : Object → ℕ → Location A → Type 0) (c : ContextView T A) (whole : List Object) where
   -- a block that was open, with its operations
   block_whole : (b : Ptr BasicBlock) (head : Head ℕ T A) (os : Operations (Op ℕ T A) (Head ℕ T A) (Brace ℕ)) → Among (TheBlock b) whole → BlockIsOpen IsLocation c whole b head os None
       → BlocksHold IsLocation c whole (b ∷ []) (forest.block head os no_blocks)
@@ -247,6 +266,7 @@ module _ {T A : Type 0} (IsLocation : ℕ → Location A → Type 0) (c : Contex
       k.view,
       k.is,
       record { id = k.has.id; types = k.has.types; entries = k.has.entries; location = k.has.location },
+      record { operands_are = k.uses.operands_are; successors_are = k.uses.successors_are },
       subst (λ z. RegionsHold IsLocation c whole z rs) (sym (k.regions ∙ append-nil k.done)) k.hold,
     ),
     tt,
@@ -271,6 +291,7 @@ module _ {T A : Type 0} (IsLocation : ℕ → Location A → Type 0) (c : Contex
     view = f.view;
     is = f.is;
     has = f.has;
+    uses = f.uses;
     done = f.done ++ r ∷ [];
     regions = f.regions ∙ sym (append-nil (f.done ++ r ∷ []));
     hold = regions_behind IsLocation c whole f.done (r ∷ []) rs (forest.region (shown place) bs no_regions) f.hold (region_whole r place bs i k);
@@ -289,15 +310,15 @@ module _ {T A : Type 0} (IsLocation : ℕ → Location A → Type 0) (c : Contex
     hold = operations_behind IsLocation c whole f.done (p ∷ []) os (forest.operation (with_mark mark o) rs no_operations) f.hold (operation_whole p o mark rs i k);
   }
 
-module _ {T A : Type 0} (IsLocation : ℕ → Location A → Type 0) (old new : ContextView T A) (whole : List Object) (root : Option (Ptr Operation)) (formats : Id → Option Format) where
+module _ {T A : Type 0} (IsLocation : Object → ℕ → Location A → Type 0) (old new : ContextView T A) (whole : List Object) (root : Option (Ptr Operation)) (formats : Id → Option Format) where
   abbrev does : Doing T A (Building T A)
   does = building {T = T} {A = A} formats
 
   -- an operation begins, where nothing is open
-  pub uses_at_root : (p : Ptr Operation) (own : OwnSoFar T A) (parts : List (Part ℕ T A)) (b : Building T A) → HoldsSoFar IsLocation old whole [] root b → OperationCame old new IsLocation p own → Spares [] old new
+  pub uses_at_root : (p : Ptr Operation) (own : OwnSoFar T A) (parts : List (Part ℕ T A)) (b : Building T A) → HoldsSoFar IsLocation old whole [] root b → OperationCame old new (IsLocation (TheOperation p)) p own → Spares (TheOperation p ∷ []) old new
       → HoldsSoFar IsLocation new whole (operation_under p own ∷ []) root (does.uses own.place own.id parts b)
   uses_at_root p own parts b h came s =
-      let still = holds_still IsLocation old new whole root [] b h s in
+      let still = holds_still IsLocation old new whole root (TheOperation p ∷ []) [] b h (λ o there i. not_new old (TheOperation p) came.is_new o there i) s in
       record {
         are_open = ((refl, refl, operation_opens IsLocation old new whole p own came), nothing_inner IsLocation old new whole new b.unfinished None (Some (TheOperation p)) still.are_open);
         tree = still.tree;
@@ -309,14 +330,15 @@ module _ {T A : Type 0} (IsLocation : ℕ → Location A → Type 0) (old new : 
 
   -- an operation begins in a block
   pub uses_in_block : (r : Ptr Region) (b : Ptr BasicBlock) (ats : List (OpenAt T A)) (p : Ptr Operation) (own : OwnSoFar T A) (parts : List (Part ℕ T A)) (built : Building T A)
-      → HoldsSoFar IsLocation old whole (region_under r (Some b) ∷ ats) root built → OperationCame old new IsLocation p own → BlockGains old new b p → Spares (TheBlock b ∷ []) old new
+      → HoldsSoFar IsLocation old whole (region_under r (Some b) ∷ ats) root built → OperationCame old new (IsLocation (TheOperation p)) p own → BlockGains old new b p → Spares (TheOperation p ∷ TheBlock b ∷ []) old new
       → HoldsSoFar IsLocation new whole (operation_under p own ∷ region_under r (Some b) ∷ ats) root (does.uses own.place own.id parts built)
   uses_in_block r b ats p own parts built h came g s =
       let opens = region_under r (Some b) ∷ ats in
-      let within = first_within (TheBlock b) (TheRegion r ∷ open_objects ats) in
-      let same = whole_spared IsLocation old new whole opens root built h (TheBlock b ∷ []) s within in
+      let but = TheOperation p ∷ TheBlock b ∷ [] in
+      let within = behind_new old (TheOperation p) (TheBlock b) (TheRegion r ∷ open_objects ats) came.is_new in
+      let same = whole_spared IsLocation old new whole opens root built h but s within in
       let apart = apart_head (TheBlock b) (TheRegion r ∷ open_objects ats) h.apart in
-      let others = λ (o : Object) (i : Among o (TheRegion r ∷ open_objects ats)). open_spared IsLocation old new whole opens root built h (TheBlock b ∷ []) s o (inr i) (is_none_of (TheBlock b) o (TheRegion r ∷ open_objects ats) apart i) in
+      let others = λ (o : Object) (i : Among o (TheRegion r ∷ open_objects ats)). open_spared IsLocation old new whole opens root built h but s o (inr i) (not_behind old (TheOperation p) (TheBlock b) o (TheRegion r ∷ open_objects ats) came.is_new apart i (h.open_there o (inr i))) in
       let was = h.open_there (TheBlock b) (inl refl) in
       let there : IsThere new (TheBlock b) = (subst IsSome (sym g.gains) (some_map (with_last_operation p) (block old b) was.0), subst IsSome (sym g.stays) was.1) in
       record {
@@ -325,7 +347,7 @@ module _ {T A : Type 0} (IsLocation : ℕ → Location A → Type 0) (old new : 
           block_gains_open IsLocation old new whole same r b p ats built.unfinished g (others (TheRegion r) (inl refl)) (λ o i. others o (inr i)) h.are_open,
         );
         tree = tree_kept IsLocation old new whole whole (λ o i. i) same root built.tree h.tree;
-        whole_there = whole_stays IsLocation old new whole opens root built h (TheBlock b ∷ []) s within;
+        whole_there = whole_stays IsLocation old new whole opens root built h but s within;
         open_there = besides_there new (TheOperation p) (TheBlock b ∷ TheRegion r ∷ open_objects ats) (subst IsSome (sym came.is) refl)
             (besides_there new (TheBlock b) (TheRegion r ∷ open_objects ats) there (λ o i. there_still old new o (others o i) (h.open_there o (inr i))));
         not_whole = opened_not_whole (TheOperation p) (TheBlock b ∷ TheRegion r ∷ open_objects ats) whole (λ j. came.is_new (h.whole_there (TheOperation p) j)) h.not_whole;
@@ -334,14 +356,15 @@ module _ {T A : Type 0} (IsLocation : ℕ → Location A → Type 0) (old new : 
 
   -- a region begins in an operation
   pub enters_operation : (iso : Bool) (p : Ptr Operation) (own : OwnSoFar T A) (ats : List (OpenAt T A)) (r : Ptr Region) (built : Building T A)
-      → HoldsSoFar IsLocation old whole (operation_under p own ∷ ats) root built → RegionCame old new r → OperationGains old new p r → Spares (TheOperation p ∷ []) old new
+      → HoldsSoFar IsLocation old whole (operation_under p own ∷ ats) root built → RegionCame old new r → OperationGains old new p r → Spares (TheRegion r ∷ TheOperation p ∷ []) old new
       → HoldsSoFar IsLocation new whole (region_under r None ∷ operation_under p own ∷ ats) root (does.enters iso built)
   enters_operation iso p own ats r built h came g s =
       let opens = operation_under p own ∷ ats in
-      let within = first_within (TheOperation p) (open_objects ats) in
-      let same = whole_spared IsLocation old new whole opens root built h (TheOperation p ∷ []) s within in
+      let but = TheRegion r ∷ TheOperation p ∷ [] in
+      let within = behind_new old (TheRegion r) (TheOperation p) (open_objects ats) came.is_new in
+      let same = whole_spared IsLocation old new whole opens root built h but s within in
       let apart = apart_head (TheOperation p) (open_objects ats) h.apart in
-      let others = λ (o : Object) (i : Among o (open_objects ats)). open_spared IsLocation old new whole opens root built h (TheOperation p ∷ []) s o (inr i) (is_none_of (TheOperation p) o (open_objects ats) apart i) in
+      let others = λ (o : Object) (i : Among o (open_objects ats)). open_spared IsLocation old new whole opens root built h but s o (inr i) (not_behind old (TheRegion r) (TheOperation p) o (open_objects ats) came.is_new apart i (h.open_there o (inr i))) in
       let there : IsThere new (TheOperation p) = subst IsSome (sym g.gains) (some_map (with_last_region r) (operation old p) (h.open_there (TheOperation p) (inl refl))) in
       record {
         are_open = (
@@ -349,7 +372,7 @@ module _ {T A : Type 0} (IsLocation : ℕ → Location A → Type 0) (old new : 
           operation_gains_open IsLocation old new whole same p own r ats built.unfinished g others h.are_open,
         );
         tree = tree_kept IsLocation old new whole whole (λ o i. i) same root built.tree h.tree;
-        whole_there = whole_stays IsLocation old new whole opens root built h (TheOperation p ∷ []) s within;
+        whole_there = whole_stays IsLocation old new whole opens root built h but s within;
         open_there = besides_there new (TheRegion r) (TheOperation p ∷ open_objects ats) (subst IsSome (sym came.is) refl)
             (besides_there new (TheOperation p) (open_objects ats) there (λ o i. there_still old new o (others o i) (h.open_there o (inr i))));
         not_whole = opened_not_whole (TheRegion r) (TheOperation p ∷ open_objects ats) whole (λ j. came.is_new (h.whole_there (TheRegion r) j)) h.not_whole;
@@ -358,19 +381,20 @@ module _ {T A : Type 0} (IsLocation : ℕ → Location A → Type 0) (old new : 
 
   -- the first block of a region begins
   pub heads_first : (r : Ptr Region) (ats : List (OpenAt T A)) (b : Ptr BasicBlock) (head : Head ℕ T A) (built : Building T A)
-      → HoldsSoFar IsLocation old whole (region_under r None ∷ ats) root built → BlockCame old new IsLocation b head → RegionGains old new r b → Spares (TheRegion r ∷ []) old new
+      → HoldsSoFar IsLocation old whole (region_under r None ∷ ats) root built → BlockCame old new (IsLocation (TheBlock b)) b head → RegionGains old new r b → Spares (TheBlock b ∷ TheRegion r ∷ []) old new
       → HoldsSoFar IsLocation new whole (region_under r (Some b) ∷ ats) root (does.heads head built)
   heads_first r ats b head built h came g s =
       let opens = region_under r None ∷ ats in
-      let within = first_within (TheRegion r) (open_objects ats) in
-      let same = whole_spared IsLocation old new whole opens root built h (TheRegion r ∷ []) s within in
+      let but = TheBlock b ∷ TheRegion r ∷ [] in
+      let within = behind_new old (TheBlock b) (TheRegion r) (open_objects ats) came.is_new in
+      let same = whole_spared IsLocation old new whole opens root built h but s within in
       let apart = apart_head (TheRegion r) (open_objects ats) h.apart in
-      let others = λ (o : Object) (i : Among o (open_objects ats)). open_spared IsLocation old new whole opens root built h (TheRegion r ∷ []) s o (inr i) (is_none_of (TheRegion r) o (open_objects ats) apart i) in
+      let others = λ (o : Object) (i : Among o (open_objects ats)). open_spared IsLocation old new whole opens root built h but s o (inr i) (not_behind old (TheBlock b) (TheRegion r) o (open_objects ats) came.is_new apart i (h.open_there o (inr i))) in
       let there : IsThere new (TheRegion r) = subst IsSome (sym g.gains) (some_map (with_last_block b) (region old r) (h.open_there (TheRegion r) (inl refl))) in
       record {
         are_open = heads_first_open IsLocation old new whole same r b head ats built.unfinished came g others h.are_open;
         tree = tree_kept IsLocation old new whole whole (λ o i. i) same root built.tree h.tree;
-        whole_there = whole_stays IsLocation old new whole opens root built h (TheRegion r ∷ []) s within;
+        whole_there = whole_stays IsLocation old new whole opens root built h but s within;
         open_there = besides_there new (TheBlock b) (TheRegion r ∷ open_objects ats) (subst IsSome (sym came.is) refl, came.inside)
             (besides_there new (TheRegion r) (open_objects ats) there (λ o i. there_still old new o (others o i) (h.open_there o (inr i))));
         not_whole = opened_not_whole (TheBlock b) (TheRegion r ∷ open_objects ats) whole (λ j. came.is_new (h.whole_there (TheBlock b) j)) h.not_whole;
@@ -379,11 +403,11 @@ module _ {T A : Type 0} (IsLocation : ℕ → Location A → Type 0) (old new : 
 
   -- an operation's own changes
   pub late_operation : (place : ℕ) (id : Id) (piece : Piece ℕ T A) (p : Ptr Operation) (own next : OwnSoFar T A) (ats : List (OpenAt T A)) (built : Building T A)
-      → HoldsSoFar IsLocation old whole (operation_under p own ∷ ats) root built → OwnBecame old new IsLocation p next → next.place ≡ own.place → next.id ≡ own.id → Spares (TheOperation p ∷ []) old new
+      → HoldsSoFar IsLocation old whole (operation_under p own ∷ ats) root built → OwnBecame old new (IsLocation (TheOperation p)) p next → next.place ≡ own.place → next.id ≡ own.id → Spares (TheOperation p ∷ []) old new
       → HoldsSoFar IsLocation new whole (operation_under p next ∷ ats) root (does.late place id piece built)
   late_operation place id piece p own next ats built h became at as_id s =
       let opens = operation_under p own ∷ ats in
-      let within = first_within (TheOperation p) (open_objects ats) in
+      let within = first_within old (TheOperation p) (open_objects ats) in
       let same = whole_spared IsLocation old new whole opens root built h (TheOperation p ∷ []) s within in
       let apart = apart_head (TheOperation p) (open_objects ats) h.apart in
       let others = λ (o : Object) (i : Among o (open_objects ats)). open_spared IsLocation old new whole opens root built h (TheOperation p ∷ []) s o (inr i) (is_none_of (TheOperation p) o (open_objects ats) apart i) in
@@ -398,7 +422,7 @@ module _ {T A : Type 0} (IsLocation : ℕ → Location A → Type 0) (old new : 
 
 -- ---- what ends in a context that does not change
 as_it_is : {T A : Type 0} (c : ContextView T A) (o : Object) → IsAsItWas c c o
-as_it_is c (TheOperation p) = refl
+as_it_is c (TheOperation p) = (refl, record { as_many_operands = refl; as_many_successors = refl })
 as_it_is c (TheBlock b) = (refl, refl)
 as_it_is c (TheRegion r) = refl
 
@@ -408,19 +432,19 @@ block_ended (region_so_far bs last ∷ outer) = region_so_far (whole_blocks bs l
 block_ended others = others
 
 -- it ends where the next begins, and where its region ends
-begins_behind : {T A : Type 0} (head : Head ℕ T A) (us : List (Unfinished T A)) → block_begun head (block_ended us) ≡ block_begun head us
+pub begins_behind : {T A : Type 0} (head : Head ℕ T A) (us : List (Unfinished T A)) → block_begun head (block_ended us) ≡ block_begun head us
 begins_behind head [] = refl
 begins_behind head (region_so_far bs last ∷ us) = refl
 begins_behind head (operation_so_far at id rs ∷ us) = refl
 begins_behind head (but_its_mark o rs ∷ us) = refl
 
-ends_behind : {T A : Type 0} (place : ℕ) (us : List (Unfinished T A)) → region_ended place (block_ended us) ≡ region_ended place us
+pub ends_behind : {T A : Type 0} (place : ℕ) (us : List (Unfinished T A)) → region_ended place (block_ended us) ≡ region_ended place us
 ends_behind place [] = refl
 ends_behind place (region_so_far bs last ∷ us) = refl
 ends_behind place (operation_so_far at id rs ∷ us) = refl
 ends_behind place (but_its_mark o rs ∷ us) = refl
 
-module _ {T A : Type 0} (IsLocation : ℕ → Location A → Type 0) (c : ContextView T A) (whole : List Object) where
+module _ {T A : Type 0} (IsLocation : Object → ℕ → Location A → Type 0) (c : ContextView T A) (whole : List Object) where
   -- one object more is whole
   module _ (k : Object) where
     still_whole : (o : Object) → Among o whole → Among o (k ∷ whole)
@@ -433,7 +457,7 @@ module _ {T A : Type 0} (IsLocation : ℕ → Location A → Type 0) (c : Contex
     block_still b head os inner h = block_kept IsLocation c c whole (k ∷ whole) still_whole (λ o i. as_it_is c o) b head os inner refl h
 
     operation_still : (p : Ptr Operation) (own : OwnSoFar T A) (rs : Regions (Op ℕ T A) (Head ℕ T A) (Brace ℕ)) (inner : Option Object) → OperationIsOpen IsLocation c whole p own rs inner → OperationIsOpen IsLocation c (k ∷ whole) p own rs inner
-    operation_still p own rs inner h = operation_kept IsLocation c c whole (k ∷ whole) still_whole (λ o i. as_it_is c o) p own rs inner refl h
+    operation_still p own rs inner h = operation_kept IsLocation c c whole (k ∷ whole) still_whole (λ o i. as_it_is c o) p own rs inner (as_it_is c (TheOperation p)) h
 
     all_still : (ats : List (OpenAt T A)) (us : List (Unfinished T A)) (inner : Option Object) → AreOpenAt IsLocation c whole ats us inner → AreOpenAt IsLocation c (k ∷ whole) ats us inner
     all_still ats us inner h = all_kept IsLocation c c whole (k ∷ whole) still_whole (λ o i. as_it_is c o) ats us inner (λ o i. as_it_is c o) h
@@ -595,13 +619,13 @@ module _ {T A : Type 0} (IsLocation : ℕ → Location A → Type 0) (c : Contex
           }
 
 -- ---- with the block that is open
-module _ {T A : Type 0} (IsLocation : ℕ → Location A → Type 0) (whole : List Object) (root : Option (Ptr Operation)) (formats : Id → Option Format) where
+module _ {T A : Type 0} (IsLocation : Object → ℕ → Location A → Type 0) (whole : List Object) (root : Option (Ptr Operation)) (formats : Id → Option Format) where
   abbrev builds : Doing T A (Building T A)
   builds = building {T = T} {A = A} formats
 
   -- a block begins behind another, which ends
   pub heads_next : (old new : ContextView T A) (r : Ptr Region) (before : Ptr BasicBlock) (ats : List (OpenAt T A)) (b : Ptr BasicBlock) (head : Head ℕ T A) (built : Building T A)
-      → HoldsSoFar IsLocation old whole (region_under r (Some before) ∷ ats) root built → BlockCame old new IsLocation b head → RegionGains old new r b → Spares (TheRegion r ∷ []) old new
+      → HoldsSoFar IsLocation old whole (region_under r (Some before) ∷ ats) root built → BlockCame old new (IsLocation (TheBlock b)) b head → RegionGains old new r b → Spares (TheBlock b ∷ TheRegion r ∷ []) old new
       → HoldsSoFar IsLocation new (TheBlock before ∷ whole) (region_under r (Some b) ∷ ats) root (builds.heads head built)
   heads_next old new r before ats b head built h came g s =
       subst (λ z. HoldsSoFar IsLocation new (TheBlock before ∷ whole) (region_under r (Some b) ∷ ats) root (record { unfinished = z; tree = built.tree })) (begins_behind head built.unfinished)

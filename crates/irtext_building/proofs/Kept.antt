@@ -14,15 +14,19 @@ use Rattle.irtext_grammar.specs.Grammar.Forest as forest
 use Rattle.irtext_grammar.specs.Grammar.Forest.{Regions, no_regions, Blocks, no_blocks, Operations, no_operations}
 use Rattle.irtext_grammar.specs.Grammar.Tree.{Op, Head, Brace, Tree}
 use Rattle.irtext_building.specs.Building.{Unfinished, operation_so_far, region_so_far, but_its_mark}
-use Rattle.irtext_building.specs.Stands.{OwnSoFar, own_of, RegionsHold, BlocksHold, OperationsHold, OpenAt, operation_under, ended_under, region_under, as_inner, objects_under, open_objects, OperationIsOpen, RegionIsOpen, BlockIsOpen, IsOpenAt, AreOpenAt, TreeHolds, IsThere, IsAsItWas}
+use Rattle.irtext_building.specs.Stands.{OwnSoFar, own_of, HasUses, UsesAsMany, RegionsHold, BlocksHold, OperationsHold, OpenAt, operation_under, ended_under, region_under, as_inner, objects_under, open_objects, OperationIsOpen, RegionIsOpen, BlockIsOpen, IsOpenAt, AreOpenAt, TreeHolds, IsThere, IsAsItWas}
 
 -- where an object is as it was, it is there as it was
 pub there_still : {T A : Type 0} (old new : ContextView T A) (o : Object) → IsAsItWas old new o → IsThere old o → IsThere new o
-there_still old new (TheOperation p) e h = subst IsSome (sym e) h
+there_still old new (TheOperation p) e h = subst IsSome (sym e.0) h
 there_still old new (TheBlock b) e h = (subst IsSome (sym e.0) h.0, subst IsSome (sym e.1) h.1)
 there_still old new (TheRegion r) e h = subst IsSome (sym e) h
 
-module _ {T A : Type 0} (IsLocation : ℕ → Location A → Type 0) (old new : ContextView T A) (whole more : List Object)
+-- where an operation has as many operands and successors as it had, they are as many as they were
+pub uses_kept : {T A : Type 0} (old new : ContextView T A) (p : Ptr Operation) (own : OwnSoFar T A) → UsesAsMany old.graph new.graph p → HasUses old p own → HasUses new p own
+uses_kept old new p own m h = record { operands_are = m.as_many_operands ∙ h.operands_are; successors_are = m.as_many_successors ∙ h.successors_are }
+
+module _ {T A : Type 0} (IsLocation : Object → ℕ → Location A → Type 0) (old new : ContextView T A) (whole more : List Object)
     (wider : (o : Object) → Among o whole → Among o more) (same : (o : Object) → Among o whole → IsAsItWas old new o) where
   mutual
     -- regions that are whole
@@ -46,8 +50,9 @@ module _ {T A : Type 0} (IsLocation : ℕ → Location A → Type 0) (old new : 
     operations_kept [] no_operations h = tt
     operations_kept [] (forest.operation o rs os) h = absurd h
     operations_kept (p ∷ ps) no_operations h = absurd h
-    operations_kept (p ∷ ps) (forest.operation o rs os) (i, (view, e, has, hold), h) =
-        (wider (TheOperation p) i, (view, same (TheOperation p) i ∙ e, has, regions_kept view.regions rs hold), operations_kept ps os h)
+    operations_kept (p ∷ ps) (forest.operation o rs os) (i, (view, e, has, uses, hold), h) =
+        let k = same (TheOperation p) i in
+        (wider (TheOperation p) i, (view, k.0 ∙ e, has, uses_kept old new p (own_of o) k.1 uses, regions_kept view.regions rs hold), operations_kept ps os h)
 
   -- the tree stays held
   pub tree_kept : (root : Option (Ptr Operation)) (t : Option (Tree ℕ T A)) → TreeHolds IsLocation old whole root t → TreeHolds IsLocation new more root t
@@ -58,9 +63,9 @@ module _ {T A : Type 0} (IsLocation : ℕ → Location A → Type 0) (old new : 
 
   -- ---- what is open
   -- an operation
-  pub operation_kept : (p : Ptr Operation) (own : OwnSoFar T A) (rs : Regions (Op ℕ T A) (Head ℕ T A) (Brace ℕ)) (inner : Option Object) → operation new p ≡ operation old p
+  pub operation_kept : (p : Ptr Operation) (own : OwnSoFar T A) (rs : Regions (Op ℕ T A) (Head ℕ T A) (Brace ℕ)) (inner : Option Object) → IsAsItWas old new (TheOperation p)
       → OperationIsOpen IsLocation old whole p own rs inner → OperationIsOpen IsLocation new more p own rs inner
-  operation_kept p own rs inner e h = record { view = h.view; is = e ∙ h.is; has = h.has; done = h.done; regions = h.regions; hold = regions_kept h.done rs h.hold }
+  operation_kept p own rs inner e h = record { view = h.view; is = e.0 ∙ h.is; has = h.has; uses = uses_kept old new p own e.1 h.uses; done = h.done; regions = h.regions; hold = regions_kept h.done rs h.hold }
 
   -- a region
   pub region_kept : (r : Ptr Region) (bs : Blocks (Op ℕ T A) (Head ℕ T A) (Brace ℕ)) (last : List (Ptr BasicBlock)) → region new r ≡ region old r

@@ -66,8 +66,8 @@ block_ptr = record { index = 0; generation = 1; of = record {} }
 abbrev loc_at : ℕ → Location ℕ
 loc_at place = SrcPos InMemory (record { line = cut 1; column = cut place })
 
-abbrev IsLoc : ℕ → Location ℕ → Type 0
-IsLoc place loc = loc ≡ loc_at place
+abbrev IsLoc : Object → ℕ → Location ℕ → Type 0
+IsLoc o place loc = loc ≡ loc_at place
 
 -- a context in which the inner operation stands in the block or not
 abbrev context : List (Ptr Operation) → ContextView ℕ ℕ
@@ -139,9 +139,10 @@ whole_row = (
     _,
     refl,
     record { id = refl; types = refl; entries = refl; location = refl },
+    record { operands_are = refl; successors_are = refl },
     (
       inr (inl refl),
-      (_, refl, (inr (inr (inl refl)), (_, refl, record { label = refl; types = refl; entries = refl; location = refl }, (inr (inr (inr (inl refl))), (_, refl, record { id = refl; types = refl; entries = refl; location = refl }, tt), tt)), tt)),
+      (_, refl, (inr (inr (inl refl)), (_, refl, record { label = refl; types = refl; entries = refl; location = refl }, (inr (inr (inr (inl refl))), (_, refl, record { id = refl; types = refl; entries = refl; location = refl }, record { operands_are = refl; successors_are = refl }, tt), tt)), tt)),
       tt,
     ),
   ),
@@ -150,18 +151,18 @@ whole_row = (
 
 -- where the inner operation is whole but for its mark, all round it is open
 abbrev at_mark : List (OpenAt ℕ ℕ)
-at_mark = ended_under inner_ptr ∷ region_under region_ptr (Some block_ptr) ∷ operation_under outer_ptr (record { place = 25; id = outer_id; types = []; entries = [] }) ∷ []
+at_mark = ended_under inner_ptr ∷ region_under region_ptr (Some block_ptr) ∷ operation_under outer_ptr (record { place = 25; id = outer_id; operands = 0; successors = 0; types = []; entries = [] }) ∷ []
 
 mark_row : AreOpenAt IsLoc (context (inner_ptr ∷ [])) [] at_mark
     (but_its_mark inner_op no_regions ∷ region_so_far no_blocks (Some (head, no_operations)) ∷ operation_so_far 25 outer_id no_regions ∷ []) None
 mark_row = (
-  (refl, record { view = _; is = refl; has = record { id = refl; types = refl; entries = refl; location = refl }; done = []; regions = refl; hold = tt }),
+  (refl, record { view = _; is = refl; has = record { id = refl; types = refl; entries = refl; location = refl }; uses = record { operands_are = refl; successors_are = refl }; done = []; regions = refl; hold = tt }),
   (
     (
       record { view = _; is = refl; done = []; blocks = refl; hold = tt },
       record { view = _; is = refl; has = record { label = refl; types = refl; entries = refl; location = refl }; done = []; operations = refl; hold = tt },
     ),
-    ((refl, refl, record { view = _; is = refl; has = record { id = refl; types = refl; entries = refl; location = refl }; done = []; regions = refl; hold = tt }), tt),
+    ((refl, refl, record { view = _; is = refl; has = record { id = refl; types = refl; entries = refl; location = refl }; uses = record { operands_are = refl; successors_are = refl }; done = []; regions = refl; hold = tt }), tt),
   ),
 )
 

@@ -10,7 +10,7 @@ use Rattle.irtext_graph.specs.declared.object.Region.{Region}
 use Rattle.irtext_graph.specs.declared.object.Object.TheVariants.{TheOperation, TheBlock, TheRegion}
 use Rattle.irtext_graph.specs.Graph.{parent}
 use Rattle.irtext_grammar.specs.Grammar.Tree.{Head}
-use Rattle.irtext_building.specs.Stands.{OwnSoFar, HasOwn, HasHead, IsThere}
+use Rattle.irtext_building.specs.Stands.{OwnSoFar, HasOwn, HasUses, HasHead, IsThere, UsesAsMany}
 
 -- an operation with one more region, the last
 abbrev pub with_last_region : {T A : Type 0} → Ptr Region → OperationView T A → OperationView T A
@@ -35,6 +35,7 @@ module _ {T A : Type 0} (old new : ContextView T A) where
   -- an operation has one more region, the last, and is else as it was
   pub record OperationGains (p : Ptr Operation) (r : Ptr Region) : Type 0 where
     pub gains : operation new p ≡ option_map (with_last_region r) (operation old p)
+    pub uses : UsesAsMany old.graph new.graph p
 
   -- a region has one more block, the last, and is else as it was
   pub record RegionGains (r : Ptr Region) (b : Ptr BasicBlock) : Type 0 where
@@ -52,6 +53,7 @@ module _ {T A : Type 0} (old new : ContextView T A) where
       pub view : OperationView T A
       pub is : operation new p ≡ Some view
       pub has : HasOwn IsLocation view own
+      pub uses : HasUses new p own
       pub regions : view.regions ≡ []
 
     -- a block of this header, without operations, came under a new pointer, and stands in a region
@@ -68,4 +70,5 @@ module _ {T A : Type 0} (old new : ContextView T A) where
       pub view : OperationView T A
       pub is : operation new p ≡ Some view
       pub has : HasOwn IsLocation view own
+      pub uses : HasUses new p own
       pub regions : (was : OperationView T A) → operation old p ≡ Some was → view.regions ≡ was.regions

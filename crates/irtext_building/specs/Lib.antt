@@ -3,3 +3,4 @@ pub mod Both
 pub mod Building
 pub mod Grows
 pub mod Stands
+pub mod Tracks

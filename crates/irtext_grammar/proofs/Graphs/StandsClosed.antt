@@ -6,7 +6,7 @@ use Rattle.std.proofs.lemmas.Bool.Decides.{nat_tests}
 use Rattle.irtext_base.specs.Format as format
 use Rattle.irtext_base.specs.Format.{Format, Directive, operand_places, successor_places, Id}
 use Rattle.irtext_grammar.specs.Spelling.Spellable.{Each}
-use Rattle.irtext_grammar.specs.Grammar.Forest.{Regions, no_regions, region, Blocks, no_blocks, block, Operations, no_operations, operation, MatchRegions, MatchBlocks, MatchOperations, AllRegions, AllBlocks, AllOperations}
+use Rattle.irtext_grammar.specs.Grammar.Forest.{Regions, no_regions, region, Blocks, no_blocks, block, Operations, no_operations, operation, Root, MatchRegions, MatchBlocks, MatchOperations, AllRegions, AllBlocks, AllOperations}
 use Rattle.irtext_grammar.specs.Graphs.Graph.{Graph, GraphOp, GraphBlock, Printing}
 use Rattle.irtext_grammar.specs.Names.Script.{Path, Script, done, does_all}
 use Rattle.irtext_grammar.specs.Names.Scopes as scopes
@@ -15,7 +15,7 @@ use Rattle.irtext_grammar.specs.Names.Acts.{all_of}
 use Rattle.irtext_grammar.specs.Graphs.Build.{BuiltOp, BuiltBlock, Built}
 use Rattle.irtext_grammar.specs.Graphs.Links.{OpLinked, Linked}
 use Rattle.irtext_grammar.specs.Graphs.Closed.{Thing, a_value, a_block, same_thing, uses_of_values, uses_of_blocks, defined_results, defined_arguments, use_if, use_block_if, directives_script, body_script, graph_regions, graph_blocks, graph_operations, graph_script, Closed}
-use Rattle.irtext_grammar.specs.Graphs.Same.{stood_op, stood_regions, stood_blocks, stood_operations, stood}
+use Rattle.irtext_grammar.specs.Graphs.Same.{StoodOp, StoodBlock, OpFound, Found, stood_regions, stood_blocks, stood_operations, stood}
 use Rattle.irtext_grammar.specs.Graphs.StandsFor.{made, Distinct, StandsForOp, StandsForBlock, StandsFor}
 use Rattle.irtext_grammar.specs.Spelling.Writable.{has_region}
 use Rattle.irtext_grammar.proofs.Lists.Fresh.{distinct_fresh}
@@ -111,44 +111,56 @@ module _ {T A : Type 0} (C : Printing T A) (isolated : Id → Bool) where
   abbrev F : Path → Blocks (GraphOp T A) (GraphBlock T A) ⊤ → scopes.Facts Thing
   F p bs = facts same_thing (graph_blocks C isolated p 0 bs)
 
-  module _ {X : Type 0} where
-    operands_sound : (v l : List (Fact Thing)) (o : GraphOp T A) (b : BuiltOp T A X) → StandsForOp (stood_op C isolated v l o) b → OpLinked b → Each (HasValue v l) o.operands
-    operands_sound v l o b s h = values_there v l o.operands (ap (list_all is_some) s.shape.operands ∙ h.0)
+  mutual
+    found_regions : (v : List (Fact Thing)) (p : Path) (j : ℕ) (iso : Bool) (rs : Regions (GraphOp T A) (GraphBlock T A) ⊤) → AllRegions OpFound (λ h. ⊤) (λ r. ⊤) (stood_regions C isolated v p j iso rs) → SoundAll v (graph_regions C isolated p j iso rs)
+    found_regions v p j iso no_regions h = tt
+    found_regions v p j iso (region r bs rs) h =
+        let b = found_blocks (cond iso (F (j ∷ p) bs).values v) (F (j ∷ p) bs).labels (j ∷ p) 0 bs h.1 in (
+          (λ l g a. ((b.0, a.0), each_both (Means same_thing) (meant same_thing (cond iso (F (j ∷ p) bs).values v) (F (j ∷ p) bs).labels (graph_blocks C isolated (j ∷ p) 0 bs)) (meant same_thing v l g) b.1 a.1)),
+          found_regions v p (suc j) iso rs h.2,
+        )
 
-    successors_sound : (v l : List (Fact Thing)) (o : GraphOp T A) (b : BuiltOp T A X) → StandsForOp (stood_op C isolated v l o) b → OpLinked b → Each (HasBlock v l) o.successors
-    successors_sound v l o b s h = blocks_there v l o.successors (ap (list_all is_some) s.shape.successors ∙ h.1)
+    found_blocks : (v l : List (Fact Thing)) (p : Path) (k : ℕ) (bs : Blocks (GraphOp T A) (GraphBlock T A) ⊤) → AllBlocks OpFound (λ h. ⊤) (λ r. ⊤) (stood_blocks C isolated v l p k bs) → Sound v l (graph_blocks C isolated p k bs)
+    found_blocks v l p k no_blocks h = (tt, tt)
+    found_blocks v l p k (block b os bs) h =
+        let r = found_operations v l (k ∷ p) 0 os _ h.1 (found_blocks v l p (suc k) bs h.2) in
+        arguments_sound v l (k ∷ p) 0 b.arguments _ ((tt, r.0), r.1)
+
+    found_operations : (v l : List (Fact Thing)) (p : Path) (i : ℕ) (os : Operations (GraphOp T A) (GraphBlock T A) ⊤) (g : Script Thing ⊤) → AllOperations OpFound (λ h. ⊤) (λ r. ⊤) (stood_operations C isolated v l p i os) → Sound v l g
+        → Sound v l (graph_operations C isolated p i os g)
+    found_operations v l p i no_operations g h a = a
+    found_operations v l p i (operation o rs os) g h a =
+        body_sound v l (C.format_of o.id) (i ∷ p) o _ _ (values_there v l o.operands h.0.0) (blocks_there v l o.successors h.0.1) (found_regions v (i ∷ p) 0 (isolated o.id) rs h.1)
+        (results_sound v l (i ∷ p) 0 o.results _ (found_operations v l p (suc i) os g h.2 a))
+
+  graph_sound : (g : Graph T A) → Found (stood C isolated g) → Sound [] [] (graph_script C isolated g)
+  graph_sound g h =
+      body_sound [] [] (C.format_of g.own.id) [] g.own _ _ (values_there [] [] g.own.operands h.0.0) (blocks_there [] [] g.own.successors h.0.1) (found_regions [] [] 0 (isolated g.own.id) g.regions h.1)
+      (results_sound [] [] [] 0 g.own.results _ (tt, tt))
+
+  -- what stands for a root in which each operand and successor holds something finds each of them
+  module _ {X : Type 0} where
+    own_found : (a : StoodOp T A) (b : BuiltOp T A X) → StandsForOp a b → OpLinked b → OpFound a
+    own_found a b s h = (ap (list_all is_some) s.shape.operands ∙ h.0, ap (list_all is_some) s.shape.successors ∙ h.1)
 
     mutual
-      sound_regions : (v : List (Fact Thing)) (p : Path) (j : ℕ) (iso : Bool) (rs : Regions (GraphOp T A) (GraphBlock T A) ⊤) (cs : Regions (BuiltOp T A X) (BuiltBlock T A X) ⊤)
-          → MatchRegions StandsForOp StandsForBlock (λ r s. ⊤) (stood_regions C isolated v p j iso rs) cs → AllRegions OpLinked (λ h. ⊤) (λ r. ⊤) cs → SoundAll v (graph_regions C isolated p j iso rs)
-      sound_regions v p j iso no_regions cs s h = tt
-      sound_regions v p j iso (region r bs rs) no_regions s h = absurd s
-      sound_regions v p j iso (region r bs rs) (region q cs ds) s h =
-          let b = sound_blocks (cond iso (F (j ∷ p) bs).values v) (F (j ∷ p) bs).labels (j ∷ p) 0 bs cs s.1 h.1 in (
-            (λ l g a. ((b.0, a.0), each_both (Means same_thing) (meant same_thing (cond iso (F (j ∷ p) bs).values v) (F (j ∷ p) bs).labels (graph_blocks C isolated (j ∷ p) 0 bs)) (meant same_thing v l g) b.1 a.1)),
-            sound_regions v p (suc j) iso rs ds s.2 h.2,
-          )
+      regions_found : (rs : Regions (StoodOp T A) (StoodBlock T A) ⊤) (cs : Regions (BuiltOp T A X) (BuiltBlock T A X) ⊤) → MatchRegions StandsForOp StandsForBlock (λ r s. ⊤) rs cs → AllRegions OpLinked (λ h. ⊤) (λ r. ⊤) cs → AllRegions OpFound (λ h. ⊤) (λ r. ⊤) rs
+      regions_found no_regions cs s h = tt
+      regions_found (region r bs rs) no_regions s h = absurd s
+      regions_found (region r bs rs) (region q cs ds) s h = (tt, blocks_found bs cs s.1 h.1, regions_found rs ds s.2 h.2)
 
-      sound_blocks : (v l : List (Fact Thing)) (p : Path) (k : ℕ) (bs : Blocks (GraphOp T A) (GraphBlock T A) ⊤) (cs : Blocks (BuiltOp T A X) (BuiltBlock T A X) ⊤)
-          → MatchBlocks StandsForOp StandsForBlock (λ r s. ⊤) (stood_blocks C isolated v l p k bs) cs → AllBlocks OpLinked (λ h. ⊤) (λ r. ⊤) cs → Sound v l (graph_blocks C isolated p k bs)
-      sound_blocks v l p k no_blocks cs s h = (tt, tt)
-      sound_blocks v l p k (block b os bs) no_blocks s h = absurd s
-      sound_blocks v l p k (block b os bs) (block c xs cs) s h =
-          let r = sound_operations v l (k ∷ p) 0 os xs _ s.1 h.1 (sound_blocks v l p (suc k) bs cs s.2 h.2) in
-          arguments_sound v l (k ∷ p) 0 b.arguments _ ((tt, r.0), r.1)
+      blocks_found : (bs : Blocks (StoodOp T A) (StoodBlock T A) ⊤) (cs : Blocks (BuiltOp T A X) (BuiltBlock T A X) ⊤) → MatchBlocks StandsForOp StandsForBlock (λ r s. ⊤) bs cs → AllBlocks OpLinked (λ h. ⊤) (λ r. ⊤) cs → AllBlocks OpFound (λ h. ⊤) (λ r. ⊤) bs
+      blocks_found no_blocks cs s h = tt
+      blocks_found (block b os bs) no_blocks s h = absurd s
+      blocks_found (block b os bs) (block c xs cs) s h = (tt, operations_found os xs s.1 h.1, blocks_found bs cs s.2 h.2)
 
-      sound_operations : (v l : List (Fact Thing)) (p : Path) (i : ℕ) (os : Operations (GraphOp T A) (GraphBlock T A) ⊤) (xs : Operations (BuiltOp T A X) (BuiltBlock T A X) ⊤) (g : Script Thing ⊤)
-          → MatchOperations StandsForOp StandsForBlock (λ r s. ⊤) (stood_operations C isolated v l p i os) xs → AllOperations OpLinked (λ h. ⊤) (λ r. ⊤) xs → Sound v l g → Sound v l (graph_operations C isolated p i os g)
-      sound_operations v l p i no_operations xs g s h a = a
-      sound_operations v l p i (operation o rs os) no_operations g s h a = absurd s
-      sound_operations v l p i (operation o rs os) (operation b cs xs) g s h a =
-          body_sound v l (C.format_of o.id) (i ∷ p) o _ _ (operands_sound v l o b s.0 h.0) (successors_sound v l o b s.0 h.0) (sound_regions v (i ∷ p) 0 (isolated o.id) rs cs s.1 h.1)
-          (results_sound v l (i ∷ p) 0 o.results _ (sound_operations v l p (suc i) os xs g s.2 h.2 a))
+      operations_found : (os : Operations (StoodOp T A) (StoodBlock T A) ⊤) (xs : Operations (BuiltOp T A X) (BuiltBlock T A X) ⊤) → MatchOperations StandsForOp StandsForBlock (λ r s. ⊤) os xs → AllOperations OpLinked (λ h. ⊤) (λ r. ⊤) xs → AllOperations OpFound (λ h. ⊤) (λ r. ⊤) os
+      operations_found no_operations xs s h = tt
+      operations_found (operation o rs os) no_operations s h = absurd s
+      operations_found (operation o rs os) (operation b cs xs) s h = (own_found o b s.0 h.0, regions_found rs cs s.1 h.1, operations_found os xs s.2 h.2)
 
-    graph_sound : (g : Graph T A) (b : Built T A X) → StandsFor (stood C isolated g) b → Linked b → Sound [] [] (graph_script C isolated g)
-    graph_sound g b s h =
-        body_sound [] [] (C.format_of g.own.id) [] g.own _ _ (operands_sound [] [] g.own b.own s.0 h.0) (successors_sound [] [] g.own b.own s.0 h.0) (sound_regions [] [] 0 (isolated g.own.id) g.regions b.regions s.1 h.1)
-        (results_sound [] [] [] 0 g.own.results _ (tt, tt))
+    root_found : (a : Root (StoodOp T A) (StoodBlock T A) ⊤) (b : Built T A X) → StandsFor a b → Linked b → Found a
+    root_found a b s h = (own_found a.own b.own s.0 h.0, regions_found a.regions b.regions s.1 h.1)
 
   -- ---- a root without results, operands and successors
   abbrev OnlyAll : List (Script Thing ⊤ → Script Thing ⊤) → Type 0
@@ -206,9 +218,14 @@ module _ {T A : Type 0} (C : Printing T A) (isolated : Id → Bool) where
   graph_only g r o s i =
       body_only [] g.own o s (C.format_of g.own.id) _ _ (regions_only [] 0 (isolated g.own.id) g.regions i) (subst (λ z. OnlyRegions (does_all (defined_results [] 0 z) done)) (sym r) tt)
 
-  -- a root that stands for what a tree builds is closed, where each operand and successor holds something
+  -- a root without results, operands and successors is closed, where each operand and successor inside is found in the scopes round it
+  pub found_closed : (g : Graph T A) → Found (stood C isolated g) → Distinct C isolated g
+      → g.own.results ≡ [] → g.own.operands ≡ [] → g.own.successors ≡ [] → (has_region g.regions ≡ true → isolated g.own.id ≡ true) → Closed C isolated g
+  found_closed g h d r o t i =
+      let q = graph_sound g h in
+      outer_clean same_thing thing_symmetric [] [] [] [] [] (graph_script C isolated g) (graph_only g r o t i) q.0 q.1 (distinct_fresh same_thing thing_symmetric (made (graph_script C isolated g)) d)
+
+  -- so is a root that stands for what a tree builds, where each operand and successor holds something
   pub stands_closed : {X : Type 0} (g : Graph T A) (b : Built T A X) → StandsFor (stood C isolated g) b → Linked b → Distinct C isolated g
       → g.own.results ≡ [] → g.own.operands ≡ [] → g.own.successors ≡ [] → (has_region g.regions ≡ true → isolated g.own.id ≡ true) → Closed C isolated g
-  stands_closed g b s h d r o t i =
-      let q = graph_sound g b s h in
-      outer_clean same_thing thing_symmetric [] [] [] [] [] (graph_script C isolated g) (graph_only g r o t i) q.0 q.1 (distinct_fresh same_thing thing_symmetric (made (graph_script C isolated g)) d)
+  stands_closed g b s h d r o t i = found_closed g (root_found (stood C isolated g) b s h) d r o t i

@@ -328,15 +328,22 @@ module _ {T A : Type 0} (C : Printing T A) (isolated : Id → Bool) (given : (v 
 
 -- what is written of a graph that fits can be written
 module _ {T A : Type 0} (C : Printing T A) (isolated : Id → Bool) where
-  -- what is written of a graph that fits can be written and read back, also where regions are left out
+  -- what is written of a graph that fits can be written and read back, also where regions are left out: a number counts the marks that are written
+  pub written_fine_at : (L : Language ⊤ T A) → ((i : Id) → L.format_of i ≡ C.format_of i) → (l : Limit) → (l ≡ None) ⊎ ((f : Text) → L.left_out (codes "{..}" ++ f) f) → (g : Graph T A)
+      → ((v : ℕ) (n : Text) → C.given v ≡ Some n → IsIdentifier n) → ((b : ℕ × ℕ) (n : Text) → C.label b ≡ Some n → IsIdentifier n) → OpHasIdentifiers C g.own → AllRegions (OpHasIdentifiers C) (BlockHasIdentifiers C) (λ r. ⊤) g.regions
+      → marks_in_regions C l g.regions + own_marks C g.own.location (op_outlined C g.own) < 2 ^ 64 → Fit C isolated g → SmallGraph C isolated g → Writable L (written C l g)
+  written_fine_at L e l k g given label its inside h f s =
+      let q = marks_in_regions C l g.regions in (
+        op_fine C isolated given label L e l q 0 g.own g.regions its s.0 f.0 (omega arith),
+        regions_fine C isolated given label L e l 0 g.regions k f.1 inside s.1 (omega arith),
+      )
+
+  -- the same where a number counts all marks
   pub written_fine_under : (L : Language ⊤ T A) → ((i : Id) → L.format_of i ≡ C.format_of i) → (l : Limit) → (l ≡ None) ⊎ ((f : Text) → L.left_out (codes "{..}" ++ f) f) → (g : Graph T A) → HasIdentifiers C g → Fit C isolated g → SmallGraph C isolated g → Writable L (written C l g)
   written_fine_under L e l k g w f s =
-      let q = marks_in_regions C l g.regions in
       let fewer = fewer_in_regions C isolated w.given w.label l g.regions in
-      let h = w.marks in (
-        op_fine C isolated w.given w.label L e l q 0 g.own g.regions w.own s.0 f.0 (omega arith),
-        regions_fine C isolated w.given w.label L e l 0 g.regions k f.1 w.regions s.1 (omega arith),
-      )
+      let h = w.marks in
+      written_fine_at L e l k g w.given w.label w.own w.regions (omega (arith, fewer, h)) f s
 
   -- what is written of a graph that fits can be written and read back
   pub written_fine : (types : Texts T) (owns : Texts A) (g : Graph T A) → HasIdentifiers C g → Fit C isolated g → SmallGraph C isolated g → Writable (unplaced types owns C.format_of) (written C None g)

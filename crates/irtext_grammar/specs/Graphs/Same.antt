@@ -98,6 +98,14 @@ module _ {T A : Type 0} (C : Printing T A) (isolated : Id → Bool) where
   abbrev pub SmallGraph : Graph T A → Type 0
   SmallGraph g = SmallOp g.own × SmallRegions g.regions
 
+-- each operand and each successor of the operation has a place: the scopes round it define it
+abbrev pub OpFound : {T A : Type 0} → StoodOp T A → Type 0
+OpFound o = (list_all is_some o.operands ≡ true) × (list_all is_some o.successors ≡ true)
+
+-- the same of a root and all inside
+abbrev pub Found : {T A : Type 0} → Root (StoodOp T A) (StoodBlock T A) ⊤ → Type 0
+Found r = OpFound r.own × AllRegions OpFound (λ h. ⊤) (λ r. ⊤) r.regions
+
 -- what a location's text is, and which are positions
 pub record Locations (X : Type 0) : Type 0 where
   pub text : X → Text

@@ -13,6 +13,7 @@ use Rattle.irtext_graph.specs.declared.object.Operation.{Operation}
 use Rattle.irtext_base.specs.Paths.{Written}
 use Rattle.irtext_base.specs.declared.parsable.fault.ParseFault.{ParseFault}
 use Rattle.irtext_read.specs.AttrTexts.{attr_at}
+use Rattle.irtext_context.specs.declared.base.item.Item.TheVariants as item
 use Rattle.irtext_state.specs.declared.parsable.state.StateStream.{StateStream}
 use Rattle.irtext_grammar.specs.Names.Acts.{failures_of}
 use Rattle.irtext_grammar.specs.Grammar.Marked.{reads_root}
@@ -85,7 +86,7 @@ module _ {T A U : Type 0} (types : Texts T) (reading : Text → Outcome A) (writ
         resolves = k.resolves;
         moves = r.moves;
         builds = r.builds ∙ ap Some (sym (k.builds (location_of new.state.ctx.now.paths old.state.src (whole old.stream))));
-        marks = r.marks ∙ ap (λ k. noted k op) (sym k.mark);
+        marks = r.marks ∙ ap (λ k. noted k (item.Operation op)) (sym k.mark);
         only = r.only;
       }
 

@@ -12,6 +12,8 @@ use Rattle.irtext_graph.specs.declared.object.Operation.{Operation}
 use Rattle.irtext_graph.proofs.Edited.{edited_closed}
 use Rattle.irtext_context.specs.Context.{ContextView, KeepsOlder, EditsOperation, operation, with_loc}
 use Rattle.irtext_context.proofs.Kept.{kept_closed}
+use Rattle.irtext_context.specs.declared.base.item.Item.{Item}
+use Rattle.irtext_context.specs.declared.base.item.Item.TheVariants as item
 use Rattle.irtext_state.specs.States.{marks_of, same_index}
 use Rattle.irtext_state.specs.declared.parsable.state.StateStream.{StateStream}
 use Rattle.irtext_outcomes.specs.Promises.Section.{is_noted, Applies, AppliesAll, ReadsSection, ReadsWith}
@@ -22,12 +24,13 @@ module _ {T A : Type 0} (mark : ℕ) where
   located_closed op old new l true closed e = edited_closed mark old.graph new.graph op (option_map (with_loc l)) e.graph closed
   located_closed op old new l false closed e = subst (λ (c : ContextView T A). IsClosedBelow mark c.graph) (sym e) closed
 
-  applied_closed : (o : Option (Ptr Operation)) (l : Option (Location A)) (old new : ContextView T A) → IsClosedBelow mark old.graph → Applies o l old new → IsClosedBelow mark new.graph
+  applied_closed : (o : Option Item) (l : Option (Location A)) (old new : ContextView T A) → IsClosedBelow mark old.graph → Applies o l old new → IsClosedBelow mark new.graph
   applied_closed None l old new closed h = subst (λ (c : ContextView T A). IsClosedBelow mark c.graph) (sym h) closed
-  applied_closed (Some p) None old new closed h = subst (λ (c : ContextView T A). IsClosedBelow mark c.graph) (sym h) closed
-  applied_closed (Some p) (Some l) old new closed h = located_closed p old new l (is_some (operation old p)) closed h
+  applied_closed (Some (item.Operation p)) None old new closed h = subst (λ (c : ContextView T A). IsClosedBelow mark c.graph) (sym h) closed
+  applied_closed (Some (item.Block b)) l old new closed h = subst (λ (c : ContextView T A). IsClosedBelow mark c.graph) (sym h) closed
+  applied_closed (Some (item.Operation p)) (Some l) old new closed h = located_closed p old new l (is_some (operation old p)) closed h
 
-  all_closed : (marks : List (ℕ × Ptr Operation)) (es : List (ℕ × Option (Location A))) (old new : ContextView T A) → IsClosedBelow mark old.graph → AppliesAll marks es old new → IsClosedBelow mark new.graph
+  all_closed : (marks : List (ℕ × Item)) (es : List (ℕ × Option (Location A))) (old new : ContextView T A) → IsClosedBelow mark old.graph → AppliesAll marks es old new → IsClosedBelow mark new.graph
   all_closed marks [] old new closed h = subst (λ (c : ContextView T A). IsClosedBelow mark c.graph) (sym h) closed
   all_closed marks (e ∷ es) old new closed (mid, h, k) = applied_closed (lookup (same_index e.0) marks) e.1 mid new (all_closed marks es old mid closed h) k
 

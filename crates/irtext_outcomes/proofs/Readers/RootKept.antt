@@ -12,6 +12,8 @@ use Rattle.irtext_graph.specs.declared.arena.Ptr.{Ptr}
 use Rattle.irtext_graph.specs.declared.object.Operation.{Operation}
 use Rattle.irtext_context.proofs.Contexts.{same-keeps, edits-keeps}
 use Rattle.irtext_context.proofs.Kept.{kept_trans}
+use Rattle.irtext_context.specs.declared.base.item.Item.{Item}
+use Rattle.irtext_context.specs.declared.base.item.Item.TheVariants as item
 use Rattle.irtext_state.specs.States.{marks_of, same_index}
 use Rattle.irtext_state.specs.declared.parsable.state.StateStream.{StateStream}
 use Rattle.irtext_outcomes.specs.Readers.Marks.{noted}
@@ -38,15 +40,17 @@ module _ {T A : Type 0} (mark : ℕ) (op : Ptr Operation) where
   located_kept old new l true none e = edits-keeps mark old new op (with_loc l) none e
   located_kept old new l false none e = same-keeps mark old new e
 
-  applied_kept : (o : Option (Ptr Operation)) (l : Option (Location A)) (old new : ContextView T A) → ((p : Ptr Operation) → o ≡ Some p → p ≡ op) → before mark old.graph.operations op ≡ None → Applies o l old new → KeepsOlder mark old new
+  applied_kept : (o : Option Item) (l : Option (Location A)) (old new : ContextView T A) → ((x : Item) → o ≡ Some x → x ≡ item.Operation op) → before mark old.graph.operations op ≡ None → Applies o l old new → KeepsOlder mark old new
   applied_kept None l old new same none h = same-keeps mark old new h
-  applied_kept (Some p) None old new same none h = same-keeps mark old new h
-  applied_kept (Some p) (Some l) old new same none h =
-      let at : p ≡ op = same p refl in
+  applied_kept (Some (item.Operation p)) None old new same none h = same-keeps mark old new h
+  applied_kept (Some (item.Block b)) l old new same none h = same-keeps mark old new h
+  applied_kept (Some (item.Operation p)) (Some l) old new same none h =
+      let is = same (item.Operation p) refl in
+      let at : p ≡ op = cc is in
       located_kept old new l (is_some (operation old op)) none (subst (λ p. cond (is_some (operation old p)) (EditsOperation old new p (with_loc l)) (new ≡ old)) at h)
 
   -- entries that are applied to an operation that is no older leave what is older
-  all_kept : (marks : List (ℕ × Ptr Operation)) (es : List (ℕ × Option (Location A))) (old new : ContextView T A) → AreOf op marks → before mark old.graph.operations op ≡ None → AppliesAll marks es old new → KeepsOlder mark old new
+  all_kept : (marks : List (ℕ × Item)) (es : List (ℕ × Option (Location A))) (old new : ContextView T A) → AreOf (item.Operation op) marks → before mark old.graph.operations op ≡ None → AppliesAll marks es old new → KeepsOlder mark old new
   all_kept marks [] old new same none h = same-keeps mark old new h
   all_kept marks (e ∷ es) old new same none (mid, h, k) =
       let first = all_kept marks es old mid same none h in
@@ -64,5 +68,5 @@ root_kept attr look {op} {old} {new} mark fresh w k = go (look && is_noted (mark
     go true q =
         let paths = adds_kept mark q.adds in
         let marks = marks_are attr op old w.mid w.mid fresh w.operation in
-        kept_trans k (kept_trans paths (all_kept mark op (marks_of w.mid.state) q.entries q.middle new.state.ctx.now (subst (AreOf op) (sym marks) (noted_alone w.operation.read.mark op)) (paths.graph.operations op ∙ none) q.applied))
+        kept_trans k (kept_trans paths (all_kept mark op (marks_of w.mid.state) q.entries q.middle new.state.ctx.now (subst (AreOf (item.Operation op)) (sym marks) (noted_alone w.operation.read.mark (item.Operation op))) (paths.graph.operations op ∙ none) q.applied))
     go false same = subst (λ s. KeepsOlder mark old.state.ctx.now s.state.ctx.now) (sym same) k

@@ -25,6 +25,8 @@ use Rattle.irtext_base.specs.declared.location.Location.{Location, SrcPos}
 use Rattle.irtext_base.specs.declared.parsable.fault.ParseFault.{ParseFault}
 use Rattle.irtext_context.proofs.Contexts.{same-paths, with_region, made_seen, edited_seen, grown_seen, region_seen, same_region_seen}
 use Rattle.irtext_base.proofs.Numbers.{same_character}
+use Rattle.irtext_context.specs.declared.base.item.Item.{Item}
+use Rattle.irtext_context.specs.declared.base.item.Item.TheVariants as item
 use Rattle.irtext_state.specs.States.{marks_of, same_index, LocatesAt}
 use Rattle.irtext_state.specs.declared.parsable.state.StateStream.{StateStream}
 use Rattle.irtext_grammar.specs.Grammar.Forest.{no_blocks}
@@ -245,16 +247,16 @@ bare_count (r ∷ rs) = ap (forest.region tt no_blocks) (bare_count rs)
 module _ {T A : Type 0} (attr : Text → Outcome (AttrView A)) where
   -- an operation's location behind its section is its entry's, else the one that it had
   applied_stands : {old mid new : ContextView T A} {op : Ptr Operation} (i : ℕ) (view : OperationView T A) (paths : List (List ℕ)) (es : List (ℕ × Option (Location A))) (text rest : Text) → Entries attr (i ∷ []) [] (entries_over paths es) text rest
-      → Stood old mid op view → AppliesAll ((i, op) ∷ []) es mid new → Stood old new op (with_location (location_given view.loc es) view)
+      → Stood old mid op view → AppliesAll ((i, item.Operation op) ∷ []) es mid new → Stood old new op (with_location (location_given view.loc es) view)
   applied_stands {old = old} {mid = mid} {new = new} {op = op} i view paths [] text rest h s a = subst (λ c. Stood old c op view) (sym a) s
   applied_stands {old = old} {op = op} i view paths (e ∷ (f ∷ es)) text rest h s a = absurd (no_second attr i (entry_over paths e) (entry_over paths f) (entries_over paths es) text rest h)
   applied_stands {old = old} {mid = mid} {new = new} {op = op} i view paths ((j, l) ∷ []) text rest h s (c, same, a) =
-      go l (subst (λ o. Applies o l mid new) found (subst (λ c. Applies (lookup (same_index j) ((i, op) ∷ [])) l c new) same a))
+      go l (subst (λ o. Applies o l mid new) found (subst (λ c. Applies (lookup (same_index j) ((i, item.Operation op) ∷ [])) l c new) same a))
     where
-      found : lookup (same_index j) ((i, op) ∷ []) ≡ Some op
+      found : lookup (same_index j) ((i, item.Operation op) ∷ []) ≡ Some (item.Operation op)
       found = rw (first_is attr i (j, given_over paths l) [] text rest h) refl
 
-      go : (l : Option (Location A)) → Applies (Some op) l mid new → Stood old new op (with_location (location_given view.loc ((j, l) ∷ [])) view)
+      go : (l : Option (Location A)) → Applies (Some (item.Operation op)) l mid new → Stood old new op (with_location (location_given view.loc ((j, l) ∷ [])) view)
       go None a = subst (λ c. Stood old c op view) (sym a) s
       go (Some l) a = located_stands l s a
 
@@ -263,12 +265,13 @@ module _ {T A : Type 0} (attr : Text → Outcome (AttrView A)) where
   located_paths old new op l true h = h.paths
   located_paths old new op l false h = ap (λ c. c.paths) h
 
-  applied_one : (o : Option (Ptr Operation)) (l : Option (Location A)) (old new : ContextView T A) → Applies o l old new → new.paths ≡ old.paths
-  applied_one (Some op) (Some l) old new h = located_paths old new op l (is_some (operation old op)) h
-  applied_one (Some op) None old new h = ap (λ c. c.paths) h
+  applied_one : (o : Option Item) (l : Option (Location A)) (old new : ContextView T A) → Applies o l old new → new.paths ≡ old.paths
+  applied_one (Some (item.Operation op)) (Some l) old new h = located_paths old new op l (is_some (operation old op)) h
+  applied_one (Some (item.Operation op)) None old new h = ap (λ c. c.paths) h
+  applied_one (Some (item.Block b)) l old new h = ap (λ c. c.paths) h
   applied_one None l old new h = ap (λ c. c.paths) h
 
-  applied_paths : (marks : List (ℕ × Ptr Operation)) (es : List (ℕ × Option (Location A))) (old new : ContextView T A) → AppliesAll marks es old new → new.paths ≡ old.paths
+  applied_paths : (marks : List (ℕ × Item)) (es : List (ℕ × Option (Location A))) (old new : ContextView T A) → AppliesAll marks es old new → new.paths ≡ old.paths
   applied_paths marks [] old new h = ap (λ c. c.paths) h
   applied_paths marks (e ∷ es) old new (mid, h, k) = applied_one (lookup (same_index e.0) marks) e.1 mid new k ∙ applied_paths marks es old mid h
 
@@ -312,11 +315,11 @@ module _ {T A U : Type 0} (attr : Text → Outcome (AttrView A)) (op : Ptr Opera
 
   -- the operation that was read
   operation_is : root_at old.state.ctx.now.dialects attr old.stream.rest ≡ Read r.read taken mid.stream.rest
-  operation_is = ap (λ mark. operation_by old.state.ctx.now.dialects attr mark old.stream.rest) (sym (mark_alone (Ptr Operation))) ∙ (ap (λ ms. operation_at old.state.ctx.now.dialects attr ms old.stream.rest) (sym fresh.marks) ∙ (may_answered r.reads).is)
+  operation_is = ap (λ mark. operation_by old.state.ctx.now.dialects attr mark old.stream.rest) (sym (mark_alone Item)) ∙ (ap (λ ms. operation_at old.state.ctx.now.dialects attr ms old.stream.rest) (sym fresh.marks) ∙ (may_answered r.reads).is)
 
   -- its mark alone is noted
-  pub marks_are : marks_of mid.state ≡ noted r.read.mark op
-  marks_are = r.marks ∙ ap (λ ms. ms ++ noted r.read.mark op) fresh.marks
+  pub marks_are : marks_of mid.state ≡ noted r.read.mark (item.Operation op)
+  marks_are = r.marks ∙ ap (λ ms. ms ++ noted r.read.mark (item.Operation op)) fresh.marks
 
   operation_stands : WithRegions r.read.pieces.regions old.state.ctx.now mid.state.ctx.now op (made_view (held_of r.id r.attributes loc) [])
   operation_stands = regions_stand r.read.pieces.regions refl (made_stands (held_of r.id r.attributes loc) r.makes.makes) r.makes.adds
@@ -348,14 +351,14 @@ module _ {T A U : Type 0} (attr : Text → Outcome (AttrView A)) (op : Ptr Opera
         only = stood_alone s;
       }
 
-  by_mark : (k : Option ℕ) → r.read.mark ≡ k → cond (is_noted (noted k op)) (ReadsSection attr mid new) (new ≡ mid) → marks_of mid.state ≡ noted k op → ReadsRoot attr op old new
+  by_mark : (k : Option ℕ) → r.read.mark ≡ k → cond (is_noted (noted k (item.Operation op))) (ReadsSection attr mid new) (new ≡ mid) → marks_of mid.state ≡ noted k (item.Operation op) → ReadsRoot attr op old new
   by_mark None e same marks =
       root_with [] (subst (λ k. SectionStands attr k [] mid.stream.rest new.stream.rest) (sym e) (ap (λ s. s.stream.rest) same)) (subst (λ s. Moves mid.stream s.stream) (sym same) (moves_none mid.stream)) (ap (λ s. marks_of s.state) same ∙ marks)
       (subst (λ s. Stood old.state.ctx.now s.state.ctx.now op (view_at loc)) (sym same) operation_stands.stood)
   by_mark (Some i) e q marks =
       let all : AllEntries attr (i ∷ []) (entries_over q.middle.paths q.entries) q.behind new.stream.rest = subst (λ ms. AllEntries attr (indices_of ms) (entries_over q.middle.paths q.entries) q.behind new.stream.rest) marks q.stand in
       let applied = subst (λ ms. AppliesAll ms q.entries q.middle new.state.ctx.now) marks q.applied in
-      let same : q.middle.paths ≡ new.state.ctx.now.paths = sym (applied_paths attr ((i, op) ∷ []) q.entries q.middle new.state.ctx.now applied) in
+      let same : q.middle.paths ≡ new.state.ctx.now.paths = sym (applied_paths attr ((i, item.Operation op) ∷ []) q.entries q.middle new.state.ctx.now applied) in
       root_with q.entries (subst (λ k. SectionStands attr k (entries_over new.state.ctx.now.paths q.entries) mid.stream.rest new.stream.rest) (sym e)
       (q.heading, q.behind, q.head, subst (λ p. AllEntries attr (i ∷ []) (entries_over p q.entries) q.behind new.stream.rest) same all)) q.moves q.fresh
       (applied_stands attr i (view_at loc) q.middle.paths q.entries q.behind new.stream.rest all.0 (pathed_stands operation_stands.stood q.adds) applied)
@@ -379,7 +382,7 @@ module _ {T A U : Type 0} (attr : Text → Outcome (AttrView A)) (op : Ptr Opera
       }
 
   -- a refusal of the section behind the operation refuses the root
-  refused_behind : {fault : ParseFault A} (k : Option ℕ) → r.read.mark ≡ k → is_noted (noted k op) ≡ true → marks_of mid.state ≡ noted k op → Reports true (SectionRefused attr (indices_of (marks_of mid.state)) mid.stream.rest) mid.stream fault
+  refused_behind : {fault : ParseFault A} (k : Option ℕ) → r.read.mark ≡ k → is_noted (noted k (item.Operation op)) ≡ true → marks_of mid.state ≡ noted k (item.Operation op) → Reports true (SectionRefused attr (indices_of (marks_of mid.state)) mid.stream.rest) mid.stream fault
       → Reports (is_committed (root_at old.state.ctx.now.dialects attr old.stream.rest)) (RootRefused old.state.ctx.now.dialects attr old.stream.rest) old.stream fault
   refused_behind None e h marks f = absurd (true≢false (sym h))
   refused_behind {fault = fault} (Some i) e h marks f =
@@ -401,7 +404,7 @@ module _ {T A U : Type 0} (attr : Text → Outcome (AttrView A)) {old : StateStr
   pub tree_misses : {fault : ParseFault A} → IsFresh old → MissesWith attr false old fault
       → Reports (is_committed (root_at old.state.ctx.now.dialects attr old.stream.rest)) (OperationRefused old.state.ctx.now.dialects attr mark_at old.stream.rest) old.stream fault
   tree_misses {fault = fault} fresh (no_operation f) =
-      let same = ap (λ ms. fresh_mark_at ms) fresh.marks ∙ mark_alone (Ptr Operation) in
+      let same = ap (λ ms. fresh_mark_at ms) fresh.marks ∙ mark_alone Item in
       subst (λ mark. Reports (is_committed (operation_by old.state.ctx.now.dialects attr mark old.stream.rest)) (OperationRefused old.state.ctx.now.dialects attr mark old.stream.rest) old.stream fault) same f
   tree_misses fresh (no_section op mid r h f) = absurd (true≢false (sym h))
 
@@ -409,7 +412,7 @@ module _ {T A U : Type 0} (attr : Text → Outcome (AttrView A)) {old : StateStr
   pub root_misses : {fault : ParseFault A} → IsFresh old → MissesWith attr true old fault → Reports (is_committed (root_at old.state.ctx.now.dialects attr old.stream.rest)) (RootRefused old.state.ctx.now.dialects attr old.stream.rest) old.stream fault
   root_misses {fault = fault} fresh (no_operation f) =
       let dialects = old.state.ctx.now.dialects in
-      let same = ap (λ ms. fresh_mark_at ms) fresh.marks ∙ mark_alone (Ptr Operation) in
+      let same = ap (λ ms. fresh_mark_at ms) fresh.marks ∙ mark_alone Item in
       subst (λ mark. Reports (is_committed (operation_by dialects attr mark old.stream.rest)) (RootRefused dialects attr old.stream.rest) old.stream fault) same (reports_as (OperationRefused dialects attr (fresh_mark_at (marks_of old.state)) old.stream.rest) (RootRefused dialects attr old.stream.rest)
       (λ cause upto q. so_far.no_operation (subst (λ mark. OperationRefused dialects attr mark old.stream.rest cause upto) same q)) f)
   root_misses fresh (no_section op mid r h f) =

@@ -8,13 +8,13 @@ use Rattle.irtext_base.specs.Reading.{the}
 use Rattle.irtext_base.specs.Format.{has}
 use Rattle.irtext_base.specs.Answers.{Outcome, Read}
 use Rattle.irtext_context.specs.Context.{ContextView}
+use Rattle.irtext_context.specs.declared.base.item.Item.{Item}
 use Rattle.irtext_base.specs.Paths.{KeepsPaths, Written}
 use Rattle.irtext_base.specs.Stream.{StreamView}
-use Rattle.irtext_graph.specs.declared.arena.Ptr.{Ptr}
-use Rattle.irtext_graph.specs.declared.object.Operation.{Operation}
 use Rattle.irtext_base.specs.Locations.{AttrView, location_view}
 use Rattle.irtext_base.specs.declared.location.Location.{Location}
 use Rattle.irtext_base.specs.declared.parsable.fault.ParseFault.{ParseFault}
+use Rattle.irtext_context.specs.declared.base.item.Item.{Item}
 use Rattle.irtext_state.specs.States.{same_index, Notes}
 use Rattle.irtext_outcomes.specs.Readers.Parts.{index_at}
 use Rattle.irtext_outcomes.specs.Readers.Marks.{may_follow}
@@ -180,7 +180,7 @@ module _ {A X : Type 0} (attr : Text → Outcome (AttrView A)) (marks : List (�
       (λ cause upto r. record { before = entries_over paths es; stop = mid.rest; stand = e; more = b; taken = h.taken; splits = h.takes.same; last = upto; refused = subst (λ o. RefusedAs o cause upto) (follow_over paths es mid.rest) r; whole = refl }) f
 
 -- ---- entries applied, the last first
-module _ {T A : Type 0} (marks : List (ℕ × Ptr Operation)) where
+module _ {T A : Type 0} (marks : List (ℕ × Item)) where
   -- the last of the entries is applied before the others
   pub applies_last : (es : List (ℕ × Option (Location A))) (e : ℕ × Option (Location A)) (old mid new : ContextView T A) → Applies (lookup (same_index e.0) marks) e.1 old mid → AppliesAll marks es mid new → AppliesAll marks (es ++ (e ∷ [])) old new
   applies_last [] e old mid new h k = (old, refl, subst (λ z. Applies (lookup (same_index e.0) marks) e.1 old z) (sym k) h)

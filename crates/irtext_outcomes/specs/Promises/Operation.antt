@@ -7,6 +7,7 @@ use Rattle.irtext_context.specs.Dialects.{Table}
 use Rattle.irtext_base.specs.Faults.{id_of}
 use Rattle.irtext_base.specs.Locations.{AttrView}
 use Rattle.irtext_context.specs.Made.{AddsRegions}
+use Rattle.irtext_context.specs.declared.base.item.Item.TheVariants as item
 use Rattle.irtext_graph.specs.declared.arena.Ptr.{Ptr}
 use Rattle.irtext_base.specs.declared.base.attributes.AttrObj.{AttrObj}
 use Rattle.irtext_base.specs.declared.base.identifier.OpId.{OpId}
@@ -45,7 +46,7 @@ module _ {T A U : Type 0} where
     pub loc : Location A
     pub located : LocatesAt old.state.src old.stream.passed loc
     pub makes : MakesWith id attributes loc read.pieces.regions op old.state.ctx.now new.state.ctx.now
-    pub marks : marks_of new.state ≡ marks_of old.state ++ noted read.mark op
+    pub marks : marks_of new.state ≡ marks_of old.state ++ noted read.mark (item.Operation op)
 
   -- no operation is read where the stream stood
   abbrev pub MissesOperation : (Text → Outcome (AttrView A)) → StateStream T A U → ParseFault A → StateStream T A U → Type 0

@@ -8,6 +8,7 @@ use Rattle.irtext_base.specs.Faults as fault
 use Rattle.irtext_base.specs.Answers.{Outcome, Read}
 use Rattle.irtext_context.specs.Dialects.{Table}
 use Rattle.irtext_context.specs.Context.{ContextView, operation, region, regions_in}
+use Rattle.irtext_context.specs.declared.base.item.Item.TheVariants as item
 use Rattle.irtext_graph.specs.Store.{get}
 use Rattle.irtext_base.specs.Paths.{KeepsPaths, Written, path_of}
 use Rattle.irtext_graph.specs.declared.arena.Ptr.{Ptr}
@@ -83,7 +84,7 @@ module _ {T A U : Type 0} where
     pub accepted : IsAccepted old.state.ctx.now.dialects m.id
     pub moves : Moves old.stream new.stream
     pub builds : held_root new.state.ctx.now op ≡ Some (operation_built m.id m.pieces (location_of new.state.ctx.now.paths old.state.src (whole old.stream) (length old.stream.rest)))
-    pub marks : marks_of new.state ≡ noted m.mark op
+    pub marks : marks_of new.state ≡ noted m.mark (item.Operation op)
     pub only : OnlyNew op old.state.ctx.now new.state.ctx.now
 
 -- the cause that the readers answer for this failure; the others are not met so far
@@ -162,7 +163,7 @@ module _ {T A U : Type 0} (types : Texts T) (owns : Texts A) (attr : Text → Ou
     pub resolves : failures_of {X = Written A} (isolated old.state.ctx.now.dialects) tree [] ≡ []
     pub moves : Moves old.stream new.stream
     pub builds : held_root new.state.ctx.now op ≡ Some (build (isolated old.state.ctx.now.dialects) (location_of new.state.ctx.now.paths old.state.src (whole old.stream)) [] tree)
-    pub marks : marks_of new.state ≡ noted (index_of tree.own.mark) op
+    pub marks : marks_of new.state ≡ noted (index_of tree.own.mark) (item.Operation op)
     pub only : OnlyNew op old.state.ctx.now new.state.ctx.now
 
   -- the one with its section, where that is looked for, or the other without it

@@ -7,6 +7,8 @@ use Rattle.irtext_base.specs.Stream.{StreamView, IsAt}
 use Rattle.irtext_base.specs.Faults.{Fault, Memory, NotIsolated, fault_of}
 use Rattle.irtext_base.specs.Answers.{Outcome, Read, Takes}
 use Rattle.irtext_context.specs.Context.{ContextView, EditsOperation, operation, with_loc}
+use Rattle.irtext_context.specs.declared.base.item.Item.{Item}
+use Rattle.irtext_context.specs.declared.base.item.Item.TheVariants as item
 use Rattle.irtext_graph.specs.declared.arena.Ptr.{Ptr}
 use Rattle.irtext_graph.specs.declared.object.Operation.{Operation}
 use Rattle.irtext_base.specs.declared.location.Location.{Location}
@@ -105,13 +107,14 @@ module _ {T A : Type 0} where
   Locates op location old new = cond (is_some (operation old op)) (EditsOperation old new op (with_loc location)) (new ≡ old)
 
   -- the operation that is marked has the location that its entry gives, if it gives one
-  abbrev pub Applies : Option (Ptr Operation) → Option (Location A) → ContextView T A → ContextView T A → Type 0
-  Applies (Some op) (Some location) old new = Locates op location old new
-  Applies (Some op) None old new = new ≡ old
+  abbrev pub Applies : Option Item → Option (Location A) → ContextView T A → ContextView T A → Type 0
+  Applies (Some (item.Operation op)) (Some location) old new = Locates op location old new
+  Applies (Some (item.Operation op)) None old new = new ≡ old
+  Applies (Some (item.Block block)) location old new = new ≡ old
   Applies None location old new = new ≡ old
 
   -- each entry does so for the operation of its mark, the last one first
-  abbrev pub AppliesAll : List (ℕ × Ptr Operation) → List (ℕ × Option (Location A)) → ContextView T A → ContextView T A → Type 0
+  abbrev pub AppliesAll : List (ℕ × Item) → List (ℕ × Option (Location A)) → ContextView T A → ContextView T A → Type 0
   AppliesAll marks [] old new = new ≡ old
   AppliesAll marks (e ∷ es) old new = (mid : ContextView T A) × AppliesAll marks es old mid × Applies (lookup (same_index e.0) marks) e.1 mid new
 

@@ -1,0 +1,20 @@
+pub mod Depths
+pub mod Paths
+pub mod Located
+pub mod Occurs
+pub mod Equal
+pub mod Given
+pub mod LinksSame
+pub mod Builds
+pub mod Ages
+pub mod News
+pub mod Refuses
+pub mod Kept
+pub mod WithSection
+pub mod Behind
+pub mod Root
+pub mod Alone
+pub mod Blanks
+pub mod Shapes
+pub mod Uses
+mod Rows

@@ -1,0 +1,204 @@
+-- Where a forest of pointers is that of a tree, each item stands at its path, and what a reading has made stands for the places that
+-- pointers show.
+use Rattle.std.proofs.Common.{◌≡◌, ◌∙◌, ◌⊎◌, ℕ, suc, List, [], ◌∷◌, ◌++◌, Option, Some, None, option_map, refl, sym, ap, subst, inl, inr}
+use Rattle.std.specs.Prelude.{⊤}
+use Rattle.irtext_base.specs.declared.location.Location.{Location}
+use Rattle.irtext_context.specs.Context.{ContextView}
+use Rattle.irtext_graph.specs.declared.arena.Ptr.{Ptr}
+use Rattle.irtext_graph.specs.declared.object.Operation.{Operation}
+use Rattle.irtext_graph.specs.declared.object.BasicBlock.{BasicBlock}
+use Rattle.irtext_graph.specs.declared.object.Region.{Region}
+use Rattle.irtext_graph.specs.declared.object.Object.{Object}
+use Rattle.irtext_graph.specs.declared.object.Object.TheVariants.{TheOperation, TheBlock, TheRegion}
+use Rattle.irtext_graph.specs.declared.object.Value.{Value}
+use Rattle.irtext_graph.specs.declared.object.Value.TheVariants.{Result, Argument}
+use Rattle.irtext_graph.specs.declared.object.Defined.{Defined}
+use Rattle.irtext_graph.specs.declared.object.Defined.TheVariants.{OfValue, OfBlock}
+use Rattle.irtext_graph.specs.declared.object.Site.{Site}
+use Rattle.irtext_graph.specs.declared.object.Site.TheVariants.{AtOperand, AtSuccessor}
+use Rattle.irtext_graph.specs.Chained.{Among}
+use Rattle.irtext_graph.specs.Graph.{GraphView}
+use Rattle.irtext_graph.specs.Used.{used_at}
+use Rattle.irtext_grammar.specs.Grammar.Forest as forest
+use Rattle.irtext_grammar.specs.Grammar.Forest.{Regions, no_regions, Blocks, no_blocks, Operations, no_operations, Root}
+use Rattle.irtext_grammar.specs.Grammar.Tree.{Op, Head, Brace, Tree}
+use Rattle.irtext_grammar.specs.Spelling.Spellable.{Each}
+use Rattle.irtext_grammar.specs.Names.Script.{Path, Place, result, argument, block_at, User, operand, successor}
+use Rattle.irtext_grammar.specs.Names.History.{State}
+use Rattle.irtext_grammar.proofs.Lists.Each.{each_left, each_right}
+use Rattle.irtext_scopes.specs.declared.tracker.NameTracker.{NameTracker}
+use Rattle.irtext_nesting.specs.Naming.{paths_in_regions, paths_in_blocks, paths_in_operations, Names}
+use Rattle.irtext_building.specs.Tracks.{Made}
+use Rattle.irtext_names.specs.Linked.{Known, StandsAt, Became, Holds}
+use Rattle.irtext_names.specs.OfItems.{IsValueOf, IsBlockOf, IsSiteOf, AreOf}
+use Rattle.irtext_names.proofs.Linked.Moving.{among_split}
+use Rattle.irtext_promises.specs.Held.{PtrRegions, PtrBlocks, PtrOperations, placed_regions, placed_blocks, placed_operations, placed_under, path_of, value_place, block_place, defined_place}
+use Rattle.irtext_promises.specs.Placed.{RegionsAre, BlocksAre, OperationsAre, RootIs}
+use Rattle.irtext_promises.proofs.Paths.{once_under, path_found}
+
+module _ {T A : Type 0} (L : ℕ → Location A → Type 0) (c : ContextView T A) (items : Made) (path : ℕ → Path) where
+  -- an operation or a block is an item whose path this is
+  abbrev pub IsPlaced : Object → Path → Type 0
+  IsPlaced (TheOperation p) q = (n : ℕ) × Among (n, TheOperation p) items × (path n ≡ q)
+  IsPlaced (TheBlock b) q = (n : ℕ) × Among (n, TheBlock b) items × (path n ≡ q)
+  IsPlaced (TheRegion r) q = ⊤
+
+  abbrev Said : List (ℕ × Path) → Type 0
+  Said xs = Each (λ item. path item.0 ≡ item.1) xs
+
+  -- each of a list is
+  record ArePlaced (xs : List (Object × Path)) : Type 0 where
+    each : (o : Object) (q : Path) → Among (o, q) xs → IsPlaced o q
+
+  placed_node : (o : Object) (q : Path) (inner next : List (Object × Path)) → IsPlaced o q → ArePlaced inner → ArePlaced next → ArePlaced ((o, q) ∷ (inner ++ next))
+  placed_node o q inner next h x y = record {
+    each = λ k r i. elim i [
+      | inl e ↦ subst (λ (z : Object × Path). IsPlaced z.0 z.1) (sym e) h
+      | inr j ↦ elim (among_split (k, r) inner next j) [ inl a ↦ x.each k r a | inr a ↦ y.each k r a ]
+    ];
+  }
+
+  mutual
+    regions_placed : (p : Path) (j : ℕ) (ps : PtrRegions) (rs : Regions (Op ℕ T A) (Head ℕ T A) (Brace ℕ)) → Said (paths_in_regions p j rs) → RegionsAre L c items ps rs → ArePlaced (placed_regions p j ps)
+    regions_placed p j no_regions no_regions s h = record { each = λ o q i. absurd i }
+    regions_placed p j no_regions (forest.region brace hs rs) s h = absurd h
+    regions_placed p j (forest.region r bs ps) no_regions s h = absurd h
+    regions_placed p j (forest.region r bs ps) (forest.region brace hs rs) s (at, k, h) =
+        let Q = λ (item : ℕ × Path). path item.0 ≡ item.1 in
+        placed_node (TheRegion r) (j ∷ p) (placed_blocks (j ∷ p) 0 bs) (placed_regions p (suc j) ps) tt
+        (blocks_placed (j ∷ p) 0 bs hs (each_left Q (paths_in_blocks (j ∷ p) 0 hs) (paths_in_regions p (suc j) rs) s) k)
+        (regions_placed p (suc j) ps rs (each_right Q (paths_in_blocks (j ∷ p) 0 hs) (paths_in_regions p (suc j) rs) s) h)
+
+    blocks_placed : (p : Path) (j : ℕ) (ps : PtrBlocks) (bs : Blocks (Op ℕ T A) (Head ℕ T A) (Brace ℕ)) → Said (paths_in_blocks p j bs) → BlocksAre L c items ps bs → ArePlaced (placed_blocks p j ps)
+    blocks_placed p j no_blocks no_blocks s h = record { each = λ o q i. absurd i }
+    blocks_placed p j no_blocks (forest.block head os bs) s h = absurd h
+    blocks_placed p j (forest.block b qs ps) no_blocks s h = absurd h
+    blocks_placed p j (forest.block b qs ps) (forest.block head os bs) s (at, k, h) =
+        let Q = λ (item : ℕ × Path). path item.0 ≡ item.1 in
+        placed_node (TheBlock b) (j ∷ p) (placed_operations (j ∷ p) 0 qs) (placed_blocks p (suc j) ps) (head.label.place, at.item, s.0)
+        (operations_placed (j ∷ p) 0 qs os (each_left Q (paths_in_operations (j ∷ p) 0 os) (paths_in_blocks p (suc j) bs) s.1) k)
+        (blocks_placed p (suc j) ps bs (each_right Q (paths_in_operations (j ∷ p) 0 os) (paths_in_blocks p (suc j) bs) s.1) h)
+
+    operations_placed : (p : Path) (j : ℕ) (ps : PtrOperations) (os : Operations (Op ℕ T A) (Head ℕ T A) (Brace ℕ)) → Said (paths_in_operations p j os) → OperationsAre L c items ps os → ArePlaced (placed_operations p j ps)
+    operations_placed p j no_operations no_operations s h = record { each = λ o q i. absurd i }
+    operations_placed p j no_operations (forest.operation o rs os) s h = absurd h
+    operations_placed p j (forest.operation q qs ps) no_operations s h = absurd h
+    operations_placed p j (forest.operation q qs ps) (forest.operation o rs os) s (at, k, h) =
+        let Q = λ (item : ℕ × Path). path item.0 ≡ item.1 in
+        placed_node (TheOperation q) (j ∷ p) (placed_regions (j ∷ p) 0 qs) (placed_operations p (suc j) ps) (o.place, at.item, s.0)
+        (regions_placed (j ∷ p) 0 qs rs (each_left Q (paths_in_regions (j ∷ p) 0 rs) (paths_in_operations p (suc j) os) s.1) k)
+        (operations_placed p (suc j) ps os (each_right Q (paths_in_regions (j ∷ p) 0 rs) (paths_in_operations p (suc j) os) s.1) h)
+
+  module _ (ps : Root (Ptr Operation) (Ptr BasicBlock) (Ptr Region)) (t : Tree ℕ T A) (names : Names path t) (is : RootIs L c items ps t) (once : (n m : ℕ) (o : Object) → Among (n, o) items → Among (m, o) items → n ≡ m)
+      (occurs : (n : ℕ) (o : Object) → Among (n, o) items → (q : Path) × Among (o, q) (placed_under ps)) where
+    abbrev all : List (Object × Path)
+    all = placed_under ps
+
+    -- what stands under the root is placed
+    pub located : (o : Object) (q : Path) → Among (o, q) all → IsPlaced o q
+    located o q (inl e) = subst (λ (z : Object × Path). IsPlaced z.0 z.1) (sym e) (t.own.place, is.0.item, names.0)
+    located o q (inr i) = (regions_placed [] 0 ps.regions t.regions names.1 is.1).each o q i
+
+    -- an operation that is an item is found at its path
+    pub operation_found : (n : ℕ) (p : Ptr Operation) → Among (n, TheOperation p) items → path_of all (TheOperation p) ≡ Some (path n)
+    operation_found n p i =
+        let x = occurs n (TheOperation p) i in
+        let f = path_found all (TheOperation p) x.0 x.1 in
+        let l = located (TheOperation p) f.0 f.2 in
+        f.1 ∙ ap Some (sym l.2 ∙ ap path (once l.0 n (TheOperation p) l.1 i))
+
+    -- and so is a block
+    pub block_found : (n : ℕ) (b : Ptr BasicBlock) → Among (n, TheBlock b) items → path_of all (TheBlock b) ≡ Some (path n)
+    block_found n b i =
+        let x = occurs n (TheBlock b) i in
+        let f = path_found all (TheBlock b) x.0 x.1 in
+        let l = located (TheBlock b) f.0 f.2 in
+        f.1 ∙ ap Some (sym l.2 ∙ ap path (once l.0 n (TheBlock b) l.1 i))
+
+    -- an operation that is an item stands at its path
+    operation_there : (n : ℕ) (p : Ptr Operation) → Among (n, TheOperation p) items → Among (TheOperation p, path n) all
+    operation_there n p i =
+        let x = occurs n (TheOperation p) i in
+        let f = path_found all (TheOperation p) x.0 x.1 in
+        let l = located (TheOperation p) f.0 f.2 in
+        subst (λ q. Among (TheOperation p, q) all) (sym l.2 ∙ ap path (once l.0 n (TheOperation p) l.1 i)) f.2
+
+    -- ---- what was made
+    module _ (known : Known) (are : AreOf path items known) where
+      pub value_found : (q : Place) (v : Value) → Among (q, v) known.values → value_place all v ≡ Some q
+      value_found q (Result p i) a = let x = are.values_of q (Result p i) a in ap (option_map (λ q. result q i)) (operation_found x.0 p x.2) ∙ ap Some (sym x.1)
+      value_found q (Argument b i) a = let x = are.values_of q (Argument b i) a in ap (option_map (λ q. argument q i)) (block_found x.0 b x.2) ∙ ap Some (sym x.1)
+
+      pub label_found : (q : Place) (b : Ptr BasicBlock) → Among (q, b) known.blocks → block_place all b ≡ Some q
+      label_found q b a = let x = are.blocks_of q b a in ap (option_map block_at) (block_found x.0 b x.2) ∙ ap Some (sym x.1)
+
+      -- what a use of the script is bound to is what the operand or successor of its operation names
+      module _ {O B X : Type 0} (names_at : NameTracker Value (Ptr BasicBlock)) (g : GraphView (Option O) B X) (st : State) (stands : StandsAt names_at g known [] st) where
+        -- the user's place names something that stands at the place
+        pub record Uses (u : User) (q : Place) : Type 0 where
+          pub site : Site
+          pub of_item : IsSiteOf path items u site
+          pub what : Defined
+          pub named : used_at g site ≡ Some what
+          pub place : defined_place all what ≡ Some q
+
+        pub bound_uses : (u : User) (q : Place) → Among (u, q) st.bound → Uses u q
+        bound_uses u q a = let x = stands.bound u q a in go x.0 x.1 x.2
+          where
+            placed : (d : Defined) → Became known q d → defined_place all d ≡ Some q
+            placed (OfValue v) b = value_found q v b
+            placed (OfBlock d) b = label_found q d b
+
+            go : (d : Defined) → Became known q d → Holds known.sites [] g u d → Uses u q
+            go d b (inl (s, i, place)) = record { site = s; of_item = are.sites_of u s i; what = d; named = place.0; place = placed d b }
+            go d b (inr i) = absurd i
+
+        operand_eq : (p q : Path) (i j : ℕ) → operand p i ≡ operand q j → (p ≡ q) × (i ≡ j)
+        operand_eq p q i j e = (ap path_in e, ap number_in e)
+          where
+            path_in : User → Path
+            path_in (operand p i) = p
+            path_in (successor p i) = p
+
+            number_in : User → ℕ
+            number_in (operand p i) = i
+            number_in (successor p i) = i
+
+        successor_eq : (p q : Path) (i j : ℕ) → successor p i ≡ successor q j → (p ≡ q) × (i ≡ j)
+        successor_eq p q i j e = (ap path_in e, ap number_in e)
+          where
+            path_in : User → Path
+            path_in (operand p i) = p
+            path_in (successor p i) = p
+
+            number_in : User → ℕ
+            number_in (operand p i) = i
+            number_in (successor p i) = i
+
+        -- an operation at a path is one
+        operation_one : (p q : Ptr Operation) (r : Path) (n : ℕ) → Among (TheOperation p, r) all → Among (n, TheOperation q) items → r ≡ path n → q ≡ p
+        operation_one p q r n i j e =
+            let k = (once_under ps).one (TheOperation q) (TheOperation p) (path n) (operation_there n q j) (subst (λ z. Among (TheOperation p, z) all) e i) in
+            cc
+
+        -- the operand of an operation at a path names what its user is bound to
+        pub operand_uses : (p : Ptr Operation) (r : Path) (i : ℕ) (q : Place) → Among (TheOperation p, r) all → Uses (operand r i) q → (d : Defined) × (used_at g (AtOperand p i) ≡ Some d) × (defined_place all d ≡ Some q)
+        operand_uses p r i q at u = go u.site u.of_item u.named
+          where
+            go : (s : Site) → IsSiteOf path items (operand r i) s → used_at g s ≡ Some u.what → (d : Defined) × (used_at g (AtOperand p i) ≡ Some d) × (defined_place all d ≡ Some q)
+            go (AtOperand x j) (n, e, a) named =
+                let k = operand_eq r (path n) i j e in
+                let same = operation_one p x r n at a k.0 in
+                (u.what, subst (λ z. used_at g (AtOperand z i) ≡ Some u.what) same (subst (λ z. used_at g (AtOperand x z) ≡ Some u.what) (sym k.1) named), u.place)
+            go (AtSuccessor x j) (n, e, a) named = absurd (cc)
+
+        -- and so does its successor
+        pub successor_uses : (p : Ptr Operation) (r : Path) (i : ℕ) (q : Place) → Among (TheOperation p, r) all → Uses (successor r i) q → (d : Defined) × (used_at g (AtSuccessor p i) ≡ Some d) × (defined_place all d ≡ Some q)
+        successor_uses p r i q at u = go u.site u.of_item u.named
+          where
+            go : (s : Site) → IsSiteOf path items (successor r i) s → used_at g s ≡ Some u.what → (d : Defined) × (used_at g (AtSuccessor p i) ≡ Some d) × (defined_place all d ≡ Some q)
+            go (AtOperand x j) (n, e, a) named = absurd (cc)
+            go (AtSuccessor x j) (n, e, a) named =
+                let k = successor_eq r (path n) i j e in
+                let same = operation_one p x r n at a k.0 in
+                (u.what, subst (λ z. used_at g (AtSuccessor z i) ≡ Some u.what) same (subst (λ z. used_at g (AtSuccessor x z) ≡ Some u.what) (sym k.1) named), u.place)

@@ -1,0 +1,72 @@
+-- Where the readers refuse a text for a failure of names, it is the first failure of every tree that the text reads as, whatever section
+-- stands behind it; and where they are stuck at the text, no tree reads.
+use Rattle.std.proofs.Common.{◌≡◌, ◌∙◌, ℕ, true, List, [], ◌∷◌, Option, Some, None, refl, sym, ap, subst}
+use Rattle.irtext_base.specs.Text.{Text}
+use Rattle.irtext_base.specs.Answers.{Outcome}
+use Rattle.irtext_base.specs.Own.{texts_of}
+use Rattle.irtext_base.specs.Paths.{Written}
+use Rattle.irtext_base.specs.Stream.{StreamView}
+use Rattle.irtext_base.specs.declared.parsable.fault.ParseFault.{ParseFault}
+use Rattle.irtext_context.specs.Dialects.{Table}
+use Rattle.irtext_read.specs.AttrTexts.{attr_at}
+use Rattle.irtext_grammar.specs.Contexts.Formats.{format_of, isolated}
+use Rattle.irtext_grammar.specs.Contexts.Held.{whole}
+use Rattle.irtext_grammar.specs.Grammar.Reads as grammar
+use Rattle.irtext_grammar.specs.Grammar.Section.{Entry}
+use Rattle.irtext_grammar.specs.Grammar.Tree.{Tree}
+use Rattle.irtext_grammar.specs.Names.Acts.{tree_script, section_acts, rule_of, failures_of}
+use Rattle.irtext_grammar.specs.Names.History as history
+use Rattle.irtext_grammar.specs.Names.History.{going, failed, start, run, events}
+use Rattle.irtext_grammar.specs.Names.Scopes.{no_scope}
+use Rattle.irtext_grammar.specs.Names.Script.{Failure, Path, does_all, done}
+use Rattle.irtext_grammar.specs.Names.TextScopes.{Script, failures}
+use Rattle.irtext_outcomes.proofs.Joins.Answers.{Splits}
+use Rattle.irtext_nesting.specs.Exact.{NeedsWord}
+use Rattle.irtext_nesting.specs.Naming.{naming, Names}
+use Rattle.irtext_nesting.specs.Reached.{Reached, Came, Stuck, operation_at, do_tree}
+use Rattle.irtext_nesting.specs.Resume.{EndsIn}
+use Rattle.irtext_nesting.proofs.Knot.Whole as knot
+use Rattle.irtext_nesting.proofs.Naming.Places.{names_exist}
+use Rattle.irtext_nesting.proofs.Naming.Runs.{runs_before}
+use Rattle.irtext_nesting.proofs.Naming.Scripts.{formats_read}
+use Rattle.irtext_nesting.proofs.Naming.Shorter.{Shortens}
+use Rattle.irtext_names.proofs.Linked.Passes.{ran_into}
+use Rattle.irtext_promises.specs.Promises.{IsOf, IsFirst, HasFault, at_text, by_names, RefusesTree}
+
+-- where nothing is done any more, what failed stays failed
+stays_failed : (f : Failure Text ℕ) (es : List history.Event) → run (failed f) es ≡ failed f
+stays_failed f [] = refl
+stays_failed f (e ∷ es) = stays_failed f es
+
+-- the first of failures that begin so
+first_is : {A : Type 0} (text : Text) (f : Failure Text ℕ) (fs gs : List (Failure Text ℕ)) (fault : ParseFault A) → fs ≡ f ∷ gs → IsOf text f fault → IsFirst text fs fault
+first_is text f fs gs fault e h = subst (λ z. IsFirst text z fault) (sym e) h
+
+module _ {T A : Type 0} (types_at : Text → Outcome T) (types_written : T → Text) (reading : Text → Outcome A) (written : A → Text) (dialects : List (Text × Table)) (types_split : Splits types_at) (splits : Splits reading) (words : NeedsWord reading)
+    (short_types : Shortens (texts_of types_at types_written)) (short_owns : Shortens (texts_of reading written)) where
+  -- a fault of the text, or of a name, is the first failure of each tree that the text reads as, and of what is read behind it
+  pub refuses_first : (text rest : Text) (fault : ParseFault A) → HasFault {T = T} types_at (attr_at reading) dialects text rest fault → (x : Tree ℕ T A) (left : Text) → grammar.reads (knot.L types_at types_written reading written dialects) x rest left → (then : Script)
+      → IsFirst text (failures no_scope (tree_script (isolated dialects) x then)) fault
+  refuses_first text rest fault (at_text cause place because at stuck) x left r then =
+      let k = stuck (λ n. []) in
+      absurd (knot.stuck_unread types_at types_written reading written dialects types_split splits (naming (format_of dialects) (λ n. [])) words rest (going start) (going k.0) cause place k.1 x left r)
+  refuses_first text rest fault (by_names f is ends) x left r then =
+      let types = texts_of types_at types_written in
+      let owns = texts_of reading written in
+      let p = names_exist types owns (format_of dialects) short_types short_owns x rest left r in
+      let found = knot.tree_found types_at types_written reading written dialects types_split splits (naming (format_of dialects) p.0) words x rest left (going start) r in
+      let does : do_tree (isolated dialects) (naming (format_of dialects) p.0) x (going start) ≡ failed f = subst (EndsIn (failed f)) found (ends p.0) in
+      let formed = formats_read types owns (format_of dialects) x rest left r in
+      let ran : run (going start) (events (tree_script (isolated dialects) x then)) ≡ failed f =
+      runs_before (format_of dialects) p.0 (isolated dialects) x p.1 formed then (going start) ∙ (ap (λ z. run z (events then)) does ∙ stays_failed f (events then)) in
+      let all = ran_into (tree_script (isolated dialects) x then) f ran in
+      first_is text f (failures no_scope (tree_script (isolated dialects) x then)) all.0 fault all.1 is
+
+  -- so the promise of a refusal is kept, with no section
+  pub refuses_tree : (old : StreamView) (fault : ParseFault A) → HasFault {T = T} types_at (attr_at reading) dialects (whole old) old.rest fault → RefusesTree (texts_of types_at types_written) (texts_of reading written) types_at (attr_at reading) dialects old fault
+  refuses_tree old fault h = record { first = λ tree rest r. refuses_first (whole old) old.rest fault h tree rest r done; at_fault = h }
+
+  -- and with one, where the operation itself is refused
+  pub refuses_root : (old : StreamView) (fault : ParseFault A) → HasFault {T = T} types_at (attr_at reading) dialects (whole old) old.rest fault → (tree : Tree ℕ T A) (entries : List (Entry ℕ A (Written A))) (mid : Text)
+      → grammar.reads (knot.L types_at types_written reading written dialects) tree old.rest mid → IsFirst (whole old) (failures_of (isolated dialects) tree entries) fault
+  refuses_root old fault h tree entries mid r = refuses_first (whole old) old.rest fault h tree mid r (does_all (section_acts (rule_of tree) entries) done)

@@ -1,0 +1,159 @@
+-- The promise of a root with its section, from what the readers of the operation and of the section leave.
+use Rattle.std.proofs.Common.{◌≡◌, ◌∙◌, ℕ, Bool, true, false, List, [], ◌∷◌, Option, Some, None, IsSome, refl, sym, ap, subst}
+use Rattle.irtext_base.specs.Text.{Text}
+use Rattle.irtext_base.specs.Format.{Id}
+use Rattle.irtext_base.specs.Own.{texts_of}
+use Rattle.irtext_base.specs.Paths.{Written, KeepsPaths}
+use Rattle.irtext_base.specs.Stream.{StreamView}
+use Rattle.irtext_base.specs.declared.location.Location.{Location}
+use Rattle.irtext_base.specs.declared.parsable.fault.ParseFault.{ParseFault}
+use Rattle.irtext_base.specs.Answers.{Outcome}
+use Rattle.irtext_context.specs.Context.{ContextView}
+use Rattle.irtext_context.specs.Dialects.{Table}
+use Rattle.irtext_graph.specs.declared.arena.Ptr.{Ptr}
+use Rattle.irtext_graph.specs.declared.object.Operation.{Operation}
+use Rattle.irtext_graph.specs.declared.object.BasicBlock.{BasicBlock}
+use Rattle.irtext_graph.specs.declared.object.Region.{Region}
+use Rattle.irtext_graph.specs.Store.{get}
+use Rattle.irtext_read.specs.AttrTexts.{attr_at}
+use Rattle.irtext_grammar.specs.Contexts.Formats.{format_of, isolated, IsAccepted}
+use Rattle.irtext_grammar.specs.Contexts.Held.{location_over, whole}
+use Rattle.irtext_grammar.specs.Contexts.Nested.{pointers}
+use Rattle.irtext_grammar.specs.Grammar.Marked.{marked, section_if, reads_root}
+use Rattle.irtext_grammar.specs.Grammar.Reads as grammar
+use Rattle.irtext_grammar.specs.Grammar.Section.{Entry}
+use Rattle.irtext_grammar.specs.Grammar.Tree.{Tree}
+use Rattle.irtext_grammar.specs.Graphs.Build.{build}
+use Rattle.irtext_grammar.specs.Names.Acts.{rule_of, failures_of}
+use Rattle.irtext_grammar.specs.Names.Scopes.{no_scope}
+use Rattle.irtext_grammar.specs.Names.Script.{Failure, done}
+use Rattle.irtext_grammar.proofs.Grammar.WholeTree as trees
+use Rattle.irtext_grammar.proofs.Graphs.Links.{all_there}
+use Rattle.irtext_state.specs.States.{marks_of}
+use Rattle.irtext_state.specs.declared.parsable.state.StateStream.{StateStream}
+use Rattle.irtext_outcomes.specs.Promises.Root.{location_of}
+use Rattle.irtext_outcomes.specs.Promises.Section.{Moves, indices_of, is_noted}
+use Rattle.irtext_outcomes.specs.Promises.Supported.{location_standing}
+use Rattle.irtext_outcomes.proofs.Joins.Answers.{Splits}
+use Rattle.irtext_nesting.specs.Exact.{NeedsWord}
+use Rattle.irtext_nesting.specs.Reached.{Came, operation_at}
+use Rattle.irtext_nesting.proofs.Knot.Whole as knot
+use Rattle.irtext_nesting.proofs.Naming.Shorter.{Shortens}
+use Rattle.irtext_building.specs.Building.{Building, building, nothing_open, finished}
+use Rattle.irtext_building.proofs.Built.{tree_finished}
+use Rattle.irtext_building.proofs.Whole.{whole_read}
+use Rattle.irtext_promises.specs.Given.{RootHas}
+use Rattle.irtext_promises.specs.Held.{held_root}
+use Rattle.irtext_promises.specs.Leaves.{StandsBehind, LeavesTree, LeavesClosed}
+use Rattle.irtext_promises.specs.OnlyNew.{OnlyNew}
+use Rattle.irtext_promises.specs.Promises.{IsFirst, HasFault, RefusesRoot, BuildsRoot, tree_marks}
+use Rattle.irtext_promises.specs.WithSection.{refused, SameShape}
+use Rattle.irtext_promises.proofs.Builds as builds
+use Rattle.irtext_promises.proofs.Given.{Gives, root_given}
+use Rattle.irtext_promises.proofs.Kept as kept
+use Rattle.irtext_promises.proofs.Refuses.{refuses_root}
+use Rattle.irtext_promises.proofs.WithSection.{section_alone, tree_noted, builds_given, only_still}
+
+came_with : {X S : Type 0} (x y : X) (s t : S) (a b : Text) → Came x s a ≡ Came y t b → (s ≡ t) × (a ≡ b)
+came_with x y s t a b e = (cc, cc)
+
+module _ {T A : Type 0} (types_at : Text → Outcome T) (types_written : T → Text) (reading : Text → Outcome A) (written : A → Text) (dialects : List (Text × Table)) (types_split : Splits types_at) (splits : Splits reading) (words : NeedsWord reading)
+    (short_types : Shortens (texts_of types_at types_written)) (short_owns : Shortens (texts_of reading written)) (accepted : (id : Id) → IsAccepted dialects id) where
+  -- the tree that a text reads as is one, and so is what it leaves
+  pub one_tree : (x y : Tree ℕ T A) (text a b : Text) → grammar.reads (knot.L types_at types_written reading written dialects) x text a → grammar.reads (knot.L types_at types_written reading written dialects) y text b → (x ≡ y) × (a ≡ b)
+  one_tree x y text a b r q =
+      let types = texts_of types_at types_written in
+      let owns = texts_of reading written in
+      let found = λ (z : Tree ℕ T A) (rest : Text) (k : grammar.reads (knot.L types_at types_written reading written dialects) z text rest).
+      knot.tree_found types_at types_written reading written dialects types_split splits (building (format_of dialects)) words z text rest nothing_open k
+      ∙ ap (λ s. Came tt s rest) (tree_finished (format_of dialects) (isolated dialects) z (whole_read types owns (format_of dialects) z text rest k)) in
+      let e = came_with tt tt (finished x) (finished y) a b (sym (found x a r) ∙ found y b q) in
+      (kept.finished_same x y e.0, e.1)
+
+  module _ (L : ℕ → Location A → Type 0) (op : Ptr Operation) (marks : List ℕ) (old mid : ContextView T A) (text rest : Text) (leaves : LeavesTree types_at (attr_at reading) dialects L op marks old mid text rest) where
+    abbrev reads_it : grammar.reads (knot.L types_at types_written reading written dialects) leaves.tree text rest
+    reads_it = kept.reads_tree types_at types_written reading written dialects types_split splits words short_types short_owns accepted L op marks old mid text rest leaves
+
+    -- whether its section is looked for is whether a mark was noted
+    pub marked_noted : is_noted marks ≡ marked leaves.tree
+    marked_noted =
+        ap is_noted (kept.marks_are types_at types_written reading written dialects types_split splits words short_types short_owns accepted L op marks old mid text rest leaves)
+        ∙ tree_noted (isolated dialects) leaves.tree (trees.whole (knot.L types_at types_written reading written dialects) (λ p q h. h) leaves.tree text rest reads_it)
+
+    -- what is wrong with a section behind it is what is wrong with both
+    pub section_failures : (es : List (Entry ℕ A (Written A))) → failures_of (isolated dialects) leaves.tree es ≡ refused marks (rule_of leaves.tree) es
+    section_failures es =
+        section_alone (isolated dialects) leaves.tree es (trees.whole (knot.L types_at types_written reading written dialects) (λ p q h. h) leaves.tree text rest reads_it)
+        (kept.tree_resolves types_at types_written reading written dialects types_split splits words short_types short_owns accepted L op marks old mid text rest leaves)
+        ∙ ap (λ ms. refused ms (rule_of leaves.tree) es) (sym (kept.marks_are types_at types_written reading written dialects types_split splits words short_types short_owns accepted L op marks old mid text rest leaves))
+
+    -- a fault of the section is the first failure of whatever the text reads as
+    pub section_refuses : (all : Text) (fault : ParseFault A)
+        → ((es : List (Entry ℕ A (Written A))) (left : Text) → section_if (knot.L types_at types_written reading written dialects) (location_standing (attr_at reading)) (marked leaves.tree) es rest left → IsFirst all (refused marks (rule_of leaves.tree) es) fault)
+        → (x : Tree ℕ T A) (es : List (Entry ℕ A (Written A))) (left : Text) → reads_root (knot.L types_at types_written reading written dialects) (location_standing (attr_at reading)) x es text left → IsFirst all (failures_of (isolated dialects) x es) fault
+    section_refuses all fault first x es left (between, r, s) =
+        let same = one_tree leaves.tree x text rest between reads_it r in
+        let moved = subst (λ z. section_if (knot.L types_at types_written reading written dialects) (location_standing (attr_at reading)) (marked leaves.tree) es z left) (sym same.1)
+        (subst (λ z. section_if (knot.L types_at types_written reading written dialects) (location_standing (attr_at reading)) (marked z) es between left) (sym same.0) s) in
+        subst (λ z. IsFirst all (failures_of (isolated dialects) z es) fault) same.0 (subst (λ fs. IsFirst all fs fault) (sym (section_failures es)) (first es left moved))
+
+    module _ (closed : LeavesClosed old mid) (new : ContextView T A) (shape : SameShape mid.graph new.graph) (first : ℕ → Written A) (es : List (Entry ℕ A (Written A))) (gives : Gives L mid leaves.items first new es) where
+      -- what the tree builds with its section stands under the pointer
+      pub root_builds : held_root new op ≡ Some (build (isolated dialects) first es leaves.tree)
+      root_builds =
+          let named = kept.named types_at types_written reading written dialects types_split splits words short_types short_owns accepted L op marks old mid text rest leaves in
+          let behind = kept.behind types_at types_written reading written dialects types_split splits words short_types short_owns accepted L op marks old mid text rest leaves in
+          let formed = kept.formed types_at types_written reading written dialects types_split splits words short_types short_owns accepted L op marks old mid text rest leaves in
+          let ran = kept.ran types_at types_written reading written dialects types_split splits words short_types short_owns accepted L op marks old mid text rest leaves in
+          let is = builds.is_tree L old mid leaves.items leaves.whole op leaves.tree leaves.held closed.nest named.0 named.1 first (isolated dialects) formed behind.names behind.known behind.are behind.state behind.stands ran in
+          let resolves = kept.tree_resolves types_at types_written reading written dialects types_split splits words short_types short_owns accepted L op marks old mid text rest leaves in
+          let keeps = builds.keeps L old mid leaves.items leaves.whole op leaves.tree leaves.held closed.nest named.0 named.1 first (isolated dialects) formed behind.names behind.known behind.are behind.state behind.stands ran es in
+          builds_given mid new shape first (isolated dialects) op leaves.tree es (all_there (isolated dialects) first es leaves.tree formed done resolves) keeps (root_given L mid leaves.items first new es gives (pointers mid.graph op) leaves.tree is)
+
+-- a root that was read with its section keeps the promise
+pub builds_root : {T A U : Type 0} (types_at : Text → Outcome T) (types_written : T → Text) (reading : Text → Outcome A) (written : A → Text) → Splits types_at → Splits reading → NeedsWord reading → Shortens (texts_of types_at types_written) → Shortens (texts_of reading written)
+    → (L : ℕ → Location A → Type 0) (op : Ptr Operation) (old mid new : StateStream T A U) → ((id : Id) → IsAccepted old.state.ctx.now.dialects id)
+    → (leaves : LeavesTree types_at (attr_at reading) old.state.ctx.now.dialects L op (indices_of (marks_of mid.state)) old.state.ctx.now mid.state.ctx.now old.stream.rest mid.stream.rest) → LeavesClosed old.state.ctx.now mid.state.ctx.now
+    → (es : List (Entry ℕ A (Written A))) → section_if (knot.L types_at types_written reading written old.state.ctx.now.dialects) (location_standing (attr_at reading)) (marked leaves.tree) es mid.stream.rest new.stream.rest
+    → refused (indices_of (marks_of mid.state)) (rule_of leaves.tree) es ≡ []
+    → SameShape mid.state.ctx.now.graph new.state.ctx.now.graph
+    → Gives L mid.state.ctx.now leaves.items (location_of new.state.ctx.now.paths old.state.src (whole old.stream)) new.state.ctx.now es
+    → ((p : Ptr Operation) → IsSome (get old.state.ctx.now.graph.operations p) → get new.state.ctx.now.graph.operations p ≡ get mid.state.ctx.now.graph.operations p)
+    → ((b : Ptr BasicBlock) → IsSome (get old.state.ctx.now.graph.blocks b) → get new.state.ctx.now.graph.blocks b ≡ get mid.state.ctx.now.graph.blocks b)
+    → ((r : Ptr Region) → IsSome (get old.state.ctx.now.graph.regions r) → get new.state.ctx.now.graph.regions r ≡ get mid.state.ctx.now.graph.regions r)
+    → KeepsPaths old.state.ctx.now.paths new.state.ctx.now.paths → new.state.ctx.now.dialects ≡ mid.state.ctx.now.dialects
+    → ((n : ℕ) (l : Location A) → L n l → location_over mid.state.ctx.now.paths l ≡ location_of mid.state.ctx.now.paths old.state.src (whole old.stream) n)
+    → Moves old.stream new.stream → marks_of new.state ≡ []
+    → BuildsRoot (texts_of types_at types_written) (texts_of reading written) (attr_at reading) op old new
+builds_root types_at types_written reading written types_split splits words short_types short_owns L op old mid new accepted leaves closed es section none shape gives operations blocks regions paths dialects tells moves fresh =
+    let ds = old.state.ctx.now.dialects in
+    let ms = indices_of (marks_of mid.state) in
+    record {
+      tree = leaves.tree;
+      entries = es;
+      reads = (mid.stream.rest, kept.reads_tree types_at types_written reading written ds types_split splits words short_types short_owns accepted L op ms old.state.ctx.now mid.state.ctx.now old.stream.rest mid.stream.rest leaves, section);
+      resolves = section_failures types_at types_written reading written ds types_split splits words short_types short_owns accepted L op ms old.state.ctx.now mid.state.ctx.now old.stream.rest mid.stream.rest leaves es ∙ none;
+      moves = moves;
+      builds = root_builds types_at types_written reading written ds types_split splits words short_types short_owns accepted L op ms old.state.ctx.now mid.state.ctx.now old.stream.rest mid.stream.rest leaves closed new.state.ctx.now shape
+          (location_of new.state.ctx.now.paths old.state.src (whole old.stream)) es gives;
+      fresh = fresh;
+      only = only_still op old.state.ctx.now mid.state.ctx.now new.state.ctx.now
+          (kept.tree_only types_at types_written reading written ds types_split splits words short_types short_owns accepted L op ms old.state.ctx.now mid.state.ctx.now old.stream.rest mid.stream.rest leaves closed
+          (location_of mid.state.ctx.now.paths old.state.src (whole old.stream)) tells) shape operations blocks regions paths dialects;
+    }
+
+module _ {T A : Type 0} (types_at : Text → Outcome T) (types_written : T → Text) (reading : Text → Outcome A) (written : A → Text) (dialects : List (Text × Table)) (types_split : Splits types_at) (splits : Splits reading) (words : NeedsWord reading)
+    (short_types : Shortens (texts_of types_at types_written)) (short_owns : Shortens (texts_of reading written)) where
+  -- where the operation itself is refused, whatever root the text reads as is refused so
+  pub root_refused : (old : StreamView) (fault : ParseFault A) → HasFault {T = T} types_at (attr_at reading) dialects (whole old) old.rest fault → RefusesRoot (texts_of types_at types_written) (texts_of reading written) types_at (attr_at reading) dialects old fault
+  root_refused old fault h = record {
+    first = λ tree es rest (between, r, s). refuses_root types_at types_written reading written dialects types_split splits words short_types short_owns old fault h tree es between r;
+  }
+
+  -- and where it was read, and the section behind it is refused
+  pub root_refused_behind : ((id : Id) → IsAccepted dialects id) → (L : ℕ → Location A → Type 0) (op : Ptr Operation) (marks : List ℕ) (before mid : ContextView T A) (old : StreamView) (rest : Text) (leaves : LeavesTree types_at (attr_at reading) dialects L op marks before mid old.rest rest) (fault : ParseFault A)
+      → ((es : List (Entry ℕ A (Written A))) (left : Text) → section_if (knot.L types_at types_written reading written dialects) (location_standing (attr_at reading)) (marked leaves.tree) es rest left → IsFirst (whole old) (refused marks (rule_of leaves.tree) es) fault)
+      → RefusesRoot (texts_of types_at types_written) (texts_of reading written) types_at (attr_at reading) dialects old fault
+  root_refused_behind accepted L op marks before mid old rest leaves fault first = record {
+    first = λ tree es left h. section_refuses types_at types_written reading written dialects types_split splits words short_types short_owns accepted L op marks before mid old.rest rest leaves (whole old) fault first tree es left h;
+  }

@@ -1,0 +1,63 @@
+-- Between functions: what a reader of an operation with all that nests in it leaves, as the promise of it is made from.
+use Rattle.std.specs.Prelude.{◌≡◌, ℕ, true, List, [], Some}
+use Rattle.irtext_base.specs.Text.{Text}
+use Rattle.irtext_base.specs.Answers.{Outcome}
+use Rattle.irtext_base.specs.Locations.{AttrView}
+use Rattle.irtext_base.specs.declared.location.Location.{Location}
+use Rattle.irtext_context.specs.Context.{ContextView, KeepsOlder}
+use Rattle.irtext_context.specs.Dialects.{Table}
+use Rattle.irtext_graph.specs.declared.arena.Ptr.{Ptr}
+use Rattle.irtext_graph.specs.declared.object.BasicBlock.{BasicBlock}
+use Rattle.irtext_graph.specs.declared.object.Object.{Object}
+use Rattle.irtext_graph.specs.declared.object.Operation.{Operation}
+use Rattle.irtext_graph.specs.declared.object.Value.{Value}
+use Rattle.irtext_graph.specs.Back.{AllOlder}
+use Rattle.irtext_graph.specs.Graph.{GraphView, children, parent, Stands}
+use Rattle.irtext_graph.specs.Nested.{Nested}
+use Rattle.irtext_scopes.specs.declared.tracker.NameTracker.{NameTracker}
+use Rattle.irtext_grammar.specs.Contexts.Formats.{format_of}
+use Rattle.irtext_grammar.specs.Grammar.Tree.{Tree}
+use Rattle.irtext_grammar.specs.Names.History as history
+use Rattle.irtext_grammar.specs.Names.History.{going, start}
+use Rattle.irtext_grammar.specs.Names.Script.{Path}
+use Rattle.irtext_nesting.specs.Naming.{naming}
+use Rattle.irtext_nesting.specs.Reached.{Came, operation_at}
+use Rattle.irtext_building.specs.Building.{building, nothing_open, finished}
+use Rattle.irtext_building.specs.Tracks.{Made, HoldsMade}
+use Rattle.irtext_names.specs.Linked.{Known, StandsAt}
+use Rattle.irtext_names.specs.OfItems.{AreOf}
+use Rattle.irtext_names.specs.Tied.{NoneIsLeft}
+use Rattle.irtext_promises.specs.OnlyNew.{BlanksDefine}
+
+module _ {T A : Type 0} (types_at : Text → Outcome T) (attr : Text → Outcome (AttrView A)) (dialects : List (Text × Table)) where
+  -- The machine of names came through the text, the items of these places being named by these paths, and what was made for these items
+  -- stands where the machine stands, with nothing in hand; these indices are marked.
+  pub record StandsBehind (items : Made) (marks : List ℕ) (c : ContextView T A) (text rest : Text) (path : ℕ → Path) : Type 0 where
+    pub names : NameTracker Value (Ptr BasicBlock)
+    pub known : Known
+    pub are : AreOf path items known
+    pub state : history.State
+    pub stands : StandsAt names c.graph known [] state
+    pub marked : state.marks ≡ marks
+    pub came : operation_at dialects types_at attr (naming (format_of dialects) path) true text (going start) ≡ Came tt (going state) rest
+
+  -- A tree was built of the text, it stands under the pointer, with each item at its place, nothing is open and nothing else came; and
+  -- whatever paths items are named by, the machine of names came through.
+  pub record LeavesTree (IsLocation : ℕ → Location A → Type 0) (op : Ptr Operation) (marks : List ℕ) (old new : ContextView T A) (text rest : Text) : Type 0 where
+    pub tree : Tree ℕ T A
+    pub built : operation_at dialects types_at attr (building (format_of dialects)) true text nothing_open ≡ Came tt (finished tree) rest
+    pub items : Made
+    pub whole : List Object
+    pub held : HoldsMade IsLocation old new items whole [] (Some op) (finished tree)
+    pub machine : (path : ℕ → Path) → StandsBehind items marks new text rest path
+
+-- What was made since is closed: what is older than the mark stands as it stood, all that stood was older, no placeholder is left; and
+-- both graphs are forests.
+pub record LeavesClosed {T A : Type 0} (old new : ContextView T A) : Type 0 where
+  pub mark : ℕ
+  pub older : AllOlder mark old.graph
+  pub kept : KeepsOlder mark old new
+  pub none : NoneIsLeft mark [] new.graph
+  pub blanks : BlanksDefine mark new
+  pub nest : Nested (children new.graph) (parent new.graph)
+  pub holders : (c k : Object) → parent old.graph c ≡ Some k → Stands old.graph k

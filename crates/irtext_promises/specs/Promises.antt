@@ -1,0 +1,117 @@
+-- For callers: what reading an operation with all that nests in it promises, with the section of its marked items or without it.
+use Rattle.std.specs.Prelude.{◌≡◌, ◌⊎◌, ℕ, Bool, true, cond, List, [], ◌∷◌, Option, Some, None}
+use Rattle.irtext_base.specs.Text.{Text}
+use Rattle.irtext_base.specs.Own.{Texts}
+use Rattle.irtext_base.specs.Stream.{StreamView}
+use Rattle.irtext_base.specs.Faults as fault
+use Rattle.irtext_base.specs.Faults.{Fault, fault_of}
+use Rattle.irtext_base.specs.Answers.{Outcome}
+use Rattle.irtext_base.specs.Locations.{AttrView}
+use Rattle.irtext_base.specs.Paths.{Written}
+use Rattle.irtext_base.specs.declared.parsable.fault.ParseFault.{ParseFault}
+use Rattle.irtext_context.specs.Dialects.{Table}
+use Rattle.irtext_graph.specs.declared.arena.Ptr.{Ptr}
+use Rattle.irtext_graph.specs.declared.object.Operation.{Operation}
+use Rattle.irtext_state.specs.States.{marks_of}
+use Rattle.irtext_state.specs.declared.parsable.state.StateStream.{StateStream}
+use Rattle.irtext_grammar.specs.Contexts.Formats.{format_of, isolated}
+use Rattle.irtext_grammar.specs.Contexts.Held.{whole, StandsAt}
+use Rattle.irtext_grammar.specs.Grammar.Marked.{reads_root}
+use Rattle.irtext_grammar.specs.Grammar.Reads as grammar
+use Rattle.irtext_grammar.specs.Grammar.Section.{Entry}
+use Rattle.irtext_grammar.specs.Grammar.Tree.{Tree}
+use Rattle.irtext_grammar.specs.Graphs.Build.{build}
+use Rattle.irtext_grammar.specs.Names.Acts.{failures_of, tree_script}
+use Rattle.irtext_grammar.specs.Names.History.{going, failed, start}
+use Rattle.irtext_grammar.specs.Names.History as history
+use Rattle.irtext_grammar.specs.Names.Script as script
+use Rattle.irtext_grammar.specs.Names.Script.{Cause, Failure, Path, done}
+use Rattle.irtext_grammar.specs.Names.TextScopes.{facts}
+use Rattle.irtext_outcomes.specs.Promises.Root.{location_of, IsPlace, UnlessMemory}
+use Rattle.irtext_outcomes.specs.Promises.Section.{Moves, indices_of}
+use Rattle.irtext_outcomes.specs.Promises.Supported.{supported, location_standing}
+use Rattle.irtext_nesting.specs.Naming.{naming}
+use Rattle.irtext_nesting.specs.Reached.{Stuck, operation_at}
+use Rattle.irtext_nesting.specs.Resume.{EndsIn}
+use Rattle.irtext_promises.specs.Held.{held_root}
+use Rattle.irtext_promises.specs.OnlyNew.{OnlyNew}
+
+-- ---- faults
+-- the cause that the readers answer for this failure
+abbrev pub IsCause : Cause Text → Fault → Type 0
+IsCause (script.ResultCount types names) cause = cause ≡ fault.ResultCount types names
+IsCause (script.NoActiveScope n) cause = cause ≡ fault.NoActiveScope n
+IsCause (script.UnresolvedReference n) cause = cause ≡ fault.Unresolved n
+IsCause (script.MultipleDefinitions n) cause = cause ≡ fault.MultipleDefinitions n
+IsCause script.NotIsolated cause = cause ≡ fault.NotIsolated
+IsCause (script.DuplicateIndex i) cause = cause ≡ fault.DuplicateIndex i
+IsCause (script.UnknownIndex i) cause = cause ≡ fault.UnknownIndex i
+IsCause (script.UnknownPrintOnce i) cause = cause ≡ fault.UnknownPrintOnce i
+IsCause (script.ReservedKey key) cause = cause ≡ fault.ReservedKey key
+
+module _ {A : Type 0} where
+  -- the fault is this failure: it has its cause, and is at its place of the text, or at the text's beginning where it has none
+  abbrev pub IsOf : Text → Failure Text ℕ → ParseFault A → Type 0
+  IsOf text f fault = IsCause f.cause (fault_of fault.cause) × IsPlace text f.at fault.pos
+
+  -- the fault is the first of these failures
+  abbrev pub IsFirst : Text → List (Failure Text ℕ) → ParseFault A → Type 0
+  IsFirst text [] fault = ⊥
+  IsFirst text (f ∷ fs) fault = IsOf text f fault
+
+module _ {T A : Type 0} (types_at : Text → Outcome T) (attr : Text → Outcome (AttrView A)) (dialects : List (Text × Table)) where
+  -- The fault that a text has, where an operation must stand at the end of it: one of the text, and until then no name had failed; or the
+  -- failure of a name or a mark, and whatever the text is behind it. So which of the two comes first is a function of the text, also where
+  -- it reads as no tree.
+  pub data HasFault (text rest : Text) (fault : ParseFault A) : Type 0 where
+    at_text : (cause : Fault) (place : ℕ) → fault_of fault.cause ≡ cause → StandsAt text place fault.pos
+        → ((path : ℕ → Path) → (st : history.State) × (operation_at dialects types_at attr (naming (format_of dialects) path) true rest (going start) ≡ Stuck (going st) cause place)) → HasFault text rest fault
+    by_names : (f : Failure Text ℕ) → IsOf text f fault → ((path : ℕ → Path) → EndsIn (failed f) (operation_at dialects types_at attr (naming (format_of dialects) path) true rest (going start))) → HasFault text rest fault
+
+module _ {T A : Type 0} (types : Texts T) (owns : Texts A) (types_at : Text → Outcome T) (attr : Text → Outcome (AttrView A)) (dialects : List (Text × Table)) where
+  -- Whatever the text reads as by these dialects, with no section behind it, does not resolve, and the fault is its first failure; and it
+  -- is the fault of the text where nothing reads.
+  pub record RefusesTree (old : StreamView) (fault : ParseFault A) : Type 0 where
+    pub first : (tree : Tree ℕ T A) (rest : Text) → grammar.reads (supported dialects types owns) tree old.rest rest → IsFirst (whole old) (failures_of {X = Written A} (isolated dialects) tree []) fault
+    pub at_fault : HasFault {T = T} types_at attr dialects (whole old) old.rest fault
+
+  -- Whatever the text reads as by these dialects, with its section, does not resolve, and the fault is its first failure.
+  pub record RefusesRoot (old : StreamView) (fault : ParseFault A) : Type 0 where
+    pub first : (tree : Tree ℕ T A) (entries : List (Entry ℕ A (Written A))) (rest : Text) → reads_root (supported dialects types owns) (location_standing attr) tree entries old.rest rest
+        → IsFirst (whole old) (failures_of (isolated dialects) tree entries) fault
+
+  -- the one with its section, where that is looked for, or the other without it
+  abbrev pub RefusesWith : Bool → StreamView → ParseFault A → Type 0
+  RefusesWith look old fault = cond look (RefusesRoot old fault) (RefusesTree old fault)
+
+-- the indices of the marks of a tree, in the order in which they are read
+abbrev pub tree_marks : {T A : Type 0} → List (Text × Table) → Tree ℕ T A → List ℕ
+tree_marks dialects tree = (facts (tree_script (isolated dialects) tree done)).marks
+
+module _ {T A U : Type 0} (types : Texts T) (owns : Texts A) (attr : Text → Outcome (AttrView A)) where
+  -- An operation stood where the stream stood: the text reads by the context's dialects as a tree, up to where the stream stands now, and
+  -- the tree alone resolves. What it alone builds stands under the answer, only that is new, and its marks are noted.
+  pub record BuildsTree (op : Ptr Operation) (old new : StateStream T A U) : Type 0 where
+    pub tree : Tree ℕ T A
+    pub reads : grammar.reads (supported old.state.ctx.now.dialects types owns) tree old.stream.rest new.stream.rest
+    pub resolves : failures_of {X = Written A} (isolated old.state.ctx.now.dialects) tree [] ≡ []
+    pub moves : Moves old.stream new.stream
+    pub builds : held_root new.state.ctx.now op ≡ Some (build (isolated old.state.ctx.now.dialects) (location_of new.state.ctx.now.paths old.state.src (whole old.stream)) [] tree)
+    pub marks : indices_of (marks_of new.state) ≡ tree_marks old.state.ctx.now.dialects tree
+    pub only : OnlyNew op old.state.ctx.now new.state.ctx.now
+
+  -- A root stood where the stream stood: the text reads by the context's dialects, with its section, as a tree, up to where the stream
+  -- stands now, and both resolve. What they build stands under the answer, only that is new, and no mark is noted.
+  pub record BuildsRoot (op : Ptr Operation) (old new : StateStream T A U) : Type 0 where
+    pub tree : Tree ℕ T A
+    pub entries : List (Entry ℕ A (Written A))
+    pub reads : reads_root (supported old.state.ctx.now.dialects types owns) (location_standing attr) tree entries old.stream.rest new.stream.rest
+    pub resolves : failures_of (isolated old.state.ctx.now.dialects) tree entries ≡ []
+    pub moves : Moves old.stream new.stream
+    pub builds : held_root new.state.ctx.now op ≡ Some (build (isolated old.state.ctx.now.dialects) (location_of new.state.ctx.now.paths old.state.src (whole old.stream)) entries tree)
+    pub fresh : marks_of new.state ≡ []
+    pub only : OnlyNew op old.state.ctx.now new.state.ctx.now
+
+  -- the one with its section, where that is looked for, or the other without it
+  abbrev pub BuildsWith : Bool → Ptr Operation → StateStream T A U → StateStream T A U → Type 0
+  BuildsWith look op old new = cond look (BuildsRoot op old new) (BuildsTree op old new)

@@ -1,0 +1,4 @@
+pub mod Lengths
+pub mod UsesSame
+pub mod TextBack
+pub mod ReadRoot
