@@ -1,4 +1,2 @@
 -- The texts of errors.
 pub mod Located
-pub mod Printed
-pub mod Verification

@@ -1,3 +1,3 @@
--- What printers append, and what errors and locations are printed as
+-- What printers append, and what locations are printed as
 pub mod Printers
 pub mod Errors

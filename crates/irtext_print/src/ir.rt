@@ -1,4 +1,3 @@
-//! Operations and regions as text.
+//! What is written of operations by their formats.
 
 pub mod print;
-pub mod verify;

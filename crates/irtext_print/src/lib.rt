@@ -1,9 +1,7 @@
-//! Printing: what is printable and under which state, stored printers, and the texts of locations, errors, dialects and operations.
+//! What printing stands on: the printing state with its guards, the texts of attributes and of locations, and what a format's directives
+//! write of an operation's attributes.
 #![tactic(auto)]
 
-pub mod dialect;
 pub mod ir;
-pub mod irfmt;
 pub mod location;
 pub mod printable;
-pub mod result;

@@ -1,5 +1,5 @@
 -- For callers: why an operation does not fit its format, in the order in which it is looked for.
-use Rattle.std.specs.Prelude.{◌≡◌, ℕ, suc, Bool, cond, not, ◌||◌, ◌==◌, nat_lt, List, [], ◌∷◌, length, Option, Some, None, is_none, Result, Ok, Err, ⊤}
+use Rattle.std.specs.Prelude.{◌≡◌, ℕ, suc, Bool, cond, not, ◌||◌, ◌==◌, nat_lt, List, [], ◌∷◌, ◌++◌, length, codes, decimal, Option, Some, None, is_none, Result, Ok, Err, ⊤}
 use Rattle.irtext_base.specs.Text.{Text}
 use Rattle.irtext_base.specs.Format as format
 use Rattle.irtext_base.specs.Format.{Format, Directive, Id, count, operand_places, successor_places, type_places, is_operands, is_successors, is_dictionary}
@@ -32,6 +32,17 @@ number_of (fault.RegionCount n) = 4
 number_of (fault.MissingAttribute key) = 5
 number_of fault.NoSymbol = 6
 number_of (fault.UnwrittenAttribute key) = 7
+
+-- the text of a reason, in bytes
+abbrev pub fault_text : FitFault → List ℕ
+fault_text fault.NotRegistered = codes "The operation is not registered"
+fault_text (fault.OperandCount n) = codes "The format does not write " ++ (decimal n ++ codes " operands")
+fault_text (fault.SuccessorCount n) = codes "The format does not write " ++ (decimal n ++ codes " successors")
+fault_text (fault.ResultCount n) = codes "The format does not write " ++ (decimal n ++ codes " result types")
+fault_text (fault.RegionCount n) = codes "The format does not write " ++ (decimal n ++ codes " regions")
+fault_text (fault.MissingAttribute key) = codes "The operation has no attribute " ++ key.now
+fault_text fault.NoSymbol = codes "The operation has no symbol"
+fault_text (fault.UnwrittenAttribute key) = codes "The format does not write the attribute " ++ key.now
 
 -- the number of the reason why not, where a check answers one
 abbrev pub refused_by : {X : Type 0} → Result X FitFault → Option ℕ

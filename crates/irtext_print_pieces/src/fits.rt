@@ -26,6 +26,8 @@ use irtext_print::ir::print::fits::{
     SingleKind, has_directive, missing_key, regions_fit, symbol_fits,
 };
 use irtext_print::ir::print::pieces::{is_key_written, is_outlined};
+use std::fmt;
+use std::fmt::Display;
 
 /// Why an operation does not fit its format, in the order in which it is looked for. Keys are lent, so that it takes no memory.
 #[non_exhaustive]
@@ -47,6 +49,33 @@ pub enum FitFault<'c> {
     NoSymbol,
     /// Neither a directive nor the section writes the operation's attribute under this key.
     UnwrittenAttribute(&'c Identifier),
+}
+
+impl Display for FitFault<'_> {
+    ghost output = { λ fault. Some (fits.fault_text fault) };
+
+    fn fmt<W: fmt::Write>(&self, f: &mut fmt::Formatter<W>) -> fmt::Result {
+        match self {
+            FitFault::NotRegistered => write!(f, "The operation is not registered"),
+            FitFault::OperandCount(count) => {
+                write!(f, "The format does not write {count} operands")
+            }
+            FitFault::SuccessorCount(count) => {
+                write!(f, "The format does not write {count} successors")
+            }
+            FitFault::ResultCount(count) => {
+                write!(f, "The format does not write {count} result types")
+            }
+            FitFault::RegionCount(count) => {
+                write!(f, "The format does not write {count} regions")
+            }
+            FitFault::MissingAttribute(key) => { write!(f, "The operation has no attribute {key}") }
+            FitFault::NoSymbol => write!(f, "The operation has no symbol"),
+            FitFault::UnwrittenAttribute(key) => {
+                write!(f, "The format does not write the attribute {key}")
+            }
+        }
+    }
 }
 
 /// How many operands, successors and regions an operation has, and results whose types are known.

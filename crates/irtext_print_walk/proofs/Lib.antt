@@ -6,3 +6,4 @@ pub mod Faults
 pub mod Turned
 pub mod Walked
 pub mod Refused
+pub mod Alone

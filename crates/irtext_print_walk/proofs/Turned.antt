@@ -44,8 +44,8 @@ use Rattle.irtext_print_walk.specs.Faults.{OpenFault, AnyFault, RegionsFault}
 use Rattle.irtext_print_walk.proofs.Faults.{region_opens, only_fault, operation_next, region_next, block_next, none_fault, operation_kept, region_kept, block_kept}
 use Rattle.irtext_print_walk.specs.declared.frame.Frame.{Frame}
 use Rattle.irtext_print_walk.specs.declared.frame.Frame.TheVariants as frame
-use Rattle.irtext_print_walk.specs.declared.frame.Item.{Item}
-use Rattle.irtext_print_walk.specs.declared.frame.Item.TheVariants as item
+use Rattle.irtext_context.specs.declared.base.item.Item.{Item}
+use Rattle.irtext_context.specs.declared.base.item.Item.TheVariants as item
 use Rattle.irtext_print_walk.specs.declared.frame.OperationFrame.{OperationFrame}
 use Rattle.irtext_print_walk.specs.declared.frame.RegionFrame.{RegionFrame}
 use Rattle.irtext_print_walk.specs.declared.frame.BlockFrame.{BlockFrame}
@@ -79,7 +79,7 @@ module _ {T A : Type 0} (C : Printing T A) (L : Language ⊤ T A) (ctx : Context
   opened_is i l own (Some format.canonical) o rs = refl
   opened_is i l own (Some (format.custom ds)) o rs = refl
 
-  one_marked : (t : Bool) (x : Item) → length (cond t (x ∷ []) []) ≡ cond t 1 0
+  pub one_marked : (t : Bool) (x : Item) → length (cond t (x ∷ []) []) ≡ cond t 1 0
   one_marked true x = refl
   one_marked false x = refl
 

@@ -27,7 +27,7 @@ use Rattle.irtext_print_walk.proofs.Faults.{only_fault, any_both, any_front, any
 use Rattle.irtext_print_walk.specs.Walk.{is_canonical, seen_at, regions_left, inside_of, marked_own, open_of, AllFit, FrameFits, items_of, items_left, turns_left, Steps}
 use Rattle.irtext_print_walk.specs.declared.frame.Frame.{Frame}
 use Rattle.irtext_print_walk.specs.declared.frame.Frame.TheVariants as frame
-use Rattle.irtext_print_walk.specs.declared.frame.Item.{Item}
+use Rattle.irtext_context.specs.declared.base.item.Item.{Item}
 use Rattle.irtext_print_walk.proofs.Turned.{opened_is, same_mark, fits_covered, regions_counted}
 
 module _ {T A : Type 0} (C : Printing T A) (L : Language ⊤ T A) (ctx : ContextView T A) (width : ℕ) where

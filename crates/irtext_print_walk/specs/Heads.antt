@@ -1,6 +1,6 @@
 -- For callers: what an operation's own and a block's head are written as, by the formats of a context and the texts of the caller's types
 -- and attributes; and the text of all that stands under an operation, or why there is none.
-use Rattle.std.specs.Prelude.{◌≢◌, ◌+◌, ◌⊎◌, ℕ, Bool, cond, List, [], ◌++◌, length, Option, Some, None, ⊤}
+use Rattle.std.specs.Prelude.{◌≢◌, ◌+◌, ◌⊎◌, ℕ, Bool, cond, List, [], ◌++◌, length, map, Option, Some, None, codes, ⊤}
 use Rattle.irtext_base.specs.Format.{Directive}
 use Rattle.irtext_base.specs.Own.{Language}
 use Rattle.irtext_base.specs.Text.{Text}
@@ -10,23 +10,25 @@ use Rattle.irtext_context.specs.Context.{ContextView}
 use Rattle.irtext_graph.specs.declared.arena.Ptr.{Ptr}
 use Rattle.irtext_graph.specs.declared.object.BasicBlock.{BasicBlock}
 use Rattle.irtext_graph.specs.declared.object.Operation.{Operation}
+use Rattle.irtext_graph.specs.declared.object.Region.{Region}
 use Rattle.irtext_graph.specs.Parts.{regions}
 use Rattle.irtext_grammar.specs.Contexts.Formats.{isolated}
-use Rattle.irtext_grammar.specs.Contexts.Nested.{printing_over, seen_head, seen_regions}
-use Rattle.irtext_grammar.specs.Grammar.Forest.{Regions}
+use Rattle.irtext_grammar.specs.Contexts.Nested.{printing_over, seen_head, seen_regions, seen_blocks, seen_operations}
+use Rattle.irtext_grammar.specs.Grammar.Forest.{Regions, no_regions, region, Blocks, Operations}
+use Rattle.irtext_grammar.specs.Grammar.Tree.{shown}
 use Rattle.irtext_grammar.specs.Graphs.Closed.{FitsFormat}
-use Rattle.irtext_grammar.specs.Graphs.Graph.{GraphOp, GraphBlock, Printing, is_marked, op_outlined, block_outlined, mark_at, tree_op, tree_head, tree_regions, marks_in_regions}
-use Rattle.irtext_grammar.specs.Spelling.Spell.{concrete, mark_if, region_texts}
+use Rattle.irtext_grammar.specs.Graphs.Graph.{GraphOp, GraphBlock, Printing, is_marked, op_outlined, block_outlined, own_marks, mark_at, is_elided, inside, tree_op, tree_head, tree_regions, tree_blocks, tree_operations, marks_in_regions}
+use Rattle.irtext_grammar.specs.Spelling.Spell.{concrete, mark_if, region_texts, region_text, block_texts, block_text, operation_texts}
 use Rattle.irtext_print.specs.Printers.PrintedOperation.{language_in, levels}
 use Rattle.irtext_print.specs.Printers.Shown.{Shown}
 use Rattle.irtext_print.specs.declared.printable.refusal.Refusal.{Refusal}
 use Rattle.irtext_print.specs.declared.printable.refusal.Refusal.TheVariants.{Memory, Depth, Misfit}
 use Rattle.irtext_print.specs.declared.printable.state.RegionPrintDepthLimit.{RegionPrintDepthLimit}
-use Rattle.irtext_print_ops.specs.Opened.{operation_front, block_head, mark_text}
-use Rattle.irtext_print_walk.specs.Faults.{OperationFault, RegionsFault, OpenFault}
-use Rattle.irtext_print_walk.specs.Walk.{is_canonical, part_text, pieces_text, part_at, parts_left, seen_at, regions_left, marked_own, open_of, FrameFits, marked_operation, marked_block, items_in_regions, Steps, StopsBefore}
+use Rattle.irtext_print_ops.specs.Opened.{operation_front, block_head, mark_text, open_rest}
+use Rattle.irtext_print_walk.specs.Faults.{IndentFault, OperationFault, RegionsFault, OperationsFault, OpenFault, AnyFault}
+use Rattle.irtext_print_walk.specs.Walk.{is_canonical, part_text, pieces_text, part_at, parts_left, seen_at, regions_left, blocks_left, operations_left, marked_own, open_of, FrameFits, AllFit, marked_operation, marked_block, items_in_regions, items_in_blocks, items_in_operations, items_left, Steps, StopsBefore}
 use Rattle.irtext_print_walk.specs.declared.frame.Frame.{Frame}
-use Rattle.irtext_print_walk.specs.declared.frame.Item.{Item}
+use Rattle.irtext_context.specs.declared.base.item.Item.{Item}
 use Rattle.irtext_print_walk.specs.declared.frame.OperationFrame.{OperationFrame}
 use Rattle.irtext_print_walk.specs.declared.step.Stop.{Stop}
 use Rattle.std.specs.declared.string.String.{String}
@@ -159,3 +161,67 @@ module _ {T A : Type 0} (types : ir_text.Ghosts T A) (owns : ir_text.Ghosts A A)
   -- the marked items under an operation, in the order of their marks, with the operation itself if its mark is to be written
   abbrev pub items_under : {U : Type 0} → Ptr Operation → Shown U → Bool → List Item
   items_under p s marked = items_in_regions printing_of language_of ctx (levels s.limit) (regions_left printing_of language_of ctx p 0) ++ own_items_at p marked
+
+  -- ---- what is open
+
+  -- what a caller has open stands in the context
+  abbrev pub FramesFitAt : List Frame → Type 0
+  FramesFitAt frames = AllFit printing_of language_of ctx frames
+
+  -- the text that is left of frames, with n marks before it
+  abbrev pub frames_text_at : ℕ → List Frame → ℕ → Text
+  frames_text_at width frames n = open_rest printing_of language_of width (map (open_of printing_of language_of ctx) frames) n
+
+  -- the items whose marks are left of frames
+  abbrev pub frames_items_at : List Frame → List Item
+  frames_items_at frames = items_left printing_of language_of ctx frames
+
+  -- what is left of frames gives this reason to refuse
+  abbrev pub FramesFault : ℕ → Refusal → List Frame → Type 0
+  FramesFault width e frames = AnyFault printing_of (isolated ctx.dialects) width e (map (open_of printing_of language_of ctx) frames)
+
+  -- ---- a region
+
+  -- the blocks of a region, with all that nests in them, as printing sees them
+  abbrev pub blocks_in : Ptr Region → Blocks (GraphOp T A) (GraphBlock T A) ⊤
+  blocks_in r = seen_blocks language_of.owns.written ctx (blocks_left printing_of language_of ctx r 0)
+
+  -- the text of a region with all that nests in it, with n marks before it
+  abbrev pub region_text_under : {U : Type 0} → Ptr Region → Shown U → ℕ → Text
+  region_text_under r s n = cond (is_elided printing_of (levels s.limit)) (codes "{..}")
+      (region_text language_of s.width s.indent (shown tt) (block_texts language_of s.width (s.indent + s.width) (tree_blocks printing_of (inside printing_of (levels s.limit)) n (blocks_in r))))
+
+  -- the marked items of a region, in the order of their marks
+  abbrev pub region_items_under : {U : Type 0} → Ptr Region → Shown U → List Item
+  region_items_under r s = cond (is_elided printing_of (levels s.limit)) [] (items_in_blocks printing_of language_of ctx (inside printing_of (levels s.limit)) (blocks_left printing_of language_of ctx r 0))
+
+  -- what is shown of a region gives this reason to refuse
+  abbrev pub RegionFaultUnder : {U : Type 0} → Ptr Region → Shown U → Refusal → Type 0
+  RegionFaultUnder r s e = RegionsFault printing_of (isolated ctx.dialects) s.width e s.indent (levels s.limit) (region tt (blocks_in r) no_regions)
+
+  -- what a refusal to print a region says: memory may be refused at any time, but all else only for this reason
+  abbrev pub RefusesRegionUnder : {U : Type 0} → Ptr Region → Shown U → Refusal → Type 0
+  RefusesRegionUnder r s e = e ≢ Memory → RegionFaultUnder r s e
+
+  -- ---- a block
+
+  -- the operations of a block, with all that nests in them, as printing sees them
+  abbrev pub operations_of : Ptr BasicBlock → Operations (GraphOp T A) (GraphBlock T A) ⊤
+  operations_of b = seen_operations language_of.owns.written ctx (operations_left printing_of language_of ctx b 0)
+
+  -- the text of a block with all that nests in it, with n marks before it
+  abbrev pub block_text_under : {U : Type 0} → Ptr BasicBlock → Shown U → ℕ → Text
+  block_text_under b s n = let m = n + own_marks printing_of (block_at b).location (block_outlined printing_of (block_at b)) in
+      block_text language_of s.width s.indent (tree_head printing_of n (block_at b)) (operation_texts language_of s.width (s.indent + s.width) (tree_operations printing_of (levels s.limit) m (operations_of b)))
+
+  -- the marked items of a block, with the block itself, in the order of their marks
+  abbrev pub block_items_under : {U : Type 0} → Ptr BasicBlock → Shown U → List Item
+  block_items_under b s = block_items_at b ++ items_in_operations printing_of language_of ctx (levels s.limit) (operations_left printing_of language_of ctx b 0)
+
+  -- the indentation inside of a block, or what is shown of its operations, gives this reason to refuse
+  abbrev pub BlockFaultUnder : {U : Type 0} → Ptr BasicBlock → Shown U → Refusal → Type 0
+  BlockFaultUnder b s e = IndentFault e (s.indent + s.width) ⊎ OperationsFault printing_of (isolated ctx.dialects) s.width e (s.indent + s.width) (levels s.limit) (operations_of b)
+
+  -- what a refusal to print a block says: memory may be refused at any time, but all else only for this reason
+  abbrev pub RefusesBlockUnder : {U : Type 0} → Ptr BasicBlock → Shown U → Refusal → Type 0
+  RefusesBlockUnder b s e = e ≢ Memory → BlockFaultUnder b s e

@@ -28,8 +28,8 @@ use Rattle.irtext_print_ops.specs.Opened.{Open, an_operation, a_region, a_block,
 use Rattle.irtext_print_walk.specs.Faults.{OpenFault, AnyFault}
 use Rattle.irtext_print_walk.specs.declared.frame.Frame.{Frame}
 use Rattle.irtext_print_walk.specs.declared.frame.Frame.TheVariants as frame
-use Rattle.irtext_print_walk.specs.declared.frame.Item.{Item}
-use Rattle.irtext_print_walk.specs.declared.frame.Item.TheVariants as item
+use Rattle.irtext_context.specs.declared.base.item.Item.{Item}
+use Rattle.irtext_context.specs.declared.base.item.Item.TheVariants as item
 use Rattle.irtext_print_walk.specs.declared.step.Stop.{Stop}
 use Rattle.irtext_print_walk.specs.declared.step.Stop.TheVariants as stop
 

@@ -2,7 +2,7 @@
 ghost use Rattle.std.specs.Prelude.{◌≡◌, ◌++◌, ◌∷◌, [], OnOk, IfOk, IfErr, length};
 ghost use Rattle.irtext_print.specs.declared.printable.refusal.Refusal.TheVariants as refusal;
 
-use irtext_context::base::{BasicBlock, Operation, Ptr, Region};
+use irtext_context::base::{BasicBlock, Item, Operation, Ptr, Region};
 use irtext_print::printable::{Refusal, RegionPrintDepthLimit};
 
 /// An operation whose results and id were written.
@@ -57,13 +57,6 @@ pub enum Frame {
     Operation(OperationFrame),
     Region(RegionFrame),
     Block(BlockFrame),
-}
-
-/// What a mark is written of.
-#[derive(Clone, Copy)]
-pub enum Item {
-    Operation(Ptr<Operation>),
-    Block(Ptr<BasicBlock>),
 }
 
 /// Opens a frame inside of those that are open.

@@ -11,7 +11,7 @@ ghost use Rattle.irtext_print_walk.specs.Steps as steps;
 ghost use Rattle.irtext_print_walk.specs.declared.frame.Frame.TheVariants as framed;
 
 use crate::formats::{directives_in, is_canonical};
-use crate::frame::{BlockFrame, Frame, Item, OperationFrame, RegionFrame, gather, open};
+use crate::frame::{BlockFrame, Frame, OperationFrame, RegionFrame, gather, open};
 use crate::heads::WritesHeads;
 use crate::opening::{
     begin_region, deeper, fmt_between_blocks, fmt_between_operations, fmt_closing, fmt_colon,
@@ -19,7 +19,7 @@ use crate::opening::{
 };
 use irtext_base::format::Directive;
 use irtext_base::text::{AttrText, IrText};
-use irtext_context::base::{BasicBlock, Context, Operation, OperationAccess, Ptr};
+use irtext_context::base::{BasicBlock, Context, Item, Operation, OperationAccess, Ptr};
 use irtext_graph::held::HasGraph;
 use irtext_print::printable::{Refusal, RegionPrintDepthLimit};
 
@@ -160,7 +160,7 @@ fn end_operation<H: WritesHeads<T, A>, T: IrText<A>, A: AttrText>(
 }
 
 /// Appends the mark of a block, where it has one.
-fn fmt_block_mark<H: WritesHeads<T, A>, T: IrText<A>, A: AttrText>(
+pub(crate) fn fmt_block_mark<H: WritesHeads<T, A>, T: IrText<A>, A: AttrText>(
     ctx: &Context<T, A>,
     block: Ptr<BasicBlock>,
     items: &mut Vec<Item>,

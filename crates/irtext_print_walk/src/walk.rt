@@ -1,15 +1,37 @@
 //! Printing of an operation with all that nests in it.
-ghost use Rattle.std.specs.Prelude.{◌≡◌, ◌++◌, OnOk, IfErr, IsSome, length};
+ghost use Rattle.std.specs.Prelude.{◌≡◌, ◌≢◌, ◌++◌, OnOk, IfErr, IsSome, length};
 ghost use Rattle.irtext_context.specs.Context.{operation};
 ghost use Rattle.irtext_print.specs.Printers.Appended.{AppendsText};
+ghost use Rattle.irtext_print.specs.declared.printable.refusal.Refusal.TheVariants as refusal;
 ghost use Rattle.irtext_print_walk.specs.Heads as heads;
 
-use crate::frame::{Frame, Item, open};
+use crate::frame::{Frame, open};
 use crate::heads::WritesHeads;
 use crate::step::{begin_operation, step};
 use irtext_base::text::{AttrText, IrText};
-use irtext_context::base::{Context, Operation, Ptr};
+use irtext_context::base::{Context, Item, Operation, Ptr};
 use irtext_print::printable::{Refusal, State};
+
+/// Appends the text that is left of what is open, the innermost first, until nothing is open. What is marked in it is added to `items`, in
+/// the order of the marks, and a mark counts those before it. What was written and gathered until a refusal stays.
+pub(crate) fn print_frames<H: WritesHeads<T, A>, T: IrText<A>, A: AttrText>(
+    ctx: &Context<T, A>,
+    width: u16,
+    frames: &mut Vec<Frame>,
+    items: &mut Vec<Item>,
+    f: &mut String,
+) -> Result<(), Refusal>
+    requires fit { heads.FramesFitAt T.IrText.own A.IrText.own A.AttrText.own A.eq ctx.now frames.old.items }
+    ensures text { OnOk result (AppendsText f.old (heads.frames_text_at T.IrText.own A.IrText.own A.AttrText.own A.eq ctx.now width frames.old.items (length items.old.items)) f.new) }
+    ensures items { OnOk result (items.new.items ≡ items.old.items ++ heads.frames_items_at T.IrText.own A.IrText.own A.AttrText.own A.eq ctx.now frames.old.items) }
+    ensures fits { OnOk result (heads.FramesFault T.IrText.own A.IrText.own A.AttrText.own A.eq ctx.now width refusal.Misfit frames.old.items → ⊥) }
+    ensures refused { IfErr result (λ e. e ≢ refusal.Memory → heads.FramesFault T.IrText.own A.IrText.own A.AttrText.own A.eq ctx.now width e frames.old.items) }
+{
+    while let Some(frame) = frames.pop() {
+        step::<H, T, A>(ctx, width, frame, frames, items, f)?;
+    }
+    Ok(())
+}
 
 /// Appends the text of an operation with all that nests in it, at the state's indentation and under its limit; and behind it its mark,
 /// if `marked`. What is marked is added to `items`, in the order of the marks, and a mark counts those before it. What was written and
@@ -37,8 +59,5 @@ pub fn print_inside<H: WritesHeads<T, A>, T: IrText<A>, A: AttrText, U>(
     let begun = begin_operation::<H, T, A>(ctx, op, marked, indent, limit, f)?;
     let mut frames = Vec::new(ctx.allocator());
     open(&mut frames, Frame::Operation(begun))?;
-    while let Some(frame) = frames.pop() {
-        step::<H, T, A>(ctx, width, frame, &mut frames, items, f)?;
-    }
-    Ok(())
+    print_frames::<H, T, A>(ctx, width, &mut frames, items, f)
 }

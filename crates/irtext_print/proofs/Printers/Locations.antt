@@ -13,7 +13,6 @@ use Rattle.irtext_base.specs.Text.{Text, is_identifier}
 use Rattle.irtext_base.specs.Causes.{position_text}
 use Rattle.irtext_stream.specs.declared.position.SourcePosition.{SourcePosition}
 use Rattle.irtext_print.specs.Errors.Located.{between, framed}
-use Rattle.irtext_print.specs.Printers.PrintedOperation.{entry_text}
 use Rattle.irtext_grammar.specs.Spelling.Spell.{joined, joined_from, comma}
 use Rattle.irtext_grammar.proofs.Lists.Ascii.{ascii-from, ascii-identifier, ascii-position, encodes-ascii}
 
@@ -84,17 +83,3 @@ next_written texts text cons items i x first now between next all l e p q h =
 pub framed_bytes : (a c : Text) → list_all is_ascii a ≡ true → list_all is_ascii c ≡ true → (known : Option Text) → framed a c known ≡ encode_utf8_all (between a c known)
 framed_bytes a c i k None = refl
 framed_bytes a c i k (Some l) = sym (append_assoc a (encode_utf8_all l) c) ∙ enclosed a l c [] a (a ++ encode_utf8_all l) ((a ++ encode_utf8_all l) ++ c) i k refl refl refl
-
--- an index, a location and brackets, as the text of an entry
-pub entry_appended : (known : Option Text) (index : ℕ) (old first second new : List ℕ) → index < 2 ^ 64
-    → first ≡ old ++ (codes "!" ++ (decimal index ++ codes " = "))
-    → second ≡ first ++ framed (codes "@[") (codes "], ") known
-    → new ≡ second ++ codes "[]\n"
-    → new ≡ old ++ encode_utf8_all (entry_text index known)
-entry_appended known index old first second new small p q r =
-    let head = codes "!" ++ (decimal index ++ codes " = ") in
-    let place = between (codes "@[") (codes "], ") known in
-    let ascii : IsAscii head = IsAscii-append (codes "!") (decimal index ++ codes " = ") (ascii-from (codes "!") refl) (IsAscii-append (decimal index) (codes " = ") (IsAscii-decimal index small) (ascii-from (codes " = ") refl)) in
-    more old first new head (place ++ codes "[]\n") (p ∙ ap (λ z. old ++ z) (sym (encodes-ascii head ascii)))
-    (ending first second new place (codes "[]\n") refl (q ∙ ap (λ z. first ++ z) (framed_bytes (codes "@[") (codes "], ") refl refl known)) r)
-    ∙ ap (λ z. old ++ encode_utf8_all (33 ∷ z)) (append_assoc (decimal index) (codes " = ") (place ++ codes "[]\n"))

@@ -1,17 +1,13 @@
--- For callers: what is written of an operation's attributes and regions by the directives of its format.
-use Rattle.std.specs.Prelude.{◌≡◌, ◌≢◌, ℕ, zero, suc, ◌+◌, ◌-◌, ◌<◌, ◌≤◌, ◌^◌, ◌==◌, ◌&&◌, Bool, false, cond, not, List, [], ◌∷◌, ◌++◌, map, filter, Option, Some, None, IsSome, codes, ⊤}
+-- For callers: what is written of an operation's attributes by the directives of its format.
+use Rattle.std.specs.Prelude.{ℕ, zero, suc, ◌-◌, ◌==◌, ◌&&◌, Bool, false, cond, not, List, [], ◌∷◌, ◌++◌, map, filter, Option, Some, None, codes, ⊤}
 use Rattle.std.specs.List.{list_any}
 use Rattle.irtext_base.specs.Text.{Text, begins}
 use Rattle.irtext_base.specs.Format as format
 use Rattle.irtext_base.specs.Format.{Directive, same_text, has, sym_name_key}
 use Rattle.irtext_base.specs.Own.{Language, unplaced, missing}
 use Rattle.irtext_grammar.specs.Graphs.Graph.{Printing, lookup, outlined, inline}
-use Rattle.irtext_print.specs.Printers.Printing.{lowered}
-use Rattle.irtext_print.specs.Printers.Shown.{Shown}
-use Rattle.irtext_grammar.specs.Spelling.Spell.{joins_left, newline, attribute, joined, comma}
+use Rattle.irtext_grammar.specs.Spelling.Spell.{joins_left, attribute, joined, comma}
 use Rattle.irtext_grammar.specs.Grammar.Tree.{Attribute, ident, given_names, own}
-use Rattle.irtext_print.specs.declared.printable.refusal.Refusal.{Refusal}
-use Rattle.irtext_print.specs.declared.printable.refusal.Refusal.TheVariants.{Memory, Depth}
 
 -- what printing asks of the caller's attributes, where it is only whether one is outlined
 abbrev pub outlining : {A : Type 0} → (A → Bool) → Printing ⊤ A
@@ -129,22 +125,3 @@ module _ {A : Type 0} where
       abbrev pub directives_text : List Directive → List (Text × Attribute A) → Text → ℕ → List Directive → Text
       directives_text ds es r n [] = []
       directives_text ds es r n (d ∷ rest) = directive_text ds es r n d ++ directives_text ds es r (left_behind n d) rest
-
--- a region without blocks, unless the limit elides it
-abbrev pub region_text : {U : Type 0} → Shown U → Text
-region_text s = elim (lowered s.limit) [
-  | None ↦ codes "{..}"
-  | Some _ ↦ newline s.indent ++ (codes "{" ++ (newline (s.indent + s.width) ++ (newline s.indent ++ codes "}")))
-]
-
--- a region isn't elided, and the indentation inside does not fit 16 bits
-abbrev pub IsTooDeep : {U : Type 0} → Shown U → Type 0
-IsTooDeep s = IsSome (lowered s.limit) × (2 ^ 16 ≤ s.indent + s.width)
-
--- what a refusal to write a region says: memory may be refused at any time, but all else only where it is too deep
-abbrev pub RefusesRegion : {U : Type 0} → Shown U → Refusal → Type 0
-RefusesRegion s refusal = refusal ≢ Memory → (refusal ≡ Depth) × IsTooDeep s
-
--- the same of so many regions: there are some, and they are too deep
-abbrev pub RefusesRegions : {U : Type 0} → ℕ → Shown U → Refusal → Type 0
-RefusesRegions n s refusal = refusal ≢ Memory → (refusal ≡ Depth) × ((0 < n) × IsTooDeep s)

@@ -1,8 +1,7 @@
 -- For callers: words on the printing state and its guards.
 use Rattle.std.specs.Prelude.{ℕ, zero, suc, List, Option, Some, None}
 use Rattle.std.specs.Borrow.{GName}
-use Rattle.irtext_graph.specs.declared.arena.Ptr.{Ptr}
-use Rattle.irtext_graph.specs.declared.object.Operation.{Operation}
+use Rattle.irtext_context.specs.declared.base.item.Item.{Item}
 use Rattle.irtext_print.specs.Printers.Shown.{Shown}
 use Rattle.irtext_print.specs.declared.printable.guards.IndentGuard.{IndentGuard}
 use Rattle.irtext_print.specs.declared.printable.guards.RegionDepthGuard.{RegionDepthGuard}
@@ -28,8 +27,8 @@ module _ {U : Type 0} where
   abbrev pub limit_of : Shown U → RegionPrintDepthLimit
   limit_of s = s.limit
 
-  -- the operations that were gathered, in their order
-  abbrev pub gathered_of : Shown U → List (Ptr Operation)
+  -- the items that were gathered, in their order
+  abbrev pub gathered_of : Shown U → List Item
   gathered_of s = s.gathered
 
   -- the caller's data
@@ -48,8 +47,8 @@ module _ {U : Type 0} where
   abbrev pub with_data : Shown U → U → Shown U
   with_data s u = record s { aux = u }
 
-  -- the state with other gathered operations
-  abbrev pub with_gathered : Shown U → List (Ptr Operation) → Shown U
+  -- the state with other gathered items
+  abbrev pub with_gathered : Shown U → List Item → Shown U
   with_gathered s xs = record s { gathered = xs }
 
   -- the name of the reference in an indentation's guard

@@ -1,7 +1,6 @@
 //! Printing of locations: files by the paths that a context keeps for them.
-ghost use Rattle.std.specs.Prelude.{◌≡◌, ◌<◌, ◌^◌, ◌++◌, Some, OnOk, codes, option_copied, string_bytes};
+ghost use Rattle.std.specs.Prelude.{◌≡◌, ◌<◌, ◌^◌, ◌++◌, OnOk, codes, option_copied, string_bytes};
 ghost use Rattle.std.specs.Int.Signed.{mag};
-ghost use Rattle.std.specs.Str.{encode_utf8_all};
 ghost use Rattle.irtext_print.specs.Printers.Appended.{AppendsText};
 ghost use Rattle.irtext_base.specs.Causes.{position_text};
 ghost use Rattle.irtext_base.specs.Locations.{attr_view_in};
@@ -10,9 +9,7 @@ ghost use Rattle.irtext_grammar.specs.Spelling.Locations.{source_text, metadata_
 ghost use Rattle.irtext_print.specs.Errors.Located.{framed};
 
 use crate::location::parts::{Part, fmt_part};
-use crate::printable::Printable;
 use crate::printable::attributes::fmt_attr;
-use crate::printable::state::State;
 use irtext_base::base::AttrObj;
 use irtext_base::location::{Location, Source};
 use irtext_base::parsable::SourcePosition;
@@ -35,7 +32,7 @@ fn path_of<'c, T: IrText<A>, A: AttrText>(src: Source, ctx: &'c Context<T, A>) -
 }
 
 /// Appends the path of a file between quotation marks, or `<in-memory>`.
-fn fmt_source<T: IrText<A>, A: AttrText>(
+pub fn fmt_source<T: IrText<A>, A: AttrText>(
     src: Source,
     ctx: &Context<T, A>,
     f: &mut String,
@@ -99,7 +96,7 @@ pub(super) fn fmt_place<T: IrText<A>, A: AttrText>(
 
 /// Appends the text of a location. It fails only where memory is refused; what was written until then stays. It doesn't recurse:
 /// what surrounds a location that stands inside waits in memory of the context's allocator.
-pub(crate) fn fmt_location<T: IrText<A>, A: AttrText>(
+pub fn fmt_location<T: IrText<A>, A: AttrText>(
     location: &Location<A>,
     ctx: &Context<T, A>,
     f: &mut String,
@@ -115,7 +112,7 @@ pub(crate) fn fmt_location<T: IrText<A>, A: AttrText>(
 }
 
 /// Appends the text of a location between these two, where the location is known. It fails only where memory is refused.
-pub(crate) fn fmt_known<T: IrText<A>, A: AttrText>(
+pub fn fmt_known<T: IrText<A>, A: AttrText>(
     location: &Location<A>,
     before: &str,
     after: &str,
@@ -132,29 +129,4 @@ pub(crate) fn fmt_known<T: IrText<A>, A: AttrText>(
     fmt_location(location, ctx, f)?;
     f.push_str(after)?;
     Ok(())
-}
-
-impl<T: IrText<A>, A: AttrText, U> Printable<U, T, A> for Source {
-    ghost gives = { λ src ctx s. Some (encode_utf8_all (source_text (path_of ctx.paths src)), s) };
-
-    fn fmt(&self, ctx: &Context<T, A>, _state: &mut State<U>, f: &mut String) -> fmt::Result {
-        fmt_source(*self, ctx, f)
-    }
-}
-
-impl<T: IrText<A>, A: AttrText, U> Printable<U, T, A> for SourcePosition {
-    ghost gives = { λ pos _ s. Some (position_text pos, s) };
-
-    fn fmt(&self, _ctx: &Context<T, A>, _state: &mut State<U>, f: &mut String) -> fmt::Result {
-        write!(f, "{self}")?;
-        Ok(())
-    }
-}
-
-impl<T: IrText<A>, A: AttrText, U> Printable<U, T, A> for Location<A> {
-    ghost gives = { λ location ctx s. Some (encode_utf8_all (location_text A.written ctx.paths location), s) };
-
-    fn fmt(&self, ctx: &Context<T, A>, _state: &mut State<U>, f: &mut String) -> fmt::Result {
-        fmt_location(self, ctx, f)
-    }
 }

@@ -1,16 +1,12 @@
-//! Attributes print themselves.
-ghost use Rattle.std.specs.Prelude.{OnOk, Some, map};
-ghost use Rattle.std.specs.Str.{encode_utf8_all};
+//! The texts of attributes.
+ghost use Rattle.std.specs.Prelude.{OnOk, map};
 ghost use Rattle.irtext_print.specs.Printers.Appended.{AppendsText};
 ghost use Rattle.irtext_base.specs.Locations.{attr_view};
 ghost use Rattle.irtext_grammar.specs.Spelling.AttrText.{attr_text};
 ghost use Rattle.irtext_grammar.specs.Spelling.Spell.{joined, comma, or_question};
 
-use crate::printable::Printable;
-use crate::printable::state::State;
 use irtext_base::base::{AttrObj, Identifier};
-use irtext_base::text::{AttrText, IrText};
-use irtext_context::base::Context;
+use irtext_base::text::AttrText;
 use std::fmt;
 
 /// Appends a given name, or `?` where there is none.
@@ -40,7 +36,7 @@ fn fmt_names(names: &[Option<Identifier>], f: &mut String) -> fmt::Result
 }
 
 /// Appends the text of an attribute. It fails only where memory is refused; what was written until then stays.
-pub(crate) fn fmt_attr<A: AttrText>(attr: &AttrObj<A>, f: &mut String) -> fmt::Result
+pub fn fmt_attr<A: AttrText>(attr: &AttrObj<A>, f: &mut String) -> fmt::Result
     ensures { OnOk result (AppendsText f.old (attr_text A.IrText.written (attr_view attr.now)) f.new) }
 {
     match attr {
@@ -56,13 +52,5 @@ pub(crate) fn fmt_attr<A: AttrText>(attr: &AttrObj<A>, f: &mut String) -> fmt::R
             Ok(())
         }
         AttrObj::Own(own) => own.write_text(f),
-    }
-}
-
-impl<T: IrText<A>, A: AttrText, U> Printable<U, T, A> for AttrObj<A> {
-    ghost gives = { λ x _ s. Some (encode_utf8_all (attr_text A.IrText.written (attr_view x)), s) };
-
-    fn fmt(&self, _ctx: &Context<T, A>, _state: &mut State<U>, f: &mut String) -> fmt::Result {
-        fmt_attr(self, f)
     }
 }

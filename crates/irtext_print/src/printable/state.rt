@@ -1,12 +1,12 @@
 //! The printing state: its layout, how deep regions are printed, what was gathered, and the caller's data.
-ghost use Rattle.std.specs.Prelude.{◌≡◌, ◌+◌, ◌-◌, ◌<◌, ◌≤◌, ◌^◌, ◌==◌, [], not, OnOk, OnErr, IfOk, IfSome, OnSome, IfNone, Some, None, ◌∷◌, ◌++◌, IsOk, IsSome, length, ◌↔◌, ◌≢◌};
+ghost use Rattle.std.specs.Prelude.{◌≡◌, ◌+◌, ◌-◌, ◌<◌, ◌≤◌, ◌^◌, [], IfOk, IfSome, OnSome, IfNone, Some, None, IsOk, ◌↔◌};
 ghost use Rattle.std.specs.Borrow.{sem, Lends, RestsIfErr, RestsIfNone};
 ghost use Rattle.irtext_print.specs.contracts.printable.state.State.{the_row};
-ghost use Rattle.irtext_print.specs.Printers.Printing.{width_of, indent_of, limit_of, gathered_of, data_of, with_indent, with_limit, with_data, with_gathered, lowered, guard_name, depth_name};
+ghost use Rattle.irtext_print.specs.Printers.Printing.{width_of, indent_of, limit_of, data_of, with_indent, with_limit, with_data, lowered, guard_name, depth_name};
 
 use crate::printable::guards::{IndentGuard, RegionDepthGuard};
-use irtext_context::base::{Operation, Ptr};
-use std::alloc::{AllocError, Global};
+use irtext_context::base::Item;
+use std::alloc::Global;
 use std::fmt;
 use std::marker::Model;
 
@@ -26,7 +26,7 @@ pub struct State<U> {
     pub(crate) indent_width: u16,
     pub(crate) current_indent: u16,
     pub(crate) limit: RegionPrintDepthLimit,
-    pub(crate) gathered: Vec<Ptr<Operation>>,
+    pub(crate) gathered: Vec<Item>,
     pub(crate) aux_data: U,
 }
 
@@ -104,32 +104,6 @@ impl<U> State<U> {
         ensures value { result.now ≡ data_of self.old }
     {
         &mut self.aux_data
-    }
-
-    /// Notes an operation, and answers its index, from 0. Refused memory changes nothing.
-    pub(crate) fn gather(&mut self, item: Ptr<Operation>) -> Result<usize, AllocError>
-        ensures ok { OnOk result (self.new ≡ with_gathered (self.old) (gathered_of self.old ++ item ∷ [])) }
-        ensures err { OnErr result (self.new ≡ self.old) }
-        ensures place { IfOk result (λ n. n ≡ length (gathered_of self.old)) }
-    {
-        let place = self.gathered.len();
-        self.gathered.push(item)?;
-        Ok(place)
-    }
-
-    /// Whether an operation was gathered.
-    pub(crate) fn has_gathered(&self) -> bool
-        ensures { result ≡ not (length (gathered_of self.now) == 0) }
-    {
-        !self.gathered.is_empty()
-    }
-
-    /// Takes out what was gathered.
-    pub(crate) fn take_gathered(&mut self, alloc: Global) -> Vec<Ptr<Operation>>
-        ensures taken { result.items ≡ gathered_of self.old }
-        ensures left { self.new ≡ with_gathered self.old [] }
-    {
-        std::mem::replace(&mut self.gathered, Vec::new(alloc))
     }
 
     /// One level of regions deeper, until the guard is dropped. `None` where the region must be elided; then nothing changes.

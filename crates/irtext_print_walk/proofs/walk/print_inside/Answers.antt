@@ -1,7 +1,9 @@
-use Rattle.std.proofs.Common.{◌≡◌, ◌++◌, ◌∷◌, [], ◌∙◌, ℕ, List, length, refl, sym, ap, subst, string_bytes, inl, inr, arith}
+use Rattle.std.proofs.Common.{◌≡◌, ◌++◌, ◌∷◌, [], ◌∙◌, ℕ, List, length, refl, sym, ap, subst, string_bytes, inl, inr}
 use Rattle.std.specs.Str.{encode_utf8_all}
 use Rattle.irtext_grammar.specs.Contexts.Formats.{isolated}
+use Rattle.irtext_print.proofs.Printers.Appended.{then, then-err}
 use Rattle.irtext_print.specs.Printers.Printing.{width_of, indent_of}
+use Rattle.irtext_print.specs.declared.printable.refusal.Refusal.{Refusal}
 use Rattle.irtext_print.specs.declared.printable.state.RegionPrintDepthLimit.{RegionPrintDepthLimit}
 use Rattle.irtext_print.specs.declared.printable.refusal.Refusal.TheVariants.{Misfit}
 use Rattle.irtext_print_walk.specs.Heads as heads
@@ -9,12 +11,12 @@ use Rattle.irtext_print_walk.specs.Walk.{AllFit, items_left, open_of}
 use Rattle.irtext_print_walk.specs.declared.frame.Frame.{Frame}
 use Rattle.irtext_print_walk.specs.declared.frame.Frame.TheVariants as framed
 use Rattle.irtext_print_walk.proofs.Faults.{only_fault}
-use Rattle.irtext_print_walk.proofs.Walked.{frames_text, FramesFault, none_open, stepped_fault, stepped_misfits, last_fault, fit_last, stepped_text, stepped_items, stepped_fit, stepped_fewer, first_text, first_fit}
+use Rattle.irtext_print_walk.proofs.Walked.{frames_text, FramesFault, first_text, first_fit}
 use Rattle.irtext_print_walk.proofs.Refused.{handed_on, under_refuses, misfits, fits_seen}
 use Rattle.irtext_print_walk.proofs.walk.print_inside.Goals as goal
 
-pub loop-frame-init : goal.loop-frame-init
-loop-frame-init g c =
+pub print_frames-requires : goal.print_frames-requires
+print_frames-requires g c =
     let ctx = c.args.ctx.now in
     let s = c.args.state.now in
     let n = length c.args.items.now.items in
@@ -22,51 +24,68 @@ loop-frame-init g c =
     let opens : c.open.new.frames.items ≡ first ∷ [] = c.in_ok-open.ensures.ok ∙ (ap (λ z. z ++ framed.Operation c.in_ok-begun.begun ∷ []) c.new-frames.ensures.items ∙ ap (λ b. framed.Operation b ∷ []) c.in_ok-begun.ensures.begun) in
     let whole : ℕ → ℕ → RegionPrintDepthLimit → List ℕ = λ w i l. string_bytes c.args.f.now ++ encode_utf8_all (heads.text_under g.T.IrText g.A.IrText g.A.AttrText g.A.PartialEq.eq ctx c.args.op (record s { width = w; indent = i; limit = l }) c.args.marked n) in
     record {
-      text = ap (λ z. string_bytes c.begin_operation.new.f ++ frames_text (heads.printing_of g.T.IrText g.A.IrText g.A.AttrText g.A.PartialEq.eq ctx) (heads.language_of g.T.IrText g.A.IrText g.A.AttrText g.A.PartialEq.eq ctx) ctx c.indent_width-width.result z c.args.items.now.items) opens
-          ∙ (first_text (heads.printing_of g.T.IrText g.A.IrText g.A.AttrText g.A.PartialEq.eq ctx) (heads.language_of g.T.IrText g.A.IrText g.A.AttrText g.A.PartialEq.eq ctx) ctx c.indent_width-width.result c.args.op c.args.marked c.current_indent-indent.result c.current_region_print_depth_limit-limit.result n c.args.items.now.items (string_bytes c.args.f.now) (string_bytes c.begin_operation.new.f) refl c.in_ok-begun.ensures.text
-          ∙ (ap (λ w. whole w c.current_indent-indent.result c.current_region_print_depth_limit-limit.result) c.indent_width-width.ensures
-          ∙ (ap (λ i. whole (width_of s) i c.current_region_print_depth_limit-limit.result) c.current_indent-indent.ensures
-          ∙ ap (λ l. whole (width_of s) (indent_of s) l) c.current_region_print_depth_limit-limit.ensures)));
-      items = ap (λ z. c.args.items.now.items ++ items_left (heads.printing_of g.T.IrText g.A.IrText g.A.AttrText g.A.PartialEq.eq ctx) (heads.language_of g.T.IrText g.A.IrText g.A.AttrText g.A.PartialEq.eq ctx) ctx z) opens
-          ∙ ap (λ l. c.args.items.now.items ++ (heads.items_under g.T.IrText g.A.IrText g.A.AttrText g.A.PartialEq.eq ctx c.args.op (record s { limit = l }) c.args.marked)) c.current_region_print_depth_limit-limit.ensures;
       fit = subst (AllFit (heads.printing_of g.T.IrText g.A.IrText g.A.AttrText g.A.PartialEq.eq ctx) (heads.language_of g.T.IrText g.A.IrText g.A.AttrText g.A.PartialEq.eq ctx) ctx) (sym opens)
           (first_fit (heads.printing_of g.T.IrText g.A.IrText g.A.AttrText g.A.PartialEq.eq ctx) (heads.language_of g.T.IrText g.A.IrText g.A.AttrText g.A.PartialEq.eq ctx) ctx c.indent_width-width.result c.args.op c.args.marked c.current_indent-indent.result c.current_region_print_depth_limit-limit.result n (isolated ctx.dialects) c.requires.live c.in_ok-begun.ensures.fits);
-      refuses = λ e x.
-          subst (λ l. heads.FaultUnder g.T.IrText g.A.IrText g.A.AttrText g.A.PartialEq.eq ctx c.args.op (record s { limit = l }) e) c.current_region_print_depth_limit-limit.ensures
-          (subst (λ i. heads.FaultUnder g.T.IrText g.A.IrText g.A.AttrText g.A.PartialEq.eq ctx c.args.op (record s { indent = i; limit = c.current_region_print_depth_limit-limit.result }) e) c.current_indent-indent.ensures
-          (subst (λ w. heads.FaultUnder g.T.IrText g.A.IrText g.A.AttrText g.A.PartialEq.eq ctx c.args.op (record s { width = w; indent = c.current_indent-indent.result; limit = c.current_region_print_depth_limit-limit.result }) e) c.indent_width-width.ensures
-          (inr (only_fault (heads.printing_of g.T.IrText g.A.IrText g.A.AttrText g.A.PartialEq.eq ctx) (isolated ctx.dialects) c.indent_width-width.result e (open_of (heads.printing_of g.T.IrText g.A.IrText g.A.AttrText g.A.PartialEq.eq ctx) (heads.language_of g.T.IrText g.A.IrText g.A.AttrText g.A.PartialEq.eq ctx) ctx first)
-          (subst (FramesFault (heads.printing_of g.T.IrText g.A.IrText g.A.AttrText g.A.PartialEq.eq ctx) (heads.language_of g.T.IrText g.A.IrText g.A.AttrText g.A.PartialEq.eq ctx) ctx c.indent_width-width.result e) opens x)))));
-      misfits = λ x.
-          let y = subst (λ l. heads.FaultUnder g.T.IrText g.A.IrText g.A.AttrText g.A.PartialEq.eq ctx c.args.op (record s { width = c.indent_width-width.result; indent = c.current_indent-indent.result; limit = l }) Misfit) (sym c.current_region_print_depth_limit-limit.ensures)
-          (subst (λ i. heads.FaultUnder g.T.IrText g.A.IrText g.A.AttrText g.A.PartialEq.eq ctx c.args.op (record s { width = c.indent_width-width.result; indent = i }) Misfit) (sym c.current_indent-indent.ensures)
-          (subst (λ w. heads.FaultUnder g.T.IrText g.A.IrText g.A.AttrText g.A.PartialEq.eq ctx c.args.op (record s { width = w }) Misfit) (sym c.indent_width-width.ensures) x)) in
-          subst (FramesFault (heads.printing_of g.T.IrText g.A.IrText g.A.AttrText g.A.PartialEq.eq ctx) (heads.language_of g.T.IrText g.A.IrText g.A.AttrText g.A.PartialEq.eq ctx) ctx c.indent_width-width.result Misfit) (sym opens) (elim y [
-            | inl other ↦ absurd (other (fits_seen (heads.printing_of g.T.IrText g.A.IrText g.A.AttrText g.A.PartialEq.eq ctx) (heads.language_of g.T.IrText g.A.IrText g.A.AttrText g.A.PartialEq.eq ctx) ctx c.indent_width-width.result c.args.op c.in_ok-begun.ensures.fits))
-            | inr z ↦ inl z
-          ]);
     }
 
-pub step-requires : goal.step-requires
-step-requires g c =
+pub returns-clause-text : goal.returns-clause-text
+returns-clause-text g c =
     let ctx = c.args.ctx.now in
-    record { fits = fit_last (heads.printing_of g.T.IrText g.A.IrText g.A.AttrText g.A.PartialEq.eq ctx) (heads.language_of g.T.IrText g.A.IrText g.A.AttrText g.A.PartialEq.eq ctx) ctx c.indent_width-width.result c.pop.new.self.items c.in-Some.frame (subst (AllFit (heads.printing_of g.T.IrText g.A.IrText g.A.AttrText g.A.PartialEq.eq ctx) (heads.language_of g.T.IrText g.A.IrText g.A.AttrText g.A.PartialEq.eq ctx) ctx) c.in-Some.ensures.items c.loop-frame.invariant.fit) }
+    let s = c.args.state.now in
+    let n = length c.args.items.now.items in
+    let first : Frame = framed.Operation (heads.begun_at g.T.IrText g.A.IrText g.A.AttrText g.A.PartialEq.eq ctx c.args.op c.args.marked c.current_indent-indent.result c.current_region_print_depth_limit-limit.result) in
+    let opens : c.open.new.frames.items ≡ first ∷ [] = c.in_ok-open.ensures.ok ∙ (ap (λ z. z ++ framed.Operation c.in_ok-begun.begun ∷ []) c.new-frames.ensures.items ∙ ap (λ b. framed.Operation b ∷ []) c.in_ok-begun.ensures.begun) in
+    let whole : ℕ → ℕ → RegionPrintDepthLimit → List ℕ = λ w i l. string_bytes c.args.f.now ++ encode_utf8_all (heads.text_under g.T.IrText g.A.IrText g.A.AttrText g.A.PartialEq.eq ctx c.args.op (record s { width = w; indent = i; limit = l }) c.args.marked n) in
+    then c.print_frames.result (λ w. w ∙ (ap (λ z. string_bytes c.begin_operation.new.f ++ frames_text (heads.printing_of g.T.IrText g.A.IrText g.A.AttrText g.A.PartialEq.eq ctx) (heads.language_of g.T.IrText g.A.IrText g.A.AttrText g.A.PartialEq.eq ctx) ctx c.indent_width-width.result z c.args.items.now.items) opens
+    ∙ (first_text (heads.printing_of g.T.IrText g.A.IrText g.A.AttrText g.A.PartialEq.eq ctx) (heads.language_of g.T.IrText g.A.IrText g.A.AttrText g.A.PartialEq.eq ctx) ctx c.indent_width-width.result c.args.op c.args.marked c.current_indent-indent.result c.current_region_print_depth_limit-limit.result n c.args.items.now.items (string_bytes c.args.f.now) (string_bytes c.begin_operation.new.f) refl c.in_ok-begun.ensures.text
+    ∙ (ap (λ w. whole w c.current_indent-indent.result c.current_region_print_depth_limit-limit.result) c.indent_width-width.ensures
+    ∙ (ap (λ i. whole (width_of s) i c.current_region_print_depth_limit-limit.result) c.current_indent-indent.ensures
+    ∙ ap (λ l. whole (width_of s) (indent_of s) l) c.current_region_print_depth_limit-limit.ensures))))) c.print_frames.ensures.text
 
-pub loop-frame-smaller : goal.loop-frame-smaller
-loop-frame-smaller g c =
+pub returns-clause-items : goal.returns-clause-items
+returns-clause-items g c =
     let ctx = c.args.ctx.now in
-    stepped_fewer (heads.printing_of g.T.IrText g.A.IrText g.A.AttrText g.A.PartialEq.eq ctx) (heads.language_of g.T.IrText g.A.IrText g.A.AttrText g.A.PartialEq.eq ctx) ctx c.indent_width-width.result c.in-Some.frame c.loop-frame.items.items c.step.new.items.items c.loop-frame.frames.items c.pop.new.self.items c.step.new.frames.items (string_bytes c.loop-frame.f) (string_bytes c.step.new.f) c.in-Some.ensures.items c.in_ok-step.ensures.steps
+    let s = c.args.state.now in
+    let n = length c.args.items.now.items in
+    let first : Frame = framed.Operation (heads.begun_at g.T.IrText g.A.IrText g.A.AttrText g.A.PartialEq.eq ctx c.args.op c.args.marked c.current_indent-indent.result c.current_region_print_depth_limit-limit.result) in
+    let opens : c.open.new.frames.items ≡ first ∷ [] = c.in_ok-open.ensures.ok ∙ (ap (λ z. z ++ framed.Operation c.in_ok-begun.begun ∷ []) c.new-frames.ensures.items ∙ ap (λ b. framed.Operation b ∷ []) c.in_ok-begun.ensures.begun) in
+    let whole : ℕ → ℕ → RegionPrintDepthLimit → List ℕ = λ w i l. string_bytes c.args.f.now ++ encode_utf8_all (heads.text_under g.T.IrText g.A.IrText g.A.AttrText g.A.PartialEq.eq ctx c.args.op (record s { width = w; indent = i; limit = l }) c.args.marked n) in
+    then c.print_frames.result (λ w. w ∙ (ap (λ z. c.args.items.now.items ++ items_left (heads.printing_of g.T.IrText g.A.IrText g.A.AttrText g.A.PartialEq.eq ctx) (heads.language_of g.T.IrText g.A.IrText g.A.AttrText g.A.PartialEq.eq ctx) ctx z) opens
+    ∙ ap (λ l. c.args.items.now.items ++ (heads.items_under g.T.IrText g.A.IrText g.A.AttrText g.A.PartialEq.eq ctx c.args.op (record s { limit = l }) c.args.marked)) c.current_region_print_depth_limit-limit.ensures)) c.print_frames.ensures.items
 
-pub loop-frame-preserved : goal.loop-frame-preserved
-loop-frame-preserved g c =
+pub returns-clause-fits : goal.returns-clause-fits
+returns-clause-fits g c =
     let ctx = c.args.ctx.now in
-    record {
-      text = stepped_text (heads.printing_of g.T.IrText g.A.IrText g.A.AttrText g.A.PartialEq.eq ctx) (heads.language_of g.T.IrText g.A.IrText g.A.AttrText g.A.PartialEq.eq ctx) ctx c.indent_width-width.result c.in-Some.frame c.loop-frame.items.items c.step.new.items.items c.loop-frame.frames.items c.pop.new.self.items c.step.new.frames.items (string_bytes c.loop-frame.f) (string_bytes c.step.new.f) c.in-Some.ensures.items c.in_ok-step.ensures.steps _ c.loop-frame.invariant.text;
-      items = stepped_items (heads.printing_of g.T.IrText g.A.IrText g.A.AttrText g.A.PartialEq.eq ctx) (heads.language_of g.T.IrText g.A.IrText g.A.AttrText g.A.PartialEq.eq ctx) ctx c.indent_width-width.result c.in-Some.frame c.loop-frame.items.items c.step.new.items.items c.loop-frame.frames.items c.pop.new.self.items c.step.new.frames.items (string_bytes c.loop-frame.f) (string_bytes c.step.new.f) c.in-Some.ensures.items c.in_ok-step.ensures.steps _ c.loop-frame.invariant.items;
-      fit = stepped_fit (heads.printing_of g.T.IrText g.A.IrText g.A.AttrText g.A.PartialEq.eq ctx) (heads.language_of g.T.IrText g.A.IrText g.A.AttrText g.A.PartialEq.eq ctx) ctx c.indent_width-width.result c.in-Some.frame c.loop-frame.items.items c.step.new.items.items c.loop-frame.frames.items c.pop.new.self.items c.step.new.frames.items (string_bytes c.loop-frame.f) (string_bytes c.step.new.f) c.in-Some.ensures.items c.in_ok-step.ensures.steps c.loop-frame.invariant.fit;
-      refuses = λ e x. c.loop-frame.invariant.refuses e (stepped_fault (heads.printing_of g.T.IrText g.A.IrText g.A.AttrText g.A.PartialEq.eq ctx) (heads.language_of g.T.IrText g.A.IrText g.A.AttrText g.A.PartialEq.eq ctx) ctx c.indent_width-width.result c.in-Some.frame c.loop-frame.items.items c.step.new.items.items c.loop-frame.frames.items c.pop.new.self.items c.step.new.frames.items (string_bytes c.loop-frame.f) (string_bytes c.step.new.f) c.in-Some.ensures.items c.in_ok-step.ensures.steps e x);
-      misfits = λ x. stepped_misfits (heads.printing_of g.T.IrText g.A.IrText g.A.AttrText g.A.PartialEq.eq ctx) (heads.language_of g.T.IrText g.A.IrText g.A.AttrText g.A.PartialEq.eq ctx) ctx c.indent_width-width.result c.in-Some.frame c.loop-frame.items.items c.step.new.items.items c.loop-frame.frames.items c.pop.new.self.items c.step.new.frames.items (string_bytes c.loop-frame.f) (string_bytes c.step.new.f) c.in-Some.ensures.items c.in_ok-step.ensures.steps (c.loop-frame.invariant.misfits x);
-    }
+    let s = c.args.state.now in
+    let n = length c.args.items.now.items in
+    let first : Frame = framed.Operation (heads.begun_at g.T.IrText g.A.IrText g.A.AttrText g.A.PartialEq.eq ctx c.args.op c.args.marked c.current_indent-indent.result c.current_region_print_depth_limit-limit.result) in
+    let opens : c.open.new.frames.items ≡ first ∷ [] = c.in_ok-open.ensures.ok ∙ (ap (λ z. z ++ framed.Operation c.in_ok-begun.begun ∷ []) c.new-frames.ensures.items ∙ ap (λ b. framed.Operation b ∷ []) c.in_ok-begun.ensures.begun) in
+    let whole : ℕ → ℕ → RegionPrintDepthLimit → List ℕ = λ w i l. string_bytes c.args.f.now ++ encode_utf8_all (heads.text_under g.T.IrText g.A.IrText g.A.AttrText g.A.PartialEq.eq ctx c.args.op (record s { width = w; indent = i; limit = l }) c.args.marked n) in
+    let bad : heads.MisfitsUnder g.T.IrText g.A.IrText g.A.AttrText g.A.PartialEq.eq ctx c.args.op s → FramesFault (heads.printing_of g.T.IrText g.A.IrText g.A.AttrText g.A.PartialEq.eq ctx) (heads.language_of g.T.IrText g.A.IrText g.A.AttrText g.A.PartialEq.eq ctx) ctx c.indent_width-width.result Misfit c.open.new.frames.items = λ x.
+    let y = subst (λ l. heads.FaultUnder g.T.IrText g.A.IrText g.A.AttrText g.A.PartialEq.eq ctx c.args.op (record s { width = c.indent_width-width.result; indent = c.current_indent-indent.result; limit = l }) Misfit) (sym c.current_region_print_depth_limit-limit.ensures)
+    (subst (λ i. heads.FaultUnder g.T.IrText g.A.IrText g.A.AttrText g.A.PartialEq.eq ctx c.args.op (record s { width = c.indent_width-width.result; indent = i }) Misfit) (sym c.current_indent-indent.ensures)
+    (subst (λ w. heads.FaultUnder g.T.IrText g.A.IrText g.A.AttrText g.A.PartialEq.eq ctx c.args.op (record s { width = w }) Misfit) (sym c.indent_width-width.ensures) x)) in
+    subst (FramesFault (heads.printing_of g.T.IrText g.A.IrText g.A.AttrText g.A.PartialEq.eq ctx) (heads.language_of g.T.IrText g.A.IrText g.A.AttrText g.A.PartialEq.eq ctx) ctx c.indent_width-width.result Misfit) (sym opens) (elim y [
+      | inl other ↦ absurd (other (fits_seen (heads.printing_of g.T.IrText g.A.IrText g.A.AttrText g.A.PartialEq.eq ctx) (heads.language_of g.T.IrText g.A.IrText g.A.AttrText g.A.PartialEq.eq ctx) ctx c.indent_width-width.result c.args.op c.in_ok-begun.ensures.fits))
+      | inr z ↦ inl z
+    ]) in
+    then c.print_frames.result (λ none x. none (bad x)) c.print_frames.ensures.fits
+
+pub returns-clause-refused : goal.returns-clause-refused
+returns-clause-refused g c =
+    let ctx = c.args.ctx.now in
+    let s = c.args.state.now in
+    let n = length c.args.items.now.items in
+    let first : Frame = framed.Operation (heads.begun_at g.T.IrText g.A.IrText g.A.AttrText g.A.PartialEq.eq ctx c.args.op c.args.marked c.current_indent-indent.result c.current_region_print_depth_limit-limit.result) in
+    let opens : c.open.new.frames.items ≡ first ∷ [] = c.in_ok-open.ensures.ok ∙ (ap (λ z. z ++ framed.Operation c.in_ok-begun.begun ∷ []) c.new-frames.ensures.items ∙ ap (λ b. framed.Operation b ∷ []) c.in_ok-begun.ensures.begun) in
+    let whole : ℕ → ℕ → RegionPrintDepthLimit → List ℕ = λ w i l. string_bytes c.args.f.now ++ encode_utf8_all (heads.text_under g.T.IrText g.A.IrText g.A.AttrText g.A.PartialEq.eq ctx c.args.op (record s { width = w; indent = i; limit = l }) c.args.marked n) in
+    let refuses : (e : Refusal) → FramesFault (heads.printing_of g.T.IrText g.A.IrText g.A.AttrText g.A.PartialEq.eq ctx) (heads.language_of g.T.IrText g.A.IrText g.A.AttrText g.A.PartialEq.eq ctx) ctx c.indent_width-width.result e c.open.new.frames.items → heads.FaultUnder g.T.IrText g.A.IrText g.A.AttrText g.A.PartialEq.eq ctx c.args.op s e = λ e x.
+    subst (λ l. heads.FaultUnder g.T.IrText g.A.IrText g.A.AttrText g.A.PartialEq.eq ctx c.args.op (record s { limit = l }) e) c.current_region_print_depth_limit-limit.ensures
+    (subst (λ i. heads.FaultUnder g.T.IrText g.A.IrText g.A.AttrText g.A.PartialEq.eq ctx c.args.op (record s { indent = i; limit = c.current_region_print_depth_limit-limit.result }) e) c.current_indent-indent.ensures
+    (subst (λ w. heads.FaultUnder g.T.IrText g.A.IrText g.A.AttrText g.A.PartialEq.eq ctx c.args.op (record s { width = w; indent = c.current_indent-indent.result; limit = c.current_region_print_depth_limit-limit.result }) e) c.indent_width-width.ensures
+    (inr (only_fault (heads.printing_of g.T.IrText g.A.IrText g.A.AttrText g.A.PartialEq.eq ctx) (isolated ctx.dialects) c.indent_width-width.result e (open_of (heads.printing_of g.T.IrText g.A.IrText g.A.AttrText g.A.PartialEq.eq ctx) (heads.language_of g.T.IrText g.A.IrText g.A.AttrText g.A.PartialEq.eq ctx) ctx first)
+    (subst (FramesFault (heads.printing_of g.T.IrText g.A.IrText g.A.AttrText g.A.PartialEq.eq ctx) (heads.language_of g.T.IrText g.A.IrText g.A.AttrText g.A.PartialEq.eq ctx) ctx c.indent_width-width.result e) opens x))))) in
+    then-err c.print_frames.result (λ e h. under_refuses g.T.IrText g.A.IrText g.A.AttrText g.A.PartialEq.eq ctx c.args.op s e (λ other. refuses e (h other))) c.print_frames.ensures.refused
 
 pub returns-in_err-begun-clause-refused : goal.returns-in_err-begun-clause-refused
 returns-in_err-begun-clause-refused g c =
@@ -74,15 +93,3 @@ returns-in_err-begun-clause-refused g c =
     let s = c.args.state.now in
     let e = c.in_err-begun.field-0.0 in
     handed_on _ c.from_residual.result e c.from_residual.ensures.1 (under_refuses g.T.IrText g.A.IrText g.A.AttrText g.A.PartialEq.eq ctx c.args.op s e (λ other. inl (misfits (heads.printing_of g.T.IrText g.A.IrText g.A.AttrText g.A.PartialEq.eq ctx) (heads.language_of g.T.IrText g.A.IrText g.A.AttrText g.A.PartialEq.eq ctx) ctx (width_of s) c.args.op e c.in_err-begun.ensures.refused other)))
-
-pub returns-in_err-step-clause-refused : goal.returns-in_err-step-clause-refused
-returns-in_err-step-clause-refused g c =
-    let ctx = c.args.ctx.now in
-    let e = c.in_err-step.field-0.0 in
-    handed_on _ c.from_residual-in_err-step.result e c.from_residual-in_err-step.ensures.1 (under_refuses g.T.IrText g.A.IrText g.A.AttrText g.A.PartialEq.eq ctx c.args.op c.args.state.now e (λ other. c.loop-frame.invariant.refuses e
-    (subst (FramesFault (heads.printing_of g.T.IrText g.A.IrText g.A.AttrText g.A.PartialEq.eq ctx) (heads.language_of g.T.IrText g.A.IrText g.A.AttrText g.A.PartialEq.eq ctx) ctx c.indent_width-width.result e) (sym c.in-Some.ensures.items) (last_fault (heads.printing_of g.T.IrText g.A.IrText g.A.AttrText g.A.PartialEq.eq ctx) (heads.language_of g.T.IrText g.A.IrText g.A.AttrText g.A.PartialEq.eq ctx) ctx c.indent_width-width.result e c.pop.new.self.items c.in-Some.frame (c.in_err-step.ensures.refused other)))))
-
-pub returns-clause-fits : goal.returns-clause-fits
-returns-clause-fits g c =
-    let ctx = c.args.ctx.now in
-    λ x. none_open (heads.printing_of g.T.IrText g.A.IrText g.A.AttrText g.A.PartialEq.eq ctx) (heads.language_of g.T.IrText g.A.IrText g.A.AttrText g.A.PartialEq.eq ctx) ctx c.indent_width-width.result Misfit c.loop-frame.frames.items (omega (arith, c.in_default.ensures.cases.0, c.loop-frame.frames.ok.0)) (c.loop-frame.invariant.misfits x)

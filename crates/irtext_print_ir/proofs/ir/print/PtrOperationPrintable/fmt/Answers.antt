@@ -1,0 +1,4 @@
+use Rattle.irtext_print_ir.proofs.ir.print.PtrOperationPrintable.fmt.Goals as goal
+
+pub returns-clause-text : goal.returns-clause-text
+returns-clause-text g c = record { text = c.in_ok-print_root.ensures.prints.text; state = c.in_ok-print_root.ensures.prints.state }

@@ -1,0 +1,5 @@
+use Rattle.irtext_print_ir.proofs.Printers.Calls.{FnWrites-on_ok}
+use Rattle.irtext_print_ir.proofs.irfmt.printers.closures.PrinterFnPrintable.fmt.Goals as goal
+
+pub returns-clause-prints : goal.returns-clause-prints
+returns-clause-prints g c = FnWrites-on_ok g.F.Fn _ _ _ _ _ _ _ c.print.ensures

@@ -1,0 +1,11 @@
+use Rattle.std.proofs.Common.{refl, string_bytes}
+use Rattle.irtext_print_ir.specs.Printers.OpPrinters.{typed_header_of}
+use Rattle.irtext_print_ir.proofs.Printers.OpPrinters.{part_writes}
+use Rattle.irtext_print_ir.proofs.irfmt.printers.op.TypedSymbHeaderPrintable.fmt.Goals as goal
+
+pub returns-clause-prints : goal.returns-clause-prints
+returns-clause-prints g c = record { written = c.in_ok-print_typed_symb_op_header.ensures.prints; state = refl }
+
+pub returns-clause-text : goal.returns-clause-text
+returns-clause-text g c =
+    part_writes c.args._state.now c.args._state.now (string_bytes c.args.f.now) (string_bytes c.print_typed_symb_op_header.new.f) c.args.ctx.now c.args.self.now.op (typed_header_of (g.T.IrText.written c.args.self.now.ty.now)) (returns-clause-prints g c)

@@ -1,0 +1,3 @@
+-- The texts of errors.
+pub mod Printed
+pub mod Verification

@@ -1,0 +1,8 @@
+-- What is printable, and what is printed of operations, regions and blocks.
+pub mod Shows
+pub mod Separator
+pub mod Calls
+pub mod Items
+pub mod Enclosed
+pub mod OpPrinters
+pub mod Printed

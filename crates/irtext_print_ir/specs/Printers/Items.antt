@@ -1,0 +1,54 @@
+-- For callers: items that are written one behind another, with separators between.
+use Rattle.std.specs.Prelude.{◌≡◌, ℕ, List, [], ◌∷◌, ◌++◌, Bool, true, false, cond, MatchBool, string_bytes, Option}
+use Rattle.std.specs.List.{FoldsTo}
+use Rattle.std.specs.Iterator.{Drains}
+use Rattle.std.specs.declared.string.String.{String}
+use Rattle.std.specs.declared.alloc.Global.{Global}
+use Rattle.irtext_base.specs.declared.printable.ListSeparator.{ListSeparator}
+use Rattle.irtext_print_ir.specs.Printers.Separator.{separator_text}
+use Rattle.irtext_print.specs.Printers.Shown.{Shown}
+use Rattle.irtext_print.specs.Printers.Appended.{Writes}
+
+-- where a list stands: whether the next item is the first, the state and the text
+pub record Place (U : Type 0) : Type 0 where
+  pub first : Bool
+  pub state : Shown U
+  pub text : String Global
+
+-- what stands in front of an item was appended: nothing in front of the first, else the separator
+abbrev pub Separates : {U : Type 0} → Bool → ListSeparator → Shown U → String Global → String Global → Type 0
+Separates first sep s old new = MatchBool first (new ≡ old) (string_bytes new ≡ string_bytes old ++ separator_text sep s)
+
+-- an item is written by one call, behind a separator where it is not the first
+pub record WritesItem {U X : Type 0} (call : X → Shown U → String Global → Shown U → String Global → Type 0) (sep : ListSeparator) (p : Place U) (x : X) (q : Place U) : Type 0 where
+  pub between : String Global
+  pub separated : Separates p.first sep p.state p.text between
+  pub called : call x p.state between q.state q.text
+  pub next : q.first ≡ false
+
+-- the items are written in their order
+pub record WritesItems {U X : Type 0} (call : X → Shown U → String Global → Shown U → String Global → Type 0) (sep : ListSeparator) (xs : List X) (s : Shown U) (b : String Global) (t : Shown U) (d : String Global) : Type 0 where
+  pub last : Bool
+  pub steps : FoldsTo (WritesItem call sep) (record { first = true; state = s; text = b }) xs (record { first = last; state = t; text = d })
+
+-- an item prints itself: what its printing may do, and the text that it gives
+pub record PrintsItem {U X C : Type 0} (prints : X → C → Shown U → String Global → Shown U → String Global → Type 0) (gives : X → C → Shown U → Option (List ℕ × Shown U)) (c : C) (x : X) (s : Shown U) (b : String Global) (t : Shown U) (d : String Global) : Type 0 where
+  pub printed : prints x c s b t d
+  pub written : Writes (gives x c s) t (string_bytes b) (string_bytes d)
+
+-- a clone of the iterator gives the items xs and then nothing
+abbrev pub CloneGives : {I X : Type 0} → (I → I → Type 0) → (I → Option X → I → Type 0) → I → List X → Type 0
+CloneGives {I} is_clone steps i xs = (j : I) × is_clone i j × Drains steps j xs
+
+-- the iterator gives items, and they are written in their order
+abbrev pub WritesGiven : {I U X : Type 0} → (I → Option X → I → Type 0) → (X → Shown U → String Global → Shown U → String Global → Type 0) → I → ListSeparator → Shown U → String Global → Shown U → String Global → Type 0
+WritesGiven {X = X} steps call i sep s b t d = (xs : List X) × Drains steps i xs × WritesItems call sep xs s b t d
+
+-- the same of a clone of the iterator
+abbrev pub WritesCloned : {I U X : Type 0} → (I → I → Type 0) → (I → Option X → I → Type 0) → (X → Shown U → String Global → Shown U → String Global → Type 0) → I → ListSeparator → Shown U → String Global → Shown U → String Global → Type 0
+WritesCloned {X = X} is_clone steps call i sep s b t d = (xs : List X) × CloneGives is_clone steps i xs × WritesItems call sep xs s b t d
+
+-- the texts of the items, with separators between
+abbrev pub items_text : {U X : Type 0} → (X → List ℕ) → ListSeparator → Shown U → Bool → List X → List ℕ
+items_text t sep s first [] = []
+items_text t sep s first (x ∷ xs) = cond first [] (separator_text sep s) ++ (t x ++ items_text t sep s false xs)

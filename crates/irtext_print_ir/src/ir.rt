@@ -1,0 +1,4 @@
+//! Operations, blocks and regions as text.
+
+pub mod print;
+pub mod verify;

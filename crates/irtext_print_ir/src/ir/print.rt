@@ -1,0 +1,83 @@
+//! Printing of roots.
+ghost use Rattle.std.specs.Prelude.{◌≡◌, ◌++◌, [], OnOk, IfErr, IsSome};
+ghost use Rattle.irtext_context.specs.Context.{operation};
+ghost use Rattle.irtext_print.specs.Printers.Appended.{AppendsText};
+ghost use Rattle.irtext_print.specs.Printers.Printing.{gathered_of, with_gathered};
+ghost use Rattle.irtext_print.specs.declared.printable.refusal.Refusal.TheVariants as refusal;
+ghost use Rattle.irtext_print_ir.specs.Printers.Printed as printed;
+ghost use Rattle.irtext_print_section.specs.Items.{section_at};
+ghost use Rattle.irtext_print_walk.specs.Heads as heads;
+
+use crate::ir::print::gathering::gather_operation;
+use crate::printable::{Printable, Refusal, State};
+use irtext_base::text::{AttrText, IrText};
+use irtext_context::base::{Context, Operation, Ptr};
+use irtext_graph::held::HasGraph;
+use irtext_print::printable::gathered::take_gathered;
+use irtext_print_section::section::print_section;
+use std::fmt;
+
+pub mod concrete;
+pub mod debug;
+pub(crate) mod gathering;
+pub mod parts;
+
+/// Appends the section of all that was gathered, and takes it out.
+fn fmt_section<T: IrText<A>, A: AttrText, U>(
+    ctx: &Context<T, A>,
+    state: &mut State<U>,
+    f: &mut String,
+) -> Result<(), Refusal>
+    ensures text { OnOk result (AppendsText f.old (section_at T.IrText.own A.IrText.own A.AttrText.own A.eq ctx.now (gathered_of state.old)) f.new) }
+    ensures state { state.new ≡ with_gathered state.old [] }
+    ensures refused { IfErr result (λ e. e ≡ refusal.Memory) }
+{
+    let gathered = take_gathered(state, ctx.allocator());
+    print_section(ctx, &gathered, f)
+}
+
+/// Appends the text of an operation with all that nests in it, with its mark behind those that were gathered before; and where it stands
+/// in no block, the section of all that was gathered, which is taken out. What `Printable` appends of it is the same; this call says why
+/// it was refused. What was written and gathered until then stays.
+pub fn print_root<T: IrText<A>, A: AttrText, U>(
+    ctx: &Context<T, A>,
+    op: Ptr<Operation>,
+    state: &mut State<U>,
+    f: &mut String,
+) -> Result<(), Refusal>
+    requires live { IsSome (operation ctx.now op) }
+    ensures prints { OnOk result (printed.PrintsRoot T.IrText.own A.IrText.own A.AttrText.own A.eq ctx.now op state.old f.old state.new f.new) }
+    ensures text { OnOk result (printed.WritesRoot T.IrText.own A.IrText.own A.AttrText.own A.eq ctx.now op state.old f.old state.new f.new) }
+    ensures defined { OnOk result (printed.DefinesRoot T.IrText.own A.IrText.own A.AttrText.own A.eq ctx.now op state.old f.old state.new f.new) }
+    ensures refused { IfErr result (heads.RefusesUnder T.IrText.own A.IrText.own A.AttrText.own A.eq ctx.now op state.old) }
+    ensures rest { state.new ≡ with_gathered state.old (gathered_of state.new) }
+{
+    ctx.graph().keeps_nesting();
+    gather_operation(ctx, op, true, state, f)?;
+    match op.get_parent_block(ctx) {
+        Some(_block) => Ok(()),
+        None => fmt_section(ctx, state, f),
+    }
+}
+
+/// What `disp` and `print` write of an operation in no block is the text that the definitions of printing give of what is seen under it.
+/// It does nothing: its contract hands that out.
+pub fn keeps_text<T: IrText<A>, A: AttrText>(ctx: &Context<T, A>, op: Ptr<Operation>)
+    requires live { IsSome (operation ctx.now op) }
+    ensures { printed.IsDefined T.IrText.own A.IrText.own A.AttrText.own A.eq ctx.now op }
+{
+    ctx.graph().keeps_nesting();
+}
+
+impl<T: IrText<A>, A: AttrText, U> Printable<U, T, A> for Ptr<Operation> {
+    ghost can_print = { λ op ctx. IsSome (operation ctx op) };
+
+    ghost gives = { λ op ctx s. printed.root_gives T.IrText.own A.IrText.own A.AttrText.own A.eq ctx op s };
+
+    ghost prints = { λ op ctx s b t d. printed.PrintsRoot T.IrText.own A.IrText.own A.AttrText.own A.eq ctx op s b t d };
+
+    fn fmt(&self, ctx: &Context<T, A>, state: &mut State<U>, f: &mut String) -> fmt::Result {
+        print_root(ctx, *self, state, f)?;
+        Ok(())
+    }
+}

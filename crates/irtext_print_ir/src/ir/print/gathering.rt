@@ -1,0 +1,78 @@
+//! Printing of what nests, where the printing state gathers what is marked.
+ghost use Rattle.std.specs.Prelude.{◌≡◌, ◌++◌, OnOk, IfErr, IsSome, length};
+ghost use Rattle.irtext_context.specs.Context.{operation};
+ghost use Rattle.irtext_context.specs.Context as context;
+ghost use Rattle.irtext_graph.specs.Graph.{Stands};
+ghost use Rattle.irtext_graph.specs.declared.object.Object.TheVariants.{TheRegion};
+ghost use Rattle.irtext_print.specs.Printers.Appended.{AppendsText};
+ghost use Rattle.irtext_print.specs.Printers.Printing.{gathered_of, with_gathered};
+ghost use Rattle.irtext_print.specs.declared.printable.refusal.Refusal.TheVariants as refusal;
+ghost use Rattle.irtext_print_ir.specs.Printers.Printed as printed;
+ghost use Rattle.irtext_print_walk.specs.Heads as heads;
+
+use crate::printable::{Refusal, State};
+use irtext_base::text::{AttrText, IrText};
+use irtext_context::base::{BasicBlock, Context, Operation, Ptr, Region};
+use irtext_print::printable::gathered::{put_gathered, take_gathered};
+use irtext_print_nested::nested::{print_nested, print_nested_block, print_nested_region};
+
+/// Appends the text of an operation with all that nests in it, and behind it its mark, if `marked`. What is marked is gathered.
+pub(crate) fn gather_operation<T: IrText<A>, A: AttrText, U>(
+    ctx: &Context<T, A>,
+    op: Ptr<Operation>,
+    marked: bool,
+    state: &mut State<U>,
+    f: &mut String,
+) -> Result<(), Refusal>
+    requires live { IsSome (operation ctx.now op) }
+    ensures text { OnOk result (AppendsText f.old (heads.text_under T.IrText.own A.IrText.own A.AttrText.own A.eq ctx.now op state.old marked (length (gathered_of state.old))) f.new) }
+    ensures state { OnOk result (state.new ≡ printed.gathers state.old (heads.items_under T.IrText.own A.IrText.own A.AttrText.own A.eq ctx.now op state.old marked)) }
+    ensures fits { OnOk result (heads.MisfitsUnder T.IrText.own A.IrText.own A.AttrText.own A.eq ctx.now op state.old → ⊥) }
+    ensures refused { IfErr result (heads.RefusesUnder T.IrText.own A.IrText.own A.AttrText.own A.eq ctx.now op state.old) }
+    ensures rest { state.new ≡ with_gathered state.old (gathered_of state.new) }
+{
+    let mut items = take_gathered(state, ctx.allocator());
+    let answer = print_nested(ctx, op, marked, state, &mut items, f);
+    put_gathered(state, items);
+    answer
+}
+
+/// Appends the text of a block with all that nests in it. What is marked is gathered.
+pub(crate) fn gather_block<T: IrText<A>, A: AttrText, U>(
+    ctx: &Context<T, A>,
+    block: Ptr<BasicBlock>,
+    state: &mut State<U>,
+    f: &mut String,
+) -> Result<(), Refusal>
+    requires live { IsSome (context.block ctx.now block) }
+    ensures text { OnOk result (AppendsText f.old (heads.block_text_under T.IrText.own A.IrText.own A.AttrText.own A.eq ctx.now block state.old (length (gathered_of state.old))) f.new) }
+    ensures state { OnOk result (state.new ≡ printed.gathers state.old (heads.block_items_under T.IrText.own A.IrText.own A.AttrText.own A.eq ctx.now block state.old)) }
+    ensures fits { OnOk result (heads.BlockFaultUnder T.IrText.own A.IrText.own A.AttrText.own A.eq ctx.now block state.old refusal.Misfit → ⊥) }
+    ensures refused { IfErr result (heads.RefusesBlockUnder T.IrText.own A.IrText.own A.AttrText.own A.eq ctx.now block state.old) }
+    ensures rest { state.new ≡ with_gathered state.old (gathered_of state.new) }
+{
+    let mut items = take_gathered(state, ctx.allocator());
+    let answer = print_nested_block(ctx, block, state, &mut items, f);
+    put_gathered(state, items);
+    answer
+}
+
+/// Appends the text of a region with all that nests in it. What is marked is gathered.
+pub(crate) fn gather_region<T: IrText<A>, A: AttrText, U>(
+    ctx: &Context<T, A>,
+    region: Ptr<Region>,
+    state: &mut State<U>,
+    f: &mut String,
+) -> Result<(), Refusal>
+    requires live { Stands ctx.now.graph (TheRegion region) }
+    ensures text { OnOk result (AppendsText f.old (heads.region_text_under T.IrText.own A.IrText.own A.AttrText.own A.eq ctx.now region state.old (length (gathered_of state.old))) f.new) }
+    ensures state { OnOk result (state.new ≡ printed.gathers state.old (heads.region_items_under T.IrText.own A.IrText.own A.AttrText.own A.eq ctx.now region state.old)) }
+    ensures fits { OnOk result (heads.RegionFaultUnder T.IrText.own A.IrText.own A.AttrText.own A.eq ctx.now region state.old refusal.Misfit → ⊥) }
+    ensures refused { IfErr result (heads.RefusesRegionUnder T.IrText.own A.IrText.own A.AttrText.own A.eq ctx.now region state.old) }
+    ensures rest { state.new ≡ with_gathered state.old (gathered_of state.new) }
+{
+    let mut items = take_gathered(state, ctx.allocator());
+    let answer = print_nested_region(ctx, region, state, &mut items, f);
+    put_gathered(state, items);
+    answer
+}

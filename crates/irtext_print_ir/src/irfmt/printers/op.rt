@@ -1,0 +1,160 @@
+//! Printers of an operation's parts: its header, with a type too, and its one region.
+ghost use Rattle.std.specs.Prelude.{◌≡◌, OnOk, IfErr, IsSome};
+ghost use Rattle.irtext_context.specs.Context.{operation};
+ghost use Rattle.irtext_print_ir.specs.Printers.OpPrinters.{PrintsPart, WritesPart};
+ghost use Rattle.irtext_print.specs.Printers.Printing.{gathered_of, with_gathered};
+ghost use Rattle.irtext_print_ir.specs.Printers.OpPrinters as parts;
+
+use crate::ir::print::gathering::gather_region;
+use crate::printable::{Printable, Refusal, State};
+use irtext_base::text::{AttrText, IrText};
+use irtext_context::base::{Context, Operation, OperationAccess, Ptr};
+use irtext_graph::held::HasGraph;
+use irtext_print::ir::print::concrete::fmt_id;
+use irtext_print::ir::print::pieces::symbol_of;
+use irtext_print::printable::refusal::memory_alone;
+use std::fmt;
+
+/// Prints an operation's id and its symbol's name. Made by [`symb_op_header`].
+#[derive(Clone, Copy, Debug)]
+pub struct SymbHeader {
+    op: Ptr<Operation>,
+}
+
+/// Prints an operation's id, its symbol's name and a type. Made by [`typed_symb_op_header`].
+#[derive(Clone, Copy)]
+pub struct TypedSymbHeader<'a, T> {
+    op: Ptr<Operation>,
+    ty: &'a T,
+}
+
+/// Prints an operation's one region. Made by [`region`].
+#[derive(Clone, Copy, Debug)]
+pub struct OneRegion {
+    op: Ptr<Operation>,
+}
+
+/// A printer that writes an operation's id, a space, and `@` with its symbol's name: the identifier under the key
+/// `builtin_sym_name`. It prints where the operation is live, and fails where there is no such name or memory is refused;
+/// [`print_symb_op_header`] writes the same and says which.
+pub fn symb_op_header(op: Ptr<Operation>) -> SymbHeader
+    ensures { result.op ≡ op }
+{
+    SymbHeader { op }
+}
+
+/// A printer that writes what [`symb_op_header`] does, and the type behind `: `. It fails as that one does;
+/// [`print_typed_symb_op_header`] writes the same and says why.
+pub fn typed_symb_op_header<T>(op: Ptr<Operation>, ty: &T) -> TypedSymbHeader<'_, T>
+    ensures op { result.op ≡ op }
+    ensures ty { result.ty.now ≡ ty.now }
+{
+    TypedSymbHeader { op, ty }
+}
+
+/// A printer that writes the one region of an operation, with all that nests in it. It prints where the operation is live, and fails
+/// where it has no region or several, an operation that is shown inside doesn't fit its format, an indentation is too deep, or memory
+/// is refused; [`print_region`] writes the same and says which.
+pub fn region(op: Ptr<Operation>) -> OneRegion
+    ensures { result.op ≡ op }
+{
+    OneRegion { op }
+}
+
+/// Appends what [`symb_op_header`] writes, and says why it is refused: [`Refusal::Misfit`] where the operation has no symbol's name,
+/// else for want of memory. What was written until then stays.
+pub fn print_symb_op_header<T: IrText<A>, A: AttrText>(
+    ctx: &Context<T, A>,
+    op: Ptr<Operation>,
+    f: &mut String,
+) -> Result<(), Refusal>
+    requires live { IsSome (operation ctx.now op) }
+    ensures prints { OnOk result (WritesPart parts.header_of ctx.now op f.old f.new) }
+    ensures refused { IfErr result (parts.RefusesPart parts.header_of ctx.now op) }
+{
+    let id = op.get_opid(ctx);
+    let attributes = op.attributes(ctx);
+    let Some(symbol) = symbol_of(attributes) else {
+        return Err(Refusal::Misfit);
+    };
+    fmt_id(id, f)?;
+    f.push_str(" @")?;
+    f.push_str(symbol.as_str())?;
+    Ok(())
+}
+
+/// Appends what [`typed_symb_op_header`] writes, and says why it is refused, as [`print_symb_op_header`] does.
+pub fn print_typed_symb_op_header<T: IrText<A>, A: AttrText>(
+    ctx: &Context<T, A>,
+    op: Ptr<Operation>,
+    ty: &T,
+    f: &mut String,
+) -> Result<(), Refusal>
+    requires live { IsSome (operation ctx.now op) }
+    ensures prints { OnOk result (WritesPart (parts.typed_header_of (T.written ty.now)) ctx.now op f.old f.new) }
+    ensures refused { IfErr result (parts.RefusesPart (parts.typed_header_of (T.written ty.now)) ctx.now op) }
+{
+    print_symb_op_header(ctx, op, f)?;
+    f.push_str(": ")?;
+    memory_alone(ty.write_text(f))
+}
+
+/// Appends what [`region`] writes, and says why it is refused: [`Refusal::Misfit`] where the operation has no region or several, or an
+/// operation that is shown inside doesn't fit its format, [`Refusal::Depth`] where its region isn't elided and an indentation inside is
+/// too deep, else for want of memory. What is marked inside is gathered, and what was written until then stays.
+pub fn print_region<T: IrText<A>, A: AttrText, U>(
+    ctx: &Context<T, A>,
+    op: Ptr<Operation>,
+    state: &mut State<U>,
+    f: &mut String,
+) -> Result<(), Refusal>
+    requires live { IsSome (operation ctx.now op) }
+    ensures prints { OnOk result (parts.PrintsOne T.IrText.own A.IrText.own A.AttrText.own A.eq ctx.now op state.old f.old state.new f.new) }
+    ensures refused { IfErr result (parts.RefusesOne T.IrText.own A.IrText.own A.AttrText.own A.eq ctx.now op state.old) }
+    ensures rest { state.new ≡ with_gathered state.old (gathered_of state.new) }
+{
+    if op.num_regions(ctx) != 1 {
+        return Err(Refusal::Misfit);
+    }
+    ctx.graph().keeps_nesting();
+    gather_region(ctx, op.get_region(ctx, 0), state, f)
+}
+
+impl<T: IrText<A>, A: AttrText, U> Printable<U, T, A> for SymbHeader {
+    ghost can_print = { λ h ctx. IsSome (operation ctx h.op) };
+
+    ghost gives = { λ h ctx s. parts.printed_part parts.header_of ctx h.op s };
+
+    ghost prints = { λ h ctx s b t d. PrintsPart parts.header_of ctx h.op s b t d };
+
+    fn fmt(&self, ctx: &Context<T, A>, _state: &mut State<U>, f: &mut String) -> fmt::Result {
+        print_symb_op_header(ctx, self.op, f)?;
+        Ok(())
+    }
+}
+
+impl<T: IrText<A>, A: AttrText, U> Printable<U, T, A> for TypedSymbHeader<'_, T> {
+    ghost can_print = { λ h ctx. IsSome (operation ctx h.op) };
+
+    ghost gives = { λ h ctx s. parts.printed_part (parts.typed_header_of (T.written h.ty.now)) ctx h.op s };
+
+    ghost prints = { λ h ctx s b t d. PrintsPart (parts.typed_header_of (T.written h.ty.now)) ctx h.op s b t d };
+
+    fn fmt(&self, ctx: &Context<T, A>, _state: &mut State<U>, f: &mut String) -> fmt::Result {
+        print_typed_symb_op_header(ctx, self.op, self.ty, f)?;
+        Ok(())
+    }
+}
+
+impl<T: IrText<A>, A: AttrText, U> Printable<U, T, A> for OneRegion {
+    ghost can_print = { λ r ctx. IsSome (operation ctx r.op) };
+
+    ghost gives = { λ r ctx s. parts.one_gives T.IrText.own A.IrText.own A.AttrText.own A.eq ctx r.op s };
+
+    ghost prints = { λ r ctx s b t d. parts.PrintsOne T.IrText.own A.IrText.own A.AttrText.own A.eq ctx r.op s b t d };
+
+    fn fmt(&self, ctx: &Context<T, A>, state: &mut State<U>, f: &mut String) -> fmt::Result {
+        print_region(ctx, self.op, state, f)?;
+        Ok(())
+    }
+}

@@ -1,0 +1,48 @@
+//! A quoted text, and a text between two others.
+ghost use Rattle.std.specs.Prelude.{◌≡◌, Some};
+ghost use Rattle.irtext_print_ir.specs.Printers.Enclosed.{around, Encloses};
+ghost use Rattle.irtext_read.specs.QuotedBytes.{quoted_bytes};
+
+use crate::printable::state::State;
+use crate::printable::{Printable, fmt_quoted};
+use irtext_base::text::{AttrText, IrText};
+use irtext_context::base::Context;
+use std::fmt;
+
+/// Prints a text between quotation marks. Made by [`quoted`](crate::irfmt::printers::quoted).
+#[derive(Clone, Copy)]
+pub struct Quoted<'a> {
+    pub(crate) text: &'a str,
+}
+
+impl<T: IrText<A>, A: AttrText, U> Printable<U, T, A> for Quoted<'_> {
+    ghost gives = { λ q _ s. Some (quoted_bytes q.text.now, s) };
+
+    fn fmt(&self, _ctx: &Context<T, A>, _state: &mut State<U>, f: &mut String) -> fmt::Result {
+        fmt_quoted(self.text, f)
+    }
+}
+
+/// Prints a value between two texts. Made by [`enclosed`](crate::irfmt::printers::enclosed).
+#[derive(Drop)]
+pub struct Enclosed<'a, P> {
+    pub(crate) left: &'a str,
+    pub(crate) right: &'a str,
+    pub(crate) inside: P,
+}
+
+impl<'a, T: IrText<A>, A: AttrText, U, P: Printable<U, T, A>> Printable<U, T, A>
+    for Enclosed<'a, P> {
+    ghost can_print = { λ e. P.can_print e.inside };
+
+    ghost gives = { λ e c s. around e.left.now e.right.now (P.gives e.inside c s) };
+
+    ghost prints = { λ e c s b t d. Encloses (P.prints e.inside c) e.left.now e.right.now s b t d };
+
+    fn fmt(&self, ctx: &Context<T, A>, state: &mut State<U>, f: &mut String) -> fmt::Result {
+        f.push_str(self.left)?;
+        self.inside.fmt(ctx, state, f)?;
+        f.push_str(self.right)?;
+        Ok(())
+    }
+}

@@ -1,0 +1,39 @@
+//! Sources, positions and locations print themselves.
+ghost use Rattle.std.specs.Prelude.{Some};
+ghost use Rattle.std.specs.Str.{encode_utf8_all};
+ghost use Rattle.irtext_base.specs.Causes.{position_text};
+ghost use Rattle.irtext_base.specs.Paths.{path_of};
+ghost use Rattle.irtext_grammar.specs.Spelling.Locations.{source_text, location_text};
+
+use crate::printable::{Printable, State};
+use irtext_base::location::{Location, Source};
+use irtext_base::parsable::SourcePosition;
+use irtext_base::text::{AttrText, IrText};
+use irtext_context::base::Context;
+use irtext_print::location::print::{fmt_location, fmt_source};
+use std::fmt;
+
+impl<T: IrText<A>, A: AttrText, U> Printable<U, T, A> for Source {
+    ghost gives = { λ src ctx s. Some (encode_utf8_all (source_text (path_of ctx.paths src)), s) };
+
+    fn fmt(&self, ctx: &Context<T, A>, _state: &mut State<U>, f: &mut String) -> fmt::Result {
+        fmt_source(*self, ctx, f)
+    }
+}
+
+impl<T: IrText<A>, A: AttrText, U> Printable<U, T, A> for SourcePosition {
+    ghost gives = { λ pos _ s. Some (position_text pos, s) };
+
+    fn fmt(&self, _ctx: &Context<T, A>, _state: &mut State<U>, f: &mut String) -> fmt::Result {
+        write!(f, "{self}")?;
+        Ok(())
+    }
+}
+
+impl<T: IrText<A>, A: AttrText, U> Printable<U, T, A> for Location<A> {
+    ghost gives = { λ location ctx s. Some (encode_utf8_all (location_text A.written ctx.paths location), s) };
+
+    fn fmt(&self, ctx: &Context<T, A>, _state: &mut State<U>, f: &mut String) -> fmt::Result {
+        fmt_location(self, ctx, f)
+    }
+}

@@ -1,0 +1,47 @@
+//! What prints itself with a context: the trait, the printing state with its guards, texts as a `Display`, and plain values.
+ghost use Rattle.std.specs.Prelude.{List, ℕ, OnOk, None, Option, ⊤, string_bytes};
+ghost use Rattle.irtext_print.specs.Printers.Shown.{Shown};
+ghost use Rattle.irtext_print.specs.Printers.Appended.{Writes};
+ghost use Rattle.std.specs.declared.string.String.{String};
+ghost use Rattle.std.specs.declared.alloc.Global.{Global};
+ghost use Rattle.irtext_context.specs.declared.base.context.Context.{Context};
+
+pub use irtext_base::printable::ListSeparator;
+use irtext_base::text::{AttrText, IrText};
+use irtext_context::base::Context;
+pub use irtext_print::printable::{
+    IndentGuard, Refusal, RegionDepthGuard, RegionPrintDepthLimit, State, fmt_indented_newline,
+    fmt_newline, guards, refusal, state,
+};
+use std::fmt;
+
+mod attributes;
+pub mod displayable;
+pub mod indented;
+pub mod items;
+pub mod numbers;
+pub mod plain;
+
+pub use displayable::{Disp, Displayable};
+pub use indented::{IndentedNl, indented_nl};
+pub use irtext_read::printable::fmt_quoted;
+pub use items::fmt_iter;
+
+/// What has a text that a context and a printing state may say more of.
+pub trait Printable<U, T: IrText<A>, A: AttrText> {
+    // whether it may be printed, as where it is live
+    ghost can_print: { Self → Context T A → Type 0 } = { λ _ _. ⊤ };
+
+    // the text that is appended and the state that is left; nothing where nothing is claimed
+    ghost gives: { Self → Context T A → Shown U → Option (List ℕ × Shown U) } = { λ _ _ _. None };
+
+    // what one printing may do: the state and the text before it, and both after it
+    ghost prints: { Self → Context T A → Shown U → String Global → Shown U → String Global → Type 0 } = { λ _ _ _ _ _ _. ⊤ };
+
+    /// Appends the text. It fails where memory is refused, the indentation is too deep, an operation doesn't fit its format,
+    /// or a stored closure fails; what was written until then stays.
+    fn fmt(&self, ctx: &Context<T, A>, state: &mut State<U>, f: &mut String) -> fmt::Result
+        requires { can_print self.now ctx.now }
+        ensures prints { OnOk result (prints self.now ctx.now state.old f.old state.new f.new) }
+        ensures text { OnOk result (Writes (gives self.now ctx.now state.old) state.new (string_bytes f.old) (string_bytes f.new)) };
+}

@@ -1,0 +1,20 @@
+//! Attributes print themselves.
+ghost use Rattle.std.specs.Prelude.{Some};
+ghost use Rattle.std.specs.Str.{encode_utf8_all};
+ghost use Rattle.irtext_base.specs.Locations.{attr_view};
+ghost use Rattle.irtext_grammar.specs.Spelling.AttrText.{attr_text};
+
+use crate::printable::{Printable, State};
+use irtext_base::base::AttrObj;
+use irtext_base::text::{AttrText, IrText};
+use irtext_context::base::Context;
+use irtext_print::printable::attributes::fmt_attr;
+use std::fmt;
+
+impl<T: IrText<A>, A: AttrText, U> Printable<U, T, A> for AttrObj<A> {
+    ghost gives = { λ x _ s. Some (encode_utf8_all (attr_text A.IrText.written (attr_view x)), s) };
+
+    fn fmt(&self, _ctx: &Context<T, A>, _state: &mut State<U>, f: &mut String) -> fmt::Result {
+        fmt_attr(self, f)
+    }
+}

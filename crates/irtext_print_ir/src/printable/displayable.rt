@@ -1,0 +1,105 @@
+//! A value with its context as a `Display`.
+ghost use Rattle.std.specs.Prelude.{◌≡◌, ◌++◌, List, ℕ, Some, None, Option, OnOk, IfSome, string_bytes};
+ghost use Rattle.irtext_print.specs.Printers.Appended.{fresh, text_of};
+ghost use Rattle.irtext_print.specs.Printers.Shown.{Shown};
+
+use crate::printable::Printable;
+use crate::printable::state::{RegionPrintDepthLimit, State};
+use irtext_base::text::{AttrText, IrText};
+use irtext_context::base::Context;
+use std::alloc::Global;
+use std::fmt;
+
+/// A value with its context, as a `Display`: each formatting begins with a state of this layout, and nothing gathered.
+#[derive(Drop)]
+pub struct Displayable<'a, X: Printable<(), T, A>, T: IrText<A>, A: AttrText> {
+    value: &'a X,
+    ctx: &'a Context<T, A>,
+    alloc: Global,
+    indent_width: u16,
+    current_indent: u16,
+    limit: RegionPrintDepthLimit,
+    ghost printable: { ∥ X.can_print value.now ctx.now ∥₁ },
+}
+
+impl<'a, X: Printable<(), T, A>, T: IrText<A>, A: AttrText> Displayable<'a, X, T, A> {
+    ghost use Rattle.irtext_print_ir.specs.Printers.Shows.{shown_by, ShownOnce};
+
+    /// The field says only that a proof exists; this hands it out.
+    fn can_be_printed(&self)
+        ensures { X.can_print self.now.value.now self.now.ctx.now }
+    {}
+
+    /// Appends the text. A `Display` can promise no more than a text that its value gives; this call promises what the value's
+    /// printing may do as well, as where a closure prints. It fails where that printing does; what was written until then stays.
+    pub fn append_to(&self, f: &mut String) -> fmt::Result
+        ensures prints { OnOk result (ShownOnce X.prints self.now f.old f.new) }
+        ensures text { OnOk result (IfSome (shown_by X.gives self.now) (λ text. string_bytes f.new ≡ string_bytes f.old ++ text)) }
+    {
+        let mut state = State::with_layout(
+            self.alloc,
+            self.indent_width,
+            self.current_indent,
+            self.limit,
+            (),
+        );
+        self.can_be_printed();
+        self.value.fmt(self.ctx, &mut state, f)
+    }
+}
+
+impl<X: Printable<(), T, A>, T: IrText<A>, A: AttrText> fmt::Display for Displayable<'_, X, T, A> {
+    ghost output = { λ d. text_of (X.gives d.value.now d.ctx.now (fresh d.indent_width d.current_indent d.limit)) };
+
+    fn fmt<W: fmt::Write>(&self, f: &mut fmt::Formatter<W>) -> fmt::Result {
+        let mut text = String::new(self.alloc);
+        self.append_to(&mut text)?;
+        f.write_str(text.as_str())
+    }
+}
+
+/// The text of what is printable, as a `Display`.
+pub trait Disp<T: IrText<A>, A: AttrText>: Printable<(), T, A> {
+    ghost use Rattle.irtext_print_ir.specs.Printers.Shows.{shown_by, Displays};
+
+    /// The text with a new printing state at each formatting.
+    fn disp<'a>(&'a self, ctx: &'a Context<T, A>) -> Displayable<'a, Self, T, A>
+    where
+        Self: Sized,
+        requires { Self.can_print self.now ctx.now }
+        ensures text { shown_by Self.gives result ≡ text_of (Self.gives self.now ctx.now (fresh 2 0 RegionPrintDepthLimit.Unlimited)) }
+        ensures shows { Displays result self.now ctx.now (fresh 2 0 RegionPrintDepthLimit.Unlimited) };
+
+    /// The text with a state of the same width, indentation and limit, and nothing gathered, at each formatting.
+    fn print<'a>(&'a self, ctx: &'a Context<T, A>, state: &State<()>) -> Displayable<'a, Self, T, A>
+    where
+        Self: Sized,
+        requires { Self.can_print self.now ctx.now }
+        ensures text { shown_by Self.gives result ≡ text_of
+            (Self.gives self.now ctx.now (fresh state.now.width state.now.indent state.now.limit)) }
+        ensures shows { Displays result self.now ctx.now (fresh state.now.width state.now.indent state.now.limit) };
+}
+
+impl<X: Printable<(), T, A>, T: IrText<A>, A: AttrText> Disp<T, A> for X {
+    fn disp<'a>(&'a self, ctx: &'a Context<T, A>) -> Displayable<'a, X, T, A> {
+        Displayable {
+            value: self,
+            ctx,
+            alloc: ctx.allocator(),
+            indent_width: 2,
+            current_indent: 0,
+            limit: RegionPrintDepthLimit::Unlimited,
+        }
+    }
+
+    fn print<'a>(&'a self, ctx: &'a Context<T, A>, state: &State<()>) -> Displayable<'a, X, T, A> {
+        Displayable {
+            value: self,
+            ctx,
+            alloc: ctx.allocator(),
+            indent_width: state.indent_width(),
+            current_indent: state.current_indent(),
+            limit: state.current_region_print_depth_limit(),
+        }
+    }
+}

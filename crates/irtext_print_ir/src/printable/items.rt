@@ -1,0 +1,53 @@
+//! The items of an iterator, with separators between.
+ghost use Rattle.std.specs.Prelude.{◌≡◌, OnOk};
+ghost use Rattle.std.specs.Iterator.{HoldsAlong, IsFinite};
+ghost use Rattle.std.specs.List.{All};
+ghost use Rattle.irtext_print_ir.specs.Printers.Items.{WritesGiven, PrintsItem, Separates};
+
+use crate::printable::state::State;
+use crate::printable::{ListSeparator, Printable};
+use irtext_base::text::{AttrText, IrText};
+use irtext_context::base::Context;
+use std::fmt;
+
+/// Appends what stands in front of an item: the separator, unless the item is the first.
+pub(crate) fn fmt_between<T: IrText<A>, A: AttrText, U>(
+    first: bool,
+    sep: ListSeparator,
+    ctx: &Context<T, A>,
+    state: &mut State<U>,
+    f: &mut String,
+) -> fmt::Result
+    ensures text { OnOk result (Separates first sep state.old f.old f.new) }
+    ensures state { OnOk result (state.new ≡ state.old) }
+{
+    if first {
+        return Ok(());
+    }
+    sep.fmt(ctx, state, f)
+}
+
+/// Appends the texts of the items that an iterator gives, with a separator between each two. It fails where a separator or an
+/// item does; what was written until then stays.
+pub fn fmt_iter<T: IrText<A>, A: AttrText, U, I: Iterator + Drop>(
+    iter: I,
+    ctx: &Context<T, A>,
+    state: &mut State<U>,
+    sep: ListSeparator,
+    f: &mut String,
+) -> fmt::Result
+where
+    I::Item: Printable<U, T, A> + Drop,
+    requires runs { I.can_next iter × IsFinite (I.remaining iter) }
+    requires printable { HoldsAlong I.next_gives iter (All (λ x. I.Item.can_print x ctx.now)) }
+    ensures { OnOk result (WritesGiven I.next_gives
+        (PrintsItem I.Item.prints I.Item.gives ctx.now) iter sep state.old f.old state.new f.new) }
+{
+    let mut first = true;
+    for item in iter {
+        fmt_between(first, sep, ctx, state, f)?;
+        first = false;
+        item.fmt(ctx, state, f)?;
+    }
+    Ok(())
+}

@@ -1,0 +1,86 @@
+//! References, texts, truth values, characters and separators print themselves.
+ghost use Rattle.std.specs.Prelude.{◌≡◌, Some, List, ℕ};
+ghost use Rattle.std.specs.Char.{encode_utf8};
+ghost use Rattle.std.specs.String.{string_bytes};
+ghost use Rattle.irtext_read.specs.QuotedBytes.{quoted_bytes};
+ghost use Rattle.irtext_print_ir.specs.Printers.Separator.{bool_text};
+
+use crate::printable::state::State;
+use crate::printable::{ListSeparator, Printable, fmt_indented_newline};
+use irtext_base::text::{AttrText, IrText};
+use irtext_context::base::Context;
+use irtext_read::printable::fmt_quoted;
+use std::fmt;
+
+impl<T: IrText<A>, A: AttrText, U, X: Printable<U, T, A>> Printable<U, T, A> for &X {
+    ghost can_print = { λ x. X.can_print x.now };
+
+    ghost gives = { λ x c s. X.gives x.now c s };
+
+    ghost prints = { λ x. X.prints x.now };
+
+    fn fmt(&self, ctx: &Context<T, A>, state: &mut State<U>, f: &mut String) -> fmt::Result {
+        (**self).fmt(ctx, state, f)
+    }
+}
+
+impl<T: IrText<A>, A: AttrText, U> Printable<U, T, A> for &str {
+    ghost gives = { λ x _ s. Some (x.now, s) };
+
+    fn fmt(&self, _ctx: &Context<T, A>, _state: &mut State<U>, f: &mut String) -> fmt::Result {
+        f.push_str(self)?;
+        Ok(())
+    }
+}
+
+impl<T: IrText<A>, A: AttrText, U> Printable<U, T, A> for String {
+    ghost gives = { λ x _ s. Some (quoted_bytes (string_bytes x), s) };
+
+    fn fmt(&self, _ctx: &Context<T, A>, _state: &mut State<U>, f: &mut String) -> fmt::Result {
+        fmt_quoted(self.as_str(), f)
+    }
+}
+
+impl<T: IrText<A>, A: AttrText, U> Printable<U, T, A> for bool {
+    ghost gives = { λ b _ s. Some (bool_text b, s) };
+
+    fn fmt(&self, _ctx: &Context<T, A>, _state: &mut State<U>, f: &mut String) -> fmt::Result {
+        f.push_str(if *self { "true" } else { "false" })?;
+        Ok(())
+    }
+}
+
+impl<T: IrText<A>, A: AttrText, U> Printable<U, T, A> for char {
+    ghost gives = { λ c _ s. Some (encode_utf8 c, s) };
+
+    fn fmt(&self, _ctx: &Context<T, A>, _state: &mut State<U>, f: &mut String) -> fmt::Result {
+        f.push(*self)?;
+        Ok(())
+    }
+}
+
+impl<T: IrText<A>, A: AttrText, U> Printable<U, T, A> for ListSeparator {
+    ghost use Rattle.irtext_print_ir.specs.Printers.Separator.{separator_text};
+
+    ghost gives = { λ x _ s. Some (separator_text x s, s) };
+
+    fn fmt(&self, _ctx: &Context<T, A>, state: &mut State<U>, f: &mut String) -> fmt::Result {
+        match self {
+            ListSeparator::None => Ok(()),
+            ListSeparator::Newline => fmt_indented_newline(state, f),
+            ListSeparator::CharNewline(c) => {
+                f.push(*c)?;
+                fmt_indented_newline(state, f)
+            }
+            ListSeparator::Char(c) => {
+                f.push(*c)?;
+                Ok(())
+            }
+            ListSeparator::CharSpace(c) => {
+                f.push(*c)?;
+                f.push(' ')?;
+                Ok(())
+            }
+        }
+    }
+}

@@ -1,0 +1,5 @@
+pub mod Noted
+pub mod Sections
+pub mod Texts
+pub mod Givens
+pub mod Written

@@ -1,0 +1,38 @@
+-- For callers: the texts of entries, piece by piece.
+use Rattle.std.specs.Prelude.{ℕ, Bool, ◌+◌, cond, List, [], ◌∷◌, ◌++◌, map, codes, decimal, Option, ⊤}
+use Rattle.irtext_base.specs.Own.{Language}
+use Rattle.irtext_base.specs.Text.{Text}
+use Rattle.irtext_grammar.specs.Grammar.Tree.{Attribute}
+use Rattle.irtext_grammar.specs.Graphs.Graph.{Printing, place_in}
+use Rattle.irtext_grammar.specs.Spelling.Section.{item, located}
+use Rattle.irtext_grammar.specs.Spelling.Spell.{joined, comma}
+
+-- a label under the key of labels
+abbrev pub label_text : Text → Text
+label_text l = codes "builtin_block_label = builtin.identifier " ++ l
+
+module _ {T A : Type 0} (C : Printing T A) (items : ℕ) (once : List A) where
+  -- the reference to an attribute that is written once
+  abbrev pub reference_text : A → Text
+  reference_text a = codes "!" ++ decimal (items + place_in C once a)
+
+  module _ (L : Language ⊤ T A) where
+    -- a key, and the attribute under it or the reference to one that is written once
+    abbrev pub pair_text : Text × Attribute A → Text
+    pair_text e = e.0 ++ (codes " = " ++ item L C items once e.1)
+
+    -- the same, behind `, ` where it is not the first
+    abbrev pub next_pair : Bool → Text × Attribute A → Text
+    next_pair first e = cond first [] comma ++ pair_text e
+
+    -- attributes with `, ` between them
+    abbrev pub pairs_text : List (Text × Attribute A) → Text
+    pairs_text es = joined comma (map pair_text es)
+
+    -- an entry with this location, where it is known, and these attributes
+    abbrev pub entry_with : ℕ → Option Text → List (Text × Attribute A) → Text
+    entry_with n location es = codes "!" ++ (decimal n ++ (codes " = " ++ (located L C location ++ (codes "[" ++ (pairs_text es ++ codes "]\n")))))
+
+-- an attribute that is written once, behind its index
+abbrev pub once_text : {A : Type 0} → (A → Text) → ℕ → A → Text
+once_text written n a = codes "!" ++ (decimal n ++ (codes " = " ++ (written a ++ (10 ∷ []))))

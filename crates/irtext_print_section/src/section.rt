@@ -1,0 +1,111 @@
+//! The section behind a root.
+ghost use Rattle.std.specs.Prelude.{◌≡◌, ◌++◌, ◌<◌, ◌^◌, List, [], OnOk, IfErr, length};
+ghost use Rattle.irtext_grammar.specs.Spelling.Section.{once_texts};
+ghost use Rattle.irtext_print.specs.Printers.Appended.{AppendsText};
+ghost use Rattle.irtext_print.specs.Printers.PieceText.{words};
+ghost use Rattle.irtext_print.specs.declared.printable.refusal.Refusal.TheVariants as refusal;
+ghost use Rattle.irtext_print_section.specs.Entries as texts;
+ghost use Rattle.irtext_print_section.specs.Items as section;
+ghost use Rattle.irtext_print_section.specs.Mentions as mentions;
+
+use crate::entries::fmt_entry;
+use crate::given::given_of;
+use crate::mentions::Mentions;
+use indexmap::IndexSet;
+use irtext_base::text::{AttrText, IrText};
+use irtext_context::base::{Context, Item};
+use irtext_print::printable::Refusal;
+use irtext_print::printable::refusal::memory_alone;
+use std::fmt;
+
+/// Appends the entry of an item; one that was erased has none.
+fn fmt_item<'c, T: IrText<A>, A: AttrText>(
+    ctx: &'c Context<T, A>,
+    index: usize,
+    item: Item,
+    count: usize,
+    known: &mut Mentions<'c, A>,
+    f: &mut String,
+) -> fmt::Result
+    requires { count < 2 ^ 63 }
+    ensures known { OnOk result (mentions.known_in known.new ≡ section.item_known T.IrText.own A.IrText.own A.AttrText.own A.eq ctx.now (mentions.known_in known.old) item) }
+    ensures text { OnOk result ((more : List A) →
+        AppendsText f.old (section.item_entry T.IrText.own A.IrText.own A.AttrText.own A.eq ctx.now count (mentions.known_in known.new ++ more) index item) f.new) }
+{
+    match given_of(ctx, item) {
+        Some(given) => fmt_entry(ctx, index, &given, count, known, f),
+        None => Ok(()),
+    }
+}
+
+/// Appends the entries of items.
+fn fmt_items<'c, T: IrText<A>, A: AttrText>(
+    ctx: &'c Context<T, A>,
+    items: &[Item],
+    known: &mut Mentions<'c, A>,
+    f: &mut String,
+) -> fmt::Result
+    ensures known { OnOk result (mentions.known_in known.new ≡ section.all_known T.IrText.own A.IrText.own A.AttrText.own A.eq ctx.now (mentions.known_in known.old) items.now) }
+    ensures text { OnOk result ((more : List A) →
+        AppendsText f.old (section.all_entries T.IrText.own A.IrText.own A.AttrText.own A.eq ctx.now (length items.now) (mentions.known_in known.new ++ more) 0 items.now) f.new) }
+{
+    for (index, item) in items.iter().enumerate() {
+        fmt_item(ctx, index, *item, items.len(), known, f)?;
+    }
+    Ok(())
+}
+
+/// Appends an attribute that is written once, behind its index.
+fn fmt_once<A: AttrText>(index: usize, attr: &A, f: &mut String) -> fmt::Result
+    ensures { OnOk result (AppendsText f.old (texts.once_text A.IrText.written index attr.now) f.new) }
+{
+    write!(f, "!{index} = ")?;
+    attr.write_text(f)?;
+    f.push_str("\n")?;
+    Ok(())
+}
+
+/// Appends the attributes that are written once, numbered on behind all items.
+fn fmt_all_once<A: AttrText>(count: usize, known: &Mentions<'_, A>, f: &mut String) -> fmt::Result
+    requires { count < 2 ^ 63 }
+    ensures { OnOk result (AppendsText f.old (once_texts (words A.IrText.written) (mentions.asking A.print_once A.eq) count (mentions.known_in known.now)) f.new) }
+{
+    let attrs = known.as_slice();
+    for (place, attr) in attrs.iter().enumerate() {
+        fmt_once(count + place, *attr, f)?;
+    }
+    Ok(())
+}
+
+/// Appends the section of items, if there are any.
+fn fmt_section<T: IrText<A>, A: AttrText>(
+    ctx: &Context<T, A>,
+    items: &[Item],
+    f: &mut String,
+) -> fmt::Result
+    ensures { OnOk result (AppendsText f.old (section.section_at T.IrText.own A.IrText.own A.AttrText.own A.eq ctx.now items.now) f.new) }
+{
+    if items.is_empty() {
+        return Ok(());
+    }
+    f.push_str("\n\noutlined_attributes:\n")?;
+    let mut known = IndexSet::new(ctx.allocator());
+    fmt_items(ctx, items, &mut known, f)?;
+    fmt_all_once(items.len(), &known, f)
+}
+
+/// Appends the section of items: the index of each is its place among them, and one that was erased has no entry and keeps its index.
+/// Behind them stands each attribute that is written once, numbered on. Nothing is written where there are no items.
+///
+/// It takes memory for the attributes that are written once alone, a reference for each, and is refused only where memory is; what was
+/// written until then stays.
+pub fn print_section<T: IrText<A>, A: AttrText>(
+    ctx: &Context<T, A>,
+    items: &[Item],
+    f: &mut String,
+) -> Result<(), Refusal>
+    ensures text { OnOk result (AppendsText f.old (section.section_at T.IrText.own A.IrText.own A.AttrText.own A.eq ctx.now items.now) f.new) }
+    ensures refused { IfErr result (λ e. e ≡ refusal.Memory) }
+{
+    memory_alone(fmt_section(ctx, items, f))
+}
