@@ -31,7 +31,7 @@ pub struct Key {
 pub type ReadEntry<A> = (Key, AttrObj<A>);
 
 /// Reads an attribute, with its faults committed.
-pub(crate) fn attr_demanded<S: OwnStream, A: AttrText>(stream: &mut S) -> ParseResult<AttrObj<A>, A>
+pub fn attr_demanded<S: OwnStream, A: AttrText>(stream: &mut S) -> ParseResult<AttrObj<A>, A>
     ensures { MustRead S.CharStream.view S.CharStream.at attribute_of (attribute_at (attr_at A.IrText.reading)) stream.old result stream.new }
 {
     let answer = attr_parse(stream);
@@ -39,7 +39,7 @@ pub(crate) fn attr_demanded<S: OwnStream, A: AttrText>(stream: &mut S) -> ParseR
 }
 
 /// Reads a key. Where no name begins, the fault is uncommitted and the stream stays.
-fn key_parse<S: CharStream, A>(stream: &mut S) -> ParseResult<Key, A>
+pub fn key_parse<S: CharStream, A>(stream: &mut S) -> ParseResult<Key, A>
     ensures { MayMean S.view S.at (IsKey (whole (S.view stream.old))) name_at stream.old result stream.new }
 {
     let at = stream.position();

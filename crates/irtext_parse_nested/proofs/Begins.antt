@@ -100,7 +100,7 @@ note_keys [] = tt
 note_keys (e ∷ es) = (refl, note_keys es)
 
 module _ {T A : Type 0} (p : Path) (k l : ℕ) where
-  note_piece : (q : Piece ℕ T A) → NoteNone (piece_acts p k l q)
+  pub note_piece : (q : Piece ℕ T A) → NoteNone (piece_acts p k l q)
   note_piece (tree.word s) = tt
   note_piece (tree.operand i n) = (refl, tt)
   note_piece (tree.operands ns) = note_values p k ns

@@ -26,7 +26,7 @@ module _ {T A : Type 0} (old mid new : ContextView T A) (r : Ptr Region) (b : Pt
   region_new : (m : ℕ) → IsNew m old.graph (TheRegion r) → IsNew m mid.graph (TheRegion r)
   region_new m n = ap (λ s. is_older {O = Option (OperationData A)} {B = BlockData A} {T = Option T} m (option_map (λ d. ARegion d.0 d.1) (content_of (get s r)))) make.graph.regions ∙ n
 
-  block_new : (m : ℕ) → m ≤ old.graph.made → IsNew m mid.graph (TheBlock b)
+  pub block_new : (m : ℕ) → m ≤ old.graph.made → IsNew m mid.graph (TheBlock b)
   block_new m le = ap (λ e. is_older {O = Option (OperationData A)} {B = BlockData A} {T = Option T} m (option_map (λ d. ABlock d.0 d.1) (content_of e))) make.graph.blocks.updates.changed ∙ not_below old.graph.made m le
 
   pub kept_placed : (m : ℕ) → m ≤ old.graph.made → IsNew m old.graph (TheRegion r) → KeepsOlder m old mid → (IsNew m mid.graph (TheRegion r) → IsNew m mid.graph (TheBlock b) → KeepsOlder m mid new) → KeepsOlder m old new

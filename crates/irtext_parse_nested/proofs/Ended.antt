@@ -1,5 +1,5 @@
 -- An operation's end, read and done: its results and then its mark, or what is refused of them.
-use Rattle.std.proofs.Common.{◌≡◌, ◌∙◌, inl, inr, ℕ, true, false, List, [], ◌∷◌, length, Option, Some, None, Ok, Err, sym, ap, subst}
+use Rattle.std.proofs.Common.{◌≡◌, ◌∙◌, inl, inr, ℕ, true, false, List, [], ◌∷◌, ◌++◌, length, Option, Some, None, Ok, Err, sym, ap, subst}
 use Rattle.irtext_base.specs.Text.{Text, begins}
 use Rattle.irtext_base.specs.Reading.{the}
 use Rattle.irtext_base.specs.Stream.{StreamView}
@@ -31,9 +31,10 @@ use Rattle.irtext_parse_heads.specs.Named.{MustMean}
 use Rattle.irtext_parse_heads.proofs.Meanings.{must_whole}
 use Rattle.irtext_parse_nested.specs.declared.frame.BegunOperation.{BegunOperation}
 use Rattle.irtext_parse_nested.specs.Begun.{pledge_of}
-use Rattle.irtext_parse_nested.specs.Ends.{closes_at, NotesMark, RefusesMark}
+use Rattle.irtext_parse_nested.specs.Ends.{closes_at, NotesMark, noted_as, RefusesMark}
 use Rattle.irtext_parse_nested.specs.Items.{Names, Acts}
 use Rattle.irtext_parse_nested.specs.Read.{EndsOperation, RefusesEnd, no_mark, same_mark}
+use Rattle.irtext_parse_nested.proofs.OperationClosed.{noted_is}
 use Rattle.irtext_parse_nested.proofs.Faults.{StaysWithin, must_demand}
 use Rattle.irtext_parse_nested.proofs.Marking.{acts_then, fails_then, note_acts, mark_fails}
 
@@ -42,7 +43,7 @@ use Rattle.irtext_parse_nested.proofs.Marking.{acts_then, fails_then, note_acts,
 abbrev end_at : Text → Outcome (Option (Mark ℕ))
 end_at = space_at ▷ mark_if_at
 
-honest_mark : Honest mark_at
+pub honest_mark : Honest mark_at
 honest_mark = record { of = λ text. of_mapped text (λ i. record { place = length text; index = i }) (index_at text) (honest_index.of text) }
 
 honest_end : Honest end_at
@@ -100,3 +101,12 @@ module _ {T A U X : Type 0} (types_at : Text → Outcome T) (attr : Text → Out
     | inl starved ↦ inl starved
     | inr d ↦ inr (no_mark names m (subst (λ z. Acts (closes_at o old.state) before old.state (pledge_of b o.place ∷ []) names z []) (sym e) closes) (rw (← same) d))
   ]
+
+-- the mark that was noted is the one that stands there
+pub end_noted : {T A U X : Type 0} (old : StateStream T A U) (mid : code.State T A U) (item : X) (s v : StreamView) (same : s ≡ old.stream) {were later : List (ℕ × X)} {before : List (ℕ × X)} → were ≡ before → (new : StateStream T A U) (read : Option ReadMark) → new.stream ≡ v
+    → MustMean {A = A} itself replaced (IsMarkIf (whole s)) end_at s (Ok read) v → NotesMark read item were later → (mark : Option (Mark ℕ)) (taken : Text) → end_at old.stream.rest ≡ Read mark taken new.stream.rest → later ≡ before ++ noted_as mark item
+end_noted {A = A} {X = X} old mid item s v same {were} {later} {before} marks new read e h n mark taken is =
+    let a = subst (λ w. Answered (end_at w.rest) w (h.meant read) v) same (answered {A = A} h.read) in
+    let means = subst (λ w. IsMarkIf (whole w) read (h.meant read)) same h.means in
+    let one : h.meant read ≡ mark = let f = sym a.is ∙ (is ∙ ap (λ w. Read mark taken w.rest) e) in cc f in
+    noted_is (whole old.stream) item read (h.meant read) were later means n ∙ (λ i. marks i ++ noted_as (one i) item)

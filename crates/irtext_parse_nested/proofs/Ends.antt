@@ -35,7 +35,7 @@ use Rattle.irtext_parse_nested.specs.declared.frame.BegunOperation.{BegunOperati
 use Rattle.irtext_parse_nested.specs.Begun.{IsBegun, pledge_of}
 use Rattle.irtext_parse_nested.specs.Definitions.{definitions_from, AreMadeAs, DefinesRow, FailsRow, IsFaultOf}
 use Rattle.irtext_parse_nested.specs.Ends.{RefusesResults, uncounted, no_scope, defined_twice}
-use Rattle.irtext_parse_nested.specs.Items.{Names, Pledge, StandsAs, Acts, ActFails, doing}
+use Rattle.irtext_parse_nested.specs.Items.{Made, Names, Pledge, StandsAs, Acts, ActFails, doing}
 use Rattle.irtext_parse_nested.proofs.Faults.{stands_there, named_each, each_length, each_there, some_same, name_failure}
 
 -- ---- the machine
@@ -112,19 +112,20 @@ module _ {T A U : Type 0} (names : Names) (text : Text) (s : code.State T A U) (
   counted : length b.names ≡ b.results → (types == length o.names) ≡ true
   counted e = let n = types_are in let m = names_are in eq-eqb types (length o.names) (n ∙ (sym e ∙ m))
 
-  made : (path : ℕ → Path) (more : List Pledge) {x : Outcome} (h : StandsAs path (more ++ pledge_of b o.place ∷ []) names s x) → length b.names ≡ b.results → AreMadeAs (result (path o.place)) (Result b.op) (map (λ n. n.name) b.names) h.known
-  made path more h e = λ i l. h.results (pledge_of b o.place) (among_right (pledge_of b o.place) more (pledge_of b o.place ∷ []) (inl refl)) i (subst (λ n. i < n) (length-map b.names (λ n. n.name) ∙ e) l)
+  made : (path : ℕ → Path) (items : Made) (more : List Pledge) {x : Outcome} (h : StandsAs path items (more ++ pledge_of b o.place ∷ []) names s x) → length b.names ≡ b.results → AreMadeAs (result (path o.place)) (Result b.op) (map (λ n. n.name) b.names) h.known
+  made path items more h e = λ i l. h.results (pledge_of b o.place) (among_right (pledge_of b o.place) more (pledge_of b o.place ∷ []) (inl refl)) i (subst (λ n. i < n) (length-map b.names (λ n. n.name) ∙ e) l)
 
   -- the results are defined
   pub closes_acts : (new : Names) (z : code.State T A U) → length b.names ≡ b.results → DefinesRow (Result b.op) (map (λ n. n.name) b.names) names new s.ctx.now.graph z.ctx.now.graph → marks_of z ≡ marks_of s
       → Acts closes names s (pledge_of b o.place ∷ []) new z []
   closes_acts new z e d same = record { so = so }
     where
-      so : (path : ℕ → Path) (more : List Pledge) (x : Outcome) → StandsAs path (more ++ pledge_of b o.place ∷ []) names s x → StandsAs path (more ++ []) new z (closes path x)
-      so path more x h =
-          let r = d.so o.names are_named (result (path o.place)) h.known h.state (made path more h e) h.stands in
+      so : (path : ℕ → Path) (items : Made) (more : List Pledge) (x : Outcome) → StandsAs path items (more ++ pledge_of b o.place ∷ []) names s x → StandsAs path items (more ++ []) new z (closes path x)
+      so path items more x h =
+          let r = d.so o.names are_named (result (path o.place)) h.known h.state (made path items more h e) h.stands in
           record {
             known = h.known;
+            of_items = h.of_items;
             state = r.0;
             going = ap (closes path) h.going ∙ (ends_counted (path o.place) o.place types o.names h.state (counted e) ∙ r.1);
             stands = r.2;
@@ -145,8 +146,8 @@ module _ {T A U : Type 0} (names : Names) (text : Text) (s : code.State T A U) (
       go false e = refl
       go true e = absurd (ne (names_are ∙ (sym (eqb-true types (length o.names) e) ∙ types_are)))
 
-      so : (path : ℕ → Path) (more : List Pledge) (x : Outcome) → StandsAs path (more ++ pledge_of b o.place ∷ []) names s x → closes path x ≡ failed (count_failure o.place types o.names)
-      so path more x h = ap (closes path) h.going ∙ ends_uncounted (path o.place) o.place types o.names h.state (go (types == length o.names) refl)
+      so : (path : ℕ → Path) (items : Made) (more : List Pledge) (x : Outcome) → StandsAs path items (more ++ pledge_of b o.place ∷ []) names s x → closes path x ≡ failed (count_failure o.place types o.names)
+      so path items more x h = ap (closes path) h.going ∙ ends_uncounted (path o.place) o.place types o.names h.state (go (types == length o.names) refl)
 
   -- no scope of values is open
   pub outside_fails : (fault : ParseFault A) (first : ReadName) → slice_get b.names 0 ≡ Some first → length b.names ≡ b.results → is_open names.values ≡ false → IsFaultOf names.names text causes.NoActiveScope first fault
@@ -156,7 +157,7 @@ module _ {T A U : Type 0} (names : Names) (text : Text) (s : code.State T A U) (
       record {
         failure = record { cause = script.NoActiveScope t.0.text; at = Some t.0.place };
         is = name_failure causes.NoActiveScope script.NoActiveScope (λ t c e. e) t.2 at;
-        so = λ path more x h. ap (closes path) h.going ∙ (ends_counted (path o.place) o.place types o.names h.state (counted e) ∙ go (path o.place) h.known h.state t.0 o.names t.1 h.stands);
+        so = λ path items more x h. ap (closes path) h.going ∙ (ends_counted (path o.place) o.place types o.names h.state (counted e) ∙ go (path o.place) h.known h.state t.0 o.names t.1 h.stands);
       }
     where
       go : (p : Path) (known : Known) (st : State) (w : Name ℕ) (ws : List (Name ℕ)) → slice_get ws 0 ≡ Some w → StandsAt names s.ctx.now.graph known [] st
@@ -175,8 +176,8 @@ module _ {T A U : Type 0} (names : Names) (text : Text) (s : code.State T A U) (
       record {
         failure = record { cause = script.MultipleDefinitions t.0.text; at = Some t.0.place };
         is = name_failure causes.MultipleDefinitions script.MultipleDefinitions (λ t c e. e) t.2 at;
-        so = λ path more x h.
-            let r = d.so o.names are_named (result (path o.place)) h.known h.state (made path more h e) h.stands in
+        so = λ path items more x h.
+            let r = d.so o.names are_named (result (path o.place)) h.known h.state (made path items more h e) h.stands in
             ap (closes path) h.going ∙ (ends_counted (path o.place) o.place types o.names h.state (counted e)
             ∙ (r.2 ∙ ap (λ w. failed (record { cause = script.MultipleDefinitions w.text; at = Some w.place })) (some_same (sym r.1 ∙ t.1))));
       }

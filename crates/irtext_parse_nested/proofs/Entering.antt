@@ -54,7 +54,7 @@ module _ {T A U : Type 0} (types_at : Reader T) (attr : Reader (AttrView A)) (is
   unentered f (inr (cause, committed, at, fails)) = inr (not_isolated (record {
     failure = record { cause = NotIsolated; at = None };
     is = record { cause = cause; place = at; committed = committed };
-    so = λ path more o h. stands_fails before old.state (enter iso) (record { cause = NotIsolated; at = None }) fails h;
+    so = λ path items more o h. stands_fails before old.state (enter iso) (record { cause = NotIsolated; at = None }) fails h;
   }))
 
   module _ (names : Names) (mid : StateStream T A U) (op : Ptr Operation) (r : Ptr Region) (takes : Takes (enter iso) (history.entered iso) before names old.state.ctx.now.graph)
@@ -63,7 +63,7 @@ module _ {T A U : Type 0} (types_at : Reader T) (attr : Reader (AttrView A)) (is
     -- it is entered, and comes last into its operation
     pub acts_entered : Acts (enters_of types_at attr iso old) before old.state [] names mid.state []
     acts_entered = record {
-      so = λ path more o h. region_stands old.state.ctx.now mid.state.ctx.now op r adds has names old.state mid.state refl refl marks tied
+      so = λ path items more o h. region_stands old.state.ctx.now mid.state.ctx.now op r adds has names old.state mid.state refl refl marks tied
           (stands_on before names old.state old.state (enter iso) (history.entered iso) takes (marks_same iso) refl refl h);
     }
 

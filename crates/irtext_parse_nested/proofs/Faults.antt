@@ -41,7 +41,7 @@ stands_there {text} {place} {left} {at} l h =
 pub record StaysWithin {X : Type 0} (f : Text → Outcome X) : Type 0 where
   pub within : (text : Text) (cause : Fault) (upto : Text) → f text ≡ Bad cause upto → IsFront upto text
 
-text_fault : {A : Type 0} (v : StreamView) (cause : Fault) (upto stop : Text) (fault : ParseFault A) → upto ++ stop ≡ v.rest → fault_of fault.cause ≡ cause → IsAt fault.pos.line fault.pos.column (v.passed ++ upto)
+pub text_fault : {A : Type 0} (v : StreamView) (cause : Fault) (upto stop : Text) (fault : ParseFault A) → upto ++ stop ≡ v.rest → fault_of fault.cause ≡ cause → IsAt fault.pos.line fault.pos.column (v.passed ++ upto)
     → IsTextFault (whole v) cause (length v.rest - length upto) fault
 text_fault v cause upto stop fault e because at =
     let n : length v.rest - length upto ≡ length stop = omega (arith, length-append upto stop, ap length e) in

@@ -1,5 +1,5 @@
 -- Pieces that are gathered one after another.
-use Rattle.std.proofs.Common.{◌≡◌, ◌∙◌, inl, inr, ℕ, List, [], ◌∷◌, ◌++◌, length, map, flat_map, Option, Some, refl, sym, ap, subst, arith, append_assoc, append-nil}
+use Rattle.std.proofs.Common.{◌≡◌, ◌∙◌, inl, inr, ℕ, List, [], ◌∷◌, ◌++◌, length, map, flat_map, Option, Some, refl, sym, ap, subst, arith, append_assoc, append-nil, length-append}
 use Rattle.irtext_base.specs.Text.{Text}
 use Rattle.irtext_graph.specs.declared.arena.Ptr.{Ptr}
 use Rattle.irtext_graph.specs.declared.object.BasicBlock.{BasicBlock}
@@ -13,23 +13,20 @@ use Rattle.irtext_grammar.specs.Grammar.Tree.{Name, Piece, Part, views}
 use Rattle.irtext_grammar.specs.Graphs.Build.{put, put_all}
 use Rattle.irtext_grammar.specs.Names.Acts.{piece_acts}
 use Rattle.irtext_grammar.specs.Names.History.{Event, Outcome, act, going, run, next}
-use Rattle.irtext_grammar.specs.Names.Script.{Path, User, operand, successor, ReservedKey}
+use Rattle.irtext_grammar.specs.Names.Script.{Path, User, operand, successor, Cause}
 use Rattle.irtext_grammar.specs.Names.TextScopes.{Act, Failure}
-use Rattle.irtext_scopes.specs.Scopes.{is_open}
 use Rattle.irtext_names.specs.Linked.{StandsAt}
 use Rattle.irtext_names.proofs.Linked.Moving.{among_split}
 use Rattle.irtext_parse_acts.specs.Rows.{TakesUses}
 use Rattle.irtext_parse_acts.proofs.Rows.{rest_fails}
-use Rattle.irtext_parse_heads.specs.declared.entries.Key.{Key}
 use Rattle.irtext_parse_heads.specs.declared.pieces.ReadPiece.{ReadPiece}
 use Rattle.irtext_parse_heads.specs.declared.pieces.ReadPiece.TheVariants as read
-use Rattle.irtext_parse_heads.specs.Entries.{IsKey}
 use Rattle.irtext_parse_heads.specs.Fronts.{IsPart}
 use Rattle.irtext_parse_heads.specs.Named.{Each}
 use Rattle.irtext_parse_nested.specs.declared.gathering.Gathered.{Gathered}
 use Rattle.irtext_parse_nested.specs.declared.uses.Placed.{Placed}
 use Rattle.irtext_parse_nested.specs.Items.{Names}
-use Rattle.irtext_parse_nested.specs.Gathered.{operand_place, successor_place, placed_type, type_list, stored_of, last_list, IsInHand, Grows, AreInHand, FailsUses, TakesParts, LackOperands, LackSuccessors, OperandsOnce, SuccessorsOnce, CanUseAll, CanGather, Gathers, GatherFails}
+use Rattle.irtext_parse_nested.specs.Gathered.{operand_place, successor_place, operand_list, successor_list, placed_type, type_list, stored_of, last_list, IsInHand, Grows, AreInHand, FailsUses, TakesParts, LackOperands, LackSuccessors, OperandsOnce, SuccessorsOnce, CanUseAll, CanGather, Gathers, FailsAt}
 
 -- ---- lists
 last_more : {X : Type 0} (xs : List X) (ls ms : List (List X)) → last_list xs (ls ++ ms) ≡ last_list (last_list xs ls) ms
@@ -158,10 +155,10 @@ module _ {T A : Type 0} where
   can_first names vs bs p ps c = record { names_are = (c.names_are.0, tt); operands_once = once_first vs p ps c.operands_once; successors_once = labels_first bs p ps c.successors_once }
 
   -- and then the others
-  pub can_behind : (old new : Names) (vs ws : List Value) (bs cs : List (Ptr BasicBlock)) (p : ReadPiece T A) (ps : List (ReadPiece T A)) → new.names ≡ old.names → is_open new.values ≡ is_open old.values → is_open new.labels ≡ is_open old.labels
+  pub can_behind : (old new : Names) (vs ws : List Value) (bs cs : List (Ptr BasicBlock)) (p : ReadPiece T A) (ps : List (ReadPiece T A)) → new.names ≡ old.names
       → (LackOperands (p ∷ []) → ws ≡ vs) → (LackSuccessors (p ∷ []) → cs ≡ bs) → CanGather old vs bs (p ∷ ps) → CanGather new ws cs ps
-  can_behind old new vs ws bs cs p ps names values labels so to c = record {
-    names_are = subst (λ z. CanUseAll z (is_open new.values) (is_open new.labels) ps) (sym (ap length names)) (subst (λ z. CanUseAll (length old.names) z (is_open new.labels) ps) (sym values) (subst (λ z. CanUseAll (length old.names) (is_open old.values) z ps) (sym labels) c.names_are.1));
+  can_behind old new vs ws bs cs p ps names so to c = record {
+    names_are = subst (λ z. CanUseAll z ps) (sym (ap length names)) c.names_are.1;
     operands_once = once_behind vs ws p ps so c.operands_once;
     successors_once = labels_behind bs cs p ps to c.successors_once;
   }
@@ -181,6 +178,8 @@ module _ {O B T A : Type 0} where
     successors_grow = grows_itself x.successors;
     operand_places = sym (append-nil (map (λ e. e.0) x.operands.single.items));
     successor_places = sym (append-nil (map (λ e. e.0) x.successors.single.items));
+    operand_count = omega arith;
+    successor_count = omega arith;
     types = sym (append-nil x.types.items);
     listed = refl;
     attributes = refl;
@@ -202,6 +201,14 @@ module _ {O B T A : Type 0} where
     successors_grow = grows_both s.successors_grow t.successors_grow;
     operand_places = t.operand_places ∙ (ap (λ zs. zs ++ flat_map operand_place ps) (s.operand_places ∙ ap (λ zs. map (λ e. e.0) x.operands.single.items ++ zs) (append-nil (operand_place piece))) ∙ append_assoc (map (λ e. e.0) x.operands.single.items) (operand_place piece) (flat_map operand_place ps));
     successor_places = t.successor_places ∙ (ap (λ zs. zs ++ flat_map successor_place ps) (s.successor_places ∙ ap (λ zs. map (λ e. e.0) x.successors.single.items ++ zs) (append-nil (successor_place piece))) ∙ append_assoc (map (λ e. e.0) x.successors.single.items) (successor_place piece) (flat_map successor_place ps));
+    operand_count =
+        let a = s.operand_count in let b = t.operand_count in
+        let m = length-append (operand_list piece) [] in let n = length-append (operand_list piece) (flat_map operand_list ps) in
+        omega (arith, a, b, m, n);
+    successor_count =
+        let a = s.successor_count in let b = t.successor_count in
+        let m = length-append (successor_list piece) [] in let n = length-append (successor_list piece) (flat_map successor_list ps) in
+        omega (arith, a, b, m, n);
     types = t.types ∙ (ap (λ zs. zs ++ flat_map placed_type ps) (s.types ∙ ap (λ zs. x.types.items ++ zs) (append-nil (placed_type piece))) ∙ append_assoc x.types.items (placed_type piece) (flat_map placed_type ps));
     listed = t.listed ∙ (ap (λ zs. last_list zs (flat_map type_list ps)) (s.listed ∙ ap (last_list x.listed) (append-nil (type_list piece))) ∙ sym (last_more x.listed (type_list piece) (flat_map type_list ps)));
     attributes = t.attributes ∙ (ap (λ zs. put_all zs (flat_map stored_of ps)) (s.attributes ∙ ap (put_all (entries_of x.attributes)) (append-nil (stored_of piece))) ∙ sym (put_both (stored_of piece) (entries_of x.attributes) (flat_map stored_of ps)));
@@ -215,27 +222,27 @@ module _ {O B T A : Type 0} where
           (parts_both (s.uses text (part ∷ []) (e.0, tt) p k l) (t.uses text parts (subst (λ ns. Each (IsPart ns text) ps parts) (sym same) e.1) p k l) t.operands_grow t.successors_grow)
 
   -- one piece, and then others that fail
-  pub gather_fails_then : (piece : ReadPiece T A) (ps : List (ReadPiece T A)) {old mid : Names} {g h : GraphView (Option O) B (Option T)} {x y : Gathered T A} {key : Key} → mid.names ≡ old.names
-      → Gathers (piece ∷ []) old g x mid h y → GatherFails ps mid h key → GatherFails (piece ∷ ps) old g key
-  gather_fails_then piece ps {old} {mid} {g} {h} {x} {y} {key} same s t = record { so = fails }
+  pub fails_at_then : (piece : ReadPiece T A) (ps : List (ReadPiece T A)) {old mid : Names} {g h : GraphView (Option O) B (Option T)} {x y : Gathered T A} {Is : Text → Name ℕ → Type 0} {cause : Text → Cause Text} → mid.names ≡ old.names
+      → Gathers (piece ∷ []) old g x mid h y → FailsAt ps mid h Is cause → FailsAt (piece ∷ ps) old g Is cause
+  fails_at_then piece ps {old} {mid} {g} {h} {x} {y} {Is} {cause} same s t = record { so = fails }
     where
       fails : (text : Text) (parts : List (Part ℕ T A)) → Each (IsPart old.names text) (piece ∷ ps) parts
-          → (n : Name ℕ) × IsKey text key n × ((p : Path) (k l : ℕ) → FailsUses (views (piece_acts p k l) parts) old g (record { cause = ReservedKey n.text; at = Some n.place }))
+          → (n : Name ℕ) × Is text n × ((p : Path) (k l : ℕ) → FailsUses (views (piece_acts p k l) parts) old g (record { cause = cause n.text; at = Some n.place }))
       fails text [] e = absurd e
       fails text (part ∷ parts) e =
           let r = t.so text parts (subst (λ ns. Each (IsPart ns text) ps parts) (sym same) e.1) in
-          (r.0, r.1, λ p k l. subst (λ acts. FailsUses acts old g (record { cause = ReservedKey r.0.text; at = Some r.0.place })) (sym (first_views p k l part parts)) (fails_then (s.uses text (part ∷ []) (e.0, tt) p k l).takes (r.2 p k l)))
+          (r.0, r.1, λ p k l. subst (λ acts. FailsUses acts old g (record { cause = cause r.0.text; at = Some r.0.place })) (sym (first_views p k l part parts)) (fails_then (s.uses text (part ∷ []) (e.0, tt) p k l).takes (r.2 p k l)))
 
   -- a piece that fails, and then any
-  pub gather_fails_first : (piece : ReadPiece T A) (ps : List (ReadPiece T A)) {old : Names} {g : GraphView (Option O) B (Option T)} {key : Key} → GatherFails (piece ∷ []) old g key → GatherFails (piece ∷ ps) old g key
-  gather_fails_first piece ps {old} {g} {key} s = record { so = fails }
+  pub fails_at_first : (piece : ReadPiece T A) (ps : List (ReadPiece T A)) {old : Names} {g : GraphView (Option O) B (Option T)} {Is : Text → Name ℕ → Type 0} {cause : Text → Cause Text} → FailsAt (piece ∷ []) old g Is cause → FailsAt (piece ∷ ps) old g Is cause
+  fails_at_first piece ps {old} {g} {Is} {cause} s = record { so = fails }
     where
       fails : (text : Text) (parts : List (Part ℕ T A)) → Each (IsPart old.names text) (piece ∷ ps) parts
-          → (n : Name ℕ) × IsKey text key n × ((p : Path) (k l : ℕ) → FailsUses (views (piece_acts p k l) parts) old g (record { cause = ReservedKey n.text; at = Some n.place }))
+          → (n : Name ℕ) × Is text n × ((p : Path) (k l : ℕ) → FailsUses (views (piece_acts p k l) parts) old g (record { cause = cause n.text; at = Some n.place }))
       fails text [] e = absurd e
       fails text (part ∷ parts) e =
           let r = s.so text (part ∷ []) (e.0, tt) in
-          (r.0, r.1, λ p k l. subst (λ acts. FailsUses acts old g (record { cause = ReservedKey r.0.text; at = Some r.0.place })) (sym (first_views p k l part parts)) (fails_first (views (piece_acts p k l) parts) (r.2 p k l)))
+          (r.0, r.1, λ p k l. subst (λ acts. FailsUses acts old g (record { cause = cause r.0.text; at = Some r.0.place })) (sym (first_views p k l part parts)) (fails_first (views (piece_acts p k l) parts) (r.2 p k l)))
 
 -- a list without items
 pub none_left : {X : Type 0} (xs : List X) → length xs ≡ 0 → xs ≡ []

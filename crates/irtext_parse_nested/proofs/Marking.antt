@@ -1,5 +1,5 @@
 -- What a mark comes to that was read, and acts one after another.
-use Rattle.std.proofs.Common.{◌≡◌, ◌==◌, ◌∙◌, ℕ, Bool, true, false, cond, List, [], ◌∷◌, ◌++◌, map, Option, Some, None, is_some, Result, Ok, Err, OnOk, IfErr, refl, sym, ap, subst, append-nil, nat_eq, eqb-true, eq-eqb}
+use Rattle.std.proofs.Common.{◌≡◌, ◌==◌, ◌∙◌, ℕ, Bool, true, false, cond, List, [], ◌∷◌, ◌++◌, map, Option, Some, None, is_some, Result, Ok, Err, OnOk, OnErr, IfErr, refl, sym, ap, subst, append-nil, nat_eq, eqb-true, eq-eqb}
 use Rattle.std.specs.Map.{lookup}
 use Rattle.irtext_base.specs.Text.{Text}
 use Rattle.irtext_base.specs.Faults as causes
@@ -26,8 +26,8 @@ use Rattle.irtext_outcomes.specs.Promises.Section.{indices_of}
 use Rattle.irtext_parse_acts.proofs.Rows.{map-through}
 use Rattle.irtext_parse_heads.specs.declared.marks.ReadMark.{ReadMark}
 use Rattle.irtext_parse_heads.specs.Marks.{IsMarkIf}
-use Rattle.irtext_parse_nested.specs.Ends.{NotesMark, RefusesMark}
-use Rattle.irtext_parse_nested.specs.Items.{Names, Pledge, StandsAs, Acts, ActFails}
+use Rattle.irtext_parse_nested.specs.Ends.{NotesMark, GainsMarks, RefusesMark}
+use Rattle.irtext_parse_nested.specs.Items.{Made, Names, Pledge, StandsAs, Acts, ActFails}
 use Rattle.irtext_parse_nested.proofs.Faults.{stands_there}
 
 -- ---- answers
@@ -44,6 +44,14 @@ pub on_both : {X E P Q R : Type 0} (r : Result X E) → (P → Q → R) → OnOk
 on_both (Ok x) f p q = f p q
 on_both (Err e) f p q = p
 
+pub on_err : {X E P Q : Type 0} (r : Result X E) → (P → Q) → OnErr r P → OnErr r Q
+on_err (Ok x) f p = p
+on_err (Err e) f p = f p
+
+pub always_err : {X E Q : Type 0} (r : Result X E) → Q → OnErr r Q
+always_err (Ok x) q = tt
+always_err (Err e) q = q
+
 pub if_err : {X E : Type 0} {P Q : E → Type 0} (r : Result X E) → ((e : E) → P e → Q e) → IfErr r P → IfErr r Q
 if_err (Ok x) f p = p
 if_err (Err e) f p = f e p
@@ -52,12 +60,12 @@ if_err (Err e) f p = f e p
 module _ {T A U : Type 0} {f h : (ℕ → Path) → Outcome → Outcome} {old mid new : Names} {s z y : code.State T A U} {ps qs rs : List Pledge} where
   -- one after another
   pub acts_then : Acts f old s ps mid z qs → Acts h mid z qs new y rs → Acts (λ path x. h path (f path x)) old s ps new y rs
-  acts_then a b = record { so = λ path more o k. b.so path more (f path o) (a.so path more o k) }
+  acts_then a b = record { so = λ path items more o k. b.so path items more (f path o) (a.so path items more o k) }
 
 module _ {T A U : Type 0} {f h : (ℕ → Path) → Outcome → Outcome} {old mid : Names} {s z : code.State T A U} {ps qs : List Pledge} where
   -- the second fails
   pub fails_then : {text : Text} {fault : ParseFault A} → Acts f old s ps mid z qs → ActFails text h mid z qs fault → ActFails text (λ path x. h path (f path x)) old s ps fault
-  fails_then a b = record { failure = b.failure; is = b.is; so = λ path more o k. b.so path more (f path o) (a.so path more o k) }
+  fails_then a b = record { failure = b.failure; is = b.is; so = λ path items more o k. b.so path items more (f path o) (a.so path items more o k) }
 
 -- ---- marks
 -- the same test, the other way round
@@ -79,19 +87,28 @@ noted_among i (m ∷ ms) = ap (λ b. cond b true (is_among i (indices_of ms))) (
     go true h = refl
     go false h = h
 
-not_noted : {X : Type 0} (i : ℕ) (ms : List (ℕ × X)) → lookup (same_index i) ms ≡ None → is_among i (indices_of ms) ≡ false
+pub not_noted : {X : Type 0} (i : ℕ) (ms : List (ℕ × X)) → lookup (same_index i) ms ≡ None → is_among i (indices_of ms) ≡ false
 not_noted i ms e = noted_among i ms ∙ ap is_some e
 
-noted_before : {X : Type 0} (i : ℕ) (ms : List (ℕ × X)) → (lookup (same_index i) ms ≡ None → ⊥) → is_among i (indices_of ms) ≡ true
+pub noted_before : {X : Type 0} (i : ℕ) (ms : List (ℕ × X)) → (lookup (same_index i) ms ≡ None → ⊥) → is_among i (indices_of ms) ≡ true
 noted_before {X} i ms ne = noted_among i ms ∙ go (lookup (same_index i) ms) refl
   where
     go : (o : Option X) → lookup (same_index i) ms ≡ o → is_some o ≡ true
     go None e = absurd (ne e)
     go (Some x) e = refl
 
+-- none came
+pub gains_nothing : {X : Type 0} {old new : List (ℕ × X)} → new ≡ old → GainsMarks old new
+gains_nothing {old = old} e = ([], e ∙ sym (append-nil old))
+
+-- one came, where one was read
+pub gains_mark : {X : Type 0} (read : Option ReadMark) (x : X) {old b c new : List (ℕ × X)} → b ≡ old → NotesMark read x b c → new ≡ c → GainsMarks old new
+gains_mark None x e n f = gains_nothing (f ∙ (n ∙ e))
+gains_mark (Some r) x e n f = ((r.index, x) ∷ [], f ∙ (n.1 ∙ ap (λ ms. ms ++ (r.index, x) ∷ []) e))
+
 module _ {O B T : Type 0} where
   -- a mark leaves the scopes as they stand
-  mark_stands : (names : NameTracker Value (Ptr BasicBlock)) (g : GraphView (Option O) B T) (known : Known) (held : List (User × Defined)) (st : State) (i p : ℕ) → StandsAt names g known held st → StandsAt names g known held (after st (fact_of (mark i p)))
+  pub mark_stands : (names : NameTracker Value (Ptr BasicBlock)) (g : GraphView (Option O) B T) (known : Known) (held : List (User × Defined)) (st : State) (i p : ℕ) → StandsAt names g known held st → StandsAt names g known held (after st (fact_of (mark i p)))
   mark_stands names g known held st i p s = record {
     distinct = s.distinct;
     tied = s.tied;
@@ -108,12 +125,13 @@ module _ {T A U : Type 0} (names : Names) (text : Text) (s z : code.State T A U)
   marking m path o = run o (map act (mark_acts m))
 
   one_mark : (i p : ℕ) {X : Type 0} (item : X) (old new : List (ℕ × X)) → lookup (same_index i) old ≡ None → new ≡ old ++ (i, item) ∷ [] → indices_of (marks_of s) ≡ indices_of old → indices_of (marks_of z) ≡ indices_of new
-      → z.ctx.now.graph ≡ s.ctx.now.graph → (path : ℕ → Path) (pledges : List Pledge) (o : Outcome) → StandsAs path pledges names s o → StandsAs path pledges names z (next o (act (mark i p)))
-  one_mark i p item old new free is was are same path pledges o h =
+      → z.ctx.now.graph ≡ s.ctx.now.graph → (path : ℕ → Path) (items : Made) (pledges : List Pledge) (o : Outcome) → StandsAs path items pledges names s o → StandsAs path items pledges names z (next o (act (mark i p)))
+  one_mark i p item old new free is was are same path items pledges o h =
       let fresh : is_among i h.state.marks ≡ false = ap (is_among i) (h.marks ∙ was) ∙ not_noted i old free in
       let x : Failure = record { cause = script.DuplicateIndex i; at = Some p } in
       record {
         known = h.known;
+        of_items = h.of_items;
         state = after h.state (fact_of (mark i p));
         going = ap (λ o. next o (act (mark i p))) h.going ∙ ap (λ b. outcome (cond b (x ∷ []) []) (after h.state (fact_of (mark i p)))) fresh;
         stands = subst (λ g. StandsAt names g h.known [] (after h.state (fact_of (mark i p)))) (sym same) (mark_stands names s.ctx.now.graph h.known [] h.state i p h.stands);
@@ -125,8 +143,9 @@ module _ {T A U : Type 0} (names : Names) (text : Text) (s z : code.State T A U)
   pub note_acts : {X : Type 0} (item : X) (read : Option ReadMark) (m : Option (Mark ℕ)) (old new : List (ℕ × X)) → IsMarkIf text read m → NotesMark read item old new → indices_of (marks_of s) ≡ indices_of old → indices_of (marks_of z) ≡ indices_of new
       → z.ctx.now ≡ s.ctx.now → Acts (marking m) names s [] names z []
   note_acts item None None old new i n was are same = record {
-    so = λ path more o h. record {
+    so = λ path items more o h. record {
       known = h.known;
+      of_items = h.of_items;
       state = h.state;
       going = h.going;
       stands = subst (λ c. StandsAt names c.graph h.known [] h.state) (sym same) h.stands;
@@ -138,7 +157,7 @@ module _ {T A U : Type 0} (names : Names) (text : Text) (s z : code.State T A U)
   note_acts item (Some r) None old new i n was are same = absurd i
   note_acts {X} item (Some r) (Some m) old new i n was are same =
       let k : (lookup (same_index m.index) old ≡ None) × (new ≡ old ++ (m.index, item) ∷ []) = subst (λ j. (lookup (same_index j) old ≡ None) × (new ≡ old ++ (j, item) ∷ [])) i.indexed n in
-      record { so = λ path more o h. one_mark m.index m.place item old new k.0 k.1 was are (ap (λ c. c.graph) same) path (more ++ []) o h }
+      record { so = λ path items more o h. one_mark m.index m.place item old new k.0 k.1 was are (ap (λ c. c.graph) same) path items (more ++ []) o h }
 
   -- its index is noted already
   pub mark_fails : {X : Type 0} (fault : ParseFault A) (read : Option ReadMark) (m : Option (Mark ℕ)) (old : List (ℕ × X)) → IsMarkIf text read m → RefusesMark text read old fault → indices_of (marks_of s) ≡ indices_of old
@@ -152,6 +171,6 @@ module _ {T A U : Type 0} (names : Names) (text : Text) (s z : code.State T A U)
           record {
             failure = x;
             is = record { cause = r.because ∙ ap causes.DuplicateIndex k.indexed; place = stands_there k.place r.place; committed = r.flag };
-            so = λ path more o h. ap (λ o. next o (act (mark m.index m.place))) h.going
+            so = λ path items more o h. ap (λ o. next o (act (mark m.index m.place))) h.going
                 ∙ ap (λ b. outcome (cond b (x ∷ []) []) (after h.state (fact_of (mark m.index m.place)))) (ap (is_among m.index) (h.marks ∙ was) ∙ noted_before m.index old (λ e. r.noted (subst (λ j. lookup (same_index j) old ≡ None) (sym k.indexed) e)));
           }

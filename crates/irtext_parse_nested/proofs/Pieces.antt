@@ -1,5 +1,5 @@
 -- One piece that is gathered.
-use Rattle.std.proofs.Common.{◌≡◌, ◌+◌, ◌∙◌, ◌⊎◌, inl, inr, ℕ, zero, suc, Bool, true, false, cond, List, [], ◌∷◌, ◌++◌, length, map, flat_map, slice_get, Option, Some, None, Result, Ok, Err, IfErr, OnOk, refl, sym, ap, ap₂, subst, arith, append-nil}
+use Rattle.std.proofs.Common.{◌≡◌, ◌+◌, ◌∙◌, ◌⊎◌, inl, inr, ℕ, zero, suc, Bool, true, false, cond, List, [], ◌∷◌, ◌++◌, length, map, flat_map, slice_get, Option, Some, None, Result, Ok, Err, IfErr, OnOk, refl, sym, ap, ap₂, subst, arith, append-nil, length-append}
 use Rattle.irtext_base.specs.Text.{Text}
 use Rattle.irtext_base.specs.Format.{sym_name_key}
 use Rattle.irtext_base.specs.declared.base.attributes.AttrObj.{AttrObj}
@@ -19,11 +19,13 @@ use Rattle.irtext_grammar.specs.Grammar.Tree as tree
 use Rattle.irtext_grammar.specs.Grammar.Tree.{Name, Attribute, ident, Piece, Part, views}
 use Rattle.irtext_grammar.specs.Graphs.Build.{put_all}
 use Rattle.irtext_grammar.specs.Names.Acts.{piece_acts, word_of, value_uses, label_uses, key_act, may_hold}
-use Rattle.irtext_grammar.specs.Names.History.{State, going, after, outcome}
+use Rattle.irtext_grammar.specs.Names.History.{State, act, going, after, outcome}
 use Rattle.irtext_grammar.specs.Names.Scopes.{fact_of, nothing}
-use Rattle.irtext_grammar.specs.Names.Script.{Path, User, operand, successor, use_value, use_label, claim, ReservedKey}
+use Rattle.irtext_grammar.specs.Names.Script.{Path, User, operand, successor, use_value, use_label, claim, Cause, ReservedKey, NoActiveScope}
 use Rattle.irtext_grammar.specs.Names.TextScopes.{Act, Failure}
-use Rattle.irtext_names.specs.Linked.{StandsAt}
+use Rattle.irtext_names.specs.Linked.{StandsAt, FailsBy}
+use Rattle.irtext_names.proofs.Linked.Outside.{value_use_outside, label_use_outside}
+use Rattle.irtext_scopes.specs.Scopes.{is_open}
 use Rattle.irtext_names.proofs.Linked.Moving.{among_split, onto_nothing}
 use Rattle.irtext_parse_acts.specs.Rows.{AreNamed, uses_from, in_hand_from, TakesUses, UsesRow}
 use Rattle.irtext_parse_heads.specs.declared.entries.Key.{Key}
@@ -39,8 +41,9 @@ use Rattle.irtext_parse_nested.specs.declared.gathering.Gathered.{Gathered}
 use Rattle.irtext_parse_nested.specs.declared.gathering.NotGathered.{NotGathered}
 use Rattle.irtext_parse_nested.specs.declared.gathering.NotGathered.TheVariants as refusal
 use Rattle.irtext_parse_nested.specs.Items.{Names}
-use Rattle.irtext_parse_nested.specs.Gathered.{entry_read, operand_place, successor_place, placed_type, type_list, stored_of, last_list, IsInHand, Grows, FailsUses, TakesParts, TakesName, AllStand, MayAllHold, IsFirstReserved, RefusesEntries, GathersAlone, RefusesAlone, RefusesGathering, Gathers, GatherFails}
-use Rattle.irtext_parse_nested.proofs.Gathers.{grows_itself, map_both, takes_none, takes_both, fails_then, fails_first, gather_fails_first}
+use Rattle.irtext_parse_nested.specs.Gathered.{entry_read, operand_place, successor_place, operand_list, successor_list, placed_type, type_list, stored_of, last_list, IsInHand, Grows, FailsUses, TakesParts, TakesName, AllStand, MayAllHold, IsFirstReserved, RefusesEntries, GathersAlone, RefusesAlone, RefusesGathering, Gathers, FailsAt, GatherFails, GatherOutside}
+use Rattle.irtext_parse_nested.proofs.Steady.{length_names}
+use Rattle.irtext_parse_nested.proofs.Gathers.{grows_itself, map_both, takes_none, takes_both, fails_then, fails_first, fails_at_first}
 
 -- ---- names
 -- names that were read have their texts under their numbers
@@ -92,6 +95,8 @@ module _ {O B T A : Type 0} {old new : Names} {g h : GraphView (Option O) B (Opt
     successors_grow = subst (Grows x.successors) (sym successors) (grows_itself x.successors);
     operand_places = ap (map (λ e. e.0)) single ∙ map_both (λ e. e.0) x.operands.single.items ((i, v) ∷ []);
     successor_places = ap (λ s. map (λ e. e.0) s.single.items) successors ∙ sym (append-nil (map (λ e. e.0) x.successors.single.items));
+    operand_count = let e = ap length list in omega (arith, e);
+    successor_count = let e = ap (λ z. length z.list.items) successors in omega (arith, e);
     types = ap (λ s. s.items) types ∙ sym (append-nil x.types.items);
     listed = listed;
     attributes = ap entries_of attributes;
@@ -134,6 +139,8 @@ module _ {O B T A : Type 0} {old new : Names} {g h : GraphView (Option O) B (Opt
     operands_grow = subst (Grows x.operands) (sym operands) (grows_itself x.operands);
     successor_places = ap (map (λ e. e.0)) single ∙ map_both (λ e. e.0) x.successors.single.items ((i, v) ∷ []);
     operand_places = ap (λ s. map (λ e. e.0) s.single.items) operands ∙ sym (append-nil (map (λ e. e.0) x.operands.single.items));
+    operand_count = let e = ap (λ z. length z.list.items) operands in omega (arith, e);
+    successor_count = let e = ap length list in omega (arith, e);
     types = ap (λ s. s.items) types ∙ sym (append-nil x.types.items);
     listed = listed;
     attributes = ap entries_of attributes;
@@ -176,6 +183,10 @@ module _ {O B T A : Type 0} {old new : Names} {g h : GraphView (Option O) B (Opt
     successors_grow = subst (Grows x.successors) (sym successors) (grows_itself x.successors);
     operand_places = ap (map (λ e. e.0)) single ∙ sym (append-nil (map (λ e. e.0) x.operands.single.items));
     successor_places = ap (λ s. map (λ e. e.0) s.single.items) successors ∙ sym (append-nil (map (λ e. e.0) x.successors.single.items));
+    operand_count =
+        let e = ap length list in let n = length-append x.operands.list.items more in let c = row.count in let m = length_names (λ n. n.name) ns in let k = length-append ns [] in
+        omega (arith, e, n, c, m, k);
+    successor_count = let e = ap (λ z. length z.list.items) successors in omega (arith, e);
     types = ap (λ s. s.items) types ∙ sym (append-nil x.types.items);
     listed = listed;
     attributes = ap entries_of attributes;
@@ -216,6 +227,10 @@ module _ {O B T A : Type 0} {old new : Names} {g h : GraphView (Option O) B (Opt
     operands_grow = subst (Grows x.operands) (sym operands) (grows_itself x.operands);
     successor_places = ap (map (λ e. e.0)) single ∙ sym (append-nil (map (λ e. e.0) x.successors.single.items));
     operand_places = ap (λ s. map (λ e. e.0) s.single.items) operands ∙ sym (append-nil (map (λ e. e.0) x.operands.single.items));
+    operand_count = let e = ap (λ z. length z.list.items) operands in omega (arith, e);
+    successor_count =
+        let e = ap length list in let n = length-append x.successors.list.items more in let c = row.count in let m = length_names (λ n. n.name) ns in let k = length-append ns [] in
+        omega (arith, e, n, c, m, k);
     types = ap (λ s. s.items) types ∙ sym (append-nil x.types.items);
     listed = listed;
     attributes = ap entries_of attributes;
@@ -243,16 +258,16 @@ module _ {O B T A : Type 0} {old new : Names} {g h : GraphView (Option O) B (Opt
 
 module _ {O B T A : Type 0} (names : Names) (g : GraphView (Option O) B (Option T)) where
   -- the piece does nothing with names
-  silent : (q q' : Piece ℕ T A) → q ≡ q' → (p : Path) (k l : ℕ) → piece_acts p k l q' ≡ [] → TakesUses (piece_acts p k l q) names names g g []
+  pub silent : (q q' : Piece ℕ T A) → q ≡ q' → (p : Path) (k l : ℕ) → piece_acts p k l q' ≡ [] → TakesUses (piece_acts p k l q) names names g g []
   silent q q' e p k l none = subst (λ acts. TakesUses acts names names g g []) (sym (ap (piece_acts p k l) e ∙ none)) (takes_none names g)
 
 -- ---- a piece that uses no name
 module _ {O B T A : Type 0} (names : Names) (g : GraphView (Option O) B (Option T)) {x y : Gathered T A} where
   alone : (piece : ReadPiece T A) → ((text : Text) (q : Piece ℕ T A) → IsPiece names.names text piece q → (p : Path) (k l : ℕ) → TakesUses (piece_acts p k l q) names names g g [])
-      → operand_place piece ≡ [] → successor_place piece ≡ []
+      → operand_place piece ≡ [] → successor_place piece ≡ [] → operand_list piece ≡ [] → successor_list piece ≡ []
       → y.operands ≡ x.operands → y.successors ≡ x.successors → y.types.items ≡ x.types.items ++ flat_map placed_type (piece ∷ []) → y.listed ≡ last_list x.listed (flat_map type_list (piece ∷ []))
       → entries_of y.attributes ≡ put_all (entries_of x.attributes) (flat_map stored_of (piece ∷ [])) → Gathers (piece ∷ []) names g x names g y
-  alone piece takes no_operand no_successor operands successors types listed attributes = record {
+  alone piece takes no_operand no_successor no_operands no_successors operands successors types listed attributes = record {
     uses = one_part piece names.names (λ p k l acts. TakesParts p k l acts names g names g y.operands y.successors)
         (λ text q is p k l. record { more = []; takes = takes text q is p k l; held = record { so = λ u d a. absurd a } });
     operands_unlisted = λ l. ap (λ z. z.list.items) operands;
@@ -261,6 +276,8 @@ module _ {O B T A : Type 0} (names : Names) (g : GraphView (Option O) B (Option 
     successors_grow = subst (Grows x.successors) (sym successors) (grows_itself x.successors);
     operand_places = ap (λ s. map (λ e. e.0) s.single.items) operands ∙ (sym (append-nil (map (λ e. e.0) x.operands.single.items)) ∙ ap (λ z. map (λ e. e.0) x.operands.single.items ++ (z ++ [])) (sym no_operand));
     successor_places = ap (λ s. map (λ e. e.0) s.single.items) successors ∙ (sym (append-nil (map (λ e. e.0) x.successors.single.items)) ∙ ap (λ z. map (λ e. e.0) x.successors.single.items ++ (z ++ [])) (sym no_successor));
+    operand_count = let e = ap (λ z. length z.list.items) operands in let n = ap length no_operands in let k = length-append (operand_list piece) [] in omega (arith, e, n, k);
+    successor_count = let e = ap (λ z. length z.list.items) successors in let n = ap length no_successors in let k = length-append (successor_list piece) [] in omega (arith, e, n, k);
     types = types;
     listed = listed;
     attributes = attributes;
@@ -274,17 +291,17 @@ module _ {O B T A : Type 0} (names : Names) (g : GraphView (Option O) B (Option 
 
   -- a marker stands in the place of the attribute
   pub marker_one : (k : Text) → y ≡ x → Gathers {O = O} {B = B} (read.Attr k None ∷ []) names g x names g y
-  marker_one k e = alone (read.Attr k None) (λ text q is p a b. silent names g q (tree.attribute k None) is p a b refl) refl refl
+  marker_one k e = alone (read.Attr k None) (λ text q is p a b. silent names g q (tree.attribute k None) is p a b refl) refl refl refl refl
       (ap (λ z. z.operands) e) (ap (λ z. z.successors) e) (ap (λ z. z.types.items) e ∙ sym (append-nil x.types.items)) (ap (λ z. z.listed) e) (ap (λ z. entries_of z.attributes) e)
 
   -- a fixed text
   pub word_one : y ≡ x → Gathers {O = O} {B = B} (read.Word ∷ []) names g x names g y
-  word_one e = alone read.Word (λ text q is p a b. silent names g q (tree.word is.0) is.1 p a b refl) refl refl
+  word_one e = alone read.Word (λ text q is p a b. silent names g q (tree.word is.0) is.1 p a b refl) refl refl refl refl
       (ap (λ z. z.operands) e) (ap (λ z. z.successors) e) (ap (λ z. z.types.items) e ∙ sym (append-nil x.types.items)) (ap (λ z. z.listed) e) (ap (λ z. entries_of z.attributes) e)
 
   -- no operands
   pub no_operands_one : (ns : List ReadName) → ns ≡ [] → y ≡ x → Gathers {O = O} {B = B} (read.Operands ns ∷ []) names g x names g y
-  no_operands_one [] none e = alone (read.Operands []) none_used refl refl
+  no_operands_one [] none e = alone (read.Operands []) none_used refl refl refl refl
       (ap (λ z. z.operands) e) (ap (λ z. z.successors) e) (ap (λ z. z.types.items) e ∙ sym (append-nil x.types.items)) (ap (λ z. z.listed) e) (ap (λ z. entries_of z.attributes) e)
     where
       none_used : (text : Text) (q : Piece ℕ T A) → IsPiece names.names text (read.Operands []) q → (p : Path) (k l : ℕ) → TakesUses (piece_acts p k l q) names names g g []
@@ -294,7 +311,7 @@ module _ {O B T A : Type 0} (names : Names) (g : GraphView (Option O) B (Option 
 
   -- no successors
   pub no_successors_one : (ns : List ReadName) → ns ≡ [] → y ≡ x → Gathers {O = O} {B = B} (read.Successors ns ∷ []) names g x names g y
-  no_successors_one [] none e = alone (read.Successors []) none_used refl refl
+  no_successors_one [] none e = alone (read.Successors []) none_used refl refl refl refl
       (ap (λ z. z.operands) e) (ap (λ z. z.successors) e) (ap (λ z. z.types.items) e ∙ sym (append-nil x.types.items)) (ap (λ z. z.listed) e) (ap (λ z. entries_of z.attributes) e)
     where
       none_used : (text : Text) (q : Piece ℕ T A) → IsPiece names.names text (read.Successors []) q → (p : Path) (k l : ℕ) → TakesUses (piece_acts p k l q) names names g g []
@@ -305,25 +322,25 @@ module _ {O B T A : Type 0} (names : Names) (g : GraphView (Option O) B (Option 
   -- the attribute of a directive
   pub attribute_one : (k : Text) (a : AttrObj A) → y.operands ≡ x.operands → y.successors ≡ x.successors → y.types ≡ x.types → y.listed ≡ x.listed
       → entries_of y.attributes ≡ put_all (entries_of x.attributes) ((k, attribute_of a) ∷ []) → Gathers {O = O} {B = B} (read.Attr k (Some a) ∷ []) names g x names g y
-  attribute_one k a operands successors types listed attributes = alone (read.Attr k (Some a)) (λ text q is p b c. silent names g q (tree.attribute k (Some (attribute_of a))) is p b c refl) refl refl
+  attribute_one k a operands successors types listed attributes = alone (read.Attr k (Some a)) (λ text q is p b c. silent names g q (tree.attribute k (Some (attribute_of a))) is p b c refl) refl refl refl refl
       operands successors (ap (λ z. z.items) types ∙ sym (append-nil x.types.items)) listed attributes
 
   -- a symbol's name
   pub header_one : (s : Symbol) → y.operands ≡ x.operands → y.successors ≡ x.successors → y.types ≡ x.types → y.listed ≡ x.listed
       → entries_of y.attributes ≡ put_all (entries_of x.attributes) ((sym_name_key, ident s.name) ∷ []) → Gathers {O = O} {B = B} (read.Header s ∷ []) names g x names g y
-  header_one s operands successors types listed attributes = alone (read.Header s) (λ text q is p b c. silent names g q (tree.header is.0) is.1 p b c refl) refl refl
+  header_one s operands successors types listed attributes = alone (read.Header s) (λ text q is p b c. silent names g q (tree.header is.0) is.1 p b c refl) refl refl refl refl
       operands successors (ap (λ z. z.items) types ∙ sym (append-nil x.types.items)) listed attributes
 
   -- the type of a result
   pub type_one : (i : ℕ) (t : T) → y.operands ≡ x.operands → y.successors ≡ x.successors → y.types.items ≡ x.types.items ++ (i, t) ∷ [] → y.listed ≡ x.listed → y.attributes ≡ x.attributes
       → Gathers {O = O} {B = B} (read.ResultType i t ∷ []) names g x names g y
-  type_one i t operands successors types listed attributes = alone (read.ResultType i t) (λ text q is p b c. silent names g q (tree.result_type i t) is p b c refl) refl refl
+  type_one i t operands successors types listed attributes = alone (read.ResultType i t) (λ text q is p b c. silent names g q (tree.result_type i t) is p b c refl) refl refl refl refl
       operands successors types listed (ap entries_of attributes)
 
   -- a list of types
   pub types_one : (ts : List T) → y.operands ≡ x.operands → y.successors ≡ x.successors → y.types ≡ x.types → y.listed ≡ ts → y.attributes ≡ x.attributes
       → Gathers {O = O} {B = B} (read.Types ts ∷ []) names g x names g y
-  types_one ts operands successors types listed attributes = alone (read.Types ts) (λ text q is p b c. silent names g q (tree.types ts) is p b c refl) refl refl
+  types_one ts operands successors types listed attributes = alone (read.Types ts) (λ text q is p b c. silent names g q (tree.types ts) is p b c refl) refl refl refl refl
       operands successors (ap (λ z. z.items) types ∙ sym (append-nil x.types.items)) listed (ap entries_of attributes)
 
 -- ---- entries of a dictionary
@@ -369,7 +386,7 @@ module _ {O B T A : Type 0} (names : Names) (g : GraphView (Option O) B (Option 
   pub dictionary_one : (es : List (Key × AttrObj A)) → MayAllHold es → y.operands ≡ x.operands → y.successors ≡ x.successors → y.types ≡ x.types → y.listed ≡ x.listed
       → entries_of y.attributes ≡ put_all (entries_of x.attributes) (map entry_read es) → Gathers {O = O} {B = B} (read.Dictionary es ∷ []) names g x names g y
   dictionary_one es h operands successors types listed attributes = alone names g (read.Dictionary es)
-      (λ text q is p b c. subst (λ z. TakesUses (piece_acts p b c z) names names g g []) (sym is.1) (entries_pass names g text es is.0 is.2 h)) refl refl
+      (λ text q is p b c. subst (λ z. TakesUses (piece_acts p b c z) names names g g []) (sym is.1) (entries_pass names g text es is.0 is.2 h)) refl refl refl refl
       operands successors (ap (λ z. z.items) types ∙ sym (append-nil x.types.items)) listed (attributes ∙ ap (put_all (entries_of x.attributes)) (sym (append-nil (map entry_read es))))
 
 module _ {O B T A : Type 0} (names : Names) (g : GraphView (Option O) B (Option T)) where
@@ -391,14 +408,80 @@ module _ {O B T A : Type 0} (names : Names) (g : GraphView (Option O) B (Option 
                 (subst (λ acts. FailsUses acts names g (record { cause = ReservedKey f.0.text; at = Some f.0.place })) (sym (append-nil (map (key_act may_hold) q.0))) f.2),
           )
 
+-- ---- names that stand where no scope is open
+module _ {O B T : Type 0} (names : Names) (g : GraphView (Option O) B (Option T)) where
+  -- one act fails
+  act_fails : (a : Act) (f : Failure) → FailsBy (act a) names g f → FailsUses (a ∷ []) names g f
+  act_fails a f h = record { so = λ known held st s. h.so known held st s }
+
+  -- a list fails at its first name
+  values_fail : (p : Path) (k : ℕ) (text : Text) (n : ReadName) (ns : List ReadName) (ms : List (Name ℕ)) → is_open names.values ≡ false → Each (StandsFor names.names text) (n ∷ ns) ms
+      → (m : Name ℕ) × StandsFor names.names text n m × ((p : Path) (k : ℕ) → FailsUses (value_uses p k ms) names g (record { cause = NoActiveScope m.text; at = Some m.place }))
+  values_fail p k text n ns [] shut e = absurd e
+  values_fail p k text n ns (m ∷ ms) shut e = (m, e.0, λ p k. fails_first (value_uses p (suc k) ms) (act_fails (use_value (word_of m) (operand p k)) _ (value_use_outside names g (word_of m) (operand p k) shut)))
+
+  labels_fail : (p : Path) (k : ℕ) (text : Text) (n : ReadName) (ns : List ReadName) (ms : List (Name ℕ)) → is_open names.labels ≡ false → Each (StandsFor names.names text) (n ∷ ns) ms
+      → (m : Name ℕ) × StandsFor names.names text n m × ((p : Path) (k : ℕ) → FailsUses (label_uses p k ms) names g (record { cause = NoActiveScope m.text; at = Some m.place }))
+  labels_fail p k text n ns [] shut e = absurd e
+  labels_fail p k text n ns (m ∷ ms) shut e = (m, e.0, λ p k. fails_first (label_uses p (suc k) ms) (act_fails (use_label (word_of m) (successor p k)) _ (label_use_outside names g (word_of m) (successor p k) shut)))
+
+module _ {O B T A : Type 0} (names : Names) (g : GraphView (Option O) B (Option T)) where
+  -- the acts of the only part fail at this name
+  name_fails : (piece : ReadPiece T A) (read : ReadName)
+      → ((text : Text) (q : Piece ℕ T A) → IsPiece names.names text piece q → (n : Name ℕ) × StandsFor names.names text read n × ((p : Path) (k l : ℕ) → FailsUses (piece_acts p k l q) names g (record { cause = NoActiveScope n.text; at = Some n.place })))
+      → GatherOutside {T = T} (piece ∷ []) names g read
+  name_fails piece read so = record { so = fails }
+    where
+      fails : (text : Text) (parts : List (Part ℕ T A)) → Each (IsPart names.names text) (piece ∷ []) parts
+          → (n : Name ℕ) × StandsFor names.names text read n × ((p : Path) (k l : ℕ) → FailsUses (views (piece_acts p k l) parts) names g (record { cause = NoActiveScope n.text; at = Some n.place }))
+      fails text [] e = absurd e
+      fails text (part ∷ z ∷ parts) e = absurd e.1
+      fails text (part ∷ []) e =
+          let f = so text e.0.0 e.0.2 in (
+            f.0,
+            f.1,
+            λ p k l. subst (λ z. FailsUses (views (piece_acts p k l) (z ∷ [])) names g (record { cause = NoActiveScope f.0.text; at = Some f.0.place })) (sym e.0.1)
+                (subst (λ acts. FailsUses acts names g (record { cause = NoActiveScope f.0.text; at = Some f.0.place })) (sym (append-nil (piece_acts p k l e.0.0))) (f.2 p k l)),
+          )
+
+  pub operand_outside : (i : ℕ) (n : ReadName) → is_open names.values ≡ false → GatherOutside {T = T} {A = A} (read.Operand i n ∷ []) names g n
+  operand_outside i n shut = name_fails (read.Operand i n) n (λ text q is. (
+    is.0,
+    is.2,
+    λ p k l. subst (λ z. FailsUses (piece_acts p k l z) names g (record { cause = NoActiveScope is.0.text; at = Some is.0.place })) (sym is.1)
+        (act_fails names g (use_value (word_of is.0) (operand p i)) _ (value_use_outside names g (word_of is.0) (operand p i) shut)),
+  ))
+
+  pub successor_outside : (i : ℕ) (n : ReadName) → is_open names.labels ≡ false → GatherOutside {T = T} {A = A} (read.Successor i n ∷ []) names g n
+  successor_outside i n shut = name_fails (read.Successor i n) n (λ text q is. (
+    is.0,
+    is.2,
+    λ p k l. subst (λ z. FailsUses (piece_acts p k l z) names g (record { cause = NoActiveScope is.0.text; at = Some is.0.place })) (sym is.1)
+        (act_fails names g (use_label (word_of is.0) (successor p i)) _ (label_use_outside names g (word_of is.0) (successor p i) shut)),
+  ))
+
+  pub operands_outside : (ns : List ReadName) (n : ReadName) → slice_get ns 0 ≡ Some n → is_open names.values ≡ false → GatherOutside {T = T} {A = A} (read.Operands ns ∷ []) names g n
+  operands_outside [] n e shut = absurd (cc)
+  operands_outside (m ∷ ns) n e shut = name_fails (read.Operands (m ∷ ns)) n (λ text q is.
+      let f = values_fail names g [] 0 text m ns is.0 shut is.2 in let same : m ≡ n = cc in (
+        f.0,
+        subst (λ r. StandsFor names.names text r f.0) same f.1,
+        λ p k l. subst (λ z. FailsUses (piece_acts p k l z) names g (record { cause = NoActiveScope f.0.text; at = Some f.0.place })) (sym is.1) (f.2 p k),
+      ))
+
+  pub successors_outside : (ns : List ReadName) (n : ReadName) → slice_get ns 0 ≡ Some n → is_open names.labels ≡ false → GatherOutside {T = T} {A = A} (read.Successors ns ∷ []) names g n
+  successors_outside [] n e shut = absurd (cc)
+  successors_outside (m ∷ ns) n e shut = name_fails (read.Successors (m ∷ ns)) n (λ text q is.
+      let f = labels_fail names g [] 0 text m ns is.0 shut is.2 in let same : m ≡ n = cc in (
+        f.0,
+        subst (λ r. StandsFor names.names text r f.0) same f.1,
+        λ p k l. subst (λ z. FailsUses (piece_acts p k l z) names g (record { cause = NoActiveScope f.0.text; at = Some f.0.place })) (sym is.1) (f.2 p l),
+      ))
+
 -- ---- lists that are none or some
 pub none_of_length : (ns : List ReadName) → length ns ≡ 0 → ns ≡ []
 none_of_length [] e = refl
 none_of_length (n ∷ ns) e = absurd (omega (arith, e))
-
-pub open_of_some : {b : Bool} (ns : List ReadName) → (length ns ≡ 0 → ⊥) → (ns ≡ []) ⊎ (b ≡ true) → b ≡ true
-open_of_some ns some (inl e) = absurd (some (ap length e))
-open_of_some ns some (inr o) = o
 
 -- ---- pieces that may have been refused
 module _ {T A : Type 0} (x y : Gathered T A) where
@@ -427,19 +510,24 @@ module _ (T : Type 0) {A : Type 0} where
   dictionary_refused (Ok z) es ds e h = tt
   dictionary_refused (Err refusal.Memory) es ds e h = λ names g. tt
   dictionary_refused (Err (refusal.ReservedKey key)) es ds e h = λ names g. dictionary_fails names g es key (subst (λ zs. IsFirstReserved zs key) e h)
+  dictionary_refused (Err (refusal.NoActiveScope n)) es ds e h = absurd h
 
 -- ---- refusals
 module _ {O B T A : Type 0} where
   -- the first piece is refused
   pub gather_refused_first : (piece : ReadPiece T A) (ps : List (ReadPiece T A)) (names : Names) (g : GraphView (Option O) B (Option T)) (r : NotGathered) → RefusesGathering (piece ∷ []) names g r → RefusesGathering (piece ∷ ps) names g r
   gather_refused_first piece ps names g refusal.Memory h = tt
-  gather_refused_first piece ps names g (refusal.ReservedKey key) h = gather_fails_first piece ps h
+  gather_refused_first piece ps names g (refusal.ReservedKey key) h = fails_at_first piece ps h
+  gather_refused_first piece ps names g (refusal.NoActiveScope n) h = fails_at_first piece ps h
 
   -- what is refused later is refused from the beginning
-  pub gather_refused_from : (ps qs : List (ReadPiece T A)) (names mid : Names) (g h : GraphView (Option O) B (Option T)) → ((key : Key) → GatherFails ps mid h key → GatherFails qs names g key)
+  pub gather_refused_from : (ps qs : List (ReadPiece T A)) (names mid : Names) (g h : GraphView (Option O) B (Option T)) → mid.names ≡ names.names
+      → ((Is : Text → Name ℕ → Type 0) (cause : Text → Cause Text) → FailsAt ps mid h Is cause → FailsAt qs names g Is cause)
       → (r : NotGathered) → RefusesGathering ps mid h r → RefusesGathering qs names g r
-  gather_refused_from ps qs names mid g h from refusal.Memory r = tt
-  gather_refused_from ps qs names mid g h from (refusal.ReservedKey key) r = from key r
+  gather_refused_from ps qs names mid g h same from refusal.Memory r = tt
+  gather_refused_from ps qs names mid g h same from (refusal.ReservedKey key) r = from (λ text n. IsKey text key n) ReservedKey r
+  gather_refused_from ps qs names mid g h same from (refusal.NoActiveScope read) r = from (λ text n. StandsFor names.names text read n) NoActiveScope
+      (subst (λ table. FailsAt ps mid h (λ text n. StandsFor table text read n) NoActiveScope) same r)
 
 -- ---- pieces by their kind
 module _ {T A : Type 0} (names : Names) (g : GraphView (Option (OperationData A)) (BlockData A) (Option T)) (x y : Gathered T A) where

@@ -10,6 +10,7 @@ use Rattle.irtext_graph.specs.declared.object.Region.{Region}
 use Rattle.irtext_graph.specs.declared.object.Object.{Object}
 use Rattle.irtext_graph.specs.declared.object.Object.TheVariants.{TheOperation, TheBlock, TheRegion}
 use Rattle.irtext_graph.specs.Content.{ABlock, ARegion}
+use Rattle.irtext_graph.specs.Erasing.{without_uses}
 use Rattle.irtext_graph.specs.Graph.{content, content_of, parent_of, Stands, IsNew}
 use Rattle.irtext_graph.specs.Objects.{is_older}
 use Rattle.irtext_graph.specs.Parts.{results_of}
@@ -25,8 +26,10 @@ use Rattle.irtext_scopes.specs.Scopes.{Scope, is_open}
 use Rattle.irtext_scopes.specs.Tracker.{entered}
 use Rattle.irtext_names.specs.Linked.{IsInPlace}
 use Rattle.irtext_names.specs.Tied.{AreTied, AreWaiting}
-use Rattle.irtext_parse_nested.specs.Items.{Names, Pledge, StandsAs, Lasts, IsSound}
+use Rattle.irtext_parse_nested.specs.Items.{Made, Names, Pledge, StandsAs, Lasts, IsSound, BlanksDefine}
+use Rattle.irtext_parse_nested.proofs.Blanks.{blanks_on}
 use Rattle.irtext_parse_nested.proofs.Lasting.{data_there, there_data}
+use Rattle.irtext_parse_nested.proofs.Losing.{blanks_by}
 use Rattle.irtext_parse_nested.proofs.RegionAdded.{operation_same, object_same, still_there, in_place_still, region_ties, region_waits}
 use Rattle.irtext_parse_nested.proofs.Standing.{stands_edited}
 
@@ -86,10 +89,11 @@ module _ {T A : Type 0} (old new : ContextView T A) (op : Ptr Operation) (r : Pt
             tied = subst (λ c. AreTied names.values names.labels c.graph) (sym f) (region_ties old.graph new.graph op r adds.graph x.0 x.1 names.values names.labels tied);
             waiting = subst (λ c. AreWaiting m [] names.values names.labels c.graph) (sym f) (region_waits old.graph new.graph op r adds.graph x.0 x.1 m [] names.values names.labels tied
                 (subst (λ c. AreWaiting m [] names.values names.labels c.graph) e h.waiting));
+            blanks = subst (BlanksDefine m) (sym f) (blanks_on old new (blanks_by old.graph new.graph (λ p. inl (ap (option_map without_uses) (object_same old.graph new.graph op r adds.graph p)))) m (subst (BlanksDefine m) e h.blanks));
           }
 
-      pub region_stands : {U : Type 0} {path : ℕ → Path} {pledges : List Pledge} {o : Outcome} (s z : code.State T A U) → s.ctx.now ≡ old → z.ctx.now ≡ new → marks_of z ≡ marks_of s → AreTied names.values names.labels old.graph
-          → StandsAs path pledges names s o → StandsAs path pledges names z o
+      pub region_stands : {U : Type 0} {path : ℕ → Path} {items : Made} {pledges : List Pledge} {o : Outcome} (s z : code.State T A U) → s.ctx.now ≡ old → z.ctx.now ≡ new → marks_of z ≡ marks_of s → AreTied names.values names.labels old.graph
+          → StandsAs path items pledges names s o → StandsAs path items pledges names z o
       region_stands s z e f same tied h =
           let x = data_there old op has in
           stands_edited names s z

@@ -12,15 +12,16 @@ use Rattle.irtext_names.specs.Linked.{IsInPlace, StandsAt, Takes, FailsBy}
 use Rattle.irtext_names.specs.Tied.{AreTied}
 use Rattle.irtext_names.proofs.Linked.Steps.{stands_kept}
 use Rattle.irtext_outcomes.specs.Promises.Section.{indices_of}
-use Rattle.irtext_parse_nested.specs.Items.{Names, Pledge, StandsAs}
+use Rattle.irtext_parse_nested.specs.Items.{Made, Names, Pledge, StandsAs}
 
-module _ {T A U : Type 0} {path : ℕ → Path} {pledges : List Pledge} {o : Outcome} where
+module _ {T A U : Type 0} {path : ℕ → Path} {items : Made} {pledges : List Pledge} {o : Outcome} where
   -- an edit that keeps what is defined and what is in place
   pub stands_edited : (names : Names) (s z : code.State T A U) → ((d : Defined) → IsDefined s.ctx.now.graph d → IsDefined z.ctx.now.graph d)
       → ((u : Site) (d : Defined) → IsInPlace s.ctx.now.graph d u → IsInPlace z.ctx.now.graph d u) → AreTied names.values names.labels z.ctx.now.graph
-      → marks_of z ≡ marks_of s → StandsAs path pledges names s o → StandsAs path pledges names z o
+      → marks_of z ≡ marks_of s → StandsAs path items pledges names s o → StandsAs path items pledges names z o
   stands_edited names s z there in_place tied same h = record {
     known = h.known;
+    of_items = h.of_items;
     state = h.state;
     going = h.going;
     stands = stands_kept s.ctx.now.graph z.ctx.now.graph names h.known [] h.state there in_place tied h.stands;
@@ -30,11 +31,12 @@ module _ {T A U : Type 0} {path : ℕ → Path} {pledges : List Pledge} {o : Out
 
   -- an event that takes the machine on, and no mark is noted
   pub stands_on : (old new : Names) (s z : code.State T A U) (event : Event) (then : State → State) → Takes event then old new s.ctx.now.graph → ((st : State) → (then st).marks ≡ st.marks)
-      → z.ctx.now.graph ≡ s.ctx.now.graph → marks_of z ≡ marks_of s → StandsAs path pledges old s o → StandsAs path pledges new z (next o event)
+      → z.ctx.now.graph ≡ s.ctx.now.graph → marks_of z ≡ marks_of s → StandsAs path items pledges old s o → StandsAs path items pledges new z (next o event)
   stands_on old new s z event then takes same graph marks h =
       let r = takes.so h.known h.state h.stands in
       record {
         known = h.known;
+        of_items = h.of_items;
         state = then h.state;
         going = ap (λ x. next x event) h.going ∙ r.0;
         stands = subst (λ g. StandsAt new g h.known [] (then h.state)) (sym graph) r.1;
@@ -43,5 +45,5 @@ module _ {T A U : Type 0} {path : ℕ → Path} {pledges : List Pledge} {o : Out
       }
 
   -- an event that fails
-  pub stands_fails : (names : Names) (s : code.State T A U) (event : Event) (failure : Failure) → FailsBy event names s.ctx.now.graph failure → StandsAs path pledges names s o → next o event ≡ failed failure
+  pub stands_fails : (names : Names) (s : code.State T A U) (event : Event) (failure : Failure) → FailsBy event names s.ctx.now.graph failure → StandsAs path items pledges names s o → next o event ≡ failed failure
   stands_fails names s event failure fails h = ap (λ x. next x event) h.going ∙ fails.so h.known [] h.state h.stands

@@ -1,11 +1,20 @@
 -- As many scopes stay open, and all stays tied, from call to call.
-use Rattle.std.proofs.Common.{◌≡◌, ◌<◌, ◌≤◌, ◌+◌, ◌∙◌, ℕ, zero, suc, List, [], ◌∷◌, ◌++◌, length, map, take, get_or, slice_get, Option, Some, None, Result, Ok, Err, IfOk, OnErr, refl, ap, subst, arith}
+use Rattle.std.proofs.Common.{◌≡◌, ◌<◌, ◌≤◌, ◌+◌, ◌∙◌, ℕ, zero, suc, List, [], ◌∷◌, ◌++◌, length, map, take, get_or, slice_get, Option, Some, None, Result, Ok, Err, IfOk, OnErr, IsSome, inl, inr, refl, sym, ap, subst, arith}
 use Rattle.irtext_graph.specs.declared.arena.Ptr.{Ptr}
 use Rattle.irtext_graph.specs.declared.object.BasicBlock.{BasicBlock}
 use Rattle.irtext_graph.specs.declared.object.Value.{Value}
 use Rattle.irtext_graph.specs.declared.object.Defined.TheVariants.{OfValue, OfBlock}
-use Rattle.irtext_graph.specs.declared.object.Object.TheVariants.{TheBlock}
-use Rattle.irtext_graph.specs.Graph.{GraphView, Stands}
+use Rattle.std.specs.Option.{option_map}
+use Rattle.irtext_graph.specs.declared.object.Operation.{Operation}
+use Rattle.irtext_graph.specs.declared.object.Object.TheVariants.{TheBlock, TheOperation, TheRegion}
+use Rattle.irtext_graph.specs.declared.object.Value.TheVariants.{Result as ValueResult}
+use Rattle.irtext_graph.specs.Content.{Content, Content.{AnOperation, ARegion}, OperationContent, RegionContent}
+use Rattle.irtext_graph.specs.Erasing.{without_uses}
+use Rattle.irtext_graph.specs.Store.{get}
+use Rattle.irtext_graph.proofs.Nests.{told}
+use Rattle.irtext_graph.proofs.Same.{ptr_tells}
+use Rattle.irtext_graph.specs.Graph.{GraphView, Stands, content, parent_of, content_of}
+use Rattle.irtext_graph.specs.Used.{IsDefined}
 use Rattle.irtext_graph.specs.Parts.{ValueStands}
 use Rattle.irtext_graph.proofs.Closed.{older_on}
 use Rattle.irtext_scopes.specs.declared.scopes.Entry.{Entry}
@@ -13,13 +22,23 @@ use Rattle.irtext_scopes.specs.Scopes.{Scope, find, innermost, in_innermost, is_
 use Rattle.irtext_grammar.specs.Names.Script.{User, use_value, use_label}
 use Rattle.irtext_grammar.specs.Names.TextScopes.{Word}
 use Rattle.irtext_names.specs.Linked.{TakesUse}
-use Rattle.irtext_names.specs.Placeholders.{Uses, MakesValue, MakesLabel}
+use Rattle.irtext_names.specs.Placeholders.{Uses, MakesValue, MakesLabel, StandsAsBefore}
 use Rattle.irtext_names.specs.Tied.{AreTied}
 use Rattle.irtext_parse_acts.specs.Rows.{AreKnown}
 use Rattle.irtext_parse_acts.proofs.Lists.{older_itself}
 use Rattle.irtext_parse_acts.proofs.Rows.{use_there, value_there, label_there}
 use Rattle.irtext_parse_nested.specs.Items.{Names}
-use Rattle.irtext_parse_nested.specs.Gathered.{IsSteady, TakesName}
+use Rattle.irtext_parse_nested.specs.Definitions.{BlanksHaveResults}
+use Rattle.irtext_parse_nested.specs.Gathered.{BringsNone, IsSteady, TakesName}
+use Rattle.irtext_parse_nested.proofs.Losing.{blanks_by}
+
+-- what is seen of an operation
+abbrev pub seen_operation : (O B T : Type 0) → Option (ℕ × OperationContent (Option O) T) → Option (Content (Option O) B T)
+seen_operation O B T o = option_map (λ d. AnOperation d.0 d.1) o
+
+-- what is seen of a region
+abbrev pub seen_region : (O B T : Type 0) → Option (ℕ × RegionContent) → Option (Content O B T)
+seen_region O B T o = option_map (λ d. ARegion d.0 d.1) o
 
 -- ---- scopes
 -- as many scopes are open where one is
@@ -46,10 +65,102 @@ module _ {O B T V : Type 0} (Makes : GraphView (Option O) B T → GraphView (Opt
   depth_used (Ok v) u e = use_depth v u
   depth_used (Err x) u e = ap length e
 
+-- ---- what comes
+module _ {O B T : Type 0} where
+  pub brings_itself : (g : GraphView (Option O) B T) → BringsNone g g
+  brings_itself g = record { operations = λ p x e. e; blocks = λ b o e. e; regions = λ r s. s }
+
+  pub brings_both : {g h k : GraphView (Option O) B T} → BringsNone g h → BringsNone h k → BringsNone g k
+  brings_both s t = record {
+    operations = λ p x e. s.operations p x (t.operations p x e);
+    blocks = λ b o e. s.blocks b o (t.blocks b o e);
+    regions = λ r e. s.regions r (t.regions r e);
+  }
+
+  as_before : (g h : GraphView (Option O) B T) → StandsAsBefore g h → BringsNone g h
+  as_before g h s = record {
+    operations = λ p x e. ap (λ z. option_map (λ c. c.data_of) (option_map (λ e. e.content.content) z)) (sym (s.operations p)) ∙ e;
+    blocks = λ b o e. ap (λ z. option_map TheRegion (parent_of z)) (sym (s.blocks b)) ∙ e;
+    regions = λ r e. subst (λ z. IsSome (seen_region (Option O) B T (content_of z))) (s.regions r) e;
+  }
+
+  label_brings : (value : B) (g h : GraphView (Option O) B T) (b : Ptr BasicBlock) → MakesLabel value g h b → BringsNone g h
+  label_brings value g h b m = record {
+    operations = λ p x e. ap (λ s. option_map (λ c. c.data_of) (option_map (λ e. e.content.content) (get s p))) (sym m.operations) ∙ e;
+    blocks = λ c o e. elim (told ptr_tells c b) [
+      | inl same ↦ let none = ap (λ z. option_map TheRegion (parent_of z)) (ap (get h.blocks) same ∙ m.blocks.updates.changed) in let bad = sym none ∙ e in absurd (cc)
+      | inr n ↦ ap (λ z. option_map TheRegion (parent_of z)) (sym (m.blocks.updates.others c n)) ∙ e
+    ];
+    regions = λ r e. subst (λ s. IsSome (seen_region (Option O) B T (content_of (get s r)))) m.regions e;
+  }
+
+  -- a label that was used brings nothing but a placeholder
+  pub block_brings : {E : Type 0} (value : B) (old new : List (Scope (Ptr BasicBlock))) (g h : GraphView (Option O) B T) (n : ℕ) (r : Result (Ptr BasicBlock) E) → IfOk r (λ b. Uses (MakesLabel value) old new g h n b) → OnErr r (StandsAsBefore g h) → BringsNone g h
+  block_brings value old new g h n (Err x) u e = as_before g h e
+  block_brings value old new g h n (Ok b) u e = go (find n (innermost old)) refl
+    where
+      go : (o : Option (Entry (Ptr BasicBlock))) → find n (innermost old) ≡ o → BringsNone g h
+      go (Some x) f = subst (BringsNone g) (sym (u.known x f).2) (brings_itself g)
+      go None f = label_brings value g h b (u.unknown f).1
+
+module _ {O B T : Type 0} where
+  value_made : (g h : GraphView (Option O) B (Option T)) (v : Value) → MakesValue g h v → BringsNone g h
+  value_made g h v m = record {
+    operations = λ p x e. elim (told ptr_tells p m.operation) [
+      | inl same ↦ let none = ap (λ z. option_map (λ c. c.data_of) (option_map (λ e. e.content.content) z)) (ap (get h.operations) same ∙ m.makes.operations.updates.changed) in let bad = sym none ∙ e in absurd (cc)
+      | inr n ↦ ap (λ z. option_map (λ c. c.data_of) (option_map (λ e. e.content.content) z)) (sym (m.makes.operations.updates.others p n)) ∙ e
+    ];
+    blocks = λ b o e. ap (λ s. option_map TheRegion (parent_of (get s b))) (sym m.makes.blocks) ∙ e;
+    regions = λ r e. subst (λ s. IsSome (seen_region (Option O) B (Option T) (content_of (get s r)))) m.makes.regions e;
+  }
+
+  -- a name of a value that was used brings nothing but a placeholder
+  pub value_brings : {E : Type 0} (old new : List (Scope Value)) (g h : GraphView (Option O) B (Option T)) (n : ℕ) (r : Result Value E) → IfOk r (λ v. Uses MakesValue old new g h n v) → OnErr r (StandsAsBefore g h) → BringsNone g h
+  value_brings old new g h n (Err x) u e = as_before g h e
+  value_brings old new g h n (Ok v) u e = go (find n (innermost old)) refl
+    where
+      go : (o : Option (Entry Value)) → find n (innermost old) ≡ o → BringsNone g h
+      go (Some x) f = subst (BringsNone g) (sym (u.known x f).2) (brings_itself g)
+      go None f = value_made g h v (u.unknown f).1
+
+-- ---- operations without data
+module _ {O B T : Type 0} where
+  same_place : (g h : GraphView (Option O) B T) (p : Ptr Operation) → get h.operations p ≡ get g.operations p
+      → option_map without_uses (content h (TheOperation p)) ≡ option_map without_uses (content g (TheOperation p))
+  same_place g h p e = ap (λ z. option_map without_uses (seen_operation O B T (content_of z))) e
+
+  -- what brings no operation brings none without a result
+  same_blanks : (g h : GraphView (Option O) B T) → ((p : Ptr Operation) → get h.operations p ≡ get g.operations p) → (m : ℕ) → BlanksHaveResults m g → BlanksHaveResults m h
+  same_blanks g h same = blanks_by g h (λ p. inl (same_place g h p (same p)))
+
+  -- a label that was used
+  pub block_blanks : {E : Type 0} (value : B) (old new : List (Scope (Ptr BasicBlock))) (g h : GraphView (Option O) B T) (n : ℕ) (r : Result (Ptr BasicBlock) E) → IfOk r (λ b. Uses (MakesLabel value) old new g h n b) → OnErr r (StandsAsBefore g h)
+      → (m : ℕ) → BlanksHaveResults m g → BlanksHaveResults m h
+  block_blanks value old new g h n (Err x) u e = same_blanks g h (λ p. e.operations p)
+  block_blanks value old new g h n (Ok b) u e = go (find n (innermost old)) refl
+    where
+      go : (o : Option (Entry (Ptr BasicBlock))) → find n (innermost old) ≡ o → (m : ℕ) → BlanksHaveResults m g → BlanksHaveResults m h
+      go (Some x) f = same_blanks g h (λ p. ap (λ z. get z.operations p) (u.known x f).2)
+      go None f = same_blanks g h (λ p. ap (λ s. get s p) ((u.unknown f).1.operations))
+
+module _ {O B T : Type 0} where
+  -- a name of a value that was used: its placeholder has a result
+  pub value_blanks : {E : Type 0} (old new : List (Scope Value)) (g h : GraphView (Option O) B (Option T)) (n : ℕ) (r : Result Value E) → IfOk r (λ v. Uses MakesValue old new g h n v) → IfOk r (λ v. ValueStands h v) → OnErr r (StandsAsBefore g h)
+      → (m : ℕ) → BlanksHaveResults m g → BlanksHaveResults m h
+  value_blanks old new g h n (Err x) u t e = same_blanks g h (λ p. e.operations p)
+  value_blanks old new g h n (Ok v) u t e = go (find n (innermost old)) refl
+    where
+      go : (o : Option (Entry Value)) → find n (innermost old) ≡ o → (m : ℕ) → BlanksHaveResults m g → BlanksHaveResults m h
+      go (Some x) f = same_blanks g h (λ p. ap (λ z. get z.operations p) (u.known x f).2)
+      go None f = let m = (u.unknown f).1 in blanks_by g h (λ p. elim (told ptr_tells p m.operation) [
+        | inl same ↦ inr (λ b. (0, subst (λ q. IsDefined h (OfValue (ValueResult q 0))) (sym same) (subst (λ w. IsDefined h (OfValue w)) m.value t)))
+        | inr apart ↦ inl (same_place g h p (m.makes.operations.updates.others p apart))
+      ])
+
 -- ---- calls one after another
 module _ {O B T : Type 0} where
   pub steady_itself : (names : Names) (g : GraphView (Option O) B T) → AreTied names.values names.labels g → IsSteady names names g g
-  steady_itself names g t = record { names = refl; values = refl; labels = refl; tied = t; waiting = λ m own le w. w; kept = λ m le. older_itself m g }
+  steady_itself names g t = record { names = refl; values = refl; labels = refl; tied = t; waiting = λ m own le w. w; kept = λ m le. older_itself m g; brings = brings_itself g; blanks = λ m h. h }
 
   pub steady_both : {old mid new : Names} {g h k : GraphView (Option O) B T} → IsSteady old mid g h → IsSteady mid new h k → IsSteady old new g k
   steady_both {g} {h} {k} s t = record {
@@ -59,6 +170,8 @@ module _ {O B T : Type 0} where
     tied = t.tied;
     waiting = λ m own le w. let up = (s.kept m le).made in t.waiting m own (omega (arith, le, up)) (s.waiting m own le w);
     kept = λ m le. let up = (s.kept m le).made in older_on m g h k (s.kept m le) (t.kept m (omega (arith, le, up)));
+    brings = brings_both s.brings t.brings;
+    blanks = λ m h. t.blanks m (s.blanks m h);
   }
 
 -- ---- a name that is used

@@ -28,7 +28,7 @@ AreOfSteps inside (s ∷ ss) (p ∷ ps) = IsOfStep s p × (inside ≡ false → 
 
 module _ {T A : Type 0} (types_at : Text → Outcome T) (attr : Text → Outcome (AttrView A)) where
   -- what a step reads is a piece of it
-  piece_of : (inside : Bool) (step : Step) (text : Text) (p : Piece ℕ T A) (taken rest : Text) → piece_at types_at attr inside step text ≡ Read p taken rest → IsOfStep step p
+  pub piece_of : (inside : Bool) (step : Step) (text : Text) (p : Piece ℕ T A) (taken rest : Text) → piece_at types_at attr inside step text ≡ Read p taken rest → IsOfStep step p
   piece_of inside (flat (format.word s)) text p taken rest e = subst (IsOfStep (flat (format.word s))) (mapped_read (λ _. tree.word s) (word s text) p taken rest e).2 refl
   piece_of inside (flat (format.operand i)) text p taken rest e = subst (IsOfStep (flat (format.operand i))) (mapped_read (tree.operand i) (used_at inside text) p taken rest e).2 refl
   piece_of inside (flat format.operands) text p taken rest e = subst (IsOfStep (flat format.operands)) (mapped_read tree.operands (separated_at 44 (used_at inside) text) p taken rest e).2 refl
@@ -234,7 +234,7 @@ abbrev pub marks_of : (Directive → Bool) → List Directive → List (Unit {0}
 marks_of test [] = []
 marks_of test (d ∷ ds) = cond (test d) (tt ∷ marks_of test ds) (marks_of test ds)
 
-marked : (test : Directive → Bool) (ds : List Directive) → length (marks_of test ds) ≡ count test ds
+pub marked : (test : Directive → Bool) (ds : List Directive) → length (marks_of test ds) ≡ count test ds
 marked test [] = refl
 marked test (d ∷ ds) = go (test d) (marked test ds)
   where

@@ -43,7 +43,7 @@ number_sym c d = go (c == d) refl (d == c) refl
     go false e true f = absurd (let same = same_character d c f in true≢false (sym (same_itself c) ∙ (ap (λ z. c == z) (sym same) ∙ e)))
     go false e false f = e ∙ sym f
 
-same_text_sym : (s t : Text) → same_text s t ≡ same_text t s
+pub same_text_sym : (s t : Text) → same_text s t ≡ same_text t s
 same_text_sym [] [] = refl
 same_text_sym [] (d ∷ t) = refl
 same_text_sym (c ∷ s) [] = refl
@@ -89,11 +89,13 @@ module _ {A : Type 0} where
   first_refused e es refusal.Memory h = tt
   first_refused e es (refusal.ReservedKey key) (inl h) = inl h
   first_refused e es (refusal.ReservedKey key) (inr h) = absurd h.1
+  first_refused e es (refusal.NoActiveScope n) h = absurd h
 
   -- a later one is
   pub later_refused : (e : Key × AttrObj A) (es : List (Key × AttrObj A)) (r : NotGathered) → MayAllHold (e ∷ []) → RefusesEntries es r → RefusesEntries (e ∷ es) r
   later_refused e es refusal.Memory k h = tt
   later_refused e es (refusal.ReservedKey key) k h = inr (k.0, h)
+  later_refused e es (refusal.NoActiveScope n) k h = absurd h
 
 -- what is so of a refusal that is handed on is so of the answer
 pub exit_from : {X E : Type 0} {e : E} (r : Result X E) → IsErrAnd r (λ y. y ≡ e) → (P Q : E → Type 0) → ((x : E) → P x → Q x) → P e → IfErr r Q

@@ -1,5 +1,5 @@
 -- Between functions: what names that are defined one after another come to, as the results of an operation or as the arguments of a block.
-use Rattle.std.specs.Prelude.{◌≡◌, ◌<◌, ℕ, true, suc, List, [], ◌∷◌, length, map, Option, Some, slice_get}
+use Rattle.std.specs.Prelude.{◌≡◌, ◌<◌, ℕ, true, suc, List, [], ◌∷◌, length, map, Option, Some, None, IsSome, slice_get, ⊤}
 use Rattle.std.specs.Option.{option_map}
 use Rattle.irtext_base.specs.Text.{Text}
 use Rattle.irtext_base.specs.Faults.{Fault, fault_of}
@@ -11,14 +11,16 @@ use Rattle.irtext_graph.specs.declared.object.BasicBlock.{BasicBlock}
 use Rattle.irtext_graph.specs.declared.object.Operation.{Operation}
 use Rattle.irtext_graph.specs.declared.object.Region.{Region}
 use Rattle.irtext_graph.specs.declared.object.Object.{Object}
-use Rattle.irtext_graph.specs.declared.object.Object.TheVariants.{TheBlock, TheRegion}
+use Rattle.irtext_graph.specs.declared.object.Object.TheVariants.{TheOperation, TheBlock, TheRegion}
 use Rattle.irtext_graph.specs.declared.object.Value.{Value}
 use Rattle.irtext_graph.specs.declared.object.Value.TheVariants.{Result, Argument}
 use Rattle.irtext_graph.specs.declared.object.Defined.TheVariants.{OfValue}
 use Rattle.irtext_graph.specs.Chained.{Among}
-use Rattle.irtext_graph.specs.Graph.{GraphView, Stands, IsNew, parent}
+use Rattle.irtext_graph.specs.Erasing.{without_uses}
+use Rattle.irtext_graph.specs.Graph.{GraphView, Stands, IsNew, content, parent, children}
 use Rattle.irtext_graph.specs.Parts.{operation_at, results}
 use Rattle.irtext_graph.specs.Used.{IsDefined}
+use Rattle.irtext_building.specs.Stands.{UsesAsMany}
 use Rattle.irtext_scopes.specs.declared.tracker.NameTracker.{NameTracker}
 use Rattle.irtext_scopes.specs.Scopes.{Scope}
 use Rattle.irtext_grammar.specs.Grammar.Tree.{Name}
@@ -63,8 +65,32 @@ module _ {O B T : Type 0} where
     pub so : (ws : List (Name ℕ)) → AreNamed names.names numbers ws → (place : ℕ → Place) (known : Known) (st : State) → AreMadeAs place value numbers known → StandsAt names g known [] st
         → (w : Name ℕ) × (slice_get ws index ≡ Some w) × (run (going st) (map act (definitions_from place 0 ws)) ≡ failed (record { cause = MultipleDefinitions w.text; at = Some w.place }))
 
+  -- an object is no placeholder: an operation that has data, a block that stands somewhere, or a region
+  abbrev pub IsPlaced : GraphView (Option O) B T → Object → Type 0
+  IsPlaced g (TheOperation p) = (x : O) × (option_map (λ c. c.data_of) (operation_at g p) ≡ Some (Some x))
+  IsPlaced g (TheBlock b) = Stands g (TheBlock b) × IsSome (parent g (TheBlock b))
+  IsPlaced g (TheRegion r) = Stands g (TheRegion r)
+
+  -- where an object is an operation, it has as many operands and successors
+  abbrev pub HasAsMany : GraphView (Option O) B T → GraphView (Option O) B T → Object → Type 0
+  HasAsMany g k (TheOperation p) = UsesAsMany g k p
+  HasAsMany g k (TheBlock b) = ⊤
+  HasAsMany g k (TheRegion r) = ⊤
+
+  -- an object is the same apart from what it uses, uses as many, holds the same and stands in the same
+  pub record StaysAlike (g k : GraphView (Option O) B T) (q : Object) : Type 0 where
+    pub contents : option_map without_uses (content k q) ≡ option_map without_uses (content g q)
+    pub as_many : HasAsMany g k q
+    pub parents : parent k q ≡ parent g q
+    pub lists : children k q ≡ children g q
+
+  -- of what was made since a mark, each operation without data has a result, as the placeholders of values have
+  abbrev pub BlanksHaveResults : ℕ → GraphView (Option O) B T → Type 0
+  BlanksHaveResults m g = (p : Ptr Operation) → option_map (λ c. c.data_of) (operation_at g p) ≡ Some None → IsNew m g (TheOperation p) → (i : ℕ) × IsDefined g (OfValue (Result p i))
+
   -- what is no placeholder stands as it stood: each operation that has data, with its data and as many results; each block that stands
-  -- somewhere, there; each region; and what is younger than a mark is so still
+  -- somewhere, there; each region; all of these with what stands in them, and nothing else came; what is younger than a mark is so still; and each
+  -- operation without data has a result where that was so
   pub record LosesPlaceholders (g k : GraphView (Option O) B T) : Type 0 where
     pub operations : (p : Ptr Operation) (x : O) → option_map (λ c. c.data_of) (operation_at g p) ≡ Some (Some x) → option_map (λ c. c.data_of) (operation_at k p) ≡ Some (Some x)
     pub results : (p : Ptr Operation) (x : O) → option_map (λ c. c.data_of) (operation_at g p) ≡ Some (Some x) → length (results k p) ≡ length (results g p)
@@ -72,6 +98,9 @@ module _ {O B T : Type 0} where
     pub regions : (r : Ptr Region) → Stands g (TheRegion r) → Stands k (TheRegion r)
     pub newer : (m : ℕ) (q : Object) → IsNew m g q → IsNew m k q
     pub made : k.made ≡ g.made
+    pub alike : (q : Object) → IsPlaced g q → StaysAlike g k q
+    pub brought : (q : Object) → IsPlaced k q → IsPlaced g q
+    pub blanks : (m : ℕ) → BlanksHaveResults m g → BlanksHaveResults m k
 
 -- the fault is committed, says this of the name's text, and stands at the name's place
 pub record IsFaultOf {A : Type 0} (names : List Text) (text : Text) (cause : Text → Fault) (read : ReadName) (fault : ParseFault A) : Type 0 where

@@ -1,5 +1,5 @@
 -- Between functions: what the end of an operation does, in steps: its results are defined, and its mark is noted.
-use Rattle.std.specs.Prelude.{◌≡◌, ℕ, true, false, List, length, map, Option, Some, None, slice_get}
+use Rattle.std.specs.Prelude.{◌≡◌, ℕ, true, false, List, [], ◌∷◌, ◌++◌, length, map, Option, Some, None, slice_get}
 use Rattle.std.specs.Map.{lookup}
 use Rattle.irtext_base.specs.Text.{Text}
 use Rattle.irtext_base.specs.Faults as causes
@@ -20,6 +20,18 @@ use Rattle.irtext_parse_nested.specs.Definitions.{FailsRow, IsFaultOf}
 use Rattle.irtext_state.specs.declared.parsable.state.State as code
 use Rattle.irtext_grammar.specs.Names.History.{Outcome}
 use Rattle.irtext_grammar.specs.Names.Script.{Path}
+use Rattle.irtext_grammar.specs.Contexts.Held.{entries_of}
+use Rattle.irtext_grammar.specs.Grammar.Tree.{Name, Mark}
+use Rattle.irtext_grammar.specs.Graphs.Build.{put_all, read_names}
+use Rattle.irtext_building.specs.Grows.{OwnBecame}
+use Rattle.irtext_building.specs.Stands.{OwnSoFar, HasOwn, HasUses}
+use Rattle.irtext_parse_acts.specs.Rows.{AreNamed}
+use Rattle.irtext_parse_heads.specs.Named.{StandsFor, Each}
+use Rattle.irtext_context.specs.Context.{ContextView, OperationView, operation, EditsOperation, with_attributes}
+use Rattle.irtext_graph.specs.declared.arena.Ptr.{Ptr}
+use Rattle.irtext_graph.specs.declared.object.Operation.{Operation}
+use Rattle.irtext_base.specs.declared.base.attributes.AttrObj.{AttrObj}
+use Rattle.irtext_base.specs.declared.location.Location.{Location}
 use Rattle.irtext_nesting.specs.Resume.{Begun}
 use Rattle.irtext_parse_nested.specs.Items.{Names, doing}
 
@@ -40,6 +52,15 @@ abbrev pub NotesMark : {X : Type 0} → Option ReadMark → X → List (ℕ × X
 NotesMark None item old new = new ≡ old
 NotesMark (Some mark) item old new = Notes mark.index item true old new
 
+-- the mark that stands in a text, where one does, with what carries it
+abbrev pub noted_as : {X : Type 0} → Option (Mark ℕ) → X → List (ℕ × X)
+noted_as None item = []
+noted_as (Some m) item = (m.index, item) ∷ []
+
+-- marks may have come behind those that were noted
+abbrev pub GainsMarks : {X : Type 0} → List (ℕ × X) → List (ℕ × X) → Type 0
+GainsMarks {X} old new = (more : List (ℕ × X)) × (new ≡ old ++ more)
+
 -- the index of the mark that was read is noted already, and the fault says so, at the mark's place
 pub record RefusesMark {X A : Type 0} (text : Text) (mark : Option ReadMark) (marks : List (ℕ × X)) (fault : ParseFault A) : Type 0 where
   pub read : ReadMark
@@ -59,3 +80,21 @@ pub record RefusesTwice {A : Type 0} (names : List Text) (text : Text) (defined 
 -- what the end of an operation does, up to its mark
 abbrev pub closes_at : {T A U : Type 0} → Begun T A → code.State T A U → (ℕ → Path) → Outcome → Outcome
 closes_at {T} {A} o s path = (doing {T = T} {A = A} s.ctx.now.dialects path).closes o.place o.names o.id o.parts
+
+module _ {T A : Type 0} where
+  -- the attributes of an operation were written
+  pub record WritesAttributes (old new : ContextView T A) (op : Ptr Operation) : Type 0 where
+    pub left : List (Text × AttrObj A)
+    pub edits : EditsOperation old new op (with_attributes left)
+
+  -- the same, and these names were put in as given names, where there are any
+  pub record GivesNames (names : List Text) (read : List ReadName) (old new : ContextView T A) (op : Ptr Operation) : Type 0 where
+    pub left : List (Text × AttrObj A)
+    pub edits : EditsOperation old new op (with_attributes left)
+    pub stored : (view : OperationView T A) → operation old op ≡ Some view → (ws : List (Name ℕ)) → AreNamed names (numbers_of read) ws
+        → entries_of left ≡ put_all (entries_of view.attributes) (read_names (map (λ w. w.text) ws))
+
+  -- whatever own an operation had, it has these names as given names besides
+  pub record BecomesNamed (IsLocation : ℕ → Location A → Type 0) (names : List Text) (text : Text) (read : List ReadName) (old new : ContextView T A) (op : Ptr Operation) : Type 0 where
+    pub so : (own : OwnSoFar T A) (view : OperationView T A) → operation old op ≡ Some view → HasOwn IsLocation view own → HasUses old op own → (ns : List (Name ℕ)) → Each (StandsFor names text) read ns
+        → OwnBecame old new IsLocation op (record own { entries = put_all own.entries (read_names (map (λ n. n.text) ns)) })

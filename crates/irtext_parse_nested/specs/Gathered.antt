@@ -1,5 +1,6 @@
 -- Between functions: what the pieces in front of an operation's first region come to: what they use, and what they give the operation.
-use Rattle.std.specs.Prelude.{◌≡◌, ◌⊎◌, ◌+◌, ◌<◌, ◌≤◌, ℕ, Bool, true, false, List, [], ◌∷◌, ◌++◌, length, map, flat_map, slice_get, Option, Some, None, ⊤}
+use Rattle.std.specs.Prelude.{◌≡◌, ◌⊎◌, ◌+◌, ◌<◌, ◌≤◌, ℕ, true, false, List, [], ◌∷◌, ◌++◌, length, map, flat_map, slice_get, Option, Some, None, ⊤}
+use Rattle.std.specs.Option.{option_map}
 use Rattle.irtext_base.specs.Text.{Text}
 use Rattle.irtext_base.specs.Format.{sym_name_key}
 use Rattle.irtext_base.specs.declared.base.attributes.AttrObj.{AttrObj}
@@ -10,33 +11,39 @@ use Rattle.irtext_context.specs.declared.base.block.BlockData.{BlockData}
 use Rattle.irtext_context.specs.declared.base.operation.OperationData.{OperationData}
 use Rattle.irtext_graph.specs.declared.arena.Ptr.{Ptr}
 use Rattle.irtext_graph.specs.declared.object.BasicBlock.{BasicBlock}
+use Rattle.irtext_graph.specs.declared.object.Object.{Object}
+use Rattle.irtext_graph.specs.declared.object.Object.TheVariants.{TheBlock, TheRegion}
+use Rattle.irtext_graph.specs.declared.object.Operation.{Operation}
+use Rattle.irtext_graph.specs.declared.object.Region.{Region}
 use Rattle.irtext_graph.specs.declared.object.Value.{Value}
 use Rattle.irtext_graph.specs.declared.object.Defined.{Defined}
 use Rattle.irtext_graph.specs.declared.object.Defined.TheVariants.{OfValue, OfBlock}
 use Rattle.irtext_graph.specs.Chained.{Among}
-use Rattle.irtext_graph.specs.Graph.{GraphView, KeepsOlder}
+use Rattle.irtext_graph.specs.Graph.{GraphView, KeepsOlder, Stands, parent}
+use Rattle.irtext_graph.specs.Parts.{operation_at}
 use Rattle.irtext_graph.specs.Used.{IsDefined}
 use Rattle.irtext_grammar.specs.Contexts.Held.{attribute_of, entries_of}
 use Rattle.irtext_grammar.specs.Grammar.Tree.{Name, Attribute, ident, Part, views}
 use Rattle.irtext_grammar.specs.Graphs.Build.{put_all}
 use Rattle.irtext_grammar.specs.Names.Acts.{piece_acts, may_hold}
 use Rattle.irtext_grammar.specs.Names.History.{State, act, going, failed, run}
-use Rattle.irtext_grammar.specs.Names.Script.{Path, User, operand, successor, ReservedKey}
+use Rattle.irtext_grammar.specs.Names.Script.{Path, User, operand, successor, Cause, ReservedKey, NoActiveScope}
 use Rattle.irtext_grammar.specs.Names.TextScopes.{Act, Word, Failure}
-use Rattle.irtext_scopes.specs.Scopes.{is_open}
 use Rattle.irtext_names.specs.Linked.{Known, StandsAt, TakesUse}
 use Rattle.irtext_names.specs.Tied.{AreTied, AreWaiting}
 use Rattle.irtext_parse_acts.specs.Rows.{AreKnown, TakesUses}
 use Rattle.irtext_parse_heads.specs.declared.entries.Key.{Key}
+use Rattle.irtext_parse_heads.specs.declared.names.ReadName.{ReadName}
 use Rattle.irtext_parse_heads.specs.declared.pieces.ReadPiece.{ReadPiece}
 use Rattle.irtext_parse_heads.specs.declared.pieces.ReadPiece.TheVariants as read
 use Rattle.irtext_parse_heads.specs.Entries.{IsKey}
 use Rattle.irtext_parse_heads.specs.Fronts.{IsPart}
-use Rattle.irtext_parse_heads.specs.Named.{Each}
+use Rattle.irtext_parse_heads.specs.Named.{StandsFor, Each}
 use Rattle.irtext_parse_nested.specs.declared.gathering.Gathered.{Gathered}
 use Rattle.irtext_parse_nested.specs.declared.gathering.NotGathered.{NotGathered}
 use Rattle.irtext_parse_nested.specs.declared.gathering.NotGathered.TheVariants as refusal
 use Rattle.irtext_parse_nested.specs.declared.uses.Placed.{Placed}
+use Rattle.irtext_parse_nested.specs.Definitions.{BlanksHaveResults}
 use Rattle.irtext_parse_nested.specs.Items.{Names}
 
 -- ---- what pieces give
@@ -60,6 +67,16 @@ module _ {T A : Type 0} where
   successor_place (read.Successor i n) = i ∷ []
   successor_place _ = []
 
+  -- the names of a list of operands
+  abbrev pub operand_list : ReadPiece T A → List ReadName
+  operand_list (read.Operands ns) = ns
+  operand_list _ = []
+
+  -- the labels of a list of successors
+  abbrev pub successor_list : ReadPiece T A → List ReadName
+  successor_list (read.Successors ns) = ns
+  successor_list _ = []
+
   -- the type of a result, with its place
   abbrev pub placed_type : ReadPiece T A → List (ℕ × T)
   placed_type (read.ResultType i t) = (i, t) ∷ []
@@ -79,18 +96,18 @@ module _ {T A : Type 0} where
   stored_of _ = []
 
   -- ---- which pieces may come
-  -- the piece's names are among so many, and stand where scopes of values and of labels are open, or there are none
-  abbrev pub CanUse : ℕ → Bool → Bool → ReadPiece T A → Type 0
-  CanUse count values labels (read.Operand i n) = (values ≡ true) × (n.name < count)
-  CanUse count values labels (read.Operands ns) = ((ns ≡ []) ⊎ (values ≡ true)) × AreKnown count (map (λ n. n.name) ns)
-  CanUse count values labels (read.Successor i n) = (labels ≡ true) × (n.name < count)
-  CanUse count values labels (read.Successors ns) = ((ns ≡ []) ⊎ (labels ≡ true)) × AreKnown count (map (λ n. n.name) ns)
-  CanUse count values labels _ = ⊤
+  -- the piece's names are among so many
+  abbrev pub CanUse : ℕ → ReadPiece T A → Type 0
+  CanUse count (read.Operand i n) = n.name < count
+  CanUse count (read.Operands ns) = AreKnown count (map (λ n. n.name) ns)
+  CanUse count (read.Successor i n) = n.name < count
+  CanUse count (read.Successors ns) = AreKnown count (map (λ n. n.name) ns)
+  CanUse count _ = ⊤
 
   -- so is each of them
-  abbrev pub CanUseAll : ℕ → Bool → Bool → List (ReadPiece T A) → Type 0
-  CanUseAll count values labels [] = ⊤
-  CanUseAll count values labels (p ∷ ps) = CanUse count values labels p × CanUseAll count values labels ps
+  abbrev pub CanUseAll : ℕ → List (ReadPiece T A) → Type 0
+  CanUseAll count [] = ⊤
+  CanUseAll count (p ∷ ps) = CanUse count p × CanUseAll count ps
 
   -- no list of operands is among these
   abbrev pub LackOperands : List (ReadPiece T A) → Type 0
@@ -118,7 +135,7 @@ module _ {T A : Type 0} where
 
   -- The pieces can be used where these names are, and these lists of operands and of successors came already.
   pub record CanGather (names : Names) (values : List Value) (blocks : List (Ptr BasicBlock)) (ps : List (ReadPiece T A)) : Type 0 where
-    pub names_are : CanUseAll (length names.names) (is_open names.values) (is_open names.labels) ps
+    pub names_are : CanUseAll (length names.names) ps
     pub operands_once : OperandsOnce values ps
     pub successors_once : SuccessorsOnce blocks ps
 
@@ -151,6 +168,7 @@ module _ {A : Type 0} where
   abbrev pub RefusesEntries : List (Key × AttrObj A) → NotGathered → Type 0
   RefusesEntries es refusal.Memory = ⊤
   RefusesEntries es (refusal.ReservedKey key) = IsFirstReserved es key
+  RefusesEntries es (refusal.NoActiveScope read) = ⊥
 
 -- ---- what pieces use
 module _ {X : Type 0} where
@@ -170,7 +188,15 @@ pub record AreInHand (p : Path) (k l : ℕ) (operands : Placed Value) (successor
       ⊎ IsInHand OfBlock (successor p) l successors.single.items successors.list.items u d
 
 module _ {O B T : Type 0} where
-  -- The names are the same, as many scopes are open, all is tied, and what is older stands as it did.
+  -- Nothing came but placeholders: each operation that has data had it, each block that stands somewhere stood there, and each region was
+  -- there.
+  pub record BringsNone (g k : GraphView (Option O) B T) : Type 0 where
+    pub operations : (p : Ptr Operation) (x : O) → option_map (λ c. c.data_of) (operation_at k p) ≡ Some (Some x) → option_map (λ c. c.data_of) (operation_at g p) ≡ Some (Some x)
+    pub blocks : (b : Ptr BasicBlock) (o : Object) → parent k (TheBlock b) ≡ Some o → parent g (TheBlock b) ≡ Some o
+    pub regions : (r : Ptr Region) → Stands k (TheRegion r) → Stands g (TheRegion r)
+
+  -- The names are the same, as many scopes are open, all is tied, what is older stands as it did, nothing came but placeholders, and
+  -- each operation without data has a result where that was so.
   pub record IsSteady (old new : Names) (g k : GraphView (Option O) B T) : Type 0 where
     pub names : new.names ≡ old.names
     pub values : length new.values ≡ length old.values
@@ -178,6 +204,8 @@ module _ {O B T : Type 0} where
     pub tied : AreTied new.values new.labels k
     pub waiting : (m : ℕ) (own : List (Ptr BasicBlock)) → m ≤ g.made → AreWaiting m own old.values old.labels g → AreWaiting m own new.values new.labels k
     pub kept : (m : ℕ) → m ≤ g.made → KeepsOlder m g k
+    pub brings : BringsNone g k
+    pub blanks : (m : ℕ) → BlanksHaveResults m g → BlanksHaveResults m k
 
   -- a name of this number was used, by any user, and stands for this
   pub record TakesName {X : Type 0} (of : X → Defined) (uses : Word → User → Act) (number : ℕ) (old new : Names) (g h : GraphView (Option O) B T) (x : X) : Type 0 where
@@ -215,20 +243,31 @@ module _ {O B T A : Type 0} where
     pub successors_grow : Grows x.successors y.successors
     pub operand_places : map (λ e. e.0) y.operands.single.items ≡ map (λ e. e.0) x.operands.single.items ++ flat_map operand_place ps
     pub successor_places : map (λ e. e.0) y.successors.single.items ≡ map (λ e. e.0) x.successors.single.items ++ flat_map successor_place ps
+    pub operand_count : length y.operands.list.items ≡ length x.operands.list.items + length (flat_map operand_list ps)
+    pub successor_count : length y.successors.list.items ≡ length x.successors.list.items + length (flat_map successor_list ps)
     pub types : y.types.items ≡ x.types.items ++ flat_map placed_type ps
     pub listed : y.listed ≡ last_list x.listed (flat_map type_list ps)
     pub attributes : entries_of y.attributes ≡ put_all (entries_of x.attributes) (flat_map stored_of ps)
     pub there : AllStand g x → AllStand h y
 
-  -- wherever the machine stands with what was, the acts of the pieces fail at this key, which is reserved
-  pub record GatherFails (ps : List (ReadPiece T A)) (names : Names) (g : GraphView (Option O) B (Option T)) (key : Key) : Type 0 where
+  -- wherever the machine stands with what was, the acts of the pieces fail at a name of the text, for this cause
+  pub record FailsAt (ps : List (ReadPiece T A)) (names : Names) (g : GraphView (Option O) B (Option T)) (Is : Text → Name ℕ → Type 0) (cause : Text → Cause Text) : Type 0 where
     pub so : (text : Text) (parts : List (Part ℕ T A)) → Each (IsPart names.names text) ps parts
-        → (n : Name ℕ) × IsKey text key n × ((p : Path) (k l : ℕ) → FailsUses (views (piece_acts p k l) parts) names g (record { cause = ReservedKey n.text; at = Some n.place }))
+        → (n : Name ℕ) × Is text n × ((p : Path) (k l : ℕ) → FailsUses (views (piece_acts p k l) parts) names g (record { cause = cause n.text; at = Some n.place }))
+
+  -- they fail at this key, which is reserved
+  abbrev pub GatherFails : List (ReadPiece T A) → Names → GraphView (Option O) B (Option T) → Key → Type 0
+  GatherFails ps names g key = FailsAt ps names g (λ text n. IsKey text key n) ReservedKey
+
+  -- they fail at this name, which stands where no scope of its kind is open
+  abbrev pub GatherOutside : List (ReadPiece T A) → Names → GraphView (Option O) B (Option T) → ReadName → Type 0
+  GatherOutside ps names g read = FailsAt ps names g (λ text n. StandsFor names.names text read n) NoActiveScope
 
   -- why the pieces were not gathered: memory was refused, or their acts fail
   abbrev pub RefusesGathering : List (ReadPiece T A) → Names → GraphView (Option O) B (Option T) → NotGathered → Type 0
   RefusesGathering ps names g refusal.Memory = ⊤
   RefusesGathering ps names g (refusal.ReservedKey key) = GatherFails ps names g key
+  RefusesGathering ps names g (refusal.NoActiveScope read) = GatherOutside ps names g read
 
 module _ {T A : Type 0} where
   -- The pieces were stored, wherever names and graph stand, which stay so.

@@ -1,5 +1,5 @@
 -- Between functions: what names come to as items are read, over the names, the graph and the marks of a reading.
-use Rattle.std.specs.Prelude.{◌≡◌, ◌<◌, ◌≤◌, true, ℕ, List, [], ◌++◌, IsSome, length}
+use Rattle.std.specs.Prelude.{◌≡◌, ◌<◌, ◌≤◌, true, ℕ, List, [], ◌++◌, None, IsSome, length}
 use Rattle.irtext_base.specs.Text.{Text}
 use Rattle.irtext_base.specs.Faults as fault
 use Rattle.irtext_base.specs.Faults.{Fault, fault_of}
@@ -8,15 +8,18 @@ use Rattle.irtext_context.specs.Context.{ContextView, operation, block}
 use Rattle.irtext_context.specs.Dialects.{Table}
 use Rattle.irtext_graph.specs.declared.arena.Ptr.{Ptr}
 use Rattle.irtext_graph.specs.declared.object.BasicBlock.{BasicBlock}
-use Rattle.irtext_graph.specs.declared.object.Object.TheVariants.{TheBlock, TheRegion}
+use Rattle.irtext_graph.specs.declared.object.Object.TheVariants.{TheBlock, TheOperation, TheRegion}
 use Rattle.irtext_graph.specs.declared.object.Operation.{Operation}
 use Rattle.irtext_graph.specs.declared.object.Region.{Region}
 use Rattle.irtext_graph.specs.declared.object.Value.{Value}
 use Rattle.irtext_graph.specs.declared.object.Value.TheVariants.{Result}
+use Rattle.irtext_graph.specs.declared.object.Defined.TheVariants.{OfValue}
 use Rattle.irtext_graph.specs.Chained.{Among}
 use Rattle.irtext_graph.specs.declared.object.Object.{Object}
 use Rattle.irtext_graph.specs.Graph.{parent, Stands, IsNew}
 use Rattle.irtext_graph.specs.Parts.{results}
+use Rattle.irtext_graph.specs.Store.{get}
+use Rattle.irtext_graph.specs.Used.{IsDefined}
 use Rattle.irtext_scopes.specs.declared.tracker.NameTracker.{NameTracker}
 use Rattle.irtext_state.specs.States.{marks_of}
 use Rattle.irtext_state.specs.declared.parsable.state.State as code
@@ -27,6 +30,7 @@ use Rattle.irtext_grammar.specs.Names.Script as script
 use Rattle.irtext_grammar.specs.Names.Script.{Path, result, Cause}
 use Rattle.irtext_grammar.specs.Names.TextScopes.{Failure}
 use Rattle.irtext_names.specs.Linked.{Known, StandsAt}
+use Rattle.irtext_names.specs.OfItems.{AreOf}
 use Rattle.irtext_names.specs.Tied.{AreTied, AreWaiting}
 use Rattle.irtext_outcomes.specs.Promises.Section.{indices_of}
 use Rattle.irtext_outcomes.specs.Promises.Root.{IsPlace}
@@ -51,14 +55,24 @@ pub record Pledge : Type 0 where
 abbrev pub AreMadeAt : (ℕ → Path) → Known → Pledge → Type 0
 AreMadeAt path known w = (i : ℕ) → i < w.results → Among (result (path w.place) i, Result w.op i) known.values
 
--- Names, graph and marks stand where the machine of names stands, nothing is in hand, and these operations are open.
-pub record StandsAs {T A U : Type 0} (path : ℕ → Path) (pledges : List Pledge) (names : Names) (s : code.State T A U) (o : Outcome) : Type 0 where
+-- the items that were made so far: the place in the text of each operation and each block, and its object
+abbrev pub Made : Type 0
+Made = List (ℕ × Object)
+
+-- Names, graph and marks stand where the machine of names stands, nothing is in hand, these items were made, and these operations are
+-- open.
+pub record StandsAs {T A U : Type 0} (path : ℕ → Path) (items : Made) (pledges : List Pledge) (names : Names) (s : code.State T A U) (o : Outcome) : Type 0 where
   pub known : Known
+  pub of_items : AreOf path items known
   pub state : State
   pub going : o ≡ going state
   pub stands : StandsAt names s.ctx.now.graph known [] state
   pub marks : state.marks ≡ indices_of (marks_of s)
   pub results : (w : Pledge) → Among w pledges → AreMadeAt path known w
+
+-- of what was made since a mark, each operation without data has a result, as the placeholders of values have
+abbrev pub BlanksDefine : {T A : Type 0} → ℕ → ContextView T A → Type 0
+BlanksDefine m c = (p : Ptr Operation) → IsSome (get c.graph.operations p) → operation c p ≡ None → IsNew m c.graph (TheOperation p) → (i : ℕ) × IsDefined c.graph (OfValue (Result p i))
 
 -- the cause that readers answer for this failure of names
 abbrev pub IsNameCause : Cause Text → Fault → Type 0
@@ -84,20 +98,26 @@ pub record IsTextFault {A : Type 0} (text : Text) (cause : Fault) (place : ℕ) 
   pub placed : IsPosition text place fault.pos
 
 module _ {T A U : Type 0} where
-  -- wherever the machine stands with what was, besides open operations, the act takes it to where it stands with what is
-  pub record Acts (act : (ℕ → Path) → Outcome → Outcome) (old : Names) (s : code.State T A U) (pledges : List Pledge) (new : Names) (z : code.State T A U) (pledges' : List Pledge) : Type 0 where
-    pub so : (path : ℕ → Path) (more : List Pledge) (o : Outcome) → StandsAs path (more ++ pledges) old s o → StandsAs path (more ++ pledges') new z (act path o)
+  -- wherever the machine stands with what was, besides open operations, the act takes it to where it stands with what is, and these items
+  -- were made besides
+  pub record ActsWith (made : Made) (act : (ℕ → Path) → Outcome → Outcome) (old : Names) (s : code.State T A U) (pledges : List Pledge) (new : Names) (z : code.State T A U) (pledges' : List Pledge) : Type 0 where
+    pub so : (path : ℕ → Path) (items : Made) (more : List Pledge) (o : Outcome) → StandsAs path items (more ++ pledges) old s o → StandsAs path (made ++ items) (more ++ pledges') new z (act path o)
+
+  -- the same, and no item was made
+  abbrev pub Acts : ((ℕ → Path) → Outcome → Outcome) → Names → code.State T A U → List Pledge → Names → code.State T A U → List Pledge → Type 0
+  Acts = ActsWith []
 
   -- wherever it stands with what was, the act fails, and the fault says how
   pub record ActFails (text : Text) (act : (ℕ → Path) → Outcome → Outcome) (old : Names) (s : code.State T A U) (pledges : List Pledge) (fault : ParseFault A) : Type 0 where
     pub failure : Failure
     pub is : IsFailure text failure fault
-    pub so : (path : ℕ → Path) (more : List Pledge) (o : Outcome) → StandsAs path (more ++ pledges) old s o → act path o ≡ failed failure
+    pub so : (path : ℕ → Path) (items : Made) (more : List Pledge) (o : Outcome) → StandsAs path items (more ++ pledges) old s o → act path o ≡ failed failure
 
-  -- Of what was made since m the names wait with placeholders alone, and no older name waits.
+  -- Of what was made since m the names wait with placeholders alone, and no older name waits; and each operation without data has a result.
   pub record IsSound (m : ℕ) (names : Names) (s : code.State T A U) : Type 0 where
     pub tied : AreTied names.values names.labels s.ctx.now.graph
     pub waiting : AreWaiting m [] names.values names.labels s.ctx.now.graph
+    pub blanks : BlanksDefine m s.ctx.now
 
 module _ {T A : Type 0} where
   -- What was there and is no placeholder is there still: each operation that has data, with as many results, each block that stands in a

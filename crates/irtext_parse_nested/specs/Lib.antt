@@ -7,3 +7,7 @@ pub mod Ends
 pub mod Placing
 pub mod Gathered
 pub mod Leaving
+pub mod Located
+pub mod Blocks
+pub mod Beginning
+pub mod Later

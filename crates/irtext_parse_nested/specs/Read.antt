@@ -9,6 +9,7 @@ use Rattle.irtext_base.specs.declared.parsable.fault.ParseFault.{ParseFault}
 use Rattle.irtext_read.specs.Infix.{Reader, ◌▷◌}
 use Rattle.irtext_read.specs.Tokens.{space_at, word}
 use Rattle.irtext_state.specs.declared.parsable.state.StateStream.{StateStream}
+use Rattle.irtext_graph.specs.declared.object.Object.TheVariants.{TheOperation, TheBlock}
 use Rattle.irtext_grammar.specs.Contexts.Held.{whole}
 use Rattle.irtext_grammar.specs.Grammar.Tree.{Name, Mark, Piece, Part, Head}
 use Rattle.irtext_grammar.specs.Names.History.{Outcome as Machine}
@@ -22,7 +23,7 @@ use Rattle.irtext_parse_nested.specs.declared.frame.BegunOperation.{BegunOperati
 use Rattle.irtext_parse_nested.specs.declared.frame.BegunRegion.{BegunRegion}
 use Rattle.irtext_parse_nested.specs.declared.frame.BegunBlock.{BegunBlock}
 use Rattle.irtext_parse_nested.specs.Begun.{IsBegun, IsRegion, IsBlock, pledge_of}
-use Rattle.irtext_parse_nested.specs.Items.{Names, doing, Acts, ActFails, IsTextFault}
+use Rattle.irtext_parse_nested.specs.Items.{Names, doing, Acts, ActsWith, ActFails, IsTextFault}
 
 -- the fault is that of a reader at a text that is the end of the whole, where what it reads must stand
 pub record Demands {X A : Type 0} (text : Text) (o : Outcome X) (rest : Text) (fault : ParseFault A) : Type 0 where
@@ -58,15 +59,16 @@ module _ {T A U : Type 0} (types_at : Reader T) (attr : Reader (AttrView A)) whe
     pub read : ReadsFront inside old new.stream.rest
     pub moves : Moves old.stream new.stream
     pub begun : IsBegun names.names (whole old.stream) new.state.ctx.now b (begun_by inside old new.stream.rest read)
-    pub acts : Acts (uses_of inside old new.stream.rest read) before old.state [] names new.state (pledge_of b (length old.stream.rest) ∷ [])
+    pub acts : ActsWith ((length old.stream.rest, TheOperation b.op) ∷ []) (uses_of inside old new.stream.rest read) before old.state [] names new.state (pledge_of b (length old.stream.rest) ∷ [])
 
-  -- no operation begins there: by its lead, by a piece in front of its first region, or by what these do
-  pub data RefusesOperation (inside : Bool) (before : Names) (old : StateStream T A U) (fault : ParseFault A) : Type 0 where
+  -- no operation begins there: by its lead, of which a fault is committed where an operation is wanted, by a piece in front of its first
+  -- region, or by what these do
+  pub data RefusesOperation (inside wanted : Bool) (before : Names) (old : StateStream T A U) (fault : ParseFault A) : Type 0 where
     no_lead : Demands (whole old.stream) (led_at old.state.ctx.now.dialects old.stream.rest) old.stream.rest fault
-        → fault.committed ≡ (inside || is_committed (led_at old.state.ctx.now.dialects old.stream.rest)) → RefusesOperation inside before old fault
+        → fault.committed ≡ (wanted || is_committed (led_at old.state.ctx.now.dialects old.stream.rest)) → RefusesOperation inside wanted before old fault
     no_front : (names : List (Name ℕ)) (id : Id) (lead middle : Text) → led_at old.state.ctx.now.dialects old.stream.rest ≡ Read (names, id) lead middle
-        → Demands (whole old.stream) (front_at types_at attr inside (front_steps (steps_in old.state.ctx.now.dialects id)) [] middle) middle fault → fault.committed ≡ true → RefusesOperation inside before old fault
-    no_uses : (rest : Text) (r : ReadsFront inside old rest) → ActFails (whole old.stream) (uses_of inside old rest r) before old.state [] fault → RefusesOperation inside before old fault
+        → Demands (whole old.stream) (front_at types_at attr inside (front_steps (steps_in old.state.ctx.now.dialects id)) [] middle) middle fault → fault.committed ≡ true → RefusesOperation inside wanted before old fault
+    no_uses : (rest : Text) (r : ReadsFront inside old rest) → ActFails (whole old.stream) (uses_of inside old rest r) before old.state [] fault → RefusesOperation inside wanted before old fault
 
   -- ---- a piece behind a region
 
@@ -152,7 +154,7 @@ module _ {T A U : Type 0} (types_at : Reader T) (attr : Reader (AttrView A)) whe
     pub read : head_at types_at attr old.stream.rest ≡ Read head taken new.stream.rest
     pub moves : Moves old.stream new.stream
     pub block : IsBlock names.names (whole old.stream) new.state.ctx.now b true
-    pub acts : Acts (heads_of head old) before old.state [] names new.state []
+    pub acts : ActsWith ((head.label.place, TheBlock b.block) ∷ []) (heads_of head old) before old.state [] names new.state []
 
   -- no header stands there, or what it does fails
   abbrev pub RefusesBlock : Names → StateStream T A U → ParseFault A → Type 0

@@ -49,6 +49,8 @@ pub enum NotGathered {
     Memory,
     /// The key is reserved, and the attribute may not stand under it.
     ReservedKey(Key),
+    /// The name stands where no scope of its kind is open.
+    NoActiveScope(ReadName),
 }
 
 /// Nothing, so far. It takes no memory.
@@ -88,7 +90,7 @@ pub(crate) fn all_items<X: Drop>(alloc: Global, list: Few<X>) -> Result<Vec<X>, 
 }
 
 /// Stores an attribute under a key. A refusal changes nothing.
-fn stored<A: Drop>(
+pub(crate) fn stored<A: Drop>(
     attributes: &mut AttributeDict<A>,
     key: Identifier,
     attr: AttrObj<A>,
@@ -111,7 +113,7 @@ fn refused(refusal: Refusal, at: Place) -> NotGathered
 }
 
 /// Stores an entry of a dictionary.
-fn entry_stored<A: Drop>(
+pub(crate) fn entry_stored<A: Drop>(
     attributes: &mut AttributeDict<A>,
     entry: ReadEntry<A>,
 ) -> Result<(), NotGathered>
@@ -128,7 +130,7 @@ fn entry_stored<A: Drop>(
 
 /// Stores the entries of a dictionary, one after another. The first whose attribute may not stand under its key is refused, and memory may
 /// be refused; those before it are stored then.
-fn entries_stored<A: Drop>(
+pub(crate) fn entries_stored<A: Drop>(
     attributes: &mut AttributeDict<A>,
     entries: Vec<ReadEntry<A>>,
 ) -> Result<(), NotGathered>
@@ -156,6 +158,9 @@ fn operand_gathered<T: Drop, A: Drop>(
     ensures refused { IfErr result (RefusesGathering {T = T} {A = A} (read.Operand index name ∷ []) names.old graph.old) }
     ensures steady { IsSteady names.old names.new graph.old graph.new }
 {
+    if !names.has_value_scope() {
+        return Err(NotGathered::NoActiveScope(name));
+    }
     let single = &mut gathered.operands.single;
     let Ok(()) = value_placed(names, graph, single, index, name.name) else {
         return Err(NotGathered::Memory);
@@ -177,6 +182,9 @@ fn successor_gathered<T: Drop, A: Drop>(
     ensures refused { IfErr result (RefusesGathering {T = T} {A = A} (read.Successor index name ∷ []) names.old graph.old) }
     ensures steady { IsSteady names.old names.new graph.old graph.new }
 {
+    if !names.has_label_scope() {
+        return Err(NotGathered::NoActiveScope(name));
+    }
     let single = &mut gathered.successors.single;
     let Ok(()) = block_placed(names, graph, single, index, name.name) else {
         return Err(NotGathered::Memory);
@@ -200,6 +208,9 @@ fn operands_gathered<T: Drop, A: Drop>(
     if used.len() == 0 {
         return Ok(());
     }
+    if !names.has_value_scope() {
+        return Err(NotGathered::NoActiveScope(used[0]));
+    }
     let Ok(()) = values_used(names, graph, &used, &mut gathered.operands.list) else {
         return Err(NotGathered::Memory);
     };
@@ -222,6 +233,9 @@ fn successors_gathered<T: Drop, A: Drop>(
     if used.len() == 0 {
         return Ok(());
     }
+    if !names.has_label_scope() {
+        return Err(NotGathered::NoActiveScope(used[0]));
+    }
     let Ok(()) = blocks_used(names, graph, &used, &mut gathered.successors.list) else {
         return Err(NotGathered::Memory);
     };
@@ -229,7 +243,7 @@ fn successors_gathered<T: Drop, A: Drop>(
 }
 
 /// Stores what is not refused but for memory.
-fn kept<A: Drop>(
+pub(crate) fn kept<A: Drop>(
     attributes: &mut AttributeDict<A>,
     key: Identifier,
     attr: AttrObj<A>,
@@ -274,7 +288,7 @@ fn dictionary_gathered<T: Drop, A: Drop>(
 }
 
 /// The key of a symbol's name, which shares the text of the one that is given.
-fn symbol_key(alloc: Global, key: &Option<Identifier>) -> Result<Identifier, AllocError>
+pub(crate) fn symbol_key(alloc: Global, key: &Option<Identifier>) -> Result<Identifier, AllocError>
     requires { IfSome key.now (λ k. k ≡ sym_name_key) }
     ensures { IfOk result (λ k. k ≡ sym_name_key) }
 {
@@ -359,7 +373,8 @@ fn piece_gathered<T: Drop, A: Drop>(
 }
 
 /// Uses what pieces name, and keeps what they give the operation, one after another. The first key of a dictionary that is reserved is
-/// refused, and memory may be refused; what stands before it was used then.
+/// refused, or the first name that stands where no scope of its kind is open, and memory may be refused; what stands before it was used
+/// then.
 pub fn gather<T: Drop, A: Drop>(
     alloc: Global,
     names: &mut Names,

@@ -2,10 +2,16 @@
 //! used, its results are defined and its mark is noted at its end, blocks are placed and labelled, and regions are begun and ended.
 #![tactic(auto)]
 
+pub mod beginning;
+pub mod blocks;
 pub mod closing;
+mod dictionary;
 pub mod frame;
 pub mod gathering;
+mod given;
 pub mod labelling;
+pub mod later;
+pub mod making;
 mod naming;
 pub mod placing;
 pub mod regions;

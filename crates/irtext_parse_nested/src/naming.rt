@@ -17,7 +17,7 @@ use irtext_read::irfmt::faults::{out_of_memory, refuse_at};
 use std::alloc::Global;
 
 /// The identifier of a text that a reading has as a name; none where memory is refused.
-fn identifier_of(alloc: Global, text: &str) -> Option<Identifier>
+pub(crate) fn identifier_of(alloc: Global, text: &str) -> Option<Identifier>
     ensures { IfSome result (λ i. i ≡ text.now) }
 {
     if !is_identifier(text) {

@@ -25,6 +25,8 @@ ghost use Rattle.irtext_names.specs.Tied.{AreTied, AreWaiting};
 ghost use Rattle.irtext_outcomes.specs.Readers.Streams.{itself, replaced, KeepsRest};
 ghost use Rattle.irtext_outcomes.specs.Promises.Root.{UnlessMemory};
 ghost use Rattle.irtext_outcomes.specs.Promises.Section.{IsStarved};
+ghost use Rattle.irtext_building.specs.Grows.{RegionCame, OperationGains};
+ghost use Rattle.irtext_building.specs.Stands.{Spares};
 ghost use Rattle.irtext_parse_nested.specs.Begun.{IsRegion};
 ghost use Rattle.irtext_parse_nested.specs.Items.{IsSound, Lasts};
 ghost use Rattle.irtext_parse_nested.specs.Leaving.{IsUnresolved};
@@ -107,7 +109,7 @@ fn graph_of<'s, T: IrText<A>, A: AttrText, U>(
 }
 
 /// Enters a region of the text that is read. Where it is refused, or memory is, the names stay as they were.
-fn enter_here<T: IrText<A>, A: AttrText, U>(
+pub fn enter_here<T: IrText<A>, A: AttrText, U>(
     s: &mut StateStream<'_, T, A, U>,
     names: &mut Names,
     isolated: bool,
@@ -155,7 +157,7 @@ fn add<T: IrText<A>, A: AttrText, U>(
 }
 
 /// Reads a region's first brace, and the white space behind it. A fault is committed.
-fn brace_demanded<A>(stream: &mut TextStream) -> ParseResult<(), A>
+pub fn brace_demanded<A>(stream: &mut TextStream) -> ParseResult<(), A>
     ensures { MustRead itself replaced (λ u. u) (word (codes "{") ▷ space_at) stream.old result stream.new }
 {
     text_demanded(stream, "{")?;
@@ -185,6 +187,9 @@ pub fn region_begin<T: IrText<A>, A: AttrText, U>(
     ensures labels { OnOk result (names.new.labels ≡ [] ∷ names.old.labels) }
     ensures open { OnOk result (is_open names.new.values ≡ true) }
     ensures new { IfOk result (λ r. (m : ℕ) → m ≤ s.old.state.ctx.now.graph.made → IsNew m s.new.state.ctx.now.graph (TheRegion r.region)) }
+    ensures came { IfOk result (λ r. RegionCame s.old.state.ctx.now s.new.state.ctx.now r.region) }
+    ensures gains { IfOk result (λ r. OperationGains s.old.state.ctx.now s.new.state.ctx.now op r.region) }
+    ensures spares { IfOk result (λ r. Spares (TheRegion r.region ∷ TheOperation op ∷ []) s.old.state.ctx.now s.new.state.ctx.now) }
     ensures lasts { OnOk result (Lasts s.old.state.ctx.now s.new.state.ctx.now) }
     ensures sound { OnOk result ((m : ℕ) → m ≤ s.old.state.ctx.now.graph.made → IsSound m names.old s.old.state → IsSound m names.new s.new.state) }
     ensures kept { (m : ℕ) → m ≤ s.old.state.ctx.now.graph.made → IsNew m s.old.state.ctx.now.graph (TheOperation op)

@@ -47,7 +47,7 @@ fn row_value(row: Row, index: usize) -> Value
 }
 
 /// The number of the name of this index.
-fn number_at(defined: &Few<ReadName>, index: usize) -> usize
+pub(crate) fn number_at(defined: &Few<ReadName>, index: usize) -> usize
     requires { index < length defined.now }
     ensures { slice_get (numbers_of defined.now) index ≡ Some result }
 {

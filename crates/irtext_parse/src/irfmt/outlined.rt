@@ -22,7 +22,7 @@ use irtext_base::location::Location;
 use irtext_base::parsable::{CharStream, ParseResult, TextStream};
 use irtext_base::result::Cause;
 use irtext_base::text::{AttrText, IrText};
-use irtext_context::base::{Context, Operation, OperationAccess, Ptr};
+use irtext_context::base::{Context, Item, Operation, OperationAccess, Ptr};
 use irtext_parse_locations::location::nested::location_demanded;
 use irtext_read::irfmt::demanded::{index_demanded, spaced_text_demanded, text_demanded};
 use irtext_read::irfmt::faults::{next_is, refuse, refuse_at};
@@ -208,7 +208,7 @@ fn apply_entry<T: IrText<A>, A: AttrText, U>(
     ensures marks { marks_of s.new.state ≡ marks_of s.old.state }
     ensures applied { Applies (lookup (same_index index) (marks_of s.old.state)) location s.old.state.ctx.now s.new.state.ctx.now }
 {
-    let Some(op) = s.state.marked(index) else {
+    let Some(Item::Operation(op)) = s.state.marked(index) else {
         return;
     };
     let Some(location) = location else {

@@ -1,5 +1,6 @@
 //! The mark of an operation.
 ghost use Rattle.std.specs.Prelude.{◌≡◌, ◌++◌, IfOk, OnErr};
+ghost use Rattle.irtext_context.specs.declared.base.item.Item.TheVariants as item;
 ghost use Rattle.irtext_state.specs.States.{marks_of};
 ghost use Rattle.irtext_outcomes.specs.Readers.Parts.{mark_at};
 ghost use Rattle.irtext_read.specs.MustRead.{MustRead};
@@ -10,7 +11,7 @@ use crate::parsable::out_of_memory;
 use irtext_base::parsable::{CharStream, ParseResult};
 use irtext_base::result::Cause;
 use irtext_base::text::{AttrText, IrText};
-use irtext_context::base::{Operation, Ptr};
+use irtext_context::base::{Item, Operation, Ptr};
 use irtext_read::irfmt::demanded::index_demanded;
 use irtext_read::irfmt::faults::{next_is, refuse, refuse_at};
 use irtext_state::parsable::StateStream;
@@ -40,14 +41,14 @@ pub(crate) fn operation_mark_parse<T: IrText<A>, A: AttrText, U>(
     ensures ctx { s.new.state.ctx.now ≡ s.old.state.ctx.now }
     ensures rest { KeepsRest s.old.state s.new.state }
     ensures read { MustRead itself replaced (λ mark. mark) (fresh_mark_at (marks_of s.old.state)) s.old.stream result s.new.stream }
-    ensures marks { IfOk result (λ mark. marks_of s.new.state ≡ marks_of s.old.state ++ noted mark op) }
+    ensures marks { IfOk result (λ mark. marks_of s.new.state ≡ marks_of s.old.state ++ noted mark (item.Operation op)) }
     ensures unmarked { OnErr result (marks_of s.new.state ≡ marks_of s.old.state) }
 {
     let at = s.stream.position();
     let Some(index) = mark_parse(&mut s.stream)? else {
         return Ok(None);
     };
-    match s.state.mark(index, op) {
+    match s.state.mark(index, Item::Operation(op)) {
         Ok(true) => Ok(Some(index)),
         Ok(false) => Err(refuse_at(&mut s.stream, at, Cause::DuplicateIndex(index))),
         Err(AllocError) => Err(out_of_memory(s)),

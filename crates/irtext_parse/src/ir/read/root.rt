@@ -2,6 +2,7 @@
 ghost use Rattle.std.specs.Prelude.{◌≡◌, ◌≤◌, ℕ, true, false, List, ◌++◌, IfOk, IfErr, OnOk, OnErr};
 ghost use Rattle.irtext_graph.specs.Back.{IsClosedBelow};
 ghost use Rattle.irtext_context.specs.Context.{KeepsOlder};
+ghost use Rattle.irtext_context.specs.declared.base.item.Item.{Item};
 ghost use Rattle.irtext_base.specs.Faults.{fault_of};
 ghost use Rattle.irtext_context.specs.Made.{SameObjects};
 ghost use Rattle.irtext_base.specs.Stream.{IsAt};
@@ -68,7 +69,7 @@ fn root_parse<T: IrText<A>, A: AttrText, U>(
         IfErr result (λ fault. MissesWith (attr_at A.IrText.reading) config.look_for_outlined_attrs
         s.old fault) }
     ensures refused { IfErr result (λ fault. Refusal s.old.stream fault s.new.stream) }
-    ensures marks { OnErr result ((more : List (ℕ × Ptr Operation)) × (marks_of s.new.state ≡ marks_of s.old.state ++ more)) }
+    ensures marks { OnErr result ((more : List (ℕ × Item)) × (marks_of s.new.state ≡ marks_of s.old.state ++ more)) }
     ensures kept { OnErr result ((mark : ℕ) → mark ≤ s.old.state.ctx.now.graph.made → KeepsOlder mark s.old.state.ctx.now s.new.state.ctx.now) }
     ensures keeps { IsFresh s.old →
         OnOk result ((mark : ℕ) → mark ≤ s.old.state.ctx.now.graph.made →

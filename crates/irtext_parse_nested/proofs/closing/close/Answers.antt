@@ -1,35 +1,32 @@
-use Rattle.std.proofs.Common.{inl, inr, refl, sym, subst}
-use Rattle.irtext_graph.specs.declared.object.Value.TheVariants.{Result}
+use Rattle.std.proofs.Common.{inl, inr, refl, sym, subst, ◌∙◌}
+use Rattle.irtext_read.proofs.Exits.{handed_on}
 use Rattle.irtext_grammar.specs.Contexts.Held.{whole}
-use Rattle.irtext_parse_nested.specs.Definitions.{ValuesReady, DefinesRow, LosesPlaceholders}
-use Rattle.irtext_parse_nested.specs.Ends.{numbers_of, RefusesResults}
-use Rattle.irtext_parse_nested.proofs.Ends.{closes_acts, results_fail}
-use Rattle.irtext_parse_nested.proofs.Lasting.{loses_lasts, results_ready}
-use Rattle.irtext_parse_nested.proofs.Marking.{on_both, if_err}
+use Rattle.irtext_parse_nested.specs.Ends.{GivesNames}
+use Rattle.irtext_parse_nested.specs.Located.{IsLocated}
+use Rattle.irtext_parse_nested.proofs.OperationClosed.{close_acts, close_sound, close_lasts, close_spares, close_keeps, close_own}
+use Rattle.irtext_parse_nested.proofs.Marking.{on_ok, always_ok, if_err}
 use Rattle.irtext_parse_nested.proofs.closing.close.Goals as goal
 
-pub define_results-requires-clause-ready : goal.define_results-requires-clause-ready
-define_results-requires-clause-ready g c =
-    let ctx = c.args.s.now.state.ctx.now in
-    let names = c.args.names.now in
-    let b = c.args.begun.now in
-    subst (λ g. ValuesReady (λ i. Result b.op i) b.results names.values g) (sym c.graph_mut.ensures.value) (results_ready ctx b.op b.results names.values names.labels c.requires.stands c.requires.counts c.requires.tied)
-
 pub returns-clause-closes : goal.returns-clause-closes
-returns-clause-closes g c =
-    let b = c.args.begun.now in
-    let r = c.define_results in
-    on_both r.result (λ counts d o is. closes_acts _ _ _ b o is _ _ counts (subst (λ g. DefinesRow (λ i. Result b.op i) (numbers_of b.names) c.args.names.now r.new.names g r.new.graph) c.graph_mut.ensures.value d) refl) r.ensures.counts r.ensures.defines
+returns-clause-closes g c = always_ok c.given_stored.result
+    (λ o is. close_acts c.args.names.now c.results_defined.new.names c.args.s.now.state c.results_defined.new.s.state c.given_stored.new.s.state c.args.begun.now o (c.in_ok-results_defined.ensures.closes o is) c.given_stored.ensures.writes c.given_stored.ensures.marks c.in_ok-results_defined.ensures.tied)
 
 pub returns-clause-refused : goal.returns-clause-refused
-returns-clause-refused g c =
-    let b = c.args.begun.now in
-    let r = c.define_results in
-    if_err r.result (λ f u. elim u [
-      | inl starved ↦ inl starved
-      | inr q ↦ inr (λ o is. results_fail _ _ _ b o is f (subst (λ g. RefusesResults b c.args.names.now g (whole c.args.s.now.stream) f) c.graph_mut.ensures.value q))
-    ]) r.ensures.refused
+returns-clause-refused g c = if_err c.given_stored.result (λ f starved. inl starved) c.given_stored.ensures.starved
 
 pub returns-clause-lasts : goal.returns-clause-lasts
-returns-clause-lasts g c =
-    loses_lasts _ _ (subst (λ g. LosesPlaceholders g c.define_results.new.graph) c.graph_mut.ensures.value c.define_results.ensures.loses) refl
+returns-clause-lasts g c = close_lasts c.args.s.now.state.ctx.now c.results_defined.new.s.state.ctx.now c.given_stored.new.s.state.ctx.now c.args.begun.now.op c.in_ok-results_defined.ensures.lasts c.given_stored.ensures.writes
+
+pub returns-clause-own : goal.returns-clause-own
+returns-clause-own g c = on_ok c.given_stored.result
+    (λ gives. close_own c.args.s.now.state.ctx.now c.results_defined.new.s.state.ctx.now c.given_stored.new.s.state.ctx.now c.args.begun.now.op c.in_ok-results_defined.ensures.spares (IsLocated c.args.s.now.state.src (whole c.args.s.now.stream)) c.args.names.now.names (whole c.args.s.now.stream) c.args.begun.now.names
+    (subst (λ ns. GivesNames ns c.args.begun.now.names c.results_defined.new.s.state.ctx.now c.given_stored.new.s.state.ctx.now c.args.begun.now.op) c.in_ok-results_defined.ensures.names gives)) c.given_stored.ensures.gives
+
+pub returns-clause-spares : goal.returns-clause-spares
+returns-clause-spares g c = close_spares c.args.s.now.state.ctx.now c.results_defined.new.s.state.ctx.now c.given_stored.new.s.state.ctx.now c.args.begun.now.op c.in_ok-results_defined.ensures.spares c.given_stored.ensures.writes
+
+pub returns-clause-sound : goal.returns-clause-sound
+returns-clause-sound g c = λ m h. close_sound c.results_defined.new.names c.results_defined.new.s.state c.given_stored.new.s.state c.args.begun.now.op c.given_stored.ensures.writes m (c.in_ok-results_defined.ensures.sound m h)
+
+pub returns-clause-kept : goal.returns-clause-kept
+returns-clause-kept g c = λ m closed h new. close_keeps c.args.s.now.state.ctx.now c.results_defined.new.s.state.ctx.now c.given_stored.new.s.state.ctx.now c.args.begun.now.op c.in_ok-results_defined.ensures.spares m (c.in_ok-results_defined.ensures.kept m closed h) c.given_stored.ensures.writes (c.in_ok-results_defined.ensures.newer m new)

@@ -1,8 +1,8 @@
 use Rattle.std.proofs.Common.{rules, arith, ◌≡◌, ◌∷◌, [], sym, subst}
-use Rattle.irtext_parse_nested.specs.Gathered.{CanGather, Gathers, GatherFails, RefusesGathering}
-use Rattle.irtext_parse_nested.proofs.Steady.{open_by_depth, steady_itself, steady_both}
+use Rattle.irtext_parse_nested.specs.Gathered.{CanGather, Gathers, RefusesGathering}
+use Rattle.irtext_parse_nested.proofs.Steady.{steady_itself, steady_both}
 use Rattle.irtext_parse_nested.proofs.Stores.{exit_from}
-use Rattle.irtext_parse_nested.proofs.Gathers.{can_first, can_behind, gathers_none, none_left, gathers_then, gather_fails_then}
+use Rattle.irtext_parse_nested.proofs.Gathers.{can_first, can_behind, gathers_none, none_left, gathers_then, fails_at_then}
 use Rattle.irtext_parse_nested.proofs.Pieces.{gather_refused_first, gather_refused_from}
 use Rattle.irtext_parse_nested.proofs.gathering.gather.Goals as goal
 
@@ -13,7 +13,7 @@ loop-piece-init g c =
       steady = steady_itself c.args.names.now c.args.graph.now c.requires.tied;
       can = subst (CanGather c.args.names.now c.args.gathered.now.operands.list.items c.args.gathered.now.successors.list.items) (sym e) c.requires.can;
       gathers = λ new h z s. subst (λ ps. Gathers ps c.args.names.now c.args.graph.now c.args.gathered.now new h z) e s;
-      fails = λ key s. subst (λ ps. GatherFails ps c.args.names.now c.args.graph.now key) e s;
+      fails = λ r s. subst (λ ps. RefusesGathering ps c.args.names.now c.args.graph.now r) e s;
     }
 
 pub piece_gathered-requires-clause-can : goal.piece_gathered-requires-clause-can
@@ -37,10 +37,11 @@ loop-piece-preserved g c =
     record {
       steady = steady_both i.steady s;
       can = can_behind l.names new.names l.gathered.operands.list.items new.gathered.operands.list.items l.gathered.successors.list.items new.gathered.successors.list.items c.in-Some.piece rest s.names
-          (open_by_depth new.names.values l.names.values s.values) (open_by_depth new.names.labels l.names.labels s.labels) t.operands_unlisted t.successors_unlisted
+          t.operands_unlisted t.successors_unlisted
           (subst (CanGather l.names l.gathered.operands.list.items l.gathered.successors.list.items) steps i.can);
       gathers = λ names h z r. i.gathers names h z (subst (λ ps. Gathers ps l.names l.graph l.gathered names h z) (sym steps) (gathers_then c.in-Some.piece rest s.names t r));
-      fails = λ key r. i.fails key (subst (λ ps. GatherFails ps l.names l.graph key) (sym steps) (gather_fails_then c.in-Some.piece rest s.names t r));
+      fails = λ r h. i.fails r (subst (λ ps. RefusesGathering ps l.names l.graph r) (sym steps)
+          (gather_refused_from rest (c.in-Some.piece ∷ rest) l.names new.names l.graph new.graph s.names (λ is cause k. fails_at_then c.in-Some.piece rest s.names t k) r h));
     }
 
 pub returns-in_err-piece_gathered-clause-steady : goal.returns-in_err-piece_gathered-clause-steady
@@ -52,8 +53,7 @@ returns-in_err-piece_gathered-clause-refused g c =
     let rest = c.next.new.self.rest.items in
     let steps = c.in-Some.ensures.steps.0 in
     exit_from c.from_residual.result c.from_residual.ensures.1 (RefusesGathering (c.in-Some.piece ∷ []) l.names l.graph) (RefusesGathering c.args.pieces.items c.args.names.now c.args.graph.now)
-    (λ r h. gather_refused_from (c.in-Some.piece ∷ rest) c.args.pieces.items c.args.names.now l.names c.args.graph.now l.graph (λ key k. l.invariant.fails key (subst (λ ps. GatherFails ps l.names l.graph key) (sym steps) k)) r
-    (gather_refused_first c.in-Some.piece rest l.names l.graph r h)) c.in_err-piece_gathered.ensures.refused
+    (λ r h. l.invariant.fails r (subst (λ ps. RefusesGathering ps l.names l.graph r) (sym steps) (gather_refused_first c.in-Some.piece rest l.names l.graph r h))) c.in_err-piece_gathered.ensures.refused
 
 pub returns-clause-steady : goal.returns-clause-steady
 returns-clause-steady g c = c.loop-piece.invariant.steady

@@ -1,13 +1,19 @@
-use Rattle.std.proofs.Common.{◌∙◌, refl, sym}
+use Rattle.std.proofs.Common.{◌≡◌, ◌<◌, ◌∙◌, length, refl, sym, arith}
+use Rattle.irtext_parse_nested.proofs.Numbered.{item_there}
 use Rattle.irtext_parse_nested.proofs.Steady.{steady_itself}
-use Rattle.irtext_parse_nested.proofs.Pieces.{successors_one, no_successors_one, none_of_length, open_of_some}
+use Rattle.irtext_parse_nested.proofs.Pieces.{successors_one, no_successors_one, none_of_length, successors_outside}
 use Rattle.irtext_parse_nested.proofs.gathering.successors_gathered.Goals as goal
 
-pub blocks_used-requires-clause-open : goal.blocks_used-requires-clause-open
-blocks_used-requires-clause-open g c = open_of_some c.args.used (λ e. c.if-len-eq0.false (c.len.ensures ∙ e)) c.requires.can.names_are.0.0
+pub returns-then-not-has_label_scope-clause-refused : goal.returns-then-not-has_label_scope-clause-refused
+returns-then-not-has_label_scope-clause-refused g c =
+    let there : 0 < length c.args.used = omega (arith, c.len.ensures, c.if-len-eq0.false) in
+    successors_outside c.args.names.now c.args.graph.now c.args.used c.index.result.now (item_there c.args.used 0 c.index.result.now there c.index.ensures) (sym c.has_label_scope.ensures ∙ c.if-not-has_label_scope.true)
+
+pub returns-then-not-has_label_scope-clause-steady : goal.returns-then-not-has_label_scope-clause-steady
+returns-then-not-has_label_scope-clause-steady g c = steady_itself c.args.names.now c.args.graph.now c.requires.tied
 
 pub blocks_used-requires-clause-known : goal.blocks_used-requires-clause-known
-blocks_used-requires-clause-known g c = c.requires.can.names_are.0.1
+blocks_used-requires-clause-known g c = c.requires.can.names_are.0
 
 pub returns-then-len-eq0-clause-gathers : goal.returns-then-len-eq0-clause-gathers
 returns-then-len-eq0-clause-gathers g c = no_successors_one c.args.names.now c.args.graph.now c.args.used (none_of_length c.args.used (sym c.len.ensures ∙ c.if-len-eq0.true)) refl

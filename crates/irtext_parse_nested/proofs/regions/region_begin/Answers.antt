@@ -2,6 +2,7 @@ use Rattle.std.proofs.Common.{◌∙◌, [], refl, sym, subst, IsSome}
 use Rattle.std.proofs.lemmas.Result.{err_from_is_err_and}
 use Rattle.irtext_context.specs.Context.{operation, AddsRegion}
 use Rattle.irtext_read.specs.AttrTexts.{attr_at}
+use Rattle.irtext_building.proofs.Edits.{region_added_came, region_added_gains, region_added_spares}
 use Rattle.irtext_parse_nested.specs.Items.{Lasts}
 use Rattle.irtext_parse_nested.proofs.Entering.{unentered, unbraced, braced}
 use Rattle.irtext_parse_nested.proofs.RegionBegun.{region_lasts, region_sound}
@@ -41,7 +42,16 @@ returns-clause-sound g c = λ m le h.
     let a = c.in_ok-region.ensures in
     let adds = subst (λ x. AddsRegion x c.add.new.s.state.ctx.now c.args.op c.in_ok-region.region) e.ctx a.adds in
     region_sound c.args.s.now.state.ctx.now c.add.new.s.state.ctx.now c.args.op c.in_ok-region.region adds c.requires.stands c.enter_here.new.names m c.args.s.now.state c.add.new.s.state refl refl
-    (record { tied = e.tied; waiting = e.waiting m [] h.waiting })
+    (record { tied = e.tied; waiting = e.waiting m [] h.waiting; blanks = h.blanks })
+
+pub returns-clause-came : goal.returns-clause-came
+returns-clause-came g c = region_added_came _ _ c.args.op c.in_ok-region.region (subst (λ x. AddsRegion x c.add.new.s.state.ctx.now c.args.op c.in_ok-region.region) c.in_ok-enter_here.ensures.ctx c.in_ok-region.ensures.adds)
+
+pub returns-clause-gains : goal.returns-clause-gains
+returns-clause-gains g c = region_added_gains _ _ c.args.op c.in_ok-region.region (subst (λ x. AddsRegion x c.add.new.s.state.ctx.now c.args.op c.in_ok-region.region) c.in_ok-enter_here.ensures.ctx c.in_ok-region.ensures.adds)
+
+pub returns-clause-spares : goal.returns-clause-spares
+returns-clause-spares g c = region_added_spares _ _ c.args.op c.in_ok-region.region (subst (λ x. AddsRegion x c.add.new.s.state.ctx.now c.args.op c.in_ok-region.region) c.in_ok-enter_here.ensures.ctx c.in_ok-region.ensures.adds)
 
 pub returns-clause-open : goal.returns-clause-open
 returns-clause-open g c = c.in_ok-enter_here.ensures.open

@@ -1,6 +1,6 @@
 use Rattle.std.proofs.Common.{ap, length}
 use Rattle.irtext_names.specs.Placeholders.{MakesLabel}
-use Rattle.irtext_parse_nested.proofs.Steady.{block_named, depth_used}
+use Rattle.irtext_parse_nested.proofs.Steady.{block_named, depth_used, block_brings, block_blanks}
 use Rattle.irtext_parse_nested.proofs.uses.block_used.Goals as goal
 
 pub returns-clause-takes : goal.returns-clause-takes
@@ -15,4 +15,6 @@ returns-clause-steady g c = let e = c.block_opd.ensures in record {
   tied = e.tied;
   waiting = e.waiting;
   kept = e.kept;
+  brings = block_brings c.blank-value.result c.args.names.now.labels c.block_opd.new.names.labels c.args.graph.now c.block_opd.new.graph c.args.name c.block_opd.result e.uses e.objects;
+  blanks = block_blanks c.blank-value.result c.args.names.now.labels c.block_opd.new.names.labels c.args.graph.now c.block_opd.new.graph c.args.name c.block_opd.result e.uses e.objects;
 }

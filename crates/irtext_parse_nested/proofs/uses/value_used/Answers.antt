@@ -1,6 +1,6 @@
 use Rattle.std.proofs.Common.{ap, length}
 use Rattle.irtext_names.specs.Placeholders.{MakesValue}
-use Rattle.irtext_parse_nested.proofs.Steady.{value_named, depth_used}
+use Rattle.irtext_parse_nested.proofs.Steady.{value_named, depth_used, value_brings, value_blanks}
 use Rattle.irtext_parse_nested.proofs.uses.value_used.Goals as goal
 
 pub returns-clause-takes : goal.returns-clause-takes
@@ -15,4 +15,6 @@ returns-clause-steady g c = let e = c.ssa_opd.ensures in record {
   tied = e.tied;
   waiting = e.waiting;
   kept = e.kept;
+  brings = value_brings c.args.names.now.values c.ssa_opd.new.names.values c.args.graph.now c.ssa_opd.new.graph c.args.name c.ssa_opd.result e.uses e.objects;
+  blanks = value_blanks c.args.names.now.values c.ssa_opd.new.names.values c.args.graph.now c.ssa_opd.new.graph c.args.name c.ssa_opd.result e.uses e.there e.objects;
 }

@@ -2,6 +2,7 @@ use Rattle.std.proofs.Common.{◌++◌, refl, ap, ◌∙◌}
 use Rattle.std.proofs.lemmas.Result.{err_from_is_err_and}
 use Rattle.irtext_base.specs.Faults.{id_of}
 use Rattle.irtext_read.specs.AttrTexts.{attr_at}
+use Rattle.irtext_context.specs.declared.base.item.Item.TheVariants as item
 use Rattle.irtext_state.specs.States.{marks_of}
 use Rattle.irtext_outcomes.specs.Readers.Operations.{operation_with}
 use Rattle.irtext_outcomes.specs.Readers.Marks.{noted}
@@ -62,7 +63,7 @@ returns-clause-read g c =
       loc = c.loc-loc.result;
       located = c.loc-loc.ensures;
       makes = rw marked.ensures.ctx op.makes;
-      marks = marked.ensures.marks ∙ ap (λ z. z ++ noted marked.field-0 c.in_ok-op.op) op.marks;
+      marks = marked.ensures.marks ∙ ap (λ z. z ++ noted marked.field-0 (item.Operation c.in_ok-op.op)) op.marks;
     }
 
 pub returns-clause-kept : goal.returns-clause-kept

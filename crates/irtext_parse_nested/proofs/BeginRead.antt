@@ -1,0 +1,83 @@
+-- What stands while an operation is made of what its front came to.
+use Rattle.std.proofs.Common.{Result, Ok, Err, IfOk, OnOk, slice_get, ◌≡◌, ◌<◌, ◌≤◌, ◌∙◌, ◌++◌, ◌+◌, ℕ, List, [], ◌∷◌, length, Option, Some, None, IsSome, refl, sym, ap, subst, arith}
+use Rattle.std.specs.Prelude.{IfSome}
+use Rattle.irtext_context.specs.Context.{ContextView, MakesOperation, KeepsOlder, with_graph}
+use Rattle.irtext_context.specs.declared.base.operation.OperationData.{OperationData}
+use Rattle.irtext_graph.specs.Back.{AllOlder}
+use Rattle.irtext_graph.specs.Chained.{Among}
+use Rattle.irtext_graph.specs.Graph as graphs
+use Rattle.irtext_graph.specs.Graph.{GraphView, Stands, IsNew}
+use Rattle.irtext_graph.proofs.Closed.{older_on}
+use Rattle.irtext_graph.specs.declared.arena.Ptr.{Ptr}
+use Rattle.irtext_graph.specs.declared.object.BasicBlock.{BasicBlock}
+use Rattle.irtext_graph.specs.declared.object.Operation.{Operation}
+use Rattle.irtext_graph.specs.declared.object.Object.TheVariants.{TheBlock, TheOperation}
+use Rattle.irtext_graph.specs.declared.object.Value.{Value}
+use Rattle.irtext_building.specs.Stands.{IsThere}
+use Rattle.irtext_parse_nested.specs.declared.gathering.Gathered.{Gathered}
+use Rattle.irtext_parse_nested.specs.Gathered.{AllStand, IsNothing, IsSteady}
+use Rattle.irtext_parse_nested.specs.Items.{Names, Lasts}
+use Rattle.irtext_parse_nested.proofs.Lasting.{block_stands}
+use Rattle.irtext_parse_nested.proofs.UsedStands.{lasts_then, used_lasts, made_lasts, made_new}
+
+-- nothing stands anywhere
+pub nothing_stands : {T A O B : Type 0} (g : GraphView (Option O) B (Option T)) (x : Gathered T A) → IsNothing x → AllStand g x
+nothing_stands g x n = record {
+  operands = λ e i. absurd (subst (Among e) n.operands.0 i);
+  listed_operands = λ v i. absurd (subst (Among v) n.operands.1 i);
+  successors = λ e i. absurd (subst (Among e) n.successors.0 i);
+  listed_successors = λ b i. absurd (subst (Among b) n.successors.1 i);
+}
+
+-- what is said of an answer and of what it left
+pub if_ok_both : {X E : Type 0} {P R : X → Type 0} {Q : Type 0} (r : Result X E) → ((x : X) → P x → Q → R x) → IfOk r P → OnOk r Q → IfOk r R
+if_ok_both (Ok x) f p q = f x p q
+if_ok_both (Err e) f p q = tt
+
+pub on_ok_by : {X E : Type 0} {P : X → Type 0} {Q : Type 0} (r : Result X E) → ((x : X) → P x → Q) → IfOk r P → OnOk r Q
+on_ok_by (Ok x) f p = f x p
+on_ok_by (Err e) f p = tt
+
+module _ {T A : Type 0} where
+  -- what only changed its graph keeps what that keeps
+  pub used_keeps : (old used : ContextView T A) → used ≡ with_graph old used.graph → (m : ℕ) → graphs.KeepsOlder m old.graph used.graph → KeepsOlder m old used
+  used_keeps old used is m k = record {
+    graph = k;
+    paths = λ i p e. subst (λ ps. slice_get ps i ≡ Some p) (sym (ap (λ c. c.paths) is)) e;
+    dialects = ap (λ c. c.dialects) is;
+  }
+
+  pub keeps_then : (m : ℕ) (old mid new : ContextView T A) → KeepsOlder m old mid → KeepsOlder m mid new → KeepsOlder m old new
+  keeps_then m old mid new k l = record {
+    graph = older_on m old.graph mid.graph new.graph k.graph l.graph;
+    paths = λ i p e. l.paths i p (k.paths i p e);
+    dialects = l.dialects ∙ k.dialects;
+  }
+
+module _ {T A : Type 0} (old used : ContextView T A) (before names : Names) (all_older : AllOlder old.graph.made old.graph) (steady : IsSteady before names old.graph used.graph) (used_is : used ≡ with_graph old used.graph) where
+  lasts_used : Lasts old used
+  lasts_used = used_lasts old used all_older steady.kept steady.brings (ap (λ c. c.dialects) used_is)
+
+  pub used_more : (m : ℕ) → m ≤ old.graph.made → m ≤ used.graph.made
+  used_more m le = let up = lasts_used.made in omega (arith, le, up)
+
+  pub keeps_used : (m : ℕ) → m ≤ old.graph.made → KeepsOlder m old used
+  keeps_used m le = used_keeps old used used_is m (steady.kept m le)
+
+  module _ (made : ContextView T A) {op : Ptr Operation} {held : OperationData A} {types : List T} {vs : List Value} {bs : List (Ptr BasicBlock)} (makes : MakesOperation used made op held types vs bs) where
+    lasts_here : Lasts old made
+    lasts_here = lasts_then old used made lasts_used (made_lasts used made op held types makes)
+
+    -- the block stands where it stood
+    pub block_there : (o : Option (Ptr BasicBlock)) → IfSome o (λ k. IsThere old (TheBlock k)) → IfSome o (λ k. Stands made.graph (TheBlock k))
+    block_there None there = tt
+    block_there (Some k) there = block_stands made k (lasts_here.blocks k there.0 there.1).0
+
+    block_newer : (m : ℕ) → m ≤ old.graph.made → (o : Option (Ptr BasicBlock)) → IfSome o (λ b. IsNew m old.graph (TheBlock b)) → IfSome o (λ b. IsNew m made.graph (TheBlock b))
+    block_newer m le None n = tt
+    block_newer m le (Some b) n = lasts_here.newer m (TheBlock b) le n
+
+    -- what is older than a mark is kept, whatever was made and placed
+    pub keeps_placed : (new : ContextView T A) (o : Option (Ptr BasicBlock)) (m : ℕ) → m ≤ old.graph.made → IfSome o (λ b. IsNew m old.graph (TheBlock b)) → KeepsOlder m used made
+        → (IfSome o (λ b. IsNew m made.graph (TheBlock b)) → IsNew m made.graph (TheOperation op) → KeepsOlder m made new) → KeepsOlder m old new
+    keeps_placed new o m le n k f = keeps_then m old used new (keeps_used m le) (keeps_then m used made new k (f (block_newer m le o n) (made_new used made op held types makes m (used_more m le))))

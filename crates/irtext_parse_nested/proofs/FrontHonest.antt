@@ -1,0 +1,132 @@
+-- What the readers of an operation's front refuse stands within their texts.
+use Rattle.std.proofs.Common.{◌≡◌, ◌∙◌, ℕ, length, Bool, true, false, List, [], ◌∷◌, ◌++◌, codes, refl, sym, ap, subst, append_assoc, cond, is_some, Some, None}
+use Rattle.irtext_base.specs.Text.{Text, begins}
+use Rattle.irtext_base.specs.Reading.{the}
+use Rattle.irtext_base.specs.Own.{Sincere, IsFront}
+use Rattle.irtext_base.specs.Format as format
+use Rattle.irtext_base.specs.Format.{Id, Directive}
+use Rattle.irtext_base.specs.Faults.{Fault, UnregisteredOp, UnregisteredDialect}
+use Rattle.irtext_base.specs.Answers.{Outcome, Read, Missing, Bad, prefixed, mapped}
+use Rattle.irtext_base.specs.Locations.{AttrView}
+use Rattle.irtext_base.proofs.Sincere.{Of, of_read, of_missing, of_mapped, of_sincere}
+use Rattle.irtext_context.specs.Dialects.{Table}
+use Rattle.irtext_context.specs.DialectTable.{dialect_of, registered}
+use Rattle.irtext_read.specs.AttrTexts.{attr_at}
+use Rattle.irtext_read.specs.Infix.{Reader, ◌▷◌}
+use Rattle.irtext_read.specs.Tokens.{identifier_at, id_at, space_at, word}
+use Rattle.irtext_read.proofs.Honest.{Honest, ◌then◌, ◌kept◌, ◌so◌, seen, honest_either, honest_word, honest_space, honest_id, honest_name, honest_spaced, honest_separated, honest_attr}
+use Rattle.irtext_outcomes.specs.Readers.Parts.{behind}
+use Rattle.irtext_outcomes.specs.Readers.Marker.{marker, starts_with}
+use Rattle.irtext_grammar.specs.Spelling.AttrText.{attr_tree}
+use Rattle.irtext_outcomes.specs.Readers.Operations.{registered_behind}
+use Rattle.irtext_outcomes.proofs.Readers.Honest.{honest_nothing}
+use Rattle.irtext_grammar.specs.Contexts.Formats.{op_id}
+use Rattle.irtext_grammar.specs.Grammar.Tree as tree
+use Rattle.irtext_grammar.specs.Grammar.Tree.{Name, Piece, Part}
+use Rattle.irtext_nesting.specs.Heads.{Step, flat, types, one, all, name_at, name_of, used_at, target_at, symbol_at, pair_at, dictionary_at, outlined_or_at, directive_at, piece_at, results_at, named, lead_at, led_by, led_at}
+use Rattle.irtext_nesting.specs.Resume.{front_at}
+use Rattle.irtext_parse_nested.proofs.Ended.{within_honest}
+use Rattle.irtext_parse_nested.proofs.Faults.{StaysWithin}
+
+-- ---- names
+name_honest : Honest name_at
+name_honest = record { of = λ text. of_mapped text (name_of (length text)) (identifier_at text) ((honest_name _).of text) }
+
+used_honest : Honest (used_at true)
+used_honest = record { of = λ text. name_honest.of text }
+
+target_honest : Honest (target_at true)
+target_honest = ◌then◌ (honest_word (codes "^")) used_honest
+
+symbol_honest : Honest symbol_at
+symbol_honest = record { of = λ text. of_mapped text (name_of (length text)) ((word (codes "@") ▷ identifier_at) text) ((◌then◌ (honest_word (codes "@")) (honest_name _)).of text) }
+
+-- ---- pieces
+module _ {T A : Type 0} (types_at : Text → Outcome T) (attr : Text → Outcome (AttrView A)) (honest_types : Honest types_at) (honest : Honest attr) where
+  pair_honest : Honest (pair_at attr)
+  pair_honest = ◌so◌ name_honest (λ key. ◌then◌ (honest_spaced (codes ":")) (seen (λ a. (key, a)) (seen _ honest)))
+
+  dictionary_honest : Honest (dictionary_at attr)
+  unfolding dictionary_at
+  dictionary_honest = record { of = λ text. (◌then◌ (honest_word (codes "[")) (◌then◌ honest_space (◌kept◌ (honest_separated 44 (pair_at attr) pair_honest) (honest_word (codes "]"))))).of text }
+
+  outlined_honest : Honest (outlined_or_at attr)
+  outlined_honest = honest_either (starts_with marker) (seen (λ _. None) (honest_word marker)) (seen Some (seen (attr_tree {A = A}) honest))
+
+  directive_honest : (d : Directive) → Honest (directive_at types_at attr true d)
+  directive_honest (format.word s) = seen _ (honest_word s)
+  directive_honest (format.operand i) = seen _ used_honest
+  directive_honest format.operands = seen _ (honest_separated 44 (used_at true) used_honest)
+  directive_honest (format.successor i) = seen _ target_honest
+  directive_honest format.successors = seen _ (honest_separated 44 (target_at true) target_honest)
+  directive_honest (format.attribute k) = seen _ outlined_honest
+  directive_honest format.dictionary = seen _ dictionary_honest
+  directive_honest (format.result_type i) = seen _ honest_types
+  directive_honest format.header = seen _ symbol_honest
+  directive_honest (format.region i) = record { of = λ text. of_missing text _ refl }
+  directive_honest format.regions = record { of = λ text. of_missing text _ refl }
+
+  piece_honest : (step : Step) → Honest (piece_at types_at attr true step)
+  piece_honest (flat d) = directive_honest d
+  piece_honest types = seen _ (honest_separated 44 types_at honest_types)
+  piece_honest (one i) = record { of = λ text. of_missing text _ refl }
+  piece_honest all = record { of = λ text. of_missing text _ refl }
+
+  pub front_honest : (ss : List Step) (found : List (Part ℕ T A)) → Honest (front_at types_at attr true ss found)
+  front_honest [] found = honest_nothing found
+  front_honest (s ∷ ss) found = ◌so◌ (◌then◌ honest_space (piece_honest s)) (λ p. front_honest ss (found ++ tree.piece p ∷ []))
+
+pub front_within : {T A : Type 0} (types_at : Text → Outcome T) (reading : Text → Outcome A) → Sincere types_at → Sincere reading → (ss : List Step) (found : List (Part ℕ T A)) → StaysWithin (front_at types_at (attr_at reading) true ss found)
+front_within types_at reading sincere_types sincere ss found = within_honest (front_honest types_at (attr_at reading) (record { of = of_sincere types_at sincere_types }) (honest_attr (record { of = of_sincere reading sincere })) ss found)
+
+-- the same of one piece, behind white space
+pub spaced_within : {T A : Type 0} (types_at : Text → Outcome T) (reading : Text → Outcome A) → Sincere types_at → Sincere reading → (step : Step) → StaysWithin (space_at ▷ piece_at types_at (attr_at reading) true step)
+spaced_within types_at reading sincere_types sincere step = within_honest (◌then◌ honest_space (piece_honest types_at (attr_at reading) (record { of = of_sincere types_at sincere_types }) (honest_attr (record { of = of_sincere reading sincere })) step))
+
+-- ---- the lead
+results_honest : Honest results_at
+results_honest = ◌kept◌ (honest_separated 44 name_at name_honest) (honest_word (codes "="))
+
+named_of : (o : Outcome (List (Name ℕ))) (text : Text) → Of text o → Of text (named o text)
+named_of (Read ns taken rest) text h = h
+named_of (Missing cause) text h = of_read text [] [] text refl
+named_of (Bad cause upto) text h = of_read text [] [] text refl
+
+lead_honest : Honest lead_at
+lead_honest = ◌then◌ honest_space (◌kept◌ (record { of = λ text. named_of (results_at text) text (results_honest.of text) }) honest_space)
+
+-- what is refused of an id behind a lead stands behind the lead, or ends it, or is where the lead begins
+module _ (dialects : List (Text × Table)) where
+  registered_within : (text lead : Text) (o : Outcome Id) → IsFront lead text → ((c : Fault) (u : Text) → o ≡ Bad c u → IsFront u text) → (cause : Fault) (upto : Text) → registered_behind dialects lead o ≡ Bad cause upto → IsFront upto text
+  registered_within text lead (Read id taken rest) f h cause upto e = go (is_some (dialect_of dialects id.dialect)) (is_some (registered dialects (op_id id))) e
+    where
+      go : (a b : Bool) → cond a (cond b (Read id taken rest) (Bad (UnregisteredOp id) [])) (Bad (UnregisteredDialect id.dialect) lead) ≡ Bad cause upto → IsFront upto text
+      go true true e = absurd (cc)
+      go true false e = let same : [] ≡ upto = cc e in subst (λ z. IsFront z text) same (text, refl)
+      go false b e = let same : lead ≡ upto = cc e in subst (λ z. IsFront z text) same f
+  registered_within text lead (Missing c) f h cause upto e = absurd (cc)
+  registered_within text lead (Bad c u) f h cause upto e = h cause upto e
+
+  behind_within : (lead rest : Text) (o : Outcome Id) → ((c : Fault) (u : Text) → o ≡ Bad c u → IsFront u rest) → (c : Fault) (u : Text) → behind lead o ≡ Bad c u → IsFront u (lead ++ rest)
+  behind_within [] rest o h c u e = h c u e
+  behind_within (x ∷ lead) rest (Read id taken left) h c u e = absurd (cc)
+  behind_within (x ∷ lead) rest (Missing d) h c u e = let same : x ∷ lead ≡ u = cc e in subst (λ z. IsFront z (x ∷ lead ++ rest)) same (rest, refl)
+  behind_within (x ∷ lead) rest (Bad d w) h c u e =
+      let same : x ∷ lead ++ w ≡ u = cc e in
+      let f = h d w refl in
+      subst (λ z. IsFront z (x ∷ lead ++ rest)) same (f.0, append_assoc (x ∷ lead) w f.0 ∙ ap (λ z. x ∷ lead ++ z) f.1)
+
+  mapped_bad : {X Y : Type 0} (see : X → Y) (o : Outcome X) (cause : Fault) (upto : Text) → mapped see o ≡ Bad cause upto → o ≡ Bad cause upto
+  mapped_bad see (Read x taken rest) cause upto e = absurd (cc)
+  mapped_bad see (Missing c) cause upto e = absurd (cc)
+  mapped_bad see (Bad c u) cause upto e = let a : c ≡ cause = cc e in let b : u ≡ upto = cc e in ap (λ z. Bad z u) a ∙ ap (λ z. Bad cause z) b
+
+  pub led_within : StaysWithin (led_at dialects)
+  led_within = record { within = λ text cause upto e. go text (lead_at text) (lead_honest.of text) cause upto e }
+    where
+      go : (text : Text) (o : Outcome (List (Name ℕ))) → Of text o → (cause : Fault) (upto : Text) → led_by dialects o ≡ Bad cause upto → IsFront upto text
+      go text (Read ns lead rest) h cause upto e =
+          subst (λ z. IsFront upto z) h.says
+          (registered_within (lead ++ rest) lead (behind lead (id_at rest)) (rest, refl) (behind_within lead rest (id_at rest) (λ c u f. (within_honest honest_id).within rest c u f)) cause upto (mapped_bad (λ id. (ns, id)) (registered_behind dialects lead (behind lead (id_at rest))) cause upto e))
+      go text (Missing c) h cause upto e = absurd (cc)
+      go text (Bad c u) h cause upto e = let same : u ≡ upto = cc e in subst (λ z. IsFront z text) same h.says.1

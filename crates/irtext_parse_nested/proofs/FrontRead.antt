@@ -1,0 +1,170 @@
+-- The front of an operation was read, or why it was not.
+use Rattle.std.proofs.Common.{◌≡◌, ◌∙◌, ◌||◌, inl, inr, ℕ, Bool, true, false, cond, List, [], ◌∷◌, ◌++◌, length, Option, Some, None, Ok, Err, refl, sym, ap, subst, append-nil, true≢false}
+use Rattle.std.specs.Option.{option_map}
+use Rattle.irtext_base.specs.Text.{Text}
+use Rattle.irtext_base.specs.Own.{Sincere, IsFront}
+use Rattle.irtext_base.specs.Faults.{id_of, fault_of}
+use Rattle.irtext_base.specs.Stream.{StreamView, IsAt}
+use Rattle.irtext_base.specs.Answers.{Outcome, Read, Missing, Bad, Refuses, demanded, unless_failed}
+use Rattle.irtext_base.specs.Answers as base
+use Rattle.irtext_base.specs.Locations.{AttrView}
+use Rattle.irtext_base.specs.Format.{Id}
+use Rattle.irtext_base.specs.declared.base.identifier.OpId.{OpId}
+use Rattle.irtext_base.specs.declared.parsable.fault.ParseFault.{ParseFault}
+use Rattle.irtext_context.specs.Dialects.{Table, known_of}
+use Rattle.irtext_context.specs.declared.dialect.OpInfo.{OpInfo}
+use Rattle.irtext_formats.specs.Directives.{format_of}
+use Rattle.irtext_read.specs.AttrTexts.{attr_at}
+use Rattle.irtext_read.proofs.Steps.{alone}
+use Rattle.irtext_scopes.specs.Names.{KeepsNames}
+use Rattle.irtext_grammar.specs.Contexts.Formats as formats
+use Rattle.irtext_grammar.specs.Contexts.Held.{whole}
+use Rattle.irtext_grammar.specs.Grammar.Tree.{Name, Part}
+use Rattle.irtext_outcomes.specs.Readers.Streams.{itself, replaced}
+use Rattle.irtext_outcomes.specs.Promises.Root.{UnlessMemory}
+use Rattle.irtext_outcomes.specs.Promises.Section.{Moves}
+use Rattle.irtext_outcomes.specs.Promises.Supported.{is_committed}
+use Rattle.irtext_outcomes.proofs.Readers.Answered.{Answered, answered, may_answered, moves_more}
+use Rattle.irtext_nesting.specs.Heads.{Step, steps_of, front_steps, led_at}
+use Rattle.irtext_nesting.specs.Reached.{steps_in}
+use Rattle.irtext_nesting.specs.Resume.{front_at}
+use Rattle.irtext_parse_heads.specs.declared.names.ReadName.{ReadName}
+use Rattle.irtext_parse_heads.specs.declared.pieces.ReadPiece.{ReadPiece}
+use Rattle.irtext_parse_heads.specs.Fronts.{IsPart, MustFront, front_of}
+use Rattle.irtext_parse_heads.specs.Ids.{IsLed, IsKnown}
+use Rattle.irtext_parse_heads.specs.Named.{StandsFor, Each, MayMean}
+use Rattle.irtext_parse_heads.proofs.Meanings.{stands_on, may_whole}
+use Rattle.irtext_parse_nested.specs.Beginning.{FrontStands, LacksFront, lacks_lead, lacks_piece}
+use Rattle.irtext_parse_nested.specs.Read.{Demands}
+use Rattle.irtext_parse_nested.proofs.Ended.{must_commit}
+use Rattle.irtext_parse_nested.proofs.Faults.{text_fault, must_demand}
+use Rattle.irtext_parse_nested.proofs.FrontHonest.{front_within, led_within}
+
+or_committed : (wanted : Bool) → (wanted || true) ≡ true
+or_committed true = refl
+or_committed false = refl
+
+-- names stand for the same while more names come
+pub each_on : (names more : List Text) (text : Text) → KeepsNames names more → (ns : List ReadName) (ws : List (Name ℕ)) → Each (StandsFor names text) ns ws → Each (StandsFor more text) ns ws
+each_on names more text keeps [] [] e = tt
+each_on names more text keeps [] (w ∷ ws) e = absurd e
+each_on names more text keeps (n ∷ ns) [] e = absurd e
+each_on names more text keeps (n ∷ ns) (w ∷ ws) e = (stands_on names more n w keeps refl e.0, each_on names more text keeps ns ws e.1)
+
+-- a fault that is committed where this is wanted, and else is the same
+record SameFault {A : Type 0} (wanted : Bool) (fault last : ParseFault A) : Type 0 where
+  cause : last.cause ≡ fault.cause
+  pos : last.pos ≡ fault.pos
+  flag : last.committed ≡ (wanted || fault.committed)
+
+same_fault : {A : Type 0} (wanted : Bool) (fault last : ParseFault A) (old new : StreamView) → cond wanted (base.Demands itself replaced fault old last new) ((last ≡ fault) × (new ≡ old)) → SameFault wanted fault last
+same_fault true fault last old new d = record { cause = d.cause; pos = d.place; flag = d.committed }
+same_fault false fault last old new d = record { cause = ap (λ f. f.cause) d.0; pos = ap (λ f. f.pos) d.0; flag = ap (λ f. f.committed) d.0 }
+
+module _ {T A : Type 0} (types_at : Text → Outcome T) (reading : Text → Outcome A) (dialects : List (Text × Table)) (old : StreamView) (fine : old.failed ≡ false) where
+  -- ---- there is no lead
+  module _ {X : Type 0} {names : List Text} (wanted : Bool) {fault : ParseFault A} {mid : StreamView}
+      (h : MayMean {X = List (Name ℕ) × Id} {Y = List ReadName × OpId × X} itself replaced (IsLed names (whole old)) (led_at dialects) old (Err fault) mid) (last : ParseFault A) (new : StreamView)
+      (c : cond wanted (base.Demands itself replaced fault mid last new) ((last ≡ fault) × (new ≡ mid))) where
+    same : SameFault wanted fault last
+    same = same_fault wanted fault last mid new c
+
+    pub lead_lacks : UnlessMemory (LacksFront types_at (attr_at reading) dialects true wanted old) last
+    lead_lacks = elim h.read.answers [
+      | inl starved ↦ inl (record { because = ap fault_of same.cause ∙ starved.because; flag = same.flag ∙ (ap (λ b. wanted || b) starved.committed ∙ or_committed wanted) })
+      | inr refused ↦ inr (go (led_at dialects old.rest) refl (subst (λ b. Refuses itself replaced (unless_failed b (led_at dialects old.rest)) old fault mid) fine refused))
+    ]
+      where
+        placed : (upto : Text) → IsAt fault.pos.line fault.pos.column (old.passed ++ upto) → IsAt last.pos.line last.pos.column (old.passed ++ upto)
+        placed upto p = subst (λ p. IsAt p.line p.column (old.passed ++ upto)) (sym same.pos) p
+
+        go : (o : Outcome (List (Name ℕ) × Id)) → led_at dialects old.rest ≡ o → Refuses itself replaced o old fault mid → LacksFront types_at (attr_at reading) dialects true wanted old last
+        go (Read x taken rest) is r = absurd r
+        go (Missing cause) is r = lacks_lead
+            (record { cause = cause; upto = []; bad = ap demanded is; fault_is = text_fault old cause [] old.rest last refl (ap fault_of same.cause ∙ r.because) (placed [] (subst (IsAt fault.pos.line fault.pos.column) (sym (append-nil old.passed)) r.place)) })
+            (same.flag ∙ ap (λ b. wanted || b) (r.committed ∙ sym (ap is_committed is)))
+        go (Bad cause upto) is r =
+            let front = (led_within dialects).within old.rest cause upto is in
+            lacks_lead (record { cause = cause; upto = upto; bad = ap demanded is; fault_is = text_fault old cause upto front.0 last front.1 (ap fault_of same.cause ∙ r.because) (placed upto r.place) })
+            (same.flag ∙ ap (λ b. wanted || b) (r.committed ∙ sym (ap is_committed is)))
+
+    -- where the fault is not committed, nothing was read
+    pub lead_unread : last.committed ≡ false → new ≡ old
+    lead_unread flag = go wanted c
+      where
+        uncommitted : (o : Outcome (List (Name ℕ) × Id)) → Refuses itself replaced o old fault mid → fault.committed ≡ false → mid ≡ old
+        uncommitted (Read x taken rest) r e = absurd r
+        uncommitted (Missing cause) r e = r.left
+        uncommitted (Bad cause upto) r e = absurd (true≢false (sym r.committed ∙ e))
+
+        still : fault.committed ≡ false → mid ≡ old
+        still e = elim h.read.answers [
+          | inl starved ↦ absurd (true≢false (sym starved.committed ∙ e))
+          | inr refused ↦ uncommitted (unless_failed old.failed (led_at dialects old.rest)) refused e
+        ]
+
+        go : (w : Bool) → cond w (base.Demands itself replaced fault mid last new) ((last ≡ fault) × (new ≡ mid)) → new ≡ old
+        go true d = absurd (true≢false (sym d.committed ∙ flag))
+        go false d = d.1 ∙ still (sym (ap (λ f. f.committed) d.0) ∙ flag)
+
+  -- ---- behind a lead
+  module _ {X : Type 0} {names : List Text} {mid : StreamView} (op : List ReadName × OpId × X) (info : OpInfo)
+      (h : MayMean {A = A} itself replaced (IsLed names (whole old)) (led_at dialects) old (Ok op) mid) (known : IsKnown dialects op.1 info) where
+    led_is : Answered (led_at dialects old.rest) old (h.meant op) mid
+    led_is = may_answered {A = A} h.read
+
+    same_text : whole mid ≡ whole old
+    same_text = may_whole alone {A = A} h.read
+
+    still_fine : mid.failed ≡ false
+    still_fine = ap (λ v. v.failed) led_is.takes.is ∙ fine
+
+    id_is : id_of op.1 ≡ (h.meant op).1
+    id_is = h.means.1
+
+    led_here : led_at dialects old.rest ≡ Read ((h.meant op).0, id_of op.1) led_is.taken mid.rest
+    led_here = led_is.is ∙ ap (λ i. Read ((h.meant op).0, i) led_is.taken mid.rest) (sym id_is)
+
+    known_format : formats.format_of dialects (id_of op.1) ≡ Some (format_of info.format)
+    known_format = ap (λ o. option_map (λ k. k.format) o) known.known
+
+    steps_are : steps_in dialects (id_of op.1) ≡ steps_of (format_of info.format)
+    steps_are = ap (λ o. elim o [ Some f ↦ steps_of f | None ↦ [] ]) known_format
+
+    -- a piece is missing
+    pub piece_lacks : (wanted : Bool) (more : List Text) {fault : ParseFault A} {new : StreamView} → Sincere types_at → Sincere reading → MustFront {T = T} itself replaced more types_at (attr_at reading) true (steps_of (format_of info.format)) mid (Err fault) new
+        → UnlessMemory (LacksFront types_at (attr_at reading) dialects true wanted old) fault
+    piece_lacks wanted more {fault} {new} sincere_types sincere f =
+        let within = front_within types_at reading sincere_types sincere (front_steps (steps_of (format_of info.format))) [] in
+        let c = must_commit still_fine f.read in
+        elim (must_demand alone (front_of types_at (attr_at reading) true (steps_of (format_of info.format)) []) within still_fine f.read) [
+          | inl s ↦ inl s
+          | inr d ↦ inr (lacks_piece (h.meant op).0 (id_of op.1) led_is.taken mid.rest led_here
+              (subst (λ t. Demands t (front_at types_at (attr_at reading) true (front_steps (steps_in dialects (id_of op.1))) [] mid.rest) mid.rest fault) same_text
+              (subst (λ ss. Demands (whole mid) (front_at types_at (attr_at reading) true (front_steps ss) [] mid.rest) mid.rest fault) (sym steps_are) d)) c)
+        ]
+
+    pub piece_commits : (more : List Text) {fault : ParseFault A} {new : StreamView} → MustFront {T = T} itself replaced more types_at (attr_at reading) true (steps_of (format_of info.format)) mid (Err fault) new → fault.committed ≡ true
+    piece_commits more f = must_commit still_fine f.read
+
+    -- all of it stands there
+    pub front_stands : (more : List Text) → KeepsNames names more → (pieces : List (ReadPiece T A)) (new : StreamView) → MustFront {A = A} itself replaced more types_at (attr_at reading) true (steps_of (format_of info.format)) mid (Ok pieces) new
+        → length pieces ≡ length (front_steps (steps_of (format_of info.format))) → FrontStands types_at (attr_at reading) dialects true more old op.0 op.1 pieces new
+    front_stands more keeps pieces new f count =
+        let there : Answered (front_of types_at (attr_at reading) true (steps_of (format_of info.format)) [] mid.rest) mid (f.meant pieces) new = answered {A = A} f.read in
+        record {
+          results = (h.meant op).0;
+          lead = led_is.taken;
+          middle = mid.rest;
+          led = led_here;
+          parts = f.meant pieces;
+          taken = there.taken;
+          front = ap (λ ss. front_at types_at (attr_at reading) true (front_steps ss) [] mid.rest) steps_are ∙ there.is;
+          moves = moves_more (record { taken = led_is.taken; takes = led_is.takes }) (record { taken = there.taken; takes = there.takes });
+          named = each_on names more (whole old) keeps op.0 (h.meant op).0 h.means.0;
+          are = subst (λ t. Each (IsPart more t) pieces (f.meant pieces)) same_text f.means;
+          counts = count ∙ ap (λ ss. length (front_steps ss)) (sym steps_are);
+          format = format_of info.format;
+          known = known_format;
+          accepted = known.accepted;
+        }

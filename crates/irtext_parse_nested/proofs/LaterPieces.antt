@@ -1,0 +1,239 @@
+-- A piece behind a region of its operation: what it does with names and keys, and where its reader refuses.
+use Rattle.std.proofs.Common.{◌≡◌, ◌∙◌, ℕ, zero, suc, ◌+◌, Bool, true, List, [], ◌∷◌, drop, map, slice_get, Option, Some, None, IsSome, option_map, Result, IfOk, false, refl, sym, ap, subst, arith}
+use Rattle.irtext_base.specs.Text.{Text}
+use Rattle.std.specs.Char.{is_whitespace}
+use Rattle.irtext_base.specs.Text.{front, after}
+use Rattle.irtext_base.specs.Own.{Sincere}
+use Rattle.irtext_base.specs.Stream.{StreamView}
+use Rattle.irtext_base.specs.declared.parsable.fault.ParseFault.{ParseFault}
+use Rattle.irtext_outcomes.specs.Readers.Streams.{itself, replaced}
+use Rattle.irtext_read.proofs.Steps.{alone, starts, spaced, last}
+use Rattle.irtext_parse_heads.proofs.Meanings.{passed_whole}
+use Rattle.irtext_base.specs.Format as format
+use Rattle.irtext_base.specs.Format.{Directive}
+use Rattle.irtext_base.specs.Answers.{Outcome, Read, Takes}
+use Rattle.irtext_base.specs.Locations.{AttrView}
+use Rattle.irtext_base.specs.Faults.{id_of}
+use Rattle.irtext_base.specs.declared.base.identifier.OpId.{OpId}
+use Rattle.irtext_context.specs.DialectTable.{registered}
+use Rattle.irtext_context.specs.Dialects.{Known, Table, known_of}
+use Rattle.irtext_context.specs.declared.dialect.OpInfo.{OpInfo}
+use Rattle.irtext_formats.specs.Directives.{format_of}
+use Rattle.irtext_nesting.specs.Reached.{steps_in}
+use Rattle.irtext_formats.specs.Conditions.{WritesNamesOrType}
+use Rattle.irtext_read.specs.AttrTexts.{attr_at}
+use Rattle.irtext_read.specs.Infix.{Reader, ◌▷◌}
+use Rattle.irtext_read.specs.Tokens.{space_at}
+use Rattle.irtext_graph.specs.Graph.{GraphView}
+use Rattle.irtext_grammar.specs.Grammar.Tree as tree
+use Rattle.irtext_grammar.specs.Grammar.Tree.{Name, Piece, directive_of_piece}
+use Rattle.irtext_grammar.specs.Names.Acts.{piece_acts}
+use Rattle.irtext_grammar.specs.Names.Script.{Path, ReservedKey}
+use Rattle.irtext_outcomes.proofs.Joins.Answers.{followed_read}
+use Rattle.irtext_nesting.specs.Exact.{IsOfStep}
+use Rattle.irtext_nesting.specs.Heads.{Step, flat, types, one, all, steps_of, directive_at, piece_at}
+use Rattle.irtext_parse_acts.specs.Rows.{TakesUses}
+use Rattle.irtext_parse_heads.specs.declared.entries.Key.{Key}
+use Rattle.irtext_parse_heads.specs.declared.names.ReadName.{ReadName}
+use Rattle.irtext_parse_heads.specs.declared.names.Symbol.{Symbol}
+use Rattle.irtext_parse_heads.specs.declared.pieces.ReadPiece.{ReadPiece}
+use Rattle.irtext_parse_heads.specs.declared.pieces.ReadPiece.TheVariants as read
+use Rattle.irtext_parse_heads.specs.Entries.{IsKey}
+use Rattle.irtext_parse_heads.specs.Pieces.{IsPiece, MustPiece, seen_attribute}
+use Rattle.irtext_base.specs.declared.base.attributes.AttrObj.{AttrObj}
+use Rattle.irtext_parse_nested.specs.declared.gathering.NotGathered.{NotGathered}
+use Rattle.irtext_parse_nested.specs.declared.gathering.NotGathered.TheVariants as refusal
+use Rattle.irtext_parse_nested.specs.Beginning.{IsKnownIn, IsPartOf}
+use Rattle.irtext_parse_nested.specs.Begun.{ReadsNeither}
+use Rattle.irtext_parse_nested.specs.Gathered.{FailsUses, IsFirstReserved, stored_of}
+use Rattle.irtext_parse_nested.specs.Items.{Names}
+use Rattle.irtext_parse_nested.specs.Later.{given_by, IsFlatNext, MayStore, RefusesStored}
+use Rattle.irtext_parse_nested.proofs.Faults.{StaysWithin}
+use Rattle.irtext_parse_nested.proofs.FrontHonest.{spaced_within}
+use Rattle.irtext_parse_nested.proofs.Pieces.{silent, entries_pass, entries_fail}
+use Rattle.irtext_parse_nested.proofs.StepParts.{piece_of}
+
+-- ---- steps
+-- a step that comes is this one
+pub flat_next : (o : Option Step) → IsFlatNext o → (step : Step) × (o ≡ Some step)
+flat_next None h = absurd h
+flat_next (Some step) h = (step, refl)
+
+-- the first of what is left has its place, and the others are left behind it
+pub first_left : {X : Type 0} (xs : List X) (n : ℕ) (x : X) (ys : List X) → x ∷ ys ≡ drop n xs → (slice_get xs n ≡ Some x) × (ys ≡ drop (suc n) xs)
+first_left [] zero x ys e = absurd (cc e)
+first_left [] (suc n) x ys e = absurd (cc e)
+first_left (z ∷ xs) zero x ys e = (let same : z ≡ x = cc e in ap Some same, cc e)
+first_left (z ∷ xs) (suc n) x ys e = first_left xs n x ys e
+
+-- the steps of a registered operation are those of its format
+pub registered_steps : (dialects : List (Text × Table)) (id : OpId) (info : OpInfo) → registered dialects id ≡ Some (known_of info) → steps_in dialects (id_of id) ≡ steps_of (format_of info.format)
+registered_steps dialects id info known = ap (λ o. elim o [ Some f ↦ steps_of f | None ↦ [] ]) (ap (λ o. option_map (λ k. k.format) o) known)
+
+-- an operation that has steps is registered
+pub steps_registered : (dialects : List (Text × Table)) (id : OpId) (n : ℕ) → IsFlatNext (slice_get (steps_in dialects (id_of id)) n) → IsSome (registered dialects id)
+steps_registered dialects id n next = go (registered dialects id) refl
+  where
+    none : (n : ℕ) → IsFlatNext (slice_get [] n) → ⊥
+    none zero h = h
+    none (suc n) h = h
+
+    go : (k : Option Known) → registered dialects id ≡ k → IsSome k
+    go None e = absurd (none n (subst (λ o. IsFlatNext (slice_get (elim o [ Some f ↦ steps_of f | None ↦ [] ]) n)) (ap (λ o. option_map (λ k. k.format) o) e) next))
+    go (Some k) e = refl
+
+-- what is seen of something is there
+pub seen_there : {X Y : Type 0} (f : X → Y) (o : Option X) → IsSome (option_map f o) → (x : X) × (o ≡ Some x)
+seen_there f None h = absurd (cc)
+seen_there f (Some x) h = (x, refl)
+
+-- ---- what is read
+module _ {T A : Type 0} (types_at : Reader T) (attr : Reader (AttrView A)) where
+  -- a directive without names reads the same inside of some region and outside of each
+  directive_late : (inside : Bool) (d : Directive) → (WritesNamesOrType d → ⊥) → directive_at types_at attr inside d ≡ directive_at types_at attr true d
+  directive_late inside (format.word s) n = refl
+  directive_late inside (format.operand i) n = absurd (n tt)
+  directive_late inside format.operands n = absurd (n tt)
+  directive_late inside (format.successor i) n = absurd (n tt)
+  directive_late inside format.successors n = absurd (n tt)
+  directive_late inside (format.attribute k) n = refl
+  directive_late inside format.dictionary n = refl
+  directive_late inside (format.result_type i) n = refl
+  directive_late inside format.header n = refl
+  directive_late inside (format.region i) n = refl
+  directive_late inside format.regions n = refl
+
+  piece_late : (inside : Bool) (step : Step) → ReadsNeither step → piece_at types_at attr inside step ≡ piece_at types_at attr true step
+  piece_late inside (flat d) n = directive_late inside d n
+  piece_late inside types n = absurd n
+  piece_late inside (one i) n = refl
+  piece_late inside all n = refl
+
+  -- what a step reads behind white space is a piece of it
+  pub spaced_of : (inside : Bool) (step : Step) (text : Text) (p : Piece ℕ T A) (taken rest : Text) → (space_at ▷ piece_at types_at attr inside step) text ≡ Read p taken rest → IsOfStep step p
+  spaced_of inside step text p taken rest e =
+      let q = followed_read (space_at text) (λ _. piece_at types_at attr inside step) p taken rest e in
+      piece_of types_at attr inside step q.middle p q.more rest q.second
+
+-- the part is one of the step
+pub part_of : {T A : Type 0} (step : Step) (p : Piece ℕ T A) → IsOfStep step p → IsPartOf step (tree.piece p)
+part_of (flat d) p o = o
+part_of types p o = o
+part_of (one i) p o = o
+part_of all p o = o
+
+-- it is refused within its text
+pub late_within : {T A : Type 0} (types_at : Text → Outcome T) (reading : Text → Outcome A) → Sincere types_at → Sincere reading → (inside : Bool) (step : Step) → ReadsNeither step
+    → StaysWithin (space_at ▷ piece_at types_at (attr_at reading) inside step)
+late_within {T} {A} types_at reading sincere_types sincere inside step n =
+    subst (λ (f : Reader (Piece ℕ T A)). StaysWithin (space_at ▷ f)) (sym (piece_late types_at (attr_at reading) inside step n)) (spaced_within types_at reading sincere_types sincere step)
+
+-- ---- what it does
+-- what names values or labels, or gives a result its type, is no piece of a step that reads neither
+never_late : {T A : Type 0} (step : Step) (d : Directive) (q : Piece ℕ T A) → directive_of_piece q ≡ Some d → WritesNamesOrType d → ReadsNeither step → IsOfStep step q → ⊥
+never_late (flat c) d q e w n o = let same : d ≡ c = let f = sym e ∙ o in cc f in n (subst WritesNamesOrType same w)
+never_late types d q e w n o = n
+never_late (one i) d q e w n o = o
+never_late all d q e w n o = o
+
+module _ {T A O B : Type 0} (names : Names) (g : GraphView (Option O) B (Option T)) (text : Text) where
+  -- its acts change nothing
+  pub late_takes : (step : Step) → ReadsNeither step → (piece : ReadPiece T A) (q : Piece ℕ T A) → IsPiece names.names text piece q → IsOfStep step q → MayStore piece
+      → (p : Path) (k l : ℕ) → TakesUses (piece_acts p k l q) names names g g []
+  late_takes step n read.Word q is o m p k l = silent names g q (tree.word is.0) is.1 p k l refl
+  late_takes step n (read.Operand i r) q is o m p k l = absurd (never_late step (format.operand i) q (ap directive_of_piece is.1) tt n o)
+  late_takes step n (read.Operands rs) q is o m p k l = absurd (never_late step format.operands q (ap directive_of_piece is.1) tt n o)
+  late_takes step n (read.Successor i r) q is o m p k l = absurd (never_late step (format.successor i) q (ap directive_of_piece is.1) tt n o)
+  late_takes step n (read.Successors rs) q is o m p k l = absurd (never_late step format.successors q (ap directive_of_piece is.1) tt n o)
+  late_takes step n (read.Attr key a) q is o m p k l = silent names g q (tree.attribute key (seen_attribute a)) is p k l refl
+  late_takes step n (read.Dictionary es) q is o m p k l = subst (λ z. TakesUses (piece_acts p k l z) names names g g []) (sym is.1) (entries_pass names g text es is.0 is.2 m)
+  late_takes step n (read.ResultType i t) q is o m p k l = silent names g q (tree.result_type i t) is p k l refl
+  late_takes step n (read.Header s) q is o m p k l = silent names g q (tree.header is.0) is.1 p k l refl
+  late_takes step n (read.Types ts) q is o m p k l = silent names g q (tree.types ts) is p k l refl
+
+-- ---- what is stored of it
+pub given_is : (T : Type 0) {A : Type 0} (key : Text) (a : Option (AttrObj A)) → given_by key a ≡ stored_of {T = T} (read.Attr key a)
+given_is T key None = refl
+given_is T key (Some a) = refl
+
+module _ {T A : Type 0} where
+  -- what is neither an attribute nor a dictionary nor a symbol's name gives nothing
+  pub other_stored : (piece : ReadPiece T A) → ((key : Text) (a : Option (AttrObj A)) → piece ≡ read.Attr key a → ⊥) → ((es : List (Key × AttrObj A)) → piece ≡ read.Dictionary es → ⊥) → ((s : Symbol) → piece ≡ read.Header s → ⊥) → stored_of piece ≡ []
+  other_stored read.Word a d h = refl
+  other_stored (read.Operand i n) a d h = refl
+  other_stored (read.Operands ns) a d h = refl
+  other_stored (read.Successor i n) a d h = refl
+  other_stored (read.Successors ns) a d h = refl
+  other_stored (read.Attr k x) a d h = absurd (a k x refl)
+  other_stored (read.Dictionary es) a d h = absurd (d es refl)
+  other_stored (read.ResultType i t) a d h = refl
+  other_stored (read.Header s) a d h = absurd (h s refl)
+  other_stored (read.Types ts) a d h = refl
+
+  pub other_may : (piece : ReadPiece T A) → ((es : List (Key × AttrObj A)) → piece ≡ read.Dictionary es → ⊥) → MayStore piece
+  other_may read.Word d = tt
+  other_may (read.Operand i n) d = tt
+  other_may (read.Operands ns) d = tt
+  other_may (read.Successor i n) d = tt
+  other_may (read.Successors ns) d = tt
+  other_may (read.Attr k x) d = tt
+  other_may (read.Dictionary es) d = absurd (d es refl)
+  other_may (read.ResultType i t) d = tt
+  other_may (read.Header s) d = tt
+  other_may (read.Types ts) d = tt
+
+-- ---- how it is refused
+module _ {T A : Type 0} where
+  -- a key that is reserved is one of a dictionary
+  reserved_in : (piece : ReadPiece T A) (key : Key) → RefusesStored piece (refusal.ReservedKey key) → (es : List (Key × AttrObj A)) × (piece ≡ read.Dictionary es) × IsFirstReserved es key
+  reserved_in read.Word key r = absurd (cc r)
+  reserved_in (read.Operand i n) key r = absurd (cc r)
+  reserved_in (read.Operands ns) key r = absurd (cc r)
+  reserved_in (read.Successor i n) key r = absurd (cc r)
+  reserved_in (read.Successors ns) key r = absurd (cc r)
+  reserved_in (read.Attr k a) key r = absurd (cc r)
+  reserved_in (read.Dictionary es) key r = (es, refl, r)
+  reserved_in (read.ResultType i t) key r = absurd (cc r)
+  reserved_in (read.Header s) key r = absurd (cc r)
+  reserved_in (read.Types ts) key r = absurd (cc r)
+
+  -- no name is refused
+  pub never_outside : (piece : ReadPiece T A) (n : ReadName) → RefusesStored piece (refusal.NoActiveScope n) → ⊥
+  never_outside read.Word n r = cc r
+  never_outside (read.Operand i m) n r = cc r
+  never_outside (read.Operands ns) n r = cc r
+  never_outside (read.Successor i m) n r = cc r
+  never_outside (read.Successors ns) n r = cc r
+  never_outside (read.Attr k a) n r = cc r
+  never_outside (read.Dictionary es) n r = r
+  never_outside (read.ResultType i t) n r = cc r
+  never_outside (read.Header s) n r = cc r
+  never_outside (read.Types ts) n r = cc r
+
+  -- so the refusal speaks of no name
+  pub known_in : (count : ℕ) (piece : ReadPiece T A) (why : NotGathered) → RefusesStored piece why → IsKnownIn count why
+  known_in count piece refusal.Memory r = tt
+  known_in count piece (refusal.ReservedKey key) r = tt
+  known_in count piece (refusal.NoActiveScope n) r = absurd (never_outside piece n r)
+
+module _ {T A O B : Type 0} (names : Names) (g : GraphView (Option O) B (Option T)) (text : Text) where
+  -- its acts fail at the key that is reserved
+  pub late_fails : (piece : ReadPiece T A) (q : Piece ℕ T A) → IsPiece names.names text piece q → (key : Key) → RefusesStored piece (refusal.ReservedKey key)
+      → (n : Name ℕ) × IsKey text key n × ((p : Path) (k l : ℕ) → FailsUses (piece_acts p k l q) names g (record { cause = ReservedKey n.text; at = Some n.place }))
+  late_fails piece q is key r =
+      let d = reserved_in piece key r in
+      let i = subst (λ z. IsPiece names.names text z q) d.1 is in
+      let f = entries_fail names g text d.0 i.0 key i.2 d.2 in
+      (f.0, f.1, λ p k l. subst (λ z. FailsUses (piece_acts p k l z) names g (record { cause = ReservedKey f.0.text; at = Some f.0.place })) (sym i.1) f.2)
+
+-- ---- its reader
+-- white space is passed in front of it
+pub piece_spaced : {T A : Type 0} (types_at : Reader T) (attr : Reader (AttrView A)) (inside : Bool) (step : Step) (names : List Text) {old mid new : StreamView} {result : Result (ReadPiece T A) (ParseFault A)} → old.failed ≡ false
+    → Takes itself replaced (front is_whitespace old.rest) (after is_whitespace old.rest) old mid → MustPiece itself replaced names (piece_at types_at attr inside step) mid result new → MustPiece itself replaced names (space_at ▷ piece_at types_at attr inside step) old result new
+piece_spaced types_at attr inside step names {old} {mid} {new} {result} fine k h =
+    let p = spaced alone (λ _ t. piece_at types_at attr inside step t) (starts alone (space_at ▷ piece_at types_at attr inside step) (space_at ▷ piece_at types_at attr inside step) old fine refl) k in
+    record {
+      meant = h.meant;
+      means = subst (λ t. IfOk result (λ y. IsPiece names t y (h.meant y))) (passed_whole alone p) h.means;
+      read = last alone p h.read;
+    }

@@ -1,0 +1,181 @@
+-- An operation that begins, as a context has it: it came, last into its block where one is given, and all else is spared and lasts; names
+-- stay tied, and wait for what they waited.
+use Rattle.std.proofs.Common.{◌≡◌, ◌≢◌, ◌≤◌, ◌+◌, ◌∙◌, inl, inr, ℕ, suc, List, [], ◌∷◌, ◌++◌, length, map, Option, Some, None, IsSome, refl, sym, ap, subst, arith}
+use Rattle.std.specs.Prelude.{IfSome, option_and_then}
+use Rattle.std.specs.Option.{option_map}
+use Rattle.irtext_base.specs.Faults.{id_of}
+use Rattle.irtext_base.specs.declared.location.Location.{Location}
+use Rattle.irtext_context.specs.Context.{ContextView, OperationView, operation, block, known, with_graph}
+use Rattle.irtext_context.specs.Made.{made_view}
+use Rattle.irtext_context.specs.declared.base.operation.OperationData.{OperationData}
+use Rattle.irtext_context.proofs.Contexts.{made_seen}
+use Rattle.irtext_graph.specs.Back.{AllOlder}
+use Rattle.irtext_graph.specs.Chained.{Among}
+use Rattle.irtext_graph.specs.Graph.{IsNew, Appends, content_of, parent, numbered}
+use Rattle.irtext_graph.specs.Objects.{is_older}
+use Rattle.irtext_graph.specs.Parts.{operation_at, results, results_of}
+use Rattle.irtext_graph.specs.Erasing.{without_uses}
+use Rattle.irtext_graph.proofs.Nests.{told}
+use Rattle.irtext_graph.proofs.Same.{ptr_tells}
+use Rattle.irtext_context.specs.declared.base.block.BlockData.{BlockData}
+use Rattle.irtext_graph.specs.declared.arena.Ptr.{Ptr}
+use Rattle.irtext_graph.specs.declared.object.BasicBlock.{BasicBlock}
+use Rattle.irtext_graph.specs.declared.object.Operation.{Operation}
+use Rattle.irtext_graph.specs.declared.object.Object.{Object}
+use Rattle.irtext_graph.specs.declared.object.Object.TheVariants.{TheOperation, TheBlock}
+use Rattle.irtext_grammar.specs.Contexts.Held.{entries_of}
+use Rattle.irtext_grammar.specs.Grammar.Tree.{in_order}
+use Rattle.irtext_names.specs.Tied.{AreTied, AreWaiting}
+use Rattle.irtext_names.proofs.Added.{added_ties, operation_waits}
+use Rattle.irtext_names.proofs.Gained.{operation_added}
+use Rattle.irtext_building.specs.Grows.{with_last_operation, BlockGains, OperationCame}
+use Rattle.irtext_building.specs.Stands.{OwnSoFar, HasOwn, HasUses, IsThere, Spares}
+use Rattle.irtext_building.proofs.Edits.{operation_made, operation_made_spares, operation_came, operation_came_last, operation_came_spares, operation_placed_spares, made_own, spares_then, spares_wider}
+use Rattle.irtext_building.proofs.Kept.{there_still}
+use Rattle.irtext_state.specs.declared.parsable.state.State as code
+use Rattle.irtext_parse_nested.specs.declared.beginning.ReadFront.{ReadFront}
+use Rattle.irtext_parse_nested.specs.declared.frame.BegunOperation.{BegunOperation}
+use Rattle.irtext_parse_nested.specs.declared.gathering.Gathered.{Gathered}
+use Rattle.irtext_parse_nested.specs.Beginning.{types_made, PlacedIn, MakesOf, ComesInto}
+use Rattle.irtext_parse_nested.specs.Items.{Names, Lasts, IsSound, BlanksDefine}
+use Rattle.irtext_parse_nested.specs.Definitions.{BlanksHaveResults}
+use Rattle.irtext_parse_nested.proofs.Blanks.{blanks_on}
+use Rattle.irtext_parse_nested.proofs.Losing.{blanks_by}
+use Rattle.irtext_parse_nested.proofs.Steady.{seen_operation}
+use Rattle.irtext_parse_nested.proofs.Begins.{operation_placed_ties, operation_placed_waits}
+use Rattle.irtext_parse_nested.proofs.Lasting.{data_there}
+use Rattle.irtext_parse_nested.proofs.UsedStands.{lasts_then, lasts_itself, used_spares, used_lasts, made_new, made_lasts, placed_lasts}
+use Rattle.irtext_stream.specs.declared.position.Place.{Place}
+
+count_numbered : {T : Type 0} (n : ℕ) (ts : List T) → length (numbered n ts) ≡ length ts
+count_numbered n [] = refl
+count_numbered n (t ∷ ts) = ap (λ k. suc k) (count_numbered (n + 1) ts)
+
+count_known : {T : Type 0} (ts : List T) → length (known ts) ≡ length ts
+count_known [] = refl
+count_known (t ∷ ts) = ap (λ k. suc k) (count_known ts)
+
+module _ {T A : Type 0} (blk : Option (Ptr BasicBlock)) (front : ReadFront T A) (at : Place) (loc : Location A) (before : Names) (old : ContextView T A) (names : Names) (new : ContextView T A) (b : BegunOperation)
+    (m : MakesOf blk front at loc before old names new b) (all_older : AllOlder old.graph.made old.graph) where
+  abbrev types : List T
+  types = types_made m.gathered.types.items m.gathered.listed
+
+  abbrev held : OperationData A
+  held = record { id = front.id; attributes = m.gathered.attributes; loc = loc }
+
+  dialects_used : m.used.dialects ≡ old.dialects
+  dialects_used = ap (λ c. c.dialects) m.used_is
+
+  spares_used : Spares [] old m.used
+  spares_used = used_spares old m.used all_older m.steady.kept m.steady.brings dialects_used
+
+  lasts_used : Lasts old m.used
+  lasts_used = used_lasts old m.used all_older m.steady.kept m.steady.brings dialects_used
+
+  lasts_made : Lasts old m.made
+  lasts_made = lasts_then old m.used m.made lasts_used (made_lasts m.used m.made b.op held types m.makes)
+
+  placed_on : (o : Option (Ptr BasicBlock)) → PlacedIn o m.made new b.op → Lasts m.made new
+  placed_on None p = subst (Lasts m.made) (sym p) (lasts_itself m.made)
+  placed_on (Some k) p = placed_lasts m.made new k b.op p.0 p.2
+
+  -- what is open lasts
+  pub begun_lasts : Lasts old new
+  begun_lasts = lasts_then old m.made new lasts_made (placed_on blk m.placed)
+
+  -- it is no older than a mark that what was made reached
+  pub begun_new : (n : ℕ) → n ≤ old.graph.made → IsNew n new.graph (TheOperation b.op)
+  begun_new n le = let up = lasts_used.made in let over = (made_lasts m.used m.made b.op held types m.makes).made in
+      (placed_on blk m.placed).newer n (TheOperation b.op) (omega (arith, le, up, over)) (made_new m.used m.made b.op held types m.makes n (omega (arith, le, up)))
+
+  -- what is seen of it
+  pub made_is : operation m.made b.op ≡ Some (made_view held types)
+  made_is = made_seen m.used m.made b.op held types m.makes
+
+  is_on : (o : Option (Ptr BasicBlock)) → PlacedIn o m.made new b.op → operation new b.op ≡ Some (made_view held types)
+  is_on None p = ap (λ c. operation c b.op) p ∙ made_is
+  is_on (Some k) p = ((operation_placed_spares m.made new k b.op p.0).spared (TheOperation b.op) (subst IsSome (sym made_is) refl) (λ i. elim i [ inl e ↦ cc e | inr j ↦ j ])).0 ∙ made_is
+
+  pub begun_is : operation new b.op ≡ Some (made_view held types)
+  begun_is = is_on blk m.placed
+
+  -- it has so many results
+  pub begun_counts : length (results new.graph b.op) ≡ b.results
+  begun_counts = (placed_on blk m.placed).results b.op (subst IsSome (sym made_is) refl)
+      ∙ (ap (λ e. length (results_of (option_map (λ e. e.content.content) e))) m.makes.graph.operations.updates.changed
+      ∙ (count_numbered m.used.graph.values (known types) ∙ (count_known types ∙ sym m.counts)))
+
+  -- ---- names
+  module _ where
+    ties_made : AreTied names.values names.labels m.made.graph
+    ties_made = added_ties (operation_added b.op m.makes.graph) names.values names.labels m.steady.tied
+
+    -- the block stands where it stood
+    pub inside_made : (k : Ptr BasicBlock) → IsThere old (TheBlock k) → IsSome (parent m.made.graph (TheBlock k))
+    inside_made k there = subst IsSome (sym (lasts_made.blocks k there.0 there.1).1) there.1
+
+    ties_on : (o : Option (Ptr BasicBlock)) → IfSome o (λ k. IsThere old (TheBlock k)) → PlacedIn o m.made new b.op → AreTied names.values names.labels new.graph
+    ties_on None there p = subst (λ c. AreTied names.values names.labels c.graph) (sym p) ties_made
+    ties_on (Some k) there p = let x = data_there m.made b.op (subst IsSome (sym made_is) refl) in operation_placed_ties k b.op p.0 x.0 x.1 (inside_made k there) names.values names.labels ties_made
+
+    waits_made : (n : ℕ) → n ≤ old.graph.made → AreWaiting n [] before.values before.labels old.graph → AreWaiting n [] names.values names.labels m.made.graph
+    waits_made n le w = operation_waits b.op held (known types) (in_order m.gathered.operands.single.items ++ m.gathered.operands.list.items) (in_order m.gathered.successors.single.items ++ m.gathered.successors.list.items)
+        m.makes.graph n [] names.values names.labels m.steady.tied (m.steady.waiting n [] le w)
+
+    waits_on : (n : ℕ) (o : Option (Ptr BasicBlock)) → IfSome o (λ k. IsThere old (TheBlock k)) → PlacedIn o m.made new b.op → AreWaiting n [] names.values names.labels m.made.graph → AreWaiting n [] names.values names.labels new.graph
+    waits_on n None there p w = subst (λ c. AreWaiting n [] names.values names.labels c.graph) (sym p) w
+    waits_on n (Some k) there p w = let x = data_there m.made b.op (subst IsSome (sym made_is) refl) in operation_placed_waits k b.op p.0 x.0 x.1 (inside_made k there) n [] names.values names.labels w
+
+  pub begun_ties : IfSome blk (λ k. IsThere old (TheBlock k)) → AreTied names.values names.labels new.graph
+  begun_ties there = ties_on blk there m.placed
+
+  pub begun_waits : IfSome blk (λ k. IsThere old (TheBlock k)) → (n : ℕ) → n ≤ old.graph.made → AreWaiting n [] before.values before.labels old.graph → AreWaiting n [] names.values names.labels new.graph
+  begun_waits there n le w = waits_on n blk there m.placed (waits_made n le w)
+
+  -- it has data, and each other operation was there
+  blanks_made : (n : ℕ) → BlanksHaveResults n m.used.graph → BlanksHaveResults n m.made.graph
+  blanks_made = blanks_by m.used.graph m.made.graph (λ p. elim (told ptr_tells p b.op) [
+    | inl same ↦ inr (λ e. let x = data_there m.made b.op (subst IsSome (sym made_is) refl) in let f = sym x.1 ∙ (ap (λ q. option_map (λ c. c.data_of) (operation_at m.made.graph q)) (sym same) ∙ e) in absurd (cc))
+    | inr apart ↦ inl (ap (λ e. option_map without_uses (seen_operation (OperationData A) (BlockData A) (Option T) (content_of e))) (m.makes.graph.operations.updates.others p apart))
+  ])
+
+  blanks_placed : (n : ℕ) (o : Option (Ptr BasicBlock)) → PlacedIn o m.made new b.op → BlanksHaveResults n m.made.graph → BlanksHaveResults n new.graph
+  blanks_placed n None p h = subst (λ c. BlanksHaveResults n c.graph) (sym p) h
+  blanks_placed n (Some k) p h = blanks_by m.made.graph new.graph (λ q. inl (ap (option_map without_uses) (p.0.objects.contents (TheOperation q)))) n h
+
+  -- each operation without data has a result
+  pub begun_blanks : (n : ℕ) → BlanksDefine n old → BlanksDefine n new
+  begun_blanks = blanks_on old new (λ n h. blanks_placed n blk m.placed (blanks_made n (m.steady.blanks n h)))
+
+  -- ---- what came
+  module _ (IsLocation : ℕ → Location A → Type 0) (own : OwnSoFar T A) (has : HasOwn IsLocation (made_view held types) own)
+      (operands_are : length (in_order m.gathered.operands.single.items ++ m.gathered.operands.list.items) ≡ own.operands)
+      (successors_are : length (in_order m.gathered.successors.single.items ++ m.gathered.successors.list.items) ≡ own.successors) where
+    there_made : OperationCame m.used m.made IsLocation b.op own
+    there_made = operation_made m.used m.made IsLocation b.op held types own m.makes has operands_are successors_are
+
+    is_new : IsThere old (TheOperation b.op) → ⊥
+    is_new there = there_made.is_new (there_still old m.used (TheOperation b.op) (spares_used.spared (TheOperation b.op) there (λ i. i)) there)
+
+    came : HasUses new b.op own → OperationCame old new IsLocation b.op own
+    came uses = record { is_new = is_new; view = made_view held types; is = begun_is; has = has; uses = uses; regions = refl }
+
+    wider_used : (but : List Object) → Spares but old m.used
+    wider_used but = spares_wider old m.used [] but (λ q i. absurd i) spares_used
+
+    came_on : (o : Option (Ptr BasicBlock)) → IfSome o (λ k. IsThere old (TheBlock k)) → PlacedIn o m.made new b.op → ComesInto IsLocation old new b.op own o
+    came_on None there p = (
+      came (subst (λ c. HasUses c b.op own) (sym p) there_made.uses),
+      subst (Spares (TheOperation b.op ∷ []) old) (sym p) (spares_then old m.used m.made (TheOperation b.op ∷ []) (wider_used (TheOperation b.op ∷ [])) (operation_made_spares m.used m.made b.op held types m.makes)),
+    )
+    came_on (Some k) there p =
+        let last = operation_came_last IsLocation m.used m.made new k b.op held types m.makes p.0 in
+        let was = spares_used.spared (TheBlock k) there (λ i. i) in (
+          came (operation_came IsLocation m.used m.made new k b.op held types m.makes p.0 own has operands_are successors_are).uses,
+          record { gains = last.gains ∙ ap (option_map (with_last_operation b.op)) was.0; stays = last.stays ∙ was.1 },
+          spares_then old m.used new (TheOperation b.op ∷ TheBlock k ∷ []) (wider_used (TheOperation b.op ∷ TheBlock k ∷ [])) (operation_came_spares IsLocation m.used m.made new k b.op held types m.makes p.0),
+        )
+
+    -- it came, and all else is spared
+    pub begun_came : IfSome blk (λ k. IsThere old (TheBlock k)) → ComesInto IsLocation old new b.op own blk
+    begun_came there = came_on blk there m.placed

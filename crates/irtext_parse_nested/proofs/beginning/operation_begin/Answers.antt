@@ -1,0 +1,94 @@
+use Rattle.std.proofs.Common.{◌≡◌, ◌∙◌, Some, true, is_some, [], refl, sym, subst, slice_get, true≢false}
+use Rattle.irtext_graph.specs.Back.{AllOlder}
+use Rattle.irtext_grammar.specs.Contexts.Held.{whole}
+use Rattle.irtext_outcomes.specs.Promises.Root.{UnlessMemory}
+use Rattle.irtext_parse_nested.proofs.Stores.{exit_from}
+use Rattle.irtext_read.specs.AttrTexts.{attr_at}
+use Rattle.irtext_read.proofs.Exits.{handed_on}
+use Rattle.irtext_read.proofs.Steps.{alone}
+use Rattle.irtext_parse_heads.proofs.Meanings.{takes_whole}
+use Rattle.irtext_names.specs.Tied.{AreWaiting}
+use Rattle.irtext_parse_nested.specs.Beginning.{LacksFront, NotGatheredAs}
+use Rattle.irtext_parse_nested.specs.Read.{RefusesOperation}
+use Rattle.irtext_parse_nested.proofs.BeginRead.{if_ok_both, on_ok_by}
+use Rattle.irtext_parse_nested.proofs.Marking.{if_err}
+use Rattle.irtext_parse_nested.proofs.OperationBegun.{located_here, front_can, front_own, front_begun, front_came, front_begins, front_lacks, front_fails, ungathered_commits}
+use Rattle.irtext_parse_nested.proofs.OperationMade.{begun_lasts, begun_new, begun_ties, begun_waits, begun_blanks}
+use Rattle.irtext_parse_nested.proofs.beginning.operation_begin.Goals as goal
+
+pub returns-in_err-front-clause-refused : goal.returns-in_err-front-clause-refused
+returns-in_err-front-clause-refused g c =
+    let old = c.args.s.now in
+    let names = c.args.names.now in
+    exit_from c.from_residual.result c.from_residual.ensures.1 (UnlessMemory (LacksFront g.T.IrText.reading (attr_at g.A.IrText.reading) old.state.ctx.now.dialects true c.is_some.result old.stream))
+    (UnlessMemory (RefusesOperation g.T.IrText.reading (attr_at g.A.IrText.reading) true (is_some c.args.block) names old))
+    (λ f u. subst (λ w. UnlessMemory (RefusesOperation g.T.IrText.reading (attr_at g.A.IrText.reading) true w names old) f) c.is_some.ensures (front_lacks g.T.IrText.reading (attr_at g.A.IrText.reading) old names c.is_some.result f u))
+    c.in_err-front.ensures.lacks
+
+pub returns-in_err-front-clause-unread : goal.returns-in_err-front-clause-unread
+returns-in_err-front-clause-unread g c = rw (handed_on c.from_residual.result c.from_residual.ensures.1) c.in_err-front.ensures.unread
+
+pub returns-clause-unread : goal.returns-clause-unread
+returns-clause-unread g c =
+    if_err c.begin_read.result (λ fault u e. absurd (true≢false (sym (ungathered_commits g.T.IrText.reading (attr_at g.A.IrText.reading) c.args.s.now c.in_ok-front.front.pieces c.front_read.new.names (whole c.front_read.new.stream) fault u) ∙ e))) c.begin_read.ensures.refused
+
+pub begin_read-requires-clause-can : goal.begin_read-requires-clause-can
+begin_read-requires-clause-can g c = front_can g.T.IrText.reading (attr_at g.A.IrText.reading) c.args.s.now c.in_ok-front.ensures.stands c.front_read.new.names refl
+
+pub begin_read-requires-clause-block : goal.begin_read-requires-clause-block
+begin_read-requires-clause-block g c = c.requires.block
+
+pub returns-clause-begins : goal.returns-clause-begins
+returns-clause-begins g c =
+    let old = c.args.s.now in
+    let f = c.in_ok-front.ensures.stands in
+    if_ok_both c.begin_read.result (λ b m s. front_begins g.T.IrText.reading (attr_at g.A.IrText.reading) old f c.begin_read.new.s m (subst (λ n. AllOlder n old.state.ctx.now.graph) c.made.ensures.made c.made.ensures.older) c.requires.block
+    c.front_read.ensures.names c.in_ok-front.ensures.distinct c.begin_read.ensures.marks c.front_read.new.stream.rest refl s
+    (record { passed = old.stream.passed; rest = old.stream.rest; same = refl; stands = c.position-at.ensures; counts = refl })) c.begin_read.ensures.makes c.begin_read.ensures.stream
+
+pub returns-clause-refused : goal.returns-clause-refused
+returns-clause-refused g c =
+    let old = c.args.s.now in
+    let f = c.in_ok-front.ensures.stands in
+    let same = takes_whole alone old.stream c.front_read.new.stream f.moves.taken c.front_read.new.stream.rest f.moves.takes in
+    if_err c.begin_read.result (λ fault u. subst (λ w. UnlessMemory (RefusesOperation g.T.IrText.reading (attr_at g.A.IrText.reading) true w c.args.names.now old) fault) c.is_some.ensures
+    (front_fails g.T.IrText.reading (attr_at g.A.IrText.reading) old f c.front_read.ensures.names c.in_ok-front.ensures.distinct c.is_some.result fault
+    (subst (λ t. NotGatheredAs c.in_ok-front.front.pieces c.front_read.new.names old.state.ctx.now.graph t fault) same u))) c.begin_read.ensures.refused
+
+pub returns-clause-came : goal.returns-clause-came
+returns-clause-came g c =
+    let old = c.args.s.now in
+    let f = c.in_ok-front.ensures.stands in
+    if_ok_both c.begin_read.result (λ b m s read. (
+      front_own g.T.IrText.reading (attr_at g.A.IrText.reading) old f,
+      front_begun g.T.IrText.reading (attr_at g.A.IrText.reading) old f c.begin_read.new.s.stream.rest read,
+      front_came g.T.IrText.reading (attr_at g.A.IrText.reading) old f c.begin_read.new.s m (subst (λ n. AllOlder n old.state.ctx.now.graph) c.made.ensures.made c.made.ensures.older) c.requires.block (located_here old.stream old.state.src c.loc-loc.result c.loc-loc.ensures),
+    )) c.begin_read.ensures.makes c.begin_read.ensures.stream
+
+pub returns-clause-lasts : goal.returns-clause-lasts
+returns-clause-lasts g c =
+    let old = c.args.s.now.state.ctx.now in
+    on_ok_by c.begin_read.result (λ b m. begun_lasts c.args.block c.in_ok-front.front c.position-at.result c.loc-loc.result c.front_read.new.names old c.begin_read.new.names c.begin_read.new.s.state.ctx.now b m
+    (subst (λ n. AllOlder n old.graph) c.made.ensures.made c.made.ensures.older)) c.begin_read.ensures.makes
+
+pub returns-clause-names : goal.returns-clause-names
+returns-clause-names g c = λ i t e. subst (λ ns. slice_get ns i ≡ Some t) (sym c.begin_read.ensures.names) (c.front_read.ensures.names.kept i t e)
+
+pub returns-clause-sound : goal.returns-clause-sound
+returns-clause-sound g c =
+    let old = c.args.s.now.state.ctx.now in
+    let older = subst (λ n. AllOlder n old.graph) c.made.ensures.made c.made.ensures.older in
+    let read = c.front_read.ensures.names in
+    on_ok_by c.begin_read.result (λ b m n le sound.
+    let waits = subst (λ ls. AreWaiting n [] c.front_read.new.names.values ls old.graph) (sym read.labels) (subst (λ vs. AreWaiting n [] vs c.args.names.now.labels old.graph) (sym read.values) sound.waiting) in
+    record {
+      tied = begun_ties c.args.block c.in_ok-front.front c.position-at.result c.loc-loc.result c.front_read.new.names old c.begin_read.new.names c.begin_read.new.s.state.ctx.now b m older c.requires.block;
+      waiting = begun_waits c.args.block c.in_ok-front.front c.position-at.result c.loc-loc.result c.front_read.new.names old c.begin_read.new.names c.begin_read.new.s.state.ctx.now b m older c.requires.block n le waits;
+      blanks = begun_blanks c.args.block c.in_ok-front.front c.position-at.result c.loc-loc.result c.front_read.new.names old c.begin_read.new.names c.begin_read.new.s.state.ctx.now b m older n sound.blanks;
+    }) c.begin_read.ensures.makes
+
+pub returns-clause-new : goal.returns-clause-new
+returns-clause-new g c =
+    let old = c.args.s.now.state.ctx.now in
+    let older = subst (λ n. AllOlder n old.graph) c.made.ensures.made c.made.ensures.older in
+    if_ok_both c.begin_read.result (λ b m s n le. begun_new c.args.block c.in_ok-front.front c.position-at.result c.loc-loc.result c.front_read.new.names old c.begin_read.new.names c.begin_read.new.s.state.ctx.now b m older n le) c.begin_read.ensures.makes c.begin_read.ensures.stream

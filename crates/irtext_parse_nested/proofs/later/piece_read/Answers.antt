@@ -1,0 +1,17 @@
+use Rattle.std.proofs.Common.{◌∙◌, Some, sym, ap, subst, slice_get}
+use Rattle.irtext_base.specs.Faults.{id_of}
+use Rattle.irtext_nesting.specs.Heads.{piece_at}
+use Rattle.irtext_outcomes.specs.Readers.Streams.{itself, replaced}
+use Rattle.irtext_read.specs.AttrTexts.{attr_at}
+use Rattle.irtext_parse_heads.specs.Pieces.{MustPiece}
+use Rattle.irtext_parse_nested.proofs.Faults.{some_same}
+use Rattle.irtext_parse_nested.proofs.LaterPieces.{registered_steps, piece_spaced}
+use Rattle.irtext_parse_nested.proofs.later.piece_read.Goals as goal
+
+pub returns-clause-read : goal.returns-clause-read
+returns-clause-read g c = λ step there.
+    let b = c.args.begun.now in
+    let steps = registered_steps c.args.ctx.now.dialects b.id c.in-Some.info.now (sym c.in-Some.ensures.found) in
+    let same = some_same (c.in-Some-step_at.ensures ∙ (ap (λ ss. slice_get ss b.step) (sym steps) ∙ there)) in
+    piece_spaced g.T.IrText.reading (attr_at g.A.IrText.reading) b.inside step c.step_parse.new.names.names c.requires.fine c.skip_white_space.ensures
+    (subst (λ s. MustPiece {T = g.row.T.Denot} {A = g.row.A.Denot} itself replaced c.step_parse.new.names.names (piece_at g.T.IrText.reading (attr_at g.A.IrText.reading) b.inside s) c.skip_white_space.new.stream c.step_parse.result c.step_parse.new.stream) same c.step_parse.ensures.read)

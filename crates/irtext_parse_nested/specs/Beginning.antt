@@ -1,0 +1,161 @@
+-- Between functions: an operation that begins: what was read in front of its first region, its own so far, and where it comes to stand.
+use Rattle.std.specs.Prelude.{◌≡◌, ◌<◌, ℕ, Bool, true, ◌||◌, List, [], ◌∷◌, ◌++◌, length, map, Option, Some, None, ⊤}
+use Rattle.irtext_base.specs.Text.{Text}
+use Rattle.irtext_base.specs.Format.{Format, Id, Accepted}
+use Rattle.irtext_base.specs.Faults.{id_of}
+use Rattle.irtext_base.specs.Faults as causes
+use Rattle.irtext_base.specs.Faults.{fault_of}
+use Rattle.irtext_base.specs.Answers.{Read}
+use Rattle.irtext_base.specs.Locations.{AttrView}
+use Rattle.irtext_base.specs.Stream.{StreamView, IsAt}
+use Rattle.irtext_base.specs.declared.base.identifier.OpId.{OpId}
+use Rattle.irtext_base.specs.declared.location.Location.{Location}
+use Rattle.irtext_base.specs.declared.parsable.fault.ParseFault.{ParseFault}
+use Rattle.irtext_stream.specs.Places.{AtOffset}
+use Rattle.irtext_stream.specs.declared.position.Place.{Place}
+use Rattle.irtext_context.specs.Context.{ContextView, MakesOperation, with_graph}
+use Rattle.irtext_context.specs.Dialects.{Table}
+use Rattle.irtext_graph.specs.declared.arena.Ptr.{Ptr}
+use Rattle.irtext_graph.specs.declared.object.BasicBlock.{BasicBlock}
+use Rattle.irtext_graph.specs.declared.object.Operation.{Operation}
+use Rattle.irtext_graph.specs.declared.object.Object.TheVariants.{TheBlock, TheOperation}
+use Rattle.irtext_graph.specs.Graph.{GraphView, Appends}
+use Rattle.irtext_read.specs.Infix.{Reader}
+use Rattle.irtext_grammar.specs.Contexts.Formats.{format_of}
+use Rattle.irtext_grammar.specs.Contexts.Held.{whole}
+use Rattle.irtext_grammar.specs.Grammar.Tree as tree
+use Rattle.irtext_grammar.specs.Grammar.Tree.{Name, Part, parts_of, views, in_order, operand_names, successor_labels}
+use Rattle.irtext_grammar.specs.Graphs.Build.{put_all, stored}
+use Rattle.irtext_grammar.specs.Names.Acts.{result_types}
+use Rattle.irtext_outcomes.specs.Promises.Root.{UnlessMemory}
+use Rattle.irtext_outcomes.specs.Promises.Section.{Moves, IsStarved}
+use Rattle.irtext_outcomes.specs.Promises.Supported.{is_committed}
+use Rattle.irtext_nesting.specs.Exact.{IsOfStep}
+use Rattle.irtext_nesting.specs.Heads.{Step, one, all, front_steps, led_at}
+use Rattle.irtext_nesting.specs.Naming.{body_of, unmarked}
+use Rattle.irtext_nesting.specs.Reached.{steps_in}
+use Rattle.irtext_nesting.specs.Resume.{Begun, front_at}
+use Rattle.irtext_building.specs.Grows.{BlockGains, OperationCame}
+use Rattle.irtext_building.specs.Stands.{OwnSoFar, Spares}
+use Rattle.irtext_parse_heads.specs.declared.names.ReadName.{ReadName}
+use Rattle.irtext_parse_heads.specs.declared.pieces.ReadPiece.{ReadPiece}
+use Rattle.irtext_parse_heads.specs.Fronts.{IsPart}
+use Rattle.irtext_parse_heads.specs.Named.{StandsFor, Each}
+use Rattle.irtext_parse_nested.specs.declared.beginning.ReadFront.{ReadFront}
+use Rattle.irtext_parse_nested.specs.declared.frame.BegunOperation.{BegunOperation}
+use Rattle.irtext_parse_nested.specs.declared.gathering.Gathered.{Gathered}
+use Rattle.irtext_parse_nested.specs.declared.gathering.NotGathered.{NotGathered}
+use Rattle.irtext_parse_nested.specs.declared.gathering.NotGathered.TheVariants as refusal
+use Rattle.irtext_parse_nested.specs.Definitions.{IsFaultOf}
+use Rattle.irtext_parse_nested.specs.Gathered.{IsNothing, IsSteady, Gathers, RefusesGathering}
+use Rattle.irtext_parse_nested.specs.Items.{Names}
+use Rattle.irtext_parse_nested.specs.Read.{Demands}
+
+-- ---- what was read
+-- why no front was read: by the lead, committed where one is wanted or where something stands there; or by a piece
+pub data LacksFront {T A : Type 0} (types_at : Reader T) (attr : Reader (AttrView A)) (dialects : List (Text × Table)) (inside wanted : Bool) (old : StreamView) (fault : ParseFault A) : Type 0 where
+  lacks_lead : Demands (whole old) (led_at dialects old.rest) old.rest fault → fault.committed ≡ (wanted || is_committed (led_at dialects old.rest)) → LacksFront types_at attr dialects inside wanted old fault
+  lacks_piece : (names : List (Name ℕ)) (id : Id) (lead middle : Text) → led_at dialects old.rest ≡ Read (names, id) lead middle
+      → Demands (whole old) (front_at types_at attr inside (front_steps (steps_in dialects id)) [] middle) middle fault → fault.committed ≡ true → LacksFront types_at attr dialects inside wanted old fault
+
+-- Names of results, the id of a registered operation, and the pieces in front of its first region stand at the text, and these were read.
+pub record FrontStands {T A : Type 0} (types_at : Reader T) (attr : Reader (AttrView A)) (dialects : List (Text × Table)) (inside : Bool) (names : List Text) (old : StreamView)
+    (read : List ReadName) (id : OpId) (pieces : List (ReadPiece T A)) (new : StreamView) : Type 0 where
+  pub results : List (Name ℕ)
+  pub lead : Text
+  pub middle : Text
+  pub led : led_at dialects old.rest ≡ Read (results, id_of id) lead middle
+  pub parts : List (Part ℕ T A)
+  pub taken : Text
+  pub front : front_at types_at attr inside (front_steps (steps_in dialects (id_of id))) [] middle ≡ Read parts taken new.rest
+  pub moves : Moves old new
+  pub named : Each (StandsFor names (whole old)) read results
+  pub are : Each (IsPart names (whole old)) pieces parts
+  pub counts : length pieces ≡ length (front_steps (steps_in dialects (id_of id)))
+  pub format : Format
+  pub known : format_of dialects (id_of id) ≡ Some format
+  pub accepted : Accepted format
+
+-- ---- why pieces were not gathered
+-- the name that a refusal speaks of is one of so many
+abbrev pub IsKnownIn : ℕ → NotGathered → Type 0
+IsKnownIn count (refusal.NoActiveScope read) = read.name < count
+IsKnownIn count _ = ⊤
+
+module _ {A : Type 0} where
+  -- the fault says so: memory was refused; or the key is reserved, or the name stands where no scope is open, at its place
+  abbrev pub SaysGather : List Text → Text → NotGathered → ParseFault A → Type 0
+  SaysGather names text refusal.Memory fault = IsStarved fault
+  SaysGather names text (refusal.ReservedKey key) fault = (fault_of fault.cause ≡ causes.ReservedKey key.name) × (fault.committed ≡ true)
+      × AtOffset key.at.offset text (λ passed rest. IsAt fault.pos.line fault.pos.column passed)
+  SaysGather names text (refusal.NoActiveScope read) fault = UnlessMemory (IsFaultOf names text causes.NoActiveScope read) fault
+
+-- Memory was refused, or the acts of the pieces fail, wherever the machine stands with what was, and the fault says how.
+pub data NotGatheredAs {T A O B : Type 0} (pieces : List (ReadPiece T A)) (names : Names) (g : GraphView (Option O) B (Option T)) (text : Text) (fault : ParseFault A) : Type 0 where
+  starved : IsStarved fault → NotGatheredAs pieces names g text fault
+  refused : (why : NotGathered) → RefusesGathering pieces names g why → SaysGather names.names text why fault → NotGatheredAs pieces names g text fault
+
+-- ---- what is made
+-- the types of results: by their places, or else those of the list
+abbrev pub types_made : {T : Type 0} → List (ℕ × T) → List T → List T
+types_made [] listed = listed
+types_made (e ∷ es) listed = in_order (e ∷ es)
+
+module _ {T A : Type 0} where
+  -- an operation that was made comes last into the block that is given; else nothing changes
+  abbrev pub PlacedIn : Option (Ptr BasicBlock) → ContextView T A → ContextView T A → Ptr Operation → Type 0
+  PlacedIn None old new op = new ≡ old
+  PlacedIn (Some b) old new op = Appends old.graph new.graph (TheBlock b) (TheOperation op) × (new.paths ≡ old.paths) × (new.dialects ≡ old.dialects)
+
+  -- What the pieces of a front name was used, an operation was made of what they give, and it came last into the block that is given.
+  pub record MakesOf (block : Option (Ptr BasicBlock)) (front : ReadFront T A) (at : Place) (loc : Location A) (before : Names) (old : ContextView T A) (names : Names) (new : ContextView T A)
+      (b : BegunOperation) : Type 0 where
+    pub none : Gathered T A
+    pub is_none : IsNothing none
+    pub gathered : Gathered T A
+    pub used : ContextView T A
+    pub gathers : Gathers front.pieces before old.graph none names used.graph gathered
+    pub steady : IsSteady before names old.graph used.graph
+    pub used_is : used ≡ with_graph old used.graph
+    pub made : ContextView T A
+    pub makes : MakesOperation used made b.op (record { id = front.id; attributes = gathered.attributes; loc = loc }) (types_made gathered.types.items gathered.listed)
+        (in_order gathered.operands.single.items ++ gathered.operands.list.items) (in_order gathered.successors.single.items ++ gathered.successors.list.items)
+    pub placed : PlacedIn block made new b.op
+    pub counts : b.results ≡ length (types_made gathered.types.items gathered.listed)
+    pub id_is : b.id ≡ front.id
+    pub names_are : b.names ≡ front.names
+    pub at_is : b.at ≡ at
+    pub inside_is : b.inside ≡ true
+    pub step_is : b.step ≡ length front.pieces
+
+-- ---- an own that grows
+-- the part is one that the step reads
+abbrev pub IsPartOf : {T A : Type 0} → Step → Part ℕ T A → Type 0
+IsPartOf (one i) (tree.region j) = j ≡ i
+IsPartOf all tree.regions = ⊤
+IsPartOf s (tree.piece p) = IsOfStep s p
+IsPartOf _ _ = ⊥
+
+-- the parts are those that the steps read, one each
+abbrev pub ArePartsOf : {T A : Type 0} → List Step → List (Part ℕ T A) → Type 0
+ArePartsOf [] [] = ⊤
+ArePartsOf (s ∷ ss) (p ∷ ps) = IsPartOf s p × ArePartsOf ss ps
+ArePartsOf _ _ = ⊥
+
+-- The own is what was read of the operation so far: it stores what its parts so far store, and has the types that its body will have, and
+-- as many operands and successors; and the body will store what its parts store, whatever the steps that are left read.
+pub record HasBegun {T A : Type 0} (formats : Id → Option Format) (o : Begun T A) (own : OwnSoFar T A) : Type 0 where
+  pub place : own.place ≡ o.place
+  pub id : own.id ≡ o.id
+  pub entries : own.entries ≡ put_all [] (views stored o.parts)
+  pub operands : (later : List (Part ℕ T A)) → ArePartsOf o.steps later → length (operand_names (unmarked o.place o.names o.id (body_of (formats o.id) (o.parts ++ later)))) ≡ own.operands
+  pub successors : (later : List (Part ℕ T A)) → ArePartsOf o.steps later → length (successor_labels (unmarked o.place o.names o.id (body_of (formats o.id) (o.parts ++ later)))) ≡ own.successors
+  pub types : (later : List (Part ℕ T A)) → ArePartsOf o.steps later → result_types (body_of (formats o.id) (o.parts ++ later)) ≡ own.types
+  pub stores : (later : List (Part ℕ T A)) → ArePartsOf o.steps later → views stored (parts_of (body_of (formats o.id) (o.parts ++ later))) ≡ views stored (o.parts ++ later)
+
+-- ---- where it comes to stand
+module _ {T A : Type 0} (IsLocation : ℕ → Location A → Type 0) (old new : ContextView T A) (p : Ptr Operation) (own : OwnSoFar T A) where
+  -- the operation came, last into a block where one is given, and all else is as it was
+  abbrev pub ComesInto : Option (Ptr BasicBlock) → Type 0
+  ComesInto None = OperationCame old new IsLocation p own × Spares (TheOperation p ∷ []) old new
+  ComesInto (Some b) = OperationCame old new IsLocation p own × BlockGains old new b p × Spares (TheOperation p ∷ TheBlock b ∷ []) old new

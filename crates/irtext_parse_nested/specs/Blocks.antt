@@ -1,0 +1,139 @@
+-- Between functions: what the header of a block comes to: its dictionary is kept, it is made in its region, and its names are defined.
+use Rattle.std.specs.Prelude.{◌≡◌, ◌⊎◌, ℕ, Bool, true, false, List, [], ◌∷◌, ◌++◌, map, Option, Some, None, slice_get, ⊤}
+use Rattle.irtext_base.specs.Text.{Text}
+use Rattle.irtext_base.specs.Faults as causes
+use Rattle.irtext_base.specs.Faults.{fault_of}
+use Rattle.irtext_base.specs.Stream.{IsAt}
+use Rattle.irtext_base.specs.declared.base.attributes.AttrObj.{AttrObj}
+use Rattle.irtext_base.specs.declared.location.Source.{Source}
+use Rattle.irtext_base.specs.declared.parsable.fault.ParseFault.{ParseFault}
+use Rattle.irtext_stream.specs.Places.{AtOffset}
+use Rattle.irtext_context.specs.Context.{ContextView}
+use Rattle.irtext_context.specs.declared.base.block.BlockData.{BlockData}
+use Rattle.irtext_context.specs.declared.base.item.Item.{Item}
+use Rattle.irtext_context.specs.declared.base.item.Item.TheVariants as item
+use Rattle.irtext_context.specs.declared.base.operation.OperationData.{OperationData}
+use Rattle.irtext_graph.specs.declared.arena.Ptr.{Ptr}
+use Rattle.irtext_graph.specs.declared.object.BasicBlock.{BasicBlock}
+use Rattle.irtext_graph.specs.declared.object.Region.{Region}
+use Rattle.irtext_graph.specs.declared.object.Value.TheVariants.{Argument}
+use Rattle.irtext_graph.specs.declared.object.Defined.TheVariants.{OfBlock}
+use Rattle.irtext_graph.specs.Graph.{GraphView}
+use Rattle.irtext_state.specs.States.{marks_of}
+use Rattle.irtext_state.specs.declared.parsable.state.State as code
+use Rattle.irtext_grammar.specs.Contexts.Held.{attribute_of, entries_of}
+use Rattle.irtext_grammar.specs.Graphs.Build.{put_all, read_names}
+use Rattle.irtext_grammar.specs.Grammar.Tree.{Name}
+use Rattle.irtext_grammar.specs.Names.Acts.{Rule, block_may_hold}
+use Rattle.irtext_grammar.specs.Names.Script.{Place, define_label}
+use Rattle.irtext_grammar.specs.Names.TextScopes.{Word}
+use Rattle.irtext_names.specs.Linked.{TakesDefinition}
+use Rattle.irtext_parse_acts.specs.Rows.{AreNamed}
+use Rattle.irtext_parse_heads.specs.declared.entries.Key.{Key}
+use Rattle.irtext_parse_heads.specs.declared.marks.ReadMark.{ReadMark}
+use Rattle.irtext_parse_heads.specs.declared.names.ReadName.{ReadName}
+use Rattle.irtext_parse_nested.specs.declared.gathering.NotGathered.{NotGathered}
+use Rattle.irtext_parse_nested.specs.declared.gathering.NotGathered.TheVariants as refusal
+use Rattle.irtext_parse_nested.specs.Definitions.{DefinesRow, FailsRow, IsFaultOf}
+use Rattle.irtext_parse_nested.specs.Ends.{numbers_of, NotesMark, RefusesMark}
+use Rattle.irtext_parse_nested.specs.Gathered.{entry_read}
+use Rattle.irtext_parse_nested.specs.Items.{Names}
+use Rattle.irtext_parse_nested.specs.Located.{IsLocatedAt}
+use Rattle.irtext_parse_nested.specs.Placing.{PlacesBlock, RefusesLabel}
+
+-- ---- the dictionary
+-- the entries of a dictionary, where there is one
+abbrev pub entries_in : {X : Type 0} → Option (List X) → List X
+entries_in None = []
+entries_in (Some es) = es
+
+module _ {A : Type 0} (rule : Rule A) where
+  -- each entry's attribute may stand under its key
+  abbrev pub AreAllowed : List (Key × AttrObj A) → Type 0
+  AreAllowed [] = ⊤
+  AreAllowed (e ∷ es) = (rule e.0.name (attribute_of e.1) ≡ true) × AreAllowed es
+
+  -- this is the key of the first entry whose attribute may not stand there
+  abbrev pub IsFirstForbidden : List (Key × AttrObj A) → Key → Type 0
+  IsFirstForbidden [] key = ⊥
+  IsFirstForbidden (e ∷ es) key = ((rule e.0.name (attribute_of e.1) ≡ false) × (key ≡ e.0))
+      ⊎ ((rule e.0.name (attribute_of e.1) ≡ true) × IsFirstForbidden es key)
+
+  -- why entries were not kept: memory was refused, or a key is forbidden
+  abbrev pub Forbids : List (Key × AttrObj A) → NotGathered → Type 0
+  Forbids es refusal.Memory = ⊤
+  Forbids es (refusal.ReservedKey key) = IsFirstForbidden es key
+  Forbids es (refusal.NoActiveScope name) = ⊥
+
+-- the fault says that this key is reserved, at the key
+pub record IsKeyFault {A : Type 0} (text : Text) (key : Key) (fault : ParseFault A) : Type 0 where
+  pub because : fault_of fault.cause ≡ causes.ReservedKey key.name
+  pub flag : fault.committed ≡ true
+  pub place : AtOffset key.at.offset text (λ passed rest. IsAt fault.pos.line fault.pos.column passed)
+
+-- what entries may be refused for: memory, or a key, and no name
+abbrev pub IsOfEntries : NotGathered → Type 0
+IsOfEntries refusal.Memory = ⊤
+IsOfEntries (refusal.ReservedKey key) = ⊤
+IsOfEntries (refusal.NoActiveScope name) = ⊥
+
+-- the same of a refusal, where it is one of a key
+abbrev pub IsRefusalFault : {A : Type 0} → Text → NotGathered → ParseFault A → Type 0
+IsRefusalFault text refusal.Memory fault = ⊥
+IsRefusalFault text (refusal.ReservedKey key) fault = IsKeyFault text key fault
+IsRefusalFault text (refusal.NoActiveScope name) fault = ⊥
+
+-- a key of the block's dictionary is the first that is forbidden there, and the fault says so
+pub record RefusesKeys {A : Type 0} (text : Text) (entries : List (Key × AttrObj A)) (fault : ParseFault A) : Type 0 where
+  pub key : Key
+  pub first : IsFirstForbidden block_may_hold entries key
+  pub says : IsKeyFault text key fault
+
+-- ---- the block
+-- a block was made with this label, the last of a region: at its place, with these attributes, and with arguments of these types
+pub record PlacesLabelled {T A : Type 0} (names : List Text) (source : Source) (text : Text) (label : ReadName) (attributes : List (Text × AttrObj A)) (types : List T) (old new : ContextView T A) (r : Ptr Region) (b : Ptr BasicBlock) : Type 0 where
+  pub held : BlockData A
+  pub named : slice_get names label.name ≡ held.label
+  pub located : IsLocatedAt source text label.at held.loc
+  pub attributes_are : held.attributes ≡ attributes
+  pub places : PlacesBlock old new r b held types
+
+-- a block was made of the header, the last of a region: with its label, its location, its entries and its arguments' names
+pub record MakesHead {T A : Type 0} (names : List Text) (source : Source) (text : Text) (label : ReadName) (arguments : List (ReadName × T)) (entries : List (Key × AttrObj A)) (old new : ContextView T A) (r : Ptr Region) (b : Ptr BasicBlock) : Type 0 where
+  pub held : BlockData A
+  pub named : slice_get names label.name ≡ held.label
+  pub located : IsLocatedAt source text label.at held.loc
+  pub allowed : AreAllowed block_may_hold entries
+  pub stored : (ws : List (Name ℕ)) → AreNamed names (numbers_of (map (λ a. a.0) arguments)) ws
+      → entries_of held.attributes ≡ put_all [] (map entry_read entries ++ read_names (map (λ w. w.text) ws))
+  pub places : PlacesBlock old new r b held (map (λ a. a.1) arguments)
+
+-- ---- its names
+-- an argument's name is defined already, and the fault says so
+pub record RefusesArguments {O B T A : Type 0} (b : Ptr BasicBlock) (arguments : List ReadName) (names : Names) (g : GraphView (Option O) B T) (text : Text) (fault : ParseFault A) : Type 0 where
+  pub index : ℕ
+  pub read : ReadName
+  pub is : slice_get arguments index ≡ Some read
+  pub fails : FailsRow (Argument b) (numbers_of arguments) index names g
+  pub says : IsFaultOf names.names text causes.MultipleDefinitions read fault
+
+-- the arguments of a block were defined
+pub record DefinesArguments {T A U : Type 0} (b : Ptr BasicBlock) (arguments : List ReadName) (old : Names) (s : code.State T A U) (mid : Names) (g : GraphView (Option (OperationData A)) (BlockData A) (Option T)) : Type 0 where
+  pub same : mid.names ≡ old.names
+  pub row : DefinesRow (Argument b) (numbers_of arguments) old mid s.ctx.now.graph g
+
+module _ {T A U : Type 0} (b : Ptr BasicBlock) (label : ReadName) (arguments : List ReadName) (mark : Option ReadMark) (old : Names) (s : code.State T A U) where
+  -- The names of a block's header were defined, in their order: its arguments; its mark was noted; its label.
+  pub record NamesHead (new : Names) (z : code.State T A U) : Type 0 where
+    pub mid : Names
+    pub between : GraphView (Option (OperationData A)) (BlockData A) (Option T)
+    pub defines : DefinesArguments b arguments old s mid between
+    pub notes : NotesMark mark (item.Block b) (marks_of s) (marks_of z)
+    pub labels : (w : Word) (p : Place) → slice_get mid.names label.name ≡ Some w.name → TakesDefinition (define_label w p) mid new between z.ctx.now.graph p (OfBlock b)
+
+  -- They were not: an argument is defined already; or its mark's index is noted already; or its label is defined already.
+  pub data RefusesHead (text : Text) (fault : ParseFault A) : Type 0 where
+    same_argument : RefusesArguments b arguments old s.ctx.now.graph text fault → RefusesHead text fault
+    same_mark : (mid : Names) (g : GraphView (Option (OperationData A)) (BlockData A) (Option T)) → DefinesArguments b arguments old s mid g → RefusesMark text mark (marks_of s) fault → RefusesHead text fault
+    same_label : (mid : Names) (g : GraphView (Option (OperationData A)) (BlockData A) (Option T)) (later : List (ℕ × Item)) → DefinesArguments b arguments old s mid g → NotesMark mark (item.Block b) (marks_of s) later
+        → RefusesLabel mid g text label fault → RefusesHead text fault

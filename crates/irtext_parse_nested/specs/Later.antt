@@ -1,0 +1,82 @@
+-- Between functions: a piece that stands behind a region of its operation: what is stored of it, and what the turn comes to that reads it.
+use Rattle.std.specs.Prelude.{◌≡◌, ℕ, true, List, [], ◌∷◌, ◌++◌, Option, Some, None, ⊤}
+use Rattle.irtext_base.specs.Text.{Text}
+use Rattle.irtext_base.specs.Locations.{AttrView}
+use Rattle.irtext_base.specs.declared.base.attributes.AttrObj.{AttrObj}
+use Rattle.irtext_base.specs.declared.parsable.fault.ParseFault.{ParseFault}
+use Rattle.irtext_context.specs.Context.{ContextView, OperationView, operation, EditsOperation, with_attributes}
+use Rattle.irtext_graph.specs.declared.arena.Ptr.{Ptr}
+use Rattle.irtext_graph.specs.declared.object.Operation.{Operation}
+use Rattle.irtext_read.specs.Infix.{Reader}
+use Rattle.irtext_state.specs.declared.parsable.state.StateStream.{StateStream}
+use Rattle.irtext_grammar.specs.Contexts.Formats.{format_of}
+use Rattle.irtext_grammar.specs.Contexts.Held.{attribute_of, entries_of, whole}
+use Rattle.irtext_grammar.specs.Grammar.Tree as tree
+use Rattle.irtext_grammar.specs.Grammar.Tree.{Attribute}
+use Rattle.irtext_grammar.specs.Graphs.Build.{put_all, stored}
+use Rattle.irtext_nesting.specs.Heads.{Step}
+use Rattle.irtext_nesting.specs.Resume.{Begun, is_flat, with_steps}
+use Rattle.irtext_building.specs.Grows.{OwnBecame}
+use Rattle.irtext_building.specs.Stands.{OwnSoFar, HasOwn, HasUses}
+use Rattle.irtext_parse_heads.specs.declared.pieces.ReadPiece.{ReadPiece}
+use Rattle.irtext_parse_heads.specs.declared.pieces.ReadPiece.TheVariants as read
+use Rattle.irtext_parse_nested.specs.declared.frame.BegunOperation.{BegunOperation}
+use Rattle.irtext_parse_nested.specs.declared.gathering.NotGathered.{NotGathered}
+use Rattle.irtext_parse_nested.specs.declared.gathering.NotGathered.TheVariants as refusal
+use Rattle.irtext_parse_nested.specs.Beginning.{HasBegun, SaysGather}
+use Rattle.irtext_parse_nested.specs.Begun.{IsBegun}
+use Rattle.irtext_parse_nested.specs.Gathered.{MayAllHold, RefusesEntries, stored_of}
+use Rattle.irtext_parse_nested.specs.Items.{Names}
+use Rattle.irtext_parse_nested.specs.Located.{IsLocated}
+use Rattle.irtext_parse_nested.specs.Read.{ReadsPiece}
+
+-- a step comes, and it reads a piece and no region
+abbrev pub IsFlatNext : Option Step → Type 0
+IsFlatNext (Some step) = is_flat step ≡ true
+IsFlatNext None = ⊥
+
+-- ---- a piece that is stored
+-- what an attribute gives that was read, where no marker stands
+abbrev pub given_by : {A : Type 0} → Text → Option (AttrObj A) → List (Text × Attribute A)
+given_by key None = []
+given_by key (Some a) = (key, attribute_of a) ∷ []
+
+module _ {T A : Type 0} where
+  -- where the piece is a dictionary, each entry's attribute may stand under its key
+  abbrev pub MayStore : ReadPiece T A → Type 0
+  MayStore (read.Dictionary es) = MayAllHold es
+  MayStore _ = ⊤
+
+  -- why the piece was not stored: memory was refused, or a key of its dictionary is reserved
+  abbrev pub RefusesStored : ReadPiece T A → NotGathered → Type 0
+  RefusesStored (read.Dictionary es) why = RefusesEntries es why
+  RefusesStored _ why = why ≡ refusal.Memory
+
+  -- what the piece gives its operation was put in behind the attributes that it had
+  pub record StoresPiece (piece : ReadPiece T A) (old new : ContextView T A) (op : Ptr Operation) : Type 0 where
+    pub left : List (Text × AttrObj A)
+    pub edits : EditsOperation old new op (with_attributes left)
+    pub stored : (view : OperationView T A) → operation old op ≡ Some view → entries_of left ≡ put_all (entries_of view.attributes) (stored_of piece)
+    pub may : MayStore piece
+
+  -- the piece was not stored, and the fault says why
+  pub record NotStored (piece : ReadPiece T A) (names : List Text) (text : Text) (fault : ParseFault A) : Type 0 where
+    pub why : NotGathered
+    pub refuses : RefusesStored piece why
+    pub says : SaysGather names text why fault
+
+-- ---- the turn
+module _ {T A U : Type 0} (types_at : Reader T) (attr : Reader (AttrView A)) (before : Names) (old : StateStream T A U) where
+  -- A piece was read, by the next step of an operation that is open, which goes on behind it: whatever operation it is that was begun, its
+  -- own has what the piece gives besides.
+  pub record GoesOn (b next : BegunOperation) (names : Names) (new : StateStream T A U) : Type 0 where
+    pub op : next.op ≡ b.op
+    pub results : next.results ≡ b.results
+    pub inside : next.inside ≡ b.inside
+    pub reads : (o : Begun T A) (step : Step) (ss : List Step) → IsBegun before.names (whole old.stream) old.state.ctx.now b o → o.steps ≡ step ∷ ss
+        → (r : ReadsPiece types_at attr o step b before old names new)
+        × IsBegun names.names (whole old.stream) new.state.ctx.now next (with_steps o ss (o.parts ++ tree.piece r.piece ∷ []))
+        × ((own : OwnSoFar T A) → HasBegun (format_of old.state.ctx.now.dialects) o own
+        → HasBegun (format_of old.state.ctx.now.dialects) (with_steps o ss (o.parts ++ tree.piece r.piece ∷ [])) (record own { entries = put_all own.entries (stored r.piece) })
+        × ((view : OperationView T A) → operation old.state.ctx.now b.op ≡ Some view → HasOwn (IsLocated old.state.src (whole old.stream)) view own → HasUses old.state.ctx.now b.op own
+        → OwnBecame old.state.ctx.now new.state.ctx.now (IsLocated old.state.src (whole old.stream)) b.op (record own { entries = put_all own.entries (stored r.piece) })))

@@ -1,0 +1,334 @@
+//! The beginning of an operation: what stands in front of its first region is read, names are used, and the operation is made and put into
+//! its block.
+ghost use Rattle.std.specs.Prelude.{◌≡◌, ◌++◌, ◌≤◌, ◌<◌, ◌⊎◌, ℕ, List, [], ◌∷◌, length, cond, true, false, None, IfOk, IfErr, IfSome, OnOk, OnErr, IsSome, is_some};
+ghost use Rattle.irtext_base.specs.Answers.{StarvesHere, Demands};
+ghost use Rattle.irtext_base.specs.Format.{sym_name_key};
+ghost use Rattle.irtext_base.specs.Places.{StandsBehind};
+ghost use Rattle.irtext_base.specs.Text.{Text};
+ghost use Rattle.irtext_context.specs.Context as contexts;
+ghost use Rattle.irtext_context.specs.Context.{KeepsOlder, MakesOperation, with_graph};
+ghost use Rattle.irtext_graph.specs.Graph.{IsNew, Stands, Appends, parent, children};
+ghost use Rattle.irtext_graph.specs.declared.object.Object.TheVariants.{TheBlock, TheOperation};
+ghost use Rattle.irtext_read.specs.AttrTexts.{attr_at};
+ghost use Rattle.irtext_scopes.specs.Names.{AreDistinct, KeepsNames};
+ghost use Rattle.irtext_state.specs.States.{LocatesAt, marks_of};
+ghost use Rattle.irtext_grammar.specs.Contexts.Formats.{format_of};
+ghost use Rattle.irtext_grammar.specs.Contexts.Held.{whole};
+ghost use Rattle.irtext_grammar.specs.Grammar.Tree.{Part, in_order};
+ghost use Rattle.irtext_names.specs.Tied.{AreTied};
+ghost use Rattle.irtext_outcomes.specs.Readers.Streams.{itself, replaced, KeepsRest};
+ghost use Rattle.irtext_outcomes.specs.Promises.Root.{UnlessMemory};
+ghost use Rattle.irtext_outcomes.specs.Promises.Section.{IsStarved};
+ghost use Rattle.irtext_building.specs.Stands.{OwnSoFar};
+ghost use Rattle.irtext_parse_heads.specs.Fronts.{IsPart};
+ghost use Rattle.irtext_parse_heads.specs.Named.{Each, NamesRead};
+ghost use Rattle.irtext_parse_nested.specs.Beginning.{FrontStands, LacksFront, IsKnownIn, SaysGather, NotGatheredAs, types_made, PlacedIn, MakesOf, HasBegun, ComesInto};
+ghost use Rattle.irtext_parse_nested.specs.Gathered.{AllStand, CanGather, Gathers, IsNothing, IsSteady};
+ghost use Rattle.irtext_parse_nested.specs.Items.{IsSound, Lasts};
+ghost use Rattle.irtext_parse_nested.specs.Located.{IsLocated};
+ghost use Rattle.irtext_parse_nested.specs.Read.{ReadsFront, begun_by, BeginsOperation, RefusesOperation};
+
+use crate::frame::{BegunOperation, Names};
+use crate::gathering::{Gathered, NotGathered, all_items, gather, nothing};
+use crate::making::make_gathered;
+use crate::naming::outside_fault;
+use irtext_base::base::{Identifier, OpId};
+use irtext_base::location::Location;
+use irtext_base::parsable::{CharStream, ParseFault, ParseResult, Place, TextStream};
+use irtext_base::result::Cause;
+use irtext_base::text::{AttrText, IrText};
+use irtext_context::base::context::making::Making;
+use irtext_context::base::{BasicBlock, Context, Operation, Ptr};
+use irtext_context::dialect::OpInfo;
+use irtext_few::Few;
+use irtext_graph::held::HasGraph;
+use irtext_parse_heads::fronts::front_parse;
+use irtext_parse_heads::ids::led_parse;
+use irtext_parse_heads::names::ReadName;
+use irtext_parse_heads::pieces::ReadPiece;
+use irtext_read::irfmt::faults::{commit, out_of_memory, refuse_at};
+use irtext_state::parsable::StateStream;
+use irtext_state::parsable::state::StreamLocation;
+use std::alloc::AllocError;
+
+/// What stands in front of an operation's first region.
+#[derive(Drop)]
+pub struct ReadFront<T, A> {
+    /// The names that stand for its results.
+    pub names: Few<ReadName>,
+    pub id: OpId,
+    /// The key of a symbol's name, where one is kept for the operation.
+    pub key: Option<Identifier>,
+    pub pieces: Few<ReadPiece<T, A>>,
+}
+
+/// The fault, committed where this is wanted.
+fn commit_if<A>(stream: &mut TextStream, wanted: bool, fault: ParseFault<A>) -> ParseFault<A>
+    ensures { cond wanted (Demands itself replaced fault stream.old result stream.new) ((result ≡ fault) × (stream.new ≡ stream.old)) }
+{
+    if wanted { commit(stream, fault) } else { fault }
+}
+
+/// The key of a symbol's name that is kept for an operation, with its text shared.
+pub(crate) fn kept_key(info: &OpInfo) -> Option<Identifier>
+    ensures { IfSome result (λ key. key ≡ sym_name_key) }
+{
+    match info.sym_name_key()?.clone() {
+        Ok(key) => Some(key),
+        Err(_) => None,
+    }
+}
+
+/// Reads what stands in front of an operation's first region. A fault is committed, but where no operation begins there, unless one is
+/// wanted.
+fn front_read<T: IrText<A>, A: AttrText>(
+    stream: &mut TextStream,
+    ctx: &Context<T, A>,
+    names: &mut Names,
+    wanted: bool,
+) -> ParseResult<ReadFront<T, A>, A>
+    requires fine { stream.old.failed ≡ false }
+    ensures stands { IfOk result (λ front. FrontStands T.IrText.reading (attr_at A.IrText.reading) ctx.now.dialects true names.new.names stream.old front.names front.id front.pieces stream.new) }
+    ensures lacks { IfErr result (UnlessMemory (LacksFront T.IrText.reading (attr_at A.IrText.reading) ctx.now.dialects true wanted stream.old)) }
+    ensures key { IfOk result (λ front. IfSome front.key (λ key. key ≡ sym_name_key)) }
+    ensures unread { IfErr result (λ fault. fault.committed ≡ false → stream.new ≡ stream.old) }
+    ensures names { NamesRead names.old names.new }
+    ensures distinct { OnOk result (AreDistinct names.new.names) }
+{
+    let (results, id, info) = match led_parse(stream, ctx, names) {
+        Ok(led) => led,
+        Err(fault) => return Err(commit_if(stream, wanted, fault)),
+    };
+    let pieces = front_parse(stream, names, &info.format, true)?;
+    names.keeps_names();
+    Ok(ReadFront {
+        names: results,
+        id,
+        key: kept_key(info),
+        pieces,
+    })
+}
+
+/// The fault of pieces that were not gathered. The stream has failed.
+#[cold]
+pub(crate) fn gather_fault<A>(
+    stream: &mut TextStream,
+    names: &Names,
+    refusal: NotGathered,
+) -> ParseFault<A>
+    requires { IsKnownIn (length names.now.names) refusal }
+    ensures { SaysGather names.now.names (whole stream.old) refusal result }
+{
+    match refusal {
+        NotGathered::Memory => out_of_memory(stream),
+        NotGathered::ReservedKey(key) => { refuse_at(stream, key.at, Cause::ReservedKey(key.name)) }
+        NotGathered::NoActiveScope(name) => outside_fault(stream, names, name),
+    }
+}
+
+/// Uses what the pieces of an operation name, and gathers what they give it. A fault is committed; what stands before it was used then.
+fn pieces_gathered<T: IrText<A>, A: AttrText, U>(
+    s: &mut StateStream<'_, T, A, U>,
+    names: &mut Names,
+    key: &Option<Identifier>,
+    pieces: Few<ReadPiece<T, A>>,
+) -> ParseResult<Gathered<T, A>, A>
+    requires can { CanGather names.old [] [] pieces }
+    requires are { (text : Text) × (parts : List (Part ℕ T A)) × Each (IsPart names.old.names text) pieces parts }
+    requires tied { AreTied names.old.values names.old.labels s.old.state.ctx.now.graph }
+    requires key { IfSome key.now (λ key. key ≡ sym_name_key) }
+    ensures lent { s.new.state.ctx.ghost_name ≡ s.old.state.ctx.ghost_name }
+    ensures rest { KeepsRest s.old.state s.new.state }
+    ensures marks { marks_of s.new.state ≡ marks_of s.old.state }
+    ensures stream { OnOk result (s.new.stream ≡ s.old.stream) }
+    ensures gathers { IfOk result (λ gathered. (none : Gathered T A) × IsNothing none
+        × Gathers pieces names.old s.old.state.ctx.now.graph none names.new s.new.state.ctx.now.graph gathered) }
+    ensures refused { IfErr result (NotGatheredAs pieces names.old s.old.state.ctx.now.graph (whole s.old.stream)) }
+    ensures steady { IsSteady names.old names.new s.old.state.ctx.now.graph s.new.state.ctx.now.graph }
+    ensures ctx { s.new.state.ctx.now ≡ with_graph s.old.state.ctx.now s.new.state.ctx.now.graph }
+{
+    let alloc = s.stream.allocator();
+    let Ok(pieces) = all_items(alloc, pieces) else {
+        return Err(out_of_memory(&mut s.stream));
+    };
+    let mut gathered = nothing(alloc);
+    let ctx = &mut *s.state.ctx;
+    match gather(alloc, names, ctx.graph_mut(), &mut gathered, key, pieces) {
+        Ok(()) => Ok(gathered),
+        Err(refusal) => Err(gather_fault(&mut s.stream, names, refusal)),
+    }
+}
+
+/// A second id that shares the texts.
+fn copied(id: &OpId) -> Result<OpId, AllocError>
+    ensures { IfOk result (λ copy. copy ≡ id.now) }
+{
+    let dialect = id.dialect.clone()?;
+    let name = id.name.clone()?;
+    Ok(OpId { dialect, name })
+}
+
+/// Makes the operation of this id, which stands nowhere, of what its pieces came to; and says how many results it has. A fault is
+/// committed.
+fn made_here<T: IrText<A>, A: AttrText, U>(
+    s: &mut StateStream<'_, T, A, U>,
+    id: &OpId,
+    loc: Location<A>,
+    gathered: Gathered<T, A>,
+) -> ParseResult<(Ptr<Operation>, usize), A>
+    requires { AllStand s.old.state.ctx.now.graph gathered }
+    ensures lent { s.new.state.ctx.ghost_name ≡ s.old.state.ctx.ghost_name }
+    ensures rest { KeepsRest s.old.state s.new.state }
+    ensures marks { marks_of s.new.state ≡ marks_of s.old.state }
+    ensures stream { OnOk result (s.new.stream ≡ s.old.stream) }
+    ensures makes { IfOk result (λ made. MakesOperation s.old.state.ctx.now s.new.state.ctx.now made.0
+        (record { id = id.now; attributes = gathered.attributes; loc = loc }) (types_made gathered.types.items gathered.listed)
+        (in_order gathered.operands.single.items ++ gathered.operands.list.items) (in_order gathered.successors.single.items ++ gathered.successors.list.items)) }
+    ensures counts { IfOk result (λ made. made.1 ≡ length (types_made gathered.types.items gathered.listed)) }
+    ensures starved { IfErr result (λ f. StarvesHere itself replaced s.old.stream f s.new.stream) }
+    ensures kept { (m : ℕ) → m ≤ s.old.state.ctx.now.graph.made → KeepsOlder m s.old.state.ctx.now s.new.state.ctx.now }
+{
+    let ctx = &mut *s.state.ctx;
+    let Ok(id) = copied(id) else {
+        return Err(out_of_memory(&mut s.stream));
+    };
+    match make_gathered(ctx, id, loc, gathered) {
+        Ok(made) => Ok(made),
+        Err(AllocError) => Err(out_of_memory(&mut s.stream)),
+    }
+}
+
+/// Puts an operation that stands nowhere and holds nothing last into a block. Where memory is refused nothing changes.
+fn put_last<T: IrText<A>, A: AttrText>(
+    ctx: &mut Context<T, A>,
+    block: Ptr<BasicBlock>,
+    op: Ptr<Operation>,
+) -> Result<(), AllocError>
+    requires block { Stands ctx.old.graph (TheBlock block) }
+    requires op { Stands ctx.old.graph (TheOperation op) }
+    requires free { parent ctx.old.graph (TheOperation op) ≡ None }
+    requires empty { children ctx.old.graph (TheOperation op) ≡ [] }
+    ensures appends { OnOk result (Appends ctx.old.graph ctx.new.graph (TheBlock block) (TheOperation op)) }
+    ensures err { OnErr result (ctx.new ≡ ctx.old) }
+    ensures paths { ctx.new.paths ≡ ctx.old.paths }
+    ensures dialects { ctx.new.dialects ≡ ctx.old.dialects }
+    ensures kept { (m : ℕ) → IsNew m ctx.old.graph (TheBlock block) → IsNew m ctx.old.graph (TheOperation op) → KeepsOlder m ctx.old ctx.new }
+{
+    ctx.graph().keeps_nesting();
+    op.insert_at_back(block, ctx)
+}
+
+/// Puts an operation that stands nowhere and holds nothing last into the block that is given. A fault is committed.
+fn placed_here<T: IrText<A>, A: AttrText, U>(
+    s: &mut StateStream<'_, T, A, U>,
+    block: Option<Ptr<BasicBlock>>,
+    op: Ptr<Operation>,
+) -> ParseResult<(), A>
+    requires block { IfSome block (λ b. Stands s.old.state.ctx.now.graph (TheBlock b)) }
+    requires op { Stands s.old.state.ctx.now.graph (TheOperation op) }
+    requires free { parent s.old.state.ctx.now.graph (TheOperation op) ≡ None }
+    requires empty { children s.old.state.ctx.now.graph (TheOperation op) ≡ [] }
+    ensures lent { s.new.state.ctx.ghost_name ≡ s.old.state.ctx.ghost_name }
+    ensures rest { KeepsRest s.old.state s.new.state }
+    ensures marks { marks_of s.new.state ≡ marks_of s.old.state }
+    ensures stream { OnOk result (s.new.stream ≡ s.old.stream) }
+    ensures places { OnOk result (PlacedIn block s.old.state.ctx.now s.new.state.ctx.now op) }
+    ensures starved { IfErr result (λ f. StarvesHere itself replaced s.old.stream f s.new.stream) }
+    ensures kept { (m : ℕ) → IfSome block (λ b. IsNew m s.old.state.ctx.now.graph (TheBlock b)) → IsNew m s.old.state.ctx.now.graph (TheOperation op)
+        → KeepsOlder m s.old.state.ctx.now s.new.state.ctx.now }
+{
+    let Some(block) = block else {
+        return Ok(());
+    };
+    let ctx = &mut *s.state.ctx;
+    match put_last(ctx, block, op) {
+        Ok(()) => Ok(()),
+        Err(AllocError) => Err(out_of_memory(&mut s.stream)),
+    }
+}
+
+/// Makes the operation whose front was read, with its names used, and puts it last into the block that is given. A fault is committed.
+fn begin_read<T: IrText<A>, A: AttrText, U>(
+    s: &mut StateStream<'_, T, A, U>,
+    names: &mut Names,
+    block: Option<Ptr<BasicBlock>>,
+    at: Place,
+    loc: Location<A>,
+    front: ReadFront<T, A>,
+) -> ParseResult<BegunOperation, A>
+    requires can { CanGather names.old [] [] front.pieces }
+    requires are { (text : Text) × (parts : List (Part ℕ T A)) × Each (IsPart names.old.names text) front.pieces parts }
+    requires tied { AreTied names.old.values names.old.labels s.old.state.ctx.now.graph }
+    requires key { IfSome front.key (λ key. key ≡ sym_name_key) }
+    requires block { IfSome block (λ b. IsSome (contexts.block s.old.state.ctx.now b) × IsSome (parent s.old.state.ctx.now.graph (TheBlock b))) }
+    ensures lent { s.new.state.ctx.ghost_name ≡ s.old.state.ctx.ghost_name }
+    ensures rest { KeepsRest s.old.state s.new.state }
+    ensures marks { marks_of s.new.state ≡ marks_of s.old.state }
+    ensures stream { OnOk result (s.new.stream ≡ s.old.stream) }
+    ensures makes { IfOk result (MakesOf block front at loc names.old s.old.state.ctx.now names.new s.new.state.ctx.now) }
+    ensures refused { IfErr result (NotGatheredAs front.pieces names.old s.old.state.ctx.now.graph (whole s.old.stream)) }
+    ensures names { names.new.names ≡ names.old.names }
+    ensures values { length names.new.values ≡ length names.old.values }
+    ensures labels { length names.new.labels ≡ length names.old.labels }
+    ensures kept { (m : ℕ) → m ≤ s.old.state.ctx.now.graph.made → IfSome block (λ b. IsNew m s.old.state.ctx.now.graph (TheBlock b))
+        → KeepsOlder m s.old.state.ctx.now s.new.state.ctx.now }
+{
+    let ReadFront {
+        names: results,
+        id,
+        key,
+        pieces,
+    } = front;
+    let step = pieces.len();
+    let ctx = &mut *s.state.ctx;
+    ctx.made();
+    let gathered = pieces_gathered(s, names, &key, pieces)?;
+    let (op, count) = made_here(s, &id, loc, gathered)?;
+    placed_here(s, block, op)?;
+    Ok(BegunOperation {
+        op,
+        id,
+        results: count,
+        names: results,
+        at,
+        inside: true,
+        step,
+    })
+}
+
+/// Begins an operation: reads the names of its results, its id and the pieces in front of its first region, uses what these name, and makes
+/// it, last in the block that is given, or outside of each. The first name that stands where no scope of its kind is open is refused, or
+/// the first key of a dictionary that is reserved. A fault is committed, but where no block is given and no operation begins there.
+pub fn operation_begin<T: IrText<A>, A: AttrText, U>(
+    s: &mut StateStream<'_, T, A, U>,
+    names: &mut Names,
+    block: Option<Ptr<BasicBlock>>,
+) -> ParseResult<BegunOperation, A>
+    requires fine { s.old.stream.failed ≡ false }
+    requires tied { AreTied names.old.values names.old.labels s.old.state.ctx.now.graph }
+    requires block { IfSome block (λ b. IsSome (contexts.block s.old.state.ctx.now b) × IsSome (parent s.old.state.ctx.now.graph (TheBlock b))) }
+    ensures lent { s.new.state.ctx.ghost_name ≡ s.old.state.ctx.ghost_name }
+    ensures rest { KeepsRest s.old.state s.new.state }
+    ensures marks { marks_of s.new.state ≡ marks_of s.old.state }
+    ensures begins { IfOk result (λ b. BeginsOperation T.IrText.reading (attr_at A.IrText.reading) true names.old s.old b names.new s.new) }
+    ensures refused { IfErr result (UnlessMemory (RefusesOperation T.IrText.reading (attr_at A.IrText.reading) true (is_some block) names.old s.old)) }
+    ensures unread { IfErr result (λ fault. fault.committed ≡ false → s.new.stream ≡ s.old.stream) }
+    ensures came { IfOk result (λ b. (read : ReadsFront T.IrText.reading (attr_at A.IrText.reading) true s.old s.new.stream.rest) → (own : OwnSoFar T A)
+        × HasBegun (format_of s.old.state.ctx.now.dialects) (begun_by T.IrText.reading (attr_at A.IrText.reading) true s.old s.new.stream.rest read) own
+        × ComesInto (IsLocated s.old.state.src (whole s.old.stream)) s.old.state.ctx.now s.new.state.ctx.now b.op own block) }
+    ensures lasts { OnOk result (Lasts s.old.state.ctx.now s.new.state.ctx.now) }
+    ensures names { KeepsNames names.old.names names.new.names }
+    ensures values { length names.new.values ≡ length names.old.values }
+    ensures labels { length names.new.labels ≡ length names.old.labels }
+    ensures sound { OnOk result ((m : ℕ) → m ≤ s.old.state.ctx.now.graph.made → IsSound m names.old s.old.state → IsSound m names.new s.new.state) }
+    ensures new { IfOk result (λ b. (m : ℕ) → m ≤ s.old.state.ctx.now.graph.made → IsNew m s.new.state.ctx.now.graph (TheOperation b.op)) }
+    ensures kept { (m : ℕ) → m ≤ s.old.state.ctx.now.graph.made → IfSome block (λ b. IsNew m s.old.state.ctx.now.graph (TheBlock b))
+        → KeepsOlder m s.old.state.ctx.now s.new.state.ctx.now }
+{
+    let at = s.stream.position();
+    let loc = s.loc();
+    let ctx = &mut *s.state.ctx;
+    ctx.made();
+    let front = front_read(&mut s.stream, ctx, names, block.is_some())?;
+    begin_read(s, names, block, at, loc, front)
+}

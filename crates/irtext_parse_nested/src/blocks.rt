@@ -1,0 +1,321 @@
+//! The beginning of a block: its header is read, it is made in its region, and the names of the header are defined.
+ghost use Rattle.std.specs.Prelude.{◌≡◌, ◌<◌, ◌≤◌, ◌∷◌, ◌++◌, [], ℕ, List, length, map, true, false, Some, IfOk, IfErr, OnOk, OnErr, IsSome, slice_get};
+ghost use Rattle.irtext_base.specs.Text.{Text};
+ghost use Rattle.irtext_base.specs.Answers.{Read};
+ghost use Rattle.irtext_context.specs.Context.{KeepsOlder};
+ghost use Rattle.irtext_context.specs.declared.base.item.Item.TheVariants as item;
+ghost use Rattle.irtext_graph.specs.declared.arena.Ptr.{Ptr};
+ghost use Rattle.irtext_graph.specs.declared.object.BasicBlock.{BasicBlock};
+ghost use Rattle.irtext_graph.specs.declared.object.Object.TheVariants.{TheBlock, TheRegion};
+ghost use Rattle.irtext_graph.specs.declared.object.Value.TheVariants.{Argument};
+ghost use Rattle.irtext_graph.specs.Back.{IsClosedBelow};
+ghost use Rattle.irtext_graph.specs.Graph.{IsNew, Stands, parent};
+ghost use Rattle.irtext_graph.specs.declared.object.Defined.TheVariants.{OfBlock};
+ghost use Rattle.irtext_names.specs.Linked.{TakesDefinition};
+ghost use Rattle.irtext_parse_nested.specs.Placing.{RefusesLabel, PlacesBlock};
+ghost use Rattle.irtext_read.specs.AttrTexts.{attr_at};
+ghost use Rattle.irtext_state.specs.States.{marks_of};
+ghost use Rattle.irtext_scopes.specs.Names.{KeepsNames, AreDistinct};
+ghost use Rattle.irtext_scopes.specs.Scopes.{is_open};
+ghost use Rattle.irtext_names.specs.Tied.{AreTied, AreWaiting, IsNoPlaceholder};
+ghost use Rattle.irtext_grammar.specs.Contexts.Held.{whole};
+ghost use Rattle.irtext_grammar.specs.Grammar.Tree.{Head};
+ghost use Rattle.irtext_grammar.specs.Names.Script as script;
+ghost use Rattle.irtext_grammar.specs.Names.Script.{define_label};
+ghost use Rattle.irtext_grammar.specs.Names.TextScopes.{Word};
+ghost use Rattle.irtext_outcomes.specs.Readers.Streams.{itself, replaced, KeepsRest};
+ghost use Rattle.irtext_outcomes.specs.Promises.Root.{UnlessMemory};
+ghost use Rattle.irtext_outcomes.specs.Promises.Section.{IsStarved};
+ghost use Rattle.irtext_nesting.specs.Heads.{head_at};
+ghost use Rattle.irtext_building.specs.Grows.{BlockCame, RegionGains};
+ghost use Rattle.irtext_building.specs.Stands.{Spares};
+ghost use Rattle.irtext_parse_acts.specs.Rows.{AreKnown};
+ghost use Rattle.irtext_parse_heads.specs.Headers.{MustHead};
+ghost use Rattle.irtext_parse_heads.specs.Named.{AreWords, NamesRead};
+ghost use Rattle.irtext_parse_nested.specs.Blocks.{entries_in, PlacesLabelled, IsOfEntries, IsRefusalFault, RefusesKeys, MakesHead, RefusesArguments, DefinesArguments, NamesHead, RefusesHead};
+ghost use Rattle.irtext_parse_nested.specs.Definitions.{ValuesReady, LosesPlaceholders};
+ghost use Rattle.irtext_parse_nested.specs.Ends.{numbers_of, noted_as, GainsMarks};
+ghost use Rattle.irtext_parse_nested.specs.Items.{IsSound, Lasts};
+ghost use Rattle.irtext_parse_nested.specs.Located.{IsLocated, IsLocatedAt};
+ghost use Rattle.irtext_parse_nested.specs.Read.{BeginsBlock, RefusesBlock};
+
+use crate::closing::note_mark;
+use crate::dictionary::{arguments_split, block_attributes};
+use crate::frame::{BegunBlock, Names};
+use crate::gathering::NotGathered;
+use crate::labelling::label_block;
+use crate::naming::identifier_of;
+use crate::placing::place_block;
+use crate::rows::{Row, define_row, undefined_fault};
+use irtext_base::location::Location;
+use irtext_base::parsable::{CharStream, ParseFault, ParseResult, Place, TextStream};
+use irtext_base::result::Cause;
+use irtext_base::text::{AttrText, IrText};
+use irtext_context::base::{BasicBlock, Item, Ptr, Region};
+use irtext_dict::base::AttributeDict;
+use irtext_few::Few;
+use irtext_graph::held::HasGraph;
+use irtext_parse_heads::entries::ReadEntry;
+use irtext_parse_heads::headers::{BlockHead, block_head_parse};
+use irtext_parse_heads::marks::ReadMark;
+use irtext_parse_heads::names::ReadName;
+use irtext_read::irfmt::faults::{out_of_memory, refuse_at};
+use irtext_state::parsable::StateStream;
+
+/// Reads the header of a block. Its names are kept, and no name stands under two numbers.
+fn head_parse<T: IrText<A>, A: AttrText>(
+    stream: &mut TextStream,
+    names: &mut Names,
+) -> ParseResult<BlockHead<T, A>, A>
+    ensures read { MustHead itself replaced names.new.names T.IrText.reading (attr_at A.IrText.reading) stream.old result stream.new }
+    ensures names { NamesRead names.old names.new }
+    ensures distinct { AreDistinct names.new.names }
+{
+    let answer = block_head_parse(stream, names);
+    names.keeps_names();
+    answer
+}
+
+/// The location of a place of the text that is read.
+pub(crate) fn location_at<T: IrText<A>, A: AttrText, U>(
+    s: &StateStream<'_, T, A, U>,
+    at: Place,
+) -> Location<A>
+    ensures { IsLocatedAt s.now.state.src (whole s.now.stream) at result }
+{
+    Location::SrcPos {
+        src: s.state.src,
+        pos: s.stream.locate(at),
+    }
+}
+
+/// The fault of entries that were not stored.
+fn refusal_fault<A>(stream: &mut TextStream, refusal: NotGathered) -> ParseFault<A>
+    requires { IsOfEntries refusal }
+    ensures { UnlessMemory (IsRefusalFault (whole stream.old) refusal) result }
+{
+    match refusal {
+        NotGathered::Memory => out_of_memory(stream),
+        NotGathered::ReservedKey(key) => { refuse_at(stream, key.at, Cause::ReservedKey(key.name)) }
+        NotGathered::NoActiveScope(_) => unreachable!(),
+    }
+}
+
+/// Makes a block with this label, where it is read, the last of a region. A fault is want of memory, and committed.
+fn block_made<T: IrText<A>, A: AttrText, U>(
+    s: &mut StateStream<'_, T, A, U>,
+    names: &Names,
+    region: Ptr<Region>,
+    label: ReadName,
+    attributes: AttributeDict<A>,
+    types: Few<T>,
+) -> ParseResult<Ptr<BasicBlock>, A>
+    requires region { Stands s.old.state.ctx.now.graph (TheRegion region) }
+    requires known { label.name < length names.now.names }
+    ensures lent { s.new.state.ctx.ghost_name ≡ s.old.state.ctx.ghost_name }
+    ensures rest { KeepsRest s.old.state s.new.state }
+    ensures marks { marks_of s.new.state ≡ marks_of s.old.state }
+    ensures stream { OnOk result (s.new.stream ≡ s.old.stream) }
+    ensures places { IfOk result (PlacesLabelled names.now.names s.old.state.src (whole s.old.stream) label attributes types s.old.state.ctx.now s.new.state.ctx.now region) }
+    ensures starved { IfErr result IsStarved }
+    ensures kept { (m : ℕ) → m ≤ s.old.state.ctx.now.graph.made → IsNew m s.old.state.ctx.now.graph (TheRegion region)
+        → KeepsOlder m s.old.state.ctx.now s.new.state.ctx.now }
+{
+    let loc = location_at(s, label.at);
+    let Some(name) = identifier_of(s.stream.allocator(), names.name(label.name)) else {
+        return Err(out_of_memory(&mut s.stream));
+    };
+    place_block(s, region, Some(name), attributes, loc, types)
+}
+
+/// Makes a block of the parts of its header, the last of a region, and answers it with the names of its arguments. A key of its
+/// dictionary that is reserved is refused, at the key. A fault is committed.
+fn head_made<T: IrText<A>, A: AttrText, U>(
+    s: &mut StateStream<'_, T, A, U>,
+    names: &Names,
+    region: Ptr<Region>,
+    label: ReadName,
+    arguments: Few<(ReadName, T)>,
+    entries: Option<Few<ReadEntry<A>>>,
+) -> ParseResult<(Ptr<BasicBlock>, Few<ReadName>), A>
+    requires region { Stands s.old.state.ctx.now.graph (TheRegion region) }
+    requires label { label.name < length names.now.names }
+    requires known { AreKnown (length names.now.names) (numbers_of (map (λ a. a.0) arguments)) }
+    ensures lent { s.new.state.ctx.ghost_name ≡ s.old.state.ctx.ghost_name }
+    ensures rest { KeepsRest s.old.state s.new.state }
+    ensures marks { marks_of s.new.state ≡ marks_of s.old.state }
+    ensures stream { OnOk result (s.new.stream ≡ s.old.stream) }
+    ensures makes { IfOk result (λ made. MakesHead names.now.names s.old.state.src (whole s.old.stream) label arguments (entries_in entries)
+        s.old.state.ctx.now s.new.state.ctx.now region made.0) }
+    ensures names { IfOk result (λ made. made.1 ≡ map (λ a. a.0) arguments) }
+    ensures refused { IfErr result (UnlessMemory (RefusesKeys (whole s.old.stream) (entries_in entries))) }
+    ensures committed { IfErr result (λ f. f.committed ≡ true) }
+    ensures kept { (m : ℕ) → m ≤ s.old.state.ctx.now.graph.made → IsNew m s.old.state.ctx.now.graph (TheRegion region)
+        → KeepsOlder m s.old.state.ctx.now s.new.state.ctx.now }
+{
+    let alloc = s.stream.allocator();
+    let Ok((arguments, types)) = arguments_split(alloc, arguments) else {
+        return Err(out_of_memory(&mut s.stream));
+    };
+    let attributes = match block_attributes(alloc, names, entries, &arguments) {
+        Ok(attributes) => attributes,
+        Err(refusal) => return Err(refusal_fault(&mut s.stream, refusal)),
+    };
+    let block = block_made(s, names, region, label, attributes, types)?;
+    Ok((block, arguments))
+}
+
+/// Defines the names of a block's arguments, in the context of a reading. A fault is committed; the names before one that is refused are
+/// defined then.
+fn arguments_defined<T: IrText<A>, A: AttrText, U>(
+    s: &mut StateStream<'_, T, A, U>,
+    names: &mut Names,
+    arguments: &Few<ReadName>,
+    block: Ptr<BasicBlock>,
+) -> ParseResult<(), A>
+    requires open { is_open names.old.values ≡ true }
+    requires known { AreKnown (length names.old.names) (numbers_of arguments.now) }
+    requires tied { AreTied names.old.values names.old.labels s.old.state.ctx.now.graph }
+    requires ready { ValuesReady (Argument block) (length arguments.now) names.old.values s.old.state.ctx.now.graph }
+    ensures lent { s.new.state.ctx.ghost_name ≡ s.old.state.ctx.ghost_name }
+    ensures rest { KeepsRest s.old.state s.new.state }
+    ensures marks { marks_of s.new.state ≡ marks_of s.old.state }
+    ensures paths { s.new.state.ctx.now.paths ≡ s.old.state.ctx.now.paths }
+    ensures dialects { s.new.state.ctx.now.dialects ≡ s.old.state.ctx.now.dialects }
+    ensures stream { OnOk result (s.new.stream ≡ s.old.stream) }
+    ensures defines { OnOk result (DefinesArguments block arguments.now names.old s.old.state names.new s.new.state.ctx.now.graph) }
+    ensures refused { IfErr result (UnlessMemory (RefusesArguments block arguments.now names.old s.old.state.ctx.now.graph (whole s.old.stream))) }
+    ensures committed { IfErr result (λ f. f.committed ≡ true) }
+    ensures loses { LosesPlaceholders s.old.state.ctx.now.graph s.new.state.ctx.now.graph }
+    ensures values { length names.new.values ≡ length names.old.values }
+    ensures names { (names.new.names ≡ names.old.names) × (names.new.labels ≡ names.old.labels) }
+    ensures sound { (m : ℕ) → IsSound m names.old s.old.state → IsSound m names.new s.new.state }
+    ensures tied { AreTied names.new.values names.new.labels s.new.state.ctx.now.graph }
+    ensures kept { (m : ℕ) → IsClosedBelow m s.old.state.ctx.now.graph → IsSound m names.old s.old.state
+        → KeepsOlder m s.old.state.ctx.now s.new.state.ctx.now }
+{
+    let ctx = &mut *s.state.ctx;
+    match define_row(names, ctx.graph_mut(), arguments, Row::Arguments(block)) {
+        Ok(()) => Ok(()),
+        Err(undefined) => Err(undefined_fault(&mut s.stream, names, arguments, undefined)),
+    }
+}
+
+/// Defines the label of a block, in the context of a reading. A fault is committed.
+fn label_defined<T: IrText<A>, A: AttrText, U>(
+    s: &mut StateStream<'_, T, A, U>,
+    names: &mut Names,
+    label: ReadName,
+    block: Ptr<BasicBlock>,
+) -> ParseResult<(), A>
+    requires open { is_open names.old.labels ≡ true }
+    requires known { label.name < length names.old.names }
+    requires tied { AreTied names.old.values names.old.labels s.old.state.ctx.now.graph }
+    requires there { Stands s.old.state.ctx.now.graph (TheBlock block) }
+    requires no_placeholder { IsNoPlaceholder names.old.labels block }
+    ensures lent { s.new.state.ctx.ghost_name ≡ s.old.state.ctx.ghost_name }
+    ensures rest { KeepsRest s.old.state s.new.state }
+    ensures marks { marks_of s.new.state ≡ marks_of s.old.state }
+    ensures paths { s.new.state.ctx.now.paths ≡ s.old.state.ctx.now.paths }
+    ensures dialects { s.new.state.ctx.now.dialects ≡ s.old.state.ctx.now.dialects }
+    ensures stream { OnOk result (s.new.stream ≡ s.old.stream) }
+    ensures follows { OnOk result ((w : Word) (p : script.Place) → slice_get names.old.names label.name ≡ Some w.name
+        → TakesDefinition (define_label w p) names.old names.new s.old.state.ctx.now.graph s.new.state.ctx.now.graph p (OfBlock block)) }
+    ensures refused { IfErr result (UnlessMemory (RefusesLabel names.old s.old.state.ctx.now.graph (whole s.old.stream) label)) }
+    ensures committed { IfErr result (λ f. f.committed ≡ true) }
+    ensures loses { LosesPlaceholders s.old.state.ctx.now.graph s.new.state.ctx.now.graph }
+    ensures labels { length names.new.labels ≡ length names.old.labels }
+    ensures names { (names.new.names ≡ names.old.names) × (names.new.values ≡ names.old.values) }
+    ensures sound { (m : ℕ) → IsSound m names.old s.old.state → IsSound m names.new s.new.state }
+    ensures kept { (m : ℕ) → IsClosedBelow m s.old.state.ctx.now.graph → IsSound m names.old s.old.state
+        → KeepsOlder m s.old.state.ctx.now s.new.state.ctx.now }
+{
+    let ctx = &mut *s.state.ctx;
+    label_block(&mut s.stream, names, ctx.graph_mut(), label, block)
+}
+
+/// Defines the names of a block's header: its arguments; notes its mark, where one was read; and defines its label. A fault is
+/// committed; what stands before what is refused is defined and noted then.
+fn head_named<T: IrText<A>, A: AttrText, U>(
+    s: &mut StateStream<'_, T, A, U>,
+    names: &mut Names,
+    label: ReadName,
+    arguments: &Few<ReadName>,
+    mark: Option<ReadMark>,
+    block: Ptr<BasicBlock>,
+) -> ParseResult<(), A>
+    requires values { is_open names.old.values ≡ true }
+    requires labels { is_open names.old.labels ≡ true }
+    requires known { AreKnown (length names.old.names) (numbers_of arguments.now) }
+    requires label { label.name < length names.old.names }
+    requires tied { AreTied names.old.values names.old.labels s.old.state.ctx.now.graph }
+    requires ready { ValuesReady (Argument block) (length arguments.now) names.old.values s.old.state.ctx.now.graph }
+    requires inside { IsSome (parent s.old.state.ctx.now.graph (TheBlock block)) }
+    requires there { Stands s.old.state.ctx.now.graph (TheBlock block) }
+    ensures lent { s.new.state.ctx.ghost_name ≡ s.old.state.ctx.ghost_name }
+    ensures rest { KeepsRest s.old.state s.new.state }
+    ensures names { OnOk result (NamesHead block label arguments.now mark names.old s.old.state names.new s.new.state) }
+    ensures stream { OnOk result (s.new.stream ≡ s.old.stream) }
+    ensures unnoted { OnErr result (GainsMarks (marks_of s.old.state) (marks_of s.new.state)) }
+    ensures refused { IfErr result (UnlessMemory (RefusesHead block label arguments.now mark names.old s.old.state (whole s.old.stream))) }
+    ensures committed { IfErr result (λ f. f.committed ≡ true) }
+    ensures loses { LosesPlaceholders s.old.state.ctx.now.graph s.new.state.ctx.now.graph }
+    ensures dialects { s.new.state.ctx.now.dialects ≡ s.old.state.ctx.now.dialects }
+    ensures same { names.new.names ≡ names.old.names }
+    ensures values { length names.new.values ≡ length names.old.values }
+    ensures labels { length names.new.labels ≡ length names.old.labels }
+    ensures sound { (m : ℕ) → IsSound m names.old s.old.state → IsSound m names.new s.new.state }
+    ensures kept { (m : ℕ) → IsClosedBelow m s.old.state.ctx.now.graph → IsSound m names.old s.old.state
+        → KeepsOlder m s.old.state.ctx.now s.new.state.ctx.now }
+{
+    arguments_defined(s, names, arguments, block)?;
+    note_mark(s, mark, Item::Block(block))?;
+    label_defined(s, names, label, block)
+}
+
+/// Begins a block, the last of a region whose scopes of values and of labels are open: its header is read, and the block is made with its
+/// label, its attributes, its location and the types of its arguments; then its arguments are defined, its mark is noted, and its label
+/// is defined. A key of its dictionary that is reserved, a name that is defined already, and an index that is noted already are refused
+/// where they stand. A fault is committed.
+pub fn block_begin<T: IrText<A>, A: AttrText, U>(
+    s: &mut StateStream<'_, T, A, U>,
+    names: &mut Names,
+    region: Ptr<Region>,
+) -> ParseResult<BegunBlock, A>
+    requires region { Stands s.old.state.ctx.now.graph (TheRegion region) }
+    requires values { is_open names.old.values ≡ true }
+    requires labels { is_open names.old.labels ≡ true }
+    requires fine { s.old.stream.failed ≡ false }
+    requires tied { AreTied names.old.values names.old.labels s.old.state.ctx.now.graph }
+    ensures lent { s.new.state.ctx.ghost_name ≡ s.old.state.ctx.ghost_name }
+    ensures rest { KeepsRest s.old.state s.new.state }
+    ensures begins { IfOk result (λ b. BeginsBlock T.IrText.reading (attr_at A.IrText.reading) b names.old s.old names.new s.new) }
+    ensures came { IfOk result (λ b. (h : Head ℕ T A) (taken : Text) → head_at T.IrText.reading (attr_at A.IrText.reading) s.old.stream.rest ≡ Read h taken s.new.stream.rest
+        → BlockCame s.old.state.ctx.now s.new.state.ctx.now (IsLocated s.old.state.src (whole s.old.stream)) b.block h) }
+    ensures gains { IfOk result (λ b. RegionGains s.old.state.ctx.now s.new.state.ctx.now region b.block) }
+    ensures spares { IfOk result (λ b. Spares (TheBlock b.block ∷ TheRegion region ∷ []) s.old.state.ctx.now s.new.state.ctx.now) }
+    ensures new { IfOk result (λ b. (m : ℕ) → m ≤ s.old.state.ctx.now.graph.made → IsNew m s.new.state.ctx.now.graph (TheBlock b.block)) }
+    ensures noted { IfOk result (λ b. (h : Head ℕ T A) (taken : Text) → head_at T.IrText.reading (attr_at A.IrText.reading) s.old.stream.rest ≡ Read h taken s.new.stream.rest
+        → marks_of s.new.state ≡ marks_of s.old.state ++ noted_as h.mark (item.Block b.block)) }
+    ensures unnoted { OnErr result (GainsMarks (marks_of s.old.state) (marks_of s.new.state)) }
+    ensures refused { IfErr result (UnlessMemory (RefusesBlock T.IrText.reading (attr_at A.IrText.reading) names.old s.old)) }
+    ensures committed { IfErr result (λ fault. fault.committed ≡ true) }
+    ensures lasts { OnOk result (Lasts s.old.state.ctx.now s.new.state.ctx.now) }
+    ensures names { KeepsNames names.old.names names.new.names }
+    ensures words { AreWords names.old.names → AreWords names.new.names }
+    ensures values { length names.new.values ≡ length names.old.values }
+    ensures labels { length names.new.labels ≡ length names.old.labels }
+    ensures sound { OnOk result ((m : ℕ) → m ≤ s.old.state.ctx.now.graph.made → IsSound m names.old s.old.state → IsSound m names.new s.new.state) }
+    ensures kept { (m : ℕ) → m ≤ s.old.state.ctx.now.graph.made → IsClosedBelow m s.old.state.ctx.now.graph → IsSound m names.old s.old.state
+        → IsNew m s.old.state.ctx.now.graph (TheRegion region) → KeepsOlder m s.old.state.ctx.now s.new.state.ctx.now }
+{
+    let BlockHead {
+        label,
+        arguments,
+        attributes,
+        mark,
+    } = head_parse(&mut s.stream, names)?;
+    let (block, arguments) = head_made(s, names, region, label, arguments, attributes)?;
+    head_named(s, names, label, &arguments, mark, block)?;
+    Ok(BegunBlock { block, first: true })
+}

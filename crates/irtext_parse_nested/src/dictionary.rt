@@ -1,0 +1,149 @@
+//! The dictionary of a block: the entries of its header, and the names of its arguments.
+ghost use Rattle.std.specs.Prelude.{◌≡◌, ◌∷◌, ◌++◌, [], ℕ, List, length, map, IfOk, IfErr, OnOk};
+ghost use Rattle.std.specs.Str.{bytes_eq};
+ghost use Rattle.irtext_base.specs.Format.{block_label_key};
+ghost use Rattle.irtext_grammar.specs.Contexts.Held.{entries_of};
+ghost use Rattle.irtext_grammar.specs.Graphs.Build.{put_all, read_names};
+ghost use Rattle.irtext_grammar.specs.Grammar.Tree.{Name};
+ghost use Rattle.irtext_grammar.specs.Names.Acts.{block_may_hold};
+ghost use Rattle.irtext_parse_acts.specs.Rows.{AreKnown, AreNamed};
+ghost use Rattle.irtext_parse_nested.specs.Blocks.{entries_in, AreAllowed, Forbids};
+ghost use Rattle.irtext_parse_nested.specs.Ends.{numbers_of};
+ghost use Rattle.irtext_parse_nested.specs.Gathered.{entry_read};
+
+use crate::frame::Names;
+use crate::gathering::{NotGathered, all_items, entry_stored};
+use crate::given::names_stored;
+use irtext_base::base::Identifier;
+use irtext_dict::base::AttributeDict;
+use irtext_few::{Few, Items};
+use irtext_parse_heads::entries::ReadEntry;
+use irtext_parse_heads::names::ReadName;
+use std::alloc::{AllocError, Global};
+
+/// The key under which the section keeps the label of a block.
+const BLOCK_LABEL_KEY: &'static str = "builtin_block_label";
+
+/// Whether a text is the key of a block's label.
+fn is_label_text(key: &str) -> bool
+    ensures { result ≡ bytes_eq block_label_key key.now }
+{
+    BLOCK_LABEL_KEY == key
+}
+
+/// Whether a key is that of a block's label.
+fn is_label_key(key: &Identifier) -> bool
+    ensures { result ≡ bytes_eq block_label_key key.now }
+{
+    is_label_text(key.as_str())
+}
+
+/// Stores an entry of a block's dictionary, where none stands under the key of a label.
+fn block_entry_stored<A: Drop>(
+    attributes: &mut AttributeDict<A>,
+    entry: ReadEntry<A>,
+) -> Result<(), NotGathered>
+    ensures stored { OnOk result (entries_of attributes.new ≡ put_all (entries_of attributes.old) (entry_read entry ∷ [])) }
+    ensures allowed { OnOk result (AreAllowed block_may_hold (entry ∷ [])) }
+    ensures refused { IfErr result (Forbids block_may_hold (entry ∷ [])) }
+{
+    let (key, attr) = entry;
+    if is_label_key(&key.name) {
+        return Err(NotGathered::ReservedKey(key));
+    }
+    entry_stored(attributes, (key, attr))
+}
+
+/// Stores the entries of a block's dictionary, one after another. The first whose attribute may not stand under its key is refused, and
+/// memory may be refused; those before it are stored then.
+fn block_entries_stored<A: Drop>(
+    attributes: &mut AttributeDict<A>,
+    entries: Vec<ReadEntry<A>>,
+) -> Result<(), NotGathered>
+    ensures stored { OnOk result (entries_of attributes.new ≡ put_all (entries_of attributes.old) (map entry_read entries.items)) }
+    ensures allowed { OnOk result (AreAllowed block_may_hold entries.items) }
+    ensures refused { IfErr result (Forbids block_may_hold entries.items) }
+{
+    for entry in entries {
+        block_entry_stored(attributes, entry)?;
+    }
+    Ok(())
+}
+
+/// Stores a block's dictionary, where one stands.
+fn dictionary_stored<A: Drop>(
+    alloc: Global,
+    attributes: &mut AttributeDict<A>,
+    entries: Option<Few<ReadEntry<A>>>,
+) -> Result<(), NotGathered>
+    ensures stored { OnOk result (entries_of attributes.new ≡ put_all (entries_of attributes.old) (map entry_read (entries_in entries))) }
+    ensures allowed { OnOk result (AreAllowed block_may_hold (entries_in entries)) }
+    ensures refused { IfErr result (Forbids block_may_hold (entries_in entries)) }
+{
+    let Some(entries) = entries else {
+        return Ok(());
+    };
+    let Ok(entries) = all_items(alloc, entries) else {
+        return Err(NotGathered::Memory);
+    };
+    block_entries_stored(attributes, entries)
+}
+
+/// The attributes of a block: its dictionary, where one stands, and behind it the names of its arguments.
+pub(crate) fn block_attributes<A: Drop>(
+    alloc: Global,
+    names: &Names,
+    entries: Option<Few<ReadEntry<A>>>,
+    arguments: &Few<ReadName>,
+) -> Result<AttributeDict<A>, NotGathered>
+    requires { AreKnown (length names.now.names) (numbers_of arguments.now) }
+    ensures stored { IfOk result (λ d. (ws : List (Name ℕ)) → AreNamed names.now.names (numbers_of arguments.now) ws
+        → entries_of d ≡ put_all [] (map entry_read (entries_in entries) ++ read_names (map (λ w. w.text) ws))) }
+    ensures allowed { OnOk result (AreAllowed block_may_hold (entries_in entries)) }
+    ensures refused { IfErr result (Forbids block_may_hold (entries_in entries)) }
+{
+    let mut attributes = AttributeDict::new(alloc);
+    dictionary_stored(alloc, &mut attributes, entries)?;
+    match names_stored(alloc, names, arguments, &mut attributes) {
+        Ok(()) => Ok(attributes),
+        Err(AllocError) => Err(NotGathered::Memory),
+    }
+}
+
+/// The names of arguments, and their types, each in a list of its own.
+fn many_split<T: Drop>(
+    alloc: Global,
+    arguments: Vec<(ReadName, T)>,
+) -> Result<(Few<ReadName>, Few<T>), AllocError>
+    ensures { IfOk result (λ parts. (parts.0 ≡ map (λ a. a.0) arguments.items) × (parts.1 ≡ map (λ a. a.1) arguments.items)) }
+{
+    let mut names = Vec::new(alloc);
+    let mut types = Vec::new(alloc);
+    for (name, of_type) in arguments {
+        names.push(name)?;
+        types.push(of_type)?;
+    }
+    Ok((Few::from_vec(names), Few::from_vec(types)))
+}
+
+/// The same of a list. Up to two arguments take no memory.
+pub(crate) fn arguments_split<T: Drop>(
+    alloc: Global,
+    arguments: Few<(ReadName, T)>,
+) -> Result<(Few<ReadName>, Few<T>), AllocError>
+    ensures { IfOk result (λ parts. (parts.0 ≡ map (λ a. a.0) arguments) × (parts.1 ≡ map (λ a. a.1) arguments)) }
+{
+    match arguments.into_items() {
+        Items::Nothing => Ok((Few::none(), Few::none())),
+        Items::One(argument) => {
+            let (name, of_type) = argument;
+            Ok((Few::one(name), Few::one(of_type)))
+        }
+        Items::Two(first, second) => {
+            let (name, of_type) = first;
+            let (other, of_other) = second;
+            Ok((Few::two(name, other), Few::two(of_type, of_other)))
+        }
+        Items::Many(items) => many_split(alloc, items),
+    }
+}

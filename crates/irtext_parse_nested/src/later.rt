@@ -1,0 +1,230 @@
+//! A piece of an operation that stands behind a region: it is read by the operation's next step, and what it gives is stored.
+ghost use Rattle.std.specs.Prelude.{◌≡◌, ◌≤◌, ◌<◌, ◌+◌, ◌∷◌, [], map, ℕ, List, Some, IfErr, OnOk, IsSome, length, slice_get, false, true};
+ghost use Rattle.irtext_base.specs.Faults.{id_of};
+ghost use Rattle.irtext_base.specs.Format.{sym_name_key};
+ghost use Rattle.irtext_context.specs.Context.{KeepsOlder, operation};
+ghost use Rattle.irtext_formats.specs.Directives.{format_of};
+ghost use Rattle.irtext_graph.specs.Graph.{IsNew};
+ghost use Rattle.irtext_graph.specs.declared.object.Object.TheVariants.{TheOperation};
+ghost use Rattle.irtext_read.specs.AttrTexts.{attr_at};
+ghost use Rattle.irtext_read.specs.Infix.{◌▷◌};
+ghost use Rattle.irtext_read.specs.Tokens.{space_at};
+ghost use Rattle.irtext_scopes.specs.Names.{KeepsNames};
+ghost use Rattle.irtext_state.specs.States.{marks_of};
+ghost use Rattle.irtext_grammar.specs.Contexts.Held.{entries_of, whole};
+ghost use Rattle.irtext_grammar.specs.Graphs.Build.{put_all};
+ghost use Rattle.irtext_grammar.specs.Grammar.Tree.{ident};
+ghost use Rattle.irtext_names.specs.Tied.{AreTied};
+ghost use Rattle.irtext_outcomes.specs.Promises.Root.{UnlessMemory};
+ghost use Rattle.irtext_outcomes.specs.Promises.Section.{Moves};
+ghost use Rattle.irtext_outcomes.specs.Readers.Streams.{itself, replaced, KeepsRest};
+ghost use Rattle.irtext_building.specs.Stands.{Spares};
+ghost use Rattle.irtext_nesting.specs.Heads.{Step, steps_of, piece_at};
+ghost use Rattle.irtext_nesting.specs.Reached.{steps_in};
+ghost use Rattle.irtext_nesting.specs.Resume.{Begun};
+ghost use Rattle.irtext_parse_heads.specs.Named.{NamesRead};
+ghost use Rattle.irtext_parse_heads.specs.Pieces.{MustPiece};
+ghost use Rattle.irtext_parse_nested.specs.declared.gathering.NotGathered.TheVariants.{Memory};
+ghost use Rattle.irtext_parse_nested.specs.Begun.{IsBegun};
+ghost use Rattle.irtext_parse_nested.specs.Ends.{WritesAttributes};
+ghost use Rattle.irtext_parse_nested.specs.Gathered.{stored_of, entry_read, MayAllHold, RefusesEntries};
+ghost use Rattle.irtext_parse_nested.specs.Items.{IsSound, Lasts};
+ghost use Rattle.irtext_parse_nested.specs.Later.{given_by, IsFlatNext, MayStore, RefusesStored, StoresPiece, NotStored, GoesOn};
+ghost use Rattle.irtext_parse_nested.specs.Read.{RefusesPiece};
+
+use crate::beginning::gather_fault;
+use crate::frame::{BegunOperation, Names};
+use crate::gathering::{NotGathered, all_items, entries_stored, kept, symbol_key};
+use irtext_base::base::{AttrObj, Identifier};
+use irtext_base::format::OpFormat;
+use irtext_base::parsable::{CharStream, ParseResult, TextStream};
+use irtext_base::text::{AttrText, IrText};
+use irtext_context::base::{Context, Operation, Ptr};
+use irtext_dict::base::AttributeDict;
+use irtext_few::Few;
+use irtext_parse_heads::entries::ReadEntry;
+use irtext_parse_heads::names::Symbol;
+use irtext_parse_heads::pieces::{ReadPiece, step_parse};
+use irtext_parse_heads::steps::step_at;
+use irtext_read::irfmt::parsers::skip_white_space;
+use irtext_state::parsable::StateStream;
+use std::alloc::Global;
+
+/// The index behind that of a step of a format.
+fn step_behind(format: &OpFormat, index: usize) -> usize
+    requires { index < length (steps_of (format_of format.now)) }
+    ensures { result ≡ index + 1 }
+{
+    match format {
+        OpFormat::Canonical => index + 1,
+        OpFormat::Custom(directives) => {
+            let count = directives.len();
+            if index < count { index + 1 } else { count }
+        }
+    }
+}
+
+/// Stores the attribute of a directive, which names the key, where no marker stands.
+fn attr_stored<A: Drop>(
+    attributes: &mut AttributeDict<A>,
+    key: Identifier,
+    attr: Option<AttrObj<A>>,
+) -> Result<(), NotGathered>
+    ensures stored { OnOk result (entries_of attributes.new ≡ put_all (entries_of attributes.old) (given_by key attr)) }
+    ensures refused { IfErr result (λ why. why ≡ Memory) }
+{
+    match attr {
+        Some(attr) => kept(attributes, key, attr),
+        None => Ok(()),
+    }
+}
+
+/// Stores the entries of a dictionary. The first whose attribute may not stand under its key is refused, and memory may be refused; those
+/// before it are stored then.
+fn dictionary_kept<A: Drop>(
+    alloc: Global,
+    attributes: &mut AttributeDict<A>,
+    entries: Few<ReadEntry<A>>,
+) -> Result<(), NotGathered>
+    ensures stored { OnOk result (entries_of attributes.new ≡ put_all (entries_of attributes.old) (map entry_read entries)) }
+    ensures holds { OnOk result (MayAllHold entries) }
+    ensures refused { IfErr result (RefusesEntries entries) }
+{
+    let Ok(entries) = all_items(alloc, entries) else {
+        return Err(NotGathered::Memory);
+    };
+    entries_stored(attributes, entries)
+}
+
+/// Stores a symbol's name.
+fn symbol_stored<A: Drop>(
+    alloc: Global,
+    attributes: &mut AttributeDict<A>,
+    symbol: Symbol,
+) -> Result<(), NotGathered>
+    ensures stored { OnOk result (entries_of attributes.new ≡ put_all (entries_of attributes.old) ((sym_name_key, ident symbol.name) ∷ [])) }
+    ensures refused { IfErr result (λ why. why ≡ Memory) }
+{
+    let Ok(key) = symbol_key(alloc, &None) else {
+        return Err(NotGathered::Memory);
+    };
+    kept(attributes, key, AttrObj::Ident(symbol.name))
+}
+
+/// Stores what a piece gives its operation: an attribute, the entries of a dictionary, or a symbol's name.
+fn piece_stored<T: Drop, A: Drop>(
+    alloc: Global,
+    attributes: &mut AttributeDict<A>,
+    piece: ReadPiece<T, A>,
+) -> Result<(), NotGathered>
+    ensures stored { OnOk result (entries_of attributes.new ≡ put_all (entries_of attributes.old) (stored_of piece)) }
+    ensures may { OnOk result (MayStore piece) }
+    ensures refused { IfErr result (RefusesStored piece) }
+{
+    match piece {
+        ReadPiece::Attr(key, attr) => attr_stored(attributes, key, attr),
+        ReadPiece::Dictionary(entries) => dictionary_kept(alloc, attributes, entries),
+        ReadPiece::Header(symbol) => symbol_stored(alloc, attributes, symbol),
+        _ => Ok(()),
+    }
+}
+
+/// Reads what the next step of an operation that is open reads, with white space in front, and goes on to the step behind it. A fault is
+/// committed.
+fn piece_read<T: IrText<A>, A: AttrText>(
+    stream: &mut TextStream,
+    ctx: &Context<T, A>,
+    names: &mut Names,
+    begun: &mut BegunOperation,
+) -> ParseResult<ReadPiece<T, A>, A>
+    requires fine { stream.old.failed ≡ false }
+    requires step { IsFlatNext (slice_get (steps_in ctx.now.dialects (id_of begun.old.id)) begun.old.step) }
+    ensures read { (step : Step) → slice_get (steps_in ctx.now.dialects (id_of begun.old.id)) begun.old.step ≡ Some step → MustPiece itself replaced names.new.names
+        (space_at ▷ piece_at T.IrText.reading (attr_at A.IrText.reading) begun.old.inside step) stream.old result stream.new }
+    ensures names { NamesRead names.old names.new }
+    ensures behind { begun.new ≡ record begun.old { step = begun.old.step + 1 } }
+{
+    skip_white_space(stream);
+    let Some(info) = ctx.op_info(&begun.id) else {
+        unreachable!()
+    };
+    let Some(step) = step_at(&info.format, begun.step) else {
+        unreachable!()
+    };
+    begun.step = step_behind(&info.format, begun.step);
+    step_parse(stream, names, step, begun.inside)
+}
+
+/// Stores what a piece gives an operation. Where it is refused its attributes may be written all the same.
+fn piece_kept<T: IrText<A>, A: AttrText>(
+    ctx: &mut Context<T, A>,
+    alloc: Global,
+    op: Ptr<Operation>,
+    piece: ReadPiece<T, A>,
+) -> Result<(), NotGathered>
+    requires stands { IsSome (operation ctx.old op) }
+    ensures writes { WritesAttributes ctx.old ctx.new op }
+    ensures stores { OnOk result (StoresPiece piece ctx.old ctx.new op) }
+    ensures refused { IfErr result (RefusesStored piece) }
+{
+    let attributes = ctx.operation_attributes_mut(op);
+    piece_stored(alloc, attributes, piece)
+}
+
+/// Stores what a piece gives an operation, in the context of a reading. A fault is committed.
+fn piece_done<T: IrText<A>, A: AttrText, U>(
+    s: &mut StateStream<'_, T, A, U>,
+    names: &Names,
+    op: Ptr<Operation>,
+    piece: ReadPiece<T, A>,
+) -> ParseResult<(), A>
+    requires stands { IsSome (operation s.old.state.ctx.now op) }
+    ensures lent { s.new.state.ctx.ghost_name ≡ s.old.state.ctx.ghost_name }
+    ensures rest { KeepsRest s.old.state s.new.state }
+    ensures marks { marks_of s.new.state ≡ marks_of s.old.state }
+    ensures stream { OnOk result (s.new.stream ≡ s.old.stream) }
+    ensures writes { WritesAttributes s.old.state.ctx.now s.new.state.ctx.now op }
+    ensures stores { OnOk result (StoresPiece piece s.old.state.ctx.now s.new.state.ctx.now op) }
+    ensures refused { IfErr result (NotStored piece names.now.names (whole s.old.stream)) }
+{
+    let alloc = s.stream.allocator();
+    let ctx = &mut *s.state.ctx;
+    match piece_kept(ctx, alloc, op, piece) {
+        Ok(()) => Ok(()),
+        Err(refusal) => Err(gather_fault(&mut s.stream, names, refusal)),
+    }
+}
+
+/// Reads a piece of an operation that is open, by its next step, which reads no region and no name; stores what it gives the operation;
+/// and goes on to the step behind it. The first key of a dictionary that is reserved is refused, at the key. A fault is committed.
+pub fn operation_piece<T: IrText<A>, A: AttrText, U>(
+    s: &mut StateStream<'_, T, A, U>,
+    names: &mut Names,
+    begun: &mut BegunOperation,
+) -> ParseResult<(), A>
+    requires fine { s.old.stream.failed ≡ false }
+    requires tied { AreTied names.old.values names.old.labels s.old.state.ctx.now.graph }
+    requires stands { IsSome (operation s.old.state.ctx.now begun.old.op) }
+    requires step { IsFlatNext (slice_get (steps_in s.old.state.ctx.now.dialects (id_of begun.old.id)) begun.old.step) }
+    ensures lent { s.new.state.ctx.ghost_name ≡ s.old.state.ctx.ghost_name }
+    ensures rest { KeepsRest s.old.state s.new.state }
+    ensures marks { marks_of s.new.state ≡ marks_of s.old.state }
+    ensures moves { OnOk result (Moves s.old.stream s.new.stream) }
+    ensures goes_on { OnOk result (GoesOn T.IrText.reading (attr_at A.IrText.reading) names.old s.old begun.old begun.new names.new s.new) }
+    ensures refused { IfErr result (λ fault. (o : Begun T A) (step : Step) (ss : List Step) → IsBegun names.old.names (whole s.old.stream) s.old.state.ctx.now begun.old o → o.steps ≡ step ∷ ss
+        → UnlessMemory (RefusesPiece T.IrText.reading (attr_at A.IrText.reading) o step names.old s.old) fault) }
+    ensures committed { IfErr result (λ fault. fault.committed ≡ true) }
+    ensures spares { OnOk result (Spares (TheOperation begun.old.op ∷ []) s.old.state.ctx.now s.new.state.ctx.now) }
+    ensures lasts { OnOk result (Lasts s.old.state.ctx.now s.new.state.ctx.now) }
+    ensures names { KeepsNames names.old.names names.new.names }
+    ensures values { length names.new.values ≡ length names.old.values }
+    ensures labels { length names.new.labels ≡ length names.old.labels }
+    ensures sound { OnOk result ((m : ℕ) → m ≤ s.old.state.ctx.now.graph.made → IsSound m names.old s.old.state → IsSound m names.new s.new.state) }
+    ensures kept { (m : ℕ) → m ≤ s.old.state.ctx.now.graph.made → IsNew m s.old.state.ctx.now.graph (TheOperation begun.old.op)
+        → KeepsOlder m s.old.state.ctx.now s.new.state.ctx.now }
+{
+    let ctx = &mut *s.state.ctx;
+    let piece = piece_read(&mut s.stream, ctx, names, begun)?;
+    names.keeps_names();
+    piece_done(s, names, begun.op, piece)
+}
