@@ -8,3 +8,5 @@ pub mod PlainRoot
 pub mod PlainPrinted
 pub mod PlainText
 pub mod WithPlaces
+pub mod PlainNames
+pub mod PlainSeen

@@ -19,3 +19,5 @@ pub use Rattle.irtext_base.specs.Answers
 pub use Rattle.irtext_outcomes.specs.Readers
 pub use Rattle.irtext_print.specs.Printers
 pub use Rattle.irtext_print.specs.Errors
+pub use Rattle.irtext_print_ir.specs.Printers as Printables
+pub use Rattle.irtext_print_ir.specs.Errors as ErrorTexts

@@ -6,6 +6,7 @@ pub use Rattle.irtext_outcomes.specs.Promises.Root
 pub use Rattle.irtext_outcomes.specs.Promises.KeptRoot
 pub use Rattle.irtext_outcomes.specs.Promises.PrintedBack
 pub use Rattle.irtext_outcomes.specs.Promises.LocationsBack
+pub mod PlainForm
 pub mod PlainRoot
 pub mod PrintedRoot
 pub mod ReadBack

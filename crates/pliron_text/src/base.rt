@@ -2,9 +2,11 @@
 
 pub use irtext_base::base::{AttrObj, GIVEN_NAMES_KEY, Identifier, OpId, Refusal, SYM_NAME_KEY};
 pub use irtext_context::base::{
-    BasicBlock, BlockAccess, Context, NewBareOperation, Operation, OperationAccess, Ptr, Region,
+    BasicBlock, BlockAccess, Context, NewBareOperation, NewBlock, NewOperation, Operation,
+    OperationAccess, Ptr, Region,
 };
 pub use irtext_dict::base::AttributeDict;
+pub use irtext_few::Few;
 pub use irtext_graph::object::{Site, Value};
 pub use irtext_parts::block::BlockParts;
 pub use irtext_parts::operation::OperationParts;

@@ -4,10 +4,11 @@ mod kept;
 mod text;
 
 pub use irtext_parse::ir::read::OperationParserConfig;
-pub use irtext_print::ir::print::concrete::{OpObj, print_concrete};
-pub use irtext_print::ir::print::debug::{OpDbg, print_dbg};
-pub use irtext_print::ir::print::fits::{FitFault, check_fits};
-pub use irtext_print::ir::print::print_root;
-pub use irtext_print::ir::verify::{BasicBlockVerifyErr, DefUseVerifyErr};
+pub use irtext_print_ir::ir::print::concrete::{OpObj, print_concrete};
+pub use irtext_print_ir::ir::print::debug::{OpDbg, print_dbg};
+pub use irtext_print_ir::ir::print::parts::{print_block, print_region};
+pub use irtext_print_ir::ir::print::print_root;
+pub use irtext_print_ir::ir::verify::{BasicBlockVerifyErr, DefUseVerifyErr};
+pub use irtext_print_pieces::fits::{FitFault, check_fits};
 pub use kept::keeps_parts;
 pub use text::OperationText;

@@ -13,4 +13,4 @@ pub mod result;
 pub mod text;
 
 pub use irtext_parse::parsable;
-pub use irtext_print::printable;
+pub use irtext_print_ir::printable;

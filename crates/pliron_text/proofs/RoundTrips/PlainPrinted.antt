@@ -16,7 +16,8 @@ use Rattle.irtext_grammar.specs.Contexts.Formats.{isolated}
 use Rattle.irtext_grammar.specs.Graphs.Graph.{GraphOp, GraphBlock, Printing, outlined, written_keys}
 use Rattle.irtext_outcomes.specs.Promises.KeptRoot.{IsKept, StandsAlone}
 use Rattle.pliron_text.specs.Promises.PlainRoot.{PlainRoot, GivesIdentifiers}
-use Rattle.irtext_print.specs.Printers.PrintedOperation.{is_supported, regions_fit, has_named_keys, symbol_fits, covers_all, none_outlined, fits_directives, fits_format, is_printed, printing}
+use Rattle.irtext_print.specs.Printers.PrintedOperation.{is_supported, regions_fit, has_named_keys, symbol_fits}
+use Rattle.pliron_text.specs.Promises.PlainForm.{covers_all, none_outlined, fits_directives, fits_format, is_printed, printing}
 use Rattle.irtext_outcomes.specs.Promises.Supported.{HaveNoBlocks}
 use Rattle.irtext_grammar.specs.Contexts.Held.{graph_at, entries_of, empty_regions}
 use Rattle.irtext_grammar.specs.Grammar.Tree.{Attribute}

@@ -17,10 +17,10 @@ use Rattle.irtext_grammar.proofs.Graphs.FitsFormat.{and_left, and_right}
 
 module _ {T A : Type 0} (C : Printing T A) where
   -- no attribute is outlined
-  abbrev Inline : List (Text × Attribute A) → Type 0
+  abbrev pub Inline : List (Text × Attribute A) → Type 0
   Inline es = list_all (λ e. not (outlined C e.1)) es ≡ true
 
-  none_outlined : (es : List (Text × Attribute A)) → Inline es → filter (λ e. outlined C e.1) es ≡ []
+  pub none_outlined : (es : List (Text × Attribute A)) → Inline es → filter (λ e. outlined C e.1) es ≡ []
   none_outlined [] h = refl
   none_outlined (e ∷ es) h = go (outlined C e.1) (and_left (not (outlined C e.1)) _ h) (none_outlined es (and_right (not (outlined C e.1)) _ h))
     where
@@ -38,14 +38,14 @@ module _ {T A : Type 0} (C : Printing T A) where
   plain_section None = []
   plain_section (Some l) = of_item (mark_of 0) (Some l) [] ∷ []
 
-  own_entry_is : (l : Option Text) (es : List (Text × Attribute A)) → Inline es → graph.own_entry C l (outlined_entries C es) ≡ plain_entries l
+  pub own_entry_is : (l : Option Text) (es : List (Text × Attribute A)) → Inline es → graph.own_entry C l (outlined_entries C es) ≡ plain_entries l
   own_entry_is l es h = ap (graph.own_entry C l) (none_outlined es h) ∙ go l
     where
       go : (l : Option Text) → graph.own_entry C l [] ≡ plain_entries l
       go None = refl
       go (Some l) = refl
 
-  no_entries : (rs : Regions (GraphOp T A) (GraphBlock T A) ⊤) → HaveNoBlocks rs → entries_of_regions C None rs ≡ []
+  pub no_entries : (rs : Regions (GraphOp T A) (GraphBlock T A) ⊤) → HaveNoBlocks rs → entries_of_regions C None rs ≡ []
   no_entries no_regions h = refl
   no_entries (region r no_blocks rs) h = no_entries rs h
   no_entries (region r (block b os bs) rs) h = absurd h

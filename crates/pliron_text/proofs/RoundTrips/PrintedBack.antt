@@ -21,7 +21,7 @@ use Rattle.irtext_grammar.specs.Grammar.Marked.{reads_root}
 use Rattle.irtext_grammar.specs.Contexts.Formats.{format_of, isolated}
 use Rattle.irtext_outcomes.specs.Promises.KeptRoot.{IsKept, StandsAlone}
 use Rattle.irtext_outcomes.specs.Promises.PrintedBack.{locations, StandsBack}
-use Rattle.irtext_print.specs.Printers.PrintedOperation.{printing, is_printed}
+use Rattle.pliron_text.specs.Promises.PlainForm.{printing, is_printed}
 use Rattle.irtext_grammar.specs.Graphs.Same.{UpToFillings, stood}
 use Rattle.irtext_grammar.specs.Spelling.Section.{text}
 use Rattle.irtext_print.specs.Printers.Shown.{Shown}

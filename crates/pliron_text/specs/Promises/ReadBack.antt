@@ -1,5 +1,5 @@
 -- For callers: what is promised of a root that is printed and read again by two calls.
-use Rattle.std.specs.Prelude.{◌≡◌, ℕ, List, Option, Some}
+use Rattle.std.specs.Prelude.{◌≡◌, ℕ, Bool, List, Some}
 use Rattle.std.specs.Str.{chars}
 use Rattle.irtext_base.specs.Faults.{fault_of}
 use Rattle.irtext_base.specs.Faults as fault
@@ -9,7 +9,9 @@ use Rattle.irtext_base.specs.Own.{Texts}
 use Rattle.irtext_base.specs.Paths.{Written}
 use Rattle.irtext_base.specs.Text.{Text}
 use Rattle.irtext_base.specs.declared.parsable.fault.ParseFault.{ParseFault}
-use Rattle.irtext_context.specs.Context.{ContextView, OperationView}
+use Rattle.irtext_base.specs.declared.text.AttrText as attr_text
+use Rattle.irtext_base.specs.declared.text.IrText as ir_text
+use Rattle.irtext_context.specs.Context.{ContextView}
 use Rattle.irtext_context.specs.Dialects.{Table}
 use Rattle.irtext_graph.specs.declared.arena.Ptr.{Ptr}
 use Rattle.irtext_graph.specs.declared.object.Operation.{Operation}
@@ -20,7 +22,7 @@ use Rattle.irtext_grammar.specs.Graphs.Graph.{Graph, Printing}
 use Rattle.irtext_grammar.specs.Graphs.Same.{UpToFillings, stood}
 use Rattle.irtext_outcomes.specs.Promises.PrintedBack.{locations}
 use Rattle.irtext_outcomes.specs.Promises.Root.{BuildsRoot, RefusesRoot}
-use Rattle.irtext_print.specs.Printers.PrintedOperation.{Refuses}
+use Rattle.irtext_print_walk.specs.Heads as heads
 use Rattle.irtext_print.specs.Printers.Shown.{Shown}
 use Rattle.irtext_state.specs.declared.parsable.state.StateStream.{StateStream}
 use Rattle.pliron_text.specs.declared.laws.two_calls.NotBack.{NotBack}
@@ -31,9 +33,9 @@ abbrev pub HoldsBack : {T A : Type 0} → (A → Text) → List (Text × Table) 
 HoldsBack {T} {A} written dialects C g q ctx = (b : Built T A (Written A)) × (held_root ctx q ≡ Some b) × UpToFillings (locations written) (stood C (isolated dialects) g) b
 
 -- why a root's text is not read back: it is not printed in this layout, or memory was refused to the reading
-abbrev pub IsExcused : {T A : Type 0} → Printing T A → Option (OperationView T A) → Shown (Unit {0}) → NotBack A → Type 0
-IsExcused C op layout (Unprinted refusal) = Refuses C op layout refusal
-IsExcused C op layout (Unread refused) = fault_of refused.cause ≡ fault.Memory
+abbrev pub IsExcused : {T A : Type 0} → ir_text.Ghosts T A → ir_text.Ghosts A A → attr_text.Ghosts A → (A → A → Bool) → ContextView T A → Ptr Operation → Shown (Unit {0}) → NotBack A → Type 0
+IsExcused types owns attributes same ctx p layout (Unprinted refusal) = heads.RefusesUnder types owns attributes same ctx p layout refusal
+IsExcused types owns attributes same ctx p layout (Unread refused) = fault_of refused.cause ≡ fault.Memory
 
 module _ {T A : Type 0} (types : Texts T) (owns : Texts A) (attr : Text → Outcome (AttrView A)) (bytes : List ℕ) (ctx : ContextView T A) where
   -- a stream of the text stands over the context

@@ -13,7 +13,7 @@ use irtext_base::parsable::ParseResult;
 use irtext_base::text::{AttrText, IrText};
 use irtext_context::base::{Context, Operation, Ptr};
 use irtext_parse::ir::read::{OperationParserConfig, outermost_parse, whole_parse};
-use irtext_print::ir::print::concrete::OpObj;
+use irtext_print_ir::ir::print::concrete::OpObj;
 use irtext_state::parsable::StateStream;
 
 /// Calls of operations that are about their text.

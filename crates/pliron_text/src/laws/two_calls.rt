@@ -1,16 +1,18 @@
 //! The law of the two calls, with a body that makes them: a root is printed, and its text is read in another context.
 ghost use Rattle.std.specs.Prelude.{◌≡◌, None, Some, IsSome, IfErr, IfOk, OnErr, string_bytes};
-ghost use Rattle.irtext_base.specs.Own.{texts_of, unplaced};
+ghost use Rattle.irtext_base.specs.Own.{texts_of};
 ghost use Rattle.irtext_context.specs.Context.{OperationView, operation};
 ghost use Rattle.irtext_context.specs.Made.{SameObjects};
-ghost use Rattle.irtext_grammar.specs.Contexts.Formats.{format_of};
 ghost use Rattle.irtext_grammar.specs.Contexts.Held.{graph_of};
 ghost use Rattle.irtext_grammar.specs.Graphs.Graph.{Graph};
 ghost use Rattle.irtext_outcomes.specs.Promises.KeptRoot.{StandsAlone};
 ghost use Rattle.irtext_outcomes.specs.Promises.Root.{OnlyNew, UnlessMemory};
 ghost use Rattle.irtext_outcomes.specs.Promises.Section.{IsStarved};
 ghost use Rattle.irtext_print.specs.Printers.Appended.{fresh};
-ghost use Rattle.irtext_print.specs.Printers.PrintedOperation.{Refuses, levels, printed, printing};
+ghost use Rattle.irtext_print.specs.Printers.PrintedOperation.{levels};
+ghost use Rattle.irtext_print_ir.specs.Printers.Printed.{root_gives, root_left};
+ghost use Rattle.irtext_print_walk.specs.Heads as heads;
+ghost use Rattle.pliron_text.specs.Promises.PlainForm.{IsPlain, printing};
 ghost use Rattle.irtext_read.specs.AttrTexts.{attr_at};
 ghost use Rattle.pliron_text.specs.Promises.ReadBack.{HoldsBack, IsExcused, ReadsText, RefusesText};
 
@@ -20,8 +22,8 @@ use irtext_base::parsable::{ParseFault, ParseResult, SourcePosition, TextStream}
 use irtext_base::result::Cause;
 use irtext_base::text::{AttrText, IrText};
 use irtext_context::base::{Context, Operation, Ptr};
-use irtext_print::ir::print::print_root;
 use irtext_print::printable::{Refusal, State as PrintState};
+use irtext_print_ir::ir::print::print_root;
 use irtext_state::parsable::{State, StateStream};
 
 /// Why a root's text was not read back.
@@ -40,14 +42,13 @@ fn text_of_root<T: IrText<A>, A: AttrText>(
     layout: &PrintState<()>,
 ) -> Result<String, Refusal>
     requires live { IsSome (operation ctx.now op) }
-    ensures text { (g : Graph T A) → graph_of A.written ctx.now op ≡ Some g →
-        IfOk result (λ s. printed
-        (unplaced (texts_of T.reading T.written) (texts_of A.reading A.written)
-        (format_of ctx.now.dialects)) (printing ctx.now.dialects A.outlined A.print_once A.eq) ctx.now op
-        (fresh layout.now.width layout.now.indent layout.now.limit) ≡ Some
-        (string_bytes s, fresh layout.now.width layout.now.indent layout.now.limit)) }
-    ensures refused { IfErr result
-        (Refuses (printing ctx.now.dialects A.outlined A.print_once A.eq) (operation ctx.now op)
+    ensures text { IfOk result (λ s. root_gives T.IrText.own A.IrText.own A.AttrText.own A.eq ctx.now op
+        (fresh layout.now.width layout.now.indent layout.now.limit) ≡ Some (
+          string_bytes s,
+          root_left T.IrText.own A.IrText.own A.AttrText.own A.eq ctx.now op
+              (fresh layout.now.width layout.now.indent layout.now.limit),
+        )) }
+    ensures refused { IfErr result (heads.RefusesUnder T.IrText.own A.IrText.own A.AttrText.own A.eq ctx.now op
         (fresh layout.now.width layout.now.indent layout.now.limit)) }
 {
     let alloc = ctx.allocator();
@@ -103,7 +104,7 @@ fn read_text<T: IrText<A>, A: AttrText>(
 
 /// Prints a root as `print` does with a state of this layout, which leaves no regions out, or as `disp` does where the layout is a
 /// new state's; and reads the text as `top_level_parse` does, in another context with the same dialects. A root that stands alone,
-/// being isolated or without regions, and that has no results is read back: what stands under the answer is equal to it up to
+/// being isolated or without regions, and that is plain, without values and blocks, is read back: what stands under the answer is equal to it up to
 /// fillings, and only that is new. It is refused only where memory is, or where the root doesn't fit its format or the indentation
 /// is too deep, and then the other context's objects are as they were.
 pub fn printed_and_read<T: IrText<A>, A: AttrText>(
@@ -116,13 +117,15 @@ pub fn printed_and_read<T: IrText<A>, A: AttrText>(
     requires unlimited { levels layout.now.limit ≡ None }
     requires dialects { other.old.dialects ≡ ctx.now.dialects }
     ensures back { (view : OperationView T A) (g : Graph T A) →
-        operation ctx.now op ≡ Some view → StandsAlone ctx.now.dialects view → graph_of A.written ctx.now op ≡ Some g →
+        operation ctx.now op ≡ Some view → StandsAlone ctx.now.dialects view →
+        IsPlain (printing ctx.now.dialects A.outlined A.print_once A.eq) ctx.now op view → graph_of A.written ctx.now op ≡ Some g →
         IfOk result (λ q. HoldsBack A.written ctx.now.dialects (printing ctx.now.dialects A.outlined A.print_once A.eq) g q other.new) }
     ensures only { IfOk result (λ q. OnlyNew q other.old other.new) }
     ensures refused { (view : OperationView T A) (g : Graph T A) →
-        operation ctx.now op ≡ Some view → StandsAlone ctx.now.dialects view → graph_of A.written ctx.now op ≡ Some g →
-        IfErr result (IsExcused (printing ctx.now.dialects A.outlined A.print_once A.eq)
-        (operation ctx.now op) (fresh layout.now.width layout.now.indent layout.now.limit)) }
+        operation ctx.now op ≡ Some view → StandsAlone ctx.now.dialects view →
+        IsPlain (printing ctx.now.dialects A.outlined A.print_once A.eq) ctx.now op view → graph_of A.written ctx.now op ≡ Some g →
+        IfErr result (IsExcused T.IrText.own A.IrText.own A.AttrText.own A.eq ctx.now op
+        (fresh layout.now.width layout.now.indent layout.now.limit)) }
     ensures objects { OnErr result (SameObjects other.old other.new) }
 {
     keeps_parts(ctx, op);
