@@ -1,5 +1,6 @@
 //! The tests, a file for each thing that they are about.
 mod apart;
 mod dialects;
+mod graphs;
 mod handed_on;
 mod macros;

@@ -3,4 +3,5 @@ mod building;
 mod misfits;
 mod nested;
 mod pieces;
+mod printed;
 mod steps;

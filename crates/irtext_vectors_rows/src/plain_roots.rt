@@ -12,7 +12,8 @@ ghost use Rattle.irtext_vectors_rows.specs.PlainRoots.{all_isolated, by_plain_fo
 ghost use Rattle.irtext_grammar.specs.Contexts.Formats.{format_of};
 ghost use Rattle.irtext_outcomes.specs.Promises.KeptRoot.{IsKept, StandsAlone};
 ghost use Rattle.pliron_text.specs.Promises.PlainRoot.{GivesIdentifiers, PlainRoot};
-ghost use Rattle.irtext_print.specs.Printers.PrintedOperation.{levels, printed, printing};
+ghost use Rattle.irtext_print.specs.Printers.PrintedOperation.{levels};
+ghost use Rattle.pliron_text.specs.Promises.PlainForm.{IsPlain, printing};
 ghost use Rattle.irtext_grammar.specs.Contexts.Held.{graph_of};
 ghost use Rattle.irtext_print.specs.Printers.Appended.{fresh};
 ghost use Rattle.irtext_print.specs.declared.printable.state.RegionPrintDepthLimit.TheVariants.{Unlimited};
@@ -33,5 +34,6 @@ pub fn premises_of_a_printed_root()
         let p : Ptr Operation = record { index = 0; generation = 1; of = o } in
         let s = fresh 2 0 Unlimited in
         (operation ctx p ≡ Some (func_with r)) × IsKept ctx (func_with r) × StandsAlone ctx.dialects (func_with r) × (graph_of texts.written ctx p ≡ Some func_graph) × (levels s.limit ≡ None)
-        × (printed (unplaced texts texts (format_of ctx.dialects)) (printing ctx.dialects never never same_text) ctx p s ≡ Some (codes "test.func @f \n{\n  \n}", s)) }
+        × IsPlain (printing ctx.dialects never never same_text) ctx p (func_with r)
+        × (text (unplaced texts texts (format_of ctx.dialects)) (printing ctx.dialects never never same_text) func_graph s.indent s.width None ≡ codes "test.func @f \n{\n  \n}") }
 {}

@@ -71,7 +71,7 @@ fn types(alloc: Global, letters: &str) -> Result<Few<DemoType>, Fail> {
 }
 
 /// Makes an operation, where what it uses is there.
-fn new_operation(
+pub(crate) fn new_operation(
     ctx: &mut Ctx,
     id: OpId,
     types: Few<DemoType>,

@@ -2,7 +2,7 @@
 use irtext_base::base::AttrObj;
 use irtext_base::parsable::{CharStream, ParseResult};
 use irtext_context::base::Context;
-use irtext_print::printable::Disp;
+use irtext_print_ir::printable::Disp;
 use irtext_read::irfmt::parsers::attr_parse;
 use irtext_state::irfmt::parsers::type_parse;
 use irtext_types::DemoAttr;

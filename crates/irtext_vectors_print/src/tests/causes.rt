@@ -5,7 +5,7 @@ use irtext_base::format::FormatFault;
 use irtext_base::location::Location;
 use irtext_base::parsable::{ParserNameTrackerError, SourcePosition, UnresolvedReference};
 use irtext_base::result::{Cause, ErrorKind, Expected, StringError};
-use irtext_print::ir::verify::{BasicBlockVerifyErr, DefUseVerifyErr};
+use irtext_print_ir::ir::verify::{BasicBlockVerifyErr, DefUseVerifyErr};
 use irtext_read::irfmt::parsers::held;
 use irtext_types::DemoAttr;
 use irtext_vectors_common::contexts::named;

@@ -2,7 +2,7 @@
 use irtext_base::location::{Location, Source};
 use irtext_base::parsable::{ParseResult, SourcePosition};
 use irtext_base::result::{Cause, Error, ErrorKind};
-use irtext_print::printable::Disp;
+use irtext_print_ir::printable::Disp;
 use irtext_read::parsable::IntoParseResult;
 use irtext_types::DemoAttr;
 use irtext_vectors_common::answers::line;

@@ -8,7 +8,7 @@ use irtext_context::base::operation::add_regions;
 use irtext_context::base::{Operation, Ptr};
 use irtext_context::dialect::{Dialect, DialectName};
 use irtext_dict::base::AttributeDict;
-use irtext_print::ir::print::fits::check_fits;
+use irtext_print_pieces::fits::check_fits;
 use irtext_types::{Characters, DemoAttr};
 use irtext_vectors_common::contexts::{Ctx, named, with_context};
 use irtext_vectors_common::formats::format_of;
@@ -21,14 +21,14 @@ type Row = (&'static str, usize, &'static str, &'static str);
 /// Operations with their formats. Where several things don't fit, the first in the order of `FitFault` is said.
 const ROWS: &[Row] = &[
     ("?", 1, "k", "The operation is not registered"),
-    ("-", 0, "", "The format has no directives"),
+    ("-", 0, "", "fits"),
     ("", 0, "", "fits"),
     ("x", 0, "", "fits"),
-    ("v", 0, "", "The format names a value, a block or a type"),
-    ("0", 1, "", "The format names a value, a block or a type"),
-    ("kO", 0, "", "The format names a value, a block or a type"),
-    ("s", 0, "", "The format names a value, a block or a type"),
-    ("S:", 0, "", "The format names a value, a block or a type"),
+    ("v", 0, "", "The format does not write 0 result types"),
+    ("0", 1, "", "The format does not write 0 operands"),
+    ("kO", 0, "", "The operation has no attribute k"),
+    ("s", 0, "", "The format does not write 0 successors"),
+    ("S:", 0, "", "fits"),
     ("x", 2, "k", "The format does not write 2 regions"),
     ("ak", 0, "", "The format does not write 0 regions"),
     ("ab", 1, "", "The format does not write 1 regions"),
@@ -42,10 +42,15 @@ const ROWS: &[Row] = &[
     ("h", 0, "t", "The operation has no symbol"),
     ("h", 0, "s", "fits"),
     ("h", 0, "sk", "The format does not write the attribute k"),
-    ("", 0, "ns", "The format does not write the attribute k"),
+    (
+        "",
+        0,
+        "ns",
+        "The format does not write the attribute builtin_sym_name",
+    ),
     ("d", 0, "ks", "fits"),
-    ("d", 0, "sn", "The attribute k is outlined"),
-    ("ka", 1, "n", "The attribute k is outlined"),
+    ("d", 0, "sn", "fits"),
+    ("ka", 1, "n", "fits"),
 ];
 
 /// The format of these letters: that of any operation for `-`, else one directive for each.

@@ -1,7 +1,7 @@
 //! Lists whose items print themselves.
 use irtext_context::base::Context;
-use irtext_print::irfmt::printers::{iter_with_sep, list_with_sep};
-use irtext_print::printable::{Disp, ListSeparator, State, fmt_iter};
+use irtext_print_ir::irfmt::printers::{iter_with_sep, list_with_sep};
+use irtext_print_ir::printable::{Disp, ListSeparator, State, fmt_iter};
 use irtext_vectors_common::contexts::Ctx;
 use irtext_vectors_common::tables::differing_alone;
 use std::alloc::Global;

@@ -4,7 +4,7 @@ use irtext_base::base::{AttrObj, Identifier};
 use irtext_base::location::{Location, Source};
 use irtext_base::parsable::SourcePosition;
 use irtext_base::result::{Cause, Error, ErrorKind};
-use irtext_print::printable::Disp;
+use irtext_print_ir::printable::Disp;
 use irtext_types::{Characters, DemoAttr};
 use irtext_vectors_common::contexts::{Ctx, with_context};
 use irtext_vectors_common::nesting::{Nesting, nested};

@@ -1,5 +1,5 @@
 //! The printing state and its guards.
-use irtext_print::printable::{RegionPrintDepthLimit, State, fmt_indented_newline};
+use irtext_print_ir::printable::{RegionPrintDepthLimit, State, fmt_indented_newline};
 use std::test::Fail;
 
 #[test]

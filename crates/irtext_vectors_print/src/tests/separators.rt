@@ -1,7 +1,7 @@
 //! Plain values, separators, quoted texts and stored printers as texts, and the printing state's guards.
 use irtext_context::base::Context;
-use irtext_print::irfmt::printers::{enclosed, iter_with_sep_by, printable_from_fn, quoted};
-use irtext_print::printable::{
+use irtext_print_ir::irfmt::printers::{enclosed, iter_with_sep_by, printable_from_fn, quoted};
+use irtext_print_ir::printable::{
     Disp, ListSeparator, Printable, RegionPrintDepthLimit, State, fmt_quoted, indented_nl,
 };
 use irtext_types::{DemoAttr, DemoType};

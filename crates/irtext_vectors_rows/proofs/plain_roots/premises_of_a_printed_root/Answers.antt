@@ -25,4 +25,4 @@ kept r = record {
 
 pub returns : goal.returns
 unfolding lib.Utf8.encode
-returns c r o = (refl, kept r, inr refl, refl, refl, refl)
+returns c r o = (refl, kept r, inr refl, refl, refl, record { bare = record { no_results = refl; no_operands = refl; no_successors = refl; no_blocks = (refl, tt); nowhere = refl }; fits = refl }, refl)
