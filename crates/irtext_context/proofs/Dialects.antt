@@ -1,13 +1,13 @@
 -- The operations of a dialect stay accepted, one by one, and what is known of them is what the code keeps.
-use Rattle.std.proofs.Common.{◌≡◌, Bool, true, false, cond, List, [], ◌∷◌, Option, Some, None, Result, Ok, Err, refl, sym, ap, subst, ◌∙◌}
+use Rattle.std.proofs.Common.{◌≡◌, ℕ, zero, suc, drop, slice_get, Bool, true, false, cond, List, [], ◌∷◌, Option, Some, None, Result, Ok, Err, refl, sym, ap, subst, ◌∙◌}
 use Rattle.std.specs.Prelude.{OnOk, OnErr, IfSome, option_copied, option_map}
-use Rattle.std.specs.Map.{lookup}
+use Rattle.std.specs.Map.{lookup, values_of}
 use denote.Ref.{Bor}
 use Rattle.indexmap.specs.IndexMap.{insert_entry}
 use Rattle.irtext_base.specs.Text.{Text}
 use Rattle.irtext_base.specs.Format.{Accepted}
 use Rattle.irtext_formats.specs.Directives.{format_of}
-use Rattle.irtext_context.specs.Dialects.{Known, Table, AreAccepted, known_of, known_entries, same_id, with_op}
+use Rattle.irtext_context.specs.Dialects.{Known, Table, AreAccepted, AllAccepted, known_of, known_entries, same_id, with_op}
 use Rattle.irtext_base.specs.declared.base.identifier.OpId.{OpId}
 use Rattle.irtext_context.specs.declared.dialect.OpInfo.{OpInfo}
 
@@ -82,3 +82,10 @@ pub accepted_put : {X E : Type 0} (r : Result X E) (name : Text) (old new : List
     → AreAccepted name (known_entries old) → id.dialect ≡ name → Accepted (format_of info.format) → AreAccepted name (known_entries new)
 accepted_put (Ok x) name old new id info e f a d k = subst (λ es. AreAccepted name es) (sym (known_put old id info) ∙ ap known_entries (sym e)) (accepted_more name (known_entries old) id (known_of info) a d k)
 accepted_put (Err x) name old new id info e f a d k = subst (λ es. AreAccepted name (known_entries es)) (sym f) a
+
+-- what is known of the dialect at an index and of those behind it is known from that index on
+pub accepted_from : (i : ℕ) (ds : List (Text × Table)) (x : Table) → slice_get (values_of ds) i ≡ Some x → AreAccepted x.name x.entries → AllAccepted (drop (suc i) ds) → AllAccepted (drop i ds)
+accepted_from zero [] x e a more = absurd (cc)
+accepted_from zero (d ∷ ds) x e a more = let same : d.1 ≡ x = cc e in (subst (λ (t : Table). AreAccepted t.name t.entries) (sym same) a, more)
+accepted_from (suc i) [] x e a more = absurd (cc)
+accepted_from (suc i) (d ∷ ds) x e a more = accepted_from i ds x e a more

@@ -37,6 +37,11 @@ abbrev pub AreAccepted : Text → List (OpId × Known) → Type 0
 AreAccepted name [] = Unit {0}
 AreAccepted name (e ∷ es) = (e.0.dialect ≡ name) × Accepted e.1.format × AreAccepted name es
 
+-- each dialect keeps operations of accepted formats alone
+abbrev pub AllAccepted : List (Text × Table) → Type 0
+AllAccepted [] = Unit {0}
+AllAccepted (d ∷ ds) = AreAccepted d.1.name d.1.entries × AllAccepted ds
+
 -- the dialect with one more operation, or with another format and isolation of one that it has
 abbrev pub with_op : Table → OpId → Format → Bool → Table
 with_op table id format isolated = record { name = table.name; entries = insert_entry same_id table.entries id (record { format = format; isolated = isolated }) }

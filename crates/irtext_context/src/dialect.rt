@@ -8,7 +8,7 @@ ghost use Rattle.std.specs.Map.{lookup};
 ghost use Rattle.std.specs.Str.{bytes_eq};
 ghost use Rattle.indexmap.specs.IndexMap.{insert_entry};
 ghost use Rattle.std.proofs.Common.{rules, ap};
-ghost use Rattle.irtext_context.specs.Dialects.{same_id, known_of, with_op, IsRefusedBy};
+ghost use Rattle.irtext_context.specs.Dialects.{same_id, known_of, with_op, IsRefusedBy, AreAccepted};
 ghost use Rattle.irtext_formats.specs.Directives.{format_of};
 ghost use Rattle.irtext_base.specs.Faults.{fault_of, name_refused};
 ghost use Rattle.irtext_base.specs.Format.{Accepted};
@@ -260,6 +260,14 @@ impl Dialect {
             Ok(()) => Ok(()),
             Err(cause) => Err(invalid(cause)),
         }
+    }
+
+    /// What always holds, as this contract says of a call that does nothing: each operation is of this dialect, and its format was
+    /// accepted by `check_format`.
+    pub fn keeps_formats(&self)
+        ensures { AreAccepted self.now.name self.now.entries }
+    {
+        let _ops = &self.ops;
     }
 
     /// What the dialect knows of an operation, if it was registered. It takes no memory.

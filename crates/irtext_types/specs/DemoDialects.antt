@@ -2,7 +2,7 @@
 use Rattle.std.specs.Prelude.{◌≡◌, ◌⊎◌, Bool, true, false, List, [], ◌∷◌, codes}
 use Rattle.std.specs.Str.{bytes_eq}
 use Rattle.irtext_base.specs.Text.{Text}
-use Rattle.irtext_base.specs.Format.{Directive, Format, custom, word, attribute, header, region}
+use Rattle.irtext_base.specs.Format.{Directive, Format, canonical, custom, word, operand, operands, successor, attribute, result_type, region, header}
 use Rattle.irtext_context.specs.Dialects.{Table, with_op}
 use Rattle.irtext_context.specs.DialectTable.{dialect_or_new, with_dialect}
 use Rattle.irtext_base.specs.declared.base.identifier.OpId.{OpId}
@@ -10,54 +10,81 @@ use Rattle.irtext_base.specs.declared.result.Cause.{Cause, Memory, WrongDialect}
 use Rattle.irtext_types.specs.declared.dialects.Demo.{Demo}
 use Rattle.irtext_types.specs.declared.dialects.Demo.TheVariants as demo
 
--- an operation: its id, the directives of its format, and whether it is isolated from above
+-- an operation: its id, its format, and whether it is isolated from above
 pub record DemoOp : Type 0 where
   pub id : OpId
-  pub directives : List Directive
+  pub format : Format
   pub isolated : Bool
 
 -- the id with this dialect and this name
 abbrev pub id_with : Text → Text → OpId
 id_with dialect name = record { dialect = dialect; name = name }
 
--- a symbol's name, and a region
-abbrev pub module_directives : List Directive
-module_directives = header ∷ region 0 ∷ []
+-- the operation of the dialect `builtin` with this name and these directives, which is isolated
+abbrev pub builtin_op : Text → List Directive → DemoOp
+builtin_op name directives = record { id = id_with (codes "builtin") name; format = custom directives; isolated = true }
 
--- a symbol's name, its type behind `:`, and a region
-abbrev pub function_directives : List Directive
-function_directives = header ∷ word (codes ":") ∷ attribute (codes "builtin_func_type") ∷ region 0 ∷ []
+-- the operation of the dialect `test` with this name and this format, which is not isolated
+abbrev pub test_op : Text → Format → DemoOp
+test_op name format = record { id = id_with (codes "test") name; format = format; isolated = false }
 
--- a region
-abbrev pub scope_directives : List Directive
-scope_directives = region 0 ∷ []
-
--- `builtin.module`
+-- `builtin.module`: a symbol's name, and a region
 abbrev pub module_op : DemoOp
-module_op = record { id = id_with (codes "builtin") (codes "module"); directives = module_directives; isolated = true }
+module_op = builtin_op (codes "module") (header ∷ region 0 ∷ [])
 
--- `builtin.func`
+-- `builtin.func`: a symbol's name, its type behind `:`, and a region
 abbrev pub function_op : DemoOp
-function_op = record { id = id_with (codes "builtin") (codes "func"); directives = function_directives; isolated = true }
+function_op = builtin_op (codes "func") (header ∷ word (codes ":") ∷ attribute (codes "builtin_func_type") ∷ region 0 ∷ [])
 
--- `test.scope`, which is not isolated
+-- `test.constant`: a value, and the type of the result behind `:`
+abbrev pub constant_op : DemoOp
+constant_op = test_op (codes "constant") (custom (attribute (codes "test_value") ∷ word (codes ":") ∷ result_type 0 ∷ []))
+
+-- `test.return`: any number of operands
+abbrev pub return_op : DemoOp
+return_op = test_op (codes "return") (custom (operands ∷ []))
+
+-- `test.use`: one operand
+abbrev pub use_op : DemoOp
+use_op = test_op (codes "use") (custom (operand 0 ∷ []))
+
+-- `test.make`: the type of the result behind `:`
+abbrev pub make_op : DemoOp
+make_op = test_op (codes "make") (custom (word (codes ":") ∷ result_type 0 ∷ []))
+
+-- `test.br`: one successor
+abbrev pub branch_op : DemoOp
+branch_op = test_op (codes "br") (custom (successor 0 ∷ []))
+
+-- `test.scope`: a region
 abbrev pub scope_op : DemoOp
-scope_op = record { id = id_with (codes "test") (codes "scope"); directives = scope_directives; isolated = false }
+scope_op = test_op (codes "scope") (custom (region 0 ∷ []))
 
--- `test.nop`, which is its id alone
+-- `test.nop`: its id alone
 abbrev pub nop_op : DemoOp
-nop_op = record { id = id_with (codes "test") (codes "nop"); directives = []; isolated = false }
+nop_op = test_op (codes "nop") (custom [])
+
+-- `test.global`: the form that any operation has
+abbrev pub global_op : DemoOp
+global_op = test_op (codes "global") canonical
 
 -- the operation that is meant
 abbrev pub demo_op : Demo → DemoOp
 demo_op demo.Module = module_op
 demo_op demo.Function = function_op
+demo_op demo.Constant = constant_op
+demo_op demo.Return = return_op
+demo_op demo.Use = use_op
+demo_op demo.Make = make_op
+demo_op demo.Branch = branch_op
 demo_op demo.Scope = scope_op
 demo_op demo.Nop = nop_op
+demo_op demo.Global = global_op
 
 -- the operations, in the order in which they are registered
 abbrev pub demo_operations : List DemoOp
-demo_operations = module_op ∷ function_op ∷ scope_op ∷ nop_op ∷ []
+demo_operations =
+    module_op ∷ function_op ∷ constant_op ∷ return_op ∷ use_op ∷ make_op ∷ branch_op ∷ scope_op ∷ nop_op ∷ global_op ∷ []
 
 -- the dialects with one more operation, or with another format and isolation of one that is there
 abbrev pub with_operation : List (Text × Table) → OpId → Format → Bool → List (Text × Table)
@@ -65,7 +92,7 @@ with_operation dialects id format isolated = with_dialect dialects id.dialect (w
 
 -- the dialects with this operation
 abbrev pub with_demo : List (Text × Table) → DemoOp → List (Text × Table)
-with_demo dialects op = with_operation dialects op.id (custom op.directives) op.isolated
+with_demo dialects op = with_operation dialects op.id op.format op.isolated
 
 -- the dialects with these operations, which are registered one after the other
 abbrev pub with_all : List (Text × Table) → List DemoOp → List (Text × Table)

@@ -1,9 +1,9 @@
-//! The demo dialects `builtin` and `test`, with those of their operations that are read and printed so far.
-ghost use Rattle.std.specs.Prelude.{◌≡◌, ◌⊎◌, IfOk, IfErr, IsTrue, OnOk, codes};
+//! The demo dialects `builtin` and `test`, with their operations.
+ghost use Rattle.std.specs.Prelude.{◌≡◌, ◌⊎◌, IfOk, IfErr, IsTrue, OnOk, codes, map};
 ghost use Rattle.irtext_context.specs.Dialects.{IsRefusedBy};
 ghost use Rattle.irtext_context.specs.DialectTable.{dialect_or_new};
 ghost use Rattle.irtext_formats.specs.Directives.{directive_of, format_of};
-ghost use Rattle.irtext_base.specs.Format.{custom, word};
+ghost use Rattle.irtext_base.specs.Format.{word};
 ghost use Rattle.irtext_base.specs.Text.{is_identifier};
 ghost use Rattle.irtext_base.specs.declared.location.Location.{Unknown};
 ghost use Rattle.irtext_types.specs.DemoDialects.{demo_operations, demo_op, with_demo, with_all, Refuses, RefusesOne};
@@ -35,11 +35,37 @@ enum Demo {
     Module,
     /// `builtin.func`.
     Function,
+    /// `test.constant`.
+    Constant,
+    /// `test.return`.
+    Return,
+    /// `test.use`.
+    Use,
+    /// `test.make`.
+    Make,
+    /// `test.br`.
+    Branch,
     /// `test.scope`.
     Scope,
     /// `test.nop`.
     Nop,
+    /// `test.global`.
+    Global,
 }
+
+/// All of them, in the order in which they are registered.
+const ALL: &[Demo] = &[
+    Demo::Module,
+    Demo::Function,
+    Demo::Constant,
+    Demo::Return,
+    Demo::Use,
+    Demo::Make,
+    Demo::Branch,
+    Demo::Scope,
+    Demo::Nop,
+    Demo::Global,
+];
 
 /// The names of the operation's dialect and of the operation, and whether it is isolated from above.
 fn row(demo: Demo) -> (&'static str, &'static str, bool)
@@ -51,8 +77,14 @@ fn row(demo: Demo) -> (&'static str, &'static str, bool)
     match demo {
         Demo::Module => ("builtin", "module", true),
         Demo::Function => ("builtin", "func", true),
+        Demo::Constant => ("test", "constant", false),
+        Demo::Return => ("test", "return", false),
+        Demo::Use => ("test", "use", false),
+        Demo::Make => ("test", "make", false),
+        Demo::Branch => ("test", "br", false),
         Demo::Scope => ("test", "scope", false),
         Demo::Nop => ("test", "nop", false),
+        Demo::Global => ("test", "global", false),
     }
 }
 
@@ -75,7 +107,7 @@ fn colon(alloc: Global) -> Result<Directive, AllocError>
 
 /// The format of the operation, with memory of its own.
 fn op_format(alloc: Global, demo: Demo) -> Result<OpFormat, AllocError>
-    ensures { IfOk result (λ f. format_of f ≡ custom (demo_op demo).directives) }
+    ensures { IfOk result (λ f. format_of f ≡ (demo_op demo).format) }
 {
     let mut directives = Vec::new(alloc);
     match demo {
@@ -90,8 +122,22 @@ fn op_format(alloc: Global, demo: Demo) -> Result<OpFormat, AllocError>
             directives.push(Directive::Attr(key))?;
             directives.push(Directive::Region(0))?;
         }
+        Demo::Constant => {
+            let key = Identifier::from_word(alloc, "test_value")?;
+            directives.push(Directive::Attr(key))?;
+            directives.push(colon(alloc)?)?;
+            directives.push(Directive::ResultType(0))?;
+        }
+        Demo::Return => directives.push(Directive::Operands)?,
+        Demo::Use => directives.push(Directive::Operand(0))?,
+        Demo::Make => {
+            directives.push(colon(alloc)?)?;
+            directives.push(Directive::ResultType(0))?;
+        }
+        Demo::Branch => directives.push(Directive::Successor(0))?,
         Demo::Scope => directives.push(Directive::Region(0))?,
         Demo::Nop => {}
+        Demo::Global => return Ok(OpFormat::Canonical),
     }
     Ok(OpFormat::Custom(directives))
 }
@@ -115,18 +161,29 @@ fn add<T: IrText<A>, A: AttrText>(ctx: &mut Context<T, A>, demo: Demo) -> Answer
     dialect.add_op(id, format, isolated)
 }
 
-/// Registers the operations `builtin.module`, `builtin.func`, `test.scope` and `test.nop` of the demo dialects with their formats, and
-/// the dialects where they aren't there. What was registered under one of these ids before is replaced. An error, of kind invalid
-/// argument without a location, says that memory was refused, or by `WrongDialect` that the context has a dialect of another name under
-/// one of these names; those before it stay registered then, and all else in the context is as it was.
+/// Registers operations one after the other, up to one that is refused; those before it stay registered then.
+fn add_all<T: IrText<A>, A: AttrText>(ctx: &mut Context<T, A>, demos: &[Demo]) -> Answer<(), A>
+    ensures ok { OnOk result (ctx.new.dialects ≡ with_all ctx.old.dialects (map demo_op demos.now)) }
+    ensures rest { ctx.new ≡ record ctx.old { dialects = ctx.new.dialects } }
+    ensures kind { IfErr result (λ e. (e.kind ≡ ErrorKind.InvalidArgument) × (e.loc ≡ Unknown)) }
+    ensures refused { IfErr result (λ e. RefusesOne ctx.old.dialects (map demo_op demos.now) e.err) }
+{
+    for demo in demos {
+        add(ctx, *demo)?;
+    }
+    Ok(())
+}
+
+/// Registers the operations of the demo dialects with their formats, `builtin.module`, `builtin.func`, `test.constant`, `test.return`,
+/// `test.use`, `test.make`, `test.br`, `test.scope`, `test.nop` and `test.global`, and the dialects where they aren't there. What was
+/// registered under one of these ids before is replaced. An error, of kind invalid argument without a location, says that memory was
+/// refused, or by `WrongDialect` that the context has a dialect of another name under one of these names; those before it stay
+/// registered then, and all else in the context is as it was.
 pub fn register_demo<T: IrText<A>, A: AttrText>(ctx: &mut Context<T, A>) -> Answer<(), A>
     ensures ok { OnOk result (ctx.new.dialects ≡ with_all ctx.old.dialects demo_operations) }
     ensures rest { ctx.new ≡ record ctx.old { dialects = ctx.new.dialects } }
     ensures kind { IfErr result (λ e. (e.kind ≡ ErrorKind.InvalidArgument) × (e.loc ≡ Unknown)) }
     ensures refused { IfErr result (λ e. RefusesOne ctx.old.dialects demo_operations e.err) }
 {
-    add(ctx, Demo::Module)?;
-    add(ctx, Demo::Function)?;
-    add(ctx, Demo::Scope)?;
-    add(ctx, Demo::Nop)
+    add_all(ctx, ALL)
 }

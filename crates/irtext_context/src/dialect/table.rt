@@ -4,7 +4,7 @@ ghost use Rattle.std.specs.Prelude.{length, slice_get, is_some, option_copied, o
 ghost use Rattle.std.specs.Borrow.{sem};
 ghost use Rattle.std.specs.Map.{lookup, values_of};
 ghost use Rattle.std.specs.Str.{bytes_eq};
-ghost use Rattle.irtext_context.specs.Dialects.{known_of};
+ghost use Rattle.irtext_context.specs.Dialects.{known_of, AllAccepted};
 ghost use Rattle.irtext_context.specs.DialectTable.{IsKeptAt, no_operations, dialect_of, dialect_or_new, registered};
 ghost use Rattle.irtext_formats.specs.Directives.{format_of};
 ghost use Rattle.irtext_base.specs.Format.{Accepted};
@@ -97,6 +97,16 @@ impl<T: IrText<A>, A: AttrText> Context<T, A> {
         ensures { result ≡ is_some (dialect_of self.now.dialects name.now) }
     {
         self.dialects.contains_key(name)
+    }
+
+    /// What always holds, as this contract says of a call that changes nothing: each operation's format was accepted by `check_format`.
+    /// It looks at each dialect, and takes no memory.
+    pub fn keeps_formats(&self)
+        ensures { AllAccepted self.now.dialects }
+    {
+        for index in 0..self.dialects.len() {
+            self.dialects[index].keeps_formats();
+        }
     }
 
     /// What is known of an operation, if it is registered with a dialect of the context. It takes no memory.
