@@ -35,7 +35,7 @@ use Rattle.irtext_graph.specs.Store.{Cell, Store, drawn, object_in, object_of, g
 use Rattle.irtext_graph.proofs.Nests.{some_eq, told}
 use Rattle.irtext_graph.proofs.Same.{object_tells}
 use Rattle.irtext_graph.proofs.Frames.{map_same, option_same, block_same, region_same, operation_same}
-use Rattle.irtext_grammar.specs.Contexts.Held.{entries_of, known_types}
+use Rattle.irtext_grammar.specs.Contexts.Held.{entries_of}
 use Rattle.irtext_grammar.specs.Grammar.Tree.{Head}
 use Rattle.irtext_building.specs.Stands.{OwnSoFar, head_entries, HasOwn, HasUses, HasHead, IsThere, IsAsItWas, UsesAsMany, Spares}
 use Rattle.irtext_building.specs.Grows.{with_last_block, with_last_operation, RegionCame, OperationGains, RegionGains, BlockGains, OperationCame, BlockCame, OwnBecame}
@@ -408,21 +408,16 @@ module _ {T A : Type 0} (old new : ContextView T A) where
         ∙ (ap₂ block_seen (ap (option_map without_uses) (a.objects.contents (TheBlock b))) (map_same TheOperation operation_same (children_of (get new.graph.blocks b)) (children_of (get old.graph.blocks b)) (a.others (TheBlock b) (λ e. cc)))
         ∙ sym (block_is (get old.graph.blocks b)))
 
--- types that are known, each of them, are these
-known_back : {T : Type 0} (types : List T) → known_types (known types) ≡ types
-known_back [] = refl
-known_back (t ∷ types) = ap (λ ts. t ∷ ts) (known_back types)
-
 module _ {T A : Type 0} (IsLocation : ℕ → Location A → Type 0) where
   -- the own of an operation that was made
   pub made_own : (held : OperationData A) (types : List T) (own : OwnSoFar T A) → id_of held.id ≡ own.id → types ≡ own.types → entries_of held.attributes ≡ own.entries → IsLocation own.place held.loc
       → HasOwn IsLocation (made_view held types) own
-  made_own held types own id same entries location = record { id = id; types = known_back types ∙ same; entries = entries; location = location }
+  made_own held types own id same entries location = record { id = id; types = ap known same; entries = entries; location = location }
 
   -- the header of a block that was made
   pub made_head : (held : BlockData A) (types : List T) (h : Head ℕ T A) → held.label ≡ Some h.label.text → types ≡ map (λ a. a.1) h.arguments → entries_of held.attributes ≡ head_entries h → IsLocation h.label.place held.loc
       → HasHead IsLocation (made_block held types) h
-  made_head held types h label same entries location = record { label = label; types = known_back types ∙ same; entries = entries; location = location }
+  made_head held types h label same entries location = record { label = label; types = ap known same; entries = entries; location = location }
 
 -- ---- an operation that was made, and placed last in a block
 module _ {T A : Type 0} (IsLocation : ℕ → Location A → Type 0) (old mid new : ContextView T A) (b : Ptr BasicBlock) (p : Ptr Operation) (held : OperationData A) (types : List T) {operands : List Value} {successors : List (Ptr BasicBlock)}

@@ -5,7 +5,7 @@ use Rattle.irtext_base.specs.Text.{Text}
 use Rattle.irtext_base.specs.Format.{Id}
 use Rattle.irtext_base.specs.Faults.{id_of}
 use Rattle.irtext_base.specs.declared.location.Location.{Location}
-use Rattle.irtext_context.specs.Context.{ContextView, OperationView, BlockView, RegionView, operation, block, region}
+use Rattle.irtext_context.specs.Context.{ContextView, OperationView, BlockView, RegionView, known, operation, block, region}
 use Rattle.irtext_graph.specs.declared.arena.Ptr.{Ptr}
 use Rattle.irtext_graph.specs.declared.object.Operation.{Operation}
 use Rattle.irtext_graph.specs.declared.object.BasicBlock.{BasicBlock}
@@ -15,7 +15,7 @@ use Rattle.irtext_graph.specs.declared.object.Object.TheVariants.{TheOperation, 
 use Rattle.irtext_graph.specs.Chained.{Among}
 use Rattle.irtext_graph.specs.Graph.{GraphView, parent}
 use Rattle.irtext_graph.specs.Parts.{operands, successors}
-use Rattle.irtext_grammar.specs.Contexts.Held.{entries_of, known_types}
+use Rattle.irtext_grammar.specs.Contexts.Held.{entries_of}
 use Rattle.irtext_grammar.specs.Grammar.Forest as forest
 use Rattle.irtext_grammar.specs.Grammar.Forest.{Regions, no_regions, Blocks, no_blocks, Operations, no_operations}
 use Rattle.irtext_grammar.specs.Grammar.Tree.{Attribute, Op, Head, Brace, Tree, operand_names, successor_labels}
@@ -52,14 +52,14 @@ module _ {T A : Type 0} where
     -- an operation of a context has this own
     pub record HasOwn (view : OperationView T A) (own : OwnSoFar T A) : Type 0 where
       pub id : id_of view.id ≡ own.id
-      pub types : known_types view.result_types ≡ own.types
+      pub types : view.result_types ≡ known own.types
       pub entries : entries_of view.attributes ≡ own.entries
       pub location : IsLocation own.place view.loc
 
     -- a block of a context has this header
     pub record HasHead (view : BlockView T A) (h : Head ℕ T A) : Type 0 where
       pub label : view.label ≡ Some h.label.text
-      pub types : known_types view.arg_types ≡ map (λ a. a.1) h.arguments
+      pub types : view.arg_types ≡ known (map (λ a. a.1) h.arguments)
       pub entries : entries_of view.attributes ≡ head_entries h
       pub location : IsLocation h.label.place view.loc
 

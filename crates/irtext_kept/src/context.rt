@@ -119,8 +119,9 @@ fn all_kept<T: IrText<A>, A: AttrText>(ctx: &Context<T, A>)
 
 /// Every root of a context has, by the types of its parts, what the laws of the round trip ask of it beside being closed: its names are
 /// identifiers, its numbers and places fit, its locations can be read, its dictionaries keep the reserved keys, and no value and no block
-/// of it is another. It goes through all places of the context, and takes no memory.
+/// of it is another; and what the context keeps besides. It goes through all places of the context, and takes no memory.
 pub fn keeps_parts<T: IrText<A>, A: AttrText>(ctx: &Context<T, A>)
+    ensures all { KeepsAll ctx.now }
     ensures kept { (p : Ptr Operation) (g : seen.Graph T A) → seen_root A.written ctx.now p ≡ Some g →
         KeptRoot (attr_at A.reading) A.written (printing_over ctx.now A.outlined A.print_once A.eq) (isolated ctx.now.dialects) g }
 {

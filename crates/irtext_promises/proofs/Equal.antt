@@ -8,7 +8,7 @@ use Rattle.irtext_base.specs.Format.{same_text, Id}
 use Rattle.irtext_base.specs.Faults.{id_of}
 use Rattle.irtext_base.specs.Paths.{Written}
 use Rattle.irtext_base.specs.declared.location.Location.{Location}
-use Rattle.irtext_context.specs.Context.{ContextView, OperationView, BlockView, operation, block}
+use Rattle.irtext_context.specs.Context.{ContextView, OperationView, BlockView, known, operation, block}
 use Rattle.irtext_graph.specs.declared.arena.Ptr.{Ptr}
 use Rattle.irtext_graph.specs.declared.object.Operation.{Operation}
 use Rattle.irtext_graph.specs.declared.object.BasicBlock.{BasicBlock}
@@ -75,6 +75,11 @@ map_length : {X Y : Type 0} (f : X → Y) (xs : List X) → length (map f xs) �
 map_length f [] = refl
 map_length f (x ∷ xs) = ap suc (map_length f xs)
 
+-- types that are known, each of them, are these
+known_back : {T : Type 0} (types : List T) → known_types (known types) ≡ types
+known_back [] = refl
+known_back (t ∷ types) = ap (λ ts. t ∷ ts) (known_back types)
+
 module _ {T A : Type 0} (c : ContextView T A) (first : ℕ → Written A) (es : List (Entry ℕ A (Written A))) (isolated : Id → Bool) (all : List (Object × Path)) where
   -- what each link of an operation is to the graph
   pub record Keeps (ls : List (User × Place)) : Type 0 where
@@ -119,7 +124,7 @@ module _ {T A : Type 0} (c : ContextView T A) (first : ℕ → Written A) (es : 
       (λ i q e. successor_at p i q (keeps.successors_keep p r i q there (in_right (successor r i, q) (links_from (operand r) 0 these) (links_from (successor r) 0 those) (link_first (successor r) i q those e)))) in
       λ i. record {
         id = at.id i;
-        result_types = at.types i;
+        result_types = (ap known_types at.types ∙ known_back (own_of o).types) i;
         operands = os i;
         successors = ss i;
         attributes = at.entries i;
@@ -127,7 +132,7 @@ module _ {T A : Type 0} (c : ContextView T A) (first : ℕ → Written A) (es : 
       }
 
   head_same : (b : Ptr BasicBlock) (h : Head ℕ T A) (at : BlockHas c first es b h) → held_head c all at.view ≡ built_head isolated first es h
-  head_same b h at = λ i. record { label = at.label i; argument_types = at.types i; attributes = at.entries i; location = at.location i }
+  head_same b h at = λ i. record { label = at.label i; argument_types = (ap known_types at.types ∙ known_back (map (λ a. a.1) h.arguments)) i; attributes = at.entries i; location = at.location i }
 
   -- ---- the forest
   mutual

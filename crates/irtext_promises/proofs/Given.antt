@@ -1,7 +1,7 @@
 -- A forest of pointers that is that of a tree has what the tree gives its items, with no section; and with one, where each item came to
 -- have what the entry of its mark gives it.
 use Rattle.std.proofs.Common.{◌≡◌, ◌∙◌, ℕ, List, [], ◌∷◌, Option, Some, None, refl, sym, ap, subst}
-use Rattle.std.specs.Prelude.{unwrap_or}
+use Rattle.std.specs.Prelude.{is_some, unwrap_or}
 use Rattle.irtext_base.specs.Text.{Text}
 use Rattle.irtext_base.specs.Paths.{Written}
 use Rattle.irtext_base.specs.declared.location.Location.{Location}
@@ -73,6 +73,7 @@ module _ {T A : Type 0} (L : ℕ → Location A → Type 0) (c : ContextView T A
       view = at.view;
       is = at.is;
       label = ap (λ (z : Option Text). unwrap_or z []) at.has.label ∙ ap (labelled h.label.text) (sym none);
+      has_label = ap (λ (z : Option Text). is_some z) at.has.label;
       types = at.has.types;
       entries = at.has.entries ∙ ap (λ z. with_content (head_entries h) (but_label z)) (sym none);
       location = tells h.label.place at.view.loc at.has.location ∙ ap (located (first h.label.place)) (sym none);

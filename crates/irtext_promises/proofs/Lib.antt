@@ -4,6 +4,7 @@ pub mod Located
 pub mod Occurs
 pub mod Equal
 pub mod Given
+pub mod Wholes
 pub mod LinksSame
 pub mod Builds
 pub mod Ages

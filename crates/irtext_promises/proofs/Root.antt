@@ -43,7 +43,7 @@ use Rattle.irtext_building.specs.Building.{Building, building, nothing_open, fin
 use Rattle.irtext_building.proofs.Built.{tree_finished}
 use Rattle.irtext_building.proofs.Whole.{whole_read}
 use Rattle.irtext_promises.specs.Given.{RootHas}
-use Rattle.irtext_promises.specs.Held.{held_root}
+use Rattle.irtext_promises.specs.Held.{held_root, IsWhole}
 use Rattle.irtext_promises.specs.Leaves.{StandsBehind, LeavesTree, LeavesClosed}
 use Rattle.irtext_promises.specs.OnlyNew.{OnlyNew}
 use Rattle.irtext_promises.specs.Promises.{IsFirst, HasFault, RefusesRoot, BuildsRoot, tree_marks}
@@ -52,7 +52,8 @@ use Rattle.irtext_promises.proofs.Builds as builds
 use Rattle.irtext_promises.proofs.Given.{Gives, root_given}
 use Rattle.irtext_promises.proofs.Kept as kept
 use Rattle.irtext_promises.proofs.Refuses.{refuses_root}
-use Rattle.irtext_promises.proofs.WithSection.{section_alone, tree_noted, builds_given, only_still}
+use Rattle.irtext_promises.proofs.Wholes.{root_whole}
+use Rattle.irtext_promises.proofs.WithSection.{section_alone, tree_noted, pointers_same, builds_given, only_still}
 
 came_with : {X S : Type 0} (x y : X) (s t : S) (a b : Text) → Came x s a ≡ Came y t b → (s ≡ t) × (a ≡ b)
 came_with x y s t a b e = (cc, cc)
@@ -110,6 +111,17 @@ module _ {T A : Type 0} (types_at : Text → Outcome T) (types_written : T → T
           let keeps = builds.keeps L old mid leaves.items leaves.whole op leaves.tree leaves.held closed.nest named.0 named.1 first (isolated dialects) formed behind.names behind.known behind.are behind.state behind.stands ran es in
           builds_given mid new shape first (isolated dialects) op leaves.tree es (all_there (isolated dialects) first es leaves.tree formed done resolves) keeps (root_given L mid leaves.items first new es gives (pointers mid.graph op) leaves.tree is)
 
+      -- all of it is there
+      pub root_there : IsWhole new op
+      root_there =
+          let named = kept.named types_at types_written reading written dialects types_split splits words short_types short_owns accepted L op marks old mid text rest leaves in
+          let behind = kept.behind types_at types_written reading written dialects types_split splits words short_types short_owns accepted L op marks old mid text rest leaves in
+          let formed = kept.formed types_at types_written reading written dialects types_split splits words short_types short_owns accepted L op marks old mid text rest leaves in
+          let ran = kept.ran types_at types_written reading written dialects types_split splits words short_types short_owns accepted L op marks old mid text rest leaves in
+          let is = builds.is_tree L old mid leaves.items leaves.whole op leaves.tree leaves.held closed.nest named.0 named.1 first (isolated dialects) formed behind.names behind.known behind.are behind.state behind.stands ran in
+          let has = root_given L mid leaves.items first new es gives (pointers mid.graph op) leaves.tree is in
+          root_whole new first es op leaves.tree (subst (λ ps. RootHas new first es ps leaves.tree) (sym (pointers_same mid.graph new.graph shape op)) has)
+
 -- a root that was read with its section keeps the promise
 pub builds_root : {T A U : Type 0} (types_at : Text → Outcome T) (types_written : T → Text) (reading : Text → Outcome A) (written : A → Text) → Splits types_at → Splits reading → NeedsWord reading → Shortens (texts_of types_at types_written) → Shortens (texts_of reading written)
     → (L : ℕ → Location A → Type 0) (op : Ptr Operation) (old mid new : StateStream T A U) → ((id : Id) → IsAccepted old.state.ctx.now.dialects id)
@@ -135,6 +147,8 @@ builds_root types_at types_written reading written types_split splits words shor
       resolves = section_failures types_at types_written reading written ds types_split splits words short_types short_owns accepted L op ms old.state.ctx.now mid.state.ctx.now old.stream.rest mid.stream.rest leaves es ∙ none;
       moves = moves;
       builds = root_builds types_at types_written reading written ds types_split splits words short_types short_owns accepted L op ms old.state.ctx.now mid.state.ctx.now old.stream.rest mid.stream.rest leaves closed new.state.ctx.now shape
+          (location_of new.state.ctx.now.paths old.state.src (whole old.stream)) es gives;
+      is_whole = root_there types_at types_written reading written ds types_split splits words short_types short_owns accepted L op ms old.state.ctx.now mid.state.ctx.now old.stream.rest mid.stream.rest leaves closed new.state.ctx.now shape
           (location_of new.state.ctx.now.paths old.state.src (whole old.stream)) es gives;
       fresh = fresh;
       only = only_still op old.state.ctx.now mid.state.ctx.now new.state.ctx.now

@@ -1,13 +1,13 @@
 -- Between functions: a forest of pointers that is that of a tree whose items have what entries of a section give them besides.
-use Rattle.std.specs.Prelude.{◌≡◌, ℕ, List, [], ◌∷◌, Option, Some, unwrap_or, map, ⊤}
+use Rattle.std.specs.Prelude.{◌≡◌, ℕ, true, List, [], ◌∷◌, Option, Some, is_some, unwrap_or, map, ⊤}
 use Rattle.irtext_base.specs.Faults.{id_of}
 use Rattle.irtext_base.specs.Paths.{Written}
-use Rattle.irtext_context.specs.Context.{ContextView, OperationView, BlockView, operation, block}
+use Rattle.irtext_context.specs.Context.{ContextView, OperationView, BlockView, known, operation, block}
 use Rattle.irtext_graph.specs.declared.arena.Ptr.{Ptr}
 use Rattle.irtext_graph.specs.declared.object.Operation.{Operation}
 use Rattle.irtext_graph.specs.declared.object.BasicBlock.{BasicBlock}
 use Rattle.irtext_graph.specs.declared.object.Region.{Region}
-use Rattle.irtext_grammar.specs.Contexts.Held.{location_over, entries_of, known_types}
+use Rattle.irtext_grammar.specs.Contexts.Held.{location_over, entries_of}
 use Rattle.irtext_grammar.specs.Grammar.Forest as forest
 use Rattle.irtext_grammar.specs.Grammar.Forest.{Regions, no_regions, Blocks, no_blocks, Operations, no_operations, Root}
 use Rattle.irtext_grammar.specs.Grammar.Section.{Entry}
@@ -23,7 +23,7 @@ module _ {T A : Type 0} (c : ContextView T A) (first : ℕ → Written A) (es : 
     pub is : operation c p ≡ Some view
     pub uses : HasUses c p (own_of o)
     pub id : id_of view.id ≡ o.id
-    pub types : known_types view.result_types ≡ (own_of o).types
+    pub types : view.result_types ≡ known (own_of o).types
     pub entries : entries_of view.attributes ≡ with_content (own_of o).entries (content es o.mark)
     pub location : location_over c.paths view.loc ≡ located (first o.place) (content es o.mark)
 
@@ -32,7 +32,8 @@ module _ {T A : Type 0} (c : ContextView T A) (first : ℕ → Written A) (es : 
     pub view : BlockView T A
     pub is : block c b ≡ Some view
     pub label : unwrap_or view.label [] ≡ labelled h.label.text (content es h.mark)
-    pub types : known_types view.arg_types ≡ map (λ a. a.1) h.arguments
+    pub has_label : is_some view.label ≡ true
+    pub types : view.arg_types ≡ known (map (λ a. a.1) h.arguments)
     pub entries : entries_of view.attributes ≡ with_content (head_entries h) (but_label (content es h.mark))
     pub location : location_over c.paths view.loc ≡ located (first h.label.place) (content es h.mark)
 

@@ -1,10 +1,10 @@
 -- For callers: what a context holds under an operation, however deep, as the tree of a text builds it: the forest of what the arenas hold,
 -- in which operands and successors are places in the forest, found from the pointers that are there.
-use Rattle.std.specs.Prelude.{ℕ, suc, Bool, true, false, cond, List, [], ◌∷◌, ◌++◌, map, Option, Some, None, unwrap_or, ⊤}
+use Rattle.std.specs.Prelude.{◌≡◌, ℕ, suc, Bool, true, false, cond, List, [], ◌∷◌, ◌++◌, map, Option, Some, None, is_some, unwrap_or, ⊤}
 use Rattle.std.specs.Option.{option_map}
 use Rattle.irtext_base.specs.Faults.{id_of}
 use Rattle.irtext_base.specs.Paths.{Written}
-use Rattle.irtext_context.specs.Context.{ContextView, OperationView, BlockView, operation, block}
+use Rattle.irtext_context.specs.Context.{ContextView, OperationView, BlockView, known, operation, block}
 use Rattle.irtext_graph.specs.declared.arena.Ptr.{Ptr}
 use Rattle.irtext_graph.specs.declared.object.Operation.{Operation}
 use Rattle.irtext_graph.specs.declared.object.BasicBlock.{BasicBlock}
@@ -20,7 +20,7 @@ use Rattle.irtext_graph.specs.Parts.{operands, successors}
 use Rattle.irtext_grammar.specs.Contexts.Held.{location_over, entries_of, known_types}
 use Rattle.irtext_grammar.specs.Contexts.Nested.{pointers}
 use Rattle.irtext_grammar.specs.Grammar.Forest as forest
-use Rattle.irtext_grammar.specs.Grammar.Forest.{Regions, no_regions, Blocks, no_blocks, Operations, no_operations, Root}
+use Rattle.irtext_grammar.specs.Grammar.Forest.{Regions, no_regions, Blocks, no_blocks, Operations, no_operations, Root, AllRegions}
 use Rattle.irtext_grammar.specs.Graphs.Build.{Built, BuiltOp, BuiltBlock}
 use Rattle.irtext_grammar.specs.Names.Script.{Path, Place, result, argument, block_at}
 
@@ -113,3 +113,24 @@ abbrev pub held_root : {T A : Type 0} → ContextView T A → Ptr Operation → 
 held_root c p =
     let all = placed_under (pointers c.graph p) in
     option_map (λ view. record { own = held_op c all p view; regions = held_regions c all (pointers c.graph p).regions }) (operation c p)
+
+-- ---- all of it is there
+module _ {T A : Type 0} (c : ContextView T A) where
+  -- an operation is there, and the types of its results are known
+  pub record OperationWhole (p : Ptr Operation) : Type 0 where
+    pub view : OperationView T A
+    pub is : operation c p ≡ Some view
+    pub types : List T
+    pub known_as : view.result_types ≡ known types
+
+  -- a block is there, has a label, and the types of its arguments are known
+  pub record BlockWhole (b : Ptr BasicBlock) : Type 0 where
+    pub view : BlockView T A
+    pub is : block c b ≡ Some view
+    pub labelled : is_some view.label ≡ true
+    pub types : List T
+    pub known_as : view.arg_types ≡ known types
+
+  -- all that stands under an operation is there, nothing of it is a placeholder, and each block has a label
+  abbrev pub IsWhole : Ptr Operation → Type 0
+  IsWhole p = OperationWhole p × AllRegions OperationWhole BlockWhole (λ r. ⊤) (pointers c.graph p).regions

@@ -33,7 +33,7 @@ use Rattle.irtext_outcomes.specs.Promises.Supported.{supported, location_standin
 use Rattle.irtext_nesting.specs.Naming.{naming}
 use Rattle.irtext_nesting.specs.Reached.{Stuck, operation_at}
 use Rattle.irtext_nesting.specs.Resume.{EndsIn}
-use Rattle.irtext_promises.specs.Held.{held_root}
+use Rattle.irtext_promises.specs.Held.{held_root, IsWhole}
 use Rattle.irtext_promises.specs.OnlyNew.{OnlyNew}
 
 -- ---- faults
@@ -101,7 +101,8 @@ module _ {T A U : Type 0} (types : Texts T) (owns : Texts A) (attr : Text → Ou
     pub only : OnlyNew op old.state.ctx.now new.state.ctx.now
 
   -- A root stood where the stream stood: the text reads by the context's dialects, with its section, as a tree, up to where the stream
-  -- stands now, and both resolve. What they build stands under the answer, only that is new, and no mark is noted.
+  -- stands now, and both resolve. What they build stands under the answer, with nothing that is no more than a placeholder, only that is
+  -- new, and no mark is noted.
   pub record BuildsRoot (op : Ptr Operation) (old new : StateStream T A U) : Type 0 where
     pub tree : Tree ℕ T A
     pub entries : List (Entry ℕ A (Written A))
@@ -109,6 +110,7 @@ module _ {T A U : Type 0} (types : Texts T) (owns : Texts A) (attr : Text → Ou
     pub resolves : failures_of (isolated old.state.ctx.now.dialects) tree entries ≡ []
     pub moves : Moves old.stream new.stream
     pub builds : held_root new.state.ctx.now op ≡ Some (build (isolated old.state.ctx.now.dialects) (location_of new.state.ctx.now.paths old.state.src (whole old.stream)) entries tree)
+    pub is_whole : IsWhole new.state.ctx.now op
     pub fresh : marks_of new.state ≡ []
     pub only : OnlyNew op old.state.ctx.now new.state.ctx.now
 

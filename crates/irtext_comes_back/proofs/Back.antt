@@ -1,0 +1,136 @@
+-- The promises of the two calls, put together as those who make them know them.
+use Rattle.std.proofs.Common.{◌≡◌, ◌∙◌, ◌<◌, ◌^◌, ◌⊎◌, ℕ, Bool, true, List, [], length, Option, Some, None, option_map, Result, Ok, Err, IsSome, refl, sym, ap, subst, inl, inr}
+use Rattle.std.specs.Prelude.{IfErr}
+use Rattle.std.specs.Str.{IsUtf8, chars}
+use Rattle.irtext_base.specs.Answers.{Outcome}
+use Rattle.irtext_base.specs.Faults.{fault_of}
+use Rattle.irtext_base.specs.Faults as faults
+use Rattle.irtext_base.specs.Locations.{AttrView}
+use Rattle.irtext_base.specs.Own.{Texts, texts_of, Lawful, Unreserved}
+use Rattle.irtext_base.specs.Text.{Text}
+use Rattle.irtext_base.specs.declared.parsable.fault.ParseFault.{ParseFault}
+use Rattle.irtext_base.specs.declared.text.AttrText as attr_text
+use Rattle.irtext_base.specs.declared.text.IrText as ir_text
+use Rattle.irtext_context.specs.Context.{ContextView, OperationView, operation}
+use Rattle.irtext_graph.specs.declared.arena.Ptr.{Ptr}
+use Rattle.irtext_graph.specs.declared.object.Operation.{Operation}
+use Rattle.irtext_graph.specs.Graph.{children, parent}
+use Rattle.irtext_graph.specs.Nested.{Nested}
+use Rattle.irtext_graph.proofs.Nests.{some_eq}
+use Rattle.irtext_grammar.specs.Contexts.Formats.{isolated}
+use Rattle.irtext_grammar.specs.Contexts.Nested.{pointers, printing_over, seen_operation, seen_regions, seen_root}
+use Rattle.irtext_grammar.specs.Grammar.Forest.{Regions}
+use Rattle.irtext_grammar.specs.Grammar.Marked.{AllShown}
+use Rattle.irtext_grammar.specs.Graphs.Closed.{Fit}
+use Rattle.irtext_grammar.specs.Graphs.Graph.{Graph, Printing, written}
+use Rattle.irtext_grammar.specs.Graphs.Regained.{Named}
+use Rattle.irtext_grammar.specs.Graphs.StandsFor.{Distinct}
+use Rattle.irtext_grammar.proofs.Graphs.StandsClosed.{found_closed}
+use Rattle.irtext_outcomes.specs.Promises.Root.{UnlessMemory}
+use Rattle.irtext_print.specs.Printers.PrintedOperation.{levels}
+use Rattle.irtext_print.specs.Printers.Shown.{Shown}
+use Rattle.irtext_print.specs.declared.printable.refusal.Refusal.TheVariants.{Misfit}
+use Rattle.irtext_print_ir.specs.Printers.Printed.{block_round}
+use Rattle.irtext_print_ops.proofs.Depths.{inside_is}
+use Rattle.irtext_print_walk.specs.Faults.{OperationFault, RegionsFault}
+use Rattle.irtext_print_walk.specs.Heads as heads
+use Rattle.irtext_print_walk.specs.Walk.{or_nothing}
+use Rattle.irtext_promises.specs.Held.{held_root}
+use Rattle.irtext_promises.specs.OnlyNew.{OnlyNew}
+use Rattle.irtext_read.specs.AttrTexts.{attr_at}
+use Rattle.irtext_round_trip.specs.Back.{ClosedRoot, HeldBack, HeldWhole}
+use Rattle.irtext_round_trip.specs.Kept.{KeptRoot}
+use Rattle.irtext_two_calls.specs.PrintedRoot.{PrintedRoot}
+use Rattle.irtext_two_calls.proofs.PrintedBack.{stands_back, stands_whole, not_refused, none_read}
+use Rattle.irtext_comes_back.specs.Calls.{IsClosed, IsPrinted, ComesBack, ComesBackWhole, ReadsText, RefusesText, IsExcused}
+use Rattle.irtext_comes_back.proofs.Fitting.{fits_whole}
+
+-- what is said of a refusal that was none for want of memory
+pub refused_as : {X A : Type 0} (P Q : ParseFault A → Type 0) → ((f : ParseFault A) → P f → Q f) → (r : Result X (ParseFault A)) → IfErr r (UnlessMemory P) → IfErr r (UnlessMemory Q)
+refused_as P Q as-q (Ok x) h = tt
+refused_as P Q as-q (Err f) h = elim h [ inl m ↦ inl m | inr p ↦ inr (as-q f p) ]
+
+-- a root that stands alone is closed where its operations fit
+pub closed_where_fits : {T A : Type 0} (written : A → Text) (C : Printing T A) (ctx : ContextView T A) (p : Ptr Operation) (g : Graph T A) → IsClosed written C ctx p g → Distinct C (isolated ctx.dialects) g → Fit C (isolated ctx.dialects) g → ClosedRoot C (isolated ctx.dialects) g
+closed_where_fits written C ctx p g h d f = record { closed = found_closed C (isolated ctx.dialects) g h.found d h.results h.operands h.successors h.alone; fits = f; unlabelled = h.unlabelled }
+
+module _ {T A : Type 0} (types : ir_text.Ghosts T A) (owns : ir_text.Ghosts A A) (attributes : attr_text.Ghosts A) (same : A → A → Bool)
+    (ctx : ContextView T A) (p : Ptr Operation) (g : Graph T A) (sees : seen_root owns.written ctx p ≡ Some g) (nested : Nested (children ctx.graph) (parent ctx.graph)) (layout : Shown (Unit {0})) where
+  -- what the caller's types mean by their texts
+  abbrev texts : Texts T
+  texts = texts_of types.reading types.written
+
+  abbrev own_texts : Texts A
+  own_texts = texts_of owns.reading owns.written
+
+  abbrev attr : Text → Outcome (AttrView A)
+  attr = attr_at owns.reading
+
+  abbrev C : Printing T A
+  C = printing_over ctx attributes.outlined attributes.print_once same
+
+  abbrev root : OperationView T A → Graph T A
+  root op = record { own = seen_operation owns.written ctx p op; regions = seen_regions owns.written ctx (pointers ctx.graph p).regions }
+
+  -- what was printed without a limit fits
+  pub seen_fits : levels layout.limit ≡ None → (heads.MisfitsUnder types owns attributes same ctx p layout → ⊥) → Fit C (isolated ctx.dialects) g
+  seen_fits unlimited fits = go (operation ctx p) refl sees
+    where
+      go : (o : Option (OperationView T A)) → operation ctx p ≡ o → option_map root o ≡ Some g → Fit C (isolated ctx.dialects) g
+      go None e s = absurd (cc)
+      go (Some view) e s =
+          let here : root view ≡ g = some_eq s in
+          subst (λ (z : Graph T A). Fit C (isolated ctx.dialects) z) here
+          (fits_whole C (isolated ctx.dialects) layout.width layout.indent (root view) (λ k. fits
+            (subst (λ o. OperationFault C (isolated ctx.dialects) layout.width Misfit o (heads.regions_under types owns attributes same ctx p) ⊎ RegionsFault C (isolated ctx.dialects) layout.width Misfit layout.indent (levels layout.limit) (heads.regions_under types owns attributes same ctx p))
+              (sym (ap (λ z. or_nothing (option_map (seen_operation owns.written ctx p) z)) e))
+            (subst (λ l. OperationFault C (isolated ctx.dialects) layout.width Misfit (seen_operation owns.written ctx p view) (heads.regions_under types owns attributes same ctx p) ⊎ RegionsFault C (isolated ctx.dialects) layout.width Misfit layout.indent l (heads.regions_under types owns attributes same ctx p))
+              (sym unlimited)
+            (subst (λ rs. OperationFault C (isolated ctx.dialects) layout.width Misfit (seen_operation owns.written ctx p view) (seen_regions owns.written ctx rs) ⊎ RegionsFault C (isolated ctx.dialects) layout.width Misfit layout.indent None (seen_regions owns.written ctx rs))
+              (inside_is ctx.graph nested p) k)))))
+
+  module _ (types_law : Lawful T texts) (owns_law : Lawful A own_texts) (unreserved : Unreserved A own_texts) (sound : (a b : A) → same a b ≡ true → a ≡ b) (reflexive : (a : A) → same a a ≡ true)
+      (nowhere : block_round ctx p ≡ None) (kept : KeptRoot attr owns.written C (isolated ctx.dialects) g) (bytes : List ℕ) (utf8 : IsUtf8 bytes) (few : length bytes < 2 ^ 64) (printed : IsPrinted types owns attributes same ctx p layout bytes)
+      (text : List ℕ) (text_is : text ≡ bytes) (other : ContextView T A) (same_dialects : other.dialects ≡ ctx.dialects) where
+    as_printed : Fit C (isolated ctx.dialects) g → PrintedRoot texts own_texts attr C ctx p g layout.width layout.indent (levels layout.limit) bytes
+    as_printed fits = record { sees = sees; kept = kept; fits = fits; utf8 = utf8; few = few; printed = printed.is_text g sees nowhere }
+
+    -- nothing is read of a root of which a region was left out
+    pub nothing_back : Fit C (isolated ctx.dialects) g → (AllShown (written C (levels layout.limit) g) → ⊥) → (q : Ptr Operation) (left : ContextView T A) → ReadsText texts own_texts attr text other q left → ⊥
+    nothing_back fits out q left r =
+        none_read texts owns.reading owns.written types_law owns_law unreserved attributes.outlined attributes.print_once same sound reflexive ctx p g layout.width layout.indent bytes (levels layout.limit) (as_printed fits) r.old (r.starts.text ∙ ap chars text_is)
+        (ap (λ (v : ContextView T A). v.dialects) r.starts.context ∙ same_dialects) out q r.new r.builds
+
+    module _ (unlimited : levels layout.limit ≡ None) where
+      fits_there : Fit C (isolated ctx.dialects) g
+      fits_there = seen_fits unlimited printed.fits
+
+      wholly : PrintedRoot texts own_texts attr C ctx p g layout.width layout.indent None bytes
+      wholly = subst (λ l. PrintedRoot texts own_texts attr C ctx p g layout.width layout.indent l bytes) unlimited (as_printed fits_there)
+
+      -- what is read of it is equal to it
+      pub reads_back : (Fit C (isolated ctx.dialects) g → ClosedRoot C (isolated ctx.dialects) g) → (q : Ptr Operation) (left : ContextView T A) → ReadsText texts own_texts attr text other q left → ComesBack texts own_texts attr C ctx.dialects g q left
+      reads_back closed q left r = (
+        r.new.stream.rest,
+        subst (λ (z : ContextView T A). HeldBack texts own_texts attr C (isolated ctx.dialects) g r.new.stream.rest (held_root z q)) r.ends
+          (stands_back texts owns.reading owns.written types_law owns_law unreserved attributes.outlined attributes.print_once same sound reflexive ctx p g layout.width layout.indent bytes wholly (closed fits_there) r.old (r.starts.text ∙ ap chars text_is)
+          (ap (λ (v : ContextView T A). v.dialects) r.starts.context ∙ same_dialects) q r.new r.builds),
+      )
+
+      -- with nothing filled in but positions, where all has names
+      pub reads_whole : (Fit C (isolated ctx.dialects) g → ClosedRoot C (isolated ctx.dialects) g × Named C g) → (q : Ptr Operation) (left : ContextView T A) → ReadsText texts own_texts attr text other q left → ComesBackWhole texts own_texts attr C ctx.dialects g q left
+      reads_whole closed q left r = let k = closed fits_there in (
+        r.new.stream.rest,
+        subst (λ (z : ContextView T A). HeldWhole texts own_texts attr C (isolated ctx.dialects) g r.new.stream.rest (held_root z q)) r.ends
+          (stands_whole texts owns.reading owns.written types_law owns_law unreserved attributes.outlined attributes.print_once same sound reflexive ctx p g layout.width layout.indent bytes wholly k.0 r.old (r.starts.text ∙ ap chars text_is)
+          (ap (λ (v : ContextView T A). v.dialects) r.starts.context ∙ same_dialects) k.1 q r.new r.builds),
+      )
+
+      -- and it is refused for want of memory alone
+      pub memory_alone : (Fit C (isolated ctx.dialects) g → ClosedRoot C (isolated ctx.dialects) g) → (f : ParseFault A) → UnlessMemory (RefusesText texts own_texts attr text other types.reading) f → fault_of f.cause ≡ faults.Memory
+      memory_alone closed f h =
+          elim h [
+            | inl m ↦ m.because
+            | inr r ↦ absurd (not_refused texts owns.reading owns.written types_law owns_law unreserved attributes.outlined attributes.print_once same sound reflexive ctx p g layout.width layout.indent bytes wholly (closed fits_there) r.old (r.starts.text ∙ ap chars text_is)
+                (ap (λ (v : ContextView T A). v.dialects) r.starts.context ∙ same_dialects) types.reading f r.refuses)
+          ]

@@ -1,0 +1,10 @@
+use Rattle.irtext_comes_back.proofs.calls.fresh_parse.Goals as goal
+
+pub returns-clause-builds : goal.returns-clause-builds
+returns-clause-builds g c = c.root_parse.ensures.builds c.requires.fresh
+
+pub returns-clause-unresolved : goal.returns-clause-unresolved
+returns-clause-unresolved g c = c.root_parse.ensures.unresolved c.requires.fresh
+
+pub returns-clause-objects : goal.returns-clause-objects
+returns-clause-objects g c = c.root_parse.ensures.objects c.requires.fresh

@@ -1,0 +1,109 @@
+-- For callers: what is promised of a root that is printed and read again.
+use Rattle.std.specs.Prelude.{◌≡◌, ℕ, Bool, true, List, [], Some, None}
+use Rattle.std.specs.Str.{chars, encode_utf8_all}
+use Rattle.irtext_base.specs.Answers.{Outcome}
+use Rattle.irtext_base.specs.Faults.{fault_of}
+use Rattle.irtext_base.specs.Faults as fault
+use Rattle.irtext_base.specs.Locations.{AttrView}
+use Rattle.irtext_base.specs.Own.{Texts, texts_of}
+use Rattle.irtext_base.specs.Text.{Text}
+use Rattle.irtext_base.specs.declared.parsable.fault.ParseFault.{ParseFault}
+use Rattle.irtext_base.specs.declared.text.AttrText as attr_text
+use Rattle.irtext_base.specs.declared.text.IrText as ir_text
+use Rattle.irtext_context.specs.Context.{ContextView}
+use Rattle.irtext_context.specs.Dialects.{Table}
+use Rattle.irtext_graph.specs.declared.arena.Ptr.{Ptr}
+use Rattle.irtext_graph.specs.declared.object.Operation.{Operation}
+use Rattle.irtext_grammar.specs.Contexts.Formats.{isolated}
+use Rattle.irtext_grammar.specs.Contexts.Nested.{seen_root}
+use Rattle.irtext_grammar.specs.Graphs.Graph.{Graph, Printing}
+use Rattle.irtext_grammar.specs.Graphs.Same.{Found, stood}
+use Rattle.irtext_grammar.specs.Spelling.Section.{text}
+use Rattle.irtext_grammar.specs.Spelling.Writable.{has_region}
+use Rattle.irtext_outcomes.specs.Promises.Root.{UnlessMemory}
+use Rattle.irtext_print.specs.Printers.PrintedOperation.{levels}
+use Rattle.irtext_print.specs.Printers.Shown.{Shown}
+use Rattle.irtext_print_ir.specs.Printers.Printed.{block_round}
+use Rattle.irtext_print_walk.specs.Heads as heads
+use Rattle.irtext_promises.specs.Held.{held_root}
+use Rattle.irtext_promises.specs.OnlyNew.{OnlyNew}
+use Rattle.irtext_promises.specs.Promises.{BuildsRoot, RefusesRoot}
+use Rattle.irtext_read.specs.AttrTexts.{attr_at}
+use Rattle.irtext_round_trip.specs.Back.{HeldBack, HeldWhole}
+use Rattle.irtext_round_trip.specs.Kept.{HoldsNoLabels}
+use Rattle.irtext_state.specs.declared.parsable.state.StateStream.{StateStream}
+use Rattle.irtext_comes_back.specs.declared.calls.NotAgain.{NotAgain}
+use Rattle.irtext_comes_back.specs.declared.calls.NotAgain.TheVariants.{Refused, Lost}
+use Rattle.irtext_comes_back.specs.declared.calls.NotBack.{NotBack}
+use Rattle.irtext_comes_back.specs.declared.calls.NotBack.TheVariants.{Unprinted, Unread}
+
+-- A closed root of a context, as printing sees it: it stands in no block, and has no result, operand or successor; it is isolated, or has
+-- no region; each operand inside is a value that its isolated scope defines, and each successor a block that its region defines; and no
+-- label stands in the dictionary of a block.
+pub record IsClosed {T A : Type 0} (written : A → Text) (C : Printing T A) (ctx : ContextView T A) (p : Ptr Operation) (g : Graph T A) : Type 0 where
+  pub sees : seen_root written ctx p ≡ Some g
+  pub nowhere : block_round ctx p ≡ None
+  pub results : g.own.results ≡ []
+  pub operands : g.own.operands ≡ []
+  pub successors : g.own.successors ≡ []
+  pub alone : has_region g.regions ≡ true → isolated ctx.dialects g.own.id ≡ true
+  pub found : Found (stood C (isolated ctx.dialects) g)
+  pub unlabelled : HoldsNoLabels g
+
+module _ {T A : Type 0} (types : ir_text.Ghosts T A) (owns : ir_text.Ghosts A A) (attributes : attr_text.Ghosts A) (same : A → A → Bool) (ctx : ContextView T A) (p : Ptr Operation) where
+  -- The bytes are those of a root's text in this layout, as the definitions of printing give it of what is seen under it; and all that was
+  -- written fits its format.
+  pub record IsPrinted (layout : Shown (Unit {0})) (bytes : List ℕ) : Type 0 where
+    pub is_text : (g : Graph T A) → seen_root owns.written ctx p ≡ Some g → block_round ctx p ≡ None
+        → bytes ≡ encode_utf8_all (text (heads.language_of types owns attributes same ctx) (heads.printing_of types owns attributes same ctx) g layout.indent layout.width (levels layout.limit))
+    pub fits : heads.MisfitsUnder types owns attributes same ctx p layout → ⊥
+
+  -- why a root's text is not read back: it is not printed in this layout, or memory was refused to the reading
+  abbrev pub IsExcused : Shown (Unit {0}) → NotBack A → Type 0
+  IsExcused layout (Unprinted refusal) = heads.RefusesUnder types owns attributes same ctx p layout refusal
+  IsExcused layout (Unread refused) = fault_of refused.cause ≡ fault.Memory
+
+module _ {T A : Type 0} (types : Texts T) (owns : Texts A) (attr : Text → Outcome (AttrView A)) where
+  module _ (C : Printing T A) (dialects : List (Text × Table)) (g : Graph T A) (q : Ptr Operation) (ctx : ContextView T A) where
+    -- what stands under the pointer is equal to the root up to fillings, uses inside too, and only white space was left of the text
+    abbrev pub ComesBack : Type 0
+    ComesBack = (rest : Text) × HeldBack types owns attr C (isolated dialects) g rest (held_root ctx q)
+
+    -- the same where nothing was filled in but positions
+    abbrev pub ComesBackWhole : Type 0
+    ComesBackWhole = (rest : Text) × HeldWhole types owns attr C (isolated dialects) g rest (held_root ctx q)
+
+  module _ (bytes : List ℕ) (ctx : ContextView T A) where
+    -- a stream of the text stands over the context
+    pub record Starts (old : StateStream T A (Unit {0})) : Type 0 where
+      pub text : old.stream.rest ≡ chars bytes
+      pub context : old.state.ctx.now ≡ ctx
+
+    -- a root was read from a stream of the text over the context, which it left so
+    pub record ReadsText (op : Ptr Operation) (after : ContextView T A) : Type 0 where
+      pub old : StateStream T A (Unit {0})
+      pub new : StateStream T A (Unit {0})
+      pub starts : Starts old
+      pub ends : new.state.ctx.now ≡ after
+      pub builds : BuildsRoot types owns attr op old new
+
+    -- none was read from a stream of the text over the context, since the text is none of a root
+    pub record RefusesText (types_at : Text → Outcome T) (refused : ParseFault A) : Type 0 where
+      pub old : StateStream T A (Unit {0})
+      pub starts : Starts old
+      pub refuses : RefusesRoot types owns types_at attr old.state.ctx.now.dialects old.stream refused
+
+  -- A text was read as a root, and what was printed of it as another: which stands there as the first did, with nothing filled in but
+  -- positions; and only that is new.
+  pub record IsAgain (C : Printing T A) (bytes : List ℕ) (ctx : ContextView T A) (p : Ptr Operation) (after : ContextView T A) (other : ContextView T A) (q : Ptr Operation) (left : ContextView T A) : Type 0 where
+    pub reads : ReadsText bytes ctx p after
+    pub graph : Graph T A
+    pub sees : seen_root owns.written after p ≡ Some graph
+    pub whole : ComesBackWhole C after.dialects graph q left
+    pub only : OnlyNew q other left
+
+-- why a text's root is not read again: the text was refused, or its root was not printed in this layout, or memory was refused
+abbrev pub IsExcusedAgain : {T A : Type 0} → ir_text.Ghosts T A → ir_text.Ghosts A A → attr_text.Ghosts A → (A → A → Bool) → List ℕ → ContextView T A → ContextView T A → Shown (Unit {0}) → NotAgain A → Type 0
+IsExcusedAgain types owns attributes same bytes ctx after layout (Refused f) = UnlessMemory (RefusesText (texts_of types.reading types.written) (texts_of owns.reading owns.written) (attr_at owns.reading) bytes ctx types.reading) f
+IsExcusedAgain {T} {A} types owns attributes same bytes ctx after layout (Lost lost) =
+    (p : Ptr Operation) × ReadsText (texts_of types.reading types.written) (texts_of owns.reading owns.written) (attr_at owns.reading) bytes ctx p after × IsExcused types owns attributes same after p layout lost

@@ -1,0 +1,251 @@
+//! The laws of the two calls, with bodies that make them: a root is printed, and its text is read in another context.
+ghost use Rattle.std.specs.Prelude.{◌≡◌, ◌<◌, ◌^◌, None, Some, IsSome, IfErr, IfOk, OnErr, length, string_bytes};
+ghost use Rattle.irtext_base.specs.Own.{texts_of};
+ghost use Rattle.irtext_context.specs.Context.{operation};
+ghost use Rattle.irtext_context.specs.Made.{SameObjects};
+ghost use Rattle.irtext_grammar.specs.Contexts.Formats.{isolated};
+ghost use Rattle.irtext_grammar.specs.Contexts.Nested.{printing_over, seen_root};
+ghost use Rattle.irtext_grammar.specs.Grammar.Marked.{AllShown};
+ghost use Rattle.irtext_grammar.specs.Graphs.Closed.{Fit};
+ghost use Rattle.irtext_grammar.specs.Graphs.Graph.{Graph, written};
+ghost use Rattle.irtext_grammar.specs.Graphs.Regained.{Named};
+ghost use Rattle.irtext_kept.specs.Kept.{KeepsAll};
+ghost use Rattle.irtext_outcomes.specs.Promises.Root.{IsFresh, UnlessMemory};
+ghost use Rattle.irtext_outcomes.specs.Promises.Section.{IsStarved};
+ghost use Rattle.irtext_print.specs.Printers.Appended.{fresh};
+ghost use Rattle.irtext_print.specs.Printers.PrintedOperation.{levels};
+ghost use Rattle.irtext_print_ir.specs.Printers.Printed.{block_round};
+ghost use Rattle.irtext_print_walk.specs.Heads as heads;
+ghost use Rattle.irtext_promises.specs.OnlyNew.{OnlyNew};
+ghost use Rattle.irtext_promises.specs.Promises.{BuildsRoot, RefusesRoot};
+ghost use Rattle.irtext_read.specs.AttrTexts.{attr_at};
+ghost use Rattle.irtext_round_trip.specs.Back.{ClosedRoot};
+ghost use Rattle.irtext_comes_back.specs.Calls.{IsClosed, IsPrinted, ComesBack, ComesBackWhole, ReadsText, RefusesText, IsExcused, IsAgain, IsExcusedAgain};
+
+use crate::reading::root_parse;
+use irtext_base::location::Source;
+use irtext_base::parsable::{ParseFault, ParseResult, SourcePosition, TextStream};
+use irtext_base::result::Cause;
+use irtext_base::text::{AttrText, IrText};
+use irtext_context::base::{Context, Operation, Ptr};
+use irtext_kept::context::keeps_parts;
+use irtext_print::printable::{Refusal, State as PrintState};
+use irtext_print_ir::ir::print::print_root;
+use irtext_state::parsable::{State, StateStream};
+
+/// Why a root's text was not read back.
+#[derive(Drop)]
+pub enum NotBack<A> {
+    /// The root was not printed.
+    Unprinted(Refusal),
+    /// Its text was refused.
+    Unread(ParseFault<A>),
+}
+
+/// Why a text's root was not read a second time.
+#[derive(Drop)]
+pub enum NotAgain<A> {
+    /// The text was refused.
+    Refused(ParseFault<A>),
+    /// Its root was not read back.
+    Lost(NotBack<A>),
+}
+
+/// The text of a root in a layout.
+fn text_of_root<T: IrText<A>, A: AttrText>(
+    ctx: &Context<T, A>,
+    op: Ptr<Operation>,
+    layout: &PrintState<()>,
+) -> Result<String, Refusal>
+    requires live { IsSome (operation ctx.now op) }
+    ensures text { IfOk result (λ s. IsPrinted T.IrText.own A.IrText.own A.AttrText.own A.eq ctx.now op
+        (fresh layout.now.width layout.now.indent layout.now.limit) (string_bytes s)) }
+    ensures refused { IfErr result (heads.RefusesUnder T.IrText.own A.IrText.own A.AttrText.own A.eq ctx.now op
+        (fresh layout.now.width layout.now.indent layout.now.limit)) }
+{
+    let alloc = ctx.allocator();
+    let mut text = String::new(alloc);
+    let mut state = PrintState::with_layout(
+        alloc,
+        layout.indent_width(),
+        layout.current_indent(),
+        layout.current_region_print_depth_limit(),
+        (),
+    );
+    match print_root(ctx, op, &mut state, &mut text) {
+        Ok(()) => Ok(text),
+        Err(refusal) => Err(refusal),
+    }
+}
+
+/// A number counts the bytes of a text.
+fn bytes_counted(text: &str)
+    ensures { length text.now < 2 ^ 64 }
+{
+    let _size = text.len();
+}
+
+/// The fault where there is no memory for the text.
+fn no_memory<A>() -> ParseFault<A>
+    ensures { IsStarved result }
+{
+    ParseFault {
+        pos: SourcePosition { line: 1, column: 1 },
+        cause: Cause::Memory,
+        committed: true,
+    }
+}
+
+/// The root that stands where a fresh state's stream stands.
+fn fresh_parse<T: IrText<A>, A: AttrText, U>(
+    s: &mut StateStream<'_, T, A, U>,
+) -> ParseResult<Ptr<Operation>, A>
+    requires fresh { IsFresh s.old }
+    ensures lent { s.new.state.ctx.ghost_name ≡ s.old.state.ctx.ghost_name }
+    ensures builds { IfOk result (λ op. BuildsRoot (texts_of T.reading T.written) (texts_of A.reading A.written)
+        (attr_at A.reading) op s.old s.new) }
+    ensures unresolved { IfErr result (UnlessMemory
+        (RefusesRoot (texts_of T.reading T.written) (texts_of A.reading A.written) T.reading
+        (attr_at A.reading) s.old.state.ctx.now.dialects s.old.stream)) }
+    ensures objects { OnErr result (SameObjects s.old.state.ctx.now s.new.state.ctx.now) }
+{
+    root_parse(s)
+}
+
+/// The root that a text reads as.
+fn read_text<T: IrText<A>, A: AttrText>(
+    ctx: &mut Context<T, A>,
+    text: &str,
+) -> ParseResult<Ptr<Operation>, A>
+    ensures before { KeepsAll ctx.old }
+    ensures reads { IfOk result
+        (λ q. ReadsText (texts_of T.reading T.written) (texts_of A.reading A.written)
+        (attr_at A.reading) text.now ctx.old q ctx.new) }
+    ensures refuses { IfErr result
+        (UnlessMemory (RefusesText (texts_of T.reading T.written) (texts_of A.reading A.written)
+        (attr_at A.reading) text.now ctx.old T.reading)) }
+    ensures objects { OnErr result (SameObjects ctx.old ctx.new) }
+{
+    keeps_parts(ctx);
+    let alloc = ctx.allocator();
+    let stream = match TextStream::new(alloc, text) {
+        Ok(stream) => stream,
+        Err(_) => return Err(no_memory()),
+    };
+    let state = State::new(ctx, Source::InMemory, ());
+    let mut s = StateStream { stream, state };
+    let answer = fresh_parse(&mut s);
+    let _ctx = s.into_ctx();
+    answer
+}
+
+/// Prints a root and reads the text, as `printed_and_read` does; what is said of it asks that the root is closed where its operations fit
+/// their formats.
+fn there_and_back<T: IrText<A>, A: AttrText>(
+    ctx: &Context<T, A>,
+    op: Ptr<Operation>,
+    layout: &PrintState<()>,
+    other: &mut Context<T, A>,
+) -> Result<Ptr<Operation>, NotBack<A>>
+    requires live { IsSome (operation ctx.now op) }
+    requires dialects { other.old.dialects ≡ ctx.now.dialects }
+    ensures back { levels layout.now.limit ≡ None → block_round ctx.now op ≡ None → (g : Graph T A) → seen_root A.written ctx.now op ≡ Some g →
+        let C = printing_over ctx.now A.outlined A.print_once A.eq in
+        (Fit C (isolated ctx.now.dialects) g → ClosedRoot C (isolated ctx.now.dialects) g) →
+        IfOk result (λ q. ComesBack (texts_of T.reading T.written) (texts_of A.reading A.written) (attr_at A.reading) C
+        ctx.now.dialects g q other.new) }
+    ensures whole { levels layout.now.limit ≡ None → block_round ctx.now op ≡ None → (g : Graph T A) → seen_root A.written ctx.now op ≡ Some g →
+        let C = printing_over ctx.now A.outlined A.print_once A.eq in
+        (Fit C (isolated ctx.now.dialects) g → ClosedRoot C (isolated ctx.now.dialects) g × Named C g) →
+        IfOk result (λ q. ComesBackWhole (texts_of T.reading T.written) (texts_of A.reading A.written) (attr_at A.reading) C
+        ctx.now.dialects g q other.new) }
+    ensures limited { block_round ctx.now op ≡ None → (g : Graph T A) → seen_root A.written ctx.now op ≡ Some g →
+        let C = printing_over ctx.now A.outlined A.print_once A.eq in
+        Fit C (isolated ctx.now.dialects) g → (AllShown (written C (levels layout.now.limit) g) → ⊥) → IfOk result (λ q. ⊥) }
+    ensures only { IfOk result (λ q. OnlyNew q other.old other.new) }
+    ensures refused { levels layout.now.limit ≡ None → block_round ctx.now op ≡ None → (g : Graph T A) → seen_root A.written ctx.now op ≡ Some g →
+        let C = printing_over ctx.now A.outlined A.print_once A.eq in
+        (Fit C (isolated ctx.now.dialects) g → ClosedRoot C (isolated ctx.now.dialects) g) →
+        IfErr result (IsExcused T.IrText.own A.IrText.own A.AttrText.own A.eq ctx.now op
+        (fresh layout.now.width layout.now.indent layout.now.limit)) }
+    ensures objects { OnErr result (SameObjects other.old other.new) }
+{
+    keeps_parts(ctx);
+    let text = match text_of_root(ctx, op, layout) {
+        Ok(text) => text,
+        Err(refusal) => return Err(NotBack::Unprinted(refusal)),
+    };
+    let bytes = text.as_str();
+    bytes_counted(bytes);
+    match read_text(other, bytes) {
+        Ok(root) => Ok(root),
+        Err(fault) => Err(NotBack::Unread(fault)),
+    }
+}
+
+/// Prints a root as `print` does with a state of this layout, or as `disp` does where the layout is a new state's; and reads the text as
+/// `top_level_parse` does, in another context with the same dialects. A closed root is read back where the layout leaves no regions out:
+/// what stands under the answer, however deep, is equal to it up to fillings, uses inside too, and only that is new; nothing but positions
+/// is filled in where each block has a label and all that has results or arguments holds given names. It is refused only where memory is,
+/// or where an operation doesn't fit its format or the indentation is too deep, and then the other context's objects are as they were.
+/// Nothing is read of a root of which the layout left a region out.
+pub fn printed_and_read<T: IrText<A>, A: AttrText>(
+    ctx: &Context<T, A>,
+    op: Ptr<Operation>,
+    layout: &PrintState<()>,
+    other: &mut Context<T, A>,
+) -> Result<Ptr<Operation>, NotBack<A>>
+    requires live { IsSome (operation ctx.now op) }
+    requires dialects { other.old.dialects ≡ ctx.now.dialects }
+    ensures back { levels layout.now.limit ≡ None → (g : Graph T A) →
+        let C = printing_over ctx.now A.outlined A.print_once A.eq in
+        IsClosed A.written C ctx.now op g →
+        IfOk result (λ q. ComesBack (texts_of T.reading T.written) (texts_of A.reading A.written) (attr_at A.reading) C
+        ctx.now.dialects g q other.new) }
+    ensures whole { levels layout.now.limit ≡ None → (g : Graph T A) →
+        let C = printing_over ctx.now A.outlined A.print_once A.eq in
+        IsClosed A.written C ctx.now op g → Named C g →
+        IfOk result (λ q. ComesBackWhole (texts_of T.reading T.written) (texts_of A.reading A.written) (attr_at A.reading) C
+        ctx.now.dialects g q other.new) }
+    ensures limited { (g : Graph T A) →
+        let C = printing_over ctx.now A.outlined A.print_once A.eq in
+        IsClosed A.written C ctx.now op g → Fit C (isolated ctx.now.dialects) g →
+        (AllShown (written C (levels layout.now.limit) g) → ⊥) → IfOk result (λ q. ⊥) }
+    ensures only { IfOk result (λ q. OnlyNew q other.old other.new) }
+    ensures refused { levels layout.now.limit ≡ None → (g : Graph T A) →
+        let C = printing_over ctx.now A.outlined A.print_once A.eq in
+        IsClosed A.written C ctx.now op g →
+        IfErr result (IsExcused T.IrText.own A.IrText.own A.AttrText.own A.eq ctx.now op
+        (fresh layout.now.width layout.now.indent layout.now.limit)) }
+    ensures objects { OnErr result (SameObjects other.old other.new) }
+{
+    keeps_parts(ctx);
+    there_and_back(ctx, op, layout, other)
+}
+
+/// Reads a text, prints the root that it reads as, and reads what was printed in another context with the same dialects. What is read then
+/// is the first root whole: with a position where its location was unknown, and with no name and no label filled in. Nothing but want of
+/// memory, an operation that doesn't fit its format or an indentation that is too deep comes between.
+pub fn read_printed_and_read<T: IrText<A>, A: AttrText>(
+    text: &str,
+    ctx: &mut Context<T, A>,
+    layout: &PrintState<()>,
+    other: &mut Context<T, A>,
+) -> Result<(Ptr<Operation>, Ptr<Operation>), NotAgain<A>>
+    requires unlimited { levels layout.now.limit ≡ None }
+    requires dialects { other.old.dialects ≡ ctx.old.dialects }
+    ensures again { IfOk result (λ r. IsAgain (texts_of T.reading T.written) (texts_of A.reading A.written) (attr_at A.reading)
+        (printing_over ctx.new A.outlined A.print_once A.eq) text.now ctx.old r.0 ctx.new other.old r.1 other.new) }
+    ensures refused { IfErr result (IsExcusedAgain T.IrText.own A.IrText.own A.AttrText.own A.eq text.now ctx.old ctx.new
+        (fresh layout.now.width layout.now.indent layout.now.limit)) }
+{
+    let root = match read_text(ctx, text) {
+        Ok(root) => root,
+        Err(fault) => return Err(NotAgain::Refused(fault)),
+    };
+    keeps_parts(ctx);
+    match there_and_back(ctx, root, layout, other) {
+        Ok(again) => Ok((root, again)),
+        Err(lost) => Err(NotAgain::Lost(lost)),
+    }
+}
