@@ -1,0 +1,20 @@
+-- Lemmas on the loop that reads nested text: what is told, turns one behind the other, what is open, and each turn.
+pub mod Telling
+pub mod Carrying
+pub mod Staying
+pub mod Unplaced
+pub mod Entered
+pub mod Chains
+pub mod Levels
+pub mod Builds
+pub mod Nearer
+pub mod Labels
+pub mod Owns
+pub mod Turning
+pub mod Faulting
+pub mod Proceeding
+pub mod Stopping
+pub mod Looping
+pub mod Nesting
+pub mod Under
+pub mod Handing

@@ -1,0 +1,45 @@
+-- Between functions: all that items did as nested text was read, kept as a list, what was done last first. Whatever items do, this list says it.
+use Rattle.std.specs.Prelude.{ℕ, Bool, List, [], ◌∷◌, Option}
+use Rattle.irtext_base.specs.Format.{Id}
+use Rattle.irtext_grammar.specs.Grammar.Tree.{Name, Mark, Piece, Part, Head}
+use Rattle.irtext_nesting.specs.Reached.{Doing}
+
+-- what an item did: an operation's parts in front of its first region; a piece behind it; a region as it began and ended; an operation at
+-- its end; its mark; a block's header
+pub data Did (T A : Type 0) : Type 0 where
+  did_use : ℕ → Id → List (Part ℕ T A) → Did T A
+  did_late : ℕ → Id → Piece ℕ T A → Did T A
+  did_enter : Bool → Did T A
+  did_leave : Bool → ℕ → Did T A
+  did_close : ℕ → List (Name ℕ) → Id → List (Part ℕ T A) → Did T A
+  did_mark : Option (Mark ℕ) → Did T A
+  did_head : Head ℕ T A → Did T A
+
+module _ {T A : Type 0} where
+  -- what items do is told
+  abbrev pub told : Doing T A (List (Did T A))
+  told = record {
+    uses = λ place id parts ds. did_use place id parts ∷ ds;
+    late = λ place id piece ds. did_late place id piece ∷ ds;
+    enters = λ iso ds. did_enter iso ∷ ds;
+    leaves = λ iso place ds. did_leave iso place ∷ ds;
+    closes = λ place names id parts ds. did_close place names id parts ∷ ds;
+    marks = λ mark ds. did_mark mark ∷ ds;
+    heads = λ head ds. did_head head ∷ ds;
+  }
+
+module _ {T A S : Type 0} (does : Doing T A S) where
+  -- one thing done, in one way of doing
+  abbrev pub one_done : Did T A → S → S
+  one_done (did_use place id parts) s = does.uses place id parts s
+  one_done (did_late place id piece) s = does.late place id piece s
+  one_done (did_enter iso) s = does.enters iso s
+  one_done (did_leave iso place) s = does.leaves iso place s
+  one_done (did_close place names id parts) s = does.closes place names id parts s
+  one_done (did_mark mark) s = does.marks mark s
+  one_done (did_head head) s = does.heads head s
+
+  -- all of it, the last thing first in the list
+  abbrev pub all_done : List (Did T A) → S → S
+  all_done [] s = s
+  all_done (d ∷ ds) s = one_done d (all_done ds s)

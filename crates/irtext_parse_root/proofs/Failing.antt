@@ -1,0 +1,262 @@
+-- No fault of a nested text says that the stream had failed, and one of which nothing was read has a cause of a text.
+use Rattle.std.proofs.Common.{◌≡◌, ◌∙◌, ℕ, zero, suc, Bool, true, false, cond, List, [], ◌∷◌, ◌++◌, length, Option, Some, None, codes, is_some, append_assoc, refl, sym, ap, subst}
+use Rattle.irtext_base.specs.Text.{Text, begins, after_space}
+use Rattle.irtext_base.specs.Reading.{the}
+use Rattle.irtext_base.specs.Format as format
+use Rattle.irtext_base.specs.Format.{Id, Directive}
+use Rattle.irtext_base.specs.Faults.{Fault, Failed, UnregisteredOp, UnregisteredDialect}
+use Rattle.irtext_base.specs.Own.{Sincere, is_first_fault}
+use Rattle.irtext_base.specs.Answers.{Outcome, Read, Missing, Bad, mapped}
+use Rattle.irtext_base.specs.Locations.{AttrView}
+use Rattle.irtext_base.proofs.Sincere.{Of, of_read, of_missing, of_mapped, of_sincere}
+use Rattle.irtext_context.specs.Dialects.{Table}
+use Rattle.irtext_context.specs.DialectTable.{dialect_of, registered}
+use Rattle.irtext_read.specs.AttrTexts.{attr_at}
+use Rattle.irtext_read.specs.Infix.{◌▷◌}
+use Rattle.irtext_read.specs.Tokens.{space_at, word, identifier_at, id_at}
+use Rattle.irtext_read.proofs.Honest.{Honest, ◌then◌, ◌kept◌, ◌so◌, seen, honest_either, honest_word, honest_space, honest_id, honest_index, honest_name, honest_separated, honest_spaced, honest_attr}
+use Rattle.irtext_grammar.specs.Contexts.Formats.{op_id, isolated}
+use Rattle.irtext_grammar.specs.Grammar.Tree as tree
+use Rattle.irtext_grammar.specs.Grammar.Tree.{Name, Part}
+use Rattle.irtext_outcomes.specs.Readers.Parts.{behind, without_first}
+use Rattle.irtext_outcomes.specs.Readers.Operations.{registered_behind}
+use Rattle.irtext_outcomes.specs.Readers.Marker.{marker, starts_with}
+use Rattle.irtext_grammar.specs.Spelling.AttrText.{attr_tree}
+use Rattle.irtext_read.specs.Demanded.{index_at}
+use Rattle.irtext_outcomes.specs.Promises.Supported.{is_committed}
+use Rattle.irtext_outcomes.proofs.Readers.Honest.{honest_nothing}
+use Rattle.irtext_outcomes.proofs.Readers.NeverFailed.{NotFailed, Fine, fine_honest, fine_read, fine_missing, fine_bad, fine_either, fine_behind, fine_mapped}
+use Rattle.irtext_nesting.specs.Heads.{Step, flat, types, one, all, name_at, name_of, label_at, symbol_at, used_at, target_at, pair_at, dictionary_at, outlined_or_at, directive_at, argument_at, mark_at, mark_if_at, head_at, piece_at, front_steps, region_steps, results_at, named, lead_at, led_by, led_at}
+use Rattle.irtext_nesting.specs.Reached.{Reached, Came, Stuck, came, tells, Doing, Reads, begins_operation, begins_region, begins_block, steps_in, regions_by, more_by, operations_by, blocks_by, front_by, steps_by, end_by, body_by, operation_by, block_by, region_by, region_within, region_at, operation_at}
+
+-- ---- what is stuck
+abbrev StuckFine : {X S : Type 0} → Reached X S → Type 0
+StuckFine (Came x s rest) = Unit {0}
+StuckFine (Stuck s cause place) = NotFailed cause
+
+-- it is stuck at no such cause
+record Never {X S : Type 0} (o : Reached X S) : Type 0 where
+  pub says : StuckFine o
+
+never_came : {X Y S : Type 0} (o : Reached X S) (next : X → S → Text → Reached Y S) → Never o → ((x : X) (s : S) (rest : Text) → Never (next x s rest)) → Never (came o next)
+never_came (Came x s rest) next h k = k x s rest
+never_came (Stuck s cause place) next h k = record { says = h.says }
+
+never_tells : {X Y S : Type 0} (o : Outcome X) (text : Text) (s : S) (next : X → Text → Reached Y S) → Fine o → ((x : X) (rest : Text) → Never (next x rest)) → Never (tells o text s next)
+never_tells (Read x taken rest) text s next h k = k x rest
+never_tells (Missing cause) text s next h k = record { says = h.spares }
+never_tells (Bad cause upto) text s next h k = record { says = h.spares }
+
+never_if : {X S : Type 0} (b : Bool) (o p : Reached X S) → Never o → Never p → Never (cond b o p)
+never_if true o p h k = h
+never_if false o p h k = k
+
+there : {X S : Type 0} (x : X) (s : S) (rest : Text) → Never (Came x s rest)
+there x s rest = record { says = tt }
+
+module _ {S : Type 0} where
+  never_regions : (inner : Reads S) → ((text : Text) (s : S) → Never (inner text s)) → (n : ℕ) (text : Text) (s : S) → Never (regions_by inner n text s)
+  never_regions inner h zero text s = there tt s text
+  never_regions inner h (suc n) text s = never_if (begins_region text) _ _ (never_came (inner text s) _ (h text s) (λ _ t rest. never_regions inner h n (after_space rest) t)) (there tt s text)
+
+  never_more : (item : Reads S) → ((text : Text) (s : S) → Never (item text s)) → (n : ℕ) (text : Text) (s : S) → Never (more_by item n text s)
+  never_more item h zero text s = there tt s text
+  never_more item h (suc n) text s = never_if (begins (the 59) text) _ _ (never_came (item (after_space (without_first text)) s) _ (h (after_space (without_first text)) s) (λ _ t rest. never_more item h n (after_space rest) t)) (there tt s text)
+
+  never_operations : (item : Reads S) → ((text : Text) (s : S) → Never (item text s)) → (text : Text) (s : S) → Never (operations_by item text s)
+  never_operations item h text s = never_if (begins_operation text) _ _ (never_came (item text s) _ (h text s) (λ _ t rest. never_more item h (length rest) (after_space rest) t)) (there tt s text)
+
+  never_blocks : (item : Reads S) → ((text : Text) (s : S) → Never (item text s)) → (n : ℕ) (text : Text) (s : S) → Never (blocks_by item n text s)
+  never_blocks item h zero text s = there tt s text
+  never_blocks item h (suc n) text s = never_if (begins_block text) _ _ (never_came (item text s) _ (h text s) (λ _ t rest. never_blocks item h n (after_space rest) t)) (there tt s text)
+
+-- ---- the readers of heads
+name_honest : Honest name_at
+name_honest = record { of = λ text. of_mapped text (name_of (length text)) (identifier_at text) ((honest_name _).of text) }
+
+used_honest : Honest (used_at true)
+used_honest = record { of = λ text. name_honest.of text }
+
+target_honest : Honest (target_at true)
+target_honest = ◌then◌ (honest_word (codes "^")) used_honest
+
+symbol_honest : Honest symbol_at
+symbol_honest = record { of = λ text. of_mapped text (name_of (length text)) ((word (codes "@") ▷ identifier_at) text) ((◌then◌ (honest_word (codes "@")) (honest_name _)).of text) }
+
+label_honest : Honest label_at
+label_honest = record { of = λ text. of_mapped text (name_of (length text)) ((word (codes "^") ▷ identifier_at) text) ((◌then◌ (honest_word (codes "^")) (honest_name _)).of text) }
+
+mark_honest : Honest mark_at
+mark_honest = record { of = λ text. of_mapped text (λ i. record { place = length text; index = i }) (index_at text) (honest_index.of text) }
+
+mark_if_honest : Honest mark_if_at
+mark_if_honest = honest_either (begins (the 33)) (seen Some mark_honest) (honest_nothing None)
+
+results_honest : Honest results_at
+results_honest = ◌kept◌ (honest_separated 44 name_at name_honest) (honest_word (codes "="))
+
+named_of : (o : Outcome (List (Name ℕ))) (text : Text) → Of text o → Of text (named o text)
+named_of (Read ns taken rest) text h = h
+named_of (Missing cause) text h = of_read text [] [] text refl
+named_of (Bad cause upto) text h = of_read text [] [] text refl
+
+lead_honest : Honest lead_at
+lead_honest = ◌then◌ honest_space (◌kept◌ (record { of = λ text. named_of (results_at text) text (results_honest.of text) }) honest_space)
+
+fine_registered : (dialects : List (Text × Table)) (lead : Text) (o : Outcome Id) → Fine o → Fine (registered_behind dialects lead o)
+fine_registered dialects lead (Read id taken rest) h =
+    fine_either (is_some (dialect_of dialects id.dialect)) _ _ (fine_either (is_some (registered dialects (op_id id))) _ _ h (fine_bad (UnregisteredOp id) [] (λ e. absurd (cc)))) (fine_bad (UnregisteredDialect id.dialect) lead (λ e. absurd (cc)))
+fine_registered dialects lead (Missing cause) h = fine_missing cause h.spares
+fine_registered dialects lead (Bad cause upto) h = fine_bad cause upto h.spares
+
+fine_led_by : (dialects : List (Text × Table)) (o : Outcome (List (Name ℕ))) → Fine o → Fine (led_by dialects o)
+fine_led_by dialects (Read ns lead rest) h = fine_mapped (λ id. (ns, id)) _ (fine_registered dialects lead (behind lead (id_at rest)) (fine_behind lead (id_at rest) (fine_honest honest_id rest)))
+fine_led_by dialects (Missing cause) h = fine_missing cause h.spares
+fine_led_by dialects (Bad cause upto) h = fine_bad cause upto h.spares
+
+fine_led : (dialects : List (Text × Table)) (text : Text) → Fine (led_at dialects text)
+fine_led dialects text = fine_led_by dialects (lead_at text) (fine_honest lead_honest text)
+
+-- where nothing is led, for a cause of a text
+registered_first : (dialects : List (Text × Table)) (lead text : Text) (o : Outcome Id) → Of text o → (cause : Fault) → registered_behind dialects lead o ≡ Missing cause → is_first_fault cause ≡ true
+registered_first dialects lead text (Read id taken rest) h cause e = go (is_some (dialect_of dialects id.dialect)) (is_some (registered dialects (op_id id))) e
+  where
+    go : (a b : Bool) → cond a (cond b (Read id taken rest) (Bad (UnregisteredOp id) [])) (Bad (UnregisteredDialect id.dialect) lead) ≡ Missing cause → is_first_fault cause ≡ true
+    go true true e = absurd (cc)
+    go true false e = absurd (cc)
+    go false b e = absurd (cc)
+registered_first dialects lead text (Missing c) h cause e = let same : c ≡ cause = cc e in subst (λ z. is_first_fault z ≡ true) same h.says
+registered_first dialects lead text (Bad c u) h cause e = absurd (cc)
+
+mapped_missing : {X Y : Type 0} (see : X → Y) (o : Outcome X) (cause : Fault) → mapped see o ≡ Missing cause → o ≡ Missing cause
+mapped_missing see (Read x taken rest) cause e = absurd (cc)
+mapped_missing see (Missing c) cause e = let same : c ≡ cause = cc e in ap Missing same
+mapped_missing see (Bad c u) cause e = absurd (cc)
+
+behind_first : (dialects : List (Text × Table)) (lead rest : Text) (cause : Fault) → registered_behind dialects lead (behind lead (id_at rest)) ≡ Missing cause → is_first_fault cause ≡ true
+behind_first dialects [] rest cause e = registered_first dialects [] rest (id_at rest) (honest_id.of rest) cause e
+behind_first dialects (c ∷ lead) rest cause e = go (id_at rest) e
+  where
+    go : (o : Outcome Id) → registered_behind dialects (c ∷ lead) (behind (c ∷ lead) o) ≡ Missing cause → is_first_fault cause ≡ true
+    go (Read id taken left) e = registered_first dialects (c ∷ lead) (c ∷ lead ++ (taken ++ left)) (Read id (c ∷ lead ++ taken) left) (of_read _ id (c ∷ lead ++ taken) left (append_assoc (c ∷ lead) taken left)) cause e
+    go (Missing d) e = absurd (cc)
+    go (Bad d u) e = absurd (cc)
+
+pub led_first : (dialects : List (Text × Table)) (text : Text) (cause : Fault) → led_at dialects text ≡ Missing cause → is_first_fault cause ≡ true
+led_first dialects text cause e = go (lead_at text) (lead_honest.of text) e
+  where
+    go : (o : Outcome (List (Name ℕ))) → Of text o → led_by dialects o ≡ Missing cause → is_first_fault cause ≡ true
+    go (Read ns lead rest) h e = behind_first dialects lead rest cause (mapped_missing (λ id. (ns, id)) (registered_behind dialects lead (behind lead (id_at rest))) cause e)
+    go (Missing c) h e = let same : c ≡ cause = cc e in subst (λ z. is_first_fault z ≡ true) same h.says
+    go (Bad c u) h e = absurd (cc)
+
+module _ {T A : Type 0} (types_at : Text → Outcome T) (reading : Text → Outcome A) (sincere_types : Sincere types_at) (sincere : Sincere reading) where
+  abbrev attr : Text → Outcome (AttrView A)
+  attr = attr_at reading
+
+  types_honest : Honest types_at
+  types_honest = record { of = of_sincere types_at sincere_types }
+
+  attr_honest : Honest attr
+  attr_honest = honest_attr (record { of = of_sincere reading sincere })
+
+  pair_honest : Honest (pair_at attr)
+  pair_honest = ◌so◌ name_honest (λ key. ◌then◌ (honest_spaced (codes ":")) (seen (λ a. (key, a)) (seen _ attr_honest)))
+
+  dictionary_honest : Honest (dictionary_at attr)
+  unfolding dictionary_at
+  dictionary_honest = record { of = λ text. (◌then◌ (honest_word (codes "[")) (◌then◌ honest_space (◌kept◌ (honest_separated 44 (pair_at attr) pair_honest) (honest_word (codes "]"))))).of text }
+
+  outlined_honest : Honest (outlined_or_at attr)
+  outlined_honest = honest_either (starts_with marker) (seen (λ _. None) (honest_word marker)) (seen Some (seen (attr_tree {A = A}) attr_honest))
+
+  directive_honest : (d : Directive) → Honest (directive_at types_at attr true d)
+  directive_honest (format.word s) = seen _ (honest_word s)
+  directive_honest (format.operand i) = seen _ used_honest
+  directive_honest format.operands = seen _ (honest_separated 44 (used_at true) used_honest)
+  directive_honest (format.successor i) = seen _ target_honest
+  directive_honest format.successors = seen _ (honest_separated 44 (target_at true) target_honest)
+  directive_honest (format.attribute k) = seen _ outlined_honest
+  directive_honest format.dictionary = seen _ dictionary_honest
+  directive_honest (format.result_type i) = seen _ types_honest
+  directive_honest format.header = seen _ symbol_honest
+  directive_honest (format.region i) = record { of = λ text. of_missing text _ refl }
+  directive_honest format.regions = record { of = λ text. of_missing text _ refl }
+
+  piece_honest : (step : Step) → Honest (piece_at types_at attr true step)
+  piece_honest (flat d) = directive_honest d
+  piece_honest types = seen _ (honest_separated 44 types_at types_honest)
+  piece_honest (one i) = record { of = λ text. of_missing text _ refl }
+  piece_honest all = record { of = λ text. of_missing text _ refl }
+
+  fine_piece : (step : Step) (text : Text) → Fine ((space_at ▷ piece_at types_at attr true step) text)
+  fine_piece step text = fine_honest (◌then◌ honest_space (piece_honest step)) text
+
+  argument_honest : Honest (argument_at types_at attr)
+  argument_honest = ◌so◌ name_honest (λ n. ◌then◌ (honest_spaced (codes ":")) (seen (λ t. (n, t)) types_honest))
+
+  head_honest : Honest (head_at types_at attr)
+  head_honest =
+      ◌so◌ label_honest (λ label. ◌then◌ (honest_spaced (codes "(")) (◌so◌ (honest_separated 44 (argument_at types_at attr) argument_honest) (λ arguments. ◌then◌ (honest_word (codes ")")) (◌then◌ honest_space
+      (◌so◌ (honest_either (begins (the 91)) (seen Some dictionary_honest) (honest_nothing None)) (λ attributes. ◌then◌ honest_space
+      (◌so◌ mark_if_honest (λ mark. ◌then◌ honest_space (seen (λ _. record { label = label; arguments = arguments; attributes = attributes; mark = mark }) (honest_word (codes ":")))))))))))
+
+  -- ---- the readers of what nests
+  module _ {S : Type 0} (dialects : List (Text × Table)) (does : Doing T A S) where
+    never_front : (ss : List Step) (found : List (Part ℕ T A)) (text : Text) (s : S) → Never (front_by dialects types_at attr does true ss found text s)
+    never_front [] found text s = there found s text
+    never_front (step ∷ ss) found text s = never_tells ((space_at ▷ piece_at types_at attr true step) text) text s _ (fine_piece step text) (λ p rest. never_front ss (found ++ tree.piece p ∷ []) rest s)
+
+    never_steps : (inner : Reads S) → ((text : Text) (s : S) → Never (inner text s)) → (place : ℕ) (id : Id) (ss : List Step) (found : List (Part ℕ T A)) (text : Text) (s : S) → Never (steps_by dialects types_at attr does inner true place id ss found text s)
+    never_steps inner h place id [] found text s = there found s text
+    never_steps inner h place id (one i ∷ ss) found text s = never_came (inner (after_space text) s) _ (h (after_space text) s) (λ _ t rest. never_steps inner h place id ss (found ++ tree.region i ∷ []) rest t)
+    never_steps inner h place id (all ∷ ss) found text s =
+        never_came (regions_by inner (length text) (after_space text) s) _ (never_regions inner h (length text) (after_space text) s) (λ _ t rest. never_steps inner h place id ss (found ++ tree.regions ∷ []) rest t)
+    never_steps inner h place id (flat d ∷ ss) found text s =
+        never_tells ((space_at ▷ piece_at types_at attr true (flat d)) text) text s _ (fine_piece (flat d) text) (λ p rest. never_steps inner h place id ss (found ++ tree.piece p ∷ []) rest (does.late place id p s))
+    never_steps inner h place id (types ∷ ss) found text s =
+        never_tells ((space_at ▷ piece_at types_at attr true types) text) text s _ (fine_piece types text) (λ p rest. never_steps inner h place id ss (found ++ tree.piece p ∷ []) rest (does.late place id p s))
+
+    never_end : (place : ℕ) (names : List (Name ℕ)) (id : Id) (parts : List (Part ℕ T A)) (text : Text) (s : S) → Never (end_by dialects types_at attr does place names id parts text s)
+    never_end place names id parts text s = never_tells ((space_at ▷ mark_if_at) text) text (does.closes place names id parts s) _ (fine_honest (◌then◌ honest_space mark_if_honest) text) (λ m rest. there tt _ rest)
+
+    never_body : (inner : Reads S) → ((text : Text) (s : S) → Never (inner text s)) → (place : ℕ) (names : List (Name ℕ)) (id : Id) (text : Text) (s : S) → Never (body_by dialects types_at attr does inner true place names id text s)
+    never_body inner h place names id text s =
+        never_came (front_by dialects types_at attr does true (front_steps (steps_in dialects id)) [] text s) _ (never_front (front_steps (steps_in dialects id)) [] text s) (λ found t rest.
+        never_came (steps_by dialects types_at attr does inner true place id (region_steps (steps_in dialects id)) found rest (does.uses place id found t)) _
+        (never_steps inner h place id (region_steps (steps_in dialects id)) found rest (does.uses place id found t)) (λ parts u left. never_end place names id parts left u))
+
+    never_operation : (inner : Bool → Reads S) → ((iso : Bool) (text : Text) (s : S) → Never (inner iso text s)) → (text : Text) (s : S) → Never (operation_by dialects types_at attr does inner true text s)
+    never_operation inner h text s = never_tells (led_at dialects text) text s _ (fine_led dialects text) (λ lead rest. never_body (inner (isolated dialects lead.1)) (h (isolated dialects lead.1)) (length text) lead.0 lead.1 rest s)
+
+    never_block : (operations : Reads S) → ((text : Text) (s : S) → Never (operations text s)) → (text : Text) (s : S) → Never (block_by dialects types_at attr does operations text s)
+    never_block operations h text s = never_tells (head_at types_at attr text) text s _ (fine_honest head_honest text) (λ head rest. h (after_space rest) (does.heads head s))
+
+    never_region : (blocks : Reads S) → ((text : Text) (s : S) → Never (blocks text s)) → (iso : Bool) (text : Text) (s : S) → Never (region_by dialects types_at attr does blocks iso text s)
+    never_region blocks h iso text s =
+        never_tells ((word (codes "{") ▷ space_at) text) text (does.enters iso s) _ (fine_honest (◌then◌ (honest_word (codes "{")) honest_space) text) (λ _ rest.
+        never_came (blocks rest (does.enters iso s)) _ (h rest (does.enters iso s)) (λ _ u left.
+        never_tells (word (codes "}") left) left u _ (fine_honest (honest_word (codes "}")) left) (λ _ end. there tt _ end)))
+
+    never_within : (n : ℕ) (iso : Bool) (text : Text) (s : S) → Never (region_within dialects types_at attr does n iso text s)
+    never_within zero iso text s = record { says = λ e. absurd (cc) }
+    never_within (suc n) iso text s = never_region _ (λ rest t.
+        never_blocks _ (never_block _ (never_operations _ (never_operation (region_within dialects types_at attr does n) (never_within n)))) (length rest) rest t) iso text s
+
+    -- a region's reader is stuck at no such cause
+    pub region_never_failed : (iso : Bool) (text : Text) (s t : S) (cause : Fault) (place : ℕ) → region_at dialects types_at attr does iso text s ≡ Stuck t cause place → cause ≡ Failed → ⊥
+    region_never_failed iso text s t cause place e = (subst Never e (never_within (suc (length text)) iso text s)).says
+
+    -- nor is an operation's
+    pub operation_never_failed : (text : Text) (s t : S) (cause : Fault) (place : ℕ) → operation_at dialects types_at attr does true text s ≡ Stuck t cause place → cause ≡ Failed → ⊥
+    operation_never_failed text s t cause place e = (subst Never e (never_operation (region_at dialects types_at attr does) (λ iso rest u. never_within (suc (length rest)) iso rest u) text s)).says
+
+    -- where no operation begins, it is stuck for a cause of a text
+    pub operation_first : (text : Text) (s t : S) (cause : Fault) (place : ℕ) → operation_at dialects types_at attr does true text s ≡ Stuck t cause place → is_committed (led_at dialects text) ≡ false → is_first_fault cause ≡ true
+    operation_first text s t cause place e flag = go (led_at dialects text) refl flag e
+      where
+        go : (o : Outcome (List (Name ℕ) × Id)) → led_at dialects text ≡ o → is_committed o ≡ false
+            → tells o text s (λ lead rest. body_by dialects types_at attr does (region_at dialects types_at attr does (isolated dialects lead.1)) true (length text) lead.0 lead.1 rest s) ≡ Stuck t cause place → is_first_fault cause ≡ true
+        go (Read lead taken rest) is flag e = absurd (cc)
+        go (Missing c) is flag e = let same : c ≡ cause = cc e in subst (λ z. is_first_fault z ≡ true) same (led_first dialects text c is)
+        go (Bad c u) is flag e = absurd (cc)

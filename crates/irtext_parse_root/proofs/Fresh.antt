@@ -1,0 +1,55 @@
+-- Where a reading begins no name is known: names, graph and marks stand where the machine starts.
+use Rattle.std.proofs.Common.{◌≡◌, ◌∙◌, ◌≤◌, ℕ, List, [], Option, Some, None, IsSome, refl, sym, ap, subst, le_refl}
+use Rattle.irtext_context.specs.Context.{ContextView}
+use Rattle.irtext_graph.specs.Back.{AllOlder}
+use Rattle.irtext_graph.specs.Store.{get}
+use Rattle.irtext_graph.proofs.Frames.{new_operation}
+use Rattle.irtext_scopes.specs.Names.{AreDistinct}
+use Rattle.irtext_state.specs.States.{marks_of}
+use Rattle.irtext_state.specs.declared.parsable.state.State as code
+use Rattle.irtext_grammar.specs.Names.History.{going, start}
+use Rattle.irtext_grammar.specs.Names.Script.{Path}
+use Rattle.irtext_outcomes.specs.Promises.Section.{indices_of}
+use Rattle.irtext_names.specs.Linked.{nothing_made}
+use Rattle.irtext_names.proofs.Added.{no_ties, no_waits}
+use Rattle.irtext_names.proofs.Linked.Kept.{stands_by}
+use Rattle.irtext_parse_nested.specs.Items.{Names, StandsAs, BlanksDefine, IsSound}
+use Rattle.irtext_parse_nested.proofs.OfItems.{nothing_of}
+use Rattle.irtext_parse_items.specs.Turned.{IsSoundOnce}
+
+-- no name stands under two numbers
+pub none_twice : AreDistinct []
+none_twice i j text e f = absurd (cc)
+
+-- nothing is newer than all that stands
+no_blanks : {T A : Type 0} (c : ContextView T A) → AllOlder c.graph.made c.graph → BlanksDefine c.graph.made c
+no_blanks c older p here none new = absurd (none_there (get c.graph.operations p) (sym (older.operations p) ∙ new_operation c.graph.made c.graph p new) here)
+  where
+    none_there : {X : Type 0} (x : Option X) → x ≡ None → IsSome x → ⊥
+    none_there None e h = cc
+    none_there (Some x) e h = cc
+
+module _ {T A U : Type 0} (names : Names) (s : code.State T A U) (no_names : names.names ≡ []) (no_values : names.values ≡ []) (no_labels : names.labels ≡ []) where
+  -- the machine stands at its start
+  pub fresh_stands : marks_of s ≡ [] → (path : ℕ → Path) → StandsAs path [] [] names s (going start)
+  fresh_stands none path = record {
+    known = nothing_made;
+    of_items = nothing_of path;
+    state = start;
+    going = refl;
+    stands = stands_by names s.ctx.now.graph nothing_made [] start [] [] [] no_names no_values no_labels none_twice (rw (no_values, no_labels) (no_ties s.ctx.now.graph)) tt tt
+        (λ p v i. absurd i) (λ p b i. absurd i) (λ u p i. absurd i);
+    marks = sym (ap indices_of none);
+    results = λ w i. absurd i;
+  }
+
+  -- nothing waits for a name, since all that stands is older
+  pub fresh_sound : AllOlder s.ctx.now.graph.made s.ctx.now.graph → IsSound s.ctx.now.graph.made names s
+  fresh_sound older = record {
+    tied = rw (no_values, no_labels) (no_ties s.ctx.now.graph);
+    waiting = rw (no_values, no_labels) (no_waits s.ctx.now.graph older);
+    blanks = no_blanks s.ctx.now older;
+  }
+
+  pub fresh_once : AllOlder s.ctx.now.graph.made s.ctx.now.graph → IsSoundOnce names s
+  fresh_once older = record { since = s.ctx.now.graph.made; past = le_refl s.ctx.now.graph.made; sound = fresh_sound older }

@@ -1,0 +1,58 @@
+-- The outermost reader's promise, with the section where it is looked for.
+use Rattle.std.proofs.Common.{◌≡◌, ◌∙◌, ◌⊎◌, ◌↔◌, ℕ, Bool, true, false, true≢false, cond, List, [], ◌∷◌, refl, sym, inl, inr}
+use Rattle.std.specs.Prelude.{IsTrue}
+use Rattle.irtext_base.specs.Text.{Text}
+use Rattle.irtext_base.specs.Answers.{Outcome}
+use Rattle.irtext_base.specs.Own.{texts_of, Texts}
+use Rattle.irtext_base.specs.Locations.{AttrView}
+use Rattle.irtext_base.specs.Stream.{StreamView}
+use Rattle.irtext_base.specs.declared.parsable.fault.ParseFault.{ParseFault}
+use Rattle.irtext_context.specs.Dialects.{Table}
+use Rattle.irtext_graph.specs.declared.arena.Ptr.{Ptr}
+use Rattle.irtext_graph.specs.declared.object.Operation.{Operation}
+use Rattle.irtext_read.specs.AttrTexts.{attr_at}
+use Rattle.irtext_state.specs.declared.parsable.state.StateStream.{StateStream}
+use Rattle.irtext_grammar.specs.Contexts.Held.{whole}
+use Rattle.irtext_outcomes.specs.Promises.Root.{UnlessMemory}
+use Rattle.irtext_outcomes.proofs.Joins.Answers.{Splits}
+use Rattle.irtext_nesting.specs.Exact.{NeedsWord}
+use Rattle.irtext_nesting.proofs.Naming.Shorter.{Shortens}
+use Rattle.irtext_promises.specs.Promises.{HasFault, BuildsTree, BuildsRoot, BuildsWith, RefusesRoot, RefusesWith}
+use Rattle.irtext_promises.proofs.Refuses.{refuses_tree}
+use Rattle.irtext_promises.proofs.Root.{root_refused}
+
+-- ---- tests
+pub marks_there : {X : Type 0} (marks : List X) (b : Bool) → (IsTrue b ↔ (marks ≡ [] → ⊥)) → b ≡ true → marks ≡ [] → ⊥
+marks_there marks b h e = h.0 (rw e refl)
+
+pub marks_none : {X : Type 0} (marks : List X) (b : Bool) → (IsTrue b ↔ (marks ≡ [] → ⊥)) → b ≡ false → marks ≡ []
+marks_none [] b h e = refl
+marks_none (m ∷ ms) b h e = absurd (true≢false (sym (h.1 (λ f. absurd (cc f))) ∙ e))
+
+-- ---- what was read
+module _ {T A U : Type 0} (types : Texts T) (owns : Texts A) (attr : Text → Outcome (AttrView A)) (op : Ptr Operation) (old new : StateStream T A U) where
+  -- where no section is looked for, or no mark is noted
+  pub built_alone : (look : Bool) {N : Type 0} → (look ≡ false) ⊎ N → BuildsTree types owns attr op old new → (N → BuildsRoot types owns attr op old new) → BuildsWith types owns attr look op old new
+  built_alone true (inl e) tree root = absurd (true≢false e)
+  built_alone true (inr n) tree root = root n
+  built_alone false h tree root = tree
+
+  -- where one is
+  pub built_with : (look : Bool) → look ≡ true → BuildsRoot types owns attr op old new → BuildsWith types owns attr look op old new
+  built_with true e root = root
+  built_with false e root = absurd (true≢false (sym e))
+
+module _ {T A : Type 0} (types : Texts T) (owns : Texts A) (types_at : Text → Outcome T) (attr : Text → Outcome (AttrView A)) (dialects : List (Text × Table)) where
+  pub refused_with : (look : Bool) (old : StreamView) (fault : ParseFault A) → look ≡ true → UnlessMemory (RefusesRoot types owns types_at attr dialects old) fault → UnlessMemory (RefusesWith types owns types_at attr dialects look old) fault
+  refused_with true old fault e h = h
+  refused_with false old fault e h = absurd (true≢false (sym e))
+
+module _ {T A : Type 0} (types_at : Text → Outcome T) (types_written : T → Text) (reading : Text → Outcome A) (written : A → Text) (types_split : Splits types_at) (splits : Splits reading) (words : NeedsWord reading)
+    (short_types : Shortens (texts_of types_at types_written)) (short_owns : Shortens (texts_of reading written)) (dialects : List (Text × Table)) where
+  -- a fault of the operation
+  pub fault_with : (look : Bool) (old : StreamView) (fault : ParseFault A) → UnlessMemory (HasFault {T = T} types_at (attr_at reading) dialects (whole old) old.rest) fault
+      → UnlessMemory (RefusesWith (texts_of types_at types_written) (texts_of reading written) types_at (attr_at reading) dialects look old) fault
+  fault_with true old fault (inl s) = inl s
+  fault_with true old fault (inr h) = inr (root_refused types_at types_written reading written dialects types_split splits words short_types short_owns old fault h)
+  fault_with false old fault (inl s) = inl s
+  fault_with false old fault (inr h) = inr (refuses_tree types_at types_written reading written dialects types_split splits words short_types short_owns old fault h)

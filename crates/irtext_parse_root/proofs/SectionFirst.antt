@@ -1,0 +1,47 @@
+-- A fault of the section behind an operation is the first thing that is wrong with whatever section the text reads as.
+use Rattle.std.proofs.Common.{◌≡◌, ◌∙◌, ◌-◌, ◌+◌, ℕ, List, [], ◌∷◌, ◌++◌, length, take, Option, Some, None, refl, sym, ap, subst, append_assoc, length-append, arith, inl, inr}
+use Rattle.std.proofs.Math.Seq.{take-append_seam}
+use Rattle.irtext_base.specs.Text.{Text}
+use Rattle.irtext_base.specs.Faults.{Fault, fault_of}
+use Rattle.irtext_base.specs.Answers.{Outcome, Read, Missing, Bad}
+use Rattle.irtext_base.specs.Stream.{StreamView, IsAt}
+use Rattle.irtext_base.specs.declared.parsable.fault.ParseFault.{ParseFault}
+use Rattle.irtext_grammar.specs.Contexts.Held.{StandsAt}
+use Rattle.irtext_grammar.specs.Names.Script as script
+use Rattle.irtext_grammar.specs.Names.Script.{Cause, Failure}
+use Rattle.irtext_outcomes.specs.Promises.Root.{IsPlace}
+use Rattle.irtext_outcomes.specs.Promises.Supported.{RefusedAs}
+use Rattle.irtext_promises.specs.Promises.{IsCause, IsOf, IsFirst}
+use Rattle.irtext_section.specs.Agrees.{StopsAt, ReadOrStops}
+use Rattle.irtext_section.specs.Readers.{fault_for}
+
+-- a failure's own fault
+is_own : (c : Cause Text) → IsCause c (fault_for c)
+is_own (script.ResultCount types names) = refl
+is_own (script.NoActiveScope n) = refl
+is_own (script.UnresolvedReference n) = refl
+is_own (script.MultipleDefinitions n) = refl
+is_own script.NotIsolated = refl
+is_own (script.DuplicateIndex i) = refl
+is_own (script.UnknownIndex i) = refl
+is_own (script.UnknownPrintOnce i) = refl
+is_own (script.ReservedKey k) = refl
+
+-- the characters in front of what is left
+front_is : (a b : Text) → take (length (a ++ b) - length b) (a ++ b) ≡ a
+front_is a b = let n : length (a ++ b) - length b ≡ length a = omega (arith, length-append a b) in ap (λ z. take z (a ++ b)) n ∙ take-append_seam a b
+
+module _ {A X : Type 0} (all passed rest : Text) (whole : passed ++ rest ≡ all) (fault : ParseFault A) (cause : Fault) (upto : Text) (because : fault_of fault.cause ≡ cause) (at : IsAt fault.pos.line fault.pos.column (passed ++ upto)) where
+  is_first : (o : Outcome X) (fs : List (Failure Text ℕ)) → StopsAt rest o fs → RefusedAs o cause upto → IsFirst all fs fault
+  is_first o fs s h =
+      let k : (fault_for s.first.cause ≡ cause) × (s.upto ≡ upto) = subst (λ z. RefusedAs z cause upto) s.bad h in
+      let text : all ≡ (passed ++ upto) ++ s.stop = sym whole ∙ (ap (λ z. passed ++ z) (sym s.splits ∙ ap (λ z. z ++ s.stop) k.1) ∙ sym (append_assoc passed upto s.stop)) in
+      let front : take (length all - length s.stop) all ≡ passed ++ upto = ap (λ z. take (length z - length s.stop) z) text ∙ front_is (passed ++ upto) s.stop in
+      let place : StandsAt all (length s.stop) fault.pos = subst (λ z. IsAt fault.pos.line fault.pos.column z) (sym front) at in
+      subst (λ z. IsFirst all z fault) (sym s.is)
+      (subst (IsCause s.first.cause) (k.0 ∙ sym because) (is_own s.first.cause), subst (λ z. IsPlace all z fault.pos) (sym s.at) place)
+
+  -- whatever is read there, the fault is the first of what is wrong with it
+  pub first_wrong : (o : Outcome X) (x : X) (left : Text) (fs : List (Failure Text ℕ)) → ReadOrStops rest o x left fs → RefusedAs o cause upto → IsFirst all fs fault
+  first_wrong o x left fs (inl (none, (taken, e))) h = absurd (subst (λ z. RefusedAs z cause upto) e h)
+  first_wrong o x left fs (inr s) h = is_first o fs s h

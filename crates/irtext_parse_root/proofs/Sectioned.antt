@@ -1,0 +1,258 @@
+-- The promise of a root, from what the reading of its operation leaves, with the section behind it or without one.
+use Rattle.std.proofs.Common.{◌≡◌, ◌∙◌, ◌==◌, ℕ, suc, Bool, true, false, List, [], ◌∷◌, ◌++◌, map, length, Option, Some, None, IsSome, refl, sym, ap, subst, inl, inr}
+use Rattle.irtext_base.specs.Text.{Text}
+use Rattle.irtext_base.specs.Format.{distinct, Id}
+use Rattle.irtext_base.specs.Answers.{Outcome, Read}
+use Rattle.irtext_base.specs.Own.{texts_of, Sincere, Lawful}
+use Rattle.irtext_base.specs.Paths.{Written}
+use Rattle.irtext_base.specs.declared.location.Location.{Location}
+use Rattle.irtext_base.specs.declared.parsable.fault.ParseFault.{ParseFault}
+use Rattle.irtext_context.specs.Context.{ContextView, KeepsOlder}
+use Rattle.irtext_context.specs.Dialects.{Table}
+use Rattle.irtext_context.specs.declared.base.item.Item.{Item}
+use Rattle.irtext_context.proofs.Kept.{kept_trans}
+use Rattle.irtext_graph.specs.declared.arena.Ptr.{Ptr}
+use Rattle.irtext_graph.specs.declared.object.Operation.{Operation}
+use Rattle.irtext_graph.specs.Back.{AllOlder}
+use Rattle.irtext_graph.specs.Chained.{Among}
+use Rattle.irtext_read.specs.AttrTexts.{attr_at}
+use Rattle.irtext_state.specs.States.{marks_of}
+use Rattle.irtext_state.specs.declared.parsable.state.StateStream.{StateStream}
+use Rattle.irtext_grammar.specs.Contexts.Formats.{format_of, isolated, IsAccepted}
+use Rattle.irtext_grammar.specs.Contexts.Held.{location_over, whole}
+use Rattle.irtext_grammar.specs.Contexts.Nested.{pointers}
+use Rattle.irtext_grammar.specs.Grammar.Marked.{marked, section_if}
+use Rattle.irtext_grammar.specs.Grammar.Reads as grammar
+use Rattle.irtext_grammar.specs.Grammar.Section.{Entry, section}
+use Rattle.irtext_grammar.specs.Grammar.Tree.{Mark, Tree}
+use Rattle.irtext_grammar.specs.Graphs.Build.{build}
+use Rattle.irtext_grammar.specs.Graphs.Links.{links}
+use Rattle.irtext_grammar.specs.Names.Acts.{tree_script, failures_of, rule_of}
+use Rattle.irtext_grammar.specs.Names.History.{going, start, run, events}
+use Rattle.irtext_grammar.specs.Names.Resolves as resolves
+use Rattle.irtext_grammar.specs.Names.Script.{Path, done}
+use Rattle.irtext_grammar.proofs.Grammar.PartsOfFormats.{Formed}
+use Rattle.irtext_grammar.proofs.Grammar.WholeTree as trees
+use Rattle.irtext_grammar.proofs.Graphs.Links.{all_there}
+use Rattle.irtext_grammar.proofs.Names.ResolvedRoot as resolved
+use Rattle.irtext_outcomes.specs.Promises.Root.{location_of}
+use Rattle.irtext_outcomes.specs.Promises.Section.{Moves, indices_of, is_noted, Faults}
+use Rattle.irtext_outcomes.specs.Promises.Supported.{location_standing, RefusedAs}
+use Rattle.irtext_outcomes.specs.Promises.Root.{UnlessMemory}
+use Rattle.irtext_outcomes.proofs.Joins.Answers.{Splits}
+use Rattle.irtext_outcomes.proofs.Readers.Answered.{moves_more}
+use Rattle.irtext_nesting.specs.Exact.{NeedsWord}
+use Rattle.irtext_nesting.specs.Naming.{naming}
+use Rattle.irtext_nesting.specs.Naming as paths
+use Rattle.irtext_nesting.proofs.Knot.Whole as knot
+use Rattle.irtext_nesting.proofs.Naming.Places.{places_fall}
+use Rattle.irtext_nesting.proofs.Naming.Scripts.{read_runs}
+use Rattle.irtext_nesting.proofs.Naming.Shorter.{Shortens}
+use Rattle.irtext_promises.specs.Given.{RootHas}
+use Rattle.irtext_promises.specs.Held.{held_root, placed_under, IsWhole}
+use Rattle.irtext_promises.specs.Leaves.{StandsBehind}
+use Rattle.irtext_promises.specs.OnlyNew.{OnlyNew}
+use Rattle.irtext_promises.specs.Placed.{RootIs}
+use Rattle.irtext_promises.specs.Promises.{BuildsTree, BuildsRoot, RefusesRoot}
+use Rattle.irtext_promises.specs.WithSection.{SameShape}
+use Rattle.irtext_promises.proofs.Ages.{operation_stays, block_stays, region_stays}
+use Rattle.irtext_promises.proofs.Behind.{place_told}
+use Rattle.irtext_promises.proofs.Builds as builds
+use Rattle.irtext_promises.proofs.Equal.{Keeps}
+use Rattle.irtext_promises.proofs.Kept as kept
+use Rattle.irtext_promises.proofs.Root as root
+use Rattle.irtext_promises.proofs.WithSection.{pointers_same, builds_given, only_still}
+use Rattle.irtext_promises.proofs.Wholes.{root_whole}
+use Rattle.irtext_promises.proofs.Given.{root_has}
+use Rattle.irtext_section.specs.Agrees.{refused, ReadOrStops}
+use Rattle.irtext_section.specs.Readers.{section_at}
+use Rattle.irtext_section.proofs.Lawful.{section_read, section_found}
+use Rattle.irtext_parse_items.specs.Carried.{marks_in, object_of}
+use Rattle.irtext_parse_items.proofs.Carrying.{marks_are}
+use Rattle.irtext_parse_heads.proofs.Meanings.{takes_whole}
+use Rattle.irtext_read.proofs.Steps.{alone}
+use Rattle.irtext_parse_nested.specs.Located.{IsLocated}
+use Rattle.irtext_parse_section.specs.Said.{rules_of}
+use Rattle.irtext_parse_section.specs.Section.{ReadsSection}
+use Rattle.irtext_parse_root.specs.Marked.{LeavesMarked}
+use Rattle.irtext_parse_root.proofs.Closed.{came_to}
+use Rattle.irtext_parse_root.proofs.Marks.{CarriesOnly, marked_items, carries_only}
+use Rattle.irtext_parse_root.proofs.Rooted.{GivesEach, root_given}
+use Rattle.irtext_parse_root.proofs.Rules.{rules_are}
+use Rattle.irtext_parse_root.proofs.SectionFirst.{first_wrong}
+use Rattle.irtext_parse_root.proofs.SectionGives as gives
+
+module _ {T A U : Type 0} (types_at : Text → Outcome T) (types_written : T → Text) (reading : Text → Outcome A) (written : A → Text) (types_split : Splits types_at) (splits : Splits reading) (words : NeedsWord reading)
+    (short_types : Shortens (texts_of types_at types_written)) (short_owns : Shortens (texts_of reading written)) (op : Ptr Operation) (old mid : StateStream T A U)
+    (accepted : (id : Id) → IsAccepted old.state.ctx.now.dialects id) (m : LeavesMarked types_at (attr_at reading) op old mid) (moves : Moves old.stream mid.stream) where
+  abbrev dialects : List (Text × Table)
+  dialects = old.state.ctx.now.dialects
+
+  abbrev L : ℕ → Location A → Type 0
+  L = IsLocated old.state.src (whole old.stream)
+
+  abbrev noted : List ℕ
+  noted = indices_of (marks_of mid.state)
+
+  abbrev t : Tree ℕ T A
+  t = m.leaves.tree
+
+  abbrev marks : List (ℕ × Item)
+  marks = marks_of mid.state
+
+  abbrev first_of : ContextView T A → ℕ → Written A
+  first_of c = location_of c.paths old.state.src (whole old.stream)
+
+  -- ---- no section
+  -- an operation that was read with no section keeps its promise
+  pub tree_built : BuildsTree (texts_of types_at types_written) (texts_of reading written) (attr_at reading) op old mid
+  tree_built = kept.builds_tree types_at types_written reading written types_split splits words short_types short_owns L op old mid accepted m.leaves m.closed
+      (λ n l e. place_told mid.state.ctx.now.paths old.state.src (whole old.stream) n l e) moves
+
+  is_marked : is_noted noted ≡ marked t
+  is_marked = root.marked_noted types_at types_written reading written dialects types_split splits words short_types short_owns accepted L op noted old.state.ctx.now mid.state.ctx.now old.stream.rest mid.stream.rest m.leaves
+
+  reads_it : grammar.reads (knot.L types_at types_written reading written dialects) t old.stream.rest mid.stream.rest
+  reads_it = kept.reads_tree types_at types_written reading written dialects types_split splits words short_types short_owns accepted L op noted old.state.ctx.now mid.state.ctx.now old.stream.rest mid.stream.rest m.leaves
+
+  tree_resolves : failures_of {X = Written A} (isolated dialects) t [] ≡ []
+  tree_resolves = kept.tree_resolves types_at types_written reading written dialects types_split splits words short_types short_owns accepted L op noted old.state.ctx.now mid.state.ctx.now old.stream.rest mid.stream.rest m.leaves
+
+  named : (path : ℕ → Path) × paths.Names path t
+  named = kept.named types_at types_written reading written dialects types_split splits words short_types short_owns accepted L op noted old.state.ctx.now mid.state.ctx.now old.stream.rest mid.stream.rest m.leaves
+
+  behind : StandsBehind types_at (attr_at reading) dialects m.leaves.items noted mid.state.ctx.now old.stream.rest mid.stream.rest named.0
+  behind = m.leaves.machine named.0
+
+  formed : Formed t
+  formed = kept.formed types_at types_written reading written dialects types_split splits words short_types short_owns accepted L op noted old.state.ctx.now mid.state.ctx.now old.stream.rest mid.stream.rest m.leaves
+
+  ran : run (going start) (events (tree_script (isolated dialects) t done)) ≡ going behind.state
+  ran =
+      let found = knot.tree_found types_at types_written reading written dialects types_split splits (naming (format_of dialects) named.0) words t old.stream.rest mid.stream.rest (going start) reads_it in
+      let runs = read_runs (texts_of types_at types_written) (texts_of reading written) (format_of dialects) named.0 (isolated dialects) t old.stream.rest mid.stream.rest named.1 reads_it (going start) in
+      sym runs ∙ came_to tt tt _ _ mid.stream.rest mid.stream.rest (sym found ∙ behind.came)
+
+  module _ (first : ℕ → Written A) where
+    is_tree : RootIs L mid.state.ctx.now m.leaves.items (pointers mid.state.ctx.now.graph op) t
+    is_tree = builds.is_tree L old.state.ctx.now mid.state.ctx.now m.leaves.items m.leaves.whole op t m.leaves.held m.closed.nest named.0 named.1 first (isolated dialects) formed behind.names behind.known behind.are behind.state behind.stands ran
+
+    keeps_links : (es : List (Entry ℕ A (Written A))) → Keeps mid.state.ctx.now first es (isolated dialects) (placed_under (pointers mid.state.ctx.now.graph op)) (links (build (isolated dialects) first es t))
+    keeps_links = builds.keeps L old.state.ctx.now mid.state.ctx.now m.leaves.items m.leaves.whole op t m.leaves.held m.closed.nest named.0 named.1 first (isolated dialects) formed behind.names behind.known behind.are behind.state behind.stands ran
+
+  tells_first : (n : ℕ) (l : Location A) → L n l → location_over mid.state.ctx.now.paths l ≡ first_of mid.state.ctx.now n
+  tells_first n l e = place_told mid.state.ctx.now.paths old.state.src (whole old.stream) n l e
+
+  tree_only : OnlyNew op old.state.ctx.now mid.state.ctx.now
+  tree_only = kept.tree_only types_at types_written reading written dialects types_split splits words short_types short_owns accepted L op noted old.state.ctx.now mid.state.ctx.now old.stream.rest mid.stream.rest m.leaves m.closed (first_of mid.state.ctx.now) tells_first
+
+  whole_without : IsWhole mid.state.ctx.now op
+  whole_without = root_whole mid.state.ctx.now (first_of mid.state.ctx.now) [] op t
+      (root_has L mid.state.ctx.now m.leaves.items (first_of mid.state.ctx.now) tells_first (pointers mid.state.ctx.now.graph op) t (is_tree (first_of mid.state.ctx.now)))
+
+  -- so does a root without a mark, behind which none is looked for
+  pub root_unmarked : marks_of mid.state ≡ [] → BuildsRoot (texts_of types_at types_written) (texts_of reading written) (attr_at reading) op old mid
+  root_unmarked none =
+      let bare : marked t ≡ false = sym is_marked ∙ ap (λ (ms : List (ℕ × Item)). is_noted (indices_of ms)) none in
+      record {
+        tree = t;
+        entries = [];
+        reads = (mid.stream.rest, reads_it, subst (λ z. section_if (knot.L types_at types_written reading written dialects) (location_standing (attr_at reading)) z [] mid.stream.rest mid.stream.rest) (sym bare) refl);
+        resolves = tree_resolves;
+        moves = moves;
+        builds = kept.tree_builds types_at types_written reading written dialects types_split splits words short_types short_owns accepted L op noted old.state.ctx.now mid.state.ctx.now old.stream.rest mid.stream.rest m.leaves m.closed (first_of mid.state.ctx.now) tells_first;
+        is_whole = whole_without;
+        fresh = none;
+        only = tree_only;
+      }
+
+  -- ---- a section
+  module _ (some : marks_of mid.state ≡ [] → ⊥) (sincere : Sincere reading) (lawful : Lawful A (texts_of reading written)) where
+    has_mark : marked t ≡ true
+    has_mark = sym is_marked ∙ go (marks_of mid.state) some
+      where
+        go : (ms : List (ℕ × Item)) → (ms ≡ [] → ⊥) → is_noted (indices_of ms) ≡ true
+        go [] h = absurd (h refl)
+        go (x ∷ ms) h = refl
+
+    resolves_it : resolves.Resolves (isolated dialects) {X = Written A} t []
+    resolves_it = resolved.resolves (isolated dialects) t [] (trees.whole (knot.L types_at types_written reading written dialects) (λ p q h. h) t old.stream.rest mid.stream.rest reads_it) tree_resolves
+
+    -- no mark stands twice
+    apart : distinct ◌==◌ (map (λ n. n.0) (marks_in t)) ≡ true
+    apart = ap (distinct ◌==◌) (marks_are (isolated dialects) t) ∙ resolves_it.marks
+
+    -- what may stand in the entry of an item by its mark is what may stand there by the tree
+    same_rules : rules_of marks ≡ rule_of t
+    same_rules = rules_are L mid.state.ctx.now m.leaves.items (pointers mid.state.ctx.now.graph op) t (is_tree (first_of mid.state.ctx.now)) marks m.carried (length old.stream.rest) (length mid.stream.rest) m.falls apart
+
+    carries : (n : ℕ) (x : Item) (mark : Option (Mark ℕ)) → Among (n, object_of x) m.leaves.items → Among (n, mark) (marked_items t) → CarriesOnly marks x mark
+    carries = carries_only t (suc (length old.stream.rest)) (suc (length mid.stream.rest)) (places_fall (texts_of types_at types_written) (texts_of reading written) (format_of dialects) short_types short_owns t old.stream.rest mid.stream.rest reads_it)
+        m.leaves.items marks m.carried (length old.stream.rest) (length mid.stream.rest) m.falls m.leaves.held.tracks.once apart
+
+    -- ---- it was read
+    module _ (new : StateStream T A U) (r : ReadsSection (attr_at reading) mid new) (older : AllOlder old.state.ctx.now.graph.made old.state.ctx.now.graph)
+        (before : KeepsOlder old.state.ctx.now.graph.made old.state.ctx.now mid.state.ctx.now) (later : KeepsOlder old.state.ctx.now.graph.made mid.state.ctx.now new.state.ctx.now) where
+      abbrev first : ℕ → Written A
+      first = first_of new.state.ctx.now
+
+      read : section (knot.L types_at types_written reading written dialects) (location_standing (attr_at reading)) r.entries mid.stream.rest new.stream.rest
+          × (r.taken ++ new.stream.rest ≡ mid.stream.rest) × (refused noted (rules_of marks) r.entries ≡ [])
+      read = section_read (texts_of types_at types_written) reading written (format_of dialects) sincere lawful noted (rules_of marks) mid.stream.rest r.entries r.taken new.stream.rest r.reads
+
+      none_wrong : refused noted (rule_of t) r.entries ≡ []
+      none_wrong = subst (λ rules. refused noted rules r.entries ≡ []) same_rules read.2
+
+      each : GivesEach L mid.state.ctx.now m.leaves.items marks new.state.ctx.now first r.entries
+      each = record {
+        operations = gives.operation_has (attr_at reading) mid new r (rules_of marks) read.2 L m.leaves.items first (λ n l e. place_told new.state.ctx.now.paths old.state.src (whole old.stream) n l e);
+        blocks = gives.block_has (attr_at reading) mid new r (rules_of marks) read.2 L m.leaves.items first (λ n l e. place_told new.state.ctx.now.paths old.state.src (whole old.stream) n l e);
+      }
+
+      has : RootHas new.state.ctx.now first r.entries (pointers mid.state.ctx.now.graph op) t
+      has = root_given L mid.state.ctx.now m.leaves.items marks new.state.ctx.now first r.entries each t carries (pointers mid.state.ctx.now.graph op) (is_tree first)
+
+      shape : SameShape mid.state.ctx.now.graph new.state.ctx.now.graph
+      shape = gives.shape (attr_at reading) mid new r
+
+      held : held_root new.state.ctx.now op ≡ Some (build (isolated dialects) first r.entries t)
+      held = builds_given mid.state.ctx.now new.state.ctx.now shape first (isolated dialects) op t r.entries (all_there (isolated dialects) first r.entries t formed done tree_resolves) (keeps_links first r.entries) has
+
+      all_kept : KeepsOlder old.state.ctx.now.graph.made old.state.ctx.now new.state.ctx.now
+      all_kept = kept_trans before later
+
+      abbrev mark : ℕ
+      mark = old.state.ctx.now.graph.made
+
+      only : OnlyNew op old.state.ctx.now new.state.ctx.now
+      only = only_still op old.state.ctx.now mid.state.ctx.now new.state.ctx.now tree_only shape
+          (λ p h. operation_stays mark old.state.ctx.now.graph new.state.ctx.now.graph older all_kept.graph p h ∙ sym (operation_stays mark old.state.ctx.now.graph mid.state.ctx.now.graph older before.graph p h))
+          (λ b h. block_stays mark old.state.ctx.now.graph new.state.ctx.now.graph older all_kept.graph b h ∙ sym (block_stays mark old.state.ctx.now.graph mid.state.ctx.now.graph older before.graph b h))
+          (λ q h. region_stays mark old.state.ctx.now.graph new.state.ctx.now.graph older all_kept.graph q h ∙ sym (region_stays mark old.state.ctx.now.graph mid.state.ctx.now.graph older before.graph q h))
+          all_kept.paths later.dialects
+
+      -- the root keeps its promise
+      pub root_marked : BuildsRoot (texts_of types_at types_written) (texts_of reading written) (attr_at reading) op old new
+      root_marked = record {
+        tree = t;
+        entries = r.entries;
+        reads = (mid.stream.rest, reads_it, subst (λ b. section_if (knot.L types_at types_written reading written dialects) (location_standing (attr_at reading)) b r.entries mid.stream.rest new.stream.rest) (sym has_mark) read.0);
+        resolves = root.section_failures types_at types_written reading written dialects types_split splits words short_types short_owns accepted L op noted old.state.ctx.now mid.state.ctx.now old.stream.rest mid.stream.rest m.leaves r.entries ∙ none_wrong;
+        moves = moves_more moves r.moves;
+        builds = held;
+        is_whole = root_whole new.state.ctx.now first r.entries op t (subst (λ ps. RootHas new.state.ctx.now first r.entries ps t) (sym (pointers_same mid.state.ctx.now.graph new.state.ctx.now.graph shape op)) has);
+        fresh = r.fresh;
+        only = only;
+      }
+
+    -- ---- it was refused
+    pub section_refused : (fault : ParseFault A) → Faults true (RefusedAs (section_at (attr_at reading) noted (rules_of marks) mid.stream.rest)) mid.stream fault
+        → UnlessMemory (RefusesRoot (texts_of types_at types_written) (texts_of reading written) types_at (attr_at reading) dialects old.stream) fault
+    section_refused fault (inl starved) = inl starved
+    section_refused fault (inr (cause, upto, h, at)) = inr (root.root_refused_behind types_at types_written reading written dialects types_split splits words short_types short_owns accepted L op noted old.state.ctx.now mid.state.ctx.now old.stream mid.stream.rest m.leaves fault
+        (λ es left s.
+        let k = subst (λ b. section_if (knot.L types_at types_written reading written dialects) (location_standing (attr_at reading)) b es mid.stream.rest left) has_mark s in
+        let found = section_found (texts_of types_at types_written) reading written (format_of dialects) sincere lawful noted (rules_of marks) mid.stream.rest es left k in
+        first_wrong (whole old.stream) mid.stream.passed mid.stream.rest (takes_whole alone old.stream mid.stream moves.taken mid.stream.rest moves.takes) fault cause upto at.because at.place
+        (section_at (attr_at reading) noted (rules_of marks) mid.stream.rest) es left (refused noted (rule_of t) es)
+        (subst (λ rules. ReadOrStops mid.stream.rest (section_at (attr_at reading) noted (rules_of marks) mid.stream.rest) es left (refused noted rules es)) same_rules found) h))

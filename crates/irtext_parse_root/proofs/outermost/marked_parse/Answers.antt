@@ -1,0 +1,124 @@
+use Rattle.std.proofs.Common.{◌≡◌, ◌∙◌, ◌⊎◌, false, [], sym, ap, inl, inr, true≢false}
+use Rattle.irtext_base.specs.Own.{texts_of}
+use Rattle.irtext_context.proofs.Kept.{kept_closed, kept_trans}
+use Rattle.irtext_nesting.proofs.Exact.Attributes.{lawful_needs_word}
+use Rattle.irtext_outcomes.proofs.Readers.EntryIndices.{demanded_refusal}
+use Rattle.irtext_outcomes.proofs.Readers.NewPaths.{adds_kept}
+use Rattle.irtext_parse_nested.specs.Located.{IsLocated}
+use Rattle.irtext_grammar.specs.Contexts.Held.{whole}
+use Rattle.irtext_read.specs.AttrTexts.{attr_at}
+use Rattle.irtext_read.proofs.Exits.{handed_on}
+use Rattle.irtext_state.specs.States.{marks_of}
+use Rattle.irtext_parse_root.proofs.Laws.{short}
+use Rattle.irtext_parse_root.proofs.Newer.{all_newer}
+use Rattle.irtext_parse_root.proofs.Outer.{marks_there, marks_none, built_alone, built_with, refused_with, fault_with}
+use Rattle.irtext_parse_root.proofs.Sectioned.{tree_built, root_unmarked, root_marked, section_refused}
+use Rattle.irtext_parse_root.proofs.outermost.marked_parse.Goals as goal
+use Rattle.irtext_parse_root.proofs.outermost.marked_parse.Goals.{then-not-look-via-then-not-look, then-not-look-via-else-not-look+then-not-has_marks}
+
+pub returns-in_err-op-clause-unresolved : goal.returns-in_err-op-clause-unresolved
+returns-in_err-op-clause-unresolved g c = λ fresh. rw (handed_on c.from_residual.result c.from_residual.ensures.1)
+    (fault_with g.T.IrText.reading g.T.IrText.written g.A.IrText.reading g.A.IrText.written g.met.T.IrText.sincere.reads g.met.A.IrText.sincere.reads (lawful_needs_word g.A.IrText.reading g.A.IrText.written g.met.A.IrText.lawful)
+    (short g.T.IrText.reading g.T.IrText.written g.met.T.IrText.sincere.reads) (short g.A.IrText.reading g.A.IrText.written g.met.A.IrText.sincere.reads)
+    c.args.s.now.state.ctx.now.dialects c.args.look c.args.s.now.stream _ (c.in_err-op.ensures.at_fault fresh))
+
+pub returns-in_err-op-clause-closed : goal.returns-in_err-op-clause-closed
+returns-in_err-op-clause-closed g c = λ h. kept_closed h c.in_err-op.ensures.kept
+
+pub returns-then-not-look-clause-builds : goal.returns-then-not-look-clause-builds
+returns-then-not-look-clause-builds g c = λ fresh.
+    let types_at = g.T.IrText.reading in
+    let reading = g.A.IrText.reading in
+    let old = c.args.s.now in
+    let mid = c.tree_parse.new.s in
+    let e = c.in_ok-op.ensures in
+    let words = lawful_needs_word reading g.A.IrText.written g.met.A.IrText.lawful in
+    let st = short types_at g.T.IrText.written g.met.T.IrText.sincere.reads in
+    let so = short reading g.A.IrText.written g.met.A.IrText.sincere.reads in
+    let none : (c.args.look ≡ false) ⊎ (marks_of mid.state ≡ []) = elim c.then-not-look.branch [
+      | then-not-look-via-then-not-look w ↦ inl w.if-not-look.true
+      | then-not-look-via-else-not-look+then-not-has_marks w ↦ inr (marks_none (marks_of mid.state) w.has_marks.result w.has_marks.ensures w.if-not-has_marks.true)
+    ] in
+    built_alone (texts_of types_at g.T.IrText.written) (texts_of reading g.A.IrText.written) (attr_at reading) c.in_ok-op.op old mid c.args.look none
+    (tree_built types_at g.T.IrText.written reading g.A.IrText.written g.met.T.IrText.sincere.reads g.met.A.IrText.sincere.reads words st so c.in_ok-op.op old mid e.accepted (e.leaves fresh) e.moves)
+    (root_unmarked types_at g.T.IrText.written reading g.A.IrText.written g.met.T.IrText.sincere.reads g.met.A.IrText.sincere.reads words st so c.in_ok-op.op old mid e.accepted (e.leaves fresh) e.moves)
+
+pub returns-then-not-look-clause-closed : goal.returns-then-not-look-clause-closed
+returns-then-not-look-clause-closed g c = λ h. kept_closed h c.in_ok-op.ensures.kept
+
+pub returns-in_err-section_parse-clause-refused : goal.returns-in_err-section_parse-clause-refused
+returns-in_err-section_parse-clause-refused g c = rw (handed_on c.from_residual-in_err-section_parse.result c.from_residual-in_err-section_parse.ensures.1)
+    (demanded_refusal (λ e. sym (ap (λ v. v.failed) c.in_ok-op.ensures.moves.takes.is) ∙ e) c.in_err-section_parse.ensures.refused)
+
+pub returns-in_err-section_parse-clause-unresolved : goal.returns-in_err-section_parse-clause-unresolved
+returns-in_err-section_parse-clause-unresolved g c = λ fresh.
+    let types_at = g.T.IrText.reading in
+    let reading = g.A.IrText.reading in
+    let old = c.args.s.now in
+    let mid = c.tree_parse.new.s in
+    let e = c.in_ok-op.ensures in
+    let words = lawful_needs_word reading g.A.IrText.written g.met.A.IrText.lawful in
+    let st = short types_at g.T.IrText.written g.met.T.IrText.sincere.reads in
+    let so = short reading g.A.IrText.written g.met.A.IrText.sincere.reads in
+    let some = marks_there (marks_of mid.state) c.has_marks.result c.has_marks.ensures c.if-not-has_marks.false in
+    let fine = ap (λ v. v.failed) e.moves.takes.is ∙ c.requires.fine in
+    rw (handed_on c.from_residual-in_err-section_parse.result c.from_residual-in_err-section_parse.ensures.1)
+    (refused_with (texts_of types_at g.T.IrText.written) (texts_of reading g.A.IrText.written) types_at (attr_at reading) old.state.ctx.now.dialects c.args.look old.stream _ c.if-not-look.false
+    (section_refused types_at g.T.IrText.written reading g.A.IrText.written g.met.T.IrText.sincere.reads g.met.A.IrText.sincere.reads words st so c.in_ok-op.op old mid e.accepted (e.leaves fresh) e.moves some g.met.A.IrText.sincere g.met.A.IrText.lawful _
+    (c.in_err-section_parse.ensures.missed fine)))
+
+pub returns-in_err-section_parse-clause-closed : goal.returns-in_err-section_parse-clause-closed
+returns-in_err-section_parse-clause-closed g c = λ h. c.in_err-section_parse.ensures.closed c.args.s.now.state.ctx.now.graph.made (kept_closed h c.in_ok-op.ensures.kept)
+
+pub returns-in_err-section_parse-clause-kept : goal.returns-in_err-section_parse-clause-kept
+returns-in_err-section_parse-clause-kept g c = λ fresh.
+    let old = c.args.s.now in
+    let mid = c.tree_parse.new.s in
+    let e = c.in_ok-op.ensures in
+    let m = e.leaves fresh in
+    kept_trans e.kept (c.in_err-section_parse.ensures.kept old.state.ctx.now.graph.made
+    (all_newer old.state.ctx.now.graph.made old.state.ctx.now mid.state.ctx.now e.older e.kept (IsLocated old.state.src (whole old.stream)) m.leaves.items m.leaves.whole c.in_ok-op.op m.leaves.tree m.leaves.held (marks_of mid.state) m.carried))
+
+pub returns-in_err-section_parse-clause-kept_else : goal.returns-in_err-section_parse-clause-kept_else
+returns-in_err-section_parse-clause-kept_else g c = rw (handed_on c.from_residual-in_err-section_parse.result c.from_residual-in_err-section_parse.ensures.1)
+    (elim c.in_err-section_parse.ensures.adds [
+      | inl starved ↦ inl starved
+      | inr adds ↦ inr (kept_trans c.in_ok-op.ensures.kept (adds_kept c.args.s.now.state.ctx.now.graph.made adds))
+    ])
+
+pub returns-clause-builds : goal.returns-clause-builds
+returns-clause-builds g c = λ fresh.
+    let types_at = g.T.IrText.reading in
+    let reading = g.A.IrText.reading in
+    let old = c.args.s.now in
+    let mid = c.tree_parse.new.s in
+    let new = c.section_parse.new.s in
+    let e = c.in_ok-op.ensures in
+    let m = e.leaves fresh in
+    let words = lawful_needs_word reading g.A.IrText.written g.met.A.IrText.lawful in
+    let st = short types_at g.T.IrText.written g.met.T.IrText.sincere.reads in
+    let so = short reading g.A.IrText.written g.met.A.IrText.sincere.reads in
+    let some = marks_there (marks_of mid.state) c.has_marks.result c.has_marks.ensures c.if-not-has_marks.false in
+    let later = c.in_ok-section_parse.ensures.kept old.state.ctx.now.graph.made
+        (all_newer old.state.ctx.now.graph.made old.state.ctx.now mid.state.ctx.now e.older e.kept (IsLocated old.state.src (whole old.stream)) m.leaves.items m.leaves.whole c.in_ok-op.op m.leaves.tree m.leaves.held (marks_of mid.state) m.carried) in
+    built_with (texts_of types_at g.T.IrText.written) (texts_of reading g.A.IrText.written) (attr_at reading) c.in_ok-op.op old new c.args.look c.if-not-look.false
+    (root_marked types_at g.T.IrText.written reading g.A.IrText.written g.met.T.IrText.sincere.reads g.met.A.IrText.sincere.reads words st so c.in_ok-op.op old mid e.accepted m e.moves some g.met.A.IrText.sincere g.met.A.IrText.lawful
+    new c.in_ok-section_parse.ensures.read e.older e.kept later)
+
+pub returns-clause-closed : goal.returns-clause-closed
+returns-clause-closed g c = λ h. c.in_ok-section_parse.ensures.closed c.args.s.now.state.ctx.now.graph.made (kept_closed h c.in_ok-op.ensures.kept)
+
+pub returns-clause-kept : goal.returns-clause-kept
+returns-clause-kept g c = λ fresh.
+    let old = c.args.s.now in
+    let mid = c.tree_parse.new.s in
+    let e = c.in_ok-op.ensures in
+    let m = e.leaves fresh in
+    kept_trans e.kept (c.in_ok-section_parse.ensures.kept old.state.ctx.now.graph.made
+    (all_newer old.state.ctx.now.graph.made old.state.ctx.now mid.state.ctx.now e.older e.kept (IsLocated old.state.src (whole old.stream)) m.leaves.items m.leaves.whole c.in_ok-op.op m.leaves.tree m.leaves.held (marks_of mid.state) m.carried))
+
+pub returns-clause-kept_alone : goal.returns-clause-kept_alone
+returns-clause-kept_alone g c = λ e. absurd (true≢false (sym c.if-not-look.false ∙ e))
+
+pub returns-in_err-section_parse-clause-kept_alone : goal.returns-in_err-section_parse-clause-kept_alone
+returns-in_err-section_parse-clause-kept_alone g c = λ e. absurd (true≢false (sym c.if-not-look.false ∙ e))

@@ -1,0 +1,22 @@
+-- Between functions: what an operation that was read with fresh names leaves, with the items that carry its marks.
+use Rattle.std.specs.Prelude.{ℕ, length}
+use Rattle.irtext_base.specs.Text.{Text}
+use Rattle.irtext_base.specs.Answers.{Outcome}
+use Rattle.irtext_base.specs.Locations.{AttrView}
+use Rattle.irtext_graph.specs.declared.arena.Ptr.{Ptr}
+use Rattle.irtext_graph.specs.declared.object.Operation.{Operation}
+use Rattle.irtext_state.specs.States.{marks_of}
+use Rattle.irtext_state.specs.declared.parsable.state.StateStream.{StateStream}
+use Rattle.irtext_grammar.specs.Contexts.Held.{whole}
+use Rattle.irtext_outcomes.specs.Promises.Section.{indices_of}
+use Rattle.irtext_promises.specs.Leaves.{LeavesTree, LeavesClosed}
+use Rattle.irtext_parse_items.specs.Carried.{marks_in, AreCarried, Falls}
+use Rattle.irtext_parse_nested.specs.Located.{IsLocated}
+
+-- A tree was built of the text and stands under the pointer, nothing is open and no placeholder is left; the marks that are noted are the
+-- tree's, each with the item that was made for its place, one item a place.
+pub record LeavesMarked {T A U : Type 0} (types_at : Text → Outcome T) (attr : Text → Outcome (AttrView A)) (op : Ptr Operation) (old new : StateStream T A U) : Type 0 where
+  pub leaves : LeavesTree types_at attr old.state.ctx.now.dialects (IsLocated old.state.src (whole old.stream)) op (indices_of (marks_of new.state)) old.state.ctx.now new.state.ctx.now old.stream.rest new.stream.rest
+  pub closed : LeavesClosed old.state.ctx.now new.state.ctx.now
+  pub carried : AreCarried leaves.items (marks_in leaves.tree) (marks_of new.state)
+  pub falls : Falls (length old.stream.rest) leaves.items (length new.stream.rest)

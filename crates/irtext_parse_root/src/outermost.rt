@@ -1,0 +1,163 @@
+//! The outermost reading of an operation, with the section behind it or without: it gives back what it made where it is refused.
+ghost use Rattle.std.specs.Prelude.{◌≡◌, ◌⊎◌, ℕ, List, ◌++◌, false, IfOk, IfErr, OnOk, OnErr};
+ghost use Rattle.irtext_base.specs.Own.{texts_of};
+ghost use Rattle.irtext_context.specs.Context.{KeepsOlder};
+ghost use Rattle.irtext_context.specs.Made.{SameObjects};
+ghost use Rattle.irtext_context.specs.declared.base.item.Item.{Item};
+ghost use Rattle.irtext_graph.specs.Back.{AllOlder, IsClosedBelow};
+ghost use Rattle.irtext_read.specs.AttrTexts.{attr_at};
+ghost use Rattle.irtext_state.specs.States.{marks_of};
+ghost use Rattle.irtext_outcomes.specs.Promises.Root.{IsFresh, UnlessMemory};
+ghost use Rattle.irtext_outcomes.specs.Promises.Section.{IsStarved};
+ghost use Rattle.irtext_outcomes.specs.Readers.Refusals.{Refusal, FailedRefusal, RefusesFailed};
+ghost use Rattle.irtext_outcomes.specs.Readers.Streams.{KeepsRest};
+ghost use Rattle.irtext_promises.specs.Promises.{BuildsTree, RefusesTree, BuildsRoot, RefusesRoot, BuildsWith, RefusesWith};
+
+use crate::tree::tree_parse;
+use irtext_base::parsable::{CharStream, ParseFault, ParseResult};
+use irtext_base::result::Cause;
+use irtext_base::text::{AttrText, IrText};
+use irtext_context::base::context::making::Making;
+use irtext_context::base::{Operation, Ptr};
+use irtext_parse_section::section::section_parse;
+use irtext_read::irfmt::faults::stands_at;
+use irtext_state::parsable::{State, StateStream};
+use irtext_state::parsable::state::Noting;
+
+/// The fault of a stream that has failed, where it stands.
+fn failed_fault<S: CharStream, A>(stream: &S) -> ParseFault<A>
+    ensures { FailedRefusal (S.view stream.now) result (S.view stream.now) }
+{
+    ParseFault {
+        pos: stands_at(stream),
+        cause: Cause::StreamFailed,
+        committed: true,
+    }
+}
+
+/// How many objects were made in the context of a reading. Each that stands was made before as many.
+pub(crate) fn made_in<T: IrText<A>, A: AttrText, U>(state: &State<'_, T, A, U>) -> u64
+    ensures made { result ≡ state.now.ctx.now.graph.made }
+    ensures older { AllOlder result state.now.ctx.now.graph }
+    ensures closed { IsClosedBelow result state.now.ctx.now.graph }
+{
+    state.ctx.made()
+}
+
+/// An operation with all that nests in it and, where it is looked for and a mark is noted, the section behind it. What it made stays where
+/// it is refused.
+fn marked_parse<T: IrText<A>, A: AttrText, U>(
+    s: &mut StateStream<'_, T, A, U>,
+    look: bool,
+) -> ParseResult<Ptr<Operation>, A>
+    requires fine { s.old.stream.failed ≡ false }
+    ensures lent { s.new.state.ctx.ghost_name ≡ s.old.state.ctx.ghost_name }
+    ensures rest { KeepsRest s.old.state s.new.state }
+    ensures refused { IfErr result (λ fault. Refusal s.old.stream fault s.new.stream) }
+    ensures builds { IsFresh s.old →
+        IfOk result (λ op. BuildsWith (texts_of T.IrText.reading T.IrText.written) (texts_of A.IrText.reading A.IrText.written)
+        (attr_at A.IrText.reading) look op s.old s.new) }
+    ensures unresolved { IsFresh s.old →
+        IfErr result (UnlessMemory
+        (RefusesWith (texts_of T.IrText.reading T.IrText.written) (texts_of A.IrText.reading A.IrText.written) T.IrText.reading
+        (attr_at A.IrText.reading) s.old.state.ctx.now.dialects look s.old.stream)) }
+    ensures noted { OnErr result ((more : List (ℕ × Item)) × (marks_of s.new.state ≡ marks_of s.old.state ++ more)) }
+    ensures closed { IsClosedBelow s.old.state.ctx.now.graph.made s.old.state.ctx.now.graph → IsClosedBelow s.old.state.ctx.now.graph.made s.new.state.ctx.now.graph }
+    ensures kept { IsFresh s.old → KeepsOlder s.old.state.ctx.now.graph.made s.old.state.ctx.now s.new.state.ctx.now }
+    ensures kept_alone { look ≡ false → KeepsOlder s.old.state.ctx.now.graph.made s.old.state.ctx.now s.new.state.ctx.now }
+    ensures kept_else { IfErr result (λ fault. IsStarved fault ⊎ KeepsOlder s.old.state.ctx.now.graph.made s.old.state.ctx.now s.new.state.ctx.now) }
+{
+    let op = tree_parse(s)?;
+    if !look || !s.state.has_marks() {
+        return Ok(op);
+    }
+    section_parse(s)?;
+    Ok(op)
+}
+
+/// Reads an operation with all that nests in it and, where it is looked for and a mark is noted, the section behind it. Where it is
+/// refused, what it made is given back, and no mark of it stays.
+pub fn outermost_parse<T: IrText<A>, A: AttrText, U>(
+    s: &mut StateStream<'_, T, A, U>,
+    look: bool,
+) -> ParseResult<Ptr<Operation>, A>
+    ensures lent { s.new.state.ctx.ghost_name ≡ s.old.state.ctx.ghost_name }
+    ensures rest { KeepsRest s.old.state s.new.state }
+    ensures refused { IfErr result (λ fault. Refusal s.old.stream fault s.new.stream) }
+    ensures failed { RefusesFailed s.old.stream result s.new.stream }
+    ensures builds { IsFresh s.old →
+        IfOk result (λ op. BuildsWith (texts_of T.reading T.written) (texts_of A.reading A.written)
+        (attr_at A.reading) look op s.old s.new) }
+    ensures unresolved { IsFresh s.old →
+        IfErr result (UnlessMemory
+        (RefusesWith (texts_of T.reading T.written) (texts_of A.reading A.written) T.reading
+        (attr_at A.reading) s.old.state.ctx.now.dialects look s.old.stream)) }
+    ensures objects { IsFresh s.old → OnErr result (SameObjects s.old.state.ctx.now s.new.state.ctx.now) }
+    ensures objects_alone { look ≡ false → OnErr result (SameObjects s.old.state.ctx.now s.new.state.ctx.now) }
+    ensures objects_else { IfErr result (λ fault. IsStarved fault ⊎ SameObjects s.old.state.ctx.now s.new.state.ctx.now) }
+    ensures marks { OnErr result (marks_of s.new.state ≡ marks_of s.old.state) }
+    ensures keeps { IsFresh s.old → OnOk result (KeepsOlder s.old.state.ctx.now.graph.made s.old.state.ctx.now s.new.state.ctx.now) }
+    ensures closed { OnOk result (IsClosedBelow s.old.state.ctx.now.graph.made s.old.state.ctx.now.graph → IsClosedBelow s.old.state.ctx.now.graph.made s.new.state.ctx.now.graph) }
+{
+    if s.stream.has_failed() {
+        return Err(failed_fault(&s.stream));
+    }
+    let made = made_in(&s.state);
+    let marks = s.state.num_marks();
+    match marked_parse(s, look) {
+        Ok(op) => Ok(op),
+        Err(fault) => {
+            s.state.ctx.roll_back(made);
+            s.state.truncate_marks(marks);
+            Err(fault)
+        }
+    }
+}
+
+/// Reads an operation with all that nests in it, and looks for no section: its marks stay noted. Where it is refused, what it made is
+/// given back, and no mark stays.
+pub fn operation_parse<T: IrText<A>, A: AttrText, U>(
+    s: &mut StateStream<'_, T, A, U>,
+) -> ParseResult<Ptr<Operation>, A>
+    ensures lent { s.new.state.ctx.ghost_name ≡ s.old.state.ctx.ghost_name }
+    ensures rest { KeepsRest s.old.state s.new.state }
+    ensures refused { IfErr result (λ fault. Refusal s.old.stream fault s.new.stream) }
+    ensures failed { RefusesFailed s.old.stream result s.new.stream }
+    ensures builds { IsFresh s.old →
+        IfOk result (λ op. BuildsTree (texts_of T.reading T.written) (texts_of A.reading A.written)
+        (attr_at A.reading) op s.old s.new) }
+    ensures unresolved { IsFresh s.old →
+        IfErr result (UnlessMemory
+        (RefusesTree (texts_of T.reading T.written) (texts_of A.reading A.written) T.reading
+        (attr_at A.reading) s.old.state.ctx.now.dialects s.old.stream)) }
+    ensures objects { OnErr result (SameObjects s.old.state.ctx.now s.new.state.ctx.now) }
+    ensures marks { OnErr result (marks_of s.new.state ≡ marks_of s.old.state) }
+{
+    outermost_parse(s, false)
+}
+
+/// Reads a root: an operation with all that nests in it and, exactly where it has a mark, the section behind it. Where it is refused, what
+/// it made is given back, and no mark of it stays. Where memory is refused as the section is applied, items of roots that were read
+/// before, whose marks are noted still, may have got what their entries give.
+pub fn root_parse<T: IrText<A>, A: AttrText, U>(
+    s: &mut StateStream<'_, T, A, U>,
+) -> ParseResult<Ptr<Operation>, A>
+    ensures lent { s.new.state.ctx.ghost_name ≡ s.old.state.ctx.ghost_name }
+    ensures rest { KeepsRest s.old.state s.new.state }
+    ensures refused { IfErr result (λ fault. Refusal s.old.stream fault s.new.stream) }
+    ensures failed { RefusesFailed s.old.stream result s.new.stream }
+    ensures builds { IsFresh s.old →
+        IfOk result (λ op. BuildsRoot (texts_of T.reading T.written) (texts_of A.reading A.written)
+        (attr_at A.reading) op s.old s.new) }
+    ensures unresolved { IsFresh s.old →
+        IfErr result (UnlessMemory
+        (RefusesRoot (texts_of T.reading T.written) (texts_of A.reading A.written) T.reading
+        (attr_at A.reading) s.old.state.ctx.now.dialects s.old.stream)) }
+    ensures objects { IsFresh s.old → OnErr result (SameObjects s.old.state.ctx.now s.new.state.ctx.now) }
+    ensures objects_else { IfErr result (λ fault. IsStarved fault ⊎ SameObjects s.old.state.ctx.now s.new.state.ctx.now) }
+    ensures marks { OnErr result (marks_of s.new.state ≡ marks_of s.old.state) }
+    ensures keeps { IsFresh s.old → OnOk result (KeepsOlder s.old.state.ctx.now.graph.made s.old.state.ctx.now s.new.state.ctx.now) }
+    ensures closed { OnOk result (IsClosedBelow s.old.state.ctx.now.graph.made s.old.state.ctx.now.graph → IsClosedBelow s.old.state.ctx.now.graph.made s.new.state.ctx.now.graph) }
+{
+    outermost_parse(s, true)
+}

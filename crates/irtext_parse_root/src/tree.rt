@@ -1,0 +1,83 @@
+//! An operation with all that nests in it, with names of its own.
+ghost use Rattle.std.specs.Prelude.{◌≡◌, ℕ, List, ◌++◌, Some, cond, false, IfOk, IfErr, OnOk};
+ghost use Rattle.irtext_base.specs.Format.{Id};
+ghost use Rattle.irtext_base.specs.Stream.{after_failure};
+ghost use Rattle.irtext_context.specs.Context.{KeepsOlder};
+ghost use Rattle.irtext_context.specs.declared.base.item.Item.{Item};
+ghost use Rattle.irtext_graph.specs.Back.{AllOlder, IsClosedBelow};
+ghost use Rattle.irtext_graph.specs.Graph.{children, parent, Stands};
+ghost use Rattle.irtext_graph.specs.Nested.{Nested};
+ghost use Rattle.irtext_read.specs.AttrTexts.{attr_at};
+ghost use Rattle.irtext_state.specs.States.{marks_of};
+ghost use Rattle.irtext_grammar.specs.Contexts.Formats.{IsAccepted};
+ghost use Rattle.irtext_grammar.specs.Contexts.Held.{whole};
+ghost use Rattle.irtext_outcomes.specs.Promises.Root.{IsFresh, UnlessMemory};
+ghost use Rattle.irtext_outcomes.specs.Promises.Section.{Moves};
+ghost use Rattle.irtext_outcomes.specs.Readers.Refusals.{Refusal};
+ghost use Rattle.irtext_outcomes.specs.Readers.Streams.{KeepsRest};
+ghost use Rattle.irtext_promises.specs.Promises.{HasFault};
+ghost use Rattle.irtext_parse_root.specs.Marked.{LeavesMarked};
+
+use irtext_base::parsable::{CharStream, ParseFault, ParseResult, TextStream};
+use irtext_base::text::{AttrText, IrText};
+use irtext_context::base::context::making::Making;
+use irtext_context::base::{Operation, Ptr};
+use irtext_graph::held::HasGraph;
+use irtext_parse_items::nested::nested_parse;
+use irtext_scopes::tracker::NameTracker;
+use irtext_state::parsable::{State, StateStream};
+
+/// What the context of a reading keeps, as this contract says of a call that changes nothing: each object stands in one place, all that
+/// stands was made before as many objects as there were, and the format of each operation is accepted.
+fn context_keeps<T: IrText<A>, A: AttrText, U>(state: &State<'_, T, A, U>)
+    ensures nest { Nested (children state.now.ctx.now.graph) (parent state.now.ctx.now.graph) }
+    ensures holders { (c k : _) → parent state.now.ctx.now.graph c ≡ Some k → Stands state.now.ctx.now.graph k }
+    ensures older { AllOlder state.now.ctx.now.graph.made state.now.ctx.now.graph }
+    ensures closed { IsClosedBelow state.now.ctx.now.graph.made state.now.ctx.now.graph }
+    ensures accepted { (id : Id) → IsAccepted state.now.ctx.now.dialects id }
+{
+    state.ctx.graph().keeps_nesting();
+    state.ctx.made();
+    state.ctx.keeps_formats();
+}
+
+/// A committed fault fails the stream.
+fn failed_by<A>(stream: &mut TextStream, fault: &ParseFault<A>)
+    ensures { stream.new ≡ cond fault.now.committed (after_failure stream.old) stream.old }
+{
+    if fault.committed {
+        stream.fail();
+    }
+}
+
+/// Reads an operation with all that nests in it. What it made stays where it is refused.
+pub fn tree_parse<T: IrText<A>, A: AttrText, U>(
+    s: &mut StateStream<'_, T, A, U>,
+) -> ParseResult<Ptr<Operation>, A>
+    requires fine { s.old.stream.failed ≡ false }
+    ensures lent { s.new.state.ctx.ghost_name ≡ s.old.state.ctx.ghost_name }
+    ensures rest { KeepsRest s.old.state s.new.state }
+    ensures leaves { IsFresh s.old → IfOk result (λ op. LeavesMarked T.IrText.reading (attr_at A.IrText.reading) op s.old s.new) }
+    ensures accepted { (id : Id) → IsAccepted s.old.state.ctx.now.dialects id }
+    ensures older { AllOlder s.old.state.ctx.now.graph.made s.old.state.ctx.now.graph }
+    ensures moves { OnOk result (Moves s.old.stream s.new.stream) }
+    ensures at_fault { IsFresh s.old →
+        IfErr result (UnlessMemory (HasFault {T = T} T.IrText.reading (attr_at A.IrText.reading) s.old.state.ctx.now.dialects
+        (whole s.old.stream) s.old.stream.rest)) }
+    ensures refused { IfErr result (λ fault. Refusal s.old.stream fault s.new.stream) }
+    ensures noted { (more : List (ℕ × Item)) × (marks_of s.new.state ≡ marks_of s.old.state ++ more) }
+    ensures kept { KeepsOlder s.old.state.ctx.now.graph.made s.old.state.ctx.now s.new.state.ctx.now }
+{
+    let mut names = NameTracker::new(s.stream.allocator());
+    context_keeps(&s.state);
+    match nested_parse(s, &mut names) {
+        Ok(op) => {
+            context_keeps(&s.state);
+            Ok(op)
+        }
+        Err(fault) => {
+            failed_by(&mut s.stream, &fault);
+            Err(fault)
+        }
+    }
+}

@@ -1,0 +1,44 @@
+-- Steps of what is put where it belongs.
+use Rattle.std.proofs.Common.{◌≡◌, ◌∙◌, Bool, true, false, not, List, [], ◌∷◌, ◌++◌, Option, refl, sym, ap}
+use Rattle.std.specs.Str.{bytes_eq}
+use Rattle.indexmap.specs.IndexMap.{insert_entry}
+use Rattle.irtext_base.specs.Text.{Text}
+use Rattle.irtext_base.specs.Format.{same_text, block_label_key}
+use Rattle.irtext_base.specs.declared.base.attributes.AttrObj.{AttrObj}
+use Rattle.irtext_grammar.specs.Contexts.Held.{attribute_of, entries_of}
+use Rattle.irtext_grammar.specs.Graphs.Build.{put, put_all}
+use Rattle.irtext_grammar.specs.Grammar.Tree.{Attribute}
+use Rattle.irtext_parse_section.specs.Applied.{no_label, label_by, label_in}
+use Rattle.irtext_grammar.proofs.Lists.SameText.{same_text-bytes_eq, same_text_true}
+
+under : {A : Type 0} (a : Attribute A) (es : List (Text × Attribute A)) (s t : Text) → s ≡ t → (s, a) ∷ es ≡ (t, a) ∷ es
+under a es s t e = ap (λ z. (z, a) ∷ es) e
+
+-- an entry that is inserted is put in
+pub put_stored : {A : Type 0} (es : List (Text × AttrObj A)) (k : Text) (a : AttrObj A) → entries_of (insert_entry bytes_eq es k a) ≡ put (k, attribute_of a) (entries_of es)
+put_stored [] k a = refl
+put_stored (d ∷ es) k a = go (same_text k d.0) refl (same_text-bytes_eq k d.0) (put_stored es k a)
+  where
+    go : (b : Bool) → same_text k d.0 ≡ b → same_text k d.0 ≡ bytes_eq k d.0 → entries_of (insert_entry bytes_eq es k a) ≡ put (k, attribute_of a) (entries_of es) → entries_of (insert_entry bytes_eq (d ∷ es) k a) ≡ put (k, attribute_of a) (entries_of (d ∷ es))
+    go true e s h = rw (← s, e) (under (attribute_of a) (entries_of es) d.0 k (sym (same_text_true k d.0 e)))
+    go false e s h = rw (← s, e) (ap (λ z. (d.0, attribute_of d.1) ∷ z) h)
+
+-- some are put, and then others
+pub put_both : {V : Type 0} (es ds fs : List (Text × V)) → put_all es (ds ++ fs) ≡ put_all (put_all es ds) fs
+put_both es [] fs = refl
+put_both es (d ∷ ds) fs = put_both (put d es) ds fs
+
+module _ {A : Type 0} where
+  -- all but labels of two lists
+  pub no_label_both : (xs ys : List (Text × Attribute A)) → no_label (xs ++ ys) ≡ no_label xs ++ no_label ys
+  no_label_both [] ys = refl
+  no_label_both (x ∷ xs) ys = go (same_text x.0 block_label_key) refl (no_label_both xs ys)
+    where
+      go : (b : Bool) → same_text x.0 block_label_key ≡ b → no_label (xs ++ ys) ≡ no_label xs ++ no_label ys → no_label (x ∷ xs ++ ys) ≡ no_label (x ∷ xs) ++ no_label ys
+      go true e h = rw e h
+      go false e h = rw e (ap (λ z. x ∷ z) h)
+
+  -- the label that two lists give
+  pub label_both : (l : Option Text) (xs ys : List (Text × Attribute A)) → label_in l (xs ++ ys) ≡ label_in (label_in l xs) ys
+  label_both l [] ys = refl
+  label_both l (x ∷ xs) ys = label_both (label_in l (x ∷ [])) xs ys

@@ -1,0 +1,374 @@
+-- What one item has once a section was applied: what the entry of its mark gives it, over what it had.
+use Rattle.std.proofs.Common.{◌≡◌, ◌∙◌, ℕ, ◌==◌, nat_eq, Bool, true, false, cond, not, ◌&&◌, is_some, List, [], ◌∷◌, ◌++◌, Option, Some, None, refl, sym, ap, ap₂, subst, append-nil, true≢false, arith}
+use Rattle.std.proofs.lemmas.Bool.Decides.{nat_tests}
+use Rattle.std.specs.Prelude.{flat_map, option_and_then, unwrap_or}
+use Rattle.std.specs.Map.{lookup}
+use Rattle.std.specs.Option.{option_map}
+use Rattle.irtext_base.specs.Text.{Text}
+use Rattle.irtext_base.specs.Format.{same_text, block_label_key}
+use Rattle.irtext_base.specs.Locations.{AttrView}
+use Rattle.irtext_base.specs.Answers.{Outcome}
+use Rattle.irtext_base.specs.Paths.{Written, KeepsPaths}
+use Rattle.irtext_base.specs.declared.base.attributes.AttrObj.{AttrObj}
+use Rattle.irtext_base.specs.declared.location.Location.{Location}
+use Rattle.irtext_context.specs.Context.{ContextView, OperationView, BlockView, operation_of, block_of, operation, block, EditsOperation, EditsBlock, with_loc, with_attributes, with_block_loc, with_block_attributes, with_label}
+use Rattle.irtext_context.specs.declared.base.item.Item.{Item}
+use Rattle.irtext_context.specs.declared.base.item.Item.TheVariants as item
+use Rattle.irtext_context.proofs.Contexts.{edited_seen, edited_block_seen}
+use Rattle.irtext_graph.specs.Store.{get}
+use Rattle.irtext_graph.specs.declared.arena.Ptr.{Ptr}
+use Rattle.irtext_graph.specs.declared.object.BasicBlock.{BasicBlock}
+use Rattle.irtext_graph.specs.declared.object.Operation.{Operation}
+use Rattle.irtext_state.specs.States.{same_index, marks_of}
+use Rattle.irtext_state.specs.declared.parsable.state.StateStream.{StateStream}
+use Rattle.irtext_grammar.specs.Contexts.Held.{entries_of, location_over}
+use Rattle.irtext_grammar.specs.Grammar.Section as section
+use Rattle.irtext_grammar.specs.Grammar.Section.{Entry, of_item, of_once}
+use Rattle.irtext_grammar.specs.Grammar.Tree.{Name, Mark, Attribute, given_names, ident, own}
+use Rattle.irtext_grammar.specs.Graphs.Build.{content_in, content, located, label_among, labelled, but_label, with_content, put_all, resolved}
+use Rattle.irtext_grammar.specs.Names.Acts.{Rule}
+use Rattle.irtext_grammar.specs.Names.Script.{Failure, UnknownIndex}
+use Rattle.irtext_grammar.specs.Names.Scopes.{is_among}
+use Rattle.irtext_outcomes.specs.Promises.Section.{indices_of, given_over}
+use Rattle.irtext_section.specs.Agrees.{refused}
+use Rattle.irtext_section.specs.Readers.{wrong_references}
+use Rattle.irtext_section.proofs.Claims.{wrong_index, wrong_pairs, wrong_entries, refused_parts}
+use Rattle.irtext_parse_section.specs.Applied.{no_label, label_by, label_in, LocatesOperation, StoresOperation, LocatesBlock, StoresBlock, LabelsBlock, Gives, AppliesAll}
+use Rattle.irtext_parse_section.specs.Items.{CarriesOnly, OperationGiven, BlockGiven}
+use Rattle.irtext_parse_section.specs.Section.{ReadsSection}
+use Rattle.irtext_parse_section.proofs.Frames.{Avoids, applied_paths, applied_dialects, applied_regions, operation_beside, block_beside, operation_avoided, block_avoided}
+
+-- ---- indices
+front_none : {X : Type 0} (xs ys : List X) → xs ++ ys ≡ [] → xs ≡ []
+front_none [] ys e = refl
+front_none (x ∷ xs) ys e = absurd (cc e)
+
+behind_none : {X : Type 0} (xs ys : List X) → xs ++ ys ≡ [] → ys ≡ []
+behind_none [] ys e = e
+behind_none (x ∷ xs) ys e = absurd (cc e)
+
+among_still : (i k : ℕ) (xs : List ℕ) → is_among i xs ≡ true → is_among i (xs ++ k ∷ []) ≡ true
+among_still i k [] e = absurd (true≢false (sym e))
+among_still i k (x ∷ xs) e = go (nat_eq x i) (among_still i k xs) e
+  where
+    go : (b : Bool) → (is_among i xs ≡ true → is_among i (xs ++ k ∷ []) ≡ true) → cond b true (is_among i xs) ≡ true → cond b true (is_among i (xs ++ k ∷ [])) ≡ true
+    go true h e = refl
+    go false h e = h e
+
+among_last : (i k : ℕ) (xs : List ℕ) → nat_eq k i ≡ true → is_among i (xs ++ k ∷ []) ≡ true
+among_last i k [] e = ap (λ b. cond b true false) e
+among_last i k (x ∷ xs) e = go (nat_eq x i) (among_last i k xs e)
+  where
+    go : (b : Bool) → is_among i (xs ++ k ∷ []) ≡ true → cond b true (is_among i (xs ++ k ∷ [])) ≡ true
+    go true h = refl
+    go false h = h
+
+same_number : (i j : ℕ) → (i == j) ≡ true → i ≡ j
+same_number i j e = grind (arith, nat_tests)
+
+apart_number : (i j : ℕ) → (i == j) ≡ false → i ≡ j → ⊥
+apart_number i j e f = grind (arith, nat_tests)
+
+number_eq : (i j : ℕ) → i ≡ j → nat_eq i j ≡ true
+number_eq i j e = grind (arith, nat_tests)
+
+-- the index of an entry that is not wrong is of none before it
+index_new : (marks before : List ℕ) (m : Mark ℕ) → wrong_index marks before m ≡ [] → is_among m.index before ≡ true → ⊥
+index_new marks before m e f = go (is_among m.index marks && not (is_among m.index before)) refl e
+  where
+    fails : (a b : Bool) → b ≡ true → (a && not b) ≡ true → ⊥
+    fails true true f g = true≢false (sym g)
+    fails true false f g = true≢false (sym f)
+    fails false b f g = true≢false (sym g)
+
+    go : (b : Bool) → (is_among m.index marks && not (is_among m.index before)) ≡ b → cond {A = List (Failure Text ℕ)} b [] (record { cause = UnknownIndex m.index; at = Some m.place } ∷ []) ≡ [] → ⊥
+    go true g e = fails (is_among m.index marks) (is_among m.index before) f g
+    go false g e = cc e
+
+module _ {A : Type 0} (marks : List (ℕ × Item)) (rules : ℕ → Rule A) (x : Item) where
+  -- where no mark is of the item, no entry is
+  avoids_unmarked : ((i : ℕ) → lookup (same_index i) marks ≡ Some x → ⊥) → (es : List (Entry ℕ A (Written A))) → Avoids marks x es
+  avoids_unmarked n [] = tt
+  avoids_unmarked n (of_once m a ∷ es) = avoids_unmarked n es
+  avoids_unmarked n (of_item m y ps ∷ es) = (n m.index, avoids_unmarked n es)
+
+  -- none is behind the one of its mark
+  avoids_later : (k : ℕ) → ((i : ℕ) → lookup (same_index i) marks ≡ Some x → i ≡ k) → (before : List ℕ) (es : List (Entry ℕ A (Written A))) → is_among k before ≡ true → wrong_entries (indices_of marks) rules before es ≡ [] → Avoids marks x es
+  avoids_later k only before [] f e = tt
+  avoids_later k only before (of_once m a ∷ es) f e = avoids_later k only before es f e
+  avoids_later k only before (of_item m y ps ∷ es) f e =
+      let first = wrong_index (indices_of marks) before m in
+      let pairs = wrong_pairs (rules m.index) ps in
+      let more = wrong_entries (indices_of marks) rules (before ++ m.index ∷ []) es in (
+        λ c. index_new (indices_of marks) before m (front_none first (pairs ++ more) e) (subst (λ i. is_among i before ≡ true) (sym (only m.index c)) f),
+        avoids_later k only (before ++ m.index ∷ []) es (among_still k m.index before f) (behind_none pairs more (behind_none first (pairs ++ more) e)),
+      )
+
+-- ---- a label
+label_of : {A : Type 0} (d : Text) (l : Option Text) (a : Attribute A) → elim a [ ident n ↦ n | _ ↦ unwrap_or l d ] ≡ unwrap_or (label_by (Some a) l) d
+label_of d l (given_names ns) = refl
+label_of d l (ident n) = refl
+label_of d l (own a) = refl
+
+label_step : {A : Type 0} (b : Bool) (d : Text) (l : Option Text) (a : Attribute A) → cond b (elim a [ ident n ↦ n | _ ↦ unwrap_or l d ]) (unwrap_or l d) ≡ unwrap_or (cond b (label_by (Some a) l) l) d
+label_step true d l a = label_of d l a
+label_step false d l a = refl
+
+-- the label among attributes, or else the one that was there
+label_given : {A : Type 0} (d : Text) (l : Option Text) (es : List (Text × Attribute A)) → label_among (unwrap_or l d) es ≡ unwrap_or (label_in l es) d
+label_given d l [] = refl
+label_given d l (e ∷ es) =
+    ap (λ t. label_among t es) (label_step (same_text e.0 block_label_key) d l e.1) ∙ label_given d (cond (same_text e.0 block_label_key) (label_by (Some e.1) l) l) es
+
+-- the one that is given, or else the one that was there
+abbrev chosen : {X : Type 0} → X → Option X → X
+chosen x None = x
+chosen x (Some y) = y
+
+module _ {A : Type 0} (paths : List (List ℕ)) where
+  chosen_over : (l : Location A) (g : Option (Location A)) (x : Option (Written A)) (content : List (Text × Attribute A)) → given_over paths g ≡ x → location_over paths (chosen l g) ≡ located (location_over paths l) (Some (x, content))
+  chosen_over l g x content e = subst (λ x. location_over paths (chosen l g) ≡ located (location_over paths l) (Some (x, content))) e (go g)
+    where
+      go : (g : Option (Location A)) → location_over paths (chosen l g) ≡ located (location_over paths l) (Some (given_over paths g, content))
+      go None = refl
+      go (Some y) = refl
+
+-- the label that is given, or else the one that was there
+abbrev named : Option Text → Option Text → Option Text
+named l None = l
+named l (Some n) = Some n
+
+named_or : (l g : Option Text) (d : Text) → unwrap_or (named l g) d ≡ unwrap_or g (unwrap_or l d)
+named_or l None d = refl
+named_or l (Some n) d = refl
+
+named_some : (l g : Option Text) → is_some l ≡ true → is_some (named l g) ≡ true
+named_some l None h = h
+named_some l (Some n) h = refl
+
+-- ---- what one entry gives
+module _ {T A : Type 0} (paths : List (List ℕ)) where
+  -- an operation has this besides
+  record OperationHas (p : Ptr Operation) (given : Option (Option (Written A) × List (Text × Attribute A))) (view : OperationView T A) (c : ContextView T A) : Type 0 where
+    pub after : OperationView T A
+    pub is : operation c p ≡ Some after
+    pub id : after.id ≡ view.id
+    pub types : after.result_types ≡ view.result_types
+    pub inner : after.regions ≡ view.regions
+    pub entries : entries_of after.attributes ≡ with_content (entries_of view.attributes) given
+    pub location : location_over paths after.loc ≡ located (location_over paths view.loc) given
+
+  -- a block has this besides
+  record BlockHas (b : Ptr BasicBlock) (given : Option (Option (Written A) × List (Text × Attribute A))) (view : BlockView T A) (c : ContextView T A) : Type 0 where
+    pub after : BlockView T A
+    pub is : block c b ≡ Some after
+    pub label : unwrap_or after.label [] ≡ labelled (unwrap_or view.label []) given
+    pub has_label : is_some view.label ≡ true → is_some after.label ≡ true
+    pub types : after.arg_types ≡ view.arg_types
+    pub inner : after.operations ≡ view.operations
+    pub entries : entries_of after.attributes ≡ with_content (entries_of view.attributes) (but_label given)
+    pub location : location_over paths after.loc ≡ located (location_over paths view.loc) given
+
+  -- nothing besides
+  operation_same : (p : Ptr Operation) (view : OperationView T A) (c : ContextView T A) → operation c p ≡ Some view → OperationHas p None view c
+  operation_same p view c is = record { after = view; is = is; id = refl; types = refl; inner = refl; entries = refl; location = refl }
+
+  block_same : (b : Ptr BasicBlock) (view : BlockView T A) (c : ContextView T A) → block c b ≡ Some view → BlockHas b None view c
+  block_same b view c is = record { after = view; is = is; label = refl; has_label = λ h. h; types = refl; inner = refl; entries = refl; location = refl }
+
+  -- ---- an operation
+  operation_located : (p : Ptr Operation) (view : OperationView T A) (l : Option (Location A)) (a b : ContextView T A) → operation a p ≡ Some view → LocatesOperation p l a b → operation b p ≡ Some (record view { loc = chosen view.loc l })
+  operation_located p view None a b is e = ap (λ (c : ContextView T A). operation c p) e ∙ is
+  operation_located p view (Some l) a b is e =
+      edited_seen a b p (with_loc l) (λ (v : OperationView T A). record v { loc = l }) (λ results regions held. refl) e ∙ ap (option_map (λ (v : OperationView T A). record v { loc = l })) is
+
+  operation_stored : (p : Ptr Operation) (view : OperationView T A) (content : List (Text × Attribute A)) (a b : ContextView T A) → operation a p ≡ Some view → (k : StoresOperation p content a b) → operation b p ≡ Some (record view { attributes = k.left })
+  operation_stored p view content a b is k =
+      edited_seen a b p (with_attributes k.left) (λ (v : OperationView T A). record v { attributes = k.left }) (λ results regions held. refl) k.edits ∙ ap (option_map (λ (v : OperationView T A). record v { attributes = k.left })) is
+
+  operation_gets : (p : Ptr Operation) (view : OperationView T A) (l : Option (Location A)) (x : Option (Written A)) (content : List (Text × Attribute A)) (a b : ContextView T A) → operation a p ≡ Some view → given_over paths l ≡ x
+      → Gives (item.Operation p) l content a b → OperationHas p (Some (x, content)) view b
+  operation_gets p view l x content a b is over g = go (operation a p) is g
+    where
+      go : (o : Option (OperationView T A)) → o ≡ Some view → cond (is_some o) ((mid : ContextView T A) × LocatesOperation p l a mid × StoresOperation p content mid b) (b ≡ a) → OperationHas p (Some (x, content)) view b
+      go None e g = absurd (cc e)
+      go (Some v) e (mid, h, k) =
+          let there = operation_located p view l a mid is h in
+          record {
+            after = record view { loc = chosen view.loc l; attributes = k.left };
+            is = operation_stored p (record view { loc = chosen view.loc l }) content mid b there k;
+            id = refl;
+            types = refl;
+            inner = refl;
+            entries = k.stored (record view { loc = chosen view.loc l }) there;
+            location = chosen_over paths view.loc l x content over;
+          }
+
+  -- ---- a block
+  block_located : (p : Ptr BasicBlock) (view : BlockView T A) (l : Option (Location A)) (a b : ContextView T A) → block a p ≡ Some view → LocatesBlock p l a b → block b p ≡ Some (record view { loc = chosen view.loc l })
+  block_located p view None a b is e = ap (λ (c : ContextView T A). block c p) e ∙ is
+  block_located p view (Some l) a b is e =
+      edited_block_seen a b p (with_block_loc l) (λ (v : BlockView T A). record v { loc = l }) (λ arguments operations held. refl) e ∙ ap (option_map (λ (v : BlockView T A). record v { loc = l })) is
+
+  block_stored : (p : Ptr BasicBlock) (view : BlockView T A) (content : List (Text × Attribute A)) (a b : ContextView T A) → block a p ≡ Some view → (k : StoresBlock p content a b) → block b p ≡ Some (record view { attributes = k.left })
+  block_stored p view content a b is k =
+      edited_block_seen a b p (with_block_attributes k.left) (λ (v : BlockView T A). record v { attributes = k.left }) (λ arguments operations held. refl) k.edits ∙ ap (option_map (λ (v : BlockView T A). record v { attributes = k.left })) is
+
+  block_labelled : (p : Ptr BasicBlock) (view : BlockView T A) (l : Option Text) (a b : ContextView T A) → block a p ≡ Some view → LabelsBlock p l a b → block b p ≡ Some (record view { label = named view.label l })
+  block_labelled p view None a b is e = ap (λ (c : ContextView T A). block c p) e ∙ is
+  block_labelled p view (Some l) a b is e =
+      edited_block_seen a b p (with_label (Some l)) (λ (v : BlockView T A). record v { label = Some l }) (λ arguments operations held. refl) e ∙ ap (option_map (λ (v : BlockView T A). record v { label = Some l })) is
+
+  block_gets : (p : Ptr BasicBlock) (view : BlockView T A) (l : Option (Location A)) (x : Option (Written A)) (content : List (Text × Attribute A)) (a b : ContextView T A) → block a p ≡ Some view → given_over paths l ≡ x
+      → Gives (item.Block p) l content a b → BlockHas p (Some (x, content)) view b
+  block_gets p view l x content a b is over g = go (block a p) is g
+    where
+      go : (o : Option (BlockView T A)) → o ≡ Some view → cond (is_some o) ((mid last : ContextView T A) × LocatesBlock p l a mid × StoresBlock p (no_label content) mid last × LabelsBlock p (label_in None content) last b) (b ≡ a) → BlockHas p (Some (x, content)) view b
+      go None e g = absurd (cc e)
+      go (Some v) e (mid, last, h, k, w) =
+          let placed = block_located p view l a mid is h in
+          let filled = block_stored p (record view { loc = chosen view.loc l }) (no_label content) mid last placed k in
+          record {
+            after = record view { loc = chosen view.loc l; attributes = k.left; label = named view.label (label_in None content) };
+            is = block_labelled p (record view { loc = chosen view.loc l; attributes = k.left }) (label_in None content) last b filled w;
+            label = named_or view.label (label_in None content) [] ∙ sym (label_given (unwrap_or view.label []) None content);
+            has_label = named_some view.label (label_in None content);
+            types = refl;
+            inner = refl;
+            entries = k.stored (record view { loc = chosen view.loc l }) placed;
+            location = chosen_over paths view.loc l x content over;
+          }
+
+module _ (marks : List (ℕ × Item)) where
+  -- one entry is of the item whose mark it has
+  of_mark : (k i : ℕ) (x y : Item) → (i == k) ≡ true → lookup (same_index i) marks ≡ Some y → lookup (same_index k) marks ≡ Some x → y ≡ x
+  of_mark k i x y e f g = cc (sym f ∙ (ap (λ i. lookup (same_index i) marks) (same_number i k e) ∙ g))
+
+  not_mark : (k i : ℕ) (x y : Item) → (i == k) ≡ false → lookup (same_index i) marks ≡ Some y → ((j : ℕ) → lookup (same_index j) marks ≡ Some x → j ≡ k) → y ≡ x → ⊥
+  not_mark k i x y e f only same = apart_number i k e (only i (f ∙ ap Some same))
+
+-- ---- what all entries give
+module _ {T A : Type 0} (marks : List (ℕ × Item)) (rules : ℕ → Rule A) (paths : List (List ℕ)) (all : List (Entry ℕ A (Written A))) where
+  module _ (p : Ptr Operation) (k : ℕ) (carried : lookup (same_index k) marks ≡ Some (item.Operation p)) (only : (i : ℕ) → lookup (same_index i) marks ≡ Some (item.Operation p) → i ≡ k) where
+    marked_operation : (before : List ℕ) (es : List (Entry ℕ A (Written A))) → wrong_entries (indices_of marks) rules before es ≡ [] → (view : OperationView T A) (a b : ContextView T A) → operation a p ≡ Some view → AppliesAll marks paths all es a b
+        → OperationHas paths p (content_in all es k) view b
+    marked_operation before [] fine view a b is e = operation_same paths p view b (ap (λ (c : ContextView T A). operation c p) e ∙ is)
+    marked_operation before (of_once m x ∷ es) fine view a b is h = marked_operation before es fine view a b is h
+    marked_operation before (of_item m x ps ∷ es) fine view a b is (mid, one, more) = go (m.index == k) refl (marked_operation next es later view mid b)
+      where
+        next : List ℕ
+        next = before ++ m.index ∷ []
+
+        later : wrong_entries (indices_of marks) rules next es ≡ []
+        later = behind_none (wrong_pairs (rules m.index) ps) (wrong_entries (indices_of marks) rules next es) (behind_none (wrong_index (indices_of marks) before m) (wrong_pairs (rules m.index) ps ++ wrong_entries (indices_of marks) rules next es) fine)
+
+        given : List (Text × Attribute A)
+        given = flat_map (resolved all) ps
+
+        go : (t : Bool) → (m.index == k) ≡ t → (operation mid p ≡ Some view → AppliesAll marks paths all es mid b → OperationHas paths p (content_in all es k) view b) → OperationHas paths p (cond t (Some (x, given)) (content_in all es k)) view b
+        go true e again =
+            let its : Gives (item.Operation p) one.location given a mid = subst (λ y. Gives y one.location given a mid) (of_mark marks k m.index (item.Operation p) one.item e one.carries carried) one.gives in
+            let has = operation_gets paths p view one.location x given a mid is one.over its in
+            let rest = operation_avoided marks paths all p es mid b (avoids_later marks rules (item.Operation p) k only next es (among_last k m.index before (number_eq m.index k (same_number m.index k e))) later) more in
+            record { after = has.after; is = ap (option_and_then operation_of) rest ∙ has.is; id = has.id; types = has.types; inner = has.inner; entries = has.entries; location = has.location }
+        go false e again =
+            again (ap (option_and_then operation_of) (operation_beside p one.item one.location given a mid (not_mark marks k m.index (item.Operation p) one.item e one.carries only) one.gives) ∙ is) more
+
+  module _ (p : Ptr BasicBlock) (k : ℕ) (carried : lookup (same_index k) marks ≡ Some (item.Block p)) (only : (i : ℕ) → lookup (same_index i) marks ≡ Some (item.Block p) → i ≡ k) where
+    marked_block : (before : List ℕ) (es : List (Entry ℕ A (Written A))) → wrong_entries (indices_of marks) rules before es ≡ [] → (view : BlockView T A) (a b : ContextView T A) → block a p ≡ Some view → AppliesAll marks paths all es a b
+        → BlockHas paths p (content_in all es k) view b
+    marked_block before [] fine view a b is e = block_same paths p view b (ap (λ (c : ContextView T A). block c p) e ∙ is)
+    marked_block before (of_once m x ∷ es) fine view a b is h = marked_block before es fine view a b is h
+    marked_block before (of_item m x ps ∷ es) fine view a b is (mid, one, more) = go (m.index == k) refl (marked_block next es later view mid b)
+      where
+        next : List ℕ
+        next = before ++ m.index ∷ []
+
+        later : wrong_entries (indices_of marks) rules next es ≡ []
+        later = behind_none (wrong_pairs (rules m.index) ps) (wrong_entries (indices_of marks) rules next es) (behind_none (wrong_index (indices_of marks) before m) (wrong_pairs (rules m.index) ps ++ wrong_entries (indices_of marks) rules next es) fine)
+
+        given : List (Text × Attribute A)
+        given = flat_map (resolved all) ps
+
+        go : (t : Bool) → (m.index == k) ≡ t → (block mid p ≡ Some view → AppliesAll marks paths all es mid b → BlockHas paths p (content_in all es k) view b) → BlockHas paths p (cond t (Some (x, given)) (content_in all es k)) view b
+        go true e again =
+            let its : Gives (item.Block p) one.location given a mid = subst (λ y. Gives y one.location given a mid) (of_mark marks k m.index (item.Block p) one.item e one.carries carried) one.gives in
+            let has = block_gets paths p view one.location x given a mid is one.over its in
+            let rest = block_avoided marks paths all p es mid b (avoids_later marks rules (item.Block p) k only next es (among_last k m.index before (number_eq m.index k (same_number m.index k e))) later) more in
+            record { after = has.after; is = ap (option_map block_of) rest ∙ has.is; label = has.label; has_label = has.has_label; types = has.types; inner = has.inner; entries = has.entries; location = has.location }
+        go false e again =
+            again (ap (option_map block_of) (block_beside p one.item one.location given a mid (not_mark marks k m.index (item.Block p) one.item e one.carries only) one.gives) ∙ is) more
+
+-- ---- once a section was read
+module _ {T A U : Type 0} (attr : Text → Outcome (AttrView A)) (old new : StateStream T A U) (r : ReadsSection attr old new) where
+  abbrev c : ContextView T A
+  c = old.state.ctx.now
+
+  abbrev d : ContextView T A
+  d = new.state.ctx.now
+
+  abbrev marks : List (ℕ × Item)
+  marks = marks_of old.state
+
+  same_graph : r.middle.graph ≡ c.graph
+  same_graph = ap (λ (x : ContextView T A). x.graph) r.adds.rest
+
+  same_paths : d.paths ≡ r.middle.paths
+  same_paths = applied_paths marks r.middle.paths r.entries r.entries r.middle d r.applied
+
+  -- an operation without a mark stands as it stood
+  pub operation_untouched : (p : Ptr Operation) → CarriesOnly marks (item.Operation p) None → get d.graph.operations p ≡ get c.graph.operations p
+  operation_untouched p n = operation_avoided marks r.middle.paths r.entries p r.entries r.middle d (avoids_unmarked {A = A} marks (λ i k a. true) (item.Operation p) n r.entries) r.applied ∙ ap (λ g. get g.operations p) same_graph
+
+  -- so does a block
+  pub block_untouched : (p : Ptr BasicBlock) → CarriesOnly marks (item.Block p) None → get d.graph.blocks p ≡ get c.graph.blocks p
+  block_untouched p n = block_avoided marks r.middle.paths r.entries p r.entries r.middle d (avoids_unmarked {A = A} marks (λ i k a. true) (item.Block p) n r.entries) r.applied ∙ ap (λ g. get g.blocks p) same_graph
+
+  -- each region does
+  pub regions_same : d.graph.regions ≡ c.graph.regions
+  regions_same = applied_regions marks r.middle.paths r.entries r.entries r.middle d r.applied ∙ ap (λ g. g.regions) same_graph
+
+  pub dialects_same : d.dialects ≡ c.dialects
+  dialects_same = applied_dialects marks r.middle.paths r.entries r.entries r.middle d r.applied ∙ ap (λ (x : ContextView T A). x.dialects) r.adds.rest
+
+  pub paths_kept : KeepsPaths c.paths d.paths
+  paths_kept = subst (λ z. KeepsPaths c.paths z) (sym same_paths) r.adds.kept
+
+  module _ (rules : ℕ → Rule A) (none : refused (indices_of marks) rules r.entries ≡ []) where
+    all_fine : wrong_entries (indices_of marks) rules [] r.entries ≡ []
+    all_fine = front_none (wrong_entries (indices_of marks) rules [] r.entries) (wrong_references rules r.entries) (sym (refused_parts (indices_of marks) rules r.entries) ∙ none)
+
+    operation_over : (p : Ptr Operation) (m : Option (Mark ℕ)) (view : OperationView T A) → OperationHas r.middle.paths p (content r.entries m) view d → OperationGiven r.entries m d p view
+    operation_over p m view h = record {
+      after = h.after;
+      is = h.is;
+      id = h.id;
+      types = h.types;
+      inner = h.inner;
+      entries = h.entries;
+      location = subst (λ z. location_over z h.after.loc ≡ located (location_over z view.loc) (content r.entries m)) (sym same_paths) h.location;
+    }
+
+    block_over : (p : Ptr BasicBlock) (m : Option (Mark ℕ)) (view : BlockView T A) → BlockHas r.middle.paths p (content r.entries m) view d → BlockGiven r.entries m d p view
+    block_over p m view h = record {
+      after = h.after;
+      is = h.is;
+      label = h.label;
+      has_label = h.has_label;
+      types = h.types;
+      inner = h.inner;
+      entries = h.entries;
+      location = subst (λ z. location_over z h.after.loc ≡ located (location_over z view.loc) (content r.entries m)) (sym same_paths) h.location;
+    }
+
+    -- an operation has what the entry of its mark gives it, over what it had
+    pub operation_given : (p : Ptr Operation) (m : Option (Mark ℕ)) → CarriesOnly marks (item.Operation p) m → (view : OperationView T A) → operation c p ≡ Some view → OperationGiven r.entries m d p view
+    operation_given p None carries view is = operation_over p None view (operation_same r.middle.paths p view d (ap (option_and_then operation_of) (operation_untouched p carries) ∙ is))
+    operation_given p (Some k) carries view is =
+        operation_over p (Some k) view (marked_operation marks rules r.middle.paths r.entries p k.index carries.0 carries.1 [] r.entries all_fine view r.middle d (ap (λ g. option_and_then operation_of (get g.operations p)) same_graph ∙ is) r.applied)
+
+    -- so has a block, and its label
+    pub block_given : (b : Ptr BasicBlock) (m : Option (Mark ℕ)) → CarriesOnly marks (item.Block b) m → (view : BlockView T A) → block c b ≡ Some view → BlockGiven r.entries m d b view
+    block_given b None carries view is = block_over b None view (block_same r.middle.paths b view d (ap (option_map block_of) (block_untouched b carries) ∙ is))
+    block_given b (Some k) carries view is =
+        block_over b (Some k) view (marked_block marks rules r.middle.paths r.entries b k.index carries.0 carries.1 [] r.entries all_fine view r.middle d (ap (λ g. option_map block_of (get g.blocks b)) same_graph ∙ is) r.applied)

@@ -1,0 +1,16 @@
+-- Steps of the readers of a section, of their check, and of what they apply
+pub mod HeadSteps
+pub mod PairSteps
+pub mod CheckSteps
+pub mod EntrySteps
+pub mod ApplySteps
+pub mod EditedBlock
+pub mod GivenSteps
+pub mod LoopText
+pub mod EntryLists
+pub mod LoopSteps
+pub mod References
+pub mod AppliedEntries
+pub mod SectionSteps
+pub mod Frames
+pub mod Items

@@ -1,0 +1,48 @@
+use Rattle.std.proofs.Common.{Ok, sym, subst}
+use Rattle.irtext_base.specs.Own.{texts_of}
+use Rattle.irtext_read.specs.AttrTexts.{attr_at}
+use Rattle.irtext_read.proofs.Exits.{handed_on}
+use Rattle.irtext_state.specs.States.{marks_of}
+use Rattle.irtext_outcomes.specs.Promises.Section.{indices_of}
+use Rattle.irtext_outcomes.specs.Readers.Streams.{itself, replaced}
+use Rattle.irtext_outcomes.proofs.Readers.Answered.{answered}
+use Rattle.irtext_parse_section.specs.Checked.{items_wrong}
+use Rattle.irtext_parse_section.specs.Said.{rules_of}
+use Rattle.irtext_parse_heads.specs.Named.{whole, Each, MustMean}
+use Rattle.irtext_section.specs.Readers.{wrong_references, section_at}
+use Rattle.irtext_parse_section.specs.Entries.{AreEntriesOver}
+use Rattle.irtext_parse_section.proofs.References.{IsWrong, references_same, references_near, section_unread, section_right, section_wrong}
+use Rattle.irtext_parse_section.proofs.section.right_parse.Goals as goal
+
+pub returns-in_err-entries-clause-read : goal.returns-in_err-entries-clause-read
+returns-in_err-entries-clause-read g c =
+    let marks = marks_of c.args.s.now.state in
+    rw (handed_on c.from_residual.result c.from_residual.ensures.1) (section_unread (attr_at g.A.IrText.reading) (indices_of marks) (rules_of marks) c.in_err-entries.ensures.read)
+
+pub returns-in_err-items_checked-clause-read : goal.returns-in_err-items_checked-clause-read
+returns-in_err-items_checked-clause-read g c =
+    let old = c.args.s.now in
+    let marks = marks_of old.state in
+    let entries = c.in_ok-entries.entries in
+    let k = c.in_ok-entries.ensures.read in
+    let es = k.meant entries in
+    let once = entries.once.entries in
+    let a = answered k.read in
+    let near = references_near (texts_of g.T.IrText.reading g.T.IrText.written) g.A.IrText.reading g.A.IrText.written g.met.A.IrText.sincere g.met.A.IrText.lawful (indices_of marks) (rules_of marks) old.stream.rest es a.taken _ a.is in
+    let same = references_same (whole old.stream) once es k.means.are.once marks c.all_parse.new.s.state.ctx.now.paths entries.items.items k.means.are.items in
+    rw (handed_on c.from_residual-in_err-items_checked.result c.from_residual-in_err-items_checked.ensures.1) (section_wrong (attr_at g.A.IrText.reading) (indices_of marks) (rules_of marks) k (items_wrong once entries.items.items) near same (rw c.as_slice.ensures.value at c.in_err-items_checked.ensures))
+
+pub returns-clause-read : goal.returns-clause-read
+returns-clause-read g c =
+    let old = c.args.s.now in
+    let marks = marks_of old.state in
+    let entries = c.in_ok-entries.entries in
+    let k = c.in_ok-entries.ensures.read in
+    let es = k.meant entries in
+    let once = entries.once.entries in
+    let attr = attr_at g.A.IrText.reading in
+    let paths = c.all_parse.new.s.state.ctx.now.paths in
+    let same = references_same (whole old.stream) once es k.means.are.once marks paths entries.items.items k.means.are.items in
+    let fine = rw c.as_slice.ensures.value at c.in_ok-items_checked.ensures in
+    subst (λ v. MustMean {A = g.row.A.Denot} itself replaced (AreEntriesOver marks old.state.ctx.now.paths paths (whole old.stream)) (section_at attr (indices_of marks) (rules_of marks)) old.stream (Ok entries) v) (sym fine.1)
+    (section_right attr (indices_of marks) (rules_of marks) k (subst (λ ws. Each (IsWrong (whole old.stream)) ws (wrong_references (rules_of marks) es)) fine.0 same))

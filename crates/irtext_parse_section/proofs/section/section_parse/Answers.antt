@@ -1,0 +1,65 @@
+use Rattle.std.proofs.Common.{ℕ, List, [], inl, inr, ◌∙◌, sym, ap}
+use Rattle.irtext_read.specs.AttrTexts.{attr_at}
+use Rattle.irtext_read.proofs.Exits.{handed_on}
+use Rattle.irtext_state.specs.States.{marks_of}
+use Rattle.irtext_outcomes.specs.Promises.Section.{indices_of}
+use Rattle.irtext_outcomes.proofs.Readers.Answered.{not_answered}
+use Rattle.irtext_outcomes.proofs.Readers.EntryIndices.{demands}
+use Rattle.irtext_outcomes.proofs.Readers.NewPaths.{adds_kept}
+use Rattle.irtext_section.proofs.Fine.{fine_section}
+use Rattle.irtext_parse_section.specs.Said.{rules_of}
+use Rattle.irtext_parse_section.proofs.SectionSteps.{adds_closed, starved_refusal, starved_there, given_kept, reads_section}
+use Rattle.irtext_parse_section.proofs.LoopSteps.{unless_err}
+use Rattle.irtext_parse_section.proofs.section.section_parse.Goals as goal
+
+pub returns-in_err-entries-clause-missed : goal.returns-in_err-entries-clause-missed
+returns-in_err-entries-clause-missed g c = λ fine.
+    rw (handed_on c.from_residual.result c.from_residual.ensures.1) (not_answered fine c.in_err-entries.ensures.read.read)
+
+pub returns-in_err-entries-clause-refused : goal.returns-in_err-entries-clause-refused
+returns-in_err-entries-clause-refused g c =
+    let marks = marks_of c.args.s.now.state in
+    rw (handed_on c.from_residual.result c.from_residual.ensures.1) (demands (λ text. (fine_section g.A.IrText.reading g.met.A.IrText.sincere (indices_of marks) (rules_of marks) text).spares) c.in_err-entries.ensures.read.read)
+
+pub returns-in_err-entries-clause-kept : goal.returns-in_err-entries-clause-kept
+returns-in_err-entries-clause-kept g c = λ mark n. adds_kept mark c.in_err-entries.ensures.adds
+
+pub returns-in_err-entries-clause-closed : goal.returns-in_err-entries-clause-closed
+returns-in_err-entries-clause-closed g c = λ mark h. adds_closed mark c.args.s.now.state.ctx.now c.right_parse.new.s.state.ctx.now c.in_err-entries.ensures.adds h
+
+pub returns-in_err-entries-clause-adds : goal.returns-in_err-entries-clause-adds
+returns-in_err-entries-clause-adds g c = rw (handed_on c.from_residual.result c.from_residual.ensures.1) (inr c.in_err-entries.ensures.adds)
+
+pub returns-then-is_err-clause-missed : goal.returns-then-is_err-clause-missed
+returns-then-is_err-clause-missed g c = λ fine. inl (starved_there c.out_of_memory.ensures)
+
+pub returns-then-is_err-clause-refused : goal.returns-then-is_err-clause-refused
+returns-then-is_err-clause-refused g c = starved_refusal c.out_of_memory.ensures
+
+pub returns-then-is_err-clause-marks : goal.returns-then-is_err-clause-marks
+returns-then-is_err-clause-marks g c = c.entries_given.ensures.marks ∙ c.in_ok-entries.ensures.marks
+
+pub returns-then-is_err-clause-kept : goal.returns-then-is_err-clause-kept
+returns-then-is_err-clause-kept g c = λ mark n.
+    given_kept g.row.A.Denot (attr_at g.A.IrText.reading) c.args.s.now c.right_parse.new.s c.in_ok-entries.entries c.in_ok-entries.ensures.read c.in_ok-entries.ensures.adds c.entries_given.new.s.state.ctx.now mark n (c.entries_given.ensures.kept mark)
+
+pub returns-then-is_err-clause-closed : goal.returns-then-is_err-clause-closed
+returns-then-is_err-clause-closed g c = λ mark h.
+    c.entries_given.ensures.closed mark (adds_closed mark c.args.s.now.state.ctx.now c.right_parse.new.s.state.ctx.now c.in_ok-entries.ensures.adds h)
+
+pub returns-then-is_err-clause-adds : goal.returns-then-is_err-clause-adds
+returns-then-is_err-clause-adds g c = inl (starved_there c.out_of_memory.ensures)
+
+pub returns-clause-kept : goal.returns-clause-kept
+returns-clause-kept g c = λ mark n.
+    rw c.truncate_marks.ensures.ctx (given_kept g.row.A.Denot (attr_at g.A.IrText.reading) c.args.s.now c.right_parse.new.s c.in_ok-entries.entries c.in_ok-entries.ensures.read c.in_ok-entries.ensures.adds c.entries_given.new.s.state.ctx.now mark n (c.entries_given.ensures.kept mark))
+
+pub returns-clause-closed : goal.returns-clause-closed
+returns-clause-closed g c = λ mark h.
+    rw c.truncate_marks.ensures.ctx (c.entries_given.ensures.closed mark (adds_closed mark c.args.s.now.state.ctx.now c.right_parse.new.s.state.ctx.now c.in_ok-entries.ensures.adds h))
+
+pub returns-clause-read : goal.returns-clause-read
+returns-clause-read g c =
+    let gives = unless_err c.entries_given.result (sym c.is_err.ensures.value ∙ c.if-is_err.false) c.entries_given.ensures.gives in
+    reads_section g.row.A.Denot (attr_at g.A.IrText.reading) c.args.s.now c.right_parse.new.s c.in_ok-entries.entries c.in_ok-entries.ensures.read c.in_ok-entries.ensures.adds _
+    (rw c.truncate_marks.ensures.ctx gives) c.entries_given.ensures.stream c.truncate_marks.ensures.marks

@@ -1,0 +1,136 @@
+-- Between functions: what entries that were read stand for, over the paths that the context keeps, and what all of them are.
+use Rattle.std.specs.Prelude.{◌≡◌, ◌≤◌, ℕ, Bool, true, false, cond, not, ◌&&◌, is_some, List, [], ◌∷◌, ◌++◌, length, Option, Some, None, Vec, nat_eq, ⊤}
+use Rattle.std.specs.Global.{Global}
+use Rattle.std.specs.Map.{lookup}
+use Rattle.std.specs.Option.{option_map}
+use Rattle.indexmap.specs.IndexMap.{insert_entry}
+use Rattle.irtext_base.specs.Text.{Text}
+use Rattle.irtext_base.specs.Answers.{Outcome, demanded, prefixed}
+use Rattle.irtext_base.specs.Stream.{StreamView}
+use Rattle.irtext_base.specs.Locations.{AttrView}
+use Rattle.irtext_base.specs.Paths.{Written}
+use Rattle.irtext_base.specs.declared.base.attributes.AttrObj.{AttrObj}
+use Rattle.irtext_base.specs.declared.location.Location.{Location}
+use Rattle.irtext_context.specs.declared.base.item.Item.{Item}
+use Rattle.irtext_state.specs.States.{same_index, marks_of}
+use Rattle.irtext_state.specs.declared.parsable.state.StateStream.{StateStream}
+use Rattle.irtext_grammar.specs.Contexts.Held.{attribute_of}
+use Rattle.irtext_grammar.specs.Grammar.Tree.{Name, Mark}
+use Rattle.irtext_grammar.specs.Grammar.Section as section
+use Rattle.irtext_grammar.specs.Grammar.Section.{Entry, of_item, of_once}
+use Rattle.irtext_grammar.specs.Names.Acts.{Rule, shared_attribute}
+use Rattle.irtext_grammar.specs.Names.Resolves.{indices}
+use Rattle.irtext_grammar.specs.Names.Scopes.{is_among}
+use Rattle.irtext_outcomes.specs.Promises.Section.{known_given, given_over, given_kept, indices_of, Moves}
+use Rattle.irtext_outcomes.specs.Readers.NewPaths.{AddsPaths}
+use Rattle.irtext_outcomes.specs.Readers.Streams.{KeepsRest}
+use Rattle.irtext_parse_heads.specs.Marks.{IsMark}
+use Rattle.irtext_parse_heads.specs.Named.{whole}
+use Rattle.irtext_parse_heads.specs.declared.entries.Key.{Key}
+use Rattle.irtext_section.specs.Readers.{begins_given, entries_after}
+use Rattle.irtext_parse_section.specs.Said.{ArePairs, rules_of}
+use Rattle.irtext_parse_section.specs.declared.entry.EntryHead.{EntryHead}
+use Rattle.irtext_parse_section.specs.declared.said.GivenAttr.{GivenAttr}
+use Rattle.irtext_parse_section.specs.declared.said.ItemEntry.{ItemEntry}
+use Rattle.irtext_parse_section.specs.declared.said.ReadEntry.{ReadEntry}
+use Rattle.irtext_parse_section.specs.declared.said.ReadEntry.TheVariants as read
+use Rattle.irtext_parse_section.specs.declared.said.Entries.{Entries}
+
+-- ---- one entry
+-- the item that carries a mark of this index, unless an earlier entry has the index
+abbrev pub next_item : {X Y : Type 0} → List (ℕ × X) → List (ℕ × Y) → ℕ → Option X
+next_item marks seen i = cond (is_some (lookup (same_index i) seen)) None (lookup (same_index i) marks)
+
+-- the head that was read has the index of the mark, which stands where it says
+abbrev pub IsHead : Text → EntryHead → Mark ℕ → Type 0
+IsHead text head mark = IsMark text head.mark mark
+
+-- the item that carries the mark is known exactly where an item's entry goes on
+pub record GoesOn (marks : List (ℕ × Item)) (rest : Text) (head : EntryHead) : Type 0 where
+  pub known : is_some head.item ≡ begins_given rest
+  pub carries : is_some head.item ≡ true → lookup (same_index head.mark.index) marks ≡ head.item
+
+module _ {A : Type 0} where
+  -- what was read of an item's entry stands for a location and pairs
+  pub record IsGivenOver (paths : List (List ℕ)) (text : Text) (read : Option (Location A) × Vec (Key × GivenAttr A) Global) (given : Option (Written A) × List (Name ℕ × section.Item ℕ A)) : Type 0 where
+    pub known : known_given (length paths) read.0 ≡ true
+    pub location : given_over paths read.0 ≡ given.0
+    pub pairs : ArePairs text read.1 given.1
+
+  -- an item's entry that was read stands for one: its item carries the mark
+  pub record IsItemEntry (marks : List (ℕ × Item)) (paths : List (List ℕ)) (text : Text) (entry : ItemEntry A) (i : ℕ) (x : Option (Written A)) (ps : List (Name ℕ × section.Item ℕ A)) : Type 0 where
+    pub item : lookup (same_index i) marks ≡ Some entry.item
+    pub known : known_given (length paths) entry.location ≡ true
+    pub location : given_over paths entry.location ≡ x
+    pub pairs : ArePairs text entry.pairs ps
+
+  module _ (marks : List (ℕ × Item)) (paths : List (List ℕ)) (text : Text) where
+    -- an entry that was read stands for one
+    abbrev pub IsEntry : ReadEntry A → Entry ℕ A (Written A) → Type 0
+    IsEntry (read.OfItem i e) (of_item m x ps) = (i ≡ m.index) × IsItemEntry marks paths text e m.index x ps
+    IsEntry (read.OfItem i e) (of_once m a) = ⊥
+    IsEntry (read.OfOnce i b) (of_item m x ps) = ⊥
+    IsEntry (read.OfOnce i b) (of_once m a) = (i ≡ m.index) × (attribute_of b ≡ a)
+
+    -- items' entries that were read stand for those among these
+    abbrev pub AreItems : List (ItemEntry A) → List (Entry ℕ A (Written A)) → Type 0
+    AreItems items [] = items ≡ []
+    AreItems items (of_once m a ∷ es) = AreItems items es
+    AreItems [] (of_item m x ps ∷ es) = ⊥
+    AreItems (e ∷ items) (of_item m x ps ∷ es) = IsItemEntry marks paths text e m.index x ps × AreItems items es
+
+  -- the paths once that of an entry's location are kept, where the location is seen over the last of them
+  abbrev pub entry_kept : List (List ℕ) → List (List ℕ) → ReadEntry A → List (List ℕ)
+  entry_kept old new (read.OfItem i e) = given_kept old (given_over new e.location)
+  entry_kept old new (read.OfOnce i b) = old
+
+  -- the paths once those of the locations of entries are kept, one entry after the other
+  abbrev pub all_entries_kept : List (List ℕ) → List (Entry ℕ A (Written A)) → List (List ℕ)
+  all_entries_kept paths [] = paths
+  all_entries_kept paths (of_item m x ps ∷ es) = all_entries_kept (given_kept paths x) es
+  all_entries_kept paths (of_once m a ∷ es) = all_entries_kept paths es
+
+  -- ---- all entries
+  -- the attributes that are written once are those of these entries, the last under each index
+  abbrev pub AreOnce : {X : Type 0} → List (ℕ × AttrObj A) → List (Entry ℕ A X) → Type 0
+  AreOnce once es = (i : ℕ) → option_map attribute_of (lookup (nat_eq i) once) ≡ shared_attribute i es
+
+  -- the indices are those of the entries of items
+  abbrev pub AreSeen : {X : Type 0} → List (ℕ × ⊤) → List (Entry ℕ A X) → Type 0
+  AreSeen seen es = (i : ℕ) → is_some (lookup (same_index i) seen) ≡ is_among i (indices es)
+
+  -- all that were read stand for these entries
+  pub record AreEntries (marks : List (ℕ × Item)) (paths : List (List ℕ)) (text : Text) (entries : Entries A) (es : List (Entry ℕ A (Written A))) : Type 0 where
+    pub items : AreItems marks paths text entries.items.items es
+    pub seen : AreSeen entries.seen es
+    pub once : AreOnce entries.once.entries es
+
+  -- the same, and the context came from the one paths to the other by them
+  pub record AreEntriesOver (marks : List (ℕ × Item)) (old paths : List (List ℕ)) (text : Text) (entries : Entries A) (es : List (Entry ℕ A (Written A))) : Type 0 where
+    pub are : AreEntries marks paths text entries es
+    pub kept : paths ≡ all_entries_kept old es
+
+  -- an entry came to the others: an item's behind them, one that is written once in place of the one of its index, or else last
+  abbrev pub Notes : Entries A → ReadEntry A → Entries A → Type 0
+  Notes old (read.OfItem i e) new = (new.items.items ≡ old.items.items ++ e ∷ []) × (lookup (same_index i) old.seen ≡ None → new.seen ≡ old.seen ++ (i, tt) ∷ []) × (new.once.entries ≡ old.once.entries)
+  Notes old (read.OfOnce i a) new = (new.items.items ≡ old.items.items) × (new.seen ≡ old.seen) × (new.once.entries ≡ insert_entry nat_eq old.once.entries i a)
+
+-- ---- how far their reading has come
+-- Behind the section's first word these entries were read, in front of where the stream stands; what stands there completes what the
+-- whole text is to the reader of entries.
+pub record TextSoFar {A : Type 0} (attr : Text → Outcome (AttrView A)) (marks : List ℕ) (rules : ℕ → Rule A) (old now : StreamView) (found : List (Entry ℕ A (Written A))) : Type 0 where
+  pub fine : old.failed ≡ false
+  pub moves : Moves old now
+  pub room : ℕ
+  pub enough : length now.rest ≤ room
+  pub completes : demanded (entries_after attr marks rules (length old.rest) [] old.rest) ≡ prefixed moves.taken (entries_after attr marks rules room found now.rest)
+
+-- The entries that were read so far stand for these of the text, and the context came to its paths by them. Nothing else of the state
+-- changed.
+pub record EntriesSoFar {T A U : Type 0} (attr : Text → Outcome (AttrView A)) (old now : StateStream T A U) (entries : Entries A) : Type 0 where
+  pub rest : KeepsRest old.state now.state
+  pub marks : marks_of now.state ≡ marks_of old.state
+  pub adds : AddsPaths old.state.ctx.now now.state.ctx.now
+  pub found : List (Entry ℕ A (Written A))
+  pub are : AreEntriesOver (marks_of old.state) old.state.ctx.now.paths now.state.ctx.now.paths (whole old.stream) entries found
+  pub so_far : TextSoFar attr (indices_of (marks_of old.state)) (rules_of (marks_of old.state)) old.stream now.stream found

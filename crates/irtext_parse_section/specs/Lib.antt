@@ -1,0 +1,7 @@
+-- What entries that were read stand for, and what applying them does
+pub mod Said
+pub mod Entries
+pub mod Checked
+pub mod Applied
+pub mod Section
+pub mod Items

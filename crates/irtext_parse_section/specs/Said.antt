@@ -1,0 +1,88 @@
+-- Between functions: what entries that were read stand for.
+use Rattle.std.specs.Prelude.{◌≡◌, ℕ, Bool, true, false, cond, List, [], ◌∷◌, length, Option, Some, None, Result, Ok, Err, Vec, is_some}
+use Rattle.std.specs.Global.{Global}
+use Rattle.std.specs.Map.{lookup}
+use Rattle.std.specs.Option.{option_map}
+use Rattle.irtext_base.specs.Text.{Text}
+use Rattle.irtext_base.specs.Stream.{StreamView}
+use Rattle.irtext_base.specs.Answers.{Outcome}
+use Rattle.irtext_base.specs.Faults.{ReservedKey}
+use Rattle.irtext_base.specs.Paths.{Written}
+use Rattle.irtext_base.specs.declared.base.attributes.AttrObj.{AttrObj}
+use Rattle.irtext_base.specs.declared.location.Location.{Location}
+use Rattle.irtext_base.specs.declared.parsable.fault.ParseFault.{ParseFault}
+use Rattle.irtext_stream.specs.declared.position.Place.{Place}
+use Rattle.irtext_context.specs.declared.base.item.Item.{Item}
+use Rattle.irtext_context.specs.declared.base.item.Item.TheVariants as item
+use Rattle.irtext_state.specs.States.{same_index}
+use Rattle.irtext_read.specs.ListOutcomes.{items_after}
+use Rattle.irtext_grammar.specs.Contexts.Held.{attribute_of}
+use Rattle.irtext_grammar.specs.Grammar.Tree.{Name, Mark}
+use Rattle.irtext_grammar.specs.Grammar.Section as section
+use Rattle.irtext_grammar.specs.Grammar.Section.{direct, reference}
+use Rattle.irtext_grammar.specs.Names.Acts.{Rule, may_hold, keeps_label_key}
+use Rattle.irtext_outcomes.specs.Promises.Section.{known_given, given_over}
+use Rattle.irtext_outcomes.specs.Readers.Operations.{RefusesAt}
+use Rattle.irtext_outcomes.specs.Readers.Streams.{itself, replaced}
+use Rattle.irtext_parse_heads.specs.Entries.{IsKey}
+use Rattle.irtext_parse_heads.specs.Marks.{IsMark}
+use Rattle.irtext_parse_heads.specs.Named.{whole, Each, MustMean}
+use Rattle.irtext_parse_heads.specs.declared.entries.Key.{Key}
+use Rattle.irtext_parse_heads.specs.declared.marks.ReadMark.{ReadMark}
+use Rattle.irtext_parse_section.specs.declared.said.GivenAttr.{GivenAttr}
+use Rattle.irtext_parse_section.specs.declared.said.GivenAttr.TheVariants as given
+
+-- what may stand under a key of the entry of a block, or of an operation
+abbrev pub rule_for : {A : Type 0} → Bool → Rule A
+rule_for of_block = cond of_block keeps_label_key may_hold
+
+-- the item is a block
+abbrev pub is_block : Item → Bool
+is_block (item.Operation p) = false
+is_block (item.Block b) = true
+
+-- what may stand in the entry of an item, if there is one
+abbrev pub rule_of_item : {A : Type 0} → Option Item → Rule A
+rule_of_item None = rule_for false
+rule_of_item (Some x) = rule_for (is_block x)
+
+-- what may stand in the entry of a mark, by the item that carries it
+abbrev pub rules_of : {A : Type 0} → List (ℕ × Item) → ℕ → Rule A
+rules_of marks i = rule_of_item (lookup (same_index i) marks)
+
+-- an attribute that was written out may stand under its key; nothing is known of a reference
+abbrev pub stands_under : {A : Type 0} → Rule A → Text → GivenAttr A → Bool
+stands_under rule key (given.Direct a) = rule key (attribute_of a)
+stands_under rule key (given.Reference m) = true
+
+-- what was read under a key stands for what is given there
+abbrev pub IsGiven : {A : Type 0} → Text → GivenAttr A → section.Item ℕ A → Type 0
+IsGiven text (given.Direct a) (direct b) = attribute_of a ≡ b
+IsGiven text (given.Direct a) (reference n) = ⊥
+IsGiven text (given.Reference m) (direct b) = ⊥
+IsGiven text (given.Reference m) (reference n) = IsMark text m n
+
+-- a pair that was read stands for one
+abbrev pub IsPair : {A : Type 0} → Text → Key × GivenAttr A → Name ℕ × section.Item ℕ A → Type 0
+IsPair text read pair = IsKey text read.0 pair.0 × IsGiven text read.1 pair.1
+
+module _ {A : Type 0} where
+  -- The same answer is given where its attribute may stand under its key: else the key is reserved, and the fault stands at the place.
+  abbrev pub Allows : Rule A → Place → Result (Key × GivenAttr A) (ParseFault A) → StreamView → Result (Key × GivenAttr A) (ParseFault A) → StreamView → Type 0
+  Allows rule place (Ok p) old (Ok q) new = (stands_under rule p.0.name p.1 ≡ true) × (q ≡ p) × (new ≡ old)
+  Allows rule place (Ok p) old (Err fault) new = (stands_under rule p.0.name p.1 ≡ false) × RefusesAt itself replaced (ReservedKey p.0.name) place old fault new
+  Allows rule place (Err first) old (Ok q) new = ⊥
+  Allows rule place (Err first) old (Err fault) new = (fault ≡ first) × (new ≡ old)
+
+  -- all that were read stand for these
+  abbrev pub ArePairs : Text → Vec (Key × GivenAttr A) Global → List (Name ℕ × section.Item ℕ A) → Type 0
+  ArePairs text read pairs = Each (IsPair text) read.items pairs
+
+  -- the answer is the pairs that stand there, or their fault
+  abbrev pub MustPairs : (Text → Outcome (List (Name ℕ × section.Item ℕ A))) → StreamView → Result (Vec (Key × GivenAttr A) Global) (ParseFault A) → StreamView → Type 0
+  MustPairs outcome old result new = MustMean itself replaced (ArePairs (whole old)) outcome old result new
+
+  -- behind a first pair, the answer is the pairs that stand there, or their fault
+  abbrev pub PairsBehind : (Text → Outcome (Name ℕ × section.Item ℕ A)) → Key × GivenAttr A → StreamView → Result (Vec (Key × GivenAttr A) Global) (ParseFault A) → StreamView → Type 0
+  PairsBehind item first old result new = (pair : Name ℕ × section.Item ℕ A) → IsPair (whole old) first pair → old.failed ≡ false
+      → MustPairs (λ t. items_after 44 item (length t) (pair ∷ []) t) old result new

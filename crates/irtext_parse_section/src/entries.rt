@@ -1,0 +1,68 @@
+//! Reading of all entries of a section.
+ghost use Rattle.std.specs.Prelude.{◌≡◌, false, OnOk, length, []};
+ghost use Rattle.irtext_read.specs.AttrTexts.{attr_at};
+ghost use Rattle.irtext_state.specs.States.{marks_of};
+ghost use Rattle.irtext_outcomes.specs.Promises.Section.{indices_of};
+ghost use Rattle.irtext_outcomes.specs.Readers.NewPaths.{AddsPaths};
+ghost use Rattle.irtext_outcomes.specs.Readers.Streams.{itself, replaced, KeepsRest};
+ghost use Rattle.irtext_parse_heads.specs.Named.{MustMean, whole};
+ghost use Rattle.irtext_section.specs.Readers.{entries_after};
+ghost use Rattle.irtext_parse_section.specs.Said.{rules_of};
+ghost use Rattle.irtext_parse_section.specs.Entries.{AreEntriesOver, Notes};
+
+use crate::entry::entry_parse;
+use crate::said::{Entries, ReadEntry};
+use indexmap::IndexMap;
+use irtext_base::parsable::{CharStream, ParseResult};
+use irtext_base::text::{AttrText, IrText};
+use irtext_read::irfmt::faults::{next_is, out_of_memory};
+use irtext_read::irfmt::parsers::skip_white_space;
+use irtext_state::parsable::StateStream;
+use irtext_state::parsable::numbered::Numbered;
+use std::alloc::AllocError;
+
+/// Notes an entry behind the others.
+fn entry_noted<A: Drop>(entries: &mut Entries<A>, entry: ReadEntry<A>) -> Result<(), AllocError>
+    ensures { OnOk result (Notes entries.old entry entries.new) }
+{
+    match entry {
+        ReadEntry::OfItem(index, entry) => {
+            entries.seen.note(index, ())?;
+            entries.items.push(entry)?;
+        }
+        ReadEntry::OfOnce(index, attr) => {
+            entries.once.insert(index, attr)?;
+        }
+    }
+    Ok(())
+}
+
+/// Entries as long as `!` follows, with white space behind each. A fault is committed.
+pub(crate) fn entries_parse<T: IrText<A>, A: AttrText, U>(
+    s: &mut StateStream<'_, T, A, U>,
+) -> ParseResult<Entries<A>, A>
+    requires fine { s.old.stream.failed ≡ false }
+    ensures lent { s.new.state.ctx.ghost_name ≡ s.old.state.ctx.ghost_name }
+    ensures rest { KeepsRest s.old.state s.new.state }
+    ensures marks { marks_of s.new.state ≡ marks_of s.old.state }
+    ensures adds { AddsPaths s.old.state.ctx.now s.new.state.ctx.now }
+    ensures read { MustMean itself replaced
+        (AreEntriesOver (marks_of s.old.state) s.old.state.ctx.now.paths s.new.state.ctx.now.paths (whole s.old.stream))
+        (λ t. entries_after (attr_at A.IrText.reading) (indices_of (marks_of s.old.state)) (rules_of (marks_of s.old.state)) (length t) [] t)
+        s.old.stream result s.new.stream }
+{
+    let alloc = s.stream.allocator();
+    let mut entries = Entries {
+        items: Vec::new(alloc),
+        seen: Numbered::new(alloc),
+        once: IndexMap::new(alloc),
+    };
+    while next_is(&s.stream, '!') {
+        let entry = entry_parse(s, &entries.seen)?;
+        if entry_noted(&mut entries, entry).is_err() {
+            return Err(out_of_memory(&mut s.stream));
+        }
+        skip_white_space(&mut s.stream);
+    }
+    Ok(entries)
+}

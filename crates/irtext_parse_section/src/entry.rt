@@ -1,0 +1,124 @@
+//! Reading of one entry: of an item, or of an attribute that is written once.
+ghost use Rattle.std.specs.Prelude.{◌≡◌, IfOk, is_some};
+ghost use Rattle.irtext_read.specs.AttrTexts.{attr_at};
+ghost use Rattle.irtext_stream.specs.Places.{StandsBehind};
+ghost use Rattle.irtext_state.specs.States.{marks_of};
+ghost use Rattle.irtext_outcomes.specs.Readers.Marks.{may_follow};
+ghost use Rattle.irtext_outcomes.specs.Readers.NewPaths.{AddsPaths};
+ghost use Rattle.irtext_outcomes.specs.Readers.Streams.{itself, replaced, KeepsRest};
+ghost use Rattle.irtext_parse_heads.specs.Marks.{IsMark};
+ghost use Rattle.irtext_parse_heads.specs.Named.{MustMean, whole};
+ghost use Rattle.irtext_section.specs.Readers.{begins_given, tested, entry_head_at, entry_at};
+ghost use Rattle.irtext_parse_section.specs.Said.{rules_of};
+ghost use Rattle.irtext_parse_section.specs.Entries.{IsHead, GoesOn, IsEntry, entry_kept, next_item};
+
+use crate::given::given_parse;
+use crate::rules::is_block;
+use crate::said::{ItemEntry, ReadEntry};
+use irtext_base::parsable::{CharStream, ParseResult, TextStream};
+use irtext_base::result::Cause;
+use irtext_base::text::{AttrText, IrText};
+use irtext_context::base::Item;
+use irtext_parse_heads::entries::attr_demanded;
+use irtext_parse_heads::marks::ReadMark;
+use irtext_read::irfmt::demanded::{index_demanded, spaced_text_demanded};
+use irtext_read::irfmt::faults::{next_is, refuse_at};
+use irtext_state::parsable::StateStream;
+use irtext_state::parsable::numbered::Numbered;
+
+/// The head of an entry: its index, and the item that carries that mark, where the entry goes on as an item's.
+#[derive(Clone, Copy)]
+pub(crate) struct EntryHead {
+    pub mark: ReadMark,
+    pub item: Option<Item>,
+}
+
+/// Whether an item's entry goes on here, and no attribute that is written once.
+fn begins_given(stream: &TextStream) -> bool
+    ensures { result ≡ begins_given stream.now.rest }
+{
+    match stream.peek() {
+        Some(c) => c == '@' || c == '[',
+        None => false,
+    }
+}
+
+/// An index, and `=` with white space round it. A fault is committed.
+fn index_parse<A>(stream: &mut TextStream) -> ParseResult<ReadMark, A>
+    ensures read { MustMean itself replaced (IsMark (whole stream.old)) entry_head_at stream.old result stream.new }
+    ensures at { IfOk result (λ mark. StandsBehind mark.at stream.old.passed) }
+{
+    let at = stream.position();
+    let index = index_demanded(stream)?;
+    spaced_text_demanded(stream, "=")?;
+    Ok(ReadMark { index, at })
+}
+
+/// The item that carries a mark of this index, unless an earlier entry has the index.
+fn next_item<T: IrText<A>, A: AttrText, U>(
+    s: &StateStream<'_, T, A, U>,
+    seen: &Numbered<()>,
+    index: usize,
+) -> Option<Item>
+    ensures { result ≡ next_item (marks_of s.now.state) seen.now index }
+{
+    if seen.contains(index) {
+        return None;
+    }
+    s.state.marked(index)
+}
+
+/// The head of an entry. Where it goes on as an item's, but no item carries its mark, or an earlier entry has it, it is refused at its
+/// `!`. A fault is committed.
+fn head_parse<T: IrText<A>, A: AttrText, U>(
+    s: &mut StateStream<'_, T, A, U>,
+    seen: &Numbered<()>,
+) -> ParseResult<EntryHead, A>
+    ensures state { s.new.state ≡ s.old.state }
+    ensures read { MustMean itself replaced (IsHead (whole s.old.stream))
+        (λ t. tested (may_follow (marks_of s.old.state) seen.now) (entry_head_at t)) s.old.stream result s.new.stream }
+    ensures on { IfOk result (GoesOn (marks_of s.old.state) s.new.stream.rest) }
+{
+    let mark = index_parse(&mut s.stream)?;
+    if !begins_given(&s.stream) {
+        return Ok(EntryHead { mark, item: None });
+    }
+    match next_item(s, seen, mark.index) {
+        Some(item) => Ok(EntryHead {
+            mark,
+            item: Some(item),
+        }),
+        None => Err(refuse_at(&mut s.stream, mark.at, Cause::UnknownIndex(mark.index))),
+    }
+}
+
+/// An entry, behind those of these indices. A fault is committed.
+pub(crate) fn entry_parse<T: IrText<A>, A: AttrText, U>(
+    s: &mut StateStream<'_, T, A, U>,
+    seen: &Numbered<()>,
+) -> ParseResult<ReadEntry<A>, A>
+    ensures lent { s.new.state.ctx.ghost_name ≡ s.old.state.ctx.ghost_name }
+    ensures rest { KeepsRest s.old.state s.new.state }
+    ensures marks { marks_of s.new.state ≡ marks_of s.old.state }
+    ensures adds { AddsPaths s.old.state.ctx.now s.new.state.ctx.now }
+    ensures read { MustMean itself replaced (IsEntry (marks_of s.old.state) s.new.state.ctx.now.paths (whole s.old.stream))
+        (entry_at (attr_at A.IrText.reading) (may_follow (marks_of s.old.state) seen.now) (rules_of (marks_of s.old.state)))
+        s.old.stream result s.new.stream }
+    ensures paths { IfOk result (λ e. s.new.state.ctx.now.paths ≡ entry_kept s.old.state.ctx.now.paths s.new.state.ctx.now.paths e) }
+{
+    let head = head_parse(s, seen)?;
+    let Some(item) = head.item else {
+        let attr = attr_demanded(&mut s.stream)?;
+        return Ok(ReadEntry::OfOnce(head.mark.index, attr));
+    };
+    let ctx = &mut *s.state.ctx;
+    let given = given_parse(&mut s.stream, ctx, is_block(item))?;
+    Ok(ReadEntry::OfItem(
+        head.mark.index,
+        ItemEntry {
+            item,
+            location: given.0,
+            pairs: given.1,
+        },
+    ))
+}

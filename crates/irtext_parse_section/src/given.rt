@@ -1,0 +1,67 @@
+//! Reading of what an item's entry gives: a location, where one stands, and pairs.
+ghost use Rattle.std.specs.Prelude.{◌≡◌, IfOk};
+ghost use Rattle.irtext_read.specs.AttrTexts.{attr_at};
+ghost use Rattle.irtext_outcomes.specs.Promises.Section.{known_given, given_over, given_kept};
+ghost use Rattle.irtext_outcomes.specs.Readers.NewPaths.{AddsPaths, MustReadOver};
+ghost use Rattle.irtext_outcomes.specs.Readers.Section.{entry_location_at};
+ghost use Rattle.irtext_outcomes.specs.Readers.Streams.{itself, replaced};
+ghost use Rattle.irtext_parse_heads.specs.Named.{MustMean, whole};
+ghost use Rattle.irtext_section.specs.Readers.{given_at};
+ghost use Rattle.irtext_parse_section.specs.Said.{rule_for};
+ghost use Rattle.irtext_parse_section.specs.Entries.{IsGivenOver};
+
+use crate::pairs::pairs_parse;
+use crate::said::ReadPair;
+use irtext_base::location::Location;
+use irtext_base::parsable::{CharStream, ParseResult, TextStream};
+use irtext_base::result::Cause;
+use irtext_base::text::{AttrText, IrText};
+use irtext_context::base::Context;
+use irtext_parse_locations::location::nested::location_demanded;
+use irtext_read::irfmt::demanded::{spaced_text_demanded, text_demanded};
+use irtext_read::irfmt::faults::{next_is, refuse};
+use irtext_read::irfmt::parsers::skip_white_space;
+
+/// What an item's entry gives: a location or none, and pairs.
+pub(crate) type Given<A> = (Option<Location<A>>, Vec<ReadPair<A>>);
+
+/// The location of an entry, where it gives one.
+fn entry_location<T: IrText<A>, A: AttrText>(
+    stream: &mut TextStream,
+    ctx: &mut Context<T, A>,
+) -> ParseResult<Option<Location<A>>, A>
+    ensures adds { AddsPaths ctx.old ctx.new }
+    ensures read { MustReadOver known_given given_over (entry_location_at (attr_at A.IrText.reading))
+        ctx.new.paths stream.old result stream.new }
+    ensures paths { IfOk result (λ given. ctx.new.paths ≡ given_kept ctx.old.paths (given_over ctx.new.paths given)) }
+{
+    if stream.has_failed() {
+        return Err(refuse(stream, Cause::StreamFailed));
+    }
+    if !next_is(stream, '@') {
+        return Ok(None);
+    }
+    text_demanded(stream, "@[")?;
+    skip_white_space(stream);
+    let location = location_demanded(stream, ctx)?;
+    spaced_text_demanded(stream, "]")?;
+    text_demanded(stream, ",")?;
+    skip_white_space(stream);
+    Ok(Some(location))
+}
+
+/// What the entry of a block, or of an operation, gives. A fault is committed.
+pub(crate) fn given_parse<T: IrText<A>, A: AttrText>(
+    stream: &mut TextStream,
+    ctx: &mut Context<T, A>,
+    of_block: bool,
+) -> ParseResult<Given<A>, A>
+    ensures adds { AddsPaths ctx.old ctx.new }
+    ensures read { MustMean itself replaced (IsGivenOver ctx.new.paths (whole stream.old))
+        (given_at (attr_at A.IrText.reading) (rule_for of_block)) stream.old result stream.new }
+    ensures paths { IfOk result (λ given. ctx.new.paths ≡ given_kept ctx.old.paths (given_over ctx.new.paths given.0)) }
+{
+    let location = entry_location(stream, ctx)?;
+    let pairs = pairs_parse(stream, of_block)?;
+    Ok((location, pairs))
+}

@@ -1,0 +1,148 @@
+//! Reading of the pairs of an item's entry: what it gives under keys.
+ghost use Rattle.std.specs.Prelude.{◌≡◌, ◌++◌, ◌∷◌, [], IfOk};
+ghost use Rattle.irtext_read.specs.AttrTexts.{attr_at};
+ghost use Rattle.irtext_read.specs.ListOutcomes.{separated_at};
+ghost use Rattle.irtext_outcomes.specs.Readers.Streams.{itself, replaced};
+ghost use Rattle.irtext_parse_heads.specs.Named.{MayMean, MustMean, whole};
+ghost use Rattle.irtext_section.specs.Readers.{item_at, pair_at, kept, pairs_at};
+ghost use Rattle.irtext_parse_section.specs.Said.{rule_for, IsGiven, IsPair, Allows, MustPairs, PairsBehind};
+
+use crate::rules::stands_under;
+use crate::said::{GivenAttr, ReadPair};
+use irtext_base::parsable::{CharStream, ParseResult, Place, TextStream};
+use irtext_base::result::Cause;
+use irtext_base::text::AttrText;
+use irtext_parse_heads::entries::{attr_demanded, key_parse};
+use irtext_parse_heads::marks::ReadMark;
+use irtext_read::irfmt::demanded::{index_demanded, spaced_text_demanded, text_demanded};
+use irtext_read::irfmt::faults::{committed, next_is, out_of_memory, refuse, refuse_at};
+use irtext_read::irfmt::parsers::skip_white_space;
+use std::alloc::AllocError;
+
+/// What stands behind `=`: an attribute, or `!` and the index of one that is written once. A fault is committed.
+fn item_parse<A: AttrText>(stream: &mut TextStream) -> ParseResult<GivenAttr<A>, A>
+    ensures { MustMean itself replaced (IsGiven (whole stream.old)) (item_at (attr_at A.IrText.reading)) stream.old result stream.new }
+{
+    if stream.has_failed() {
+        return Err(refuse(stream, Cause::StreamFailed));
+    }
+    if next_is(stream, '!') {
+        let at = stream.position();
+        let index = index_demanded(stream)?;
+        return Ok(GivenAttr::Reference(ReadMark { index, at }));
+    }
+    let attr = attr_demanded(stream)?;
+    Ok(GivenAttr::Direct(attr))
+}
+
+/// A key, `=`, and what is given under it. Where no key begins, the fault is uncommitted and the stream stays.
+fn pair_parse<A: AttrText>(stream: &mut TextStream) -> ParseResult<ReadPair<A>, A>
+    ensures { MayMean itself replaced (IsPair (whole stream.old)) (pair_at (attr_at A.IrText.reading)) stream.old result stream.new }
+{
+    let key = key_parse(stream)?;
+    spaced_text_demanded(stream, "=")?;
+    let given = item_parse(stream)?;
+    Ok((key, given))
+}
+
+/// The same answer, where its attribute may stand under its key. `at` is where the key stands.
+fn allowed<A: AttrText>(
+    stream: &mut TextStream,
+    of_block: bool,
+    at: Place,
+    answer: ParseResult<ReadPair<A>, A>,
+) -> ParseResult<ReadPair<A>, A>
+    ensures { Allows (rule_for of_block) at answer stream.old result stream.new }
+{
+    let (key, given) = match answer {
+        Ok(pair) => pair,
+        Err(fault) => return Err(fault),
+    };
+    if !stands_under(of_block, &key.name, &given) {
+        return Err(refuse_at(stream, at, Cause::ReservedKey(key.name)));
+    }
+    Ok((key, given))
+}
+
+/// A pair whose attribute may stand under its key.
+fn kept_parse<A: AttrText>(stream: &mut TextStream, of_block: bool) -> ParseResult<ReadPair<A>, A>
+    ensures { MayMean itself replaced (IsPair (whole stream.old))
+        (λ t. kept (rule_for of_block) (pair_at (attr_at A.IrText.reading) t)) stream.old result stream.new }
+{
+    let at = stream.position();
+    let answer = pair_parse(stream);
+    allowed(stream, of_block, at, answer)
+}
+
+/// The same pairs with one more behind them.
+fn pushed<A: Drop>(
+    found: Vec<ReadPair<A>>,
+    pair: ReadPair<A>,
+) -> Result<Vec<ReadPair<A>>, AllocError>
+    ensures { IfOk result (λ more. more.items ≡ found.items ++ pair ∷ []) }
+{
+    let mut found = found;
+    found.push(pair)?;
+    Ok(found)
+}
+
+/// The pairs behind the first one, as long as `,` follows.
+fn more_pairs<A: AttrText>(
+    stream: &mut TextStream,
+    of_block: bool,
+    first: ReadPair<A>,
+) -> ParseResult<Vec<ReadPair<A>>, A>
+    ensures { PairsBehind (λ t. kept (rule_for of_block) (pair_at (attr_at A.IrText.reading) t)) first stream.old result stream.new }
+{
+    let mut found = match pushed(Vec::new(stream.allocator()), first) {
+        Ok(one) => one,
+        Err(AllocError) => return Err(out_of_memory(stream)),
+    };
+    while next_is(stream, ',') {
+        let _ = stream.take();
+        skip_white_space(stream);
+        let answer = kept_parse(stream, of_block);
+        let next = committed(stream, answer)?;
+        skip_white_space(stream);
+        found = match pushed(found, next) {
+            Ok(more) => more,
+            Err(AllocError) => return Err(out_of_memory(stream)),
+        };
+    }
+    Ok(found)
+}
+
+/// Pairs with `,` between them and white space after each. Where no key begins, there are none. A fault is committed.
+fn list_parse<A: AttrText>(
+    stream: &mut TextStream,
+    of_block: bool,
+) -> ParseResult<Vec<ReadPair<A>>, A>
+    ensures { MustPairs (separated_at 44 (λ t. kept (rule_for of_block) (pair_at (attr_at A.IrText.reading) t))) stream.old result stream.new }
+{
+    match kept_parse(stream, of_block) {
+        Ok(first) => {
+            skip_white_space(stream);
+            more_pairs(stream, of_block, first)
+        }
+        Err(fault) => {
+            if fault.committed {
+                return Err(fault);
+            }
+            Ok(Vec::new(stream.allocator()))
+        }
+    }
+}
+
+/// Reads the pairs of the entry of a block, or of an operation, between brackets and with `,` between them. A fault is committed.
+pub(crate) fn pairs_parse<A: AttrText>(
+    stream: &mut TextStream,
+    of_block: bool,
+) -> ParseResult<Vec<ReadPair<A>>, A>
+    ensures { MustPairs (pairs_at (attr_at A.IrText.reading) (rule_for of_block)) stream.old result stream.new }
+{
+    text_demanded(stream, "[")?;
+    skip_white_space(stream);
+    let pairs = list_parse(stream, of_block)?;
+    text_demanded(stream, "]")?;
+    Ok(pairs)
+}

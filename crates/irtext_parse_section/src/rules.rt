@@ -1,0 +1,80 @@
+//! Which attributes may stand under the keys of an entry.
+ghost use Rattle.std.specs.Prelude.{◌≡◌};
+ghost use Rattle.irtext_base.specs.Format.{same_text, given_names_key, block_label_key};
+ghost use Rattle.irtext_grammar.specs.Contexts.Held.{attribute_of};
+ghost use Rattle.irtext_grammar.specs.Names.Acts.{is_given, is_label, may_hold};
+ghost use Rattle.irtext_parse_section.specs.Said.{rule_for, stands_under, is_block};
+
+use crate::said::GivenAttr;
+use irtext_base::base::{AttrObj, Identifier};
+use irtext_context::base::Item;
+
+/// Whether an item is a block.
+pub(crate) fn is_block(item: Item) -> bool
+    ensures { result ≡ is_block item }
+{
+    match item {
+        Item::Operation(_) => false,
+        Item::Block(_) => true,
+    }
+}
+
+fn is_given<A>(attr: &AttrObj<A>) -> bool
+    ensures { result ≡ is_given (attribute_of attr.now) }
+{
+    match attr {
+        AttrObj::GivenNames(_) => true,
+        AttrObj::Ident(_) | AttrObj::Own(_) => false,
+    }
+}
+
+fn is_label<A>(attr: &AttrObj<A>) -> bool
+    ensures { result ≡ is_label (attribute_of attr.now) }
+{
+    match attr {
+        AttrObj::Ident(_) => true,
+        AttrObj::GivenNames(_) | AttrObj::Own(_) => false,
+    }
+}
+
+fn is_names_key(key: &Identifier) -> bool
+    ensures { result ≡ same_text key.now given_names_key }
+{
+    key.as_str() == "builtin_given_names"
+}
+
+/// Whether a key is that of a block's label.
+pub(crate) fn is_label_key(key: &Identifier) -> bool
+    ensures { result ≡ same_text key.now block_label_key }
+{
+    key.as_str() == "builtin_block_label"
+}
+
+fn may_hold<A>(key: &Identifier, attr: &AttrObj<A>) -> bool
+    ensures { result ≡ may_hold key.now (attribute_of attr.now) }
+{
+    !is_names_key(key) || is_given(attr)
+}
+
+/// Whether an attribute may stand under a key of the entry of a block, or of an operation.
+pub(crate) fn may_stand<A>(of_block: bool, key: &Identifier, attr: &AttrObj<A>) -> bool
+    ensures { result ≡ rule_for of_block key.now (attribute_of attr.now) }
+{
+    if !may_hold(key, attr) {
+        return false;
+    }
+    if !of_block || !is_label_key(key) {
+        return true;
+    }
+    is_label(attr)
+}
+
+/// The same of what is given under the key: nothing is known of a reference yet.
+pub(crate) fn stands_under<A>(of_block: bool, key: &Identifier, given: &GivenAttr<A>) -> bool
+    ensures { result ≡ stands_under (rule_for of_block) key.now given.now }
+{
+    match given {
+        GivenAttr::Direct(attr) => may_stand(of_block, key, attr),
+        GivenAttr::Reference(_) => true,
+    }
+}

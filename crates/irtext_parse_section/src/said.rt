@@ -1,0 +1,45 @@
+//! What entries say, as it was read.
+
+use indexmap::IndexMap;
+use irtext_base::base::AttrObj;
+use irtext_base::location::Location;
+use irtext_context::base::Item;
+use irtext_parse_heads::entries::Key;
+use irtext_parse_heads::marks::ReadMark;
+use irtext_state::parsable::numbered::Numbered;
+
+/// What an entry gives under a key: an attribute, or a reference to one that is written once.
+#[derive(Drop)]
+pub enum GivenAttr<A> {
+    Direct(AttrObj<A>),
+    Reference(ReadMark),
+}
+
+/// A key, and what the entry gives under it.
+pub type ReadPair<A> = (Key, GivenAttr<A>);
+
+/// What an entry gives its item: a location or none, and attributes under keys.
+#[derive(Drop)]
+pub struct ItemEntry<A> {
+    pub item: Item,
+    pub location: Option<Location<A>>,
+    pub pairs: Vec<ReadPair<A>>,
+}
+
+/// An entry, under its index: an item's, or that of an attribute that is written once.
+#[derive(Drop)]
+pub enum ReadEntry<A> {
+    OfItem(usize, ItemEntry<A>),
+    OfOnce(usize, AttrObj<A>),
+}
+
+/// Attributes that are written once, under their indices.
+pub type Once<A> = IndexMap<usize, AttrObj<A>>;
+
+/// All entries that were read: those of items, in the order of writing, the indices of these, and the attributes that are written once.
+#[derive(Drop)]
+pub struct Entries<A> {
+    pub items: Vec<ItemEntry<A>>,
+    pub seen: Numbered<()>,
+    pub once: Once<A>,
+}

@@ -1,0 +1,112 @@
+//! The section behind a root.
+ghost use Rattle.std.specs.Prelude.{◌≡◌, ◌⊎◌, ℕ, true, false, IfErr, OnOk, OnErr};
+ghost use Rattle.irtext_context.specs.Context.{KeepsOlder};
+ghost use Rattle.irtext_graph.specs.Back.{IsClosedBelow};
+ghost use Rattle.irtext_read.specs.AttrTexts.{attr_at};
+ghost use Rattle.irtext_state.specs.States.{marks_of};
+ghost use Rattle.irtext_outcomes.specs.Promises.Section.{indices_of, IsStarved, Faults};
+ghost use Rattle.irtext_outcomes.specs.Promises.Supported.{RefusedAs};
+ghost use Rattle.irtext_outcomes.specs.Readers.NewPaths.{AddsPaths};
+ghost use Rattle.irtext_outcomes.specs.Readers.Refusals.{CommittedRefusal};
+ghost use Rattle.irtext_outcomes.specs.Readers.Streams.{itself, replaced, KeepsRest};
+ghost use Rattle.irtext_parse_heads.specs.Named.{MustMean, whole};
+ghost use Rattle.irtext_section.specs.Readers.{entries_at, section_at};
+ghost use Rattle.irtext_parse_section.specs.Applied.{GivesAll, ItemsAreNewer, AreNewer};
+ghost use Rattle.irtext_parse_section.specs.Entries.{AreEntriesOver};
+ghost use Rattle.irtext_parse_section.specs.Said.{rules_of};
+ghost use Rattle.irtext_parse_section.specs.Section.{ReadsSection};
+
+use crate::applied::items_given;
+use crate::checked::items_checked;
+use crate::entries::entries_parse;
+use crate::said::Entries;
+use irtext_base::parsable::{CharStream, ParseResult};
+use irtext_base::text::{AttrText, IrText};
+use irtext_read::irfmt::demanded::spaced_text_demanded;
+use irtext_read::irfmt::faults::out_of_memory;
+use irtext_state::parsable::StateStream;
+use irtext_state::parsable::state::Noting;
+use std::alloc::AllocError;
+
+/// The section's first word, and all entries. A fault is committed.
+fn all_parse<T: IrText<A>, A: AttrText, U>(
+    s: &mut StateStream<'_, T, A, U>,
+) -> ParseResult<Entries<A>, A>
+    ensures lent { s.new.state.ctx.ghost_name ≡ s.old.state.ctx.ghost_name }
+    ensures rest { KeepsRest s.old.state s.new.state }
+    ensures marks { marks_of s.new.state ≡ marks_of s.old.state }
+    ensures adds { AddsPaths s.old.state.ctx.now s.new.state.ctx.now }
+    ensures read { MustMean itself replaced
+        (AreEntriesOver (marks_of s.old.state) s.old.state.ctx.now.paths s.new.state.ctx.now.paths (whole s.old.stream))
+        (entries_at (attr_at A.IrText.reading) (indices_of (marks_of s.old.state)) (rules_of (marks_of s.old.state)))
+        s.old.stream result s.new.stream }
+{
+    spaced_text_demanded(&mut s.stream, "outlined_attributes:")?;
+    entries_parse(s)
+}
+
+/// All of a section, whose references are right. A fault is committed.
+fn right_parse<T: IrText<A>, A: AttrText, U>(
+    s: &mut StateStream<'_, T, A, U>,
+) -> ParseResult<Entries<A>, A>
+    ensures lent { s.new.state.ctx.ghost_name ≡ s.old.state.ctx.ghost_name }
+    ensures rest { KeepsRest s.old.state s.new.state }
+    ensures marks { marks_of s.new.state ≡ marks_of s.old.state }
+    ensures adds { AddsPaths s.old.state.ctx.now s.new.state.ctx.now }
+    ensures read { MustMean itself replaced
+        (AreEntriesOver (marks_of s.old.state) s.old.state.ctx.now.paths s.new.state.ctx.now.paths (whole s.old.stream))
+        (section_at (attr_at A.IrText.reading) (indices_of (marks_of s.old.state)) (rules_of (marks_of s.old.state)))
+        s.old.stream result s.new.stream }
+{
+    let entries = all_parse(s)?;
+    items_checked(&mut s.stream, &entries.once, entries.items.as_slice())?;
+    Ok(entries)
+}
+
+/// Gives each item what its entry gives.
+fn entries_given<T: IrText<A>, A: AttrText, U>(
+    s: &mut StateStream<'_, T, A, U>,
+    entries: Entries<A>,
+) -> Result<(), AllocError>
+    ensures lent { s.new.state.ctx.ghost_name ≡ s.old.state.ctx.ghost_name }
+    ensures rest { KeepsRest s.old.state s.new.state }
+    ensures marks { marks_of s.new.state ≡ marks_of s.old.state }
+    ensures stream { s.new.stream ≡ s.old.stream }
+    ensures gives { OnOk result (GivesAll entries.once.entries entries.items.items s.old.state.ctx.now s.new.state.ctx.now) }
+    ensures kept { (mark : ℕ) → ItemsAreNewer mark s.old.state.ctx.now entries.items.items → KeepsOlder mark s.old.state.ctx.now s.new.state.ctx.now }
+    ensures closed { (mark : ℕ) → IsClosedBelow mark s.old.state.ctx.now.graph → IsClosedBelow mark s.new.state.ctx.now.graph }
+{
+    let ctx = &mut *s.state.ctx;
+    let Entries {
+        items,
+        seen: _,
+        once,
+    } = entries;
+    items_given(ctx, &once, items)
+}
+
+/// The section, which must stand there: it is read and checked as a whole; then each item that carries a mark gets what its entry gives,
+/// a location, attributes, and a block its label, and no mark is noted any more. A fault of the text changes no item; where memory is
+/// refused, items may have got what their entries give. A fault is committed.
+pub fn section_parse<T: IrText<A>, A: AttrText, U>(
+    s: &mut StateStream<'_, T, A, U>,
+) -> ParseResult<(), A>
+    ensures lent { s.new.state.ctx.ghost_name ≡ s.old.state.ctx.ghost_name }
+    ensures rest { KeepsRest s.old.state s.new.state }
+    ensures read { OnOk result (ReadsSection (attr_at A.IrText.reading) s.old s.new) }
+    ensures missed { s.old.stream.failed ≡ false → IfErr result (λ fault. Faults true (RefusedAs
+        (section_at (attr_at A.IrText.reading) (indices_of (marks_of s.old.state)) (rules_of (marks_of s.old.state)) s.old.stream.rest))
+        s.old.stream fault) }
+    ensures refused { IfErr result (λ fault. CommittedRefusal s.old.stream fault s.new.stream) }
+    ensures marks { OnErr result (marks_of s.new.state ≡ marks_of s.old.state) }
+    ensures kept { (mark : ℕ) → AreNewer mark s.old.state.ctx.now (marks_of s.old.state) → KeepsOlder mark s.old.state.ctx.now s.new.state.ctx.now }
+    ensures closed { (mark : ℕ) → IsClosedBelow mark s.old.state.ctx.now.graph → IsClosedBelow mark s.new.state.ctx.now.graph }
+    ensures adds { IfErr result (λ fault. IsStarved fault ⊎ AddsPaths s.old.state.ctx.now s.new.state.ctx.now) }
+{
+    let entries = right_parse(s)?;
+    if entries_given(s, entries).is_err() {
+        return Err(out_of_memory(&mut s.stream));
+    }
+    s.state.truncate_marks(0);
+    Ok(())
+}
