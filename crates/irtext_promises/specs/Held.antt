@@ -28,9 +28,11 @@ use Rattle.irtext_grammar.specs.Names.Script.{Path, Place, result, argument, blo
 abbrev pub PtrRegions : Type 0
 PtrRegions = Regions (Ptr Operation) (Ptr BasicBlock) (Ptr Region)
 
+-- blocks of pointers, each with what is in it
 abbrev pub PtrBlocks : Type 0
 PtrBlocks = Blocks (Ptr Operation) (Ptr BasicBlock) (Ptr Region)
 
+-- operations of pointers, each with what is in it
 abbrev pub PtrOperations : Type 0
 PtrOperations = Operations (Ptr Operation) (Ptr BasicBlock) (Ptr Region)
 
