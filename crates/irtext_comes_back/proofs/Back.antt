@@ -82,12 +82,12 @@ module _ {T A : Type 0} (types : ir_text.Ghosts T A) (owns : ir_text.Ghosts A A)
           let here : root view ≡ g = some_eq s in
           subst (λ (z : Graph T A). Fit C (isolated ctx.dialects) z) here
           (fits_whole C (isolated ctx.dialects) layout.width layout.indent (root view) (λ k. fits
-            (subst (λ o. OperationFault C (isolated ctx.dialects) layout.width Misfit o (heads.regions_under types owns attributes same ctx p) ⊎ RegionsFault C (isolated ctx.dialects) layout.width Misfit layout.indent (levels layout.limit) (heads.regions_under types owns attributes same ctx p))
-              (sym (ap (λ z. or_nothing (option_map (seen_operation owns.written ctx p) z)) e))
-            (subst (λ l. OperationFault C (isolated ctx.dialects) layout.width Misfit (seen_operation owns.written ctx p view) (heads.regions_under types owns attributes same ctx p) ⊎ RegionsFault C (isolated ctx.dialects) layout.width Misfit layout.indent l (heads.regions_under types owns attributes same ctx p))
-              (sym unlimited)
-            (subst (λ rs. OperationFault C (isolated ctx.dialects) layout.width Misfit (seen_operation owns.written ctx p view) (seen_regions owns.written ctx rs) ⊎ RegionsFault C (isolated ctx.dialects) layout.width Misfit layout.indent None (seen_regions owns.written ctx rs))
-              (inside_is ctx.graph nested p) k)))))
+          (subst (λ o. OperationFault C (isolated ctx.dialects) layout.width Misfit o (heads.regions_under types owns attributes same ctx p) ⊎ RegionsFault C (isolated ctx.dialects) layout.width Misfit layout.indent (levels layout.limit) (heads.regions_under types owns attributes same ctx p))
+          (sym (ap (λ z. or_nothing (option_map (seen_operation owns.written ctx p) z)) e))
+          (subst (λ l. OperationFault C (isolated ctx.dialects) layout.width Misfit (seen_operation owns.written ctx p view) (heads.regions_under types owns attributes same ctx p) ⊎ RegionsFault C (isolated ctx.dialects) layout.width Misfit layout.indent l (heads.regions_under types owns attributes same ctx p))
+          (sym unlimited)
+          (subst (λ rs. OperationFault C (isolated ctx.dialects) layout.width Misfit (seen_operation owns.written ctx p view) (seen_regions owns.written ctx rs) ⊎ RegionsFault C (isolated ctx.dialects) layout.width Misfit layout.indent None (seen_regions owns.written ctx rs))
+          (inside_is ctx.graph nested p) k)))))
 
   module _ (types_law : Lawful T texts) (owns_law : Lawful A own_texts) (unreserved : Unreserved A own_texts) (sound : (a b : A) → same a b ≡ true → a ≡ b) (reflexive : (a : A) → same a a ≡ true)
       (nowhere : block_round ctx p ≡ None) (kept : KeptRoot attr owns.written C (isolated ctx.dialects) g) (bytes : List ℕ) (utf8 : IsUtf8 bytes) (few : length bytes < 2 ^ 64) (printed : IsPrinted types owns attributes same ctx p layout bytes)
@@ -113,8 +113,8 @@ module _ {T A : Type 0} (types : ir_text.Ghosts T A) (owns : ir_text.Ghosts A A)
       reads_back closed q left r = (
         r.new.stream.rest,
         subst (λ (z : ContextView T A). HeldBack texts own_texts attr C (isolated ctx.dialects) g r.new.stream.rest (held_root z q)) r.ends
-          (stands_back texts owns.reading owns.written types_law owns_law unreserved attributes.outlined attributes.print_once same sound reflexive ctx p g layout.width layout.indent bytes wholly (closed fits_there) r.old (r.starts.text ∙ ap chars text_is)
-          (ap (λ (v : ContextView T A). v.dialects) r.starts.context ∙ same_dialects) q r.new r.builds),
+            (stands_back texts owns.reading owns.written types_law owns_law unreserved attributes.outlined attributes.print_once same sound reflexive ctx p g layout.width layout.indent bytes wholly (closed fits_there) r.old (r.starts.text ∙ ap chars text_is)
+            (ap (λ (v : ContextView T A). v.dialects) r.starts.context ∙ same_dialects) q r.new r.builds),
       )
 
       -- with nothing filled in but positions, where all has names
@@ -122,8 +122,8 @@ module _ {T A : Type 0} (types : ir_text.Ghosts T A) (owns : ir_text.Ghosts A A)
       reads_whole closed q left r = let k = closed fits_there in (
         r.new.stream.rest,
         subst (λ (z : ContextView T A). HeldWhole texts own_texts attr C (isolated ctx.dialects) g r.new.stream.rest (held_root z q)) r.ends
-          (stands_whole texts owns.reading owns.written types_law owns_law unreserved attributes.outlined attributes.print_once same sound reflexive ctx p g layout.width layout.indent bytes wholly k.0 r.old (r.starts.text ∙ ap chars text_is)
-          (ap (λ (v : ContextView T A). v.dialects) r.starts.context ∙ same_dialects) k.1 q r.new r.builds),
+            (stands_whole texts owns.reading owns.written types_law owns_law unreserved attributes.outlined attributes.print_once same sound reflexive ctx p g layout.width layout.indent bytes wholly k.0 r.old (r.starts.text ∙ ap chars text_is)
+            (ap (λ (v : ContextView T A). v.dialects) r.starts.context ∙ same_dialects) k.1 q r.new r.builds),
       )
 
       -- and it is refused for want of memory alone

@@ -21,8 +21,8 @@ use irtext_context::base::context::making::Making;
 use irtext_context::base::{Operation, Ptr};
 use irtext_parse_section::section::section_parse;
 use irtext_read::irfmt::faults::stands_at;
-use irtext_state::parsable::{State, StateStream};
 use irtext_state::parsable::state::Noting;
+use irtext_state::parsable::{State, StateStream};
 
 /// The fault of a stream that has failed, where it stands.
 fn failed_fault<S: CharStream, A>(stream: &S) -> ParseFault<A>

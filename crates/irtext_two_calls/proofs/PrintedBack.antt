@@ -66,7 +66,7 @@ module _ {T A : Type 0} (types : Texts T) (reading : Text → Outcome A) (text_o
             tree = b.tree;
             entries = b.entries;
             reads = subst (λ t. reads_root (supported ctx.dialects types owns) (location_standing attr) b.tree b.entries t new.stream.rest) stands
-              (subst (λ d. reads_root (supported d types owns) (location_standing attr) b.tree b.entries old.stream.rest new.stream.rest) same_dialects b.reads);
+                (subst (λ d. reads_root (supported d types owns) (location_standing attr) b.tree b.entries old.stream.rest new.stream.rest) same_dialects b.reads);
             resolves = subst (λ d. failures_of (isolated d) b.tree b.entries ≡ []) same_dialects b.resolves;
             builds = b.builds ∙ ap (λ d. Some (build (isolated d) first b.entries b.tree)) same_dialects;
           }

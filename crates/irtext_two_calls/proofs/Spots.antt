@@ -313,6 +313,6 @@ module _ {P T A : Type 0} (isolated : Id → Bool) where
         let later = operation_spots isolated p (suc i) ps vs in
         let inner = tree_regions_say (i ∷ p) 0 (isolated y.id) qs rs w.0.1 m.1 in
         let here = parts_say (i ∷ p) (singles (parts_of y.body)) (single_labels (parts_of y.body)) (parts_of y.body) (i ∷ p) 0 (isolated y.id) qs (regions_outs isolated (i ∷ p) 0 (isolated y.id) rs) w.0.0 inner
-            (closing_says (i ∷ p) y (tree_operations_say p (suc i) os ps w.1 m.2 h)) in
+        (closing_says (i ∷ p) y (tree_operations_say p (suc i) os ps w.1 m.2 h)) in
         subst (λ (b : Bool). TextSays (operations_script isolated p i (operation y qs os) x) (outs (regions_outs isolated (i ∷ p) 0 b rs) (result_spots (i ∷ p) 0 o.results later)) ls) (ap isolated m.0.0)
         (subst (λ zs. TextSays (operations_script isolated p i (operation y qs os) x) (outs (regions_outs isolated (i ∷ p) 0 (isolated y.id) rs) zs) ls) (same_results (i ∷ p) 0 y.names o.results later m.0.1) here)

@@ -417,7 +417,7 @@ module _ {T A : Type 0} (c : ContextView T A) (counters : KeepsCounters c.graph)
           let inner = regions_stand [] [] [] 0 (isolated t.own.id) (pointers c.graph p).regions (seen_regions text_of c (pointers c.graph p).regions) t.regions inner_seen regions_held counts.1 enough.0.1 fit.1 linked.1 (λ y z a. path_is c.graph counters.nested p y z (inr a)) no_values in (
             own_stands p o [] [] [] [] t.own own_seen own_held no_values no_labels linked.0,
             subst (λ (b : Bool). MatchRegions StandsForOp StandsForBlock (λ r s. ⊤) (stood_regions C isolated [] [] 0 b (seen_regions text_of c (pointers c.graph p).regions)) (built_regions isolated first es [] [] 0 (isolated t.own.id) t.regions))
-              (ap isolated (sym (id_is p o (built_op isolated first es [] [] t.own) own_seen own_held))) inner,
+                (ap isolated (sym (id_is p o (built_op isolated first es [] [] t.own) own_seen own_held))) inner,
           )
 
       -- what printing sees stands for what the tree built

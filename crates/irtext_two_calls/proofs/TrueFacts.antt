@@ -172,6 +172,6 @@ module _ {T A : Type 0} (c : ContextView T A) (all : List (Object × Path)) wher
           let inner = regions_true (k ∷ p) 0 (isolated o.id) qs rs s.1 (λ y r a. i y r (inr (among_left (y, r) (placed_regions (k ∷ p) 0 qs) (placed_operations p (suc k) ps) a))) in
           let w = s.0.whole in
           let defined = results_true (k ∷ p) 0 (results c.graph q) w.types (sym (results_seen c q w.view w.is) ∙ w.known_as)
-              (λ n t e. let m : 0 + n ≡ n = omega arith in (Result q n, ap (option_map (λ (t : Typed (Option T)). t.number)) e, ap (option_map (λ (r : Path). result r n)) path ∙ ap (λ (l : ℕ). Some (result (k ∷ p) l)) (sym m))) later in
+          (λ n t e. let m : 0 + n ≡ n = omega arith in (Result q n, ap (option_map (λ (t : Typed (Option T)). t.number)) e, ap (option_map (λ (r : Path). result r n)) path ∙ ap (λ (l : ℕ). Some (result (k ∷ p) l)) (sym m))) later in
           body_true (C.format_of o.id) (k ∷ p) o (graph_regions C isolated (k ∷ p) 0 (isolated o.id) rs) inner
           (subst (λ (gs : List (ℕ × T)). Trues (does_all (defined_results (k ∷ p) 0 gs) (graph_operations C isolated p (suc k) os x))) (sym (ap (λ (z : GraphOp T A). z.results) s.0.sees)) defined)

@@ -100,7 +100,7 @@ returns-clause-builds g c = λ fresh.
     let so = short reading g.A.IrText.written g.met.A.IrText.sincere.reads in
     let some = marks_there (marks_of mid.state) c.has_marks.result c.has_marks.ensures c.if-not-has_marks.false in
     let later = c.in_ok-section_parse.ensures.kept old.state.ctx.now.graph.made
-        (all_newer old.state.ctx.now.graph.made old.state.ctx.now mid.state.ctx.now e.older e.kept (IsLocated old.state.src (whole old.stream)) m.leaves.items m.leaves.whole c.in_ok-op.op m.leaves.tree m.leaves.held (marks_of mid.state) m.carried) in
+    (all_newer old.state.ctx.now.graph.made old.state.ctx.now mid.state.ctx.now e.older e.kept (IsLocated old.state.src (whole old.stream)) m.leaves.items m.leaves.whole c.in_ok-op.op m.leaves.tree m.leaves.held (marks_of mid.state) m.carried) in
     built_with (texts_of types_at g.T.IrText.written) (texts_of reading g.A.IrText.written) (attr_at reading) c.in_ok-op.op old new c.args.look c.if-not-look.false
     (root_marked types_at g.T.IrText.written reading g.A.IrText.written g.met.T.IrText.sincere.reads g.met.A.IrText.sincere.reads words st so c.in_ok-op.op old mid e.accepted m e.moves some g.met.A.IrText.sincere g.met.A.IrText.lawful
     new c.in_ok-section_parse.ensures.read e.older e.kept later)
