@@ -43,21 +43,26 @@ module _ {T A : Type 0} (L : ℕ → Location A → Type 0) (c : ContextView T A
       blocks_given no_blocks no_blocks h there = tt
       blocks_given no_blocks (forest.block head os bs) h there = absurd h
       blocks_given (forest.block b qs ps) no_blocks h there = absurd h
-      blocks_given (forest.block b qs ps) (forest.block head os bs) (at, k, h) there =
-          (gives.blocks b head _ at (carries head.label.place (item.Block b) head.mark at.item (there head.label.place head.mark (inl refl))),
-          operations_given qs os k (λ n m a. there n m (inr (among_left (n, m) (marked_operations os) (marked_blocks bs) a))), blocks_given ps bs h (λ n m a. there n m (inr (among_right (n, m) (marked_operations os) (marked_blocks bs) a))))
+      blocks_given (forest.block b qs ps) (forest.block head os bs) (at, k, h) there = (
+        gives.blocks b head _ at (carries head.label.place (item.Block b) head.mark at.item (there head.label.place head.mark (inl refl))),
+        operations_given qs os k (λ n m a. there n m (inr (among_left (n, m) (marked_operations os) (marked_blocks bs) a))),
+        blocks_given ps bs h (λ n m a. there n m (inr (among_right (n, m) (marked_operations os) (marked_blocks bs) a))),
+      )
 
       operations_given : (ps : PtrOperations) (os : Operations (Op ℕ T A) (Head ℕ T A) (Brace ℕ)) → OperationsAre L c items ps os → ((n : ℕ) (mark : Option (Mark ℕ)) → Among (n, mark) (marked_operations os) → Among (n, mark) all) → OperationsHave d first es ps os
       operations_given no_operations no_operations h there = tt
       operations_given no_operations (forest.operation o rs os) h there = absurd h
       operations_given (forest.operation q qs ps) no_operations h there = absurd h
-      operations_given (forest.operation q qs ps) (forest.operation o rs os) (at, k, h) there =
-          (gives.operations q o _ at (carries o.place (item.Operation q) o.mark at.item (there o.place o.mark (inl refl))),
-          regions_given qs rs k (λ n m a. there n m (inr (among_left (n, m) (marked_regions rs) (marked_operations os) a))), operations_given ps os h (λ n m a. there n m (inr (among_right (n, m) (marked_regions rs) (marked_operations os) a))))
+      operations_given (forest.operation q qs ps) (forest.operation o rs os) (at, k, h) there = (
+        gives.operations q o _ at (carries o.place (item.Operation q) o.mark at.item (there o.place o.mark (inl refl))),
+        regions_given qs rs k (λ n m a. there n m (inr (among_left (n, m) (marked_regions rs) (marked_operations os) a))),
+        operations_given ps os h (λ n m a. there n m (inr (among_right (n, m) (marked_regions rs) (marked_operations os) a))),
+      )
 
   -- so has the whole
   pub root_given : GivesEach → (t : Tree ℕ T A) → ((n : ℕ) (x : Item) (mark : Option (Mark ℕ)) → Among (n, object_of x) items → Among (n, mark) (marked_items t) → CarriesOnly marks x mark)
       → (ps : Root (Ptr Operation) (Ptr BasicBlock) (Ptr Region)) → RootIs L c items ps t → RootHas d first es ps t
-  root_given gives t carries ps is =
-      (gives.operations ps.own t.own _ is.0 (carries t.own.place (item.Operation ps.own) t.own.mark is.0.item (inl refl)),
-      regions_given gives (marked_items t) carries ps.regions t.regions is.1 (λ n m a. inr a))
+  root_given gives t carries ps is = (
+    gives.operations ps.own t.own _ is.0 (carries t.own.place (item.Operation ps.own) t.own.mark is.0.item (inl refl)),
+    regions_given gives (marked_items t) carries ps.regions t.regions is.1 (λ n m a. inr a),
+  )
