@@ -1,5 +1,5 @@
--- Lemmas on the outermost readers: what fresh names are, what the nested reader leaves where they were fresh, which faults it answers, the
--- items that carry marks, and the promise of a root with its section.
+-- Lemmas on the outermost readers: what fresh names are, what the nested reader leaves where they were fresh, whatever marks are noted, which
+-- faults it answers, the items that carry marks, and the promise of a root with its section.
 pub mod Laws
 pub mod Fresh
 pub mod Nested
@@ -15,3 +15,5 @@ pub mod Newer
 pub mod Sectioned
 pub mod Outer
 pub mod WholeSteps
+pub mod FewerMarks
+pub mod NoMarks

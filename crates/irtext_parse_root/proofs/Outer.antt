@@ -1,5 +1,5 @@
 -- The outermost reader's promise, with the section where it is looked for.
-use Rattle.std.proofs.Common.{◌≡◌, ◌∙◌, ◌⊎◌, ◌↔◌, ℕ, Bool, true, false, true≢false, cond, List, [], ◌∷◌, refl, sym, inl, inr}
+use Rattle.std.proofs.Common.{◌≡◌, ◌∙◌, ◌⊎◌, ◌↔◌, ℕ, Bool, true, false, true≢false, cond, ◌&&◌, List, [], ◌∷◌, refl, sym, inl, inr}
 use Rattle.std.specs.Prelude.{IsTrue}
 use Rattle.irtext_base.specs.Text.{Text}
 use Rattle.irtext_base.specs.Answers.{Outcome}
@@ -28,6 +28,14 @@ marks_there marks b h e = h.0 (rw e refl)
 pub marks_none : {X : Type 0} (marks : List X) (b : Bool) → (IsTrue b ↔ (marks ≡ [] → ⊥)) → b ≡ false → marks ≡ []
 marks_none [] b h e = refl
 marks_none (m ∷ ms) b h e = absurd (true≢false (sym (h.1 (λ f. absurd (cc f))) ∙ e))
+
+pub both_are : (a b : Bool) → a ≡ true → b ≡ true → (a && b) ≡ true
+both_are true b e f = f
+both_are false b e f = absurd (true≢false (sym e))
+
+pub first_is_not : (a b : Bool) → a ≡ false → (a && b) ≡ false
+first_is_not true b e = absurd (true≢false e)
+first_is_not false b e = refl
 
 -- ---- what was read
 module _ {T A U : Type 0} (types : Texts T) (owns : Texts A) (attr : Text → Outcome (AttrView A)) (op : Ptr Operation) (old new : StateStream T A U) where

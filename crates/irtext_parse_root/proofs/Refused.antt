@@ -10,7 +10,7 @@ use Rattle.irtext_read.specs.Infix.{Reader}
 use Rattle.irtext_state.specs.States.{marks_of}
 use Rattle.irtext_state.specs.declared.parsable.state.State as code
 use Rattle.irtext_state.specs.declared.parsable.state.StateStream.{StateStream}
-use Rattle.irtext_grammar.specs.Names.History.{going, start, State}
+use Rattle.irtext_grammar.specs.Names.History.{going, State}
 use Rattle.irtext_grammar.specs.Names.Script as script
 use Rattle.irtext_grammar.specs.Names.Script.{Cause, Path}
 use Rattle.irtext_outcomes.specs.Promises.Root.{UnlessMemory}
@@ -23,6 +23,7 @@ use Rattle.irtext_parse_nested.specs.Items.{Names, StandsAs, IsNameCause, doing}
 use Rattle.irtext_parse_nested.proofs.OfItems.{nothing_of}
 use Rattle.irtext_parse_items.specs.Nested as nested
 use Rattle.irtext_parse_items.specs.Nested.{RefusesNested}
+use Rattle.irtext_parse_root.specs.AnyState.{start_with}
 use Rattle.irtext_parse_root.proofs.Failing.{operation_never_failed, operation_first}
 use Rattle.irtext_parse_root.proofs.Fresh.{none_twice}
 
@@ -55,7 +56,7 @@ refusal_by old mid fault says unread = record {
 module _ {T A U : Type 0} (names : Names) (s : code.State T A U) (no_names : names.names ≡ []) (no_values : names.values ≡ []) (no_labels : names.labels ≡ []) where
   -- the machine stands behind no name, where these marks are noted
   abbrev begun : State
-  begun = record { values = []; labels = []; marks = indices_of (marks_of s); entries = []; bound = [] }
+  begun = start_with (indices_of (marks_of s))
 
   pub begun_stands : (path : ℕ → Path) → StandsAs path [] [] names s (going begun)
   begun_stands path = record {

@@ -1,2 +1,3 @@
+pub mod AnyState
 pub mod Marked
 pub mod Whole

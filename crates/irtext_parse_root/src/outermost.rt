@@ -1,5 +1,5 @@
 //! The outermost reading of an operation, with the section behind it or without: it gives back what it made where it is refused.
-ghost use Rattle.std.specs.Prelude.{◌≡◌, ◌⊎◌, ℕ, List, ◌++◌, false, IfOk, IfErr, OnOk, OnErr};
+ghost use Rattle.std.specs.Prelude.{◌≡◌, ◌⊎◌, ℕ, List, ◌++◌, true, false, IfOk, IfErr, OnOk, OnErr};
 ghost use Rattle.irtext_base.specs.Own.{texts_of};
 ghost use Rattle.irtext_context.specs.Context.{KeepsOlder};
 ghost use Rattle.irtext_context.specs.Made.{SameObjects};
@@ -12,6 +12,7 @@ ghost use Rattle.irtext_outcomes.specs.Promises.Section.{IsStarved};
 ghost use Rattle.irtext_outcomes.specs.Readers.Refusals.{Refusal, FailedRefusal, RefusesFailed};
 ghost use Rattle.irtext_outcomes.specs.Readers.Streams.{KeepsRest};
 ghost use Rattle.irtext_promises.specs.Promises.{BuildsTree, RefusesTree, BuildsRoot, RefusesRoot, BuildsWith, RefusesWith};
+ghost use Rattle.irtext_parse_root.specs.AnyState.{ReadsAny, MissesAny};
 
 use crate::tree::tree_parse;
 use irtext_base::parsable::{CharStream, ParseFault, ParseResult};
@@ -54,6 +55,8 @@ fn marked_parse<T: IrText<A>, A: AttrText, U>(
     ensures lent { s.new.state.ctx.ghost_name ≡ s.old.state.ctx.ghost_name }
     ensures rest { KeepsRest s.old.state s.new.state }
     ensures refused { IfErr result (λ fault. Refusal s.old.stream fault s.new.stream) }
+    ensures read { IfOk result (λ op. ReadsAny T.IrText.reading (attr_at A.IrText.reading) look op s.old s.new) }
+    ensures missed { IfErr result (UnlessMemory (MissesAny T.IrText.reading (attr_at A.IrText.reading) look s.old)) }
     ensures builds { IsFresh s.old →
         IfOk result (λ op. BuildsWith (texts_of T.IrText.reading T.IrText.written) (texts_of A.IrText.reading A.IrText.written)
         (attr_at A.IrText.reading) look op s.old s.new) }
@@ -77,6 +80,11 @@ fn marked_parse<T: IrText<A>, A: AttrText, U>(
 
 /// Reads an operation with all that nests in it and, where it is looked for and a mark is noted, the section behind it. Where it is
 /// refused, what it made is given back, and no mark of it stays.
+///
+/// Marks of roots that were read before may still be noted, where these were read without their sections. A mark with the index of one of
+/// them is then refused as `Cause::DuplicateIndex`. A section that is looked for is for all that is noted: it is read also behind an
+/// operation without a mark, its entries may be for any of the marks, each item gets what the entry of its mark gives, and no mark is noted
+/// behind it.
 pub fn outermost_parse<T: IrText<A>, A: AttrText, U>(
     s: &mut StateStream<'_, T, A, U>,
     look: bool,
@@ -85,6 +93,8 @@ pub fn outermost_parse<T: IrText<A>, A: AttrText, U>(
     ensures rest { KeepsRest s.old.state s.new.state }
     ensures refused { IfErr result (λ fault. Refusal s.old.stream fault s.new.stream) }
     ensures failed { RefusesFailed s.old.stream result s.new.stream }
+    ensures read { IfOk result (λ op. ReadsAny T.reading (attr_at A.reading) look op s.old s.new) }
+    ensures missed { s.old.stream.failed ≡ false → IfErr result (UnlessMemory (MissesAny T.reading (attr_at A.reading) look s.old)) }
     ensures builds { IsFresh s.old →
         IfOk result (λ op. BuildsWith (texts_of T.reading T.written) (texts_of A.reading A.written)
         (attr_at A.reading) look op s.old s.new) }
@@ -123,6 +133,8 @@ pub fn operation_parse<T: IrText<A>, A: AttrText, U>(
     ensures rest { KeepsRest s.old.state s.new.state }
     ensures refused { IfErr result (λ fault. Refusal s.old.stream fault s.new.stream) }
     ensures failed { RefusesFailed s.old.stream result s.new.stream }
+    ensures read { IfOk result (λ op. ReadsAny T.reading (attr_at A.reading) false op s.old s.new) }
+    ensures missed { s.old.stream.failed ≡ false → IfErr result (UnlessMemory (MissesAny T.reading (attr_at A.reading) false s.old)) }
     ensures builds { IsFresh s.old →
         IfOk result (λ op. BuildsTree (texts_of T.reading T.written) (texts_of A.reading A.written)
         (attr_at A.reading) op s.old s.new) }
@@ -146,6 +158,8 @@ pub fn root_parse<T: IrText<A>, A: AttrText, U>(
     ensures rest { KeepsRest s.old.state s.new.state }
     ensures refused { IfErr result (λ fault. Refusal s.old.stream fault s.new.stream) }
     ensures failed { RefusesFailed s.old.stream result s.new.stream }
+    ensures read { IfOk result (λ op. ReadsAny T.reading (attr_at A.reading) true op s.old s.new) }
+    ensures missed { s.old.stream.failed ≡ false → IfErr result (UnlessMemory (MissesAny T.reading (attr_at A.reading) true s.old)) }
     ensures builds { IsFresh s.old →
         IfOk result (λ op. BuildsRoot (texts_of T.reading T.written) (texts_of A.reading A.written)
         (attr_at A.reading) op s.old s.new) }

@@ -12,10 +12,11 @@ ghost use Rattle.irtext_state.specs.States.{marks_of};
 ghost use Rattle.irtext_grammar.specs.Contexts.Formats.{IsAccepted};
 ghost use Rattle.irtext_grammar.specs.Contexts.Held.{whole};
 ghost use Rattle.irtext_outcomes.specs.Promises.Root.{IsFresh, UnlessMemory};
-ghost use Rattle.irtext_outcomes.specs.Promises.Section.{Moves};
+ghost use Rattle.irtext_outcomes.specs.Promises.Section.{Moves, indices_of};
 ghost use Rattle.irtext_outcomes.specs.Readers.Refusals.{Refusal};
 ghost use Rattle.irtext_outcomes.specs.Readers.Streams.{KeepsRest};
 ghost use Rattle.irtext_promises.specs.Promises.{HasFault};
+ghost use Rattle.irtext_parse_root.specs.AnyState.{HasFaultFrom, ReadsTree};
 ghost use Rattle.irtext_parse_root.specs.Marked.{LeavesMarked};
 
 use irtext_base::parsable::{CharStream, ParseFault, ParseResult, TextStream};
@@ -50,13 +51,17 @@ fn failed_by<A>(stream: &mut TextStream, fault: &ParseFault<A>)
     }
 }
 
-/// Reads an operation with all that nests in it. What it made stays where it is refused.
+/// Reads an operation with all that nests in it. What it made stays where it is refused. An index that was marked before is not marked
+/// again.
 pub fn tree_parse<T: IrText<A>, A: AttrText, U>(
     s: &mut StateStream<'_, T, A, U>,
 ) -> ParseResult<Ptr<Operation>, A>
     requires fine { s.old.stream.failed ≡ false }
     ensures lent { s.new.state.ctx.ghost_name ≡ s.old.state.ctx.ghost_name }
     ensures rest { KeepsRest s.old.state s.new.state }
+    ensures read { IfOk result (λ op. ReadsTree T.IrText.reading (attr_at A.IrText.reading) op s.old s.new) }
+    ensures missed { IfErr result (UnlessMemory (HasFaultFrom {T = T} T.IrText.reading (attr_at A.IrText.reading) s.old.state.ctx.now.dialects
+        (indices_of (marks_of s.old.state)) (whole s.old.stream) s.old.stream.rest)) }
     ensures leaves { IsFresh s.old → IfOk result (λ op. LeavesMarked T.IrText.reading (attr_at A.IrText.reading) op s.old s.new) }
     ensures accepted { (id : Id) → IsAccepted s.old.state.ctx.now.dialects id }
     ensures older { AllOlder s.old.state.ctx.now.graph.made s.old.state.ctx.now.graph }

@@ -1,20 +1,30 @@
-use Rattle.std.proofs.Common.{◌≡◌, ◌∙◌, ◌⊎◌, false, [], sym, ap, inl, inr, true≢false}
+use Rattle.std.proofs.Common.{◌≡◌, ◌∙◌, ◌⊎◌, ◌&&◌, false, [], refl, sym, ap, inl, inr, true≢false}
 use Rattle.irtext_base.specs.Own.{texts_of}
 use Rattle.irtext_context.proofs.Kept.{kept_closed, kept_trans}
 use Rattle.irtext_nesting.proofs.Exact.Attributes.{lawful_needs_word}
 use Rattle.irtext_outcomes.proofs.Readers.EntryIndices.{demanded_refusal}
 use Rattle.irtext_outcomes.proofs.Readers.NewPaths.{adds_kept}
+use Rattle.irtext_outcomes.proofs.Readers.SectionSteps.{noted_there, none_noted, held_under, held_beside}
+use Rattle.irtext_outcomes.specs.Promises.Section.{is_noted}
 use Rattle.irtext_parse_nested.specs.Located.{IsLocated}
 use Rattle.irtext_grammar.specs.Contexts.Held.{whole}
 use Rattle.irtext_read.specs.AttrTexts.{attr_at}
 use Rattle.irtext_read.proofs.Exits.{handed_on}
 use Rattle.irtext_state.specs.States.{marks_of}
+use Rattle.irtext_parse_root.specs.AnyState.{no_operation, no_section}
 use Rattle.irtext_parse_root.proofs.Laws.{short}
 use Rattle.irtext_parse_root.proofs.Newer.{all_newer}
-use Rattle.irtext_parse_root.proofs.Outer.{marks_there, marks_none, built_alone, built_with, refused_with, fault_with}
+use Rattle.irtext_parse_root.proofs.Outer.{both_are, first_is_not, marks_there, marks_none, built_alone, built_with, refused_with, fault_with}
 use Rattle.irtext_parse_root.proofs.Sectioned.{tree_built, root_unmarked, root_marked, section_refused}
 use Rattle.irtext_parse_root.proofs.outermost.marked_parse.Goals as goal
 use Rattle.irtext_parse_root.proofs.outermost.marked_parse.Goals.{then-not-look-via-then-not-look, then-not-look-via-else-not-look+then-not-has_marks}
+
+pub returns-in_err-op-clause-missed : goal.returns-in_err-op-clause-missed
+returns-in_err-op-clause-missed g c = rw (handed_on c.from_residual.result c.from_residual.ensures.1)
+    (elim c.in_err-op.ensures.missed [
+      | inl starved ↦ inl starved
+      | inr fault ↦ inr (no_operation c.in_err-op.ensures.accepted fault)
+    ])
 
 pub returns-in_err-op-clause-unresolved : goal.returns-in_err-op-clause-unresolved
 returns-in_err-op-clause-unresolved g c = λ fresh. rw (handed_on c.from_residual.result c.from_residual.ensures.1)
@@ -24,6 +34,17 @@ returns-in_err-op-clause-unresolved g c = λ fresh. rw (handed_on c.from_residua
 
 pub returns-in_err-op-clause-closed : goal.returns-in_err-op-clause-closed
 returns-in_err-op-clause-closed g c = λ h. kept_closed h c.in_err-op.ensures.kept
+
+pub returns-then-not-look-clause-read : goal.returns-then-not-look-clause-read
+returns-then-not-look-clause-read g c =
+    let look = c.args.look in
+    let mid = c.tree_parse.new.s in
+    let marks = marks_of mid.state in
+    let bare : (look && is_noted marks) ≡ false = elim c.then-not-look.branch [
+      | then-not-look-via-then-not-look w ↦ first_is_not look (is_noted marks) w.if-not-look.true
+      | then-not-look-via-else-not-look+then-not-has_marks w ↦ none_noted look marks w.has_marks.result w.has_marks.ensures w.if-not-has_marks.true
+    ] in
+    record { mid = mid; operation = c.in_ok-op.ensures.read; section = held_beside _ _ bare refl }
 
 pub returns-then-not-look-clause-builds : goal.returns-then-not-look-clause-builds
 returns-then-not-look-clause-builds g c = λ fresh.
@@ -49,6 +70,15 @@ returns-then-not-look-clause-closed g c = λ h. kept_closed h c.in_ok-op.ensures
 pub returns-in_err-section_parse-clause-refused : goal.returns-in_err-section_parse-clause-refused
 returns-in_err-section_parse-clause-refused g c = rw (handed_on c.from_residual-in_err-section_parse.result c.from_residual-in_err-section_parse.ensures.1)
     (demanded_refusal (λ e. sym (ap (λ v. v.failed) c.in_ok-op.ensures.moves.takes.is) ∙ e) c.in_err-section_parse.ensures.refused)
+
+pub returns-in_err-section_parse-clause-missed : goal.returns-in_err-section_parse-clause-missed
+returns-in_err-section_parse-clause-missed g c =
+    let mid = c.tree_parse.new.s in
+    let e = c.in_ok-op.ensures in
+    let noted = noted_there (marks_of mid.state) c.has_marks.result c.has_marks.ensures c.if-not-has_marks.false in
+    let fine = ap (λ v. v.failed) e.moves.takes.is ∙ c.requires.fine in
+    rw (handed_on c.from_residual-in_err-section_parse.result c.from_residual-in_err-section_parse.ensures.1)
+    (inr (no_section c.in_ok-op.op mid e.read (both_are c.args.look _ c.if-not-look.false noted) (c.in_err-section_parse.ensures.missed fine)))
 
 pub returns-in_err-section_parse-clause-unresolved : goal.returns-in_err-section_parse-clause-unresolved
 returns-in_err-section_parse-clause-unresolved g c = λ fresh.
@@ -85,6 +115,12 @@ returns-in_err-section_parse-clause-kept_else g c = rw (handed_on c.from_residua
       | inl starved ↦ inl starved
       | inr adds ↦ inr (kept_trans c.in_ok-op.ensures.kept (adds_kept c.args.s.now.state.ctx.now.graph.made adds))
     ])
+
+pub returns-clause-read : goal.returns-clause-read
+returns-clause-read g c =
+    let mid = c.tree_parse.new.s in
+    let noted = noted_there (marks_of mid.state) c.has_marks.result c.has_marks.ensures c.if-not-has_marks.false in
+    record { mid = mid; operation = c.in_ok-op.ensures.read; section = held_under _ _ (both_are c.args.look _ c.if-not-look.false noted) c.in_ok-section_parse.ensures.read }
 
 pub returns-clause-builds : goal.returns-clause-builds
 returns-clause-builds g c = λ fresh.

@@ -13,6 +13,9 @@ roll_back-requires g c =
       closed = subst (λ m. IsClosedBelow m c.marked_parse.new.s.state.ctx.now.graph) made (c.in-Err.ensures.closed (subst (λ m. IsClosedBelow m c.args.s.now.state.ctx.now.graph) c.made_in-made.ensures.made c.made_in-made.ensures.closed));
     }
 
+pub returns-in-Err-clause-missed : goal.returns-in-Err-clause-missed
+returns-in-Err-clause-missed g c = λ fine. c.in-Err.ensures.missed
+
 pub returns-in-Err-clause-objects : goal.returns-in-Err-clause-objects
 returns-in-Err-clause-objects g c = λ fresh.
     let k = subst (λ m. KeepsOlder m c.args.s.now.state.ctx.now c.marked_parse.new.s.state.ctx.now) (sym c.made_in-made.ensures.made) (c.in-Err.ensures.kept fresh) in
