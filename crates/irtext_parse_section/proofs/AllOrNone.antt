@@ -16,7 +16,7 @@ use Rattle.irtext_graph.specs.declared.object.Operation.{Operation}
 use Rattle.irtext_grammar.specs.Contexts.Held.{entries_of}
 use Rattle.irtext_grammar.specs.Grammar.Tree.{Attribute}
 use Rattle.irtext_grammar.specs.Graphs.Build.{put_all}
-use Rattle.irtext_parse_section.specs.Applied.{all_stored, no_label, label_in, LocatesOperation, StoresOperation, LocatesBlock, StoresBlock, LabelsBlock, Gives, GivesAll, IsNewer, ItemsAreNewer}
+use Rattle.irtext_parse_section.specs.Applied.{all_stored, no_label, label_in, LocatesOperation, StoresOperation, LocatesBlock, StoresBlock, LabelsBlock, Gives, GivesAll, ItemsAreNewer}
 use Rattle.irtext_parse_section.specs.Together.{HasStored, Stores, StoresAll, Finishes, FinishesAll, Takes, TakesAll, PutsBack, IsStepOf, StepsOn, TakenSoFar}
 use Rattle.irtext_parse_section.specs.declared.said.ItemEntry.{ItemEntry}
 use Rattle.irtext_parse_section.specs.declared.together.Step.{Step}

@@ -1,5 +1,5 @@
 -- Copies of dictionaries: entries that are put in one after another, where no key stands twice.
-use Rattle.std.proofs.Common.{◌≡◌, ◌∙◌, Bool, true, false, not, cond, ◌&&◌, ◌||◌, List, [], ◌∷◌, ◌++◌, map, refl, sym, ap, subst, true≢false}
+use Rattle.std.proofs.Common.{◌≡◌, ◌∙◌, Bool, true, false, not, cond, ◌||◌, List, [], ◌∷◌, ◌++◌, map, refl, sym, ap, true≢false}
 use Rattle.std.specs.Map.{keys_of}
 use Rattle.std.specs.Str.{bytes_eq}
 use Rattle.irtext_base.specs.Text.{Text}
@@ -83,7 +83,7 @@ module _ {A : Type 0} (all : List (Text × AttrObj A)) (differ : distinct bytes_
   pub copied_more : (done more left : List (Text × Attribute A)) (e : Text × Attribute A) → done ++ e ∷ left ≡ entries_of all → more ≡ put_all done (e ∷ []) → more ++ left ≡ entries_of all
   copied_more done more left e is put_in =
       let keys : map (λ (e : Text × Attribute A). e.0) done ++ e.0 ∷ map (λ (e : Text × Attribute A). e.0) left ≡ keys_of all
-          = sym (keys_joined done (e ∷ left)) ∙ (ap (map (λ (e : Text × Attribute A). e.0)) is ∙ keys_seen all) in
+      = sym (keys_joined done (e ∷ left)) ∙ (ap (map (λ (e : Text × Attribute A). e.0)) is ∙ keys_seen all) in
       let none = none_before done e.0 (map (λ (e : Text × Attribute A). e.0) left) (ap (distinct bytes_eq) keys ∙ differ) in
       ap (λ z. z ++ left) (put_in ∙ put_last e done none) ∙ (joined done ∙ is)
     where

@@ -1,10 +1,9 @@
 -- Edits of data in the other order, and an edit that is taken back.
-use Rattle.std.proofs.Common.{◌≡◌, ◌≢◌, ◌∙◌, inl, inr, ℕ, refl, sym, ap, subst, arith, Bool, true, false, cond, nat_lt, Option, Some, None}
+use Rattle.std.proofs.Common.{◌≡◌, ◌≢◌, ◌∙◌, inl, inr, ℕ, refl, sym, ap, subst, Bool, true, false, cond, nat_lt, Option, Some, None}
 use Rattle.std.specs.Option.{option_map}
-use Rattle.irtext_context.specs.Context.{ContextView, KeepsOlder, EditsOperation, EditsBlock}
+use Rattle.irtext_context.specs.Context.{ContextView, EditsOperation, EditsBlock}
 use Rattle.irtext_context.specs.declared.base.block.BlockData.{BlockData}
 use Rattle.irtext_context.specs.declared.base.operation.OperationData.{OperationData}
-use Rattle.irtext_context.proofs.Contexts.{same-paths}
 use Rattle.irtext_graph.specs.Arena.{older}
 use Rattle.irtext_graph.specs.Content.{Node, OperationContent, BlockContent}
 use Rattle.irtext_graph.specs.Data.{edited_at, with_object, with_data, with_block}

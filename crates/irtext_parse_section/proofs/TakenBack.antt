@@ -1,5 +1,5 @@
 -- Steps that are taken back leave what is older as it was; and steps that all are taken give what the entries give.
-use Rattle.std.proofs.Common.{◌≡◌, ◌∙◌, ◌↔◌, ℕ, Bool, true, false, cond, is_some, List, [], ◌∷◌, ◌++◌, Option, Some, None, refl, sym, ap, subst, arith, true≢false}
+use Rattle.std.proofs.Common.{◌≡◌, ◌∙◌, ◌↔◌, ℕ, Bool, true, false, cond, is_some, List, Option, Some, None, refl, sym, ap, arith, true≢false}
 use Rattle.std.specs.Option.{option_map}
 use Rattle.std.specs.Prelude.{option_and_then}
 use Rattle.irtext_base.specs.Text.{Text}
@@ -12,7 +12,6 @@ use Rattle.irtext_context.specs.declared.base.item.Item.TheVariants as item
 use Rattle.irtext_context.specs.declared.base.operation.OperationData.{OperationData}
 use Rattle.irtext_context.proofs.Contexts.{same-paths, same-keeps, edits-keeps, edits_block-keeps, OperationEntry, BlockEntry}
 use Rattle.irtext_context.proofs.Kept.{kept_trans}
-use Rattle.irtext_graph.specs.Back.{IsClosedBelow}
 use Rattle.irtext_graph.specs.Data.{with_data, with_block}
 use Rattle.irtext_graph.specs.Store.{get, before, object_of}
 use Rattle.irtext_graph.specs.declared.arena.Ptr.{Ptr}
@@ -34,7 +33,7 @@ module _ {T A : Type 0} (mark : ℕ) (a b c d : ContextView T A) (kept : KeepsOl
     entry_restored : (x : OperationEntry T A) → get a.graph.operations p ≡ Some x → with_data (option_map (with_attributes had)) (with_data (option_map (with_attributes t.left)) x.content) ≡ x.content
     entry_restored x f =
         let seen : option_map (λ (op : OperationView T A). op.attributes) (operation_of x) ≡ Some had
-            = ap (λ s. option_map (λ (op : OperationView T A). op.attributes) (option_and_then (operation_of {T = T} {A = A}) s)) (sym f) ∙ t.had_these in
+        = ap (λ s. option_map (λ (op : OperationView T A). op.attributes) (option_and_then (operation_of {T = T} {A = A}) s)) (sym f) ∙ t.had_these in
         ap (λ y. record x.content { content = record x.content.content { data_of = y } }) (restored x.content.content.results x.content.children x.content.content.data_of seen)
 
     pub operation_back : KeepsOlder mark a d
@@ -56,7 +55,7 @@ module _ {T A : Type 0} (mark : ℕ) (a b c d : ContextView T A) (kept : KeepsOl
     block_restored : (x : BlockEntry T A) → get a.graph.blocks p ≡ Some x → with_block (with_block_attributes had) (with_block (with_block_attributes t.left) x.content) ≡ x.content
     block_restored x f =
         let seen : Some x.content.content.data_of.attributes ≡ Some had
-            = ap (λ s. option_map (λ b. b.attributes) (option_map (block_of {T = T} {A = A}) s)) (sym f) ∙ t.had_these in
+        = ap (λ s. option_map (λ b. b.attributes) (option_map (block_of {T = T} {A = A}) s)) (sym f) ∙ t.had_these in
         ap (λ w. record x.content { content = record x.content.content { data_of = record x.content.content.data_of { attributes = w } } }) (sym (some_eq seen))
 
     pub block_back : KeepsOlder mark a d

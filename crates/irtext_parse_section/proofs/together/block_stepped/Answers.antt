@@ -1,7 +1,6 @@
-use Rattle.std.proofs.Common.{refl}
 use Rattle.irtext_context.specs.Context.{block}
 use Rattle.irtext_parse_section.specs.Applied.{all_stored}
-use Rattle.irtext_parse_section.proofs.TakenBack.{branch_false, is_there, not_there}
+use Rattle.irtext_parse_section.proofs.TakenBack.{is_there}
 use Rattle.irtext_parse_section.proofs.AllOrNone.{block_swapped_in}
 use Rattle.irtext_parse_section.proofs.together.block_stepped.Goals as goal
 

@@ -1,7 +1,7 @@
-use Rattle.std.proofs.Common.{None, refl}
+use Rattle.std.proofs.Common.{None}
 use Rattle.irtext_context.specs.Context.{operation}
 use Rattle.irtext_parse_section.specs.Applied.{all_stored}
-use Rattle.irtext_parse_section.proofs.TakenBack.{branch_false, is_there, not_there}
+use Rattle.irtext_parse_section.proofs.TakenBack.{is_there}
 use Rattle.irtext_parse_section.proofs.AllOrNone.{operation_swapped_in}
 use Rattle.irtext_parse_section.proofs.together.operation_stepped.Goals as goal
 
