@@ -14,3 +14,9 @@ pub mod AppliedEntries
 pub mod SectionSteps
 pub mod Frames
 pub mod Items
+-- Entries that are applied together
+pub mod Copies
+pub mod Swaps
+pub mod FinishedFirst
+pub mod TakenBack
+pub mod AllOrNone

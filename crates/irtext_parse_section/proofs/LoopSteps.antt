@@ -1,5 +1,5 @@
 -- Steps of the loop over entries.
-use Rattle.std.proofs.Common.{◌≡◌, ◌∙◌, ◌<◌, ℕ, Bool, true, false, List, [], ◌∷◌, ◌++◌, length, Result, Ok, Err, OnOk, refl, sym, ap, subst, true≢false}
+use Rattle.std.proofs.Common.{◌≡◌, ◌∙◌, ◌<◌, ℕ, Bool, true, false, List, [], ◌∷◌, ◌++◌, length, Result, Ok, Err, OnOk, OnErr, refl, sym, ap, subst, true≢false}
 use Rattle.std.specs.Result.{is_err}
 use Rattle.std.specs.Char.{is_whitespace}
 use Rattle.irtext_base.specs.Text.{Text, begins, front, after}
@@ -34,6 +34,11 @@ use Rattle.irtext_parse_section.proofs.LoopText.{text_begins, text_ends, text_re
 pub unless_err : {X E P : Type 0} (r : Result X E) → is_err r ≡ false → OnOk r P → P
 unless_err (Ok x) e h = h
 unless_err (Err y) e h = absurd (true≢false e)
+
+-- what a call says where it was refused
+pub where_err : {X E P : Type 0} (r : Result X E) → is_err r ≡ true → OnErr r P → P
+where_err (Ok x) e h = absurd (true≢false (sym e))
+where_err (Err y) e h = h
 
 module _ {T A U : Type 0} (attr : Text → Outcome (AttrView A)) where
   -- all entries of a text, behind a root of the marks of a state

@@ -1,5 +1,5 @@
 -- Steps of the reading of a whole section.
-use Rattle.std.proofs.Common.{◌≡◌, ◌∙◌, ℕ, true, false, List, [], Result, Ok, Err, refl, sym, ap, subst}
+use Rattle.std.proofs.Common.{◌≡◌, ◌∙◌, ℕ, Bool, true, false, List, [], Result, Ok, Err, refl, sym, ap, subst}
 use Rattle.irtext_base.specs.Text.{Text}
 use Rattle.irtext_base.specs.Stream.{StreamView}
 use Rattle.irtext_base.specs.Answers.{Outcome, Read, StarvesHere}
@@ -39,6 +39,11 @@ starved_refusal h = record { committed = h.committed; fails = ap (λ v. v.failed
 -- for want of memory
 pub starved_there : {A : Type 0} {mid new : StreamView} {fault : ParseFault A} → StarvesHere itself replaced mid fault new → IsStarved fault
 starved_there h = record { because = h.because; flag = h.committed }
+
+-- whichever a test says
+pub either_way : {P : Type 0} (t : Bool) → (t ≡ true → P) → (t ≡ false → P) → P
+either_way true f g = f refl
+either_way false f g = g refl
 
 -- a section was read, to be given
 abbrev pub SectionRead : {T A U : Type 0} → Type 0 → (Text → Outcome (AttrView A)) → StateStream T A U → StateStream T A U → Entries A → Type 0

@@ -5,3 +5,4 @@ pub mod Checked
 pub mod Applied
 pub mod Section
 pub mod Items
+pub mod Together

@@ -41,7 +41,7 @@ fn attr_given<A: AttrText>(
 }
 
 /// Puts an attribute under a key. It is refused only where memory is, where the attribute may stand there.
-fn attr_stored<A: Drop>(
+pub(crate) fn attr_stored<A: Drop>(
     attributes: &mut AttributeDict<A>,
     key: Identifier,
     attr: AttrObj<A>,
@@ -71,7 +71,7 @@ fn pair_stored<A: AttrText>(
 }
 
 /// Puts what the pairs of an operation's entry give, one after another.
-fn pairs_stored<A: AttrText>(
+pub(crate) fn pairs_stored<A: AttrText>(
     alloc: Global,
     once: &Once<A>,
     attributes: &mut AttributeDict<A>,
@@ -116,7 +116,7 @@ fn block_pair_stored<A: AttrText>(
 }
 
 /// Puts what the pairs of a block's entry give, one after another, and answers the label that they give, the later of two.
-fn block_pairs_stored<A: AttrText>(
+pub(crate) fn block_pairs_stored<A: AttrText>(
     alloc: Global,
     once: &Once<A>,
     attributes: &mut AttributeDict<A>,
@@ -134,7 +134,7 @@ fn block_pairs_stored<A: AttrText>(
 }
 
 /// Sets the location of an operation, where one is given.
-fn operation_located<T: IrText<A>, A: AttrText>(
+pub(crate) fn operation_located<T: IrText<A>, A: AttrText>(
     ctx: &mut Context<T, A>,
     op: Ptr<Operation>,
     location: Option<Location<A>>,
@@ -184,7 +184,7 @@ fn operation_given<T: IrText<A>, A: AttrText>(
 }
 
 /// Sets the location of a block, where one is given.
-fn block_located<T: IrText<A>, A: AttrText>(
+pub(crate) fn block_located<T: IrText<A>, A: AttrText>(
     ctx: &mut Context<T, A>,
     at: Ptr<BasicBlock>,
     location: Option<Location<A>>,
@@ -216,7 +216,7 @@ fn block_stored<T: IrText<A>, A: AttrText>(
 }
 
 /// Sets the label of a block, where one is given.
-fn block_labelled<T: IrText<A>, A: AttrText>(
+pub(crate) fn block_labelled<T: IrText<A>, A: AttrText>(
     ctx: &mut Context<T, A>,
     at: Ptr<BasicBlock>,
     label: Option<Identifier>,

@@ -11,3 +11,4 @@ mod pairs;
 mod rules;
 pub mod said;
 pub mod section;
+mod together;

@@ -20,6 +20,7 @@ use crate::applied::items_given;
 use crate::checked::items_checked;
 use crate::entries::entries_parse;
 use crate::said::Entries;
+use crate::together::items_given_together;
 use irtext_base::parsable::{CharStream, ParseResult};
 use irtext_base::text::{AttrText, IrText};
 use irtext_read::irfmt::demanded::spaced_text_demanded;
@@ -63,10 +64,11 @@ fn right_parse<T: IrText<A>, A: AttrText, U>(
     Ok(entries)
 }
 
-/// Gives each item what its entry gives.
+/// Gives each item what its entry gives: all of them or, where memory is refused and marks were noted earlier, none.
 fn entries_given<T: IrText<A>, A: AttrText, U>(
     s: &mut StateStream<'_, T, A, U>,
     entries: Entries<A>,
+    earlier: bool,
 ) -> Result<(), AllocError>
     ensures lent { s.new.state.ctx.ghost_name ≡ s.old.state.ctx.ghost_name }
     ensures rest { KeepsRest s.old.state s.new.state }
@@ -75,6 +77,7 @@ fn entries_given<T: IrText<A>, A: AttrText, U>(
     ensures gives { OnOk result (GivesAll entries.once.entries entries.items.items s.old.state.ctx.now s.new.state.ctx.now) }
     ensures kept { (mark : ℕ) → ItemsAreNewer mark s.old.state.ctx.now entries.items.items → KeepsOlder mark s.old.state.ctx.now s.new.state.ctx.now }
     ensures closed { (mark : ℕ) → IsClosedBelow mark s.old.state.ctx.now.graph → IsClosedBelow mark s.new.state.ctx.now.graph }
+    ensures unchanged { (mark : ℕ) → earlier ≡ true → OnErr result (KeepsOlder mark s.old.state.ctx.now s.new.state.ctx.now) }
 {
     let ctx = &mut *s.state.ctx;
     let Entries {
@@ -82,14 +85,19 @@ fn entries_given<T: IrText<A>, A: AttrText, U>(
         seen: _,
         once,
     } = entries;
+    if earlier {
+        return items_given_together(ctx, &once, items);
+    }
     items_given(ctx, &once, items)
 }
 
 /// The section, which must stand there: it is read and checked as a whole; then each item that carries a mark gets what its entry gives,
-/// a location, attributes, and a block its label, and no mark is noted any more. A fault of the text changes no item; where memory is
-/// refused, items may have got what their entries give. A fault is committed.
+/// a location, attributes, and a block its label, and no mark is noted any more. `earlier` says whether marks were noted before the root
+/// was read: then a fault changes no item. Where none were, each item that carries a mark is the root's, and is given back with it: a
+/// fault of the text changes no item, and where memory is refused, items may have got what their entries give. A fault is committed.
 pub fn section_parse<T: IrText<A>, A: AttrText, U>(
     s: &mut StateStream<'_, T, A, U>,
+    earlier: bool,
 ) -> ParseResult<(), A>
     ensures lent { s.new.state.ctx.ghost_name ≡ s.old.state.ctx.ghost_name }
     ensures rest { KeepsRest s.old.state s.new.state }
@@ -102,9 +110,11 @@ pub fn section_parse<T: IrText<A>, A: AttrText, U>(
     ensures kept { (mark : ℕ) → AreNewer mark s.old.state.ctx.now (marks_of s.old.state) → KeepsOlder mark s.old.state.ctx.now s.new.state.ctx.now }
     ensures closed { (mark : ℕ) → IsClosedBelow mark s.old.state.ctx.now.graph → IsClosedBelow mark s.new.state.ctx.now.graph }
     ensures adds { IfErr result (λ fault. IsStarved fault ⊎ AddsPaths s.old.state.ctx.now s.new.state.ctx.now) }
+    ensures unchanged { (mark : ℕ) → (earlier ≡ false → AreNewer mark s.old.state.ctx.now (marks_of s.old.state)) →
+        OnErr result (KeepsOlder mark s.old.state.ctx.now s.new.state.ctx.now) }
 {
     let entries = right_parse(s)?;
-    if entries_given(s, entries).is_err() {
+    if entries_given(s, entries, earlier).is_err() {
         return Err(out_of_memory(&mut s.stream));
     }
     s.state.truncate_marks(0);

@@ -1,4 +1,5 @@
 use Rattle.std.proofs.Common.{ℕ, List, [], inl, inr, ◌∙◌, sym, ap}
+use Rattle.irtext_context.proofs.Kept.{kept_trans}
 use Rattle.irtext_read.specs.AttrTexts.{attr_at}
 use Rattle.irtext_read.proofs.Exits.{handed_on}
 use Rattle.irtext_state.specs.States.{marks_of}
@@ -8,8 +9,8 @@ use Rattle.irtext_outcomes.proofs.Readers.EntryIndices.{demands}
 use Rattle.irtext_outcomes.proofs.Readers.NewPaths.{adds_kept}
 use Rattle.irtext_section.proofs.Fine.{fine_section}
 use Rattle.irtext_parse_section.specs.Said.{rules_of}
-use Rattle.irtext_parse_section.proofs.SectionSteps.{adds_closed, starved_refusal, starved_there, given_kept, reads_section}
-use Rattle.irtext_parse_section.proofs.LoopSteps.{unless_err}
+use Rattle.irtext_parse_section.proofs.SectionSteps.{either_way, adds_closed, starved_refusal, starved_there, given_kept, reads_section}
+use Rattle.irtext_parse_section.proofs.LoopSteps.{unless_err, where_err}
 use Rattle.irtext_parse_section.proofs.section.section_parse.Goals as goal
 
 pub returns-in_err-entries-clause-missed : goal.returns-in_err-entries-clause-missed
@@ -63,3 +64,11 @@ returns-clause-read g c =
     let gives = unless_err c.entries_given.result (sym c.is_err.ensures.value ∙ c.if-is_err.false) c.entries_given.ensures.gives in
     reads_section g.row.A.Denot (attr_at g.A.IrText.reading) c.args.s.now c.right_parse.new.s c.in_ok-entries.entries c.in_ok-entries.ensures.read c.in_ok-entries.ensures.adds _
     (rw c.truncate_marks.ensures.ctx gives) c.entries_given.ensures.stream c.truncate_marks.ensures.marks
+
+pub returns-in_err-entries-clause-unchanged : goal.returns-in_err-entries-clause-unchanged
+returns-in_err-entries-clause-unchanged g c = λ mark n. rw (handed_on c.from_residual.result c.from_residual.ensures.1) (adds_kept mark c.in_err-entries.ensures.adds)
+
+pub returns-then-is_err-clause-unchanged : goal.returns-then-is_err-clause-unchanged
+returns-then-is_err-clause-unchanged g c = λ mark n. either_way c.args.earlier
+    (λ e. kept_trans (adds_kept mark c.in_ok-entries.ensures.adds) (where_err c.entries_given.result (sym c.is_err.ensures.value ∙ c.if-is_err.true) (c.entries_given.ensures.unchanged mark e)))
+    (λ e. given_kept g.row.A.Denot (attr_at g.A.IrText.reading) c.args.s.now c.right_parse.new.s c.in_ok-entries.entries c.in_ok-entries.ensures.read c.in_ok-entries.ensures.adds c.entries_given.new.s.state.ctx.now mark (n e) (c.entries_given.ensures.kept mark))

@@ -1,0 +1,372 @@
+//! What entries give, put where it belongs: all of it or, where memory is refused, nothing.
+ghost use Rattle.std.specs.Prelude.{◌≡◌, ◌<◌, ◌++◌, ◌∷◌, ℕ, [], None, Some, IsSome, IfOk, OnOk, OnErr, option_map};
+ghost use Rattle.std.specs.Vec.{vec_len, vec_capacity};
+ghost use Rattle.irtext_context.specs.Context.{ContextView, KeepsOlder, EditsOperation, EditsBlock, operation, block, with_attributes, with_block_attributes};
+ghost use Rattle.irtext_context.specs.declared.base.item.Item.TheVariants as item;
+ghost use Rattle.irtext_graph.specs.Back.{IsClosedBelow};
+ghost use Rattle.irtext_grammar.specs.Contexts.Held.{attribute_of, entries_of};
+ghost use Rattle.irtext_grammar.specs.Graphs.Build.{put_all};
+ghost use Rattle.irtext_parse_section.specs.Applied.{all_stored, no_label, label_in, GivesAll, ItemsAreNewer};
+ghost use Rattle.irtext_parse_section.specs.Together.{HasStored, Stores, StoresAll, Takes, TakesAll, PutsBack, Finishes, FinishesAll, StepsOn, IsStepOf};
+
+use crate::applied::{
+    attr_stored, block_labelled, block_located, block_pairs_stored, operation_located, pairs_stored,
+};
+use crate::said::{ItemEntry, Once, ReadPair};
+use irtext_base::base::{AttrObj, Identifier};
+use irtext_base::location::Location;
+use irtext_base::text::{AttrText, IrText};
+use irtext_context::base::{
+    BasicBlock, BlockAccess, Context, Item, Operation, OperationAccess, Ptr,
+};
+use irtext_dict::base::AttributeDict;
+use std::alloc::{AllocError, Global};
+
+/// What an entry has done so far: the attributes that its item had before, where it stands; and what the item is still to get.
+#[derive(Drop)]
+pub(crate) struct Step<A> {
+    pub item: Item,
+    pub before: Option<AttributeDict<A>>,
+    pub location: Option<Location<A>>,
+    pub label: Option<Identifier>,
+}
+
+/// Puts a copy of an entry into a dictionary.
+fn entry_copied<A: AttrText>(
+    alloc: Global,
+    copy: &mut AttributeDict<A>,
+    key: &Identifier,
+    attr: &AttrObj<A>,
+) -> Result<(), AllocError>
+    ensures { OnOk result (entries_of copy.new ≡ put_all (entries_of copy.old) ((key.now, attribute_of attr.now) ∷ [])) }
+{
+    let name = key.clone()?;
+    let attr = attr.try_clone(alloc)?;
+    attr_stored(copy, name, attr)
+}
+
+/// A copy of a dictionary, with equal attributes under its keys.
+fn copied<A: AttrText>(
+    alloc: Global,
+    attributes: &AttributeDict<A>,
+) -> Result<AttributeDict<A>, AllocError>
+    ensures { IfOk result (λ copy. entries_of copy ≡ entries_of attributes.now) }
+{
+    attributes.keeps_keys();
+    let mut copy = AttributeDict::new(alloc);
+    for (key, attr) in attributes.iter() {
+        entry_copied(alloc, &mut copy, key, attr)?;
+    }
+    Ok(copy)
+}
+
+/// A copy of the attributes of an operation, with what pairs give put in.
+fn operation_next<T: IrText<A>, A: AttrText>(
+    ctx: &Context<T, A>,
+    once: &Once<A>,
+    op: Ptr<Operation>,
+    pairs: Vec<ReadPair<A>>,
+) -> Result<AttributeDict<A>, AllocError>
+    requires { IsSome (operation ctx.now op) }
+    ensures { IfOk result (HasStored (all_stored once.now.entries pairs.items) (option_map (λ op. op.attributes) (operation ctx.now op))) }
+{
+    let alloc = ctx.allocator();
+    let mut next = copied(alloc, op.attributes(ctx))?;
+    pairs_stored(alloc, once, &mut next, pairs)?;
+    Ok(next)
+}
+
+/// Gives an operation these attributes, and answers those that it had.
+fn operation_swapped<T: IrText<A>, A: AttrText>(
+    ctx: &mut Context<T, A>,
+    op: Ptr<Operation>,
+    attributes: AttributeDict<A>,
+) -> AttributeDict<A>
+    requires { IsSome (operation ctx.old op) }
+    ensures had { option_map (λ op. op.attributes) (operation ctx.old op) ≡ Some result }
+    ensures edits { EditsOperation ctx.old ctx.new op (with_attributes attributes) }
+{
+    std::mem::replace(ctx.operation_attributes_mut(op), attributes)
+}
+
+/// Puts what pairs give into the attributes of an operation, where it stands, and answers those that it had. Where memory is refused
+/// nothing changes.
+fn operation_stepped<T: IrText<A>, A: AttrText>(
+    ctx: &mut Context<T, A>,
+    once: &Once<A>,
+    op: Ptr<Operation>,
+    pairs: Vec<ReadPair<A>>,
+) -> Result<Option<AttributeDict<A>>, AllocError>
+    ensures stores { OnOk result (Stores (all_stored once.now.entries pairs.items) (item.Operation op) None ctx.old ctx.new) }
+    ensures takes { IfOk result (λ before. Takes (item.Operation op) before ctx.old ctx.new) }
+    ensures err { OnErr result (ctx.new ≡ ctx.old) }
+{
+    if !ctx.contains_operation(op) {
+        return Ok(None);
+    }
+    let next = operation_next(ctx, once, op, pairs)?;
+    Ok(Some(operation_swapped(ctx, op, next)))
+}
+
+/// A copy of the attributes of a block, with what pairs give put in, and the label that they give.
+fn block_next<T: IrText<A>, A: AttrText>(
+    ctx: &Context<T, A>,
+    once: &Once<A>,
+    at: Ptr<BasicBlock>,
+    pairs: Vec<ReadPair<A>>,
+) -> Result<(AttributeDict<A>, Option<Identifier>), AllocError>
+    requires { IsSome (block ctx.now at) }
+    ensures stored { IfOk result (λ next. HasStored (no_label (all_stored once.now.entries pairs.items)) (option_map (λ b. b.attributes) (block ctx.now at)) next.0) }
+    ensures label { IfOk result (λ next. next.1 ≡ label_in None (all_stored once.now.entries pairs.items)) }
+{
+    let alloc = ctx.allocator();
+    let mut next = copied(alloc, at.attributes(ctx))?;
+    let label = block_pairs_stored(alloc, once, &mut next, pairs)?;
+    Ok((next, label))
+}
+
+/// Gives a block these attributes, and answers those that it had.
+fn block_swapped<T: IrText<A>, A: AttrText>(
+    ctx: &mut Context<T, A>,
+    at: Ptr<BasicBlock>,
+    attributes: AttributeDict<A>,
+) -> AttributeDict<A>
+    requires { IsSome (block ctx.old at) }
+    ensures had { option_map (λ b. b.attributes) (block ctx.old at) ≡ Some result }
+    ensures edits { EditsBlock ctx.old ctx.new at (with_block_attributes attributes) }
+{
+    std::mem::replace(ctx.block_attributes_mut(at), attributes)
+}
+
+/// Puts what pairs give into the attributes of a block, where it stands, and answers those that it had, and the label that they give.
+/// Where memory is refused nothing changes.
+fn block_stepped<T: IrText<A>, A: AttrText>(
+    ctx: &mut Context<T, A>,
+    once: &Once<A>,
+    at: Ptr<BasicBlock>,
+    pairs: Vec<ReadPair<A>>,
+) -> Result<(Option<AttributeDict<A>>, Option<Identifier>), AllocError>
+    ensures stores { IfOk result (λ done. Stores (all_stored once.now.entries pairs.items) (item.Block at) done.1 ctx.old ctx.new) }
+    ensures takes { IfOk result (λ done. Takes (item.Block at) done.0 ctx.old ctx.new) }
+    ensures err { OnErr result (ctx.new ≡ ctx.old) }
+{
+    if !ctx.contains_block(at) {
+        return Ok((None, None));
+    }
+    let (next, label) = block_next(ctx, once, at, pairs)?;
+    Ok((Some(block_swapped(ctx, at, next)), label))
+}
+
+/// Puts what the pairs of an entry give into its item's attributes. Where memory is refused nothing changes.
+fn step_made<T: IrText<A>, A: AttrText>(
+    ctx: &mut Context<T, A>,
+    once: &Once<A>,
+    entry: ItemEntry<A>,
+) -> Result<Step<A>, AllocError>
+    ensures made { IfOk result (λ step. IsStepOf once.now.entries entry step ctx.old ctx.new) }
+    ensures takes { IfOk result (λ step. Takes step.item step.before ctx.old ctx.new) }
+    ensures err { OnErr result (ctx.new ≡ ctx.old) }
+{
+    let ItemEntry {
+        item,
+        location,
+        pairs,
+    } = entry;
+    match item {
+        Item::Operation(op) => {
+            let before = operation_stepped(ctx, once, op, pairs)?;
+            Ok(Step {
+                item,
+                before,
+                location,
+                label: None,
+            })
+        }
+        Item::Block(at) => {
+            let (before, label) = block_stepped(ctx, once, at, pairs)?;
+            Ok(Step {
+                item,
+                before,
+                location,
+                label,
+            })
+        }
+    }
+}
+
+/// Notes a step behind the others. There is room for it.
+fn noted<A: Drop>(steps: &mut Vec<Step<A>>, step: Step<A>)
+    requires { vec_len steps.old < vec_capacity steps.old }
+    ensures { steps.new.items ≡ steps.old.items ++ step ∷ [] }
+{
+    match steps.push(step) {
+        Ok(()) => (),
+        Err(_) => unreachable!(),
+    }
+}
+
+/// Puts what the pairs of an entry give into its item's attributes, and notes the step. Where memory is refused nothing changes.
+fn step_taken<T: IrText<A>, A: AttrText>(
+    ctx: &mut Context<T, A>,
+    once: &Once<A>,
+    entry: ItemEntry<A>,
+    steps: &mut Vec<Step<A>>,
+) -> Result<(), AllocError>
+    ensures taken { OnOk result (StepsOn once.now.entries entry steps.old.items steps.new.items ctx.old ctx.new) }
+    ensures err { OnErr result (ctx.new ≡ ctx.old) }
+    ensures same { OnErr result (steps.new.items ≡ steps.old.items) }
+{
+    steps.reserve(1)?;
+    let step = step_made(ctx, once, entry)?;
+    noted(steps, step);
+    Ok(())
+}
+
+/// Gives an operation, where it stands, these attributes back.
+fn operation_undone<T: IrText<A>, A: AttrText>(
+    ctx: &mut Context<T, A>,
+    op: Ptr<Operation>,
+    before: AttributeDict<A>,
+)
+    ensures { EditsOperation ctx.old ctx.new op (with_attributes before) }
+{
+    if !ctx.contains_operation(op) {
+        return;
+    }
+    let _ = operation_swapped(ctx, op, before);
+}
+
+/// Gives a block, where it stands, these attributes back.
+fn block_undone<T: IrText<A>, A: AttrText>(
+    ctx: &mut Context<T, A>,
+    at: Ptr<BasicBlock>,
+    before: AttributeDict<A>,
+)
+    ensures { EditsBlock ctx.old ctx.new at (with_block_attributes before) }
+{
+    if !ctx.contains_block(at) {
+        return;
+    }
+    let _ = block_swapped(ctx, at, before);
+}
+
+/// Gives an item the attributes back that it had before a step.
+fn step_undone<T: IrText<A>, A: AttrText>(ctx: &mut Context<T, A>, step: Step<A>)
+    ensures { PutsBack step.item step.before ctx.old ctx.new }
+{
+    let Step {
+        item,
+        before,
+        location: _,
+        label: _,
+    } = step;
+    let Some(before) = before else {
+        return;
+    };
+    match item {
+        Item::Operation(op) => operation_undone(ctx, op, before),
+        Item::Block(at) => block_undone(ctx, at, before),
+    }
+}
+
+/// Takes back what steps did, the last one first.
+fn steps_undone<T: IrText<A>, A: AttrText>(ctx: &mut Context<T, A>, steps: Vec<Step<A>>)
+    ensures { (mark : ℕ) (first : ContextView T A) → TakesAll mark steps.items first ctx.old → KeepsOlder mark first ctx.new }
+{
+    let mut steps = steps;
+    while let Some(step) = steps.pop() {
+        step_undone(ctx, step);
+    }
+}
+
+/// Puts what the pairs of entries give into the attributes of their items, in the order of writing. Where memory is refused all items
+/// have what they had.
+fn steps_taken<T: IrText<A>, A: AttrText>(
+    ctx: &mut Context<T, A>,
+    once: &Once<A>,
+    items: Vec<ItemEntry<A>>,
+) -> Result<Vec<Step<A>>, AllocError>
+    ensures stores { IfOk result (λ steps. StoresAll once.now.entries items.items steps.items ctx.old ctx.new) }
+    ensures unchanged { (mark : ℕ) → OnErr result (KeepsOlder mark ctx.old ctx.new) }
+{
+    let mut steps = Vec::new(ctx.allocator());
+    for entry in items {
+        if step_taken(ctx, once, entry, &mut steps).is_err() {
+            steps_undone(ctx, steps);
+            return Err(AllocError);
+        }
+    }
+    Ok(steps)
+}
+
+/// Gives an operation, where it stands, the location that it is still to get.
+fn operation_finished<T: IrText<A>, A: AttrText>(
+    ctx: &mut Context<T, A>,
+    op: Ptr<Operation>,
+    location: Option<Location<A>>,
+)
+    ensures { Finishes (item.Operation op) location None ctx.old ctx.new }
+{
+    if !ctx.contains_operation(op) {
+        return;
+    }
+    operation_located(ctx, op, location);
+}
+
+/// Gives a block, where it stands, the location and the label that it is still to get.
+fn block_finished<T: IrText<A>, A: AttrText>(
+    ctx: &mut Context<T, A>,
+    at: Ptr<BasicBlock>,
+    location: Option<Location<A>>,
+    label: Option<Identifier>,
+)
+    ensures { Finishes (item.Block at) location label ctx.old ctx.new }
+{
+    if !ctx.contains_block(at) {
+        return;
+    }
+    block_located(ctx, at, location);
+    block_labelled(ctx, at, label);
+}
+
+/// Gives an item, where it stands, the location and the label that it is still to get. It takes no memory.
+fn step_finished<T: IrText<A>, A: AttrText>(ctx: &mut Context<T, A>, step: Step<A>)
+    ensures { Finishes step.item step.location step.label ctx.old ctx.new }
+{
+    let Step {
+        item,
+        before: _,
+        location,
+        label,
+    } = step;
+    match item {
+        Item::Operation(op) => operation_finished(ctx, op, location),
+        Item::Block(at) => block_finished(ctx, at, location, label),
+    }
+}
+
+/// Gives each item what it is still to get, in the order of writing.
+fn steps_finished<T: IrText<A>, A: AttrText>(ctx: &mut Context<T, A>, steps: Vec<Step<A>>)
+    ensures { FinishesAll steps.items ctx.old ctx.new }
+{
+    for step in steps {
+        step_finished(ctx, step);
+    }
+}
+
+/// Gives each item, where it stands, what its entry gives, in the order of writing. Where memory is refused all items are as they were:
+/// the attributes come first, since they alone take memory, and what an item had is kept beside until all have theirs.
+pub(crate) fn items_given_together<T: IrText<A>, A: AttrText>(
+    ctx: &mut Context<T, A>,
+    once: &Once<A>,
+    items: Vec<ItemEntry<A>>,
+) -> Result<(), AllocError>
+    ensures gives { OnOk result (GivesAll once.now.entries items.items ctx.old ctx.new) }
+    ensures unchanged { (mark : ℕ) → OnErr result (KeepsOlder mark ctx.old ctx.new) }
+    ensures kept { (mark : ℕ) → ItemsAreNewer mark ctx.old items.items → KeepsOlder mark ctx.old ctx.new }
+    ensures closed { (mark : ℕ) → IsClosedBelow mark ctx.old.graph → IsClosedBelow mark ctx.new.graph }
+{
+    let steps = steps_taken(ctx, once, items)?;
+    steps_finished(ctx, steps);
+    Ok(())
+}
