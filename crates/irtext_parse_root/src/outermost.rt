@@ -1,5 +1,5 @@
 //! The outermost reading of an operation, with the section behind it or without: it gives back what it made where it is refused.
-ghost use Rattle.std.specs.Prelude.{◌≡◌, ◌⊎◌, ℕ, List, ◌++◌, true, false, IfOk, IfErr, OnOk, OnErr};
+ghost use Rattle.std.specs.Prelude.{◌≡◌, ℕ, List, ◌++◌, true, false, IfOk, IfErr, OnOk, OnErr};
 ghost use Rattle.irtext_base.specs.Own.{texts_of};
 ghost use Rattle.irtext_context.specs.Context.{KeepsOlder};
 ghost use Rattle.irtext_context.specs.Made.{SameObjects};
@@ -8,7 +8,6 @@ ghost use Rattle.irtext_graph.specs.Back.{AllOlder, IsClosedBelow};
 ghost use Rattle.irtext_read.specs.AttrTexts.{attr_at};
 ghost use Rattle.irtext_state.specs.States.{marks_of};
 ghost use Rattle.irtext_outcomes.specs.Promises.Root.{IsFresh, UnlessMemory};
-ghost use Rattle.irtext_outcomes.specs.Promises.Section.{IsStarved};
 ghost use Rattle.irtext_outcomes.specs.Readers.Refusals.{Refusal, FailedRefusal, RefusesFailed};
 ghost use Rattle.irtext_outcomes.specs.Readers.Streams.{KeepsRest};
 ghost use Rattle.irtext_promises.specs.Promises.{BuildsTree, RefusesTree, BuildsRoot, RefusesRoot, BuildsWith, RefusesWith};
@@ -68,13 +67,14 @@ fn marked_parse<T: IrText<A>, A: AttrText, U>(
     ensures closed { IsClosedBelow s.old.state.ctx.now.graph.made s.old.state.ctx.now.graph → IsClosedBelow s.old.state.ctx.now.graph.made s.new.state.ctx.now.graph }
     ensures kept { IsFresh s.old → KeepsOlder s.old.state.ctx.now.graph.made s.old.state.ctx.now s.new.state.ctx.now }
     ensures kept_alone { look ≡ false → KeepsOlder s.old.state.ctx.now.graph.made s.old.state.ctx.now s.new.state.ctx.now }
-    ensures kept_else { IfErr result (λ fault. IsStarved fault ⊎ KeepsOlder s.old.state.ctx.now.graph.made s.old.state.ctx.now s.new.state.ctx.now) }
+    ensures kept_else { OnErr result (KeepsOlder s.old.state.ctx.now.graph.made s.old.state.ctx.now s.new.state.ctx.now) }
 {
+    let earlier = s.state.has_marks();
     let op = tree_parse(s)?;
     if !look || !s.state.has_marks() {
         return Ok(op);
     }
-    section_parse(s)?;
+    section_parse(s, earlier)?;
     Ok(op)
 }
 
@@ -102,9 +102,7 @@ pub fn outermost_parse<T: IrText<A>, A: AttrText, U>(
         IfErr result (UnlessMemory
         (RefusesWith (texts_of T.reading T.written) (texts_of A.reading A.written) T.reading
         (attr_at A.reading) s.old.state.ctx.now.dialects look s.old.stream)) }
-    ensures objects { IsFresh s.old → OnErr result (SameObjects s.old.state.ctx.now s.new.state.ctx.now) }
-    ensures objects_alone { look ≡ false → OnErr result (SameObjects s.old.state.ctx.now s.new.state.ctx.now) }
-    ensures objects_else { IfErr result (λ fault. IsStarved fault ⊎ SameObjects s.old.state.ctx.now s.new.state.ctx.now) }
+    ensures objects { OnErr result (SameObjects s.old.state.ctx.now s.new.state.ctx.now) }
     ensures marks { OnErr result (marks_of s.new.state ≡ marks_of s.old.state) }
     ensures keeps { IsFresh s.old → OnOk result (KeepsOlder s.old.state.ctx.now.graph.made s.old.state.ctx.now s.new.state.ctx.now) }
     ensures closed { OnOk result (IsClosedBelow s.old.state.ctx.now.graph.made s.old.state.ctx.now.graph → IsClosedBelow s.old.state.ctx.now.graph.made s.new.state.ctx.now.graph) }
@@ -149,8 +147,8 @@ pub fn operation_parse<T: IrText<A>, A: AttrText, U>(
 }
 
 /// Reads a root: an operation with all that nests in it and, exactly where it has a mark, the section behind it. Where it is refused, what
-/// it made is given back, and no mark of it stays. Where memory is refused as the section is applied, items of roots that were read
-/// before, whose marks are noted still, may have got what their entries give.
+/// it made is given back, no mark of it stays, and all that was there before is as it was: items of roots that were read before, whose
+/// marks are noted still, have what they had.
 pub fn root_parse<T: IrText<A>, A: AttrText, U>(
     s: &mut StateStream<'_, T, A, U>,
 ) -> ParseResult<Ptr<Operation>, A>
@@ -167,8 +165,7 @@ pub fn root_parse<T: IrText<A>, A: AttrText, U>(
         IfErr result (UnlessMemory
         (RefusesRoot (texts_of T.reading T.written) (texts_of A.reading A.written) T.reading
         (attr_at A.reading) s.old.state.ctx.now.dialects s.old.stream)) }
-    ensures objects { IsFresh s.old → OnErr result (SameObjects s.old.state.ctx.now s.new.state.ctx.now) }
-    ensures objects_else { IfErr result (λ fault. IsStarved fault ⊎ SameObjects s.old.state.ctx.now s.new.state.ctx.now) }
+    ensures objects { OnErr result (SameObjects s.old.state.ctx.now s.new.state.ctx.now) }
     ensures marks { OnErr result (marks_of s.new.state ≡ marks_of s.old.state) }
     ensures keeps { IsFresh s.old → OnOk result (KeepsOlder s.old.state.ctx.now.graph.made s.old.state.ctx.now s.new.state.ctx.now) }
     ensures closed { OnOk result (IsClosedBelow s.old.state.ctx.now.graph.made s.old.state.ctx.now.graph → IsClosedBelow s.old.state.ctx.now.graph.made s.new.state.ctx.now.graph) }

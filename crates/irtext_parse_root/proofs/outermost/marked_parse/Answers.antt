@@ -3,7 +3,6 @@ use Rattle.irtext_base.specs.Own.{texts_of}
 use Rattle.irtext_context.proofs.Kept.{kept_closed, kept_trans}
 use Rattle.irtext_nesting.proofs.Exact.Attributes.{lawful_needs_word}
 use Rattle.irtext_outcomes.proofs.Readers.EntryIndices.{demanded_refusal}
-use Rattle.irtext_outcomes.proofs.Readers.NewPaths.{adds_kept}
 use Rattle.irtext_outcomes.proofs.Readers.SectionSteps.{noted_there, none_noted, held_under, held_beside}
 use Rattle.irtext_outcomes.specs.Promises.Section.{is_noted}
 use Rattle.irtext_parse_nested.specs.Located.{IsLocated}
@@ -111,10 +110,12 @@ returns-in_err-section_parse-clause-kept g c = λ fresh.
 
 pub returns-in_err-section_parse-clause-kept_else : goal.returns-in_err-section_parse-clause-kept_else
 returns-in_err-section_parse-clause-kept_else g c = rw (handed_on c.from_residual-in_err-section_parse.result c.from_residual-in_err-section_parse.ensures.1)
-    (elim c.in_err-section_parse.ensures.adds [
-      | inl starved ↦ inl starved
-      | inr adds ↦ inr (kept_trans c.in_ok-op.ensures.kept (adds_kept c.args.s.now.state.ctx.now.graph.made adds))
-    ])
+    (let old = c.args.s.now in
+    let mid = c.tree_parse.new.s in
+    let e = c.in_ok-op.ensures in
+    kept_trans e.kept (c.in_err-section_parse.ensures.unchanged old.state.ctx.now.graph.made
+    (λ none. let m = e.leaves (record { marks = marks_none (marks_of old.state) c.has_marks-earlier.result c.has_marks-earlier.ensures none; fine = c.requires.fine }) in
+    all_newer old.state.ctx.now.graph.made old.state.ctx.now mid.state.ctx.now e.older e.kept (IsLocated old.state.src (whole old.stream)) m.leaves.items m.leaves.whole c.in_ok-op.op m.leaves.tree m.leaves.held (marks_of mid.state) m.carried)))
 
 pub returns-clause-read : goal.returns-clause-read
 returns-clause-read g c =

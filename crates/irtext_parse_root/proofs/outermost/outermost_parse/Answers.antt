@@ -1,4 +1,4 @@
-use Rattle.std.proofs.Common.{◌≡◌, ◌∙◌, ap, sym, subst, take, length, inl, inr}
+use Rattle.std.proofs.Common.{◌≡◌, ◌∙◌, ap, sym, subst, take, length}
 use Rattle.std.proofs.Math.Seq.{take-append_seam}
 use Rattle.irtext_context.proofs.Kept.{rolled_back}
 use Rattle.irtext_context.specs.Context.{KeepsOlder}
@@ -17,22 +17,9 @@ pub returns-in-Err-clause-missed : goal.returns-in-Err-clause-missed
 returns-in-Err-clause-missed g c = λ fine. c.in-Err.ensures.missed
 
 pub returns-in-Err-clause-objects : goal.returns-in-Err-clause-objects
-returns-in-Err-clause-objects g c = λ fresh.
-    let k = subst (λ m. KeepsOlder m c.args.s.now.state.ctx.now c.marked_parse.new.s.state.ctx.now) (sym c.made_in-made.ensures.made) (c.in-Err.ensures.kept fresh) in
+returns-in-Err-clause-objects g c =
+    let k = subst (λ m. KeepsOlder m c.args.s.now.state.ctx.now c.marked_parse.new.s.state.ctx.now) (sym c.made_in-made.ensures.made) c.in-Err.ensures.kept_else in
     rw c.truncate_marks.ensures.ctx (rolled_back c.made_in-made.ensures.older k c.roll_back.ensures.back)
-
-pub returns-in-Err-clause-objects_alone : goal.returns-in-Err-clause-objects_alone
-returns-in-Err-clause-objects_alone g c = λ alone.
-    let k = subst (λ m. KeepsOlder m c.args.s.now.state.ctx.now c.marked_parse.new.s.state.ctx.now) (sym c.made_in-made.ensures.made) (c.in-Err.ensures.kept_alone alone) in
-    rw c.truncate_marks.ensures.ctx (rolled_back c.made_in-made.ensures.older k c.roll_back.ensures.back)
-
-pub returns-in-Err-clause-objects_else : goal.returns-in-Err-clause-objects_else
-returns-in-Err-clause-objects_else g c = elim c.in-Err.ensures.kept_else [
-  | inl starved ↦ inl starved
-  | inr kept ↦ inr (
-      let k = subst (λ m. KeepsOlder m c.args.s.now.state.ctx.now c.marked_parse.new.s.state.ctx.now) (sym c.made_in-made.ensures.made) kept in
-      rw c.truncate_marks.ensures.ctx (rolled_back c.made_in-made.ensures.older k c.roll_back.ensures.back))
-]
 
 pub returns-in-Err-clause-marks : goal.returns-in-Err-clause-marks
 returns-in-Err-clause-marks g c =
