@@ -17,4 +17,4 @@ returns-in_err-text_parse-clause-refused g c = rw (handed_on c.from_residual.res
 pub returns-clause-refused : goal.returns-clause-refused
 returns-clause-refused g c =
     (target_behind (stream g) false [] c.in_ok-text_parse.ensures.answers
-      (insisted_mean (stream g) (Err c.used_outside.result) (Err c.commit.result) (may_miss (stream g) nobody c.used_outside.ensures) (c.commit.result, refl, c.commit.ensures))).read.answers
+    (insisted_mean (stream g) (Err c.used_outside-fault.result) (Err c.commit.result) (may_miss (stream g) nobody c.used_outside-fault.ensures) (c.commit.result, refl, c.commit.ensures))).read.answers
