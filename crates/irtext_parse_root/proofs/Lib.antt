@@ -15,3 +15,8 @@ pub mod Newer
 pub mod Sectioned
 pub mod Outer
 pub mod WholeSteps
+pub mod RegionPlaces
+pub mod RegionRuns
+pub mod RegionRefused
+pub mod RegionReads
+pub mod RegionGains

@@ -2,5 +2,6 @@
 #![tactic(auto)]
 
 pub mod outermost;
+pub mod region;
 pub mod tree;
 pub mod whole;
