@@ -20,3 +20,5 @@ pub mod RegionRuns
 pub mod RegionRefused
 pub mod RegionReads
 pub mod RegionGains
+pub mod RegionMoved
+pub mod RegionBuilt

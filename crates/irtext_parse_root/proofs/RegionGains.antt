@@ -33,7 +33,7 @@ one_more r (Some x) (Some y) p c e =
     (map_same TheRegion region_same x.content.children (y.content.children ++ r ∷ []) (c ∙ sym (map_both TheRegion y.content.children (r ∷ [])))) e
 
 module _ {O B T : Type 0} (g h : GraphView O B T) (op : Ptr Operation) (r : Ptr Region) (a : Appends g h (TheOperation op) (TheRegion r)) where
-  other_operation : (p : Ptr Operation) → (p ≡ op → ⊥) → get h.operations p ≡ get g.operations p
+  pub other_operation : (p : Ptr Operation) → (p ≡ op → ⊥) → get h.operations p ≡ get g.operations p
   other_operation p apart = entry_same (get h.operations p) (get g.operations p)
       (option_same TheBlock block_same (parent_of (get h.operations p)) (parent_of (get g.operations p)) (a.parents (TheOperation p) (λ e. cc)))
       (map_same TheRegion region_same (children_of (get h.operations p)) (children_of (get g.operations p)) (a.others (TheOperation p) (λ e. apart (operation_same p op e))))

@@ -1,5 +1,5 @@
 -- A region that was read alone: its text reads as blocks in braces, they resolve, and its marks are noted.
-use Rattle.std.proofs.Common.{◌≡◌, ◌∙◌, ℕ, Bool, true, false, List, [], ◌∷◌, ◌++◌, map, length, Option, None, append-nil, refl, sym, ap, subst}
+use Rattle.std.proofs.Common.{◌≡◌, ◌∙◌, ℕ, Bool, true, false, List, [], ◌∷◌, ◌++◌, map, length, Option, Some, None, IsSome, append-nil, refl, sym, ap, subst}
 use Rattle.irtext_base.specs.Text.{Text, after_space}
 use Rattle.irtext_base.specs.Reading.{the}
 use Rattle.irtext_base.specs.Format.{Format, Id}
@@ -50,6 +50,23 @@ use Rattle.irtext_building.specs.Tracks.{Made}
 use Rattle.irtext_parse_items.proofs.Carrying.{marks_are}
 use Rattle.irtext_parse_items.proofs.Telling.{tells_does, done_both}
 use Rattle.irtext_parse_root.proofs.Fresh.{fresh_stands}
+use Rattle.irtext_context.specs.Context as context
+use Rattle.irtext_context.specs.Context.{KeepsOlder}
+use Rattle.irtext_graph.specs.declared.object.Object.{Object}
+use Rattle.irtext_graph.specs.Back.{AllOlder}
+use Rattle.irtext_graph.specs.Graph.{children, parent, Stands}
+use Rattle.irtext_graph.specs.Nested as graphs
+use Rattle.irtext_grammar.specs.Contexts.Held.{whole}
+use Rattle.irtext_grammar.proofs.Grammar.PartsOfFormats.{FormedBlocks}
+use Rattle.irtext_outcomes.specs.Promises.Root.{location_of}
+use Rattle.irtext_names.specs.OfItems.{AreOf}
+use Rattle.irtext_names.specs.Tied.{NoneIsLeft}
+use Rattle.irtext_promises.specs.Alone.{BuildsRegion}
+use Rattle.irtext_promises.proofs.Behind.{values_shut, labels_shut, none_left}
+use Rattle.irtext_parse_nested.specs.Items.{IsSound}
+use Rattle.irtext_parse_nested.specs.Located.{IsLocated}
+use Rattle.irtext_parse_root.proofs.RegionBuilt as built
+use Rattle.irtext_promises.proofs.Behind.{place_told}
 use Rattle.irtext_parse_root.specs.Region.{GainsRegion, ReadsRegion}
 use Rattle.irtext_parse_root.proofs.RegionPlaces.{paths_exist}
 use Rattle.irtext_parse_root.proofs.RegionRuns.{region_runs}
@@ -219,3 +236,39 @@ module _ {T A U : Type 0} (types_at : Reader T) (types_written : T → Text) (re
   -- so it keeps what is told of a region that was read
   pub reads_region : GainsRegion op r old.state.ctx.now new.state.ctx.now → ReadsRegion types owns op r old new
   reads_region gains = record { blocks = blocks; reads = region_reads; resolves = region_resolves; moves = u.moves; marks = region_marks; gains = gains }
+
+  -- ---- what it built
+  module _ (id : Id) (id_closed : isolated ds id ≡ true) (here : IsSome (context.operation old.state.ctx.now op)) (older : AllOlder old.state.ctx.now.graph.made old.state.ctx.now.graph)
+      (kept : KeepsOlder old.state.ctx.now.graph.made old.state.ctx.now u.mid.state.ctx.now) (sound : IsSound old.state.ctx.now.graph.made names u.mid.state)
+      (nest : graphs.Nested (children new.state.ctx.now.graph) (parent new.state.ctx.now.graph)) (holders : (c k : Object) → parent old.state.ctx.now.graph c ≡ Some k → Stands old.state.ctx.now.graph k)
+      (gains : GainsRegion op r old.state.ctx.now new.state.ctx.now) where
+    values_none : names.values ≡ []
+    values_none = values_shut names u.mid.state.ctx.now.graph at_end.1.known [] at_end.1.state at_end.1.stands (ap (λ (z : history.State). z.values) region_says)
+
+    labels_none : names.labels ≡ []
+    labels_none = labels_shut names u.mid.state.ctx.now.graph at_end.1.known [] at_end.1.state at_end.1.stands (ap (λ (z : history.State). z.labels) region_says)
+
+    none : NoneIsLeft old.state.ctx.now.graph.made [] u.mid.state.ctx.now.graph
+    none = none_left old.state.ctx.now.graph.made names.values names.labels u.mid.state.ctx.now.graph values_none labels_none sound.waiting
+
+    formed : FormedBlocks blocks
+    formed = built.blocks_formed ds accepted blocks (blocks_whole types owns (format_of ds) place blocks old.stream.rest new.stream.rest region_reads)
+
+    are : AreOf named.0 u.made at_end.1.known
+    are = subst (λ xs. AreOf named.0 xs at_end.1.known) (append-nil u.made) at_end.1.of_items
+
+    -- so it keeps its promise
+    pub builds_region : BuildsRegion types owns op r old new
+    builds_region = record {
+      blocks = blocks;
+      reads = region_reads;
+      resolves = region_resolves;
+      moves = u.moves;
+      builds = built.builds_now (IsLocated old.state.src (whole old.stream)) old.state.ctx.now u.mid.state.ctx.now new.state.ctx.now u.made u.holds.whole op r place blocks u.holds.holds u.holds.there u.holds.tracks u.places here
+          old.state.ctx.now.graph.made older kept none sound.blanks holders nest named.0 named.1 (isolated ds) id id_closed formed names at_end.1.known are at_end.1.state at_end.1.stands ran
+          (location_of new.state.ctx.now.paths old.state.src (whole old.stream)) (λ n l e. place_told new.state.ctx.now.paths old.state.src (whole old.stream) n l e);
+      marks = region_marks;
+      only = built.only_now (IsLocated old.state.src (whole old.stream)) old.state.ctx.now u.mid.state.ctx.now new.state.ctx.now u.made u.holds.whole op r place blocks u.holds.holds u.holds.there u.holds.tracks u.places here
+          old.state.ctx.now.graph.made older kept none sound.blanks holders nest named.0 named.1 (isolated ds) id id_closed formed names at_end.1.known are at_end.1.state at_end.1.stands ran
+          (location_of new.state.ctx.now.paths old.state.src (whole old.stream)) (λ n l e. place_told new.state.ctx.now.paths old.state.src (whole old.stream) n l e) gains;
+    }

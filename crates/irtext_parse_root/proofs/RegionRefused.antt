@@ -1,6 +1,7 @@
 -- What a refusal of a region that is read alone says: of its cause, and that it is the first failure of whatever blocks the text reads as.
 use Rattle.std.proofs.Common.{◌≡◌, ◌∙◌, ℕ, Bool, true, false, cond, List, [], ◌∷◌, length, Option, Some, None, IsSome, option_map, codes, ◌++◌, refl, sym, ap, subst, inl, inr}
 use Rattle.irtext_base.specs.Text.{Text}
+use Rattle.irtext_base.specs.Format.{Id}
 use Rattle.irtext_base.specs.Faults.{Fault, Failed, NotIsolated, fault_of, id_of}
 use Rattle.irtext_base.specs.Own.{Sincere, Texts, is_first_fault, texts_of}
 use Rattle.irtext_base.specs.declared.base.identifier.OpId.{OpId}
@@ -88,6 +89,14 @@ closed_as {T} {A} c op here none iso of_it = go (operation c op) refl here none
     go : (o : Option (OperationView T A)) → operation c op ≡ o → IsSome o → ◌≡◌ {A = Option (Location A)} (elim o [ Some view ↦ cond (isolated c.dialects (id_of view.id)) None (Some view.loc) | None ↦ None ]) None → iso ≡ true
     go None e h n = absurd (cc)
     go (Some view) e h n = of_it view e ∙ is_closed (isolated c.dialects (id_of view.id)) view.loc n
+
+-- so its id is one of operations that are isolated
+pub closed_id : {T A : Type 0} (c : ContextView T A) (op : Ptr Operation) → IsSome (operation c op) → unisolated c op ≡ None → (id : Id) × (isolated c.dialects id ≡ true)
+closed_id {T} {A} c op here none = go (operation c op) here none
+  where
+    go : (o : Option (OperationView T A)) → IsSome o → ◌≡◌ {A = Option (Location A)} (elim o [ Some view ↦ cond (isolated c.dialects (id_of view.id)) None (Some view.loc) | None ↦ None ]) None → (id : Id) × (isolated c.dialects id ≡ true)
+    go None h n = absurd (cc)
+    go (Some view) h n = (id_of view.id, is_closed (isolated c.dialects (id_of view.id)) view.loc n)
 
 -- where a position is answered, the operation stands there, and is not isolated
 pub reported : {A : Type 0} (loc : Option (Location A)) (pos : SourcePosition) → IsReportedAt loc (Some pos) → (l : Location A) × (loc ≡ Some l) × alone.IsOutermost l pos

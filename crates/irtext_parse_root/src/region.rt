@@ -11,9 +11,9 @@ ghost use Rattle.irtext_grammar.specs.Contexts.Formats.{isolated};
 ghost use Rattle.irtext_outcomes.specs.Promises.Root.{IsFresh, UnlessMemory};
 ghost use Rattle.irtext_outcomes.specs.Readers.Refusals.{Refusal, RefusesFailed};
 ghost use Rattle.irtext_outcomes.specs.Readers.Streams.{KeepsRest};
-ghost use Rattle.irtext_promises.specs.Alone.{IsOutermost, RefusesRegion};
+ghost use Rattle.irtext_promises.specs.Alone.{IsOutermost, BuildsRegion, RefusesRegion};
 ghost use Rattle.irtext_parse_nested.specs.Ends.{GainsMarks};
-ghost use Rattle.irtext_parse_root.specs.Region.{unisolated, IsReportedAt, ReadsRegion};
+ghost use Rattle.irtext_parse_root.specs.Region.{unisolated, IsReportedAt};
 
 use crate::outermost::{failed_fault, made_in};
 use crate::tree::{context_keeps, failed_by};
@@ -110,8 +110,8 @@ fn isolated_parse<T: IrText<A>, A: AttrText, U>(
     ensures lent { s.new.state.ctx.ghost_name ≡ s.old.state.ctx.ghost_name }
     ensures rest { KeepsRest s.old.state s.new.state }
     ensures refused { IfErr result (λ fault. Refusal s.old.stream fault s.new.stream) }
-    ensures reads { IsFresh s.old →
-        IfOk result (λ r. ReadsRegion (texts_of T.IrText.reading T.IrText.written) (texts_of A.IrText.reading A.IrText.written) parent r s.old s.new) }
+    ensures builds { IsFresh s.old →
+        IfOk result (λ r. BuildsRegion (texts_of T.IrText.reading T.IrText.written) (texts_of A.IrText.reading A.IrText.written) parent r s.old s.new) }
     ensures unresolved { IsFresh s.old →
         IfErr result (UnlessMemory
         (RefusesRegion (texts_of T.IrText.reading T.IrText.written) (texts_of A.IrText.reading A.IrText.written)
@@ -144,8 +144,8 @@ fn alone_parse<T: IrText<A>, A: AttrText, U>(
     ensures lent { s.new.state.ctx.ghost_name ≡ s.old.state.ctx.ghost_name }
     ensures rest { KeepsRest s.old.state s.new.state }
     ensures refused { IfErr result (λ fault. Refusal s.old.stream fault s.new.stream) }
-    ensures reads { IsFresh s.old →
-        IfOk result (λ r. ReadsRegion (texts_of T.IrText.reading T.IrText.written) (texts_of A.IrText.reading A.IrText.written) parent r s.old s.new) }
+    ensures builds { IsFresh s.old →
+        IfOk result (λ r. BuildsRegion (texts_of T.IrText.reading T.IrText.written) (texts_of A.IrText.reading A.IrText.written) parent r s.old s.new) }
     ensures unresolved { IsFresh s.old →
         IfErr result (UnlessMemory
         (RefusesRegion (texts_of T.IrText.reading T.IrText.written) (texts_of A.IrText.reading A.IrText.written)
@@ -176,7 +176,7 @@ pub fn region_parse<T: IrText<A>, A: AttrText, U>(
     ensures rest { KeepsRest s.old.state s.new.state }
     ensures refused { IfErr result (λ fault. Refusal s.old.stream fault s.new.stream) }
     ensures failed { RefusesFailed s.old.stream result s.new.stream }
-    ensures reads { IsFresh s.old → IfOk result (λ r. ReadsRegion (texts_of T.reading T.written) (texts_of A.reading A.written) parent r s.old s.new) }
+    ensures builds { IsFresh s.old → IfOk result (λ r. BuildsRegion (texts_of T.reading T.written) (texts_of A.reading A.written) parent r s.old s.new) }
     ensures unresolved { IsFresh s.old →
         IfErr result (UnlessMemory
         (RefusesRegion (texts_of T.reading T.written) (texts_of A.reading A.written)

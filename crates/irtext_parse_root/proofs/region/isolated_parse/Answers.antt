@@ -5,8 +5,8 @@ use Rattle.irtext_parse_root.proofs.Laws.{short}
 use Rattle.irtext_parse_root.proofs.Fresh.{fresh_sound}
 use Rattle.irtext_parse_root.proofs.Refused.{refusal_by}
 use Rattle.irtext_parse_root.proofs.RegionGains.{there_in, gains_region}
-use Rattle.irtext_parse_root.proofs.RegionReads.{reads_region}
-use Rattle.irtext_parse_root.proofs.RegionRefused.{closed_as, says_region, refuses_region}
+use Rattle.irtext_parse_root.proofs.RegionReads.{builds_region}
+use Rattle.irtext_parse_root.proofs.RegionRefused.{closed_as, closed_id, says_region, refuses_region}
 use Rattle.irtext_parse_root.proofs.region.isolated_parse.Goals as goal
 
 pub region_parse-requires-clause-sound : goal.region_parse-requires-clause-sound
@@ -33,8 +33,8 @@ returns-clause-kept g c =
     let e = c.new-names.ensures in
     c.in-Err.ensures.kept m (le_refl m) c.context_keeps.ensures.closed (fresh_sound c.new-names.result c.args.s.now.state e.names e.values e.labels c.context_keeps.ensures.older)
 
-pub returns-in-Ok-clause-reads : goal.returns-in-Ok-clause-reads
-returns-in-Ok-clause-reads g c = λ fresh.
+pub returns-in-Ok-clause-builds : goal.returns-in-Ok-clause-builds
+returns-in-Ok-clause-builds g c = λ fresh.
     let e = c.new-names.ensures in
     let types_at = g.T.IrText.reading in
     let reading = g.A.IrText.reading in
@@ -42,8 +42,11 @@ returns-in-Ok-clause-reads g c = λ fresh.
     let new = c.region_parse.new.s in
     let m = old.state.ctx.now.graph.made in
     let u = c.in-Ok.ensures.read in
-    let kept = u.older m (le_refl m) c.context_keeps.ensures.closed (fresh_sound c.new-names.result old.state e.names e.values e.labels c.context_keeps.ensures.older) in
-    reads_region types_at g.T.IrText.written reading g.A.IrText.written g.met.T.IrText.sincere.reads g.met.A.IrText.sincere.reads (lawful_needs_word reading g.A.IrText.written g.met.A.IrText.lawful)
+    let begun = fresh_sound c.new-names.result old.state e.names e.values e.labels c.context_keeps.ensures.older in
+    let kept = u.older m (le_refl m) c.context_keeps.ensures.closed begun in
+    let id = closed_id old.state.ctx.now c.args.parent c.requires.stands c.requires.closed in
+    builds_region types_at g.T.IrText.written reading g.A.IrText.written g.met.T.IrText.sincere.reads g.met.A.IrText.sincere.reads (lawful_needs_word reading g.A.IrText.written g.met.A.IrText.lawful)
     (short types_at g.T.IrText.written g.met.T.IrText.sincere.reads) (short reading g.A.IrText.written g.met.A.IrText.sincere.reads) c.new-names.result c.region_parse.new.names old new e.names e.values e.labels fresh c.args.parent c.in-Ok.region u
     c.context_keeps.ensures.accepted (closed_as old.state.ctx.now c.args.parent c.requires.stands c.requires.closed u.iso u.isolation)
+    id.0 id.1 c.requires.stands c.context_keeps.ensures.older kept (u.sound m (le_refl m) begun) c.context_keeps-in-Ok.ensures.nest c.context_keeps.ensures.holders
     (gains_region m old.state.ctx.now u.mid.state.ctx.now new.state.ctx.now c.args.parent c.in-Ok.region c.context_keeps.ensures.older kept u.places u.with_it (there_in old.state.ctx.now c.args.parent c.requires.stands))
