@@ -21,13 +21,14 @@ use Rattle.irtext_nesting.specs.Naming.{body_of, unmarked}
 use Rattle.irtext_nesting.specs.Reached.{Doing}
 use Rattle.irtext_building.specs.Building.{append_blocks, Unfinished, operation_so_far, region_so_far, but_its_mark, Building, building, whole_blocks}
 use Rattle.irtext_building.specs.Grows.{RegionCame, OperationGains, RegionGains, BlockGains, OperationCame, BlockCame, OwnBecame}
-use Rattle.irtext_building.specs.Stands.{OwnSoFar, own_of, OpenAt, operation_under, ended_under, region_under, HasOwn, HasUses, HoldsSoFar, RegionsHold, BlocksHold, RegionIsOpen, AreOpenAt, IsAsItWas, Spares}
+use Rattle.irtext_building.specs.Stands.{OwnSoFar, own_of, OpenAt, operation_under, ended_under, region_under, HasOwn, HasUses, HoldsSoFar, RegionsHold, BlocksHold, RegionIsOpen, AreOpenAt, IsThere, IsAsItWas, Spares}
+use Rattle.irtext_building.specs.Tracks as tracks
 use Rattle.irtext_building.specs.Tracks.{Made, noted, HoldsMade}
 use Rattle.irtext_building.proofs.Acts.{block_ended}
 use Rattle.irtext_building.proofs.Tracked.{uses_in_block, enters_operation, heads_first, heads_next, late_operation, closes_operation, marks_root, marks_in_block, block_ends, leaves_empty, leaves_with_block}
 use Rattle.irtext_building.proofs.Kept.{region_kept}
 use Rattle.irtext_parse_nested.specs.Ends.{noted_as}
-use Rattle.irtext_parse_items.specs.Built.{built, IsHeld, HoldsRegion}
+use Rattle.irtext_parse_items.specs.Built.{built, IsHeld, RegionTracks, HoldsRegion}
 use Rattle.irtext_parse_items.specs.Carried.{marks_in_blocks, marks_so_far, AreCarried}
 use Rattle.irtext_parse_items.specs.Here.{Base, within}
 use Rattle.irtext_parse_items.proofs.Carrying.{uses_carry, enters_carry, leaves_carry, closes_carry, root_carry, block_carry, alone_carry, heads_carry, carried_still, carried_more, carried_last, carried_new}
@@ -184,6 +185,34 @@ module _ {T A : Type 0} (L : Object → ℕ → Location A → Type 0) (c : Cont
   first_region : (bs cs : Blocks (Op ℕ T A) (Head ℕ T A) (Brace ℕ)) (us : List (Unfinished T A)) → us ≡ region_so_far cs None ∷ [] → region_so_far bs None ∷ [] ≡ us → cs ≡ bs
   first_region bs cs us e f = let g : region_so_far bs None ∷ [] ≡ region_so_far cs None ∷ [] = f ∙ e in cc
 
+-- where it was open alone, what is whole with it is all that came
+module _ {T A : Type 0} (start c : ContextView T A) (items : Made) (w : List Object) (r : Ptr Region) where
+  held_whole : (o : Object) → tracks.IsHeld {T = T} {A = A} w (region_under r None ∷ []) o → Among o (TheRegion r ∷ w)
+  held_whole o (inl i) = inr i
+  held_whole o (inr (inl e)) = inl e
+  held_whole o (inr (inr none)) = absurd none
+
+  whole_held : (o : Object) → Among o (TheRegion r ∷ w) → tracks.IsHeld {T = T} {A = A} w (region_under r None ∷ []) o
+  whole_held o (inl e) = inr (inl e)
+  whole_held o (inr i) = inl i
+
+  region_tracks : tracks.Tracks start c items w (region_under r None ∷ []) None → RegionTracks start c items (TheRegion r ∷ w) r
+  region_tracks t = record {
+    known = λ n o i. held_whole o (t.known n o i);
+    once = t.once;
+    all = λ o there. elim (t.all o there) [ inl was ↦ inl was | inr h ↦ inr (held_whole o h) ];
+    came = λ o i there. t.came o (whole_held o i) there;
+    stays = t.stays;
+    inside = λ o i. elim i [
+      | inl e ↦ inl e
+      | inr j ↦ elim (t.inside o j) [ inl none ↦ absurd (cc none) | inr (k, held, child) ↦ inr (k, held_whole k held, child) ]
+    ];
+  }
+
+  region_there : ((o : Object) → Among o w → IsThere c o) → ((o : Object) → Among o (TheRegion r ∷ []) → IsThere c o) → (o : Object) → Among o (TheRegion r ∷ w) → IsThere c o
+  region_there whole above o (inl e) = above o (inl e)
+  region_there whole above o (inr i) = whole o i
+
 module _ {T A : Type 0} (formats : Id → Option Format) (L : ℕ → Location A → Type 0) (start c : ContextView T A) (items : Made) (marks : List (ℕ × Item)) (r : Ptr Region) where
   -- the marks are those of its blocks
   alone_carried : (last : Option (Ptr BasicBlock)) (ds : List (Did T A)) (bs : Blocks (Op ℕ T A) (Head ℕ T A) (Brace ℕ)) (l : Option (Head ℕ T A × Operations (Op ℕ T A) (Head ℕ T A) (Brace ℕ)))
@@ -196,7 +225,7 @@ module _ {T A : Type 0} (formats : Id → Option Format) (L : ℕ → Location A
       → HoldsRegion formats L (within r) start c items (marks ++ []) r (did_leave iso place ∷ ds)
   region_alone iso place None ds h =
       let k = region_alone_open (noted items L) c h.whole r (built formats L (within r) start c items ds).unfinished h.holds.so_far.are_open in
-      record { iso = iso; place = place; before = ds; is = refl; blocks = k.0; last = None; built_before = k.1; whole = TheRegion r ∷ h.whole; holds = region_held (noted items L) c h.whole r place k.0 k.2; carried = alone_carried None ds k.0 None k.1 h }
+      record { iso = iso; place = place; before = ds; is = refl; blocks = k.0; last = None; built_before = k.1; whole = TheRegion r ∷ h.whole; holds = region_held (noted items L) c h.whole r place k.0 k.2; there = region_there start c items h.whole r h.holds.so_far.whole_there h.holds.so_far.open_there; tracks = region_tracks start c items h.whole r h.holds.tracks; carried = alone_carried None ds k.0 None k.1 h }
   region_alone iso place (Some b) ds h =
       let now = built formats L (within r) start c items ds in
       let e = last_ended (noted items L) c h.whole r b now.unfinished h.holds.so_far.are_open in
@@ -212,6 +241,8 @@ module _ {T A : Type 0} (formats : Id → Option Format) (L : ℕ → Location A
         last = Some e.1;
         built_before = e.2;
         whole = TheRegion r ∷ TheBlock b ∷ h.whole;
+        there = region_there start c items (TheBlock b ∷ h.whole) r m.so_far.whole_there m.so_far.open_there;
+        tracks = region_tracks start c items (TheBlock b ∷ h.whole) r m.tracks;
         carried = alone_carried (Some b) ds e.0 (Some e.1) e.2 h;
         holds = subst (λ z. RegionsHold (noted items L) c (TheRegion r ∷ TheBlock b ∷ h.whole) (r ∷ []) (forest.region (shown place) z no_regions)) same (region_held (noted items L) c (TheBlock b ∷ h.whole) r place k.0 k.2);
       }

@@ -289,10 +289,11 @@ module _ {T A U : Type 0} (types_at : Reader T) (reading : Reader A) (h : Splits
     all_done_goes d s = begun_goes d s ∙ (goes_told d turned.goes (d.enters iso s)).so
 
     pub reads_under : (op : Ptr Operation) (new : StateStream T A U) → IsolatedAs old.state.ctx.now op iso → new.stream ≡ s2.stream → marks_of new.state ≡ marks_of s2.state
+        → ((m : ℕ) → m ≤ old.state.ctx.now.graph.made → IsSound m before old.state → IsSound m n2 s2.state)
         → ((m : ℕ) → m ≤ old.state.ctx.now.graph.made → IsClosedBelow m old.state.ctx.now.graph → IsSound m before old.state → KeepsOlder m old.state.ctx.now s2.state.ctx.now)
         → Appends s2.state.ctx.now.graph new.state.ctx.now.graph (TheOperation op) (TheRegion b.region) → new.state.ctx.now ≡ with_graph s2.state.ctx.now new.state.ctx.now.graph
         → ReadsUnder types_at attr op before old b.region n2 new
-    reads_under op new isolation stream same older places with_graph_is = record {
+    reads_under op new isolation stream same sound older places with_graph_is = record {
       iso = iso;
       isolation = isolation;
       moves = subst (λ v. Moves old.stream v) (sym stream) (moves_more bg.moves f.carries.moves);
@@ -310,6 +311,7 @@ module _ {T A U : Type 0} (types_at : Reader T) (reading : Reader A) (h : Splits
       marks = turned.marks;
       noted = same ∙ (turned.noted ∙ ap (λ z. z ++ turned.marks) marked);
       holds = all_held;
+      sound = sound;
       older = older;
       places = places;
       with_it = with_graph_is;

@@ -1,5 +1,5 @@
 -- Between functions: what the context holds of what was read so far, by all that was done, and which items carry its marks.
-use Rattle.std.specs.Prelude.{◌≡◌, ℕ, Bool, List, [], ◌∷◌, Option, Some, None}
+use Rattle.std.specs.Prelude.{◌≡◌, ◌⊎◌, ℕ, Bool, List, [], ◌∷◌, Option, Some, None}
 use Rattle.irtext_base.specs.Format.{Format, Id}
 use Rattle.irtext_base.specs.declared.location.Location.{Location}
 use Rattle.irtext_context.specs.Context.{ContextView}
@@ -8,12 +8,14 @@ use Rattle.irtext_graph.specs.declared.arena.Ptr.{Ptr}
 use Rattle.irtext_graph.specs.declared.object.Operation.{Operation}
 use Rattle.irtext_graph.specs.declared.object.Region.{Region}
 use Rattle.irtext_graph.specs.declared.object.Object.{Object}
+use Rattle.irtext_graph.specs.declared.object.Object.TheVariants.{TheRegion}
+use Rattle.irtext_graph.specs.Chained.{Among}
 use Rattle.irtext_grammar.specs.Grammar.Forest as forest
 use Rattle.irtext_grammar.specs.Grammar.Forest.{Blocks, no_blocks, Operations, no_regions}
 use Rattle.irtext_grammar.specs.Grammar.Tree.{Op, Head, Brace, shown}
 use Rattle.irtext_building.specs.Building.{Building, region_so_far, whole_blocks, nothing_open, building}
-use Rattle.irtext_building.specs.Stands.{OpenAt, RegionsHold}
-use Rattle.irtext_building.specs.Tracks.{Made, noted, HoldsMade}
+use Rattle.irtext_building.specs.Stands.{OpenAt, RegionsHold, IsThere}
+use Rattle.irtext_building.specs.Tracks.{Made, noted, HasChild, HoldsMade}
 use Rattle.irtext_parse_items.specs.Carried.{marks_in_blocks, marks_so_far, AreCarried}
 use Rattle.irtext_parse_items.specs.Here.{Base, outermost, within}
 use Rattle.irtext_parse_items.specs.Levels.{Level, ats_of}
@@ -24,6 +26,16 @@ module _ {T A : Type 0} where
   abbrev pub start_of : Base → Building T A
   start_of (outermost p) = nothing_open
   start_of (within r) = record { unfinished = region_so_far no_blocks None ∷ []; tree = None }
+
+-- Each item is whole, and has one place. Whatever is there was there at the start, or is whole and was not; what was there is there still.
+-- And what is whole stands in something that is whole, or is the region.
+pub record RegionTracks {T A : Type 0} (start c : ContextView T A) (items : Made) (whole : List Object) (r : Ptr Region) : Type 0 where
+  pub known : (n : ℕ) (o : Object) → Among (n, o) items → Among o whole
+  pub once : (n m : ℕ) (o : Object) → Among (n, o) items → Among (m, o) items → n ≡ m
+  pub all : (o : Object) → IsThere c o → IsThere start o ⊎ Among o whole
+  pub came : (o : Object) → Among o whole → IsThere start o → ⊥
+  pub stays : (o : Object) → IsThere start o → IsThere c o
+  pub inside : (o : Object) → Among o whole → (o ≡ TheRegion r) ⊎ ((k : Object) × Among k whole × HasChild c k o)
 
 module _ {T A : Type 0} (formats : Id → Option Format) (IsLocation : ℕ → Location A → Type 0) (base : Base) (start c : ContextView T A) (items : Made) where
   -- what all that was done built
@@ -37,7 +49,7 @@ module _ {T A : Type 0} (formats : Id → Option Format) (IsLocation : ℕ → L
     pub holds : HoldsMade IsLocation start c items whole ats root (built ds)
     pub carried : AreCarried items (marks_so_far (built ds)) marks
 
-  -- The region was left, all of whose blocks the context holds, and these items carry its marks.
+  -- The region was left, all of whose blocks the context holds; only these items came since the start, and they carry its marks.
   pub record HoldsRegion (marks : List (ℕ × Item)) (r : Ptr Region) (ds : List (Did T A)) : Type 0 where
     pub iso : Bool
     pub place : ℕ
@@ -48,6 +60,8 @@ module _ {T A : Type 0} (formats : Id → Option Format) (IsLocation : ℕ → L
     pub built_before : (built before).unfinished ≡ region_so_far blocks last ∷ []
     pub whole : List Object
     pub holds : RegionsHold (noted items IsLocation) c whole (r ∷ []) (forest.region (shown place) (whole_blocks blocks last) no_regions)
+    pub there : (o : Object) → Among o whole → IsThere c o
+    pub tracks : RegionTracks start c items whole r
     pub carried : AreCarried items (marks_in_blocks (whole_blocks blocks last)) marks
 
 module _ {T A : Type 0} (formats : Id → Option Format) (L : ℕ → Location A → Type 0) where

@@ -48,7 +48,7 @@ IsPositionOf _ at = IsAt at.line at.column []
 module _ {T A U : Type 0} (types_at : Reader T) (attr : Reader (AttrView A)) where
   -- A region was read up to where the stream stands now, and came last into the operation: this was done as it was read, names came to
   -- where the machine stands that does it, and before the region came there, the context held it whole, with its marks, and all that was
-  -- older stood as it did.
+  -- older stood as it did; and names wait with placeholders alone.
   pub record ReadsUnder (op : Ptr Operation) (before : Names) (old : StateStream T A U) (r : Ptr Region) (names : Names) (new : StateStream T A U) : Type 0 where
     pub iso : Bool
     pub isolation : IsolatedAs old.state.ctx.now op iso
@@ -63,6 +63,7 @@ module _ {T A U : Type 0} (types_at : Reader T) (attr : Reader (AttrView A)) whe
     pub marks : List (ℕ × Item)
     pub noted : marks_of new.state ≡ marks_of old.state ++ marks
     pub holds : HoldsRegion (format_of old.state.ctx.now.dialects) (IsLocated old.state.src (whole old.stream)) (within r) old.state.ctx.now mid.state.ctx.now made marks r did
+    pub sound : (m : ℕ) → m ≤ old.state.ctx.now.graph.made → IsSound m before old.state → IsSound m names mid.state
     pub older : (m : ℕ) → m ≤ old.state.ctx.now.graph.made → IsClosedBelow m old.state.ctx.now.graph → IsSound m before old.state → KeepsOlder m old.state.ctx.now mid.state.ctx.now
     pub places : Appends mid.state.ctx.now.graph new.state.ctx.now.graph (TheOperation op) (TheRegion r)
     pub with_it : new.state.ctx.now ≡ with_graph mid.state.ctx.now new.state.ctx.now.graph

@@ -17,3 +17,10 @@ pub mod Outer
 pub mod WholeSteps
 pub mod FewerMarks
 pub mod NoMarks
+pub mod RegionPlaces
+pub mod RegionRuns
+pub mod RegionRefused
+pub mod RegionReads
+pub mod RegionGains
+pub mod RegionMoved
+pub mod RegionBuilt

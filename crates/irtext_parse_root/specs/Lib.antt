@@ -1,3 +1,4 @@
 pub mod AnyState
 pub mod Marked
 pub mod Whole
+pub mod Region

@@ -3,5 +3,6 @@
 
 pub mod names;
 pub mod outermost;
+pub mod region;
 pub mod tree;
 pub mod whole;

@@ -25,7 +25,7 @@ use irtext_state::parsable::state::Noting;
 use irtext_state::parsable::{State, StateStream};
 
 /// The fault of a stream that has failed, where it stands.
-fn failed_fault<S: CharStream, A>(stream: &S) -> ParseFault<A>
+pub(crate) fn failed_fault<S: CharStream, A>(stream: &S) -> ParseFault<A>
     ensures { FailedRefusal (S.view stream.now) result (S.view stream.now) }
 {
     ParseFault {

@@ -30,7 +30,7 @@ use irtext_state::parsable::{State, StateStream};
 
 /// What the context of a reading keeps, as this contract says of a call that changes nothing: each object stands in one place, all that
 /// stands was made before as many objects as there were, and the format of each operation is accepted.
-fn context_keeps<T: IrText<A>, A: AttrText, U>(state: &State<'_, T, A, U>)
+pub(crate) fn context_keeps<T: IrText<A>, A: AttrText, U>(state: &State<'_, T, A, U>)
     ensures nest { Nested (children state.now.ctx.now.graph) (parent state.now.ctx.now.graph) }
     ensures holders { (c k : _) → parent state.now.ctx.now.graph c ≡ Some k → Stands state.now.ctx.now.graph k }
     ensures older { AllOlder state.now.ctx.now.graph.made state.now.ctx.now.graph }
@@ -43,7 +43,7 @@ fn context_keeps<T: IrText<A>, A: AttrText, U>(state: &State<'_, T, A, U>)
 }
 
 /// A committed fault fails the stream.
-fn failed_by<A>(stream: &mut TextStream, fault: &ParseFault<A>)
+pub(crate) fn failed_by<A>(stream: &mut TextStream, fault: &ParseFault<A>)
     ensures { stream.new ≡ cond fault.now.committed (after_failure stream.old) stream.old }
 {
     if fault.committed {

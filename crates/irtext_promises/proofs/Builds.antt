@@ -43,8 +43,9 @@ use Rattle.irtext_promises.proofs.Depths.{root_is}
 use Rattle.irtext_promises.proofs.Equal.{Keeps, root_same}
 use Rattle.irtext_promises.proofs.Given.{root_has}
 use Rattle.irtext_promises.proofs.LinksSame.{links_same}
-use Rattle.irtext_promises.proofs.Located.{bound_uses, operand_uses, successor_uses}
+use Rattle.irtext_promises.proofs.Located.{IsPlaced, located, bound_uses, operand_uses, successor_uses}
 use Rattle.irtext_promises.proofs.Occurs.{item_occurs}
+use Rattle.irtext_promises.proofs.Paths.{once_under}
 
 -- what is in a list is among its items
 in_among : {X : Type 0} (x : X) (xs : List X) → In x xs → Among x xs
@@ -67,6 +68,9 @@ module _ {T A : Type 0} (L : ℕ → Location A → Type 0) (start c : ContextVi
   occurs : (n : ℕ) (o : Object) → Among (n, o) items → (q : Path) × Among (o, q) (placed_under (pointers c.graph p))
   occurs = item_occurs L c items start whole p x is_tree nest held.tracks
 
+  placed : (o : Object) (q : Path) → Among (o, q) (placed_under (pointers c.graph p)) → IsPlaced L c items path o q
+  placed = located L c items path (pointers c.graph p) x names is_tree
+
   -- each link of what is built is bound
   linked_bound : (u : User) (q : Place) → In (u, q) (links (build isolated first [] x)) → Among (u, q) st.bound
   linked_bound u q i =
@@ -77,10 +81,10 @@ module _ {T A : Type 0} (L : ℕ → Location A → Type 0) (start c : ContextVi
 
   pub keeps : (es : List (Entry ℕ A (Written A))) → Keeps c first es isolated (placed_under (pointers c.graph p)) (links (build isolated first es x))
   keeps es = record {
-    operands_keep = λ o r i q at l. operand_uses L c items path (pointers c.graph p) x names is_tree held.tracks.once occurs known are names_at c.graph st stands o r i q at
-        (bound_uses L c items path (pointers c.graph p) x names is_tree held.tracks.once occurs known are names_at c.graph st stands (operand r i) q (linked_bound (operand r i) q (subst (λ ls. In (operand r i, q) ls) (links_same isolated first es x) l)));
-    successors_keep = λ o r i q at l. successor_uses L c items path (pointers c.graph p) x names is_tree held.tracks.once occurs known are names_at c.graph st stands o r i q at
-        (bound_uses L c items path (pointers c.graph p) x names is_tree held.tracks.once occurs known are names_at c.graph st stands (successor r i) q (linked_bound (successor r i) q (subst (λ ls. In (successor r i, q) ls) (links_same isolated first es x) l)));
+    operands_keep = λ o r i q at l. operand_uses L c items path (placed_under (pointers c.graph p)) placed (once_under (pointers c.graph p)) held.tracks.once occurs known are names_at c.graph st stands o r i q at
+        (bound_uses L c items path (placed_under (pointers c.graph p)) placed (once_under (pointers c.graph p)) held.tracks.once occurs known are names_at c.graph st stands (operand r i) q (linked_bound (operand r i) q (subst (λ ls. In (operand r i, q) ls) (links_same isolated first es x) l)));
+    successors_keep = λ o r i q at l. successor_uses L c items path (placed_under (pointers c.graph p)) placed (once_under (pointers c.graph p)) held.tracks.once occurs known are names_at c.graph st stands o r i q at
+        (bound_uses L c items path (placed_under (pointers c.graph p)) placed (once_under (pointers c.graph p)) held.tracks.once occurs known are names_at c.graph st stands (successor r i) q (linked_bound (successor r i) q (subst (λ ls. In (successor r i, q) ls) (links_same isolated first es x) l)));
   }
 
   -- each operand and successor of what is built holds something

@@ -1,6 +1,6 @@
 -- The forest of pointers under an operation that holds a tree is that of the tree: no way down is longer than there are places for
 -- operations, since each operation on it has a place of its own.
-use Rattle.std.proofs.Common.{◌≡◌, ◌∙◌, ◌+◌, ◌<◌, ◌≤◌, ◌==◌, ◌&&◌, ◌||◌, ℕ, zero, suc, Bool, true, false, cond, List, [], ◌∷◌, length, map, Option, Some, None, IsSome, option_map, slice_get, eqb, eqb-true, eq-eqb, refl, sym, ap, subst, inl, inr, arith}
+use Rattle.std.proofs.Common.{◌≡◌, ◌∙◌, ◌+◌, ◌<◌, ◌≤◌, ◌==◌, ◌&&◌, ◌||◌, ℕ, zero, suc, Bool, true, false, cond, List, [], ◌∷◌, length, map, Option, Some, None, IsSome, option_map, slice_get, eqb, eqb-true, eq-eqb, refl, sym, ap, subst, inl, inr, arith, append-nil}
 use Rattle.std.specs.Prelude.{option_and_then, ⊤}
 use Rattle.std.specs.List.{IsDistinct, list_any, AllByRecursion}
 use Rattle.std.proofs.lemmas.Map.Steps.{length-le_from_distinct_below}
@@ -33,6 +33,7 @@ use Rattle.irtext_grammar.proofs.Lists.Each.{each_left, each_right}
 use Rattle.irtext_nesting.specs.Naming.{paths_in_regions, paths_in_blocks, paths_in_operations, Names}
 use Rattle.irtext_building.specs.Stands.{own_of, HasOwn, HasHead, RegionsHold, BlocksHold, OperationsHold}
 use Rattle.irtext_building.specs.Tracks.{Made, noted}
+use Rattle.irtext_promises.specs.Alone.{pointers_in}
 use Rattle.irtext_promises.specs.Held.{PtrRegions, PtrBlocks, PtrOperations}
 use Rattle.irtext_promises.specs.Placed.{region_ptrs, block_ptrs, operation_ptrs, OperationAt, BlockAt, RegionAt, RegionsAre, BlocksAre, OperationsAre, RootIs}
 
@@ -292,3 +293,12 @@ module _ {T A : Type 0} (L : ℕ → Location A → Type 0) (c : ContextView T A
         record { view = view; is = is; has = own_at view p t.own has; uses = uses; item = has.location.0; inner = e ∙ sym (region_list n (regions c.graph p)) },
         regions_are n (regions c.graph p) t.regions fit (subst (λ z. RegionsHold I c whole z t.regions) e hold),
       )
+
+  -- and so is that of a region
+  pub region_is : ((n m : ℕ) (o : Object) → Among (n, o) items → Among (m, o) items → n ≡ m) → (r : Ptr Region) (brace : Brace ℕ) (bs : Blocks (Op ℕ T A) (Head ℕ T A) (Brace ℕ)) → Said (paths_in_blocks (0 ∷ []) 0 bs)
+      → RegionsHold I c whole (r ∷ []) (forest.region brace bs no_regions) → RegionsAre L c items (pointers_in c r) (forest.region brace bs no_regions)
+  region_is once r brace bs names hold =
+      let n = length c.graph.operations.cells in
+      let said = subst (λ xs. Each (λ (item : ℕ × Path). path item.0 ≡ item.1) xs) (sym (append-nil (paths_in_blocks (0 ∷ []) 0 bs))) names in
+      regions_are n (r ∷ []) (forest.region brace bs no_regions)
+      (regions_fit once [] 0 n (no_chain once 0) (omega arith) [] 0 (omega arith) (r ∷ []) (forest.region brace bs no_regions) said hold) hold

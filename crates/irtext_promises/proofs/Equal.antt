@@ -136,7 +136,7 @@ module _ {T A : Type 0} (c : ContextView T A) (first : ℕ → Written A) (es : 
 
   -- ---- the forest
   mutual
-    regions_same : (v : List Fact) (p : Path) (j : ℕ) (iso : Bool) (ps : PtrRegions) (rs : Regions (Op ℕ T A) (Head ℕ T A) (Brace ℕ)) → RegionsHave c first es ps rs → ((o : Object) (q : Path) → Among (o, q) (placed_regions p j ps) → Among (o, q) all)
+    pub regions_same : (v : List Fact) (p : Path) (j : ℕ) (iso : Bool) (ps : PtrRegions) (rs : Regions (Op ℕ T A) (Head ℕ T A) (Brace ℕ)) → RegionsHave c first es ps rs → ((o : Object) (q : Path) → Among (o, q) (placed_regions p j ps) → Among (o, q) all)
         → AllRegions OpLinked (λ b. ⊤) (λ r. ⊤) (built_regions isolated first es v p j iso rs) → Keeps (region_links p j (built_regions isolated first es v p j iso rs)) → held_regions c all ps ≡ built_regions isolated first es v p j iso rs
     regions_same v p j iso no_regions no_regions h there linked keeps = refl
     regions_same v p j iso no_regions (forest.region brace bs rs) h there linked keeps = absurd h

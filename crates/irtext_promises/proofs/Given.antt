@@ -82,3 +82,7 @@ module _ {T A : Type 0} (L : ℕ → Location A → Type 0) (c : ContextView T A
 
   pub root_has : ((n : ℕ) (l : Location A) → L n l → location_over c.paths l ≡ first n) → (ps : Root (Ptr Operation) (Ptr BasicBlock) (Ptr Region)) (t : Tree ℕ T A) → RootIs L c items ps t → RootHas c first [] ps t
   root_has tells = root_given c [] (gives_nothing tells)
+
+  -- and so have regions
+  pub region_has : ((n : ℕ) (l : Location A) → L n l → location_over c.paths l ≡ first n) → (ps : PtrRegions) (rs : Regions (Op ℕ T A) (Head ℕ T A) (Brace ℕ)) → RegionsAre L c items ps rs → RegionsHave c first [] ps rs
+  region_has tells = regions_have c [] (gives_nothing tells)

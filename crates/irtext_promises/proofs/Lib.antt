@@ -19,3 +19,4 @@ pub mod Blanks
 pub mod Shapes
 pub mod Uses
 mod Rows
+pub mod AloneBuilds

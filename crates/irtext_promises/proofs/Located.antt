@@ -34,7 +34,7 @@ use Rattle.irtext_names.specs.OfItems.{IsValueOf, IsBlockOf, IsSiteOf, AreOf}
 use Rattle.irtext_names.proofs.Linked.Moving.{among_split}
 use Rattle.irtext_promises.specs.Held.{PtrRegions, PtrBlocks, PtrOperations, placed_regions, placed_blocks, placed_operations, placed_under, path_of, value_place, block_place, defined_place}
 use Rattle.irtext_promises.specs.Placed.{RegionsAre, BlocksAre, OperationsAre, RootIs}
-use Rattle.irtext_promises.proofs.Paths.{once_under, path_found}
+use Rattle.irtext_promises.proofs.Paths.{Once, path_found}
 
 module _ {T A : Type 0} (L : ℕ → Location A → Type 0) (c : ContextView T A) (items : Made) (path : ℕ → Path) where
   -- an operation or a block is an item whose path this is
@@ -89,22 +89,23 @@ module _ {T A : Type 0} (L : ℕ → Location A → Type 0) (c : ContextView T A
         (regions_placed (j ∷ p) 0 qs rs (each_left Q (paths_in_regions (j ∷ p) 0 rs) (paths_in_operations p (suc j) os) s.1) k)
         (operations_placed p (suc j) ps os (each_right Q (paths_in_regions (j ∷ p) 0 rs) (paths_in_operations p (suc j) os) s.1) h)
 
-  module _ (ps : Root (Ptr Operation) (Ptr BasicBlock) (Ptr Region)) (t : Tree ℕ T A) (names : Names path t) (is : RootIs L c items ps t) (once : (n m : ℕ) (o : Object) → Among (n, o) items → Among (m, o) items → n ≡ m)
-      (occurs : (n : ℕ) (o : Object) → Among (n, o) items → (q : Path) × Among (o, q) (placed_under ps)) where
-    abbrev all : List (Object × Path)
-    all = placed_under ps
+  -- what stands under a root is placed
+  pub located : (ps : Root (Ptr Operation) (Ptr BasicBlock) (Ptr Region)) (t : Tree ℕ T A) → Names path t → RootIs L c items ps t → (o : Object) (q : Path) → Among (o, q) (placed_under ps) → IsPlaced o q
+  located ps t names is o q (inl e) = subst (λ (z : Object × Path). IsPlaced z.0 z.1) (sym e) (t.own.place, is.0.item, names.0)
+  located ps t names is o q (inr i) = (regions_placed [] 0 ps.regions t.regions names.1 is.1).each o q i
 
-    -- what stands under the root is placed
-    pub located : (o : Object) (q : Path) → Among (o, q) all → IsPlaced o q
-    located o q (inl e) = subst (λ (z : Object × Path). IsPlaced z.0 z.1) (sym e) (t.own.place, is.0.item, names.0)
-    located o q (inr i) = (regions_placed [] 0 ps.regions t.regions names.1 is.1).each o q i
+  -- and so is what stands in regions
+  pub located_in : (ps : PtrRegions) (rs : Regions (Op ℕ T A) (Head ℕ T A) (Brace ℕ)) → Said (paths_in_regions [] 0 rs) → RegionsAre L c items ps rs → (o : Object) (q : Path) → Among (o, q) (placed_regions [] 0 ps) → IsPlaced o q
+  located_in ps rs names is o q i = (regions_placed [] 0 ps rs names is).each o q i
 
+  module _ (all : List (Object × Path)) (each_placed : (o : Object) (q : Path) → Among (o, q) all → IsPlaced o q) (single : Once all) (once : (n m : ℕ) (o : Object) → Among (n, o) items → Among (m, o) items → n ≡ m)
+      (occurs : (n : ℕ) (o : Object) → Among (n, o) items → (q : Path) × Among (o, q) all) where
     -- an operation that is an item is found at its path
     pub operation_found : (n : ℕ) (p : Ptr Operation) → Among (n, TheOperation p) items → path_of all (TheOperation p) ≡ Some (path n)
     operation_found n p i =
         let x = occurs n (TheOperation p) i in
         let f = path_found all (TheOperation p) x.0 x.1 in
-        let l = located (TheOperation p) f.0 f.2 in
+        let l = each_placed (TheOperation p) f.0 f.2 in
         f.1 ∙ ap Some (sym l.2 ∙ ap path (once l.0 n (TheOperation p) l.1 i))
 
     -- and so is a block
@@ -112,7 +113,7 @@ module _ {T A : Type 0} (L : ℕ → Location A → Type 0) (c : ContextView T A
     block_found n b i =
         let x = occurs n (TheBlock b) i in
         let f = path_found all (TheBlock b) x.0 x.1 in
-        let l = located (TheBlock b) f.0 f.2 in
+        let l = each_placed (TheBlock b) f.0 f.2 in
         f.1 ∙ ap Some (sym l.2 ∙ ap path (once l.0 n (TheBlock b) l.1 i))
 
     -- an operation that is an item stands at its path
@@ -120,7 +121,7 @@ module _ {T A : Type 0} (L : ℕ → Location A → Type 0) (c : ContextView T A
     operation_there n p i =
         let x = occurs n (TheOperation p) i in
         let f = path_found all (TheOperation p) x.0 x.1 in
-        let l = located (TheOperation p) f.0 f.2 in
+        let l = each_placed (TheOperation p) f.0 f.2 in
         subst (λ q. Among (TheOperation p, q) all) (sym l.2 ∙ ap path (once l.0 n (TheOperation p) l.1 i)) f.2
 
     -- ---- what was made
@@ -178,7 +179,7 @@ module _ {T A : Type 0} (L : ℕ → Location A → Type 0) (c : ContextView T A
         -- an operation at a path is one
         operation_one : (p q : Ptr Operation) (r : Path) (n : ℕ) → Among (TheOperation p, r) all → Among (n, TheOperation q) items → r ≡ path n → q ≡ p
         operation_one p q r n i j e =
-            let k = (once_under ps).one (TheOperation q) (TheOperation p) (path n) (operation_there n q j) (subst (λ z. Among (TheOperation p, z) all) e i) in
+            let k = single.one (TheOperation q) (TheOperation p) (path n) (operation_there n q j) (subst (λ z. Among (TheOperation p, z) all) e i) in
             cc
 
         -- the operand of an operation at a path names what its user is bound to

@@ -25,13 +25,14 @@ use Rattle.irtext_graph.specs.Chained.{Among}
 use Rattle.irtext_graph.specs.Content.{Node, OperationContent}
 use Rattle.irtext_graph.specs.declared.arena.Entry.{Entry}
 use Rattle.irtext_graph.specs.Erasing.{owner}
-use Rattle.irtext_graph.specs.Graph.{GraphView, children, parent, parent_of, Stands, IsInside, IsNew}
+use Rattle.irtext_graph.specs.Graph.{GraphView, children, parent, parent_of, content_of, Appends, Stands, IsInside, IsNew}
 use Rattle.irtext_graph.specs.Nested.{climb, Nested}
 use Rattle.irtext_graph.specs.Objects.{eq_object}
 use Rattle.irtext_graph.specs.Parts.{operands, successors, operands_of, successors_of, results_of, arguments_of, operation_at, block_at, ValueStands}
 use Rattle.irtext_graph.specs.Store.{get}
 use Rattle.irtext_graph.specs.Used.{IsDefined, IsUse, used_at, user}
-use Rattle.irtext_graph.proofs.Nests.{some_eq}
+use Rattle.irtext_graph.proofs.Frames.{operation_content_same}
+use Rattle.irtext_graph.proofs.Nests.{some_eq, told}
 use Rattle.irtext_graph.proofs.Same.{object_tells}
 use Rattle.irtext_grammar.specs.Contexts.Nested.{pointers}
 use Rattle.irtext_grammar.specs.Grammar.Forest as forest
@@ -47,13 +48,14 @@ use Rattle.irtext_names.specs.Tied.{NoneIsLeft}
 use Rattle.irtext_names.proofs.Linked.Moving.{among_split}
 use Rattle.irtext_building.specs.Building.{finished}
 use Rattle.irtext_building.specs.Stands.{IsThere, HoldsSoFar}
-use Rattle.irtext_building.specs.Tracks.{Made, Tracks, HoldsMade}
+use Rattle.irtext_building.specs.Tracks.{Made, HasChild, Tracks, HoldsMade}
+use Rattle.irtext_promises.specs.Alone.{pointers_in, held_region}
 use Rattle.irtext_promises.specs.Held.{PtrRegions, PtrBlocks, PtrOperations, placed_regions, placed_blocks, placed_operations, placed_under, path_of, value_place, block_place, held_op, held_head, held_regions, held_blocks, held_operations, held_root}
 use Rattle.irtext_promises.specs.OnlyNew.{OnlyNew, BlanksDefine}
 use Rattle.irtext_promises.specs.Placed.{RegionsAre, BlocksAre, OperationsAre, RootIs}
 use Rattle.irtext_promises.proofs.Ages.{IsHere, here_stands, stands_here, stood_or_new, same_parent, operation_stays, block_stays, region_stays}
 use Rattle.irtext_promises.proofs.Located.{IsPlaced, located}
-use Rattle.irtext_promises.proofs.Occurs.{child_parent, whole_occurs, item_occurs}
+use Rattle.irtext_promises.proofs.Occurs.{child_parent, whole_occurs}
 
 operation_inj : (p q : Ptr Operation) → TheOperation p ≡ TheOperation q → p ≡ q
 operation_inj p q e = cc
@@ -281,7 +283,7 @@ module _ {T A : Type 0} (L : ℕ → Location A → Type 0) (start c : ContextVi
   -- a value or a block that has a place there was not there
   placed_new : (d : Defined) (q : Path) → Among (owner d, q) all → IsDefined start.graph d → ⊥
   placed_new d q at s =
-      let l = located L c items path (pointers c.graph p) x names is held.tracks.once (item_occurs L c items start whole p x is nest held.tracks) (owner d) q at in
+      let l = located L c items path (pointers c.graph p) x names is (owner d) q at in
       whole_new (owner d) (placed_whole (owner d) q l (owner_kind d)) (owner_stands d s)
 
   value_new : (v : Value) → IsSome (value_place all v) → IsDefined start.graph (OfValue v) → ⊥
@@ -359,3 +361,221 @@ module _ {T A : Type 0} (L : ℕ → Location A → Type 0) (start c : ContextVi
     paths = kept.paths;
     dialects = kept.dialects;
   }
+
+-- ---- a region that came last into an operation that stood
+module _ {T A : Type 0} where
+  held_same : (x y : Option (OperationEntry T A)) → content_of x ≡ content_of y → option_map (λ e. e.content.content) x ≡ option_map (λ e. e.content.content) y
+  held_same None None e = refl
+  held_same None (Some y) e = absurd (cc)
+  held_same (Some x) None e = absurd (cc)
+  held_same (Some x) (Some y) e = ap (λ z. option_map (λ (d : ℕ × OperationContent (Option (OperationData A)) (Option T)). d.1) z) e
+
+module _ {T A : Type 0} (L : ℕ → Location A → Type 0) (start mid c : ContextView T A) (items : Made) (whole : List Object) (op : Ptr Operation) (r : Ptr Region) (a : Appends mid.graph c.graph (TheOperation op) (TheRegion r))
+    (there : (o : Object) → Among o whole → IsThere mid o) (came : (o : Object) → Among o whole → IsThere start o → ⊥) (all_that : (o : Object) → IsThere mid o → IsThere start o ⊎ Among o whole)
+    (known_whole : (n : ℕ) (o : Object) → Among (n, o) items → Among o whole) (region_whole : Among (TheRegion r) whole)
+    (inside : (o : Object) → Among o whole → (o ≡ TheRegion r) ⊎ ((k : Object) × Among k whole × HasChild c k o)) (nest : Nested (children c.graph) (parent c.graph))
+    (m : ℕ) (older : AllOlder m start.graph) (kept : KeepsOlder m start mid) (none : NoneIsLeft m [] mid.graph) (blanks : BlanksDefine m mid) (holders : (o k : Object) → parent start.graph o ≡ Some k → Stands start.graph k) where
+  -- the content of each object stayed
+  pub used_same : (s : Site) → used_at c.graph s ≡ used_at mid.graph s
+  used_same (AtOperand o i) = ap (λ z. option_map OfValue (slice_get (operands_of z) i)) (held_same (get c.graph.operations o) (get mid.graph.operations o) (operation_content_same mid.graph c.graph o (a.objects.contents (TheOperation o))))
+  used_same (AtSuccessor o i) = ap (λ z. option_map OfBlock (slice_get (successors_of z) i)) (held_same (get c.graph.operations o) (get mid.graph.operations o) (operation_content_same mid.graph c.graph o (a.objects.contents (TheOperation o))))
+
+  stood_before : (q : Object) → Stands c.graph q → Stands mid.graph q
+  stood_before q s = subst IsSome (a.objects.contents q) s
+
+  -- ---- what is whole was not there
+  mid_then : (q : Object) → IsHere start.graph q → IsThere mid q → IsThere start q
+  mid_then (TheOperation o) h t = subst (λ z. IsSome (option_and_then operation_of z)) (operation_stays m start.graph mid.graph older kept.graph o h) t
+  mid_then (TheBlock d) h t =
+      let e = block_stays m start.graph mid.graph older kept.graph d h in
+      (subst (λ z. IsSome (option_map block_of z)) e t.0, subst (λ z. IsSome (option_map TheRegion (parent_of z))) e t.1)
+  mid_then (TheRegion q) h t = subst (λ z. IsSome (option_map region_of z)) (region_stays m start.graph mid.graph older kept.graph q h) t
+
+  pub whole_is_new : (q : Object) → Among q whole → Stands start.graph q → ⊥
+  whole_is_new q i s = came q i (mid_then q (stands_here start.graph q s) (there q i))
+
+  -- ---- nothing inside was there
+  inside_is_new : (n : ℕ) (q : Object) → climb (parent c.graph) n (Some q) ≡ Some (TheRegion r) → Stands start.graph q → ⊥
+  inside_is_new zero q e s = whole_is_new (TheRegion r) region_whole (subst (Stands start.graph) (some_eq e) s)
+  inside_is_new (suc n) q e s = elim (told object_tells q (TheRegion r)) [
+    | inl same ↦ whole_is_new (TheRegion r) region_whole (subst (Stands start.graph) same s)
+    | inr apart ↦ go (λ k g t. inside_is_new n k g t) (parent c.graph q) refl (a.parents q apart) e
+  ]
+    where
+      none_climbs : (n : ℕ) → climb (parent c.graph) n None ≡ Some (TheRegion r) → ⊥
+      none_climbs zero g = cc
+      none_climbs (suc n) g = cc
+
+      go : ((k : Object) → climb (parent c.graph) n (Some k) ≡ Some (TheRegion r) → Stands start.graph k → ⊥) → (k : Option Object) → parent c.graph q ≡ k → parent c.graph q ≡ parent mid.graph q → climb (parent c.graph) n k ≡ Some (TheRegion r) → ⊥
+      go later None f h g = none_climbs n g
+      go later (Some k) f h g = later k g (holders q k (sym (same_parent m start.graph mid.graph older kept.graph q s) ∙ (sym h ∙ f)))
+
+  -- ---- what is whole is inside
+  whole_is_inside : (n : ℕ) (q : Object) → Among q whole → climb (parent c.graph) n (Some q) ≡ None → IsInside c.graph (TheRegion r) q
+  whole_is_inside zero q i e = absurd (cc e)
+  whole_is_inside (suc n) q i e = elim (inside q i) [
+    | inl root ↦ (0, ap Some root)
+    | inr (k, at, child) ↦
+        let up = child_parent c nest k q child in
+        let z = whole_is_inside n k at (subst (λ z. climb (parent c.graph) n z ≡ None) up e) in
+        (suc z.0, ap (climb (parent c.graph) z.0) up ∙ z.1)
+  ]
+
+  -- ---- what stands and is new is there
+  new_is_there : (q : Object) → Stands mid.graph q → IsNew m mid.graph q → IsThere mid q
+  new_is_there (TheOperation o) s n = go (operation mid o) refl
+    where
+      blank : (e : Option (Entry (Node BasicBlock Region (OperationContent (Option (OperationData A)) (Option T))))) → IsSome e → option_and_then operation_of e ≡ None → option_map (λ c. c.data_of) (option_map (λ e. e.content.content) e) ≡ Some None
+      blank None h f = absurd (cc)
+      blank (Some e) h f = by e.content.content.data_of f
+        where
+          by : (d : Option (OperationData A)) → option_map (view_of e.content.content.results e.content.children) d ≡ None → Some d ≡ Some None
+          by None f = refl
+          by (Some w) f = absurd (cc)
+
+      go : (v : Option (OperationView T A)) → operation mid o ≡ v → IsSome (operation mid o)
+      go (Some view) e = subst IsSome (sym e) refl
+      go None e =
+          let here = stands_here mid.graph (TheOperation o) s in
+          let w = blanks o here e n in
+          absurd (none.values (Result o w.0) w.1 (blank (get mid.graph.operations o) here e) n)
+  new_is_there (TheBlock d) s n = (some_map (get mid.graph.blocks d) (stands_here mid.graph (TheBlock d) s), go (parent mid.graph (TheBlock d)) refl)
+    where
+      some_map : (y : Option (BlockEntry T A)) → IsSome y → IsSome (option_map block_of y)
+      some_map None h = absurd (cc)
+      some_map (Some e) h = refl
+
+      go : (k : Option Object) → parent mid.graph (TheBlock d) ≡ k → IsSome (parent mid.graph (TheBlock d))
+      go (Some k) e = subst IsSome (sym e) refl
+      go None e = absurd (none.labels d s e n (λ i. i))
+  new_is_there (TheRegion q) s n = some_map (get mid.graph.regions q) (stands_here mid.graph (TheRegion q) s)
+    where
+      some_map : (y : Option (Entry (Node Operation BasicBlock RegionContent))) → IsSome y → IsSome (option_map region_of y)
+      some_map None h = absurd (cc)
+      some_map (Some e) h = refl
+
+  there_stands : (q : Object) → IsThere start q → Stands start.graph q
+  there_stands (TheOperation o) t = here_stands start.graph (TheOperation o) (go (get start.graph.operations o) t)
+    where
+      go : (y : Option (OperationEntry T A)) → IsSome (option_and_then operation_of y) → IsSome y
+      go None h = absurd (cc)
+      go (Some e) h = refl
+  there_stands (TheBlock d) t = here_stands start.graph (TheBlock d) (go (get start.graph.blocks d) t.0)
+    where
+      go : (y : Option (BlockEntry T A)) → IsSome (option_map block_of y) → IsSome y
+      go None h = absurd (cc)
+      go (Some e) h = refl
+  there_stands (TheRegion q) t = here_stands start.graph (TheRegion q) (go (get start.graph.regions q) t)
+    where
+      go : (y : Option (Entry (Node Operation BasicBlock RegionContent))) → IsSome (option_map region_of y) → IsSome y
+      go None h = absurd (cc)
+      go (Some e) h = refl
+
+  new_is_whole : (q : Object) → Stands mid.graph q → IsNew m mid.graph q → Stands start.graph q ⊎ Among q whole
+  new_is_whole q s n = elim (all_that q (new_is_there q s n)) [ inl first ↦ inl (there_stands q first) | inr i ↦ inr i ]
+
+  -- whatever stands stood, or is inside the region, and none of that stood
+  pub region_live : (q : Object) → Stands c.graph q → Stands start.graph q ⊎ IsInside c.graph (TheRegion r) q
+  region_live q s = elim (stood_or_new m start.graph mid.graph kept.graph q (stood_before q s)) [
+    | inl was ↦ inl was
+    | inr n ↦ elim (new_is_whole q (stood_before q s) n) [ inl was ↦ inl was | inr i ↦ let k = nest.ends q in inr (whole_is_inside k.0 q i k.1) ]
+  ]
+
+  pub region_is_new : (q : Object) → IsInside c.graph (TheRegion r) q → Stands start.graph q → ⊥
+  region_is_new q i s = inside_is_new i.0 q i.1 s
+
+  -- ---- what is new uses what is new
+  kind_of_owner : (d : Defined) (q : Ptr Region) → owner d ≡ TheRegion q → ⊥
+  kind_of_owner (OfValue (Result o i)) q e = cc
+  kind_of_owner (OfValue (Argument k i)) q e = cc
+  kind_of_owner (OfBlock k) q e = cc
+
+  owner_stood : (d : Defined) → IsDefined start.graph d → Stands start.graph (owner d)
+  owner_stood (OfValue (Result o i)) h = here_stands start.graph (TheOperation o) (go (get start.graph.operations o) h)
+    where
+      go : (y : Option (OperationEntry T A)) → IsSome (slice_get (results_of (option_map (λ e. e.content.content) y)) i) → IsSome y
+      go None h = absurd (cc)
+      go (Some e) h = refl
+  owner_stood (OfValue (Argument k i)) h = here_stands start.graph (TheBlock k) (go (get start.graph.blocks k) h)
+    where
+      go : (y : Option (BlockEntry T A)) → IsSome (slice_get (arguments_of (option_map (λ e. e.content.content) y)) i) → IsSome y
+      go None h = absurd (cc)
+      go (Some e) h = refl
+  owner_stood (OfBlock k) h = h
+
+  user_there : (s : Site) (d : Defined) → IsUse c.graph d s → IsSome (get c.graph.operations (user s))
+  user_there (AtOperand o i) d e = go (get c.graph.operations o) e
+    where
+      go : (y : Option (OperationEntry T A)) → option_map OfValue (slice_get (operands_of (option_map (λ e. e.content.content) y)) i) ≡ Some d → IsSome y
+      go None e = absurd (cc)
+      go (Some z) e = refl
+  user_there (AtSuccessor o i) d e = go (get c.graph.operations o) e
+    where
+      go : (y : Option (OperationEntry T A)) → option_map OfBlock (slice_get (successors_of (option_map (λ e. e.content.content) y)) i) ≡ Some d → IsSome y
+      go None e = absurd (cc)
+      go (Some z) e = refl
+
+  used_first : (s : Site) (d : Defined) → IsSome (get start.graph.operations (user s)) → IsUse c.graph d s → IsUse start.graph d s
+  used_first (AtOperand o i) d h e = sym (ap (λ y. option_map OfValue (slice_get (operands_of (option_map (λ e. e.content.content) y)) i)) (operation_stays m start.graph mid.graph older kept.graph o h)) ∙ (sym (used_same (AtOperand o i)) ∙ e)
+  used_first (AtSuccessor o i) d h e = sym (ap (λ y. option_map OfBlock (slice_get (successors_of (option_map (λ e. e.content.content) y)) i)) (operation_stays m start.graph mid.graph older kept.graph o h)) ∙ (sym (used_same (AtSuccessor o i)) ∙ e)
+
+  module _ (rs : Regions (Op ℕ T A) (Head ℕ T A) (Brace ℕ)) (is : RegionsAre L c items (pointers_in c r) rs) (linked : AllRegions OpLinked (λ b. ⊤) (λ q. ⊤) (held_region c r)) (path : ℕ → Path)
+      (placed : (o : Object) (q : Path) → Among (o, q) (placed_regions [] 0 (pointers_in c r)) → IsPlaced L c items path o q) (occurs : (o : Object) → Among o whole → (q : Path) × Among (o, q) (placed_regions [] 0 (pointers_in c r))) where
+    abbrev here_all : List (Object × Path)
+    here_all = placed_regions [] 0 (pointers_in c r)
+
+    here_named : AllNamed L c items here_all here_all
+    here_named = regions_named L c items here_all [] 0 (pointers_in c r) rs is linked
+
+    placed_is_whole : (o : Object) (q : Path) → IsPlaced L c items path o q → ((k : Ptr Region) → o ≡ TheRegion k → ⊥) → Among o whole
+    placed_is_whole (TheOperation o) q (n, i, e) apart = known_whole n (TheOperation o) i
+    placed_is_whole (TheBlock d) q (n, i, e) apart = known_whole n (TheBlock d) i
+    placed_is_whole (TheRegion k) q h apart = absurd (apart k refl)
+
+    placed_is_new : (d : Defined) (q : Path) → Among (owner d, q) here_all → IsDefined start.graph d → ⊥
+    placed_is_new d q at s = whole_is_new (owner d) (placed_is_whole (owner d) q (placed (owner d) q at) (kind_of_owner d)) (owner_stood d s)
+
+    value_is_new : (v : Value) → IsSome (value_place here_all v) → IsDefined start.graph (OfValue v) → ⊥
+    value_is_new (Result o i) h s = go (path_of here_all (TheOperation o)) refl h
+      where
+        go : (y : Option Path) → path_of here_all (TheOperation o) ≡ y → IsSome (option_map (λ q. result q i) y) → ⊥
+        go None e h = cc
+        go (Some q) e h = placed_is_new (OfValue (Result o i)) q (path_there here_all (TheOperation o) q e) s
+    value_is_new (Argument k i) h s = go (path_of here_all (TheBlock k)) refl h
+      where
+        go : (y : Option Path) → path_of here_all (TheBlock k) ≡ y → IsSome (option_map (λ q. argument q i) y) → ⊥
+        go None e h = cc
+        go (Some q) e h = placed_is_new (OfValue (Argument k i)) q (path_there here_all (TheBlock k) q e) s
+
+    label_is_new : (k : Ptr BasicBlock) → IsSome (block_place here_all k) → IsDefined start.graph (OfBlock k) → ⊥
+    label_is_new k h s = go (path_of here_all (TheBlock k)) refl h
+      where
+        go : (y : Option Path) → path_of here_all (TheBlock k) ≡ y → IsSome (option_map block_at_path y) → ⊥
+        go None e h = cc
+        go (Some q) e h = placed_is_new (OfBlock k) q (path_there here_all (TheBlock k) q e) s
+
+    whole_uses_new : (s : Site) (d : Defined) → Among (TheOperation (user s)) whole → IsUse c.graph d s → IsDefined start.graph d → ⊥
+    whole_uses_new (AtOperand o i) d w e s =
+        let at = occurs (TheOperation o) w in
+        go (slice_get (operands c.graph o) i) refl (here_named.each o at.0 at.1).0 e
+      where
+        go : (y : Option Value) → slice_get (operands c.graph o) i ≡ y → list_all is_some (map (value_place here_all) (operands c.graph o)) ≡ true → option_map OfValue y ≡ Some d → ⊥
+        go None f n e = cc
+        go (Some v) f n e = let same : OfValue v ≡ d = cc in value_is_new v (all_at (value_place here_all) (operands c.graph o) i v n f) (subst (IsDefined start.graph) (sym same) s)
+    whole_uses_new (AtSuccessor o i) d w e s =
+        let at = occurs (TheOperation o) w in
+        go (slice_get (successors c.graph o) i) refl (here_named.each o at.0 at.1).1 e
+      where
+        go : (y : Option (Ptr BasicBlock)) → slice_get (successors c.graph o) i ≡ y → list_all is_some (map (block_place here_all) (successors c.graph o)) ≡ true → option_map OfBlock y ≡ Some d → ⊥
+        go None f n e = cc
+        go (Some k) f n e = let same : OfBlock k ≡ d = cc in label_is_new k (all_at (block_place here_all) (successors c.graph o) i k n f) (subst (IsDefined start.graph) (sym same) s)
+
+    -- nothing else uses what stood than before
+    pub region_uses : (d : Defined) (s : Site) → IsDefined start.graph d → IsUse c.graph d s → IsUse start.graph d s
+    region_uses d s stood e =
+        let o = TheOperation (user s) in
+        let stands = stood_before o (here_stands c.graph o (user_there s d e)) in
+        elim (stood_or_new m start.graph mid.graph kept.graph o stands) [
+          | inl was ↦ used_first s d (stands_here start.graph o was) e
+          | inr n ↦ elim (new_is_whole o stands n) [ inl was ↦ used_first s d (stands_here start.graph o was) e | inr w ↦ absurd (whole_uses_new s d w e stood) ]
+        ]

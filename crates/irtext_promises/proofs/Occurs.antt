@@ -22,6 +22,7 @@ use Rattle.irtext_grammar.specs.Names.Script.{Path}
 use Rattle.irtext_building.specs.Tracks as tracks
 use Rattle.irtext_building.specs.Tracks.{Made, blocks_in, HasChild, IsHeld, Tracks}
 use Rattle.irtext_names.proofs.Linked.Moving.{among_split}
+use Rattle.irtext_promises.specs.Alone.{pointers_in}
 use Rattle.irtext_promises.specs.Held.{PtrRegions, PtrBlocks, PtrOperations, placed_regions, placed_blocks, placed_operations, placed_under}
 use Rattle.irtext_promises.specs.Placed.{region_ptrs, block_ptrs, operation_ptrs, RegionsAre, BlocksAre, OperationsAre, RootIs}
 use Rattle.irtext_promises.proofs.Depths.{regions_seen, operations_seen, blocks_seen}
@@ -168,3 +169,20 @@ module _ {T A : Type 0} (L : ℕ → Location A → Type 0) (c : ContextView T A
     -- and so does each item
     pub item_occurs : (n : ℕ) (o : Object) → Among (n, o) items → (q : Path) × Among (o, q) (placed_under (pointers c.graph p))
     item_occurs n o i = elim (held.known n o i) [ inl there ↦ whole_occurs o there | inr none ↦ absurd none ]
+
+  -- ---- a region
+  module _ (whole : List Object) (r : Ptr Region) (rs : Regions (Op ℕ T A) (Head ℕ T A) (Brace ℕ)) (is : RegionsAre L c items (pointers_in c r) rs) (nest : Nested (children c.graph) (parent c.graph))
+      (inside : (o : Object) → Among o whole → (o ≡ TheRegion r) ⊎ ((k : Object) × Among k whole × HasChild c k o)) where
+    occurs_in_region : (n : ℕ) (o : Object) → Among o whole → climb (parent c.graph) n (Some o) ≡ None → IsIn o (placed_regions [] 0 (pointers_in c r))
+    occurs_in_region zero o i e = absurd (cc e)
+    occurs_in_region (suc n) o i e = elim (inside o i) [
+      | inl root ↦ (0 ∷ [], inl (ap (λ z. (z, 0 ∷ [])) root))
+      | inr (k, at, child) ↦
+          let up = child_parent c nest k o child in
+          let z = occurs_in_region n k at (subst (λ z. climb (parent c.graph) n z ≡ None) up e) in
+          (regions_closed [] 0 (pointers_in c r) rs is).closed k o z.0 z.1 child
+    ]
+
+    -- whatever is whole stands in it
+    pub region_whole_occurs : (o : Object) → Among o whole → (q : Path) × Among (o, q) (placed_regions [] 0 (pointers_in c r))
+    region_whole_occurs o i = let n = nest.ends o in occurs_in_region n.0 o i n.1

@@ -141,7 +141,7 @@ mutual
   under_operations p j (forest.operation q rs os) = under_node (TheOperation q) p j (placed_regions (j ∷ p) 0 rs) (placed_operations p (suc j) os) (under_regions (j ∷ p) 0 rs) (under_operations p (suc j) os)
 
 mutual
-  once_regions : (p : Path) (j : ℕ) (rs : PtrRegions) → Once (placed_regions p j rs)
+  pub once_regions : (p : Path) (j : ℕ) (rs : PtrRegions) → Once (placed_regions p j rs)
   once_regions p j no_regions = once_none
   once_regions p j (forest.region r bs rs) = once_node (TheRegion r) p j (placed_blocks (j ∷ p) 0 bs) (placed_regions p (suc j) rs) (under_blocks (j ∷ p) 0 bs) (under_regions p (suc j) rs) (once_blocks (j ∷ p) 0 bs) (once_regions p (suc j) rs)
 

@@ -147,6 +147,7 @@ returns-clause-read g c =
     let p = c.in_ok-region_placed.ensures in
     reads_under g.T.IrText.reading g.A.IrText.reading g.met.T.IrText.sincere.reads g.met.A.IrText.sincere.reads c.args.names.now c.args.s.now c.in_ok-begun.begun c.isolated_here-closed.result c.region_alone.new.names c.region_alone.new.s
     e.begins e.makes w.with_it e.values e.labels e.open w.marks w.rest c.items_parse.new.names c.items_parse.new.s c.in_ok-items_parse.ensures.finishes c.args.op c.region_placed.new.s c.isolated_here-closed.ensures p.stream p.marks
+    (λ m le sound. let more = e.makes.made in c.in_ok-items_parse.ensures.finishes.carries.sound m (omega (arith, le, more)) (e.sound m le sound))
     (λ m le closed sound.
     let first = w.kept m le in
     let more = e.makes.made in

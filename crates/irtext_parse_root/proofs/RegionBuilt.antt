@@ -1,0 +1,120 @@
+-- A region that was read alone keeps its promise: what stands in it is what its blocks build, and only it and what stands in it is new.
+use Rattle.std.proofs.Common.{◌≡◌, ◌∙◌, ◌⊎◌, ℕ, Bool, true, List, [], ◌∷◌, ◌++◌, length, Option, Some, None, IsSome, option_map, append-nil, refl, sym, ap, subst, inl, inr}
+use Rattle.std.specs.Prelude.{IfSome, ⊤}
+use Rattle.irtext_base.specs.Text.{Text}
+use Rattle.irtext_base.specs.Format.{Format, Id, Accepted}
+use Rattle.irtext_base.specs.Paths.{Written}
+use Rattle.irtext_base.specs.declared.location.Location.{Location}
+use Rattle.irtext_context.specs.Context.{ContextView, operation, region_of, KeepsOlder}
+use Rattle.irtext_context.specs.Dialects.{Table}
+use Rattle.irtext_graph.specs.declared.arena.Ptr.{Ptr}
+use Rattle.irtext_graph.specs.declared.object.Operation.{Operation}
+use Rattle.irtext_graph.specs.declared.object.BasicBlock.{BasicBlock}
+use Rattle.irtext_graph.specs.declared.object.Region.{Region}
+use Rattle.irtext_graph.specs.declared.object.Object.{Object}
+use Rattle.irtext_graph.specs.declared.object.Object.TheVariants.{TheOperation, TheRegion}
+use Rattle.irtext_graph.specs.declared.object.Value.{Value}
+use Rattle.irtext_graph.specs.Back.{AllOlder}
+use Rattle.irtext_graph.specs.Chained.{Among}
+use Rattle.irtext_graph.specs.Graph.{children, parent, Stands, Appends}
+use Rattle.irtext_graph.specs.Nested as graphs
+use Rattle.irtext_graph.specs.Store.{get}
+use Rattle.irtext_grammar.specs.Contexts.Formats.{format_of, IsAccepted}
+use Rattle.irtext_grammar.specs.Contexts.Held.{location_over}
+use Rattle.irtext_grammar.specs.Grammar.Forest as forest
+use Rattle.irtext_grammar.specs.Grammar.Forest.{Regions, no_regions, region, Blocks, no_blocks, block, Operations, no_operations, AllRegions}
+use Rattle.irtext_grammar.specs.Grammar.Tree.{Op, Head, Brace, shown, elided}
+use Rattle.irtext_grammar.specs.Graphs.Build.{built_regions}
+use Rattle.irtext_grammar.specs.Graphs.Links.{OpLinked}
+use Rattle.irtext_grammar.specs.Names.Acts.{blocks_script}
+use Rattle.irtext_grammar.specs.Names.History as history
+use Rattle.irtext_grammar.specs.Names.History.{State, going, run, events}
+use Rattle.irtext_grammar.specs.Names.Script as script
+use Rattle.irtext_grammar.specs.Names.Script.{Path, done}
+use Rattle.irtext_grammar.specs.Spelling.Spellable.{Each}
+use Rattle.irtext_grammar.proofs.Grammar.PartsOfFormats.{FormedRegions, FormedBlocks, FormedOperations}
+use Rattle.irtext_scopes.specs.declared.tracker.NameTracker.{NameTracker}
+use Rattle.irtext_nesting.specs.Naming.{paths_in_blocks}
+use Rattle.irtext_building.specs.Stands.{RegionsHold, IsThere}
+use Rattle.irtext_building.specs.Tracks.{Made, noted, HasChild}
+use Rattle.irtext_building.proofs.Whole.{WholeRegions, WholeBlocks, WholeOperations}
+use Rattle.irtext_names.specs.Linked.{Known, StandsAt}
+use Rattle.irtext_names.specs.OfItems.{AreOf}
+use Rattle.irtext_names.specs.Tied.{NoneIsLeft}
+use Rattle.irtext_promises.specs.Alone.{OnlyNewIn, held_region}
+use Rattle.irtext_promises.specs.OnlyNew.{BlanksDefine}
+use Rattle.irtext_promises.proofs.AloneBuilds as builds
+use Rattle.irtext_promises.proofs.News as news
+use Rattle.irtext_parse_items.specs.Built.{RegionTracks}
+use Rattle.irtext_parse_root.specs.Region.{GainsRegion}
+use Rattle.irtext_parse_root.proofs.RegionMoved as moved
+
+accepts : (o : Option Format) (f : Format) → IfSome o Accepted → o ≡ Some f → Accepted f
+accepts None f h e = absurd (cc)
+accepts (Some g) f h e = let same : g ≡ f = cc in subst Accepted same h
+
+-- each operation that a text reads as has a body of an accepted format
+module _ {T A : Type 0} (dialects : List (Text × Table)) (accepted : (id : Id) → IsAccepted dialects id) where
+  mutual
+    regions_formed : (rs : Regions (Op ℕ T A) (Head ℕ T A) (Brace ℕ)) → WholeRegions (format_of dialects) rs → FormedRegions rs
+    regions_formed no_regions w = tt
+    regions_formed (region (shown place) bs rs) w = (blocks_formed bs w.0, regions_formed rs w.1)
+    regions_formed (region elided bs rs) w = absurd w
+
+    pub blocks_formed : (bs : Blocks (Op ℕ T A) (Head ℕ T A) (Brace ℕ)) → WholeBlocks (format_of dialects) bs → FormedBlocks bs
+    blocks_formed no_blocks w = tt
+    blocks_formed (block h os bs) w = (operations_formed os w.0, blocks_formed bs w.1)
+
+    operations_formed : (os : Operations (Op ℕ T A) (Head ℕ T A) (Brace ℕ)) → WholeOperations (format_of dialects) os → FormedOperations os
+    operations_formed no_operations w = tt
+    operations_formed (forest.operation o rs os) (((f, known, is), enough), inner, others) =
+        ((record { format = f; accepted = accepts (format_of dialects o.id) f (accepted o.id) known; is_of = is; enough = enough }, regions_formed rs inner), operations_formed os others)
+
+module _ {T A : Type 0} (L : ℕ → Location A → Type 0) (start mid now : ContextView T A) (items : Made) (whole : List Object) (op : Ptr Operation) (r : Ptr Region) (place : ℕ) (bs : Blocks (Op ℕ T A) (Head ℕ T A) (Brace ℕ))
+    (hold : RegionsHold (noted items L) mid whole (r ∷ []) (forest.region (shown place) bs no_regions)) (there : (o : Object) → Among o whole → IsThere mid o) (tracks : RegionTracks start mid items whole r)
+    (a : Appends mid.graph now.graph (TheOperation op) (TheRegion r)) (here : IsSome (operation start op))
+    (m : ℕ) (older : AllOlder m start.graph) (kept : KeepsOlder m start mid) (none : NoneIsLeft m [] mid.graph) (blanks : BlanksDefine m mid) (holders : (o k : Object) → parent start.graph o ≡ Some k → Stands start.graph k)
+    (nest : graphs.Nested (children now.graph) (parent now.graph)) (path : ℕ → Path) (said : Each (λ item. path item.0 ≡ item.1) (paths_in_blocks (0 ∷ []) 0 bs))
+    (isolated : Id → Bool) (id : Id) (id_closed : isolated id ≡ true) (formed : FormedBlocks bs) (names_at : NameTracker Value (Ptr BasicBlock)) (known : Known) (are : AreOf path items known) (st : State) (stands : StandsAt names_at mid.graph known [] st)
+    (ran : run (going history.start) (events (script.within true place (blocks_script isolated (0 ∷ []) 0 bs) done)) ≡ going st)
+    (first : ℕ → Written A) (tells : (n : ℕ) (l : Location A) → L n l → location_over now.paths l ≡ first n) where
+  abbrev rs : Regions (Op ℕ T A) (Head ℕ T A) (Brace ℕ)
+  rs = forest.region (shown place) bs no_regions
+
+  not_whole : Among (TheOperation op) whole → ⊥
+  not_whole i = tracks.came (TheOperation op) i here
+
+  hold_now : RegionsHold (noted items L) now whole (r ∷ []) rs
+  hold_now = moved.regions_moved (noted items L) mid now op r a whole not_whole (r ∷ []) rs hold
+
+  inside_now : (o : Object) → Among o whole → (o ≡ TheRegion r) ⊎ ((k : Object) × Among k whole × HasChild now k o)
+  inside_now o i = elim (tracks.inside o i) [ inl e ↦ inl e | inr (k, at, child) ↦ inr (k, at, moved.child_moved (noted items L) mid now op r a whole not_whole k o at child) ]
+
+  -- what stands in the region is what the blocks build
+  pub builds_now : held_region now r ≡ built_regions isolated first [] [] [] 0 true rs
+  builds_now = builds.region_builds L now items whole r place bs hold_now tracks.known tracks.once inside_now nest path said first isolated id id_closed formed names_at mid.graph known are st stands
+      (moved.used_same (noted items L) mid now op r a whole not_whole) ran tells
+
+  linked_now : AllRegions OpLinked (λ b. ⊤) (λ q. ⊤) (held_region now r)
+  linked_now = subst (λ z. AllRegions OpLinked (λ b. ⊤) (λ q. ⊤) z) (sym builds_now) (builds.region_linked first isolated id id_closed place bs formed st ran)
+
+  -- and only it and what stands in it is new
+  pub only_now : GainsRegion op r start now → OnlyNewIn op r start now
+  only_now gains = record {
+    live = news.region_live L start mid now items whole op r a there tracks.came tracks.all tracks.known hold.0 inside_now nest m older kept none blanks holders;
+    is_new = news.region_is_new L start mid now items whole op r a there tracks.came tracks.all tracks.known hold.0 inside_now nest m older kept none blanks holders;
+    gains = gains.gains;
+    operations = gains.operations;
+    blocks = gains.blocks;
+    regions = λ q was. gains.regions q was (λ e. tracks.came (TheRegion r) hold.0 (region_seen (get start.graph.regions r) (subst (λ z. IsSome (get start.graph.regions z)) e was)));
+    uses = news.region_uses L start mid now items whole op r a there tracks.came tracks.all tracks.known hold.0 inside_now nest m older kept none blanks holders rs
+        (builds.is_region L now items whole r place bs hold_now tracks.known tracks.once inside_now nest path said) linked_now path
+        (builds.placed L now items whole r place bs hold_now tracks.known tracks.once inside_now nest path said)
+        (builds.occurs_whole L now items whole r place bs hold_now tracks.known tracks.once inside_now nest path said);
+    paths = gains.paths;
+    dialects = gains.dialects;
+  }
+    where
+      region_seen : (x : moved.OfRegion) → IsSome x → IsSome (option_map region_of x)
+      region_seen None h = absurd (cc)
+      region_seen (Some e) h = refl

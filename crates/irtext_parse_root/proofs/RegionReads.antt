@@ -1,0 +1,274 @@
+-- A region that was read alone: its text reads as blocks in braces, they resolve, and its marks are noted.
+use Rattle.std.proofs.Common.{◌≡◌, ◌∙◌, ℕ, Bool, true, false, List, [], ◌∷◌, ◌++◌, map, length, Option, Some, None, IsSome, append-nil, refl, sym, ap, subst}
+use Rattle.irtext_base.specs.Text.{Text, after_space}
+use Rattle.irtext_base.specs.Reading.{the}
+use Rattle.irtext_base.specs.Format.{Format, Id}
+use Rattle.irtext_base.specs.Own.{Texts, Language, language, texts_of}
+use Rattle.irtext_context.specs.Dialects.{Table}
+use Rattle.irtext_context.specs.declared.base.item.Item.{Item}
+use Rattle.irtext_graph.specs.declared.arena.Ptr.{Ptr}
+use Rattle.irtext_graph.specs.declared.object.Operation.{Operation}
+use Rattle.irtext_graph.specs.declared.object.Region.{Region}
+use Rattle.irtext_read.specs.AttrTexts.{attr_at}
+use Rattle.irtext_read.specs.Infix.{Reader}
+use Rattle.irtext_state.specs.States.{marks_of}
+use Rattle.irtext_state.specs.declared.parsable.state.StateStream.{StateStream}
+use Rattle.irtext_grammar.specs.Contexts.Formats.{format_of, isolated, IsAccepted}
+use Rattle.irtext_grammar.specs.Grammar.Forest.{Regions, no_regions, region, Blocks, no_blocks, block, Operations, no_operations, operation}
+use Rattle.irtext_grammar.specs.Grammar.Reads as grammar
+use Rattle.irtext_grammar.specs.Grammar.Tree as tree
+use Rattle.irtext_grammar.specs.Grammar.Tree.{Op, Head, Brace, Tree, custom, shown, elided, parts_of}
+use Rattle.irtext_grammar.specs.Spelling.Spellable.{Each}
+use Rattle.irtext_grammar.specs.Names.History as history
+use Rattle.irtext_grammar.specs.Names.History.{going, start, run, events, after}
+use Rattle.irtext_grammar.specs.Names.Scopes.{no_scope}
+use Rattle.irtext_grammar.specs.Names.Script.{Path}
+use Rattle.irtext_grammar.specs.Names.Acts.{blocks_script}
+use Rattle.irtext_grammar.specs.Names.TextScopes.{Facts, failures, facts, outward}
+use Rattle.irtext_grammar.proofs.Names.InScripts as enough
+use Rattle.irtext_grammar.proofs.Names.TreeLists.{marks_in_root}
+use Rattle.irtext_grammar.proofs.Grammar.ListReadings.{AllUsed, repeated_used, parts_used, block_used}
+use Rattle.irtext_outcomes.specs.Promises.Root.{IsFresh}
+use Rattle.irtext_outcomes.specs.Promises.Section.{indices_of}
+use Rattle.irtext_outcomes.proofs.Joins.Answers.{Splits}
+use Rattle.irtext_nesting.specs.Exact.{NeedsWord}
+use Rattle.irtext_nesting.specs.Naming.{naming, paths_in_blocks}
+use Rattle.irtext_nesting.specs.Reached.{Came, region_at, do_blocks}
+use Rattle.irtext_nesting.proofs.Knot.Whole as knot
+use Rattle.irtext_nesting.proofs.Naming.Shorter.{Shortens}
+use Rattle.irtext_building.specs.Building.{Unfinished, region_so_far, Building, whole_blocks, nothing_open, building}
+use Rattle.irtext_building.proofs.Built.{blocks_after, last_after, whole_after, in_region, blocks_build}
+use Rattle.irtext_building.proofs.Seen.{shows_blocks}
+use Rattle.irtext_building.proofs.Whole.{HasParts, WholeRegions, WholeBlocks, WholeOperations}
+use Rattle.irtext_names.proofs.Linked.Passes.{ran_through}
+use Rattle.irtext_promises.specs.Alone.{region_alone}
+use Rattle.irtext_parse_nested.specs.Items.{Names, StandsAs, doing}
+use Rattle.irtext_parse_items.specs.Carried.{marks_in_blocks, AreCarried}
+use Rattle.irtext_parse_items.specs.Told.{Did, did_enter, did_leave, told, all_done}
+use Rattle.irtext_parse_items.specs.Under.{ReadsUnder}
+use Rattle.irtext_building.specs.Tracks.{Made}
+use Rattle.irtext_parse_items.proofs.Carrying.{marks_are}
+use Rattle.irtext_parse_items.proofs.Telling.{tells_does, done_both}
+use Rattle.irtext_parse_root.proofs.Fresh.{fresh_stands}
+use Rattle.irtext_context.specs.Context as context
+use Rattle.irtext_context.specs.Context.{KeepsOlder}
+use Rattle.irtext_graph.specs.declared.object.Object.{Object}
+use Rattle.irtext_graph.specs.Back.{AllOlder}
+use Rattle.irtext_graph.specs.Graph.{children, parent, Stands}
+use Rattle.irtext_graph.specs.Nested as graphs
+use Rattle.irtext_grammar.specs.Contexts.Held.{whole}
+use Rattle.irtext_grammar.proofs.Grammar.PartsOfFormats.{FormedBlocks}
+use Rattle.irtext_outcomes.specs.Promises.Root.{location_of}
+use Rattle.irtext_names.specs.OfItems.{AreOf}
+use Rattle.irtext_names.specs.Tied.{NoneIsLeft}
+use Rattle.irtext_promises.specs.Alone.{BuildsRegion}
+use Rattle.irtext_promises.proofs.Behind.{values_shut, labels_shut, none_left}
+use Rattle.irtext_parse_nested.specs.Items.{IsSound}
+use Rattle.irtext_parse_nested.specs.Located.{IsLocated}
+use Rattle.irtext_parse_root.proofs.RegionBuilt as built
+use Rattle.irtext_promises.proofs.Behind.{place_told}
+use Rattle.irtext_parse_root.specs.Region.{GainsRegion, ReadsRegion}
+use Rattle.irtext_parse_root.proofs.RegionPlaces.{paths_exist}
+use Rattle.irtext_parse_root.proofs.RegionRuns.{region_runs}
+
+came_same : {X S : Type 0} (x y : X) (s t : S) (a b : Text) → Came x s a ≡ Came y t b → s ≡ t
+came_same x y s t a b e = cc
+
+-- ---- what is known of blocks that a text reads as
+module _ {T A : Type 0} (types : Texts T) (owns : Texts A) (formats : Id → Option Format) where
+  abbrev L : Language ℕ T A
+  L = language types owns formats
+
+  operation_read : (o : Op ℕ T A) (rs : Regions (Op ℕ T A) (Head ℕ T A) (Brace ℕ)) (t u : Text) → grammar.operation_read L o (grammar.region_readings L rs) t u
+      → HasParts formats o rs × AllUsed (grammar.region_readings L rs)
+  operation_read o rs t u (at, (known, (m, a, (w, b, (x, c, d))))) = let h = parts_used L (parts_of o.body) rs w x c in ((known, h.0), h.1)
+
+  mutual
+    regions_read : (rs : Regions (Op ℕ T A) (Head ℕ T A) (Brace ℕ)) → AllUsed (grammar.region_readings L rs) → WholeRegions formats rs
+    regions_read no_regions a = tt
+    regions_read (region (shown place) bs rs) ((t, u, (at, (m, a, (w, b, c)))), d) = (blocks_read bs (repeated_used (the 94) (grammar.block_readings L bs) (after_space m) w b), regions_read rs d)
+    regions_read (region elided no_blocks rs) ((t, u, a), d) = absurd a
+    regions_read (region elided (block h os bs) rs) ((t, u, a), d) = absurd a
+
+    blocks_read : (bs : Blocks (Op ℕ T A) (Head ℕ T A) (Brace ℕ)) → AllUsed (grammar.block_readings L bs) → WholeBlocks formats bs
+    blocks_read no_blocks a = tt
+    blocks_read (block h os bs) ((t, u, a), d) = (operations_read os (block_used L h (grammar.operation_readings L os) t u a), blocks_read bs d)
+
+    operations_read : (os : Operations (Op ℕ T A) (Head ℕ T A) (Brace ℕ)) → AllUsed (grammar.operation_readings L os) → WholeOperations formats os
+    operations_read no_operations a = tt
+    operations_read (operation o rs os) ((t, u, a), d) = let f = operation_read o rs t u a in (f.0, regions_read rs f.1, operations_read os d)
+
+  -- blocks that a text reads as in braces are whole
+  blocks_whole : (place : ℕ) (bs : Blocks (Op ℕ T A) (Head ℕ T A) (Brace ℕ)) (text rest : Text) → grammar.region_read L (shown place) (grammar.block_readings L bs) text rest → WholeBlocks formats bs
+  blocks_whole place bs text rest (at, (m, a, (w, b, c))) = blocks_read bs (repeated_used (the 94) (grammar.block_readings L bs) (after_space m) w b)
+
+-- so each of their operations has a place for each of its regions
+module _ {T A : Type 0} (formats : Id → Option Format) where
+  mutual
+    regions_enough : (rs : Regions (Op ℕ T A) (Head ℕ T A) (Brace ℕ)) → WholeRegions formats rs → enough.WholeRegions rs
+    regions_enough no_regions w = tt
+    regions_enough (region (shown place) bs rs) w = (blocks_enough bs w.0, regions_enough rs w.1)
+    regions_enough (region elided bs rs) w = absurd w
+
+    blocks_enough : (bs : Blocks (Op ℕ T A) (Head ℕ T A) (Brace ℕ)) → WholeBlocks formats bs → enough.WholeBlocks bs
+    blocks_enough no_blocks w = tt
+    blocks_enough (block h os bs) w = (operations_enough os w.0, blocks_enough bs w.1)
+
+    operations_enough : (os : Operations (Op ℕ T A) (Head ℕ T A) (Brace ℕ)) → WholeOperations formats os → enough.WholeOperations os
+    operations_enough no_operations w = tt
+    operations_enough (operation o rs os) (has, inner, others) = ((has.1, regions_enough rs inner), operations_enough os others)
+
+-- ---- marks
+-- a region says its marks outward, whether its operation is isolated or not
+outward_marks : (iso : Bool) (f : Facts) → (outward iso f).marks ≡ f.marks
+outward_marks true f = refl
+outward_marks false f = refl
+
+-- marks that are carried have their indices
+carried_indices : (items : Made) (ms : List (ℕ × ℕ)) (ns : List (ℕ × Item)) → AreCarried items ms ns → indices_of ns ≡ map (λ m. m.0) ms
+carried_indices items [] [] h = refl
+carried_indices items [] (n ∷ ns) h = absurd h
+carried_indices items (m ∷ ms) [] h = absurd h
+carried_indices items (m ∷ ms) (n ∷ ns) (e, there, h) = λ i. e i ∷ carried_indices items ms ns h i
+
+-- ---- what was told
+left_last : {T A : Type 0} (iso is : Bool) (place at : ℕ) (ds es : List (Did T A)) → ◌≡◌ {A = List (Did T A)} (did_leave iso place ∷ ds) (did_leave is at ∷ es) → ds ≡ es
+left_last iso is place at ds es e = cc
+
+so_far_same : {T A : Type 0} (bs cs : Blocks (Op ℕ T A) (Head ℕ T A) (Brace ℕ)) (l m : Option (Head ℕ T A × Operations (Op ℕ T A) (Head ℕ T A) (Brace ℕ))) → ◌≡◌ {A = List (Unfinished T A)} (region_so_far bs l ∷ []) (region_so_far cs m ∷ []) → whole_blocks bs l ≡ whole_blocks cs m
+so_far_same bs cs l m e = let f : bs ≡ cs = cc in let g : l ≡ m = cc in λ i. whole_blocks (f i) (g i)
+
+module _ {T A : Type 0} (formats : Id → Option Format) (isolated : Id → Bool) where
+  -- where what was told is what blocks do in their braces, what is built of it is these blocks
+  told_builds : (iso is : Bool) (place at : ℕ) (before : List (Did T A)) (bs : Blocks (Op ℕ T A) (Head ℕ T A) (Brace ℕ)) → WholeBlocks formats bs
+      → ◌≡◌ {A = List (Did T A)} ((did_leave is at ∷ before) ++ did_enter iso ∷ []) (did_leave iso place ∷ do_blocks isolated told bs (did_enter iso ∷ []))
+      → all_done (building formats) before (in_region {T = T} {A = A} no_blocks None [] None) ≡ in_region (blocks_after no_blocks None bs) (last_after None bs) [] None
+  told_builds iso is place at before bs whole e =
+      let does = building {T = T} {A = A} formats in
+      let inner : before ++ did_enter iso ∷ [] ≡ do_blocks isolated told bs (did_enter iso ∷ []) = left_last is iso at place (before ++ did_enter iso ∷ []) (do_blocks isolated told bs (did_enter iso ∷ [])) e in
+      sym (done_both does before (did_enter iso ∷ []) nothing_open)
+      ∙ (ap (λ ds. all_done does ds nothing_open) inner
+      ∙ (shows_blocks isolated (λ ds. all_done does ds nothing_open) told does (tells_does does nothing_open) bs (did_enter iso ∷ [])
+      ∙ blocks_build formats isolated bs whole no_blocks None [] None))
+
+module _ {T A U : Type 0} (types_at : Reader T) (types_written : T → Text) (reading : Reader A) (written : A → Text) (types_split : Splits types_at) (splits : Splits reading) (words : NeedsWord reading)
+    (short_types : Shortens (texts_of types_at types_written)) (short_owns : Shortens (texts_of reading written)) (before names : Names) (old new : StateStream T A U)
+    (no_names : before.names ≡ []) (no_values : before.values ≡ []) (no_labels : before.labels ≡ []) (fresh : IsFresh old) (op : Ptr Operation) (r : Ptr Region) (u : ReadsUnder types_at (attr_at reading) op before old r names new)
+    (accepted : (id : Id) → IsAccepted old.state.ctx.now.dialects id) (closed : u.iso ≡ true) where
+  abbrev ds : List (Text × Table)
+  ds = old.state.ctx.now.dialects
+
+  abbrev types : Texts T
+  types = texts_of types_at types_written
+
+  abbrev owns : Texts A
+  owns = texts_of reading written
+
+  abbrev place : ℕ
+  place = length old.stream.rest
+
+  -- the blocks that the context holds
+  abbrev pub blocks : Blocks (Op ℕ T A) (Head ℕ T A) (Brace ℕ)
+  blocks = whole_blocks u.holds.blocks u.holds.last
+
+  record Text_is : Type 0 where
+    bs : Blocks (Op ℕ T A) (Head ℕ T A) (Brace ℕ)
+    is_read : grammar.region_read (knot.L types_at types_written reading written ds) (shown place) (grammar.block_readings (knot.L types_at types_written reading written ds) bs) old.stream.rest new.stream.rest
+    same : whole_blocks u.holds.blocks u.holds.last ≡ bs
+
+  text_is : Text_is
+  text_is =
+      let x = knot.region_read types_at types_written reading written ds types_split splits told accepted u.iso old.stream.rest [] (u.did ++ did_enter u.iso ∷ []) new.stream.rest u.tells in
+      let e = subst (λ z. ◌≡◌ {A = List (Did T A)} (z ++ did_enter u.iso ∷ []) (did_leave u.iso place ∷ do_blocks (isolated ds) told x.0 (did_enter u.iso ∷ []))) u.holds.is x.2 in
+      let b = told_builds (format_of ds) (isolated ds) u.iso u.holds.iso place u.holds.place u.holds.before x.0 (blocks_whole types owns (format_of ds) place x.0 old.stream.rest new.stream.rest x.1) e in
+      let f = sym u.holds.built_before ∙ ap (λ (z : Building T A). z.unfinished) b in record {
+        bs = x.0;
+        is_read = x.1;
+        same = so_far_same u.holds.blocks (blocks_after no_blocks None x.0) u.holds.last (last_after None x.0) f ∙ whole_after no_blocks None x.0;
+      }
+
+  -- its text reads as these
+  pub region_reads : grammar.region_read (knot.L types_at types_written reading written ds) (shown place) (grammar.block_readings (knot.L types_at types_written reading written ds) blocks) old.stream.rest new.stream.rest
+  region_reads = subst (λ bs. grammar.region_read (knot.L types_at types_written reading written ds) (shown place) (grammar.block_readings (knot.L types_at types_written reading written ds) bs) old.stream.rest new.stream.rest) (sym text_is.same) text_is.is_read
+
+  -- paths of their items, and where the machine stands behind them
+  pub named : (path : ℕ → Path) × Each (λ item. path item.0 ≡ item.1) (paths_in_blocks (0 ∷ []) 0 blocks)
+  named = paths_exist types owns (format_of ds) short_types short_owns (0 ∷ []) (shown place) blocks old.stream.rest new.stream.rest region_reads
+
+  abbrev at_end : (z : history.Outcome) × StandsAs named.0 (u.made ++ []) [] names u.mid.state z × (region_at ds types_at (attr_at reading) (doing ds named.0) u.iso old.stream.rest (going start) ≡ Came tt z new.stream.rest)
+  at_end = u.runs named.0 [] (going start) (fresh_stands before old.state no_names no_values no_labels fresh.marks named.0)
+
+  -- the machine came through their script
+  pub ran : run (going start) (events (region_alone ds place blocks)) ≡ going at_end.1.state
+  ran =
+      let found = knot.region_found types_at types_written reading written ds types_split splits (naming (format_of ds) named.0) words true blocks old.stream.rest new.stream.rest (going start) region_reads in
+      let came = subst (λ b. region_at ds types_at (attr_at reading) (doing ds named.0) b old.stream.rest (going start) ≡ Came tt at_end.0 new.stream.rest) closed at_end.2 in
+      region_runs types owns (format_of ds) named.0 (isolated ds) true (0 ∷ []) place blocks old.stream.rest new.stream.rest region_reads named.1 (going start)
+      ∙ (came_same tt tt _ _ new.stream.rest new.stream.rest (sym found ∙ came) ∙ at_end.1.going)
+
+  -- they resolve
+  pub region_resolves : failures no_scope (region_alone ds place blocks) ≡ []
+  region_resolves = (ran_through (region_alone ds place blocks) at_end.1.state ran).0
+
+  -- the machine stands behind all that they say
+  pub region_says : at_end.1.state ≡ after start (facts (region_alone ds place blocks))
+  region_says = (ran_through (region_alone ds place blocks) at_end.1.state ran).1
+
+  -- ---- its marks
+  -- a tree of which it is the one region, whose operation says nothing of marks
+  abbrev round : Tree ℕ T A
+  round = record { own = record { place = 0; names = []; id = record { dialect = []; name = [] }; body = custom (tree.region 0 ∷ []); mark = None }; regions = region (shown place) blocks no_regions }
+
+  -- the indices that are noted are those that the blocks say
+  pub region_marks : indices_of (marks_of new.state) ≡ (facts (region_alone ds place blocks)).marks
+  region_marks =
+      let whole = blocks_enough (format_of ds) blocks (blocks_whole types owns (format_of ds) place blocks old.stream.rest new.stream.rest region_reads) in
+      let none = append-nil (map (λ m. m.0) (marks_in_blocks blocks)) in
+      let inside = facts (blocks_script (isolated ds) (0 ∷ []) 0 blocks) in
+      let outer = outward_marks (isolated ds round.own.id) inside in
+      ap indices_of (u.noted ∙ ap (λ ms. ms ++ u.marks) fresh.marks)
+      ∙ (carried_indices u.made (marks_in_blocks blocks) u.marks u.holds.carried
+      ∙ (ap (λ ms. map (λ m. m.0) ms) (sym (append-nil (marks_in_blocks blocks ++ []) ∙ append-nil (marks_in_blocks blocks)))
+      ∙ (marks_are (isolated ds) round
+      ∙ (sym (marks_in_root (isolated ds) round ((tt, (whole, tt)), tt))
+      ∙ ap (λ ms. ms ++ []) outer))))
+
+  -- so it keeps what is told of a region that was read
+  pub reads_region : GainsRegion op r old.state.ctx.now new.state.ctx.now → ReadsRegion types owns op r old new
+  reads_region gains = record { blocks = blocks; reads = region_reads; resolves = region_resolves; moves = u.moves; marks = region_marks; gains = gains }
+
+  -- ---- what it built
+  module _ (id : Id) (id_closed : isolated ds id ≡ true) (here : IsSome (context.operation old.state.ctx.now op)) (older : AllOlder old.state.ctx.now.graph.made old.state.ctx.now.graph)
+      (kept : KeepsOlder old.state.ctx.now.graph.made old.state.ctx.now u.mid.state.ctx.now) (sound : IsSound old.state.ctx.now.graph.made names u.mid.state)
+      (nest : graphs.Nested (children new.state.ctx.now.graph) (parent new.state.ctx.now.graph)) (holders : (c k : Object) → parent old.state.ctx.now.graph c ≡ Some k → Stands old.state.ctx.now.graph k)
+      (gains : GainsRegion op r old.state.ctx.now new.state.ctx.now) where
+    values_none : names.values ≡ []
+    values_none = values_shut names u.mid.state.ctx.now.graph at_end.1.known [] at_end.1.state at_end.1.stands (ap (λ (z : history.State). z.values) region_says)
+
+    labels_none : names.labels ≡ []
+    labels_none = labels_shut names u.mid.state.ctx.now.graph at_end.1.known [] at_end.1.state at_end.1.stands (ap (λ (z : history.State). z.labels) region_says)
+
+    none : NoneIsLeft old.state.ctx.now.graph.made [] u.mid.state.ctx.now.graph
+    none = none_left old.state.ctx.now.graph.made names.values names.labels u.mid.state.ctx.now.graph values_none labels_none sound.waiting
+
+    formed : FormedBlocks blocks
+    formed = built.blocks_formed ds accepted blocks (blocks_whole types owns (format_of ds) place blocks old.stream.rest new.stream.rest region_reads)
+
+    are : AreOf named.0 u.made at_end.1.known
+    are = subst (λ xs. AreOf named.0 xs at_end.1.known) (append-nil u.made) at_end.1.of_items
+
+    -- so it keeps its promise
+    pub builds_region : BuildsRegion types owns op r old new
+    builds_region = record {
+      blocks = blocks;
+      reads = region_reads;
+      resolves = region_resolves;
+      moves = u.moves;
+      builds = built.builds_now (IsLocated old.state.src (whole old.stream)) old.state.ctx.now u.mid.state.ctx.now new.state.ctx.now u.made u.holds.whole op r place blocks u.holds.holds u.holds.there u.holds.tracks u.places here
+          old.state.ctx.now.graph.made older kept none sound.blanks holders nest named.0 named.1 (isolated ds) id id_closed formed names at_end.1.known are at_end.1.state at_end.1.stands ran
+          (location_of new.state.ctx.now.paths old.state.src (whole old.stream)) (λ n l e. place_told new.state.ctx.now.paths old.state.src (whole old.stream) n l e);
+      marks = region_marks;
+      only = built.only_now (IsLocated old.state.src (whole old.stream)) old.state.ctx.now u.mid.state.ctx.now new.state.ctx.now u.made u.holds.whole op r place blocks u.holds.holds u.holds.there u.holds.tracks u.places here
+          old.state.ctx.now.graph.made older kept none sound.blanks holders nest named.0 named.1 (isolated ds) id id_closed formed names at_end.1.known are at_end.1.state at_end.1.stands ran
+          (location_of new.state.ctx.now.paths old.state.src (whole old.stream)) (λ n l e. place_told new.state.ctx.now.paths old.state.src (whole old.stream) n l e) gains;
+    }

@@ -1,0 +1,231 @@
+-- What a refusal of a region that is read alone says: of its cause, and that it is the first failure of whatever blocks the text reads as.
+use Rattle.std.proofs.Common.{◌≡◌, ◌∙◌, ℕ, Bool, true, false, cond, List, [], ◌∷◌, length, Option, Some, None, IsSome, option_map, codes, ◌++◌, refl, sym, ap, subst, inl, inr}
+use Rattle.irtext_base.specs.Text.{Text}
+use Rattle.irtext_base.specs.Format.{Id}
+use Rattle.irtext_base.specs.Faults.{Fault, Failed, NotIsolated, fault_of, id_of}
+use Rattle.irtext_base.specs.Own.{Sincere, Texts, is_first_fault, texts_of}
+use Rattle.irtext_base.specs.declared.base.identifier.OpId.{OpId}
+use Rattle.irtext_base.specs.Answers.{Outcome}
+use Rattle.irtext_base.specs.Stream.{StreamView}
+use Rattle.irtext_base.specs.declared.location.Location.{Location}
+use Rattle.irtext_base.specs.declared.parsable.fault.ParseFault.{ParseFault}
+use Rattle.irtext_context.specs.Context.{ContextView, OperationView, operation}
+use Rattle.irtext_context.specs.Dialects.{Table}
+use Rattle.irtext_graph.specs.declared.arena.Ptr.{Ptr}
+use Rattle.irtext_graph.specs.declared.object.Operation.{Operation}
+use Rattle.irtext_read.specs.AttrTexts.{attr_at}
+use Rattle.irtext_read.specs.Infix.{Reader}
+use Rattle.irtext_state.specs.States.{marks_of}
+use Rattle.irtext_state.specs.declared.parsable.state.StateStream.{StateStream}
+use Rattle.irtext_stream.specs.declared.position.SourcePosition.{SourcePosition}
+use Rattle.irtext_grammar.specs.Contexts.Formats.{format_of, isolated}
+use Rattle.irtext_grammar.specs.Contexts.Held.{whole}
+use Rattle.irtext_grammar.specs.Grammar.Forest.{Blocks}
+use Rattle.irtext_grammar.specs.Grammar.Reads as grammar
+use Rattle.irtext_grammar.specs.Grammar.Tree.{Op, Head, Brace, shown}
+use Rattle.irtext_grammar.specs.Names.History as history
+use Rattle.irtext_grammar.specs.Names.History.{going, failed, start, run, events}
+use Rattle.irtext_grammar.specs.Names.Scopes.{no_scope}
+use Rattle.irtext_grammar.specs.Names.Script as script
+use Rattle.irtext_grammar.specs.Names.Script.{Cause, Failure, Path}
+use Rattle.irtext_grammar.specs.Names.TextScopes.{failures}
+use Rattle.irtext_outcomes.specs.Promises.Root.{IsFresh, UnlessMemory}
+use Rattle.irtext_outcomes.specs.Promises.Section.{indices_of}
+use Rattle.irtext_outcomes.specs.Readers.Refusals.{Refusal}
+use Rattle.irtext_outcomes.proofs.Joins.Answers.{Splits}
+use Rattle.irtext_nesting.specs.Exact.{NeedsWord}
+use Rattle.irtext_nesting.specs.Naming.{naming}
+use Rattle.irtext_nesting.specs.Reached.{Stuck, begins_region, region_at, do_region, do_blocks}
+use Rattle.irtext_nesting.specs.Resume.{EndsIn}
+use Rattle.irtext_nesting.proofs.Knot.Whole as knot
+use Rattle.irtext_nesting.proofs.Naming.Shorter.{Shortens}
+use Rattle.irtext_names.proofs.Linked.Passes.{ran_into}
+use Rattle.irtext_promises.specs.Alone as alone
+use Rattle.irtext_promises.specs.Alone.{region_alone, RefusesRegion, first}
+use Rattle.irtext_promises.specs.Promises.{IsCause, IsOf, IsFirst}
+use Rattle.irtext_parse_nested.specs.Items.{Names, IsNameCause, doing}
+use Rattle.irtext_parse_items.specs.Under as under
+use Rattle.irtext_parse_items.specs.Under.{IsolatedAs, RefusesUnder}
+use Rattle.irtext_parse_root.specs.Region.{unisolated, IsReportedAt}
+use Rattle.irtext_parse_root.proofs.Failing.{region_never_failed}
+use Rattle.irtext_parse_root.proofs.Fresh.{fresh_stands}
+use Rattle.irtext_parse_root.proofs.Refused.{SaysText, begun_stands}
+use Rattle.irtext_parse_root.proofs.RegionPlaces.{paths_exist}
+use Rattle.irtext_parse_root.proofs.RegionRuns.{region_runs}
+
+-- ---- causes
+-- a failure of names has one cause, and it is not that the stream had failed
+same_cause : (c : Cause Text) (cause : Fault) → IsNameCause c cause → IsCause c cause
+same_cause (script.ResultCount types names) cause h = h
+same_cause (script.NoActiveScope n) cause h = h
+same_cause (script.UnresolvedReference n) cause h = h
+same_cause (script.MultipleDefinitions n) cause h = h
+same_cause script.NotIsolated cause h = h
+same_cause (script.DuplicateIndex i) cause h = h
+same_cause (script.UnknownIndex i) cause h = h
+same_cause (script.UnknownPrintOnce i) cause h = h
+same_cause (script.ReservedKey k) cause h = h
+
+no_failure : (c : Cause Text) (cause : Fault) → IsNameCause c cause → cause ≡ Failed → ⊥
+no_failure (script.ResultCount types names) cause h e = cc (h, e)
+no_failure (script.NoActiveScope n) cause h e = cc (h, e)
+no_failure (script.UnresolvedReference n) cause h e = cc (h, e)
+no_failure (script.MultipleDefinitions n) cause h e = cc (h, e)
+no_failure script.NotIsolated cause h e = cc (h, e)
+no_failure (script.DuplicateIndex i) cause h e = cc (h, e)
+no_failure (script.UnknownIndex i) cause h e = cc (h, e)
+no_failure (script.UnknownPrintOnce i) cause h e = cc (h, e)
+no_failure (script.ReservedKey k) cause h e = cc (h, e)
+
+-- ---- the operation
+-- where no location is told of it, an operation that is there is isolated
+is_closed : {X : Type 0} (b : Bool) (x : X) → cond b None (Some x) ≡ None → b ≡ true
+is_closed true x e = refl
+is_closed false x e = absurd (cc)
+
+pub closed_as : {T A : Type 0} (c : ContextView T A) (op : Ptr Operation) → IsSome (operation c op) → unisolated c op ≡ None → (iso : Bool) → IsolatedAs c op iso → iso ≡ true
+closed_as {T} {A} c op here none iso of_it = go (operation c op) refl here none
+  where
+    go : (o : Option (OperationView T A)) → operation c op ≡ o → IsSome o → ◌≡◌ {A = Option (Location A)} (elim o [ Some view ↦ cond (isolated c.dialects (id_of view.id)) None (Some view.loc) | None ↦ None ]) None → iso ≡ true
+    go None e h n = absurd (cc)
+    go (Some view) e h n = of_it view e ∙ is_closed (isolated c.dialects (id_of view.id)) view.loc n
+
+-- so its id is one of operations that are isolated
+pub closed_id : {T A : Type 0} (c : ContextView T A) (op : Ptr Operation) → IsSome (operation c op) → unisolated c op ≡ None → (id : Id) × (isolated c.dialects id ≡ true)
+closed_id {T} {A} c op here none = go (operation c op) here none
+  where
+    go : (o : Option (OperationView T A)) → IsSome o → ◌≡◌ {A = Option (Location A)} (elim o [ Some view ↦ cond (isolated c.dialects (id_of view.id)) None (Some view.loc) | None ↦ None ]) None → (id : Id) × (isolated c.dialects id ≡ true)
+    go None h n = absurd (cc)
+    go (Some view) h n = (id_of view.id, is_closed (isolated c.dialects (id_of view.id)) view.loc n)
+
+-- where a position is answered, the operation stands there, and is not isolated
+pub reported : {A : Type 0} (loc : Option (Location A)) (pos : SourcePosition) → IsReportedAt loc (Some pos) → (l : Location A) × (loc ≡ Some l) × alone.IsOutermost l pos
+reported None pos h = absurd h
+reported (Some l) pos h = (l, refl, h)
+
+-- where none is, it is isolated
+pub unreported : {A : Type 0} (loc : Option (Location A)) → IsReportedAt loc None → loc ≡ None
+unreported None h = refl
+unreported (Some l) h = absurd h
+
+module _ {T A : Type 0} (c : ContextView T A) (op : Ptr Operation) (id : OpId) (is : option_map (λ (view : OperationView T A). view.id) (operation c op) ≡ Some id) where
+  -- so nothing is answered of an operation that is isolated
+  pub none_reported : isolated c.dialects (id_of id) ≡ true → IsReportedAt (unisolated c op) None
+  none_reported closed = go (operation c op) is
+    where
+      go : (o : Option (OperationView T A)) → option_map (λ (view : OperationView T A). view.id) o ≡ Some id → IsReportedAt (elim o [ Some view ↦ cond (isolated c.dialects (id_of view.id)) None (Some view.loc) | None ↦ None ]) None
+      go None e = absurd (cc)
+      go (Some view) e =
+          let same : id ≡ view.id = cc in
+          let b : isolated c.dialects (id_of view.id) ≡ true = subst (λ z. isolated c.dialects (id_of z) ≡ true) same closed in
+          subst (λ z. IsReportedAt (cond z None (Some view.loc)) None) (sym b) tt
+
+  -- and of another its position is
+  pub one_reported : isolated c.dialects (id_of id) ≡ false → (loc : Location A) → option_map (λ (view : OperationView T A). view.loc) (operation c op) ≡ Some loc → (pos : SourcePosition) → alone.IsOutermost loc pos → IsReportedAt (unisolated c op) (Some pos)
+  one_reported shared loc at pos h = go (operation c op) is at
+    where
+      go : (o : Option (OperationView T A)) → option_map (λ (view : OperationView T A). view.id) o ≡ Some id → option_map (λ (view : OperationView T A). view.loc) o ≡ Some loc
+          → IsReportedAt (elim o [ Some view ↦ cond (isolated c.dialects (id_of view.id)) None (Some view.loc) | None ↦ None ]) (Some pos)
+      go None e f = absurd (cc)
+      go (Some view) e f =
+          let same : id ≡ view.id = cc in
+          let there : loc ≡ view.loc = cc in
+          let b : isolated c.dialects (id_of view.id) ≡ false = subst (λ z. isolated c.dialects (id_of z) ≡ false) same shared in
+          subst (λ z. IsReportedAt (cond z None (Some view.loc)) (Some pos)) (sym b) (subst (λ l. alone.IsOutermost l pos) there h)
+
+-- the refusal of an operation that is not isolated
+pub refused_unisolated : {A : Type 0} (old new : StreamView) (fault : ParseFault A) → fault_of fault.cause ≡ NotIsolated → fault.committed ≡ true → new.failed ≡ true → Refusal old fault new
+refused_unisolated old new fault because flag fails = record {
+  committed = λ e. fails;
+  uncommitted = λ e. absurd (cc (flag, e));
+  first = λ e. absurd (cc (flag, e));
+  failed = λ e. absurd (cc (because, e));
+}
+
+pub unisolated_refused : {T A : Type 0} {types : Texts T} {owns : Texts A} {dialects : List (Text × Table)} {iso : Option (Location A)} {old : StreamView} (loc : Location A) → iso ≡ Some loc → (fault : ParseFault A) → fault_of fault.cause ≡ NotIsolated → alone.IsOutermost loc fault.pos
+    → UnlessMemory (RefusesRegion types owns dialects iso old) fault
+unisolated_refused loc is fault because at = inr (alone.not_isolated loc is because at)
+
+-- ---- what a refusal says of its cause
+module _ {T A U : Type 0} (types_at : Reader T) (reading : Reader A) (sincere_types : Sincere types_at) (sincere : Sincere reading) (before : Names) (old : StateStream T A U)
+    (no_names : before.names ≡ []) (no_values : before.values ≡ []) (no_labels : before.labels ≡ []) (op : Ptr Operation) where
+  pub says_region : (fault : ParseFault A) → UnlessMemory (RefusesUnder types_at (attr_at reading) op before old) fault → SaysText fault
+  says_region fault (inl starved) = record { not_failed = λ e. cc (starved.because, e); first = λ e. absurd (cc (starved.flag, e)) }
+  says_region fault (inr (under.not_isolated of_it shared because flag at)) = record { not_failed = λ e. cc (because, e); first = λ e. absurd (cc (flag, e)) }
+  says_region fault (inr (under.no_region begins because flag at)) = record { not_failed = λ e. cc (because, e); first = λ e. ap is_first_fault because }
+  says_region fault (inr (under.at_text iso cause place of_it f flag so)) =
+      let ds = old.state.ctx.now.dialects in
+      let path : ℕ → Path = λ n. [] in
+      let begun : history.State = record { values = []; labels = []; marks = indices_of (marks_of old.state); entries = []; bound = [] } in
+      let stuck = so path [] (going begun) (begun_stands before old.state no_names no_values no_labels path) in
+      record {
+        not_failed = λ e. region_never_failed types_at reading sincere_types sincere ds (doing {T = T} {A = A} ds path) iso old.stream.rest (going begun) (going stuck.0) cause place stuck.1 (sym f.because ∙ e);
+        first = λ e. absurd (cc (flag, e));
+      }
+  says_region fault (inr (under.by_names iso failure of_it f so)) = record { not_failed = no_failure failure.cause (fault_of fault.cause) f.cause; first = λ e. absurd (cc (f.committed, e)) }
+
+-- ---- that it is the first failure
+first_is : {A : Type 0} (text : Text) (f : Failure Text ℕ) (fs gs : List (Failure Text ℕ)) (fault : ParseFault A) → fs ≡ f ∷ gs → IsOf text f fault → IsFirst text fs fault
+first_is text f fs gs fault e h = subst (λ z. IsFirst text z fault) (sym e) h
+
+-- a text that begins with a brace begins a region
+begins_so : (text m : Text) → text ≡ codes "{" ++ m → begins_region text ≡ true
+begins_so text m e = ap begins_region e
+
+module _ {T A : Type 0} (types_at : Text → Outcome T) (types_written : T → Text) (reading : Text → Outcome A) (written : A → Text) (dialects : List (Text × Table)) (types_split : Splits types_at) (splits : Splits reading) (words : NeedsWord reading)
+    (short_types : Shortens (texts_of types_at types_written)) (short_owns : Shortens (texts_of reading written)) where
+  abbrev IsRead : Blocks (Op ℕ T A) (Head ℕ T A) (Brace ℕ) → Text → Text → Type 0
+  IsRead bs text rest = grammar.region_read (knot.L types_at types_written reading written dialects) (shown (length text)) (grammar.block_readings (knot.L types_at types_written reading written dialects) bs) text rest
+
+  begins_there : (bs : Blocks (Op ℕ T A) (Head ℕ T A) (Brace ℕ)) (text rest : Text) → IsRead bs text rest → begins_region text ≡ true
+  begins_there bs text rest (at, (m, opened, more)) = begins_so text m opened
+
+  -- where the text is at fault, it reads as no blocks in braces
+  stuck_unread : (text : Text) (s t : history.Outcome) (cause : Fault) (place : ℕ) (path : ℕ → Path) → region_at dialects types_at (attr_at reading) (doing dialects path) true text s ≡ Stuck t cause place → (bs : Blocks (Op ℕ T A) (Head ℕ T A) (Brace ℕ)) (rest : Text) → IsRead bs text rest → ⊥
+  stuck_unread text s t cause place path e bs rest r =
+      let f = knot.region_found types_at types_written reading written dialects types_split splits (naming (format_of dialects) path) words true bs text rest s r in cc (e, f)
+
+  -- where a name fails so, that is the first failure of whatever blocks the text reads as
+  region_first : (text rest : Text) (f : Failure Text ℕ) (fault : ParseFault A) → IsOf text f fault → ((path : ℕ → Path) → EndsIn (failed f) (region_at dialects types_at (attr_at reading) (doing dialects path) true rest (going start)))
+      → (bs : Blocks (Op ℕ T A) (Head ℕ T A) (Brace ℕ)) (left : Text) → IsRead bs rest left → IsFirst text (failures no_scope (region_alone dialects (length rest) bs)) fault
+  region_first text rest f fault is ends bs left r =
+      let types = texts_of types_at types_written in
+      let owns = texts_of reading written in
+      let p = paths_exist types owns (format_of dialects) short_types short_owns (0 ∷ []) (shown (length rest)) bs rest left r in
+      let found = knot.region_found types_at types_written reading written dialects types_split splits (naming (format_of dialects) p.0) words true bs rest left (going start) r in
+      let did : do_region {T = T} {A = A} (isolated dialects) (naming (format_of dialects) p.0) true (shown (length rest)) (do_blocks (isolated dialects) (naming (format_of dialects) p.0) bs) (going start) ≡ failed f = subst (EndsIn (failed f)) found (ends p.0) in
+      let ran : run (going start) (events (region_alone dialects (length rest) bs)) ≡ failed f =
+      region_runs types owns (format_of dialects) p.0 (isolated dialects) true (0 ∷ []) (length rest) bs rest left r p.1 (going start) ∙ did in
+      let all = ran_into (region_alone dialects (length rest) bs) f ran in
+      first_is text f (failures no_scope (region_alone dialects (length rest) bs)) all.0 fault all.1 is
+
+module _ {T A U : Type 0} (types_at : Reader T) (types_written : T → Text) (reading : Reader A) (written : A → Text) (types_split : Splits types_at) (splits : Splits reading) (words : NeedsWord reading)
+    (short_types : Shortens (texts_of types_at types_written)) (short_owns : Shortens (texts_of reading written)) (before : Names) (old : StateStream T A U)
+    (no_names : before.names ≡ []) (no_values : before.values ≡ []) (no_labels : before.labels ≡ []) (fresh : IsFresh old) (op : Ptr Operation)
+    (here : IsSome (operation old.state.ctx.now op)) (none : unisolated old.state.ctx.now op ≡ None) where
+  abbrev Refused : ParseFault A → Type 0
+  Refused = RefusesRegion (texts_of types_at types_written) (texts_of reading written) old.state.ctx.now.dialects (unisolated old.state.ctx.now op) old.stream
+
+  abbrev ds : List (Text × Table)
+  ds = old.state.ctx.now.dialects
+
+  isolated_there : (iso : Bool) → IsolatedAs old.state.ctx.now op iso → iso ≡ true
+  isolated_there iso of_it = closed_as old.state.ctx.now op here none iso of_it
+
+  -- so the promise of a refusal is kept, where the operation is isolated
+  pub refuses_region : (fault : ParseFault A) → UnlessMemory (RefusesUnder types_at (attr_at reading) op before old) fault → UnlessMemory Refused fault
+  refuses_region fault (inl starved) = inl starved
+  refuses_region fault (inr (under.not_isolated of_it shared because flag at)) = let e = isolated_there false of_it in absurd (cc)
+  refuses_region fault (inr (under.no_region begins because flag at)) =
+      inr (first none (λ bs rest r. let b = begins_there types_at types_written reading written ds types_split splits words short_types short_owns bs old.stream.rest rest r in absurd (cc (begins, b))))
+  refuses_region fault (inr (under.at_text iso cause place of_it f flag so)) =
+      let path : ℕ → Path = λ n. [] in
+      let stuck = so path [] (going start) (fresh_stands before old.state no_names no_values no_labels fresh.marks path) in
+      let e = subst (λ b. region_at ds types_at (attr_at reading) (doing ds path) b old.stream.rest (going start) ≡ Stuck (going stuck.0) cause place) (isolated_there iso of_it) stuck.1 in
+      inr (first none (λ bs rest r. absurd (stuck_unread types_at types_written reading written ds types_split splits words short_types short_owns old.stream.rest (going start) (going stuck.0) cause place path e bs rest r)))
+  refuses_region fault (inr (under.by_names iso failure of_it f so)) =
+      let ends : (path : ℕ → Path) → EndsIn (failed failure) (region_at ds types_at (attr_at reading) (doing ds path) true old.stream.rest (going start)) =
+      λ path. subst (λ b. EndsIn (failed failure) (region_at ds types_at (attr_at reading) (doing ds path) b old.stream.rest (going start))) (isolated_there iso of_it)
+      (so path [] (going start) (fresh_stands before old.state no_names no_values no_labels fresh.marks path)) in
+      inr (first none (λ bs rest r. region_first types_at types_written reading written ds types_split splits words short_types short_owns (whole old.stream) old.stream.rest failure fault
+      (same_cause failure.cause (fault_of fault.cause) f.cause, f.place) ends bs rest r))

@@ -1,0 +1,200 @@
+//! One region of an operation that stands, with names of its own: it gives back what it made where it is refused.
+ghost use Rattle.std.specs.Prelude.{◌≡◌, true, false, None, IsSome, IfOk, IfErr, OnErr};
+ghost use Rattle.irtext_base.specs.Faults as fault;
+ghost use Rattle.irtext_base.specs.Faults.{fault_of, id_of};
+ghost use Rattle.irtext_base.specs.Own.{texts_of};
+ghost use Rattle.irtext_base.specs.Stream.{after_failure};
+ghost use Rattle.irtext_context.specs.Context.{operation, KeepsOlder};
+ghost use Rattle.irtext_context.specs.Made.{SameObjects};
+ghost use Rattle.irtext_state.specs.States.{marks_of};
+ghost use Rattle.irtext_grammar.specs.Contexts.Formats.{isolated};
+ghost use Rattle.irtext_outcomes.specs.Promises.Root.{IsFresh, UnlessMemory};
+ghost use Rattle.irtext_outcomes.specs.Readers.Refusals.{Refusal, RefusesFailed};
+ghost use Rattle.irtext_outcomes.specs.Readers.Streams.{KeepsRest};
+ghost use Rattle.irtext_promises.specs.Alone.{IsOutermost, BuildsRegion, RefusesRegion};
+ghost use Rattle.irtext_parse_nested.specs.Ends.{GainsMarks};
+ghost use Rattle.irtext_parse_root.specs.Region.{unisolated, IsReportedAt};
+
+use crate::outermost::{failed_fault, made_in};
+use crate::tree::{context_keeps, failed_by};
+use irtext_base::base::OpId;
+use irtext_base::location::Location;
+use irtext_base::parsable::{
+    CharStream, ParseFault, ParseResult, ParserNameTrackerError, SourcePosition, TextStream,
+};
+use irtext_base::result::Cause;
+use irtext_base::text::{AttrText, IrText};
+use irtext_context::base::context::making::Making;
+use irtext_context::base::operation::OperationAccess;
+use irtext_context::base::{Context, Operation, Ptr, Region};
+use irtext_parse_items::region as items;
+use irtext_scopes::tracker::NameTracker;
+use irtext_state::parsable::state::Noting;
+use irtext_state::parsable::{State, StateStream};
+
+/// Whether operations of this id are isolated from above.
+fn isolated_by<T: IrText<A>, A: AttrText>(ctx: &Context<T, A>, id: &OpId) -> bool
+    ensures { result ≡ isolated ctx.now.dialects (id_of id.now) }
+{
+    match ctx.op_info(id) {
+        Some(info) => info.isolated,
+        None => false,
+    }
+}
+
+/// The position of a location that is a place of a source, or else that of a text's beginning.
+fn position_of<A>(loc: &Location<A>) -> SourcePosition
+    ensures { IsOutermost loc.now result }
+{
+    match loc {
+        Location::SrcPos { src: _, pos } => *pos,
+        Location::Fused { .. } => SourcePosition::default(),
+        Location::Named { .. } => SourcePosition::default(),
+        Location::CallSite { .. } => SourcePosition::default(),
+        Location::Unknown => SourcePosition::default(),
+    }
+}
+
+/// The position of an operation that is not isolated from above; none of one that is.
+fn unisolated_at<T: IrText<A>, A: AttrText>(
+    ctx: &Context<T, A>,
+    op: Ptr<Operation>,
+) -> Option<SourcePosition>
+    requires { IsSome (operation ctx.now op) }
+    ensures { IsReportedAt (unisolated ctx.now op) result }
+{
+    if isolated_by(ctx, op.get_opid(ctx)) {
+        return None;
+    }
+    Some(position_of(op.loc(ctx)))
+}
+
+/// The same of an operation of the context of a reading.
+fn unisolated_here<T: IrText<A>, A: AttrText, U>(
+    state: &State<'_, T, A, U>,
+    op: Ptr<Operation>,
+) -> Option<SourcePosition>
+    requires { IsSome (operation state.now.ctx.now op) }
+    ensures { IsReportedAt (unisolated state.now.ctx.now op) result }
+{
+    unisolated_at(state.ctx, op)
+}
+
+/// The fault of a region whose operation is not isolated from above, at a position. The stream has failed.
+#[cold]
+fn not_isolated<A>(stream: &mut TextStream, pos: SourcePosition) -> ParseFault<A>
+    ensures cause { fault_of result.cause ≡ fault.NotIsolated }
+    ensures committed { result.committed ≡ true }
+    ensures place { result.pos ≡ pos }
+    ensures fails { stream.new ≡ after_failure stream.old }
+{
+    stream.fail();
+    ParseFault {
+        pos,
+        cause: Cause::ParserNameTrackerError(
+            ParserNameTrackerError::TopLevelOpRegionNotIsolatedFromAbove,
+        ),
+        committed: true,
+    }
+}
+
+/// Reads a region with all that nests in it, with fresh names, as the last of an operation that is isolated from above. What it made stays
+/// where it is refused, and nothing of it stands in the operation then.
+fn isolated_parse<T: IrText<A>, A: AttrText, U>(
+    s: &mut StateStream<'_, T, A, U>,
+    parent: Ptr<Operation>,
+) -> ParseResult<Ptr<Region>, A>
+    requires fine { s.old.stream.failed ≡ false }
+    requires stands { IsSome (operation s.old.state.ctx.now parent) }
+    requires closed { unisolated s.old.state.ctx.now parent ≡ None }
+    ensures lent { s.new.state.ctx.ghost_name ≡ s.old.state.ctx.ghost_name }
+    ensures rest { KeepsRest s.old.state s.new.state }
+    ensures refused { IfErr result (λ fault. Refusal s.old.stream fault s.new.stream) }
+    ensures builds { IsFresh s.old →
+        IfOk result (λ r. BuildsRegion (texts_of T.IrText.reading T.IrText.written) (texts_of A.IrText.reading A.IrText.written) parent r s.old s.new) }
+    ensures unresolved { IsFresh s.old →
+        IfErr result (UnlessMemory
+        (RefusesRegion (texts_of T.IrText.reading T.IrText.written) (texts_of A.IrText.reading A.IrText.written)
+        s.old.state.ctx.now.dialects (unisolated s.old.state.ctx.now parent) s.old.stream)) }
+    ensures noted { OnErr result (GainsMarks (marks_of s.old.state) (marks_of s.new.state)) }
+    ensures kept { OnErr result (KeepsOlder s.old.state.ctx.now.graph.made s.old.state.ctx.now s.new.state.ctx.now) }
+{
+    let mut names = NameTracker::new(s.stream.allocator());
+    context_keeps(&s.state);
+    match items::region_parse(s, &mut names, parent) {
+        Ok(region) => {
+            context_keeps(&s.state);
+            Ok(region)
+        }
+        Err(fault) => {
+            failed_by(&mut s.stream, &fault);
+            Err(fault)
+        }
+    }
+}
+
+/// The same of any operation: one that is not isolated from above is refused at the place where it stands, since no name of what stands round
+/// it is known.
+fn alone_parse<T: IrText<A>, A: AttrText, U>(
+    s: &mut StateStream<'_, T, A, U>,
+    parent: Ptr<Operation>,
+) -> ParseResult<Ptr<Region>, A>
+    requires fine { s.old.stream.failed ≡ false }
+    requires stands { IsSome (operation s.old.state.ctx.now parent) }
+    ensures lent { s.new.state.ctx.ghost_name ≡ s.old.state.ctx.ghost_name }
+    ensures rest { KeepsRest s.old.state s.new.state }
+    ensures refused { IfErr result (λ fault. Refusal s.old.stream fault s.new.stream) }
+    ensures builds { IsFresh s.old →
+        IfOk result (λ r. BuildsRegion (texts_of T.IrText.reading T.IrText.written) (texts_of A.IrText.reading A.IrText.written) parent r s.old s.new) }
+    ensures unresolved { IsFresh s.old →
+        IfErr result (UnlessMemory
+        (RefusesRegion (texts_of T.IrText.reading T.IrText.written) (texts_of A.IrText.reading A.IrText.written)
+        s.old.state.ctx.now.dialects (unisolated s.old.state.ctx.now parent) s.old.stream)) }
+    ensures noted { OnErr result (GainsMarks (marks_of s.old.state) (marks_of s.new.state)) }
+    ensures kept { OnErr result (KeepsOlder s.old.state.ctx.now.graph.made s.old.state.ctx.now s.new.state.ctx.now) }
+{
+    match unisolated_here(&s.state, parent) {
+        Some(at) => Err(not_isolated(&mut s.stream, at)),
+        None => isolated_parse(s, parent),
+    }
+}
+
+/// Reads `{`, blocks and `}` where the stream stands, as the last region of an operation that is in the context. Names have a scope of their
+/// own, so an operation that is not isolated from above is refused, at the place where it stands. The region is put into the operation
+/// last, and only where nothing is refused: a refusal leaves all objects as they were, and no mark of it stays. This text is a region of
+/// one block, which has one argument and holds one operation:
+///
+/// ```text
+/// { ^entry(x: i32): test.return x }
+/// ```
+pub fn region_parse<T: IrText<A>, A: AttrText, U>(
+    s: &mut StateStream<'_, T, A, U>,
+    parent: Ptr<Operation>,
+) -> ParseResult<Ptr<Region>, A>
+    requires { IsSome (operation s.old.state.ctx.now parent) }
+    ensures lent { s.new.state.ctx.ghost_name ≡ s.old.state.ctx.ghost_name }
+    ensures rest { KeepsRest s.old.state s.new.state }
+    ensures refused { IfErr result (λ fault. Refusal s.old.stream fault s.new.stream) }
+    ensures failed { RefusesFailed s.old.stream result s.new.stream }
+    ensures builds { IsFresh s.old → IfOk result (λ r. BuildsRegion (texts_of T.reading T.written) (texts_of A.reading A.written) parent r s.old s.new) }
+    ensures unresolved { IsFresh s.old →
+        IfErr result (UnlessMemory
+        (RefusesRegion (texts_of T.reading T.written) (texts_of A.reading A.written)
+        s.old.state.ctx.now.dialects (unisolated s.old.state.ctx.now parent) s.old.stream)) }
+    ensures objects { OnErr result (SameObjects s.old.state.ctx.now s.new.state.ctx.now) }
+    ensures marks { OnErr result (marks_of s.new.state ≡ marks_of s.old.state) }
+{
+    if s.stream.has_failed() {
+        return Err(failed_fault(&s.stream));
+    }
+    let made = made_in(&s.state);
+    let marks = s.state.num_marks();
+    match alone_parse(s, parent) {
+        Ok(region) => Ok(region),
+        Err(fault) => {
+            s.state.ctx.roll_back(made);
+            s.state.truncate_marks(marks);
+            Err(fault)
+        }
+    }
+}
