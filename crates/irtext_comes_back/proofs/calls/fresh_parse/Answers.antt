@@ -7,4 +7,4 @@ pub returns-clause-unresolved : goal.returns-clause-unresolved
 returns-clause-unresolved g c = c.root_parse.ensures.unresolved c.requires.fresh
 
 pub returns-clause-objects : goal.returns-clause-objects
-returns-clause-objects g c = c.root_parse.ensures.objects c.requires.fresh
+returns-clause-objects g c = c.root_parse.ensures.objects
