@@ -79,11 +79,14 @@ fn piece_step<T: IrText<A>, A: AttrText, U>(
     requires here { AreHere T A (whole s.old.stream) s.old.state.ctx.now names.old (Some (framed.Operation begun)) frames.old.items }
     requires next { IsNext s.old.state.ctx.now.dialects begun comes.Piece }
     ensures lent { s.new.state.ctx.ghost_name ≡ s.old.state.ctx.ghost_name }
-    ensures proceeds { IfOk result (λ next. Proceeds T.IrText.reading (attr_at A.IrText.reading) (framed.Operation begun) frames.old.items names.old s.old names.new s.new next frames.new.items) }
-    ensures stops { IfErr result (Stops T.IrText.reading (attr_at A.IrText.reading) (framed.Operation begun) frames.old.items names.old s.old) }
+    ensures proceeds { IfOk result (λ next. Proceeds T.IrText.reading (attr_at A.IrText.reading) (framed.Operation begun)
+        frames.old.items names.old s.old names.new s.new next frames.new.items) }
+    ensures stops { IfErr result (Stops T.IrText.reading (attr_at A.IrText.reading) (framed.Operation begun) frames.old.items
+        names.old s.old) }
     ensures remains { OnErr result (Remains s.old.state s.new.state) }
     ensures names { KeepsNames names.old.names names.new.names }
-    ensures kept { (m : ℕ) → m ≤ s.old.state.ctx.now.graph.made → IsClosedBelow m s.old.state.ctx.now.graph → IsSound m names.old s.old.state
+    ensures kept { (m : ℕ) → m ≤ s.old.state.ctx.now.graph.made → IsClosedBelow m s.old.state.ctx.now.graph →
+        IsSound m names.old s.old.state
         → AreAllNew m s.old.state.ctx.now.graph (Some (framed.Operation begun)) frames.old.items → KeepsOlder m s.old.state.ctx.now s.new.state.ctx.now }
 {
     let mut begun = begun;
@@ -107,11 +110,14 @@ fn region_step<T: IrText<A>, A: AttrText, U>(
     requires isolated { isolated ≡ formats.isolated s.old.state.ctx.now.dialects (id_of begun.id) }
     requires behind { behind ≡ begun.step + 1 }
     ensures lent { s.new.state.ctx.ghost_name ≡ s.old.state.ctx.ghost_name }
-    ensures proceeds { IfOk result (λ next. Proceeds T.IrText.reading (attr_at A.IrText.reading) (framed.Operation begun) frames.old.items names.old s.old names.new s.new next frames.new.items) }
-    ensures stops { IfErr result (Stops T.IrText.reading (attr_at A.IrText.reading) (framed.Operation begun) frames.old.items names.old s.old) }
+    ensures proceeds { IfOk result (λ next. Proceeds T.IrText.reading (attr_at A.IrText.reading) (framed.Operation begun)
+        frames.old.items names.old s.old names.new s.new next frames.new.items) }
+    ensures stops { IfErr result (Stops T.IrText.reading (attr_at A.IrText.reading) (framed.Operation begun) frames.old.items
+        names.old s.old) }
     ensures remains { OnErr result (Remains s.old.state s.new.state) }
     ensures names { KeepsNames names.old.names names.new.names }
-    ensures kept { (m : ℕ) → m ≤ s.old.state.ctx.now.graph.made → IsClosedBelow m s.old.state.ctx.now.graph → IsSound m names.old s.old.state
+    ensures kept { (m : ℕ) → m ≤ s.old.state.ctx.now.graph.made → IsClosedBelow m s.old.state.ctx.now.graph →
+        IsSound m names.old s.old.state
         → AreAllNew m s.old.state.ctx.now.graph (Some (framed.Operation begun)) frames.old.items → KeepsOlder m s.old.state.ctx.now s.new.state.ctx.now }
 {
     let op = begun.op;
@@ -138,11 +144,14 @@ fn regions_step<T: IrText<A>, A: AttrText, U>(
     requires isolated { isolated ≡ formats.isolated s.old.state.ctx.now.dialects (id_of begun.id) }
     requires behind { behind ≡ begun.step + 1 }
     ensures lent { s.new.state.ctx.ghost_name ≡ s.old.state.ctx.ghost_name }
-    ensures proceeds { IfOk result (λ next. Proceeds T.IrText.reading (attr_at A.IrText.reading) (framed.Operation begun) frames.old.items names.old s.old names.new s.new next frames.new.items) }
-    ensures stops { IfErr result (Stops T.IrText.reading (attr_at A.IrText.reading) (framed.Operation begun) frames.old.items names.old s.old) }
+    ensures proceeds { IfOk result (λ next. Proceeds T.IrText.reading (attr_at A.IrText.reading) (framed.Operation begun)
+        frames.old.items names.old s.old names.new s.new next frames.new.items) }
+    ensures stops { IfErr result (Stops T.IrText.reading (attr_at A.IrText.reading) (framed.Operation begun) frames.old.items
+        names.old s.old) }
     ensures remains { OnErr result (Remains s.old.state s.new.state) }
     ensures names { KeepsNames names.old.names names.new.names }
-    ensures kept { (m : ℕ) → m ≤ s.old.state.ctx.now.graph.made → IsClosedBelow m s.old.state.ctx.now.graph → IsSound m names.old s.old.state
+    ensures kept { (m : ℕ) → m ≤ s.old.state.ctx.now.graph.made → IsClosedBelow m s.old.state.ctx.now.graph →
+        IsSound m names.old s.old.state
         → AreAllNew m s.old.state.ctx.now.graph (Some (framed.Operation begun)) frames.old.items → KeepsOlder m s.old.state.ctx.now s.new.state.ctx.now }
 {
     space_parse(&mut s.stream);
@@ -166,11 +175,14 @@ fn end_step<T: IrText<A>, A: AttrText, U>(
     requires here { AreHere T A (whole s.old.stream) s.old.state.ctx.now names.old (Some (framed.Operation begun)) frames.old.items }
     requires next { IsNext s.old.state.ctx.now.dialects begun comes.End }
     ensures lent { s.new.state.ctx.ghost_name ≡ s.old.state.ctx.ghost_name }
-    ensures proceeds { IfOk result (λ next. Proceeds T.IrText.reading (attr_at A.IrText.reading) (framed.Operation begun) frames.old.items names.old s.old names.new s.new next frames.new.items) }
-    ensures stops { IfErr result (Stops T.IrText.reading (attr_at A.IrText.reading) (framed.Operation begun) frames.old.items names.old s.old) }
+    ensures proceeds { IfOk result (λ next. Proceeds T.IrText.reading (attr_at A.IrText.reading) (framed.Operation begun)
+        frames.old.items names.old s.old names.new s.new next frames.new.items) }
+    ensures stops { IfErr result (Stops T.IrText.reading (attr_at A.IrText.reading) (framed.Operation begun) frames.old.items
+        names.old s.old) }
     ensures remains { OnErr result (Remains s.old.state s.new.state) }
     ensures names { KeepsNames names.old.names names.new.names }
-    ensures kept { (m : ℕ) → m ≤ s.old.state.ctx.now.graph.made → IsClosedBelow m s.old.state.ctx.now.graph → IsSound m names.old s.old.state
+    ensures kept { (m : ℕ) → m ≤ s.old.state.ctx.now.graph.made → IsClosedBelow m s.old.state.ctx.now.graph →
+        IsSound m names.old s.old.state
         → AreAllNew m s.old.state.ctx.now.graph (Some (framed.Operation begun)) frames.old.items → KeepsOlder m s.old.state.ctx.now s.new.state.ctx.now }
 {
     end(s, names, &begun)?;
@@ -188,11 +200,14 @@ fn operation_step<T: IrText<A>, A: AttrText, U>(
     requires sound { IsSoundOnce names.old s.old.state }
     requires here { AreHere T A (whole s.old.stream) s.old.state.ctx.now names.old (Some (framed.Operation begun)) frames.old.items }
     ensures lent { s.new.state.ctx.ghost_name ≡ s.old.state.ctx.ghost_name }
-    ensures proceeds { IfOk result (λ next. Proceeds T.IrText.reading (attr_at A.IrText.reading) (framed.Operation begun) frames.old.items names.old s.old names.new s.new next frames.new.items) }
-    ensures stops { IfErr result (Stops T.IrText.reading (attr_at A.IrText.reading) (framed.Operation begun) frames.old.items names.old s.old) }
+    ensures proceeds { IfOk result (λ next. Proceeds T.IrText.reading (attr_at A.IrText.reading) (framed.Operation begun)
+        frames.old.items names.old s.old names.new s.new next frames.new.items) }
+    ensures stops { IfErr result (Stops T.IrText.reading (attr_at A.IrText.reading) (framed.Operation begun) frames.old.items
+        names.old s.old) }
     ensures remains { OnErr result (Remains s.old.state s.new.state) }
     ensures names { KeepsNames names.old.names names.new.names }
-    ensures kept { (m : ℕ) → m ≤ s.old.state.ctx.now.graph.made → IsClosedBelow m s.old.state.ctx.now.graph → IsSound m names.old s.old.state
+    ensures kept { (m : ℕ) → m ≤ s.old.state.ctx.now.graph.made → IsClosedBelow m s.old.state.ctx.now.graph →
+        IsSound m names.old s.old.state
         → AreAllNew m s.old.state.ctx.now.graph (Some (framed.Operation begun)) frames.old.items → KeepsOlder m s.old.state.ctx.now s.new.state.ctx.now }
 {
     let next = coming_here(&s.state, &begun);
@@ -215,11 +230,14 @@ fn blocks_step<T: IrText<A>, A: AttrText, U>(
     requires sound { IsSoundOnce names.old s.old.state }
     requires here { AreHere T A (whole s.old.stream) s.old.state.ctx.now names.old (Some (framed.Region region)) frames.old.items }
     ensures lent { s.new.state.ctx.ghost_name ≡ s.old.state.ctx.ghost_name }
-    ensures proceeds { IfOk result (λ next. Proceeds T.IrText.reading (attr_at A.IrText.reading) (framed.Region region) frames.old.items names.old s.old names.new s.new next frames.new.items) }
-    ensures stops { IfErr result (Stops T.IrText.reading (attr_at A.IrText.reading) (framed.Region region) frames.old.items names.old s.old) }
+    ensures proceeds { IfOk result (λ next. Proceeds T.IrText.reading (attr_at A.IrText.reading) (framed.Region region)
+        frames.old.items names.old s.old names.new s.new next frames.new.items) }
+    ensures stops { IfErr result (Stops T.IrText.reading (attr_at A.IrText.reading) (framed.Region region) frames.old.items
+        names.old s.old) }
     ensures remains { OnErr result (Remains s.old.state s.new.state) }
     ensures names { KeepsNames names.old.names names.new.names }
-    ensures kept { (m : ℕ) → m ≤ s.old.state.ctx.now.graph.made → IsClosedBelow m s.old.state.ctx.now.graph → IsSound m names.old s.old.state
+    ensures kept { (m : ℕ) → m ≤ s.old.state.ctx.now.graph.made → IsClosedBelow m s.old.state.ctx.now.graph →
+        IsSound m names.old s.old.state
         → AreAllNew m s.old.state.ctx.now.graph (Some (framed.Region region)) frames.old.items → KeepsOlder m s.old.state.ctx.now s.new.state.ctx.now }
 {
     space_parse(&mut s.stream);
@@ -243,11 +261,13 @@ fn block_step<T: IrText<A>, A: AttrText, U>(
     requires sound { IsSoundOnce names.old s.old.state }
     requires here { AreHere T A (whole s.old.stream) s.old.state.ctx.now names.old (Some (framed.Block block)) frames.old.items }
     ensures lent { s.new.state.ctx.ghost_name ≡ s.old.state.ctx.ghost_name }
-    ensures proceeds { IfOk result (λ next. Proceeds T.IrText.reading (attr_at A.IrText.reading) (framed.Block block) frames.old.items names.old s.old names.new s.new next frames.new.items) }
+    ensures proceeds { IfOk result (λ next. Proceeds T.IrText.reading (attr_at A.IrText.reading) (framed.Block block)
+        frames.old.items names.old s.old names.new s.new next frames.new.items) }
     ensures stops { IfErr result (Stops T.IrText.reading (attr_at A.IrText.reading) (framed.Block block) frames.old.items names.old s.old) }
     ensures remains { OnErr result (Remains s.old.state s.new.state) }
     ensures names { KeepsNames names.old.names names.new.names }
-    ensures kept { (m : ℕ) → m ≤ s.old.state.ctx.now.graph.made → IsClosedBelow m s.old.state.ctx.now.graph → IsSound m names.old s.old.state
+    ensures kept { (m : ℕ) → m ≤ s.old.state.ctx.now.graph.made → IsClosedBelow m s.old.state.ctx.now.graph →
+        IsSound m names.old s.old.state
         → AreAllNew m s.old.state.ctx.now.graph (Some (framed.Block block)) frames.old.items → KeepsOlder m s.old.state.ctx.now s.new.state.ctx.now }
 {
     if !another_stands(&mut s.stream, block.first) {
@@ -273,11 +293,13 @@ pub(crate) fn step<T: IrText<A>, A: AttrText, U>(
     requires sound { IsSoundOnce names.old s.old.state }
     requires here { AreHere T A (whole s.old.stream) s.old.state.ctx.now names.old (Some frame) frames.old.items }
     ensures lent { s.new.state.ctx.ghost_name ≡ s.old.state.ctx.ghost_name }
-    ensures proceeds { IfOk result (λ next. Proceeds T.IrText.reading (attr_at A.IrText.reading) frame frames.old.items names.old s.old names.new s.new next frames.new.items) }
+    ensures proceeds { IfOk result (λ next. Proceeds T.IrText.reading (attr_at A.IrText.reading) frame frames.old.items names.old
+        s.old names.new s.new next frames.new.items) }
     ensures stops { IfErr result (Stops T.IrText.reading (attr_at A.IrText.reading) frame frames.old.items names.old s.old) }
     ensures remains { OnErr result (Remains s.old.state s.new.state) }
     ensures names { KeepsNames names.old.names names.new.names }
-    ensures kept { (m : ℕ) → m ≤ s.old.state.ctx.now.graph.made → IsClosedBelow m s.old.state.ctx.now.graph → IsSound m names.old s.old.state
+    ensures kept { (m : ℕ) → m ≤ s.old.state.ctx.now.graph.made → IsClosedBelow m s.old.state.ctx.now.graph →
+        IsSound m names.old s.old.state
         → AreAllNew m s.old.state.ctx.now.graph (Some frame) frames.old.items → KeepsOlder m s.old.state.ctx.now s.new.state.ctx.now }
 {
     match frame {

@@ -44,11 +44,13 @@ pub(crate) fn begin<T: IrText<A>, A: AttrText, U>(
     requires place { IfSome block (λ b. IsThere s.old.state.ctx.now (TheBlock b)) }
     ensures lent { s.new.state.ctx.ghost_name ≡ s.old.state.ctx.ghost_name }
     ensures begins { IfOk result (λ b. Begins T.IrText.reading (attr_at A.IrText.reading) names.old s.old block b names.new s.new) }
-    ensures refused { IfErr result (UnlessMemory (RefusesOperation T.IrText.reading (attr_at A.IrText.reading) true (is_some block) names.old s.old)) }
+    ensures refused { IfErr result (UnlessMemory (RefusesOperation T.IrText.reading (attr_at A.IrText.reading) true (is_some block)
+        names.old s.old)) }
     ensures unread { IfErr result (λ fault. fault.committed ≡ false → s.new.stream ≡ s.old.stream) }
     ensures remains { OnErr result (Remains s.old.state s.new.state) }
     ensures names { KeepsNames names.old.names names.new.names }
-    ensures kept { (m : ℕ) → m ≤ s.old.state.ctx.now.graph.made → IsClosedBelow m s.old.state.ctx.now.graph → IsSound m names.old s.old.state
+    ensures kept { (m : ℕ) → m ≤ s.old.state.ctx.now.graph.made → IsClosedBelow m s.old.state.ctx.now.graph →
+        IsSound m names.old s.old.state
         → IfSome block (λ b. IsNew m s.old.state.ctx.now.graph (TheBlock b)) → KeepsOlder m s.old.state.ctx.now s.new.state.ctx.now }
 {
     operation_begin(s, names, block)
@@ -64,15 +66,19 @@ pub(crate) fn go_on<T: IrText<A>, A: AttrText, U>(
     requires sound { IsSoundOnce names.old s.old.state }
     requires stands { IsSome (operation s.old.state.ctx.now begun.old.op) }
     requires step { IsNext s.old.state.ctx.now.dialects begun.old comes.Piece }
-    requires begun { (o : Begun T A) × (step : Step) × (ss : List Step) × IsBegun names.old.names (whole s.old.stream) s.old.state.ctx.now begun.old o × (o.steps ≡ step ∷ ss) }
+    requires begun { (o : Begun T A) × (step : Step) × (ss : List Step) × IsBegun names.old.names (whole s.old.stream)
+        s.old.state.ctx.now begun.old o × (o.steps ≡ step ∷ ss) }
     ensures lent { s.new.state.ctx.ghost_name ≡ s.old.state.ctx.ghost_name }
-    ensures goes_on { OnOk result (Continues T.IrText.reading (attr_at A.IrText.reading) names.old s.old begun.old begun.new names.new s.new) }
-    ensures refused { IfErr result (λ fault. (o : Begun T A) (step : Step) (ss : List Step) → IsBegun names.old.names (whole s.old.stream) s.old.state.ctx.now begun.old o → o.steps ≡ step ∷ ss
+    ensures goes_on { OnOk result (Continues T.IrText.reading (attr_at A.IrText.reading) names.old s.old begun.old begun.new
+        names.new s.new) }
+    ensures refused { IfErr result (λ fault. (o : Begun T A) (step : Step) (ss : List Step) →
+        IsBegun names.old.names (whole s.old.stream) s.old.state.ctx.now begun.old o → o.steps ≡ step ∷ ss
         → UnlessMemory (RefusesPiece T.IrText.reading (attr_at A.IrText.reading) o step names.old s.old) fault) }
     ensures committed { IfErr result (λ fault. fault.committed ≡ true) }
     ensures remains { OnErr result (Remains s.old.state s.new.state) }
     ensures names { KeepsNames names.old.names names.new.names }
-    ensures kept { (m : ℕ) → m ≤ s.old.state.ctx.now.graph.made → IsClosedBelow m s.old.state.ctx.now.graph → IsSound m names.old s.old.state
+    ensures kept { (m : ℕ) → m ≤ s.old.state.ctx.now.graph.made → IsClosedBelow m s.old.state.ctx.now.graph →
+        IsSound m names.old s.old.state
         → IsNew m s.old.state.ctx.now.graph (TheOperation begun.old.op) → KeepsOlder m s.old.state.ctx.now s.new.state.ctx.now }
 {
     operation_piece(s, names, begun)
@@ -97,7 +103,8 @@ pub(crate) fn end<T: IrText<A>, A: AttrText, U>(
     ensures committed { IfErr result (λ fault. fault.committed ≡ true) }
     ensures remains { OnErr result (Remains s.old.state s.new.state) }
     ensures names { KeepsNames names.old.names names.new.names }
-    ensures kept { (m : ℕ) → m ≤ s.old.state.ctx.now.graph.made → IsClosedBelow m s.old.state.ctx.now.graph → IsSound m names.old s.old.state
+    ensures kept { (m : ℕ) → m ≤ s.old.state.ctx.now.graph.made → IsClosedBelow m s.old.state.ctx.now.graph →
+        IsSound m names.old s.old.state
         → IsNew m s.old.state.ctx.now.graph (TheOperation begun.now.op) → KeepsOlder m s.old.state.ctx.now s.new.state.ctx.now }
 {
     operation_end(s, names, begun)
@@ -119,7 +126,8 @@ pub(crate) fn enter<T: IrText<A>, A: AttrText, U>(
     ensures committed { IfErr result (λ fault. fault.committed ≡ true) }
     ensures remains { OnErr result (Remains s.old.state s.new.state) }
     ensures names { KeepsNames names.old.names names.new.names }
-    ensures kept { (m : ℕ) → m ≤ s.old.state.ctx.now.graph.made → IsClosedBelow m s.old.state.ctx.now.graph → IsSound m names.old s.old.state
+    ensures kept { (m : ℕ) → m ≤ s.old.state.ctx.now.graph.made → IsClosedBelow m s.old.state.ctx.now.graph →
+        IsSound m names.old s.old.state
         → IsNew m s.old.state.ctx.now.graph (TheOperation op) → KeepsOlder m s.old.state.ctx.now s.new.state.ctx.now }
 {
     region_begin(s, names, op, isolated)
@@ -136,12 +144,14 @@ pub(crate) fn leave<T: IrText<A>, A: AttrText, U>(
     requires begun { (place : ℕ) × IsRegion names.old.names (whole s.old.stream) s.old.state.ctx.now region region.isolated place }
     ensures lent { s.new.state.ctx.ghost_name ≡ s.old.state.ctx.ghost_name }
     ensures leaves { OnOk result (Leaves T.IrText.reading (attr_at A.IrText.reading) names.old s.old region names.new s.new) }
-    ensures refused { IfErr result (λ fault. (place : ℕ) → IsRegion names.old.names (whole s.old.stream) s.old.state.ctx.now region region.isolated place
+    ensures refused { IfErr result (λ fault. (place : ℕ) → IsRegion names.old.names (whole s.old.stream) s.old.state.ctx.now region
+        region.isolated place
         → UnlessMemory (RefusesRegionEnd T.IrText.reading (attr_at A.IrText.reading) region.isolated place names.old s.old) fault) }
     ensures committed { IfErr result (λ fault. fault.committed ≡ true) }
     ensures remains { OnErr result (Remains s.old.state s.new.state) }
     ensures names { KeepsNames names.old.names names.new.names }
-    ensures kept { (m : ℕ) → m ≤ s.old.state.ctx.now.graph.made → IsClosedBelow m s.old.state.ctx.now.graph → IsSound m names.old s.old.state
+    ensures kept { (m : ℕ) → m ≤ s.old.state.ctx.now.graph.made → IsClosedBelow m s.old.state.ctx.now.graph →
+        IsSound m names.old s.old.state
         → IsNew m s.old.state.ctx.now.graph (TheRegion region.region) → KeepsOlder m s.old.state.ctx.now s.new.state.ctx.now }
 {
     region_end(s, names, region)
@@ -164,7 +174,8 @@ pub(crate) fn head<T: IrText<A>, A: AttrText, U>(
     ensures committed { IfErr result (λ fault. fault.committed ≡ true) }
     ensures remains { OnErr result (Remains s.old.state s.new.state) }
     ensures names { KeepsNames names.old.names names.new.names }
-    ensures kept { (m : ℕ) → m ≤ s.old.state.ctx.now.graph.made → IsClosedBelow m s.old.state.ctx.now.graph → IsSound m names.old s.old.state
+    ensures kept { (m : ℕ) → m ≤ s.old.state.ctx.now.graph.made → IsClosedBelow m s.old.state.ctx.now.graph →
+        IsSound m names.old s.old.state
         → IsNew m s.old.state.ctx.now.graph (TheRegion region) → KeepsOlder m s.old.state.ctx.now s.new.state.ctx.now }
 {
     block_begin(s, names, region)

@@ -64,7 +64,8 @@ fn marked_parse<T: IrText<A>, A: AttrText, U>(
         (RefusesWith (texts_of T.IrText.reading T.IrText.written) (texts_of A.IrText.reading A.IrText.written) T.IrText.reading
         (attr_at A.IrText.reading) s.old.state.ctx.now.dialects look s.old.stream)) }
     ensures noted { OnErr result ((more : List (ℕ × Item)) × (marks_of s.new.state ≡ marks_of s.old.state ++ more)) }
-    ensures closed { IsClosedBelow s.old.state.ctx.now.graph.made s.old.state.ctx.now.graph → IsClosedBelow s.old.state.ctx.now.graph.made s.new.state.ctx.now.graph }
+    ensures closed { IsClosedBelow s.old.state.ctx.now.graph.made s.old.state.ctx.now.graph →
+        IsClosedBelow s.old.state.ctx.now.graph.made s.new.state.ctx.now.graph }
     ensures kept { IsFresh s.old → KeepsOlder s.old.state.ctx.now.graph.made s.old.state.ctx.now s.new.state.ctx.now }
     ensures kept_alone { look ≡ false → KeepsOlder s.old.state.ctx.now.graph.made s.old.state.ctx.now s.new.state.ctx.now }
     ensures kept_else { OnErr result (KeepsOlder s.old.state.ctx.now.graph.made s.old.state.ctx.now s.new.state.ctx.now) }
@@ -105,7 +106,8 @@ pub fn outermost_parse<T: IrText<A>, A: AttrText, U>(
     ensures objects { OnErr result (SameObjects s.old.state.ctx.now s.new.state.ctx.now) }
     ensures marks { OnErr result (marks_of s.new.state ≡ marks_of s.old.state) }
     ensures keeps { IsFresh s.old → OnOk result (KeepsOlder s.old.state.ctx.now.graph.made s.old.state.ctx.now s.new.state.ctx.now) }
-    ensures closed { OnOk result (IsClosedBelow s.old.state.ctx.now.graph.made s.old.state.ctx.now.graph → IsClosedBelow s.old.state.ctx.now.graph.made s.new.state.ctx.now.graph) }
+    ensures closed { OnOk result (IsClosedBelow s.old.state.ctx.now.graph.made s.old.state.ctx.now.graph →
+        IsClosedBelow s.old.state.ctx.now.graph.made s.new.state.ctx.now.graph) }
 {
     if s.stream.has_failed() {
         return Err(failed_fault(&s.stream));
@@ -168,7 +170,8 @@ pub fn root_parse<T: IrText<A>, A: AttrText, U>(
     ensures objects { OnErr result (SameObjects s.old.state.ctx.now s.new.state.ctx.now) }
     ensures marks { OnErr result (marks_of s.new.state ≡ marks_of s.old.state) }
     ensures keeps { IsFresh s.old → OnOk result (KeepsOlder s.old.state.ctx.now.graph.made s.old.state.ctx.now s.new.state.ctx.now) }
-    ensures closed { OnOk result (IsClosedBelow s.old.state.ctx.now.graph.made s.old.state.ctx.now.graph → IsClosedBelow s.old.state.ctx.now.graph.made s.new.state.ctx.now.graph) }
+    ensures closed { OnOk result (IsClosedBelow s.old.state.ctx.now.graph.made s.old.state.ctx.now.graph →
+        IsClosedBelow s.old.state.ctx.now.graph.made s.new.state.ctx.now.graph) }
 {
     outermost_parse(s, true)
 }
