@@ -22,13 +22,14 @@ ghost use Rattle.irtext_read.specs.AttrTexts.{attr_at};
 ghost use Rattle.irtext_round_trip.specs.Back.{ClosedRoot};
 ghost use Rattle.irtext_comes_back.specs.Calls.{IsClosed, IsPrinted, ComesBack, ComesBackWhole, ReadsText, RefusesText, IsExcused, IsAgain, IsExcusedAgain};
 
-use crate::reading::root_parse;
+
 use irtext_base::location::Source;
 use irtext_base::parsable::{ParseFault, ParseResult, SourcePosition, TextStream};
 use irtext_base::result::Cause;
 use irtext_base::text::{AttrText, IrText};
 use irtext_context::base::{Context, Operation, Ptr};
 use irtext_kept::context::keeps_parts;
+use irtext_parse_root::outermost::root_parse;
 use irtext_print::printable::{Refusal, State as PrintState};
 use irtext_print_ir::ir::print::print_root;
 use irtext_state::parsable::{State, StateStream};
