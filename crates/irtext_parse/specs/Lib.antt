@@ -1,2 +1,0 @@
--- What readers answer of a text and do to a context
-pub mod Readers

@@ -1,4 +1,4 @@
-//! The marker of outlined items, and their section.
+//! The marker of outlined items.
 
 mod marker;
 pub mod outlined;

@@ -1,4 +1,4 @@
-//! Reading: what is parsable, the section of marked items, and operations.
+//! Reading: what is parsable, the marker of outlined items, and operations.
 #![tactic(auto)]
 
 pub mod ir;

@@ -1,9 +1,5 @@
 //! What is parsable: the trait. Streams, the state of a reading and the faults of readers are handed on from below.
 
-ghost use Rattle.std.specs.Prelude.{◌≡◌};
-ghost use Rattle.irtext_base.specs.Answers.{StarvesHere};
-ghost use Rattle.irtext_outcomes.specs.Readers.Streams.{itself, replaced};
-
 mod locations;
 mod tokens;
 
@@ -12,7 +8,6 @@ pub use irtext_base::parsable::{
     UnresolvedReference,
 };
 use irtext_base::text::{AttrText, IrText};
-use irtext_read::irfmt::faults;
 pub use irtext_read::parsable::{IntoParseResult, OwnStream};
 pub use irtext_state::parsable::{
     State, StateStream, StreamLocation, parse_from_str, state_stream_from_iterator,
@@ -27,14 +22,4 @@ pub trait Parsable<T: IrText<A>, A: AttrText, U> {
 
     /// Reads one where the stream stands.
     fn parse(stream: &mut StateStream<'_, T, A, U>, arg: Self::Arg) -> ParseResult<Self::Parsed, A>;
-}
-
-/// The fault where memory was refused, or a counter is full. The stream has failed.
-pub(crate) fn out_of_memory<T: IrText<A>, A: AttrText, U>(
-    s: &mut StateStream<'_, T, A, U>,
-) -> ParseFault<A>
-    ensures starved { StarvesHere itself replaced s.old.stream result s.new.stream }
-    ensures state { s.new.state ≡ s.old.state }
-{
-    faults::out_of_memory(&mut s.stream)
 }

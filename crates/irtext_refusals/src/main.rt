@@ -5,6 +5,7 @@
 
 mod locating;
 mod printing;
+mod reading;
 mod registering;
 mod strings;
 
@@ -65,6 +66,7 @@ impl Fault {
 /// The calls that a word can name.
 #[derive(Clone, Copy)]
 enum Call {
+    Again,
     Disp,
     Location,
     Objects,
@@ -75,6 +77,7 @@ impl Call {
     /// The call that a word names.
     fn of(word: &str) -> Option<Call> {
         match word {
+            "again" => Some(Call::Again),
             "disp" => Some(Call::Disp),
             "location" => Some(Call::Location),
             "objects" => Some(Call::Objects),
@@ -86,6 +89,7 @@ impl Call {
     /// The text of the call.
     fn answer(self, alloc: Global, text: &str) -> Result<String, Fault> {
         match self {
+            Call::Again => reading::again(alloc, text),
             Call::Disp => printing::displayed(alloc, text),
             Call::Location => locating::read(alloc, text),
             Call::Objects => registering::objects(alloc, text),

@@ -1,4 +1,5 @@
-//! Printing a root where a request for memory is refused: the first printing fails, and a second one writes the text.
+//! Printing a root where a request for memory is refused: the first printing fails, and a second one writes the text. A state that is lent
+//! keeps its layout through either.
 ghost use Rattle.std.specs.Prelude.{IsSome};
 ghost use Rattle.irtext_context.specs.Context.{operation};
 
@@ -7,7 +8,7 @@ use irtext_types::dialects::register_demo;
 use pliron_text::base::{Context, Operation, Ptr};
 use pliron_text::ir::OperationText;
 use pliron_text::parsable::parse_from_str;
-use pliron_text::printable::Disp;
+use pliron_text::printable::{Disp, Printable, RegionPrintDepthLimit, State};
 use std::alloc::Global;
 use std::fmt::Write;
 
@@ -50,10 +51,56 @@ fn twice(alloc: Global, ctx: &Ctx, root: Ptr<Operation>) -> Result<String, Fault
     }
 }
 
-/// The text of the root that stands in the text, which is printed twice.
+/// The limit of a state that is lent.
+const LIMIT: RegionPrintDepthLimit = RegionPrintDepthLimit::Max(3);
+
+/// A state of another layout than a new one has.
+fn layout(alloc: Global) -> State<()> {
+    State::with_layout(alloc, 4, 1, LIMIT, ())
+}
+
+/// Whether a state has that layout.
+fn has_layout(state: &State<()>) -> bool {
+    state.indent_width() == 4
+        && state.current_indent() == 1
+        && state.current_region_print_depth_limit() == LIMIT
+}
+
+/// The text of a root in that layout, unless its printing is refused. The state that is lent keeps the layout.
+fn appended(alloc: Global, ctx: &Ctx, root: Ptr<Operation>) -> Result<Option<String>, Fault>
+    requires { IsSome (operation ctx.now root) }
+{
+    let mut state = layout(alloc);
+    let mut text = String::new(alloc);
+    let is_written = root.fmt(ctx, &mut state, &mut text).is_ok();
+    if !has_layout(&state) {
+        return Err(Fault::Wrong);
+    }
+    Ok(if is_written { Some(text) } else { None })
+}
+
+/// The text of a root in that layout, which is printed twice; where the first printing is refused the second has to write it.
+fn twice_lent(alloc: Global, ctx: &Ctx, root: Ptr<Operation>) -> Result<String, Fault>
+    requires { IsSome (operation ctx.now root) }
+{
+    let first = appended(alloc, ctx, root)?;
+    let second = appended(alloc, ctx, root)?;
+    match (first, second) {
+        (Some(first), Some(second)) => compared(first.as_str(), second),
+        (None, Some(second)) => Ok(second),
+        (Some(_), None) => Err(Fault::Memory),
+        (None, None) => Err(Fault::Wrong),
+    }
+}
+
+/// The text of the root that stands in the text, which is printed twice as it is displayed, and twice with a state that is lent.
 fn read(alloc: Global, ctx: &mut Ctx, text: &str) -> Result<String, Fault> {
     match parse_from_str(|stream| Operation::top_level_parse(stream), ctx, text) {
-        Ok(root) => twice(alloc, ctx, root),
+        Ok(root) => {
+            let displayed = twice(alloc, ctx, root)?;
+            let lent = twice_lent(alloc, ctx, root)?;
+            Ok(format!(in alloc; "{displayed}{lent}")?)
+        }
         Err(error) => Err(Fault::of(&error)),
     }
 }

@@ -5,5 +5,4 @@ pub mod Sections
 pub mod Formats
 pub mod Located
 pub mod LocationRows
-pub mod PlainRoots
 pub mod Labels

@@ -4,4 +4,3 @@
 pub mod definitions;
 pub mod labels;
 pub mod location_rows;
-pub mod plain_roots;

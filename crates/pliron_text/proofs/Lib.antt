@@ -1,4 +1,3 @@
 pub mod RoundTrips
 pub mod KeptParts
 pub mod KeptLocations
-pub mod TextBack

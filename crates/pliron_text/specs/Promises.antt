@@ -6,7 +6,9 @@ pub use Rattle.irtext_outcomes.specs.Promises.Root
 pub use Rattle.irtext_outcomes.specs.Promises.KeptRoot
 pub use Rattle.irtext_outcomes.specs.Promises.PrintedBack
 pub use Rattle.irtext_outcomes.specs.Promises.LocationsBack
-pub mod PlainForm
-pub mod PlainRoot
-pub mod PrintedRoot
-pub mod ReadBack
+pub use Rattle.irtext_promises.specs.Promises
+pub use Rattle.irtext_promises.specs.Held
+pub use Rattle.irtext_promises.specs.OnlyNew
+pub use Rattle.irtext_parse_root.specs.Whole
+pub use Rattle.irtext_two_calls.specs.PrintedRoot
+pub use Rattle.irtext_comes_back.specs.Calls

@@ -1,4 +1,6 @@
 //! The worked rows, and inputs and outputs that fail.
+mod blocks;
+
 use super::run;
 use std::io;
 use std::io::{Read, Write};

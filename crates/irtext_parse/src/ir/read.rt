@@ -6,24 +6,16 @@ ghost use Rattle.irtext_read.specs.AttrTexts.{attr_at};
 ghost use Rattle.irtext_state.specs.States.{marks_of};
 ghost use Rattle.irtext_outcomes.specs.Readers.Refusals.{Refusal, RefusesFailed};
 ghost use Rattle.irtext_outcomes.specs.Readers.Streams.{KeepsRest};
-ghost use Rattle.irtext_outcomes.specs.Promises.Root.{IsFresh, BuildsWith, RefusesWith, UnlessMemory};
-ghost use Rattle.irtext_outcomes.specs.Promises.Section.{ReadsWith, MissesWith};
-
-mod body;
-mod head;
-mod known;
-mod mark;
-mod operation;
-mod root;
-mod whole;
+ghost use Rattle.irtext_outcomes.specs.Promises.Root.{IsFresh, UnlessMemory};
+ghost use Rattle.irtext_promises.specs.Promises.{BuildsWith, RefusesWith};
+ghost use Rattle.irtext_parse_root.specs.AnyState.{ReadsAny, MissesAny};
 
 use crate::parsable::Parsable;
-use irtext_base::parsable::{CharStream, ParseResult};
+use irtext_base::parsable::ParseResult;
 use irtext_base::text::{AttrText, IrText};
 use irtext_context::base::{Operation, Ptr};
+use irtext_parse_root::outermost::outermost_parse;
 use irtext_state::parsable::StateStream;
-pub use root::outermost_parse;
-pub use whole::whole_parse;
 
 /// How an operation is read.
 #[derive(Clone, Copy)]
@@ -37,8 +29,8 @@ impl<T: IrText<A>, A: AttrText, U> Parsable<T, A, U> for Operation {
 
     type Parsed = Ptr<Operation>;
 
-    /// Reads an operation with its mark and, where that is asked for and a mark is noted, the section of all marks. Without the
-    /// section its mark stays noted. Faults, and what they leave, are those of `top_level_parse`.
+    /// Reads an operation with all that nests in it and, where that is asked for and a mark is noted, the section of all marks.
+    /// Without the section its marks stay noted. Faults, and what they leave, are those of `top_level_parse`.
     fn parse(
         stream: &mut StateStream<'_, T, A, U>,
         config: OperationParserConfig,
@@ -47,21 +39,22 @@ impl<T: IrText<A>, A: AttrText, U> Parsable<T, A, U> for Operation {
         ensures rest { KeepsRest stream.old.state stream.new.state }
         ensures refused { IfErr result (λ fault. Refusal stream.old.stream fault stream.new.stream) }
         ensures failed { RefusesFailed stream.old.stream result stream.new.stream }
-        ensures read { IfOk result (λ op. ReadsWith (attr_at A.IrText.reading) config.look_for_outlined_attrs op stream.old stream.new) }
+        ensures read { IfOk result (λ op.
+            ReadsAny T.reading (attr_at A.reading) config.look_for_outlined_attrs op stream.old stream.new) }
+        ensures missed { stream.old.stream.failed ≡ false →
+            IfErr result (UnlessMemory
+            (MissesAny T.reading (attr_at A.reading) config.look_for_outlined_attrs stream.old)) }
         ensures builds { IsFresh stream.old →
             IfOk result (λ op. BuildsWith (texts_of T.reading T.written) (texts_of A.reading A.written)
             (attr_at A.reading) config.look_for_outlined_attrs op stream.old stream.new) }
         ensures unresolved { IsFresh stream.old →
             IfErr result (UnlessMemory
-            (RefusesWith (texts_of T.reading T.written) (texts_of A.reading A.written)
+            (RefusesWith (texts_of T.reading T.written) (texts_of A.reading A.written) T.reading
             (attr_at A.reading) stream.old.state.ctx.now.dialects config.look_for_outlined_attrs
             stream.old.stream)) }
-        ensures missed { stream.old.stream.failed ≡ false →
-            IfErr result (λ fault. MissesWith (attr_at A.IrText.reading) config.look_for_outlined_attrs
-            stream.old fault) }
         ensures objects { OnErr result (SameObjects stream.old.state.ctx.now stream.new.state.ctx.now) }
         ensures marks { OnErr result (marks_of stream.new.state ≡ marks_of stream.old.state) }
     {
-        outermost_parse(stream, config)
+        outermost_parse(stream, config.look_for_outlined_attrs)
     }
 }

@@ -5,26 +5,28 @@ ghost use Rattle.irtext_base.specs.Own.{texts_of};
 ghost use Rattle.irtext_read.specs.AttrTexts.{attr_at};
 ghost use Rattle.irtext_state.specs.States.{marks_of};
 ghost use Rattle.irtext_outcomes.specs.Readers.Refusals.{Refusal, RefusesFailed};
-ghost use Rattle.irtext_outcomes.specs.Promises.Root.{IsFresh, BuildsRoot, RefusesRoot, UnlessMemory};
-ghost use Rattle.irtext_outcomes.specs.Promises.Whole.{BuildsWhole, RefusesWhole};
+ghost use Rattle.irtext_outcomes.specs.Promises.Root.{IsFresh, UnlessMemory};
+ghost use Rattle.irtext_promises.specs.Promises.{BuildsRoot, RefusesRoot};
+ghost use Rattle.irtext_parse_root.specs.Whole.{BuildsWhole, RefusesWhole};
 ghost use Rattle.irtext_outcomes.specs.Readers.Streams.{KeepsRest};
 
 use irtext_base::parsable::ParseResult;
 use irtext_base::text::{AttrText, IrText};
 use irtext_context::base::{Context, Operation, Ptr};
-use irtext_parse::ir::read::{OperationParserConfig, outermost_parse, whole_parse};
+use irtext_parse_root::outermost::root_parse;
+use irtext_parse_root::whole::whole_parse;
 use irtext_print_ir::ir::print::concrete::OpObj;
 use irtext_state::parsable::StateStream;
 
 /// Calls of operations that are about their text.
 pub trait OperationText {
-    /// Reads a root where the stream stands and, where it has a mark, the section behind it. What follows is not looked at, so
+    /// Reads a root with all that nests in it where the stream stands and, where it has a mark, the section behind it. What follows is not looked at, so
     /// roots can stand one behind the other on one stream.
     ///
     /// The root's location is the place where it begins, unless its entry in the section gives another. A fault says why the text
     /// is refused, and where: at which line and column, both counted from 1, in characters. It is uncommitted where nothing was
-    /// read; else the stream has failed, and each later reader on it answers that. Whatever the fault, want of memory too, the
-    /// context's objects, the marks, the source and the caller's data are as they were; the context may keep more paths.
+    /// read; else the stream has failed, and each later reader on it answers that. Whatever the fault, the marks, the source and
+    /// the caller's data are as they were, and so are the context's objects; the context may keep more paths.
     fn top_level_parse<T: IrText<A>, A: AttrText, U>(
         stream: &mut StateStream<'_, T, A, U>,
     ) -> ParseResult<Ptr<Operation>, A>
@@ -37,7 +39,7 @@ pub trait OperationText {
             (attr_at A.reading) op stream.old stream.new) }
         ensures unresolved { IsFresh stream.old →
             IfErr result (UnlessMemory
-            (RefusesRoot (texts_of T.reading T.written) (texts_of A.reading A.written)
+            (RefusesRoot (texts_of T.reading T.written) (texts_of A.reading A.written) T.reading
             (attr_at A.reading) stream.old.state.ctx.now.dialects stream.old.stream)) }
         ensures objects { OnErr result (SameObjects stream.old.state.ctx.now stream.new.state.ctx.now) }
         ensures marks { OnErr result (marks_of stream.new.state ≡ marks_of stream.old.state) };
@@ -53,11 +55,11 @@ pub trait OperationText {
         ensures refused { IfErr result (λ fault. Refusal stream.old.stream fault stream.new.stream) }
         ensures failed { RefusesFailed stream.old.stream result stream.new.stream }
         ensures builds { IsFresh stream.old →
-            IfOk result (λ op. BuildsWhole (texts_of T.reading T.written) (texts_of A.reading A.written)
+            IfOk result (λ op. BuildsWhole (texts_of T.reading T.written) (texts_of A.reading A.written) T.reading
             (attr_at A.reading) op stream.old stream.new) }
         ensures unresolved { IsFresh stream.old →
             IfErr result (UnlessMemory
-            (RefusesWhole (texts_of T.reading T.written) (texts_of A.reading A.written)
+            (RefusesWhole (texts_of T.reading T.written) (texts_of A.reading A.written) T.reading
             (attr_at A.reading) stream.old)) }
         ensures objects { IsFresh stream.old → OnErr result (SameObjects stream.old.state.ctx.now stream.new.state.ctx.now) }
         ensures marks { IsFresh stream.old → OnErr result (marks_of stream.new.state ≡ []) };
@@ -72,12 +74,7 @@ impl OperationText for Operation {
     fn top_level_parse<T: IrText<A>, A: AttrText, U>(
         stream: &mut StateStream<'_, T, A, U>,
     ) -> ParseResult<Ptr<Operation>, A> {
-        outermost_parse(
-            stream,
-            OperationParserConfig {
-                look_for_outlined_attrs: true,
-            },
-        )
+        root_parse(stream)
     }
 
     fn whole_text_parse<T: IrText<A>, A: AttrText, U>(

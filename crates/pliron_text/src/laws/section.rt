@@ -10,9 +10,8 @@ ghost use Rattle.irtext_grammar.specs.Graphs.Contents.{Contents};
 ghost use Rattle.irtext_grammar.specs.Graphs.ReservedKeys.{GraphKeepsKeys};
 ghost use Rattle.irtext_grammar.specs.Graphs.Graph.{entries_of, shared, written, Graph, Printing};
 ghost use Rattle.irtext_grammar.specs.Grammar.Marked.{reads_root};
-ghost use Rattle.pliron_text.specs.Promises.PlainRoot.{GivesIdentifiers, PlainRoot};
 ghost use Rattle.irtext_grammar.specs.Grammar.Section.{Entry};
-ghost use Rattle.irtext_grammar.specs.Graphs.RoundTrip.{ComesBack, GraphHeld, LocationReads};
+ghost use Rattle.irtext_grammar.specs.Graphs.RoundTrip.{GraphHeld};
 ghost use Rattle.irtext_grammar.specs.Graphs.Same.{stood, Locations, SameShapes, SmallGraph};
 ghost use Rattle.irtext_grammar.specs.Names.Scopes.{facts};
 ghost use Rattle.irtext_grammar.specs.Names.Script.{done};
@@ -22,17 +21,6 @@ ghost use Rattle.irtext_grammar.specs.Graphs.Identifiers.{HasIdentifiers};
 ghost use Rattle.irtext_grammar.specs.Spelling.SectionEntries.{bare_section, index_of, numbers, written_section, SmallSection};
 
 use irtext_base::text::{AttrText, IrText};
-
-/// The printed text of a root without blocks, values and outlined attributes, whose format names no value, block or type, with the
-/// section of its location where that is known, reads as a tree and entries that resolve, and what they build is equal to the root:
-/// a position stands where the location was unknown, and nothing else differs.
-pub fn plain_root_comes_back<T: IrText<A>, A: AttrText, X>()
-    ensures { (location_at : List ℕ → Standing X) (K : Locations X) (first : ℕ → X) (C : Printing T A)
-        (isolated : Id → Bool) (g : Graph T A) (width n : ℕ) →
-        ((p : ℕ) → K.is_position (first p) ≡ true) → GivesIdentifiers C → PlainRoot C isolated g →
-        LocationReads location_at K g.own.location →
-        ComesBack (texts_of T.reading T.written) (texts_of A.reading A.written) location_at K first C isolated g width n }
-{}
 
 /// The text of a closed root whose operations fit accepted formats, with its section, reads as a tree and entries, which
 /// are the written ones but for their places. They resolve; each item's mark leads to the item's own location and outlined

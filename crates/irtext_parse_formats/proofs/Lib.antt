@@ -1,2 +1,0 @@
--- Steps of the readers of formats.
-pub mod PieceSteps

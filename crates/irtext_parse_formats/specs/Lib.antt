@@ -1,2 +1,0 @@
--- What was read of an operation, as the code holds it.
-pub mod PiecesOf

@@ -1,5 +1,0 @@
-//! What the directives of a format read.
-
-mod entries;
-pub mod pieces;
-mod region;

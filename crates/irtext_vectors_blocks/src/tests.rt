@@ -1,0 +1,12 @@
+//! The tests, a file for each thing that they are about.
+mod broken;
+mod counters;
+mod edits;
+mod formats;
+mod hostile;
+mod parts;
+mod prefixes;
+mod printing;
+mod standing;
+mod streams;
+mod uses;
