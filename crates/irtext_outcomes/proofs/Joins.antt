@@ -2,14 +2,7 @@
 pub mod Answers
 pub mod Tokens
 pub mod Section
-pub mod Entries
-pub mod Root
-pub mod Marks
 pub mod Lead
-pub mod Operation
-pub mod Plain
-pub mod Refused
-pub mod Top
 pub mod Attributes
 pub mod Lists
 pub mod Pieces

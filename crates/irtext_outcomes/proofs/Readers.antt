@@ -6,16 +6,7 @@ pub mod NeverFailed
 pub mod Leads
 pub mod PlainStream
 pub mod PartSteps
-pub mod OperationNeverFailed
 pub mod EntryIndices
 pub mod FirstMissing
-pub mod OperationSteps
 pub mod Answered
-pub mod SectionSteps
-pub mod RootSteps
-pub mod TopLevel
 pub mod MarkerSteps
-pub mod RegionSteps
-pub mod RootKept
-pub mod RootClosed
-pub mod WholeSteps

@@ -6,4 +6,3 @@ pub mod KeptRoot
 pub mod LocationsBack
 pub mod Section
 pub mod Operation
-pub mod Whole
