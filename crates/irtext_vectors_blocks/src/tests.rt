@@ -7,6 +7,7 @@ mod hostile;
 mod parts;
 mod prefixes;
 mod printing;
+mod regions;
 mod standing;
 mod streams;
 mod uses;
