@@ -14,6 +14,7 @@ use Rattle.irtext_read.specs.AttrTexts.{attr_at}
 use Rattle.irtext_state.specs.declared.parsable.state.StateStream.{StateStream}
 use Rattle.irtext_grammar.specs.Contexts.Held.{whole}
 use Rattle.irtext_outcomes.specs.Promises.Root.{UnlessMemory}
+use Rattle.irtext_outcomes.specs.Promises.Section.{is_noted}
 use Rattle.irtext_outcomes.proofs.Joins.Answers.{Splits}
 use Rattle.irtext_nesting.specs.Exact.{NeedsWord}
 use Rattle.irtext_nesting.proofs.Naming.Shorter.{Shortens}
@@ -36,6 +37,26 @@ both_are false b e f = absurd (true≢false (sym e))
 pub first_is_not : (a b : Bool) → a ≡ false → (a && b) ≡ false
 first_is_not true b e = absurd (true≢false e)
 first_is_not false b e = refl
+
+-- a mark is noted where the marks are not none
+pub noted_there : {X : Type 0} (marks : List X) (b : Bool) → (IsTrue b ↔ (marks ≡ [] → ⊥)) → b ≡ true → is_noted marks ≡ true
+noted_there [] b h e = absurd (h.0 (rw e refl) refl)
+noted_there (m ∷ ms) b h e = refl
+
+-- no mark is noted, whatever else is asked
+pub none_noted : {X : Type 0} (a : Bool) (marks : List X) (b : Bool) → (IsTrue b ↔ (marks ≡ [] → ⊥)) → b ≡ false → (a && is_noted marks) ≡ false
+none_noted true [] b h e = refl
+none_noted false [] b h e = refl
+none_noted a (m ∷ ms) b h e = absurd (true≢false (sym (h.1 (λ e. absurd (cc e))) ∙ e))
+
+-- what is said under a test that holds, and under one that fails
+pub held_under : {P : Type 0} (Q : Type 0) (b : Bool) → b ≡ true → P → cond b P Q
+held_under Q true e p = p
+held_under Q false e p = absurd (true≢false (sym e))
+
+pub held_beside : {Q : Type 0} (P : Type 0) (b : Bool) → b ≡ false → Q → cond b P Q
+held_beside P true e q = absurd (true≢false e)
+held_beside P false e q = q
 
 -- ---- what was read
 module _ {T A U : Type 0} (types : Texts T) (owns : Texts A) (attr : Text → Outcome (AttrView A)) (op : Ptr Operation) (old new : StateStream T A U) where

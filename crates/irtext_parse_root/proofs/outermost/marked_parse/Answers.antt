@@ -3,7 +3,6 @@ use Rattle.irtext_base.specs.Own.{texts_of}
 use Rattle.irtext_context.proofs.Kept.{kept_closed, kept_trans}
 use Rattle.irtext_nesting.proofs.Exact.Attributes.{lawful_needs_word}
 use Rattle.irtext_outcomes.proofs.Readers.EntryIndices.{demanded_refusal}
-use Rattle.irtext_outcomes.proofs.Readers.SectionSteps.{noted_there, none_noted, held_under, held_beside}
 use Rattle.irtext_outcomes.specs.Promises.Section.{is_noted}
 use Rattle.irtext_parse_nested.specs.Located.{IsLocated}
 use Rattle.irtext_grammar.specs.Contexts.Held.{whole}
@@ -13,7 +12,7 @@ use Rattle.irtext_state.specs.States.{marks_of}
 use Rattle.irtext_parse_root.specs.AnyState.{no_operation, no_section}
 use Rattle.irtext_parse_root.proofs.Laws.{short}
 use Rattle.irtext_parse_root.proofs.Newer.{all_newer}
-use Rattle.irtext_parse_root.proofs.Outer.{both_are, first_is_not, marks_there, marks_none, built_alone, built_with, refused_with, fault_with}
+use Rattle.irtext_parse_root.proofs.Outer.{both_are, first_is_not, marks_there, marks_none, noted_there, none_noted, held_under, held_beside, built_alone, built_with, refused_with, fault_with}
 use Rattle.irtext_parse_root.proofs.Sectioned.{tree_built, root_unmarked, root_marked, section_refused}
 use Rattle.irtext_parse_root.proofs.outermost.marked_parse.Goals as goal
 use Rattle.irtext_parse_root.proofs.outermost.marked_parse.Goals.{then-not-look-via-then-not-look, then-not-look-via-else-not-look+then-not-has_marks}
