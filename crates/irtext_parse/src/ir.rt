@@ -1,3 +1,4 @@
-//! Operations and regions from text.
+//! Operations, regions and blocks from text.
 
+mod parts;
 pub mod read;

@@ -1,5 +1,8 @@
 //! What is parsable: the trait. Streams, the state of a reading and the faults of readers are handed on from below.
 
+ghost use Rattle.std.specs.Prelude.{⊤};
+ghost use Rattle.irtext_state.specs.declared.parsable.state.StateStream.{StateStream};
+
 mod locations;
 mod tokens;
 
@@ -20,6 +23,10 @@ pub trait Parsable<T: IrText<A>, A: AttrText, U> {
     /// What it gives.
     type Parsed;
 
-    /// Reads one where the stream stands.
-    fn parse(stream: &mut StateStream<'_, T, A, U>, arg: Self::Arg) -> ParseResult<Self::Parsed, A>;
+    // whether it may be read with this argument, as where what the argument names is in the context
+    ghost can_parse: { Arg → StateStream T A U → Type 0 } = { λ _ _. ⊤ };
+
+    /// Reads one from where the stream is.
+    fn parse(stream: &mut StateStream<'_, T, A, U>, arg: Self::Arg) -> ParseResult<Self::Parsed, A>
+        requires { can_parse arg stream.old };
 }

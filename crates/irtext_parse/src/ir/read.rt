@@ -20,7 +20,7 @@ use irtext_state::parsable::StateStream;
 /// How an operation is read.
 #[derive(Clone, Copy)]
 pub struct OperationParserConfig {
-    /// Whether the section of its marked items is read behind it.
+    /// Whether the section of its marked items is read after it.
     pub look_for_outlined_attrs: bool,
 }
 
@@ -29,8 +29,8 @@ impl<T: IrText<A>, A: AttrText, U> Parsable<T, A, U> for Operation {
 
     type Parsed = Ptr<Operation>;
 
-    /// Reads an operation with all that nests in it and, where that is asked for and a mark is noted, the section of all marks.
-    /// Without the section its marks stay noted. Faults, and what they leave, are those of `top_level_parse`.
+    /// Reads an operation with all that nests in it. Where the section is looked for and a mark is noted, the section of all noted marks
+    /// is read after it; else its marks stay noted. Errors, and what they leave unchanged, are those of `top_level_parse`.
     fn parse(
         stream: &mut StateStream<'_, T, A, U>,
         config: OperationParserConfig,

@@ -20,13 +20,21 @@ use irtext_state::parsable::StateStream;
 
 /// Calls of operations that are about their text.
 pub trait OperationText {
-    /// Reads a root with all that nests in it where the stream stands and, where it has a mark, the section behind it. What follows is not looked at, so
-    /// roots can stand one behind the other on one stream.
+    /// Reads an operation with all that nests in it and, where it has a mark, the section after it. The text after that is not looked at,
+    /// so one stream may hold several such operations, one after the other.
     ///
-    /// The root's location is the place where it begins, unless its entry in the section gives another. A fault says why the text
-    /// is refused, and where: at which line and column, both counted from 1, in characters. It is uncommitted where nothing was
-    /// read; else the stream has failed, and each later reader on it answers that. Whatever the fault, the marks, the source and
-    /// the caller's data are as they were, and so are the context's objects; the context may keep more paths.
+    /// The operation's location is the place where it begins, unless its entry in the section gives another. An error says why the text
+    /// is refused, and at which line and column, both counted from 1, in characters. It is uncommitted where nothing was read, and the
+    /// stream is unchanged; else the stream has failed, and each later call on it answers that. Whatever the error, out of memory too,
+    /// all objects of the context, the marks that are noted, the source and the caller's data are unchanged; the context may keep more
+    /// paths of files. This text is a module with a region of one block, which holds one operation:
+    ///
+    /// ```text
+    /// builtin.module @m {
+    ///   ^entry():
+    ///     test.nop
+    /// }
+    /// ```
     fn top_level_parse<T: IrText<A>, A: AttrText, U>(
         stream: &mut StateStream<'_, T, A, U>,
     ) -> ParseResult<Ptr<Operation>, A>
@@ -44,9 +52,9 @@ pub trait OperationText {
         ensures objects { OnErr result (SameObjects stream.old.state.ctx.now stream.new.state.ctx.now) }
         ensures marks { OnErr result (marks_of stream.new.state ≡ marks_of stream.old.state) };
 
-    /// Reads a root as `top_level_parse` does, behind which nothing but white space is left up to the end of the text. Where something
-    /// else is left, the fault is committed and stands there: ``Unexpected `b`, expected end of input``. On a state in which no mark is
-    /// noted, a refusal leaves the context's objects and the marks as they were.
+    /// Reads an operation as `top_level_parse` does, after which only white space may be left up to the end of the text. Where something
+    /// else is left, the error is committed, at its place: ``Unexpected `b`, expected end of input``. On a state in which no mark is
+    /// noted, an error leaves the context's objects and the marks unchanged.
     fn whole_text_parse<T: IrText<A>, A: AttrText, U>(
         stream: &mut StateStream<'_, T, A, U>,
     ) -> ParseResult<Ptr<Operation>, A>

@@ -1,0 +1,59 @@
+//! Regions and blocks read from text, each by a call of its own.
+ghost use Rattle.std.specs.Prelude.{◌≡◌, IsSome, IfOk, IfErr, OnErr};
+ghost use Rattle.irtext_base.specs.Own.{texts_of};
+ghost use Rattle.irtext_context.specs.Context.{operation};
+ghost use Rattle.irtext_context.specs.Made.{SameObjects};
+ghost use Rattle.irtext_state.specs.States.{marks_of};
+ghost use Rattle.irtext_outcomes.specs.Promises.Root.{IsFresh, UnlessMemory};
+ghost use Rattle.irtext_outcomes.specs.Readers.Refusals.{Refusal, RefusesFailed};
+ghost use Rattle.irtext_outcomes.specs.Readers.Streams.{KeepsRest};
+ghost use Rattle.irtext_promises.specs.Alone.{BuildsRegion, RefusesRegion};
+ghost use Rattle.irtext_parse_root.specs.Region.{unisolated};
+
+use crate::parsable::Parsable;
+use irtext_base::parsable::ParseResult;
+use irtext_base::text::{AttrText, IrText};
+use irtext_context::base::{Operation, Ptr, Region};
+use irtext_parse_root::region::region_parse;
+use irtext_state::parsable::StateStream;
+
+impl<T: IrText<A>, A: AttrText, U> Parsable<T, A, U> for Region {
+    /// The operation that gets the region. It has to be in the context.
+    type Arg = Ptr<Operation>;
+
+    type Parsed = Ptr<Region>;
+
+    ghost can_parse = { λ op s. IsSome (operation s.state.ctx.now op) };
+
+    /// Reads `{`, blocks and `}`, with all that nests in them, as the last region of an operation. Names have scopes of their own, so an
+    /// operation that is not isolated from above is refused, at the line and column of its location. The marks of the region are noted,
+    /// and no section is read.
+    ///
+    /// The region is put into the operation last, and only where nothing is refused: a refusal leaves all objects and marks unchanged.
+    /// The fault is uncommitted where no `{` is there; else the stream has failed. This text is a region of one block, which has
+    /// one argument and holds one operation:
+    ///
+    /// ```text
+    /// { ^entry(x: builtin.integer si64): test.use x }
+    /// ```
+    fn parse(
+        stream: &mut StateStream<'_, T, A, U>,
+        op: Ptr<Operation>,
+    ) -> ParseResult<Ptr<Region>, A>
+        ensures lent { stream.new.state.ctx.ghost_name ≡ stream.old.state.ctx.ghost_name }
+        ensures rest { KeepsRest stream.old.state stream.new.state }
+        ensures refused { IfErr result (λ fault. Refusal stream.old.stream fault stream.new.stream) }
+        ensures failed { RefusesFailed stream.old.stream result stream.new.stream }
+        ensures builds { IsFresh stream.old →
+            IfOk result (λ r. BuildsRegion (texts_of T.reading T.written) (texts_of A.reading A.written)
+            op r stream.old stream.new) }
+        ensures unresolved { IsFresh stream.old →
+            IfErr result (UnlessMemory
+            (RefusesRegion (texts_of T.reading T.written) (texts_of A.reading A.written)
+            stream.old.state.ctx.now.dialects (unisolated stream.old.state.ctx.now op) stream.old.stream)) }
+        ensures objects { OnErr result (SameObjects stream.old.state.ctx.now stream.new.state.ctx.now) }
+        ensures marks { OnErr result (marks_of stream.new.state ≡ marks_of stream.old.state) }
+    {
+        region_parse(stream, op)
+    }
+}
