@@ -1,3 +1,1 @@
 pub mod RoundTrips
-pub mod KeptParts
-pub mod KeptLocations

@@ -1,8 +1,8 @@
 //! Operations and regions as text.
 
-mod kept;
 mod text;
 
+pub use irtext_kept::context::keeps_parts;
 pub use irtext_parse::ir::read::OperationParserConfig;
 pub use irtext_print_ir::ir::print::concrete::{OpObj, print_concrete};
 pub use irtext_print_ir::ir::print::debug::{OpDbg, print_dbg};
@@ -10,5 +10,4 @@ pub use irtext_print_ir::ir::print::parts::{print_block, print_region};
 pub use irtext_print_ir::ir::print::print_root;
 pub use irtext_print_ir::ir::verify::{BasicBlockVerifyErr, DefUseVerifyErr};
 pub use irtext_print_pieces::fits::{FitFault, check_fits};
-pub use kept::keeps_parts;
 pub use text::OperationText;

@@ -14,16 +14,7 @@ use pliron_text::printable::State;
 use std::alloc::Global;
 use std::test::Fail;
 
-/// Calls for what an operation's parts keep, if it stands.
-fn keeps(ctx: &Ctx, op: Ptr<Operation>) -> bool {
-    if !ctx.contains_operation(op) {
-        return false;
-    }
-    keeps_parts(ctx, op);
-    true
-}
-
-/// Whether a root is as it was behind that call.
+/// Whether a root is unchanged by the call for what every root keeps.
 fn kept(alloc: Global, ctx: &mut Ctx) -> Result<bool, Fail> {
     let op = root(
         ctx,
@@ -31,7 +22,8 @@ fn kept(alloc: Global, ctx: &mut Ctx) -> Result<bool, Fail> {
     )
     .ok_or("refused")?;
     let before = whole(alloc, ctx, op)?;
-    Ok(keeps(ctx, op) && whole(alloc, ctx, op)? == before)
+    keeps_parts(ctx);
+    Ok(whole(alloc, ctx, op)? == before)
 }
 
 #[test]
