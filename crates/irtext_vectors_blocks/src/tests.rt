@@ -4,6 +4,7 @@ mod counters;
 mod edits;
 mod formats;
 mod hostile;
+mod outside;
 mod parts;
 mod prefixes;
 mod printing;

@@ -11,5 +11,7 @@ pub mod parsers {
         number_as_string_parse, quoted_string_parse, skip_white_space, spaced, text_parse,
         zero_or_more_parser,
     };
+    pub use irtext_parse_root::names::{block_opd_parse, ssa_opd_parse};
+    pub use irtext_parse_root::results::process_parsed_ssa_defs;
     pub use irtext_state::irfmt::parsers::{location, type_parse};
 }
