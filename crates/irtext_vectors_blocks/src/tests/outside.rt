@@ -59,7 +59,7 @@ fn names_are_refused_outside_of_regions(rt: HostRuntime) -> Result<(), Fail> {
 }
 
 /// An operation, the names that its results get, the line and column of each name's location where it has one, and what is said.
-const RESULTS: &[(&str, &[(&str, Option<(u64, u64)>)], &str)] = &[
+const RESULTS: &[(&str, &[(&str, Option<(i32, i32)>)], &str)] = &[
     ("test.nop", &[], "named"),
     (
         "test.make: test.ptr",
@@ -86,7 +86,7 @@ const RESULTS: &[(&str, &[(&str, Option<(u64, u64)>)], &str)] = &[
 /// Names with their locations.
 fn names(
     alloc: Global,
-    row: &[(&str, Option<(u64, u64)>)],
+    row: &[(&str, Option<(i32, i32)>)],
 ) -> Result<Vec<(Identifier, Location<DemoAttr>)>, Fail> {
     let mut names = Vec::new(alloc);
     for (name, at) in row {
@@ -110,7 +110,7 @@ fn results(
     alloc: Global,
     ctx: &mut Ctx,
     op: &str,
-    row: &[(&str, Option<(u64, u64)>)],
+    row: &[(&str, Option<(i32, i32)>)],
 ) -> Result<String, Fail> {
     let op = root(ctx, op).ok_or("refused")?;
     if !ctx.contains_operation(op) {
