@@ -24,3 +24,4 @@ pub mod RegionReads
 pub mod RegionGains
 pub mod RegionMoved
 pub mod RegionBuilt
+pub mod BlockHeads

@@ -1,0 +1,219 @@
+//! A block where no region is open. Its label is defined outside of each scope of labels, so that it is refused whatever it holds.
+ghost use Rattle.std.specs.Prelude.{◌≡◌, ◌<◌, false, true, Some, length, option_copied, IfErr, OnOk};
+ghost use Rattle.irtext_base.specs.Faults as fault;
+ghost use Rattle.irtext_base.specs.Faults.{fault_of};
+ghost use Rattle.irtext_base.specs.Format.{same_text, given_names_key, block_label_key};
+ghost use Rattle.irtext_base.specs.Stream.{IsAt, after_failure};
+ghost use Rattle.irtext_stream.specs.Places.{AtOffset};
+ghost use Rattle.irtext_read.specs.AttrTexts.{attr_at};
+ghost use Rattle.irtext_state.specs.States.{marks_of};
+ghost use Rattle.irtext_grammar.specs.Contexts.Held.{whole, attribute_of};
+ghost use Rattle.irtext_grammar.specs.Grammar.Tree.{Head};
+ghost use Rattle.irtext_grammar.specs.Names.Acts as acts;
+ghost use Rattle.irtext_outcomes.specs.Promises.Root.{IsFresh, UnlessMemory};
+ghost use Rattle.irtext_outcomes.specs.Promises.Section.{indices_of};
+ghost use Rattle.irtext_outcomes.specs.Readers.Refusals.{Refusal, RefusesFailed};
+ghost use Rattle.irtext_outcomes.specs.Readers.Streams.{itself, replaced};
+ghost use Rattle.irtext_nesting.specs.Heads.{head_at};
+ghost use Rattle.irtext_parse_heads.specs.Headers.{IsHead};
+ghost use Rattle.irtext_parse_heads.specs.Named.{AreWords, NamesRead, MayMean};
+ghost use Rattle.irtext_promises.specs.Alone.{RefusesBlock};
+ghost use Rattle.irtext_parse_nested.specs.Blocks.{entries_in, IsKeyFault};
+ghost use Rattle.irtext_parse_nested.specs.Definitions.{IsFaultOf};
+ghost use Rattle.irtext_parse_root.specs.Block.{FailsOutside, MissesBlock, first_reserved, noted_twice, IsRead};
+
+use crate::outermost::failed_fault;
+use irtext_base::base::{AttrObj, Identifier};
+use irtext_base::parsable::{CharStream, ParseFault, ParseResult, TextStream};
+use irtext_base::result::Cause;
+use irtext_base::text::{AttrText, IrText};
+use irtext_context::base::{BasicBlock, Ptr};
+use irtext_few::Few;
+use irtext_parse_heads::entries::{Key, ReadEntry};
+use irtext_parse_heads::headers::{BlockHead, block_head_parse};
+use irtext_parse_heads::marks::ReadMark;
+use irtext_parse_heads::names::ReadName;
+use irtext_parse_nested::frame::Names;
+use irtext_read::irfmt::faults::{next_is, out_of_memory, refuse_at, unexpected};
+use irtext_read::irfmt::parsers::held;
+use irtext_scopes::tracker::NameTracker;
+use irtext_state::parsable::{State, StateStream};
+
+fn is_given<A>(attr: &AttrObj<A>) -> bool
+    ensures { result ≡ acts.is_given (attribute_of attr.now) }
+{
+    match attr {
+        AttrObj::GivenNames(_) => true,
+        AttrObj::Ident(_) | AttrObj::Own(_) => false,
+    }
+}
+
+fn is_names_key(key: &Identifier) -> bool
+    ensures { result ≡ same_text key.now given_names_key }
+{
+    key.as_str() == "builtin_given_names"
+}
+
+fn is_label_key(key: &Identifier) -> bool
+    ensures { result ≡ same_text key.now block_label_key }
+{
+    key.as_str() == "builtin_block_label"
+}
+
+/// Whether an attribute may stand under a key, of whatever holds the dictionary.
+fn may_hold<A>(key: &Identifier, attr: &AttrObj<A>) -> bool
+    ensures { result ≡ acts.may_hold key.now (attribute_of attr.now) }
+{
+    !is_names_key(key) || is_given(attr)
+}
+
+/// Whether an attribute may stand under a key of a block's dictionary.
+fn block_may_hold<A>(key: &Identifier, attr: &AttrObj<A>) -> bool
+    ensures { result ≡ acts.block_may_hold key.now (attribute_of attr.now) }
+{
+    may_hold(key, attr) && !is_label_key(key)
+}
+
+/// The key of the first entry whose attribute may not stand under its key in a block's dictionary.
+fn first_reserved<A>(entries: &Few<ReadEntry<A>>) -> Option<&Key>
+    ensures { option_copied result ≡ first_reserved entries.now }
+{
+    for index in 0..entries.len() {
+        let entry = &entries[index];
+        if !block_may_hold(&entry.0.name, &entry.1) {
+            return Some(&entry.0);
+        }
+    }
+    None
+}
+
+/// The same of a dictionary that may be missing.
+fn reserved_key<A>(attributes: &Option<Few<ReadEntry<A>>>) -> Option<&Key>
+    ensures { option_copied result ≡ first_reserved (entries_in attributes.now) }
+{
+    match attributes {
+        Some(entries) => first_reserved(entries),
+        None => None,
+    }
+}
+
+/// The mark of a header, where one was read whose index is noted already.
+fn noted_twice<T: IrText<A>, A: AttrText, U>(
+    state: &State<'_, T, A, U>,
+    mark: Option<ReadMark>,
+) -> Option<ReadMark>
+    ensures { result ≡ noted_twice mark (marks_of state.now) }
+{
+    let read = mark?;
+    match state.marked(read.index) {
+        Some(_) => Some(read),
+        None => None,
+    }
+}
+
+/// The fault of a key that is reserved, at the key. The stream has failed.
+#[cold]
+fn key_fault<A>(stream: &mut TextStream, key: &Key) -> ParseFault<A>
+    ensures says { UnlessMemory (IsKeyFault (whole stream.old) key.now) result }
+    ensures fails { stream.new ≡ after_failure stream.old }
+{
+    match key.name.clone() {
+        Ok(name) => refuse_at(stream, key.at, Cause::ReservedKey(name)),
+        Err(_) => out_of_memory(stream),
+    }
+}
+
+/// The fault of a name that is defined where no scope is open, at the name. The stream has failed.
+#[cold]
+fn outside_fault<A>(stream: &mut TextStream, names: &Names, read: ReadName) -> ParseFault<A>
+    requires known { read.name < length names.now.names }
+    requires words { AreWords names.now.names }
+    ensures says { UnlessMemory (IsFaultOf names.now.names (whole stream.old) fault.NoActiveScope read) result }
+    ensures fails { stream.new ≡ after_failure stream.old }
+{
+    match Identifier::from_word(stream.allocator(), names.name(read.name)) {
+        Ok(name) => refuse_at(stream, read.at, Cause::NoActiveScope(name)),
+        Err(_) => out_of_memory(stream),
+    }
+}
+
+/// The fault of a mark whose index is noted already, at the mark. The stream has failed.
+#[cold]
+fn mark_fault<A>(stream: &mut TextStream, mark: ReadMark) -> ParseFault<A>
+    ensures cause { fault_of result.cause ≡ fault.DuplicateIndex mark.index }
+    ensures flag { result.committed ≡ true }
+    ensures place { AtOffset mark.at.offset (whole stream.old) (λ passed rest. IsAt result.pos.line result.pos.column passed) }
+    ensures fails { stream.new ≡ after_failure stream.old }
+{
+    refuse_at(stream, mark.at, Cause::DuplicateIndex(mark.index))
+}
+
+/// The fault of a header that was read where no scope is open: of the first key that is reserved, or else of the name of the first argument,
+/// or else of the mark where its index is noted already, or else of the label. The stream has failed.
+fn header_fault<T: IrText<A>, A: AttrText, U>(
+    stream: &mut TextStream,
+    state: &State<'_, T, A, U>,
+    names: &Names,
+    head: &BlockHead<T, A>,
+) -> ParseFault<A>
+    requires words { AreWords names.now.names }
+    requires read { IsRead names.now.names (whole stream.old) head.now }
+    ensures first { (h : Head _ T A) → IsHead names.now.names (whole stream.old) head.now h
+        → UnlessMemory (FailsOutside (indices_of (marks_of state.now)) (whole stream.old) h) result }
+    ensures fails { stream.new ≡ after_failure stream.old }
+{
+    if let Some(key) = reserved_key(&head.attributes) {
+        return key_fault(stream, key);
+    }
+    if head.arguments.len() != 0 {
+        return outside_fault(stream, names, head.arguments[0].0);
+    }
+    match noted_twice(state, head.mark) {
+        Some(mark) => mark_fault(stream, mark),
+        None => outside_fault(stream, names, head.label),
+    }
+}
+
+/// Reads the header of a block. Where no `^` stands, the fault is uncommitted and the stream stays; other faults are committed.
+fn header_parse<T: IrText<A>, A: AttrText>(
+    stream: &mut TextStream,
+    names: &mut Names,
+) -> ParseResult<BlockHead<T, A>, A>
+    requires fine { stream.old.failed ≡ false }
+    ensures read { MayMean itself replaced (IsHead names.new.names (whole stream.old)) (head_at T.IrText.reading (attr_at A.IrText.reading))
+        stream.old result stream.new }
+    ensures names { NamesRead names.old names.new }
+{
+    if next_is(stream, '^') {
+        return block_head_parse(stream, names);
+    }
+    match held(stream.allocator(), "^") {
+        Ok(label) => Err(unexpected(stream, label)),
+        Err(_) => Err(out_of_memory(stream)),
+    }
+}
+
+/// Reads the header of a block where no region is open, and refuses it. It begins at `^`: white space in front of it is not passed. Where no
+/// `^` stands, the fault is uncommitted and the stream stays. Where the header reads, the fault is the first of these: a key of its
+/// dictionary is reserved; a name is defined outside of each scope, an argument's or, behind the mark, the label; the index of its mark is
+/// noted already. No mark is noted.
+pub fn block_parse<T: IrText<A>, A: AttrText, U>(
+    s: &mut StateStream<'_, T, A, U>,
+) -> ParseResult<Ptr<BasicBlock>, A>
+    ensures state { s.new.state ≡ s.old.state }
+    ensures refused { IfErr result (λ fault. Refusal s.old.stream fault s.new.stream) }
+    ensures failed { RefusesFailed s.old.stream result s.new.stream }
+    ensures none { OnOk result ⊥ }
+    ensures missed { s.old.stream.failed ≡ false →
+        IfErr result (UnlessMemory (MissesBlock T.reading (attr_at A.reading) (indices_of (marks_of s.old.state)) s.old.stream s.new.stream)) }
+    ensures unresolved { IsFresh s.old → IfErr result (UnlessMemory (RefusesBlock T.reading (attr_at A.reading) s.old.stream)) }
+{
+    if s.stream.has_failed() {
+        return Err(failed_fault(&s.stream));
+    }
+    let mut names = NameTracker::new(s.stream.allocator());
+    match header_parse(&mut s.stream, &mut names) {
+        Ok(head) => Err(header_fault(&mut s.stream, &s.state, &names, &head)),
+        Err(fault) => Err(fault),
+    }
+}
