@@ -2,3 +2,4 @@ pub mod AnyState
 pub mod Marked
 pub mod Whole
 pub mod Region
+pub mod Results

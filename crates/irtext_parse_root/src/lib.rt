@@ -4,5 +4,6 @@
 pub mod names;
 pub mod outermost;
 pub mod region;
+pub mod results;
 pub mod tree;
 pub mod whole;
