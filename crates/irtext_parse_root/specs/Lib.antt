@@ -3,3 +3,4 @@ pub mod Marked
 pub mod Whole
 pub mod Region
 pub mod Block
+pub mod Results

@@ -5,5 +5,6 @@ pub mod block;
 pub mod names;
 pub mod outermost;
 pub mod region;
+pub mod results;
 pub mod tree;
 pub mod whole;

@@ -43,7 +43,7 @@ fn isolated_by<T: IrText<A>, A: AttrText>(ctx: &Context<T, A>, id: &OpId) -> boo
 }
 
 /// The position of a location that is a place of a source, or else that of a text's beginning.
-fn position_of<A>(loc: &Location<A>) -> SourcePosition
+pub(crate) fn position_of<A>(loc: &Location<A>) -> SourcePosition
     ensures { IsOutermost loc.now result }
 {
     match loc {

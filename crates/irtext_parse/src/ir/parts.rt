@@ -1,19 +1,23 @@
 //! Regions and blocks read from text, each by a call of its own.
-ghost use Rattle.std.specs.Prelude.{◌≡◌, IsSome, IfOk, IfErr, OnErr};
+ghost use Rattle.std.specs.Prelude.{◌≡◌, false, IsSome, IfOk, IfErr, OnOk, OnErr};
 ghost use Rattle.irtext_base.specs.Own.{texts_of};
 ghost use Rattle.irtext_context.specs.Context.{operation};
 ghost use Rattle.irtext_context.specs.Made.{SameObjects};
+ghost use Rattle.irtext_read.specs.AttrTexts.{attr_at};
 ghost use Rattle.irtext_state.specs.States.{marks_of};
 ghost use Rattle.irtext_outcomes.specs.Promises.Root.{IsFresh, UnlessMemory};
+ghost use Rattle.irtext_outcomes.specs.Promises.Section.{indices_of};
 ghost use Rattle.irtext_outcomes.specs.Readers.Refusals.{Refusal, RefusesFailed};
 ghost use Rattle.irtext_outcomes.specs.Readers.Streams.{KeepsRest};
-ghost use Rattle.irtext_promises.specs.Alone.{BuildsRegion, RefusesRegion};
+ghost use Rattle.irtext_promises.specs.Alone.{BuildsRegion, RefusesRegion, RefusesBlock};
+ghost use Rattle.irtext_parse_root.specs.Block.{MissesBlock};
 ghost use Rattle.irtext_parse_root.specs.Region.{unisolated};
 
 use crate::parsable::Parsable;
 use irtext_base::parsable::ParseResult;
 use irtext_base::text::{AttrText, IrText};
-use irtext_context::base::{Operation, Ptr, Region};
+use irtext_context::base::{BasicBlock, Operation, Ptr, Region};
+use irtext_parse_root::block::block_parse;
 use irtext_parse_root::region::region_parse;
 use irtext_state::parsable::StateStream;
 
@@ -55,5 +59,36 @@ impl<T: IrText<A>, A: AttrText, U> Parsable<T, A, U> for Region {
         ensures marks { OnErr result (marks_of stream.new.state ≡ marks_of stream.old.state) }
     {
         region_parse(stream, op)
+    }
+}
+
+impl<T: IrText<A>, A: AttrText, U> Parsable<T, A, U> for BasicBlock {
+    type Arg = ();
+
+    type Parsed = Ptr<BasicBlock>;
+
+    /// Reads the header of a block outside of every region, where it is always refused: no scope is open in which its label could be
+    /// defined. It begins at `^`: white space before it is not passed. The error is the first of these: the header does not read; a key
+    /// of its dictionary is reserved; a name has no scope, that of the first argument or, after the mark, the label; its mark is noted
+    /// already. The state is unchanged. The error is uncommitted where no `^` is there; else the stream has failed. The errors of these
+    /// texts are at column 1, at `b`, and at column 4, at `x`:
+    ///
+    /// ```text
+    /// ^b(): test.nop
+    /// ^b(x: builtin.integer si64): test.nop
+    /// ```
+    fn parse(stream: &mut StateStream<'_, T, A, U>, _arg: ()) -> ParseResult<Ptr<BasicBlock>, A>
+        ensures state { stream.new.state ≡ stream.old.state }
+        ensures refused { IfErr result (λ fault. Refusal stream.old.stream fault stream.new.stream) }
+        ensures failed { RefusesFailed stream.old.stream result stream.new.stream }
+        ensures none { OnOk result ⊥ }
+        ensures missed { stream.old.stream.failed ≡ false →
+            IfErr result (UnlessMemory
+            (MissesBlock T.reading (attr_at A.reading) (indices_of (marks_of stream.old.state))
+            stream.old.stream stream.new.stream)) }
+        ensures unresolved { IsFresh stream.old →
+            IfErr result (UnlessMemory (RefusesBlock T.reading (attr_at A.reading) stream.old.stream)) }
+    {
+        block_parse(stream)
     }
 }
