@@ -1,4 +1,5 @@
 //! Names that are used, and results that are named, outside of every region: no scope is open there, so each is refused.
+use super::parts::{Path, at};
 use irtext_types::DemoAttr;
 use irtext_vectors_common::answers::told;
 use irtext_vectors_common::contexts::{Ctx, named, with_demo};
@@ -6,7 +7,9 @@ use irtext_vectors_roots::reading::root;
 use pliron_text::base::{BasicBlock, Identifier, Operation, Ptr, Value};
 use pliron_text::irfmt::parsers::{block_opd_parse, process_parsed_ssa_defs, ssa_opd_parse};
 use pliron_text::location::{Location, Source};
-use pliron_text::parsable::{ParseResult, SourcePosition, State, StateStream, TextStream};
+use pliron_text::parsable::{
+    CharStream, ParseResult, SourcePosition, State, StateStream, TextStream,
+};
 use std::alloc::Global;
 use std::test::Fail;
 
@@ -58,26 +61,35 @@ fn names_are_refused_outside_of_regions(rt: HostRuntime) -> Result<(), Fail> {
     Ok(())
 }
 
-/// An operation, the names that its results get, the line and column of each name's location where it has one, and what is said.
-const RESULTS: &[(&str, &[(&str, Option<(i32, i32)>)], &str)] = &[
-    ("test.nop", &[], "named"),
+/// A root with an operation without results and one with a result.
+const ROOT: &str = "builtin.module @m { ^a(): test.nop; x = test.make: test.ptr }";
+
+/// The ways to these operations.
+const NO_RESULT: Path = &[(0, 0, 0)];
+
+const ONE_RESULT: Path = &[(0, 0, 1)];
+
+/// The way to an operation, the names that its results get, the line and column of each name's location where it has one, and what is
+/// said.
+const RESULTS: &[(Path, &[(&str, Option<(i32, i32)>)], &str)] = &[
+    (NO_RESULT, &[], "named"),
     (
-        "test.make: test.ptr",
+        ONE_RESULT,
         &[],
         "line: 1, column: 3: Operation has 1 results and 0 names!",
     ),
     (
-        "test.nop",
+        NO_RESULT,
         &[("x", Some((4, 5)))],
         "line: 1, column: 3: Operation has 0 results and 1 names!",
     ),
     (
-        "test.make: test.ptr",
+        ONE_RESULT,
         &[("x", Some((4, 5)))],
         "line: 4, column: 5: No active scope for identifier x!",
     ),
     (
-        "test.make: test.ptr",
+        ONE_RESULT,
         &[("x", None)],
         "line: 1, column: 1: No active scope for identifier x!",
     ),
@@ -109,17 +121,18 @@ fn names(
 fn results(
     alloc: Global,
     ctx: &mut Ctx,
-    op: &str,
+    path: Path,
     row: &[(&str, Option<(i32, i32)>)],
 ) -> Result<String, Fail> {
-    let op = root(ctx, op).ok_or("refused")?;
+    let root = root(ctx, ROOT).ok_or("refused")?;
+    let op = at(ctx, root, path)?;
     if !ctx.contains_operation(op) {
         return Err(Fail::from("no such operation"));
     }
     let names = names(alloc, row)?;
     let mut stream = TextStream::new(alloc, "ab")?;
-    pliron_text::parsable::CharStream::take(&mut stream);
-    pliron_text::parsable::CharStream::take(&mut stream);
+    stream.take();
+    stream.take();
     let state = State::new(ctx, Source::InMemory, ());
     let mut s = StateStream { stream, state };
     match process_parsed_ssa_defs(&mut s, names.as_slice(), op) {
@@ -132,7 +145,7 @@ fn results(
 fn results_are_named_inside_of_regions_alone(rt: HostRuntime) -> Result<(), Fail> {
     for row in RESULTS {
         let said = with_demo(rt.alloc(), |alloc, ctx| results(alloc, ctx, row.0, row.1))?;
-        assert_eq!(rt; said.as_str(), row.2, "{}", row.0);
+        assert_eq!(rt; said.as_str(), row.2);
     }
     Ok(())
 }
