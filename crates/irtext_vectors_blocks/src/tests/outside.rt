@@ -1,5 +1,5 @@
 //! Names that are used, and results that are named, outside of every region: no scope is open there, so each is refused.
-use super::parts::{Path, at};
+use crate::tests::parts::{Path, at};
 use irtext_types::DemoAttr;
 use irtext_vectors_common::answers::told;
 use irtext_vectors_common::contexts::{Ctx, named, with_demo};
