@@ -6,7 +6,7 @@ use Rattle.irtext_base.specs.Reading.{the}
 use Rattle.irtext_base.specs.Format.{same_text}
 use Rattle.irtext_base.specs.Faults as causes
 use Rattle.irtext_base.specs.Faults.{Fault, Failed, Unexpected, Word, fault_of}
-use Rattle.irtext_base.specs.Own.{Sincere, is_first_fault}
+use Rattle.irtext_base.specs.Own.{Sincere}
 use Rattle.irtext_base.specs.Answers.{Outcome, Read, Missing, Bad, Answers, Gives, Starves, Refuses, StarvesHere, Passes, demanded, prefixed, mapped, followed, unless_failed}
 use Rattle.irtext_base.specs.Stream.{StreamView, IsAt, first_of, behind, after_failure}
 use Rattle.irtext_base.specs.Locations.{AttrView}
@@ -18,7 +18,6 @@ use Rattle.irtext_stream.specs.Places.{AtOffset}
 use Rattle.irtext_read.specs.AttrTexts.{attr_at}
 use Rattle.irtext_read.specs.Demanded.{index_at}
 use Rattle.irtext_read.specs.Infix.{◌▷◌}
-use Rattle.irtext_read.specs.MustRead.{MustRead}
 use Rattle.irtext_read.specs.Tokens.{word, spelled_at, identifier_at}
 use Rattle.irtext_read.proofs.Honest.{Honest, ◌then◌, ◌kept◌, ◌so◌, seen, honest_either, honest_word, honest_space, honest_index, honest_name, honest_separated, honest_spaced, honest_attr, never_failed}
 use Rattle.irtext_state.specs.States.{same_index}
@@ -27,7 +26,7 @@ use Rattle.irtext_grammar.specs.Grammar.Tree.{Name, Mark, Attribute, Head}
 use Rattle.irtext_grammar.specs.Names.Acts.{key_act, block_may_hold, argument_definitions, mark_acts, entries_if, header_acts, word_of}
 use Rattle.irtext_grammar.specs.Names.Scopes.{is_among, failures}
 use Rattle.irtext_grammar.specs.Names.Script as script
-use Rattle.irtext_grammar.specs.Names.Script.{Act, Cause, Failure, Place, define_label, block_at, done, does_all}
+use Rattle.irtext_grammar.specs.Names.Script.{Act, Cause, Failure, define_label, block_at, done, does_all}
 use Rattle.irtext_outcomes.specs.Promises.Root.{UnlessMemory}
 use Rattle.irtext_outcomes.specs.Promises.Section.{indices_of}
 use Rattle.irtext_outcomes.specs.Readers.Refusals.{Refusal}
@@ -54,7 +53,7 @@ use Rattle.irtext_parse_nested.specs.Definitions.{IsFaultOf}
 use Rattle.irtext_parse_nested.proofs.Faults.{stands_there, some_same}
 use Rattle.irtext_parse_nested.proofs.Headers.{keys_each}
 use Rattle.irtext_parse_nested.proofs.Marking.{not_noted, noted_before}
-use Rattle.irtext_parse_root.specs.Block.{outside_with, FailsOutside, MissesBlock, no_header, by_header, first_reserved, noted_twice, IsRead}
+use Rattle.irtext_parse_root.specs.Block.{outside_with, FailsOutside, MissesBlock, no_header, by_header, first_reserved, noted_twice}
 
 -- ---- the reader of headers: what it says of a text is of that text
 name_honest : Honest name_at
