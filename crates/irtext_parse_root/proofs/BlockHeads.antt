@@ -1,12 +1,12 @@
 -- What a block's header is refused for where no region is open, and what its reader says of a text.
-use Rattle.std.proofs.Common.{◌≡◌, ◌<◌, ◌∙◌, ◌⊎◌, inl, inr, ℕ, zero, suc, Bool, true, false, cond, List, [], ◌∷◌, ◌++◌, length, map, drop, Option, Some, None, is_some, Result, Ok, Err, codes, refl, sym, ap, ap₂, subst, arith, append-nil, slice_get}
+use Rattle.std.proofs.Common.{◌≡◌, ◌<◌, ◌≤◌, ◌+◌, ◌∙◌, ◌⊎◌, inl, inr, ℕ, zero, suc, Bool, true, false, cond, List, [], ◌∷◌, ◌++◌, length, map, drop, Option, Some, None, is_some, Result, Ok, Err, codes, refl, sym, ap, ap₂, subst, arith, append-nil, slice_get}
 use Rattle.std.specs.Map.{lookup}
 use Rattle.irtext_base.specs.Text.{Text, begins, is_identifier}
 use Rattle.irtext_base.specs.Reading.{the}
 use Rattle.irtext_base.specs.Format.{same_text}
 use Rattle.irtext_base.specs.Faults as causes
 use Rattle.irtext_base.specs.Faults.{Fault, Failed, Unexpected, Word, fault_of}
-use Rattle.irtext_base.specs.Own.{Sincere, is_first_fault}
+use Rattle.irtext_base.specs.Own.{Sincere}
 use Rattle.irtext_base.specs.Answers.{Outcome, Read, Missing, Bad, Answers, Gives, Starves, Refuses, StarvesHere, Passes, demanded, prefixed, mapped, followed, unless_failed}
 use Rattle.irtext_base.specs.Stream.{StreamView, IsAt, first_of, behind, after_failure}
 use Rattle.irtext_base.specs.Locations.{AttrView}
@@ -18,7 +18,6 @@ use Rattle.irtext_stream.specs.Places.{AtOffset}
 use Rattle.irtext_read.specs.AttrTexts.{attr_at}
 use Rattle.irtext_read.specs.Demanded.{index_at}
 use Rattle.irtext_read.specs.Infix.{◌▷◌}
-use Rattle.irtext_read.specs.MustRead.{MustRead}
 use Rattle.irtext_read.specs.Tokens.{word, spelled_at, identifier_at}
 use Rattle.irtext_read.proofs.Honest.{Honest, ◌then◌, ◌kept◌, ◌so◌, seen, honest_either, honest_word, honest_space, honest_index, honest_name, honest_separated, honest_spaced, honest_attr, never_failed}
 use Rattle.irtext_state.specs.States.{same_index}
@@ -27,7 +26,7 @@ use Rattle.irtext_grammar.specs.Grammar.Tree.{Name, Mark, Attribute, Head}
 use Rattle.irtext_grammar.specs.Names.Acts.{key_act, block_may_hold, argument_definitions, mark_acts, entries_if, header_acts, word_of}
 use Rattle.irtext_grammar.specs.Names.Scopes.{is_among, failures}
 use Rattle.irtext_grammar.specs.Names.Script as script
-use Rattle.irtext_grammar.specs.Names.Script.{Act, Cause, Failure, Place, define_label, block_at, done, does_all}
+use Rattle.irtext_grammar.specs.Names.Script.{Act, Cause, Failure, define_label, block_at, done, does_all}
 use Rattle.irtext_outcomes.specs.Promises.Root.{UnlessMemory}
 use Rattle.irtext_outcomes.specs.Promises.Section.{indices_of}
 use Rattle.irtext_outcomes.specs.Readers.Refusals.{Refusal}
@@ -44,7 +43,7 @@ use Rattle.irtext_parse_heads.specs.declared.names.ReadName.{ReadName}
 use Rattle.irtext_parse_heads.specs.Arguments.{IsArgument}
 use Rattle.irtext_parse_heads.specs.Entries.{IsEntry}
 use Rattle.irtext_parse_heads.specs.Headers.{IsHead}
-use Rattle.irtext_parse_heads.specs.Marks.{IsMarkIf}
+use Rattle.irtext_parse_heads.specs.Marks.{IsMark, IsMarkIf}
 use Rattle.irtext_parse_heads.specs.Named.{StandsFor, Each, MayMean, MustMean}
 use Rattle.irtext_parse_heads.proofs.Meanings.{may_whole}
 use Rattle.irtext_promises.specs.Alone.{RefusesBlock}
@@ -54,7 +53,7 @@ use Rattle.irtext_parse_nested.specs.Definitions.{IsFaultOf}
 use Rattle.irtext_parse_nested.proofs.Faults.{stands_there, some_same}
 use Rattle.irtext_parse_nested.proofs.Headers.{keys_each}
 use Rattle.irtext_parse_nested.proofs.Marking.{not_noted, noted_before}
-use Rattle.irtext_parse_root.specs.Block.{outside_with, FailsOutside, MissesBlock, no_header, by_header, first_reserved, noted_twice, IsRead}
+use Rattle.irtext_parse_root.specs.Block.{outside_with, FailsOutside, MissesBlock, no_header, by_header, first_reserved, noted_twice}
 
 -- ---- the reader of headers: what it says of a text is of that text
 name_honest : Honest name_at
@@ -110,6 +109,10 @@ no_caret : (text : Text) → begins (the 94) text ≡ false → word (codes "^")
 no_caret [] e = refl
 no_caret (c ∷ t) e = ap (λ b. cond b (prefixed (c ∷ []) (spelled_at (codes "^") [] t)) (Missing (Unexpected (Some c) (Word (codes "^"))))) e
 
+-- a header without a part, where none was read
+nothing_read : {T A : Type 0} → Head ℕ T A
+nothing_read = record { label = record { place = 0; text = [] }; arguments = []; attributes = None; mark = None }
+
 misses_first : {X Y : Type 0} (o : Outcome X) (k : X → Text → Outcome Y) (cause : Fault) → o ≡ Missing cause → followed o k ≡ Missing cause
 misses_first o k cause e = ap (λ o. followed o k) e
 
@@ -127,10 +130,6 @@ module _ {T A : Type 0} (types_at : Text → Outcome T) (attr : Text → Outcome
         let o = head_at types_at attr old.rest in
         let a = subst (λ b. Answers itself replaced h.meant (demanded (unless_failed b o)) old r new) fine h.read.answers in
         record { meant = h.meant; means = h.means; read = record { answers = subst (λ b. Answers itself replaced h.meant (unless_failed b o) old r new) (sym fine) (subst (λ o. Answers itself replaced h.meant o old r new) (head_there old.rest e) a) } }
-
-    -- a header without a part, where none was read
-    nothing_read : Head ℕ T A
-    nothing_read = record { label = record { place = 0; text = [] }; arguments = []; attributes = None; mark = None }
 
     unread : (fault : ParseFault A) → Starves itself replaced old fault new ⊎ Refuses itself replaced (head_at types_at attr old.rest) old fault new → MayMean {Y = Y} itself replaced Means (head_at types_at attr) old (Err fault) new
     unread fault h = record {
@@ -153,59 +152,58 @@ module _ {A : Type 0} (text : Text) (fault : ParseFault A) where
   abbrev First : List ℕ → List (Act Text ℕ) → Type 0
   First marks acts = IsFirst text (failures same_text (outside_with marks) (does_all acts done)) fault
 
+  -- an entry of this key, whose test answers so
+  abbrev KeyWith : Name ℕ → List (Act Text ℕ) → Bool → List ℕ → Type 0
+  KeyWith n later b marks = IsFirst text (cond b [] (record { cause = script.ReservedKey n.text; at = Some n.place } ∷ []) ++ failures same_text (outside_with marks) (does_all later done)) fault
+
+  one_key : (marks : List ℕ) (later : List (Act Text ℕ)) (r : Key × AttrObj A) (e : Name ℕ × Attribute A) → IsEntry text r e → (b : Bool) → block_may_hold r.0.name (attribute_of r.1) ≡ b → (b ≡ false → IsKeyFault text r.0 fault) → (b ≡ true → First marks later)
+      → First marks (key_act block_may_hold e ∷ later)
+  one_key marks later r e i true is bad good =
+      subst (λ b. KeyWith e.0 later b (marks ++ [])) (sym (ap₂ block_may_hold (sym i.0.named) (sym i.1) ∙ is)) (subst (λ ms. KeyWith e.0 later true ms) (sym (append-nil marks)) (good refl))
+  one_key marks later r e i false is bad good =
+      let k = bad refl in
+      subst (λ b. KeyWith e.0 later b (marks ++ [])) (sym (ap₂ block_may_hold (sym i.0.named) (sym i.1) ∙ is)) (k.because ∙ ap causes.ReservedKey i.0.named, stands_there i.0.place k.place)
+
   -- a key that is reserved, or what stands behind the keys
   keys_first : (marks : List ℕ) (more : List (Act Text ℕ)) (rs : List (Key × AttrObj A)) (es : List (Name ℕ × Attribute A)) → Each (IsEntry text) rs es → ((key : Key) → first_reserved rs ≡ Some key → IsKeyFault text key fault)
       → (first_reserved rs ≡ None → First marks more) → First marks (map (key_act block_may_hold) es ++ more)
   keys_first marks more [] [] i some none = none refl
   keys_first marks more [] (e ∷ es) i some none = absurd i
   keys_first marks more (r ∷ rs) [] i some none = absurd i
-  keys_first marks more (r ∷ rs) (e ∷ es) i some none = go (block_may_hold r.0.name (attribute_of r.1)) refl
-    where
-      same : block_may_hold e.0.text e.1 ≡ block_may_hold r.0.name (attribute_of r.1)
-      same = ap₂ block_may_hold (sym i.0.0.named) (sym i.0.1)
-
-      x : Failure Text ℕ
-      x = record { cause = script.ReservedKey e.0.text; at = Some e.0.place }
-
-      -- with this test, and what is marked then
-      abbrev With : Bool → List ℕ → Type 0
-      With b ms = IsFirst text (cond b [] (x ∷ []) ++ failures same_text (outside_with ms) (does_all (map (key_act block_may_hold) es ++ more) done)) fault
-
-      go : (b : Bool) → block_may_hold r.0.name (attribute_of r.1) ≡ b → With (block_may_hold e.0.text e.1) (marks ++ [])
-      go true is =
-          let shown : first_reserved (r ∷ rs) ≡ first_reserved rs = ap (λ b. cond b (first_reserved rs) (Some r.0)) is in
-          subst (λ b. With b (marks ++ [])) (sym (same ∙ is)) (subst (λ ms. With true ms) (sym (append-nil marks)) (keys_first marks more rs es i.1 (λ key f. some key (shown ∙ f)) (λ f. none (shown ∙ f))))
-      go false is =
-          let k = some r.0 (ap (λ b. cond b (first_reserved rs) (Some r.0)) is) in
-          subst (λ b. With b (marks ++ [])) (sym (same ∙ is)) (k.because ∙ ap causes.ReservedKey i.0.0.named, stands_there i.0.0.place k.place)
+  keys_first marks more (r ∷ rs) (e ∷ es) i some none =
+      one_key marks (map (key_act block_may_hold) es ++ more) r e i.0 (block_may_hold r.0.name (attribute_of r.1)) refl
+      (λ bad. some r.0 (ap (λ b. cond b (first_reserved rs) (Some r.0)) bad))
+      (λ good. let shown : first_reserved (r ∷ rs) ≡ first_reserved rs = ap (λ b. cond b (first_reserved rs) (Some r.0)) good in keys_first marks more rs es i.1 (λ key f. some key (shown ∙ f)) (λ f. none (shown ∙ f)))
 
   -- a name that stands outside of each scope
   outside_is : (names : List Text) (read : ReadName) (w : Name ℕ) → StandsFor names text read w → IsFaultOf names text causes.NoActiveScope read fault → IsOf text (record { cause = script.NoActiveScope w.text; at = Some w.place }) fault
   outside_is names read w s f = (f.because ∙ ap causes.NoActiveScope (some_same (sym f.named ∙ s.named)), stands_there s.place f.place)
 
+  -- the fault says that the mark's index is noted already
+  abbrev SaysTwice : ReadMark → Type 0
+  SaysTwice k = (fault_of fault.cause ≡ causes.DuplicateIndex k.index) × AtOffset k.at.offset text (λ passed rest. IsAt fault.pos.line fault.pos.column passed)
+
+  -- a mark, whose index is noted already or not
+  abbrev MarkWith : Mark ℕ → List (Act Text ℕ) → List ℕ → Bool → Type 0
+  MarkWith m more marks b = IsFirst text (cond b (record { cause = script.DuplicateIndex m.index; at = Some m.place } ∷ []) [] ++ failures same_text (outside_with (marks ++ m.index ∷ [])) (does_all more done)) fault
+
+  one_mark : {X : Type 0} (noted : List (ℕ × X)) (more : List (Act Text ℕ)) (r : ReadMark) (m : Mark ℕ) → IsMark text r m → (o : Option X) → lookup (same_index r.index) noted ≡ o → (is_some o ≡ true → SaysTwice r)
+      → (is_some o ≡ false → (marks : List ℕ) → First marks more) → MarkWith m more (indices_of noted) (is_among m.index (indices_of noted))
+  one_mark noted more r m i None e some none =
+      subst (MarkWith m more (indices_of noted)) (sym (not_noted m.index noted (subst (λ j. lookup (same_index j) noted ≡ None) i.indexed e))) (none refl (indices_of noted ++ m.index ∷ []))
+  one_mark noted more r m i (Some y) e some none =
+      let k = some refl in
+      let there : lookup (same_index m.index) noted ≡ Some y = subst (λ j. lookup (same_index j) noted ≡ Some y) i.indexed e in
+      subst (MarkWith m more (indices_of noted)) (sym (noted_before m.index noted (λ f. cc (f, there)))) (k.0 ∙ ap causes.DuplicateIndex i.indexed, stands_there i.place k.1)
+
   -- a mark whose index is noted already, or what stands behind it
-  mark_first : {X : Type 0} (noted : List (ℕ × X)) (more : List (Act Text ℕ)) (read : Option ReadMark) (m : Option (Mark ℕ)) → IsMarkIf text read m
-      → ((k : ReadMark) → noted_twice read noted ≡ Some k → (fault_of fault.cause ≡ causes.DuplicateIndex k.index) × AtOffset k.at.offset text (λ passed rest. IsAt fault.pos.line fault.pos.column passed))
-      → ((marks : List ℕ) → noted_twice read noted ≡ None → First marks more) → First (indices_of noted) (mark_acts m ++ more)
-  mark_first noted more None None i some none = none (indices_of noted) refl
+  mark_first : {X : Type 0} (noted : List (ℕ × X)) (more : List (Act Text ℕ)) (read : Option ReadMark) (m : Option (Mark ℕ)) → IsMarkIf text read m → ((k : ReadMark) → noted_twice read noted ≡ Some k → SaysTwice k)
+      → (noted_twice read noted ≡ None → (marks : List ℕ) → First marks more) → First (indices_of noted) (mark_acts m ++ more)
+  mark_first noted more None None i some none = none refl (indices_of noted)
   mark_first noted more None (Some m) i some none = absurd i
   mark_first noted more (Some r) None i some none = absurd i
-  mark_first {X} noted more (Some r) (Some m) i some none = go (lookup (same_index r.index) noted) refl
-    where
-      x : Failure Text ℕ
-      x = record { cause = script.DuplicateIndex m.index; at = Some m.place }
-
-      abbrev With : Bool → Type 0
-      With b = IsFirst text (cond b (x ∷ []) [] ++ failures same_text (outside_with (indices_of noted ++ m.index ∷ [])) (does_all more done)) fault
-
-      go : (o : Option X) → lookup (same_index r.index) noted ≡ o → With (is_among m.index (indices_of noted))
-      go None e =
-          let n : lookup (same_index m.index) noted ≡ None = subst (λ j. lookup (same_index j) noted ≡ None) i.indexed e in
-          subst With (sym (not_noted m.index noted n)) (none (indices_of noted ++ m.index ∷ []) (ap (λ o. cond (is_some o) (Some r) None) e))
-      go (Some y) e =
-          let k = some r (ap (λ o. cond (is_some o) (Some r) None) e) in
-          let n : lookup (same_index m.index) noted ≡ Some y = subst (λ j. lookup (same_index j) noted ≡ Some y) i.indexed e in
-          subst With (sym (noted_before m.index noted (λ f. cc (f, n)))) (k.0 ∙ ap causes.DuplicateIndex i.indexed, stands_there i.place k.1)
+  mark_first noted more (Some r) (Some m) i some none =
+      one_mark noted more r m i (lookup (same_index r.index) noted) refl (λ f. some r (ap (λ b. cond b (Some r) None) f)) (λ f. none (ap (λ b. cond b (Some r) None) f))
 
   module _ {T : Type 0} (names : List Text) (read : BlockHead T A) (head : Head ℕ T A) (is : IsHead names text read head) where
     -- the acts behind the keys, and behind the arguments
@@ -243,19 +241,43 @@ module _ {A : Type 0} (text : Text) (fault : ParseFault A) where
 
     module _ {X : Type 0} (noted : List (ℕ × X)) (none : None ≡ first_reserved (entries_in read.attributes)) (no_arguments : length read.arguments ≡ 0) where
       -- the mark's index is noted already
-      pub mark_outside : (k : ReadMark) → Some k ≡ noted_twice read.mark noted → fault_of fault.cause ≡ causes.DuplicateIndex k.index → AtOffset k.at.offset text (λ passed rest. IsAt fault.pos.line fault.pos.column passed) → keyed (indices_of noted)
-      mark_outside k e because place =
+      pub mark_outside : (k : ReadMark) → Some k ≡ noted_twice read.mark noted → SaysTwice k → keyed (indices_of noted)
+      mark_outside k e says =
           allowed (indices_of noted) none (bare (indices_of noted) read.arguments head.arguments is.arguments no_arguments
           (mark_first noted (define_label (word_of head.label) (block_at []) ∷ []) read.mark head.mark is.mark
-          (λ q f. let same : q ≡ k = sym (some_same (e ∙ f)) in subst (λ z. (fault_of fault.cause ≡ causes.DuplicateIndex z.index) × AtOffset z.at.offset text (λ passed rest. IsAt fault.pos.line fault.pos.column passed)) (sym same) (because, place))
-          (λ marks f. let g = e ∙ f in absurd (cc))))
+          (λ q f. subst SaysTwice (some_same (e ∙ f)) says) (λ f marks. let g = e ∙ f in absurd (cc))))
 
       -- nothing is there but the label
       pub label_outside : None ≡ noted_twice read.mark noted → IsFaultOf names text causes.NoActiveScope read.label fault → keyed (indices_of noted)
       label_outside e f =
           allowed (indices_of noted) none (bare (indices_of noted) read.arguments head.arguments is.arguments no_arguments
           (mark_first noted (define_label (word_of head.label) (block_at []) ∷ []) read.mark head.mark is.mark
-          (λ q g. let h = e ∙ g in absurd (cc)) (λ marks g. outside_is names read.label head.label is.label f)))
+          (λ q g. let h = e ∙ g in absurd (cc)) (λ g marks. outside_is names read.label head.label is.label f)))
+
+-- ---- the entries of a dictionary, one after another
+module _ {A : Type 0} where
+  entry_passes : (es : List (Key × AttrObj A)) (i : ℕ) (e : Key × AttrObj A) → slice_get es i ≡ Some e → block_may_hold e.0.name (attribute_of e.1) ≡ true → first_reserved (drop i es) ≡ first_reserved (drop (suc i) es)
+  entry_passes [] i e g h = absurd (cc)
+  entry_passes (x ∷ es) zero e g h = ap (λ b. cond b (first_reserved es) (Some x.0)) (subst (λ (z : Key × AttrObj A). block_may_hold z.0.name (attribute_of z.1) ≡ true) (sym (some_same g)) h)
+  entry_passes (x ∷ es) (suc i) e g h = entry_passes es i e g h
+
+  -- an entry that may stand there is passed
+  pub passes_entry : (es : List (Key × AttrObj A)) (i : ℕ) (e : Key × AttrObj A) → slice_get es i ≡ Some e → block_may_hold e.0.name (attribute_of e.1) ≡ true → first_reserved (drop (i + 1) es) ≡ first_reserved (drop i es)
+  passes_entry es i e g h = let same : suc i ≡ i + 1 = omega arith in subst (λ k. first_reserved (drop k es) ≡ first_reserved (drop i es)) same (sym (entry_passes es i e g h))
+
+  -- one that may not is the first
+  pub stops_entry : (es : List (Key × AttrObj A)) (i : ℕ) (e : Key × AttrObj A) → slice_get es i ≡ Some e → block_may_hold e.0.name (attribute_of e.1) ≡ false → first_reserved (drop i es) ≡ Some e.0
+  stops_entry [] i e g h = absurd (cc)
+  stops_entry (x ∷ es) zero e g h =
+      ap (λ b. cond b (first_reserved es) (Some x.0)) (subst (λ (z : Key × AttrObj A). block_may_hold z.0.name (attribute_of z.1) ≡ false) (sym (some_same g)) h) ∙ ap (λ (z : Key × AttrObj A). Some z.0) (some_same g)
+  stops_entry (x ∷ es) (suc i) e g h = stops_entry es i e g h
+
+  -- behind the last one none is left
+  pub none_left : (es : List (Key × AttrObj A)) (i : ℕ) → length es ≤ i → first_reserved (drop i es) ≡ None
+  none_left [] zero l = refl
+  none_left [] (suc i) l = refl
+  none_left (x ∷ es) zero l = absurd (omega (arith, l))
+  none_left (x ∷ es) (suc i) l = none_left es i (omega (arith, l))
 
 -- ---- what is read
 -- a name that has a text is one of these
@@ -351,7 +373,7 @@ module _ {T A : Type 0} (types_at : Text → Outcome T) (attr : Text → Outcome
       committed = λ e. ap (λ v. v.failed) fails;
       uncommitted = λ e. absurd (cc (committed, e));
       first = λ e. absurd (cc (committed, e));
-      failed = λ e. absurd (elim said [ inl starved ↦ cc (starved.because, e) | inr f ↦ first_fine (whole mid) _ fault f.first e ]);
+      failed = λ e. absurd (elim said [ inl starved ↦ cc (starved.because, e) | inr f ↦ first_fine (whole mid) (failures same_text (outside_with marks) (does_all (header_acts [] h.head) done)) fault f.first e ]);
     }
 
   -- where no mark was noted, that is what is promised of a fresh reading

@@ -33,11 +33,11 @@ pub record FailsOutside {T A : Type 0} (marks : List ℕ) (text : Text) (head : 
 
 module _ {T A : Type 0} (types_at : Text → Outcome T) (attr : Text → Outcome (AttrView A)) (marks : List ℕ) where
   -- No block is read outside of each region: either its header does not read, and the fault is the one of the text, uncommitted where no `^`
-  -- stands; or it does, and the fault is the first failure of its names, its keys and its mark, and the stream fails behind it.
+  -- stands; or it does, the fault is the first that its keys, its names and its mark are refused for, and the stream fails behind it.
   pub data MissesBlock (old new : StreamView) (fault : ParseFault A) : Type 0 where
     no_header : Refuses itself replaced (head_at types_at attr old.rest) old fault new → MissesBlock old new fault
-    by_header : (head : Head ℕ T A) (taken rest : Text) → head_at types_at attr old.rest ≡ Read head taken rest → new ≡ after_failure (behind old taken rest)
-        → FailsOutside marks (whole old) head fault → MissesBlock old new fault
+    by_header : (head : Head ℕ T A) (taken rest : Text) → head_at types_at attr old.rest ≡ Read head taken rest
+        → new ≡ after_failure (behind old taken rest) → FailsOutside marks (whole old) head fault → MissesBlock old new fault
 
 -- ---- between functions
 -- the key of the first entry whose attribute may not stand under its key in a block's dictionary
@@ -50,7 +50,7 @@ abbrev pub noted_twice : {X : Type 0} → Option ReadMark → List (ℕ × X) �
 noted_twice None marks = None
 noted_twice (Some m) marks = cond (is_some (lookup (same_index m.index) marks)) (Some m) None
 
--- a header of the text that a header which was read stands for
+-- the header that was read stands for one of the text
 pub record IsRead {T A : Type 0} (names : List Text) (text : Text) (read : BlockHead T A) : Type 0 where
   pub head : Head ℕ T A
   pub is : IsHead names text read head

@@ -1,5 +1,5 @@
 //! A block where no region is open. Its label is defined outside of each scope of labels, so that it is refused whatever it holds.
-ghost use Rattle.std.specs.Prelude.{◌≡◌, ◌<◌, false, true, Some, length, option_copied, IfErr, OnOk};
+ghost use Rattle.std.specs.Prelude.{◌≡◌, ◌<◌, false, true, length, option_copied, IfErr, OnOk};
 ghost use Rattle.irtext_base.specs.Faults as fault;
 ghost use Rattle.irtext_base.specs.Faults.{fault_of};
 ghost use Rattle.irtext_base.specs.Format.{same_text, given_names_key, block_label_key};

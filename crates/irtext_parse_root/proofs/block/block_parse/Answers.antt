@@ -1,0 +1,51 @@
+use Rattle.std.proofs.Common.{◌∙◌, ap, sym, subst}
+use Rattle.irtext_read.specs.AttrTexts.{attr_at}
+use Rattle.irtext_state.specs.States.{marks_of}
+use Rattle.irtext_outcomes.specs.Promises.Section.{indices_of}
+use Rattle.irtext_parse_root.proofs.BlockHeads.{no_words, head_read, read_missed, read_refusal, unread_missed, unread_refusal, misses_fresh}
+use Rattle.irtext_parse_root.proofs.block.block_parse.Goals as goal
+
+-- ---- the header is read
+pub header_fault-requires-clause-words : goal.header_fault-requires-clause-words
+header_fault-requires-clause-words g c = c.header_parse.ensures.names.words (no_words c.new-names.ensures.names)
+
+pub header_fault-requires-clause-read : goal.header_fault-requires-clause-read
+header_fault-requires-clause-read g c =
+    let old = c.args.s.now.stream in
+    let h = head_read g.T.IrText.reading (attr_at g.A.IrText.reading) c.header_parse.new.names.names old (sym c.has_failed.ensures ∙ c.if-has_failed.false) c.in-Ok.head c.header_parse.new.stream c.in-Ok.ensures.read in
+    record { head = h.head; is = h.is }
+
+pub returns-in-Ok-clause-refused : goal.returns-in-Ok-clause-refused
+returns-in-Ok-clause-refused g c =
+    let old = c.args.s.now.stream in
+    let fine = sym c.has_failed.ensures ∙ c.if-has_failed.false in
+    let names = c.header_parse.new.names.names in
+    let h = head_read g.T.IrText.reading (attr_at g.A.IrText.reading) names old fine c.in-Ok.head c.header_parse.new.stream c.in-Ok.ensures.read in
+    read_refusal g.T.IrText.reading (attr_at g.A.IrText.reading) old c.header_fault.new.stream c.header_fault.result names fine c.in-Ok.head c.header_parse.new.stream h c.header_fault.ensures.fails
+    (indices_of (marks_of c.args.s.now.state)) (c.header_fault.ensures.first h.head h.is)
+
+pub returns-in-Ok-clause-missed : goal.returns-in-Ok-clause-missed
+returns-in-Ok-clause-missed g c = λ fine.
+    let old = c.args.s.now.stream in
+    let names = c.header_parse.new.names.names in
+    let h = head_read g.T.IrText.reading (attr_at g.A.IrText.reading) names old fine c.in-Ok.head c.header_parse.new.stream c.in-Ok.ensures.read in
+    read_missed g.T.IrText.reading (attr_at g.A.IrText.reading) old c.header_fault.new.stream c.header_fault.result names fine c.in-Ok.head c.header_parse.new.stream h c.header_fault.ensures.fails
+    (indices_of (marks_of c.args.s.now.state)) (c.header_fault.ensures.first h.head h.is)
+
+pub returns-in-Ok-clause-unresolved : goal.returns-in-Ok-clause-unresolved
+returns-in-Ok-clause-unresolved g c = λ fresh.
+    misses_fresh g.T.IrText.reading (attr_at g.A.IrText.reading) c.args.s.now.stream c.header_fault.new.stream c.header_fault.result (indices_of (marks_of c.args.s.now.state)) (ap indices_of fresh.marks)
+    (returns-in-Ok-clause-missed g c fresh.fine)
+
+-- ---- it is not
+pub returns-clause-refused : goal.returns-clause-refused
+returns-clause-refused g c = unread_refusal g.T.IrText.reading g.A.IrText.reading g.met.T.IrText.sincere g.met.A.IrText.sincere c.in-Err.ensures.read
+
+pub returns-clause-missed : goal.returns-clause-missed
+returns-clause-missed g c = λ fine.
+    unread_missed g.T.IrText.reading (attr_at g.A.IrText.reading) c.args.s.now.stream c.header_parse.new.stream c.in-Err.fault (indices_of (marks_of c.args.s.now.state)) fine c.in-Err.ensures.read
+
+pub returns-clause-unresolved : goal.returns-clause-unresolved
+returns-clause-unresolved g c = λ fresh.
+    misses_fresh g.T.IrText.reading (attr_at g.A.IrText.reading) c.args.s.now.stream c.header_parse.new.stream c.in-Err.fault (indices_of (marks_of c.args.s.now.state)) (ap indices_of fresh.marks)
+    (returns-clause-missed g c fresh.fine)
