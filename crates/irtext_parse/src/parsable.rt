@@ -24,7 +24,7 @@ pub trait Parsable<T: IrText<A>, A: AttrText, U> {
     type Parsed;
 
     // whether it may be read with this argument, as where what the argument names is in the context
-    ghost can_parse: { Arg → StateStream T A U → Type 0 } = { λ _ _. ⊤ };
+    ghost can_parse: { Self.Arg → StateStream T A U → Type 0 } = { λ _ _. ⊤ };
 
     /// Reads one from where the stream is.
     fn parse(stream: &mut StateStream<'_, T, A, U>, arg: Self::Arg) -> ParseResult<Self::Parsed, A>

@@ -44,6 +44,7 @@ impl<T: IrText<A>, A: AttrText, U> Parsable<T, A, U> for Region {
         stream: &mut StateStream<'_, T, A, U>,
         op: Ptr<Operation>,
     ) -> ParseResult<Ptr<Region>, A>
+        requires { IsSome (operation stream.old.state.ctx.now op) }
         ensures lent { stream.new.state.ctx.ghost_name ≡ stream.old.state.ctx.ghost_name }
         ensures rest { KeepsRest stream.old.state stream.new.state }
         ensures refused { IfErr result (λ fault. Refusal stream.old.stream fault stream.new.stream) }
