@@ -1,5 +1,5 @@
 //! The calls of operations that are about their text.
-ghost use Rattle.std.specs.Prelude.{◌≡◌, [], IfOk, IfErr, OnErr};
+ghost use Rattle.std.specs.Prelude.{◌≡◌, true, false, [], IfOk, IfErr, OnErr};
 ghost use Rattle.irtext_context.specs.Made.{SameObjects};
 ghost use Rattle.irtext_base.specs.Own.{texts_of};
 ghost use Rattle.irtext_read.specs.AttrTexts.{attr_at};
@@ -7,6 +7,7 @@ ghost use Rattle.irtext_state.specs.States.{marks_of};
 ghost use Rattle.irtext_outcomes.specs.Readers.Refusals.{Refusal, RefusesFailed};
 ghost use Rattle.irtext_outcomes.specs.Promises.Root.{IsFresh, UnlessMemory};
 ghost use Rattle.irtext_promises.specs.Promises.{BuildsRoot, RefusesRoot};
+ghost use Rattle.irtext_parse_root.specs.AnyState.{ReadsAny, MissesAny};
 ghost use Rattle.irtext_parse_root.specs.Whole.{BuildsWhole, RefusesWhole};
 ghost use Rattle.irtext_outcomes.specs.Readers.Streams.{KeepsRest};
 
@@ -42,6 +43,9 @@ pub trait OperationText {
         ensures rest { KeepsRest stream.old.state stream.new.state }
         ensures refused { IfErr result (λ fault. Refusal stream.old.stream fault stream.new.stream) }
         ensures failed { RefusesFailed stream.old.stream result stream.new.stream }
+        ensures read { IfOk result (λ op. ReadsAny T.reading (attr_at A.reading) true op stream.old stream.new) }
+        ensures missed { stream.old.stream.failed ≡ false →
+            IfErr result (UnlessMemory (MissesAny T.reading (attr_at A.reading) true stream.old)) }
         ensures builds { IsFresh stream.old →
             IfOk result (λ op. BuildsRoot (texts_of T.reading T.written) (texts_of A.reading A.written)
             (attr_at A.reading) op stream.old stream.new) }
