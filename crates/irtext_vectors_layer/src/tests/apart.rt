@@ -12,7 +12,7 @@ use irtext_vectors_roots::registering::register_operation;
 use pliron_text::base::{Context, NewBareOperation, OpId, Operation, Ptr};
 use pliron_text::dialect::DialectName;
 use pliron_text::format::{Directive, OpFormat};
-use pliron_text::laws::two_calls::printed_and_read;
+use pliron_text::laws::two_calls::{printed_and_read, read_printed_and_read};
 use pliron_text::printable::State;
 use pliron_text::result::Result as Answer;
 use std::alloc::Global;
@@ -87,7 +87,41 @@ fn brought_over(alloc: Global, ctx: &mut Ctx, other: &mut Ctx) -> Result<String,
     }
 }
 
+/// The text that is read, printed and read again: an operation in a block of another.
+const NESTED: &str = "lab.d here { ^a(): lab.d here {} }";
+
+/// The concrete texts of both roots where that text is read in the one context, printed, and read in the other.
+fn read_again(alloc: Global, ctx: &mut Ctx, other: &mut Ctx) -> Result<(String, String), Fail>
+    requires { other.old.dialects ≡ ctx.old.dialects }
+{
+    let layout = State::new(alloc, ());
+    match read_printed_and_read(NESTED, ctx, &layout, other) {
+        Ok((first, second)) => Ok((
+            concrete(alloc, ctx, first)?,
+            concrete(alloc, other, second)?,
+        )),
+        Err(_) => Err(Fail::from("not read again")),
+    }
+}
+
 /// The same, where the dialect is registered with each context apart.
+fn registered_again(alloc: Global, ctx: &mut Ctx, other: &mut Ctx) -> Result<(String, String), Fail>
+    requires one { ctx.old.dialects ≡ [] }
+    requires two { other.old.dialects ≡ [] }
+{
+    register(alloc, ctx)?;
+    register(alloc, other)?;
+    read_again(alloc, ctx, other)
+}
+
+/// The same with two contexts that have no dialects before.
+fn again(alloc: Global) -> Result<(String, String), Fail> {
+    let mut ctx: Ctx = Context::new(alloc);
+    let mut other: Ctx = Context::new(alloc);
+    registered_again(alloc, &mut ctx, &mut other)
+}
+
+/// The concrete text of the operation that is made and brought over, where the dialect is registered with each context apart.
 fn registered_apart(alloc: Global, ctx: &mut Ctx, other: &mut Ctx) -> Result<String, Fail>
     requires one { ctx.old.dialects ≡ [] }
     requires two { other.old.dialects ≡ [] }
@@ -102,6 +136,17 @@ fn apart(alloc: Global) -> Result<String, Fail> {
     let mut ctx: Ctx = Context::new(alloc);
     let mut other: Ctx = Context::new(alloc);
     registered_apart(alloc, &mut ctx, &mut other)
+}
+
+#[test]
+fn a_text_is_read_printed_and_read_again(rt: HostRuntime) -> Result<(), Fail> {
+    let (first, second) = again(rt.alloc())?;
+    assert_eq!(rt; first.as_str(), second.as_str());
+    assert_eq!(rt;
+        first.as_str(),
+        "lab.d here \n{\n  ^a_block1v1() !0:\n    lab.d here \n    {\n      \n    } !1\n}"
+    );
+    Ok(())
 }
 
 #[test]
