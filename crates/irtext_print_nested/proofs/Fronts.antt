@@ -1,7 +1,8 @@
 -- What stands in front of an operation's parts, and what a directive writes, as they are appended and as the walk has them.
-use Rattle.std.proofs.Common.{◌≡◌, ◌∙◌, ◌++◌, ℕ, refl, sym, ap, true, false, true≢false, List, [], map, Option, Some, None}
+use Rattle.std.proofs.Common.{◌≡◌, ◌∙◌, ◌++◌, ℕ, refl, sym, ap, Bool, true, false, true≢false, not, List, [], map, option_map, Option, Some, None, is_none}
 use Rattle.std.proofs.lemmas.List.{append-nil}
-use Rattle.std.specs.Prelude.{⊤}
+use Rattle.std.specs.Borrow.{Bor}
+use Rattle.std.specs.Prelude.{⊤, is_some}
 use Rattle.std.specs.Str.{encode_utf8_all}
 use Rattle.irtext_base.specs.Causes.{id_text}
 use Rattle.irtext_base.specs.Faults.{id_of}
@@ -10,6 +11,8 @@ use Rattle.irtext_base.specs.Format.{Format, Directive}
 use Rattle.irtext_base.specs.Own.{Language}
 use Rattle.irtext_base.specs.Text.{Text}
 use Rattle.irtext_base.specs.declared.base.identifier.OpId.{OpId}
+use Rattle.irtext_base.specs.declared.format.Directive as code
+use Rattle.irtext_formats.specs.Directives.{directives_of}
 use Rattle.irtext_grammar.specs.Grammar.Tree as tree
 use Rattle.irtext_grammar.specs.Grammar.Tree.{Part}
 use Rattle.irtext_grammar.specs.Graphs.Graph.{GraphOp, Printing, body_of, part_of, tree_op, value}
@@ -17,6 +20,7 @@ use Rattle.irtext_grammar.specs.Spelling.Spell as spell
 use Rattle.irtext_grammar.specs.Spelling.Spell.{results}
 use Rattle.irtext_print.proofs.Printers.Locations.{more}
 use Rattle.irtext_print_ops.specs.Opened.{body_front, operation_front}
+use Rattle.irtext_print_pieces.specs.Fits.{format_by}
 use Rattle.irtext_print_pieces.specs.Written as pieces
 use Rattle.irtext_print_walk.specs.Steps.{custom_directives}
 use Rattle.irtext_print_walk.specs.Walk as walk
@@ -33,6 +37,23 @@ pub none_found : (form : Option Format) → None ≡ custom_directives form → 
 none_found None e = refl
 none_found (Some format.canonical) e = refl
 none_found (Some (format.custom ds)) e = absurd (cc)
+
+-- no directives were found, as the code says it
+pub none_is : {X : Type 0} (o : Option X) (b : Bool) → is_some o ≡ not b → b ≡ is_none o
+none_is None true e = refl
+none_is None false e = absurd (true≢false (sym e))
+none_is (Some x) true e = absurd (true≢false e)
+none_is (Some x) false e = refl
+
+-- the directives of a format that is known
+pub directives_by : (form : Option Format) (found : Option (List Directive)) → form ≡ Some (format_by found) → found ≡ custom_directives form
+directives_by form None e = ap custom_directives (sym e)
+directives_by form (Some ds) e = ap custom_directives (sym e)
+
+-- a format that is known is written as any operation can be where no directives were found
+pub canonical_by : (form : Option Format) (found : Option (Bor (List code.Directive))) → form ≡ Some (format_by (option_map (λ ds. directives_of ds.now) found)) → is_none found ≡ is_canonical form
+canonical_by form None e = ap is_canonical (sym e)
+canonical_by form (Some ds) e = ap is_canonical (sym e)
 
 module _ {T A : Type 0} (L : Language ⊤ T A) (C : Printing T A) (o : GraphOp T A) where
   -- nothing stands in front of the parts in any other form

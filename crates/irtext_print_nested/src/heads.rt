@@ -1,5 +1,5 @@
 //! Who writes an operation's own and a block's head for the walk.
-use crate::front::{check_format, fmt_format_piece, fmt_operation_front};
+use crate::front::{begin_front, fmt_known_piece};
 use crate::marks::{is_block_marked, is_operation_marked};
 use irtext_base::format::Directive;
 use irtext_base::text::{AttrText, IrText};
@@ -12,25 +12,22 @@ use irtext_print_walk::heads::WritesHeads;
 pub struct Heads;
 
 impl<T: IrText<A>, A: AttrText> WritesHeads<T, A> for Heads {
-    fn check_fits(ctx: &Context<T, A>, op: Ptr<Operation>) -> Result<(), Refusal> {
-        check_format(ctx, op)
-    }
-
-    fn fmt_operation_front(
-        ctx: &Context<T, A>,
+    fn begin<'c>(
+        ctx: &'c Context<T, A>,
         op: Ptr<Operation>,
         f: &mut String,
-    ) -> Result<(), Refusal> {
-        fmt_operation_front(ctx, op, f)
+    ) -> Result<Option<&'c [Directive]>, Refusal> {
+        begin_front(ctx, op, f)
     }
 
     fn fmt_piece(
         ctx: &Context<T, A>,
         op: Ptr<Operation>,
+        directives: &[Directive],
         directive: &Directive,
         f: &mut String,
     ) -> Result<(), Refusal> {
-        fmt_format_piece(ctx, op, directive, f)
+        fmt_known_piece(ctx, op, directives, directive, f)
     }
 
     fn fmt_block_head(

@@ -86,6 +86,11 @@ module _ {A : Type 0} (is_outlined : A → Bool) (ds : List Directive) where
     Names fault.NoSymbol = ⊤
     Names (fault.UnwrittenAttribute key) = uncovered_key es ≡ Some key.now
 
+-- the format with these directives, and the one that any operation can have where there are none
+abbrev pub format_by : Option (List Directive) → Format
+format_by None = format.canonical
+format_by (Some ds) = format.custom ds
+
 -- how many parts an operation has, with so many regions
 abbrev pub counts_of : {T A : Type 0} → GraphOp T A → ℕ → Counts
 counts_of o n = record { operands = length o.operands; successors = length o.successors; results = length o.results; regions = n }

@@ -1,5 +1,5 @@
 //! Whether an operation fits its format, and why not.
-ghost use Rattle.std.specs.Prelude.{◌≡◌, is_some, not, ◌==◌, length, option_copied, Some, None, IsSome, IfSome, IfErr, OnOk};
+ghost use Rattle.std.specs.Prelude.{◌≡◌, is_some, not, ◌==◌, length, option_copied, option_map, Some, None, IsSome, IfSome, IfOk, IfErr, OnOk};
 ghost use Rattle.irtext_base.specs.Format as format;
 ghost use Rattle.irtext_base.specs.Format.{type_places, is_operands, is_successors};
 ghost use Rattle.irtext_context.specs.Context.{operation};
@@ -7,7 +7,7 @@ ghost use Rattle.irtext_formats.specs.Directives.{directive_of, directives_of};
 ghost use Rattle.irtext_graph.specs.Graph.{Stands};
 ghost use Rattle.irtext_graph.specs.Parts.{regions};
 ghost use Rattle.irtext_graph.specs.declared.object.Object.TheVariants.{TheOperation};
-ghost use Rattle.irtext_grammar.specs.Contexts.Formats.{isolated};
+ghost use Rattle.irtext_grammar.specs.Contexts.Formats.{format_of, isolated};
 ghost use Rattle.irtext_grammar.specs.Contexts.Held.{attribute_of, entries_of, known_types};
 ghost use Rattle.irtext_grammar.specs.Contexts.Nested.{seen_own};
 ghost use Rattle.irtext_print_pieces.specs.Fits as fits;
@@ -255,6 +255,36 @@ fn count_parts<T: IrText<A>, A: AttrText>(ctx: &Context<T, A>, op: Ptr<Operation
     }
 }
 
+/// The directives of an operation's format, or none where the operation is written as any operation can be; else the first reason why
+/// it does not fit its format, as [`check_fits`] says. It asks for the format once, and takes no memory.
+pub fn fitting_directives<'c, T: IrText<A>, A: AttrText>(
+    ctx: &'c Context<T, A>,
+    op: Ptr<Operation>,
+) -> Result<Option<&'c [Directive]>, FitFault<'c>>
+    requires live { IsSome (operation ctx.now op) }
+    ensures format { IfOk result (λ found. IfSome (seen_own A.IrText.written ctx.now op) (λ o.
+        format_of ctx.now.dialects o.id ≡ Some (fits.format_by (option_map (λ ds. directives_of ds.now) found)))) }
+    ensures fits { OnOk result (IfSome (seen_own A.IrText.written ctx.now op) (λ o.
+        fits.FitsOwn (printing_by A.AttrText.own A.eq ctx.now) (isolated ctx.now.dialects) o (length (regions ctx.now.graph op)))) }
+    ensures fault { IfErr result (λ reason. IfSome (seen_own A.IrText.written ctx.now op) (λ o.
+        fits.IsFirstReason (printing_by A.AttrText.own A.eq ctx.now) (isolated ctx.now.dialects) o (length (regions ctx.now.graph op)) reason)) }
+{
+    let Some(info) = ctx.op_info(op.get_opid(ctx)) else {
+        return Err(FitFault::NotRegistered);
+    };
+    match &info.format {
+        OpFormat::Canonical => Ok(None),
+        OpFormat::Custom(directives) => {
+            let directives = directives.as_slice();
+            let counts = count_parts(ctx, op);
+            match check_parts(directives, counts, op.attributes(ctx)) {
+                Ok(()) => Ok(Some(directives)),
+                Err(fault) => Err(fault),
+            }
+        }
+    }
+}
+
 /// Whether an operation fits its format; else the first reason why not, in the order of [`FitFault`], and of several such attributes
 /// the first: a missing one as the directives name them, one that is not written as the operation has them. An operation that is
 /// written as any operation can be always fits. It takes no memory.
@@ -268,14 +298,8 @@ pub fn check_fits<'c, T: IrText<A>, A: AttrText>(
     ensures fault { IfErr result (λ reason. IfSome (seen_own A.IrText.written ctx.now op) (λ o.
         fits.IsFirstReason (printing_by A.AttrText.own A.eq ctx.now) (isolated ctx.now.dialects) o (length (regions ctx.now.graph op)) reason)) }
 {
-    let Some(info) = ctx.op_info(op.get_opid(ctx)) else {
-        return Err(FitFault::NotRegistered);
-    };
-    match &info.format {
-        OpFormat::Canonical => Ok(()),
-        OpFormat::Custom(directives) => {
-            let counts = count_parts(ctx, op);
-            check_parts(directives, counts, op.attributes(ctx))
-        }
+    match fitting_directives(ctx, op) {
+        Ok(_directives) => Ok(()),
+        Err(fault) => Err(fault),
     }
 }

@@ -1,6 +1,7 @@
 -- The directives of an operation that stands, and the parts that they write.
-use Rattle.std.proofs.Common.{◌≡◌, ◌+◌, ℕ, zero, suc, List, [], ◌∷◌, ◌++◌, map, drop, Option, Some, None, refl, sym, ap, ◌∙◌, filter_map, append-nil}
-use Rattle.std.specs.Prelude.{⊤, option_map}
+use Rattle.std.proofs.Common.{◌≡◌, ◌+◌, ℕ, zero, suc, List, [], ◌∷◌, ◌++◌, map, drop, Option, Some, None, Bool, true, false, true≢false, not, refl, sym, ap, ◌∙◌, filter_map, append-nil}
+use Rattle.std.specs.Borrow.{Bor}
+use Rattle.std.specs.Prelude.{⊤, option_map, is_some}
 use Rattle.std.specs.List.{cons_option}
 use Rattle.std.specs.Str.{encode_utf8_all}
 use Rattle.irtext_base.specs.Faults.{id_of}
@@ -16,9 +17,10 @@ use Rattle.irtext_graph.specs.declared.arena.Ptr.{Ptr}
 use Rattle.irtext_graph.specs.declared.object.Operation.{Operation}
 use Rattle.irtext_grammar.specs.Contexts.Nested.{seen_operation}
 use Rattle.irtext_grammar.specs.Grammar.Tree.{Part}
+use Rattle.irtext_grammar.specs.Graphs.Closed.{FitsFormat}
 use Rattle.irtext_grammar.specs.Graphs.Graph.{Printing, GraphOp}
 use Rattle.irtext_print_walk.specs.Steps.{custom_directives}
-use Rattle.irtext_print_walk.specs.Walk.{directives_in, or_nothing, part_at, parts_left, pieces_text}
+use Rattle.irtext_print_walk.specs.Walk.{is_canonical, AreDirectives, directives_in, or_nothing, part_at, parts_left, pieces_text}
 
 drop_mapped : {X Y : Type 0} (f : X → Y) (k : ℕ) (xs : List X) → drop k (map f xs) ≡ map f (drop k xs)
 drop_mapped f zero xs = refl
@@ -36,6 +38,20 @@ pub directives_found : (form : Option Format) (ds : List Directive) → Some ds 
 directives_found None ds e = absurd (cc)
 directives_found (Some format.canonical) ds e = absurd (cc)
 directives_found (Some (format.custom es)) ds e = some_eq (sym e)
+
+-- an operation that fits is written as any operation can be where no directives were found
+pub repeats_as : {T A : Type 0} (C : Printing T A) (scoped : format.Id → Bool) (o : GraphOp T A) (n : ℕ) (found : Option (Bor (List code.Directive))) (b : Bool) → is_some found ≡ not b → AreDirectives C o found →
+    FitsFormat C scoped (C.format_of o.id) o n → b ≡ is_canonical (C.format_of o.id)
+repeats_as C scoped o n found b e known fits = go (C.format_of o.id) found b e known fits
+  where
+    go : (form : Option Format) (found : Option (Bor (List code.Directive))) (b : Bool) → is_some found ≡ not b → option_map (λ ds. directives_of ds.now) found ≡ custom_directives form → FitsFormat C scoped form o n → b ≡ is_canonical form
+    go None found b e known fits = absurd fits
+    go (Some format.canonical) None true e known fits = refl
+    go (Some format.canonical) None false e known fits = absurd (true≢false (sym e))
+    go (Some format.canonical) (Some ds) b e known fits = absurd (cc)
+    go (Some (format.custom ds)) None b e known fits = absurd (cc)
+    go (Some (format.custom ds)) (Some es) true e known fits = absurd (true≢false e)
+    go (Some (format.custom ds)) (Some es) false e known fits = refl
 
 module _ {T A : Type 0} (C : Printing T A) (o : GraphOp T A) (items : List code.Directive) where
   -- the part of the next directive, and those behind

@@ -1,10 +1,12 @@
 -- Each turn of the walk, by the frames that it leaves.
 use Rattle.std.proofs.Common.{◌≡◌, ◌<◌, ◌≤◌, ◌+◌, ◌*◌, ◌-◌, ℕ, zero, suc, List, [], ◌∷◌, ◌++◌, length, map, drop, Option, Some, None, IsSome, Bool, true, false, cond, arith, refl, ap, sym, subst, ◌∙◌, append_assoc, append-nil, true≢false}
 use Rattle.std.specs.Prelude.{⊤, slice_get, option_map, codes, ◌||◌}
+use Rattle.std.specs.Borrow.{Bor}
 use Rattle.std.specs.Str.{encode_utf8_all}
 use Rattle.irtext_base.specs.Format as format
 use Rattle.irtext_base.specs.Format.{Format, region_places, count, is_regions}
 use Rattle.irtext_base.specs.Own.{Language}
+use Rattle.irtext_base.specs.declared.format.Directive as code
 use Rattle.irtext_context.specs.Context.{ContextView, OperationView, BlockView, operation, block, block_of}
 use Rattle.irtext_graph.specs.declared.arena.Ptr.{Ptr}
 use Rattle.irtext_graph.specs.declared.object.BasicBlock.{BasicBlock}
@@ -34,7 +36,7 @@ use Rattle.irtext_print.specs.declared.printable.state.RegionPrintDepthLimit.The
 use Rattle.irtext_print_ops.specs.Opened.{Open, an_operation, a_region, a_block, covers, Turns, mark_text, mark_count, opened, operation_front, block_head, block_front, between_blocks, between_operations, unless_first, closing}
 use Rattle.irtext_print_ops.proofs.Depths.{inside_is}
 use Rattle.irtext_print_ops.proofs.Turns.{goes_on, operation_ends, no_region_turns, repeats_turns, repeats_end, elided_turns, elided_repeats, shown_turns, shown_repeats, region_ends, block_ends, block_turns, operation_turns}
-use Rattle.irtext_print_walk.specs.Walk.{is_canonical, directives_in, or_nothing, pieces_text, behind_pieces, parts_left, seen_at, inside_of, regions_left, blocks_left, operations_left, marked_own, open_of, AllFit, marked_operation, marked_block, items_in_regions, items_in_blocks, items_in_operations, items_left, directive_count, turns_of_regions, turns_of_blocks, turns_of_operations, turns_left, Steps}
+use Rattle.irtext_print_walk.specs.Walk.{is_canonical, AreDirectives, IsBegun, directives_in, or_nothing, pieces_text, behind_pieces, parts_left, seen_at, inside_of, regions_left, blocks_left, operations_left, marked_own, open_of, AllFit, marked_operation, marked_block, items_in_regions, items_in_blocks, items_in_operations, items_left, directive_count, turns_of_regions, turns_of_blocks, turns_of_operations, turns_left, Steps}
 use Rattle.irtext_print_walk.specs.Steps.{region_front, region_frames, region_turn_text, region_turn_frames}
 use Rattle.irtext_print_walk.proofs.Tests.{none_left}
 use Rattle.irtext_dict.proofs.Drops.{one_left}
@@ -143,14 +145,14 @@ module _ {T A : Type 0} (C : Printing T A) (L : Language ⊤ T A) (ctx : Context
         fewer all later d r e = omega (arith, e)
 
     -- the next is begun
-    pub block_begins : (p : Ptr Operation) (op : OperationView T A) (indent : ℕ) (old mid new : List ℕ) (frames' : List Frame) → drop f.operation (operations_in ctx.graph f.block) ≡ p ∷ drop (f.operation + 1) (operations_in ctx.graph f.block) →
+    pub block_begins : (p : Ptr Operation) (op : OperationView T A) (known : Option (Bor (List code.Directive))) (indent : ℕ) (old mid new : List ℕ) (frames' : List Frame) → drop f.operation (operations_in ctx.graph f.block) ≡ p ∷ drop (f.operation + 1) (operations_in ctx.graph f.block) →
         operation ctx p ≡ Some op → Nested (children ctx.graph) (parent ctx.graph) → Stands ctx.graph (TheBlock f.block) → indent ≡ f.indent + width →
-        FitsFormat C (isolated ctx.dialects) (C.format_of (seen_at C L ctx p).id) (seen_at C L ctx p) (length (regions ctx.graph p)) →
+        AreDirectives C (seen_at C L ctx p) known → FitsFormat C (isolated ctx.dialects) (C.format_of (seen_at C L ctx p).id) (seen_at C L ctx p) (length (regions ctx.graph p)) →
         mid ≡ old ++ encode_utf8_all (unless_first f.first (between_operations indent)) → new ≡ mid ++ encode_utf8_all (operation_front L (tree_op C 0 (seen_at C L ctx p))) →
         frames' ≡ (frames ++ frame.Block (record f { operation = f.operation + 1; first = false }) ∷ [])
-        ++ frame.Operation (record { op = p; directive = 0; region = 0; repeats = is_canonical (C.format_of (seen_at C L ctx p).id); marked = true; indent = indent; limit = f.limit }) ∷ [] →
+        ++ frame.Operation (record { op = p; directives = known; directive = 0; region = 0; repeats = is_canonical (C.format_of (seen_at C L ctx p).id); marked = true; indent = indent; limit = f.limit }) ∷ [] →
         Steps C L ctx width (frame.Block f) items items frames frames' old new
-    block_begins p op indent old mid new frames' e is nested stands n fits w v k =
+    block_begins p op known indent old mid new frames' e is nested stands n found fits w v k =
         let ops = operations_in ctx.graph f.block in
         let l = levels f.limit in
         let o = seen_at C L ctx p in
@@ -160,7 +162,7 @@ module _ {T A : Type 0} (C : Printing T A) (L : Language ⊤ T A) (ctx : Context
         let form = C.format_of o.id in
         let here = λ (z : List (Ptr Operation)). operations_by ctx.graph (inside_of C L ctx) z in
         let q : Frame = frame.Block (record f { operation = f.operation + 1; first = false }) in
-        let g : Frame = frame.Operation (record { op = p; directive = 0; region = 0; repeats = is_canonical form; marked = true; indent = indent; limit = f.limit }) in
+        let g : Frame = frame.Operation (record { op = p; directives = known; directive = 0; region = 0; repeats = is_canonical form; marked = true; indent = indent; limit = f.limit }) in
         let is_inner : inner ≡ regions_left C L ctx p 0 = inside_is ctx.graph nested p in
         let same : o ≡ seen_operation L.owns.written ctx p op = seen_some (operation ctx p) op p is in
         let shows : seen_operations L.owns.written ctx (here (drop f.operation ops)) ≡ forest.operation o (seen_regions L.owns.written ctx inner) sos =
@@ -190,7 +192,7 @@ module _ {T A : Type 0} (C : Printing T A) (L : Language ⊤ T A) (ctx : Context
             stands,
             (
               (
-                subst (λ (z : Option (OperationView T A)). IsSome z) (sym is) refl,
+                (subst (λ (z : Option (OperationView T A)). IsSome z) (sym is) refl, found),
                 fits_covered (isolated ctx.dialects) form o (length (regions ctx.graph p)) (seen_regions L.owns.written ctx (regions_left C L ctx p 0)) fits (regions_counted (inside_of C L ctx) (regions ctx.graph p)),
               ),
               tt,
@@ -367,7 +369,7 @@ module _ {T A : Type 0} (C : Printing T A) (L : Language ⊤ T A) (ctx : Context
 
     -- all regions that are left are written next
     pub regions_begin : (k : ℕ) (old mid new : List ℕ) (frames' : List Frame) → f.repeats ≡ false → behind_pieces (parts_left C (seen_at C L ctx f.op) f.directive) ≡ tree.regions ∷ parts_left C (seen_at C L ctx f.op) k →
-        f.directive < k → k ≤ directive_count C L ctx f.op → IsSome (operation ctx f.op) →
+        f.directive < k → k ≤ directive_count C L ctx f.op → IsBegun C L ctx f.op f.directives →
         mid ≡ old ++ encode_utf8_all (pieces_text L (parts_left C (seen_at C L ctx f.op) f.directive)) → new ≡ mid ++ codes " " →
         frames' ≡ frames ++ frame.Operation (record f { directive = k; repeats = true }) ∷ [] →
         Steps C L ctx width (frame.Operation f) items items frames frames' old new
@@ -434,7 +436,7 @@ module _ {T A : Type 0} (C : Printing T A) (L : Language ⊤ T A) (ctx : Context
 
   module _ (f : OperationFrame) (items : List Item) (frames : List Frame) where
     -- all regions are written, none is left
-    pub repeat_ended : (old new : List ℕ) (frames' : List Frame) → f.repeats ≡ true → drop f.region (regions ctx.graph f.op) ≡ [] → IsSome (operation ctx f.op) → new ≡ old ++ [] →
+    pub repeat_ended : (old new : List ℕ) (frames' : List Frame) → f.repeats ≡ true → drop f.region (regions ctx.graph f.op) ≡ [] → IsBegun C L ctx f.op f.directives → new ≡ old ++ [] →
         frames' ≡ frames ++ frame.Operation (record f { repeats = false }) ∷ [] → Steps C L ctx width (frame.Operation f) items items frames frames' old new
     repeat_ended old new frames' all_left e stands w s =
         let ps = parts_left C (seen_at C L ctx f.op) f.directive in
@@ -462,7 +464,7 @@ module _ {T A : Type 0} (C : Printing T A) (L : Language ⊤ T A) (ctx : Context
 
     -- one of all regions is begun
     pub repeat_begins : (r : Ptr Region) (old new : List ℕ) (frames' : List Frame) → f.repeats ≡ true → drop f.region (regions ctx.graph f.op) ≡ r ∷ drop (f.region + 1) (regions ctx.graph f.op) →
-        IsSome (operation ctx f.op) → Stands ctx.graph (TheRegion r) → new ≡ old ++ encode_utf8_all (region_front width f.indent f.limit) →
+        IsBegun C L ctx f.op f.directives → Stands ctx.graph (TheRegion r) → new ≡ old ++ encode_utf8_all (region_front width f.indent f.limit) →
         frames' ≡ frames ++ frame.Operation (record f { region = f.region + 1 }) ∷ region_frames r f.indent f.limit → Steps C L ctx width (frame.Operation f) items items frames frames' old new
     repeat_begins r old new frames' all_left e stands there w s =
         let ps = parts_left C (seen_at C L ctx f.op) f.directive in
@@ -502,7 +504,7 @@ module _ {T A : Type 0} (C : Printing T A) (L : Language ⊤ T A) (ctx : Context
 
     -- the pieces are written up to a directive of one region, and none is left
     pub single_ended : (k j : ℕ) (old new : List ℕ) (frames' : List Frame) → f.repeats ≡ false → behind_pieces (parts_left C (seen_at C L ctx f.op) f.directive) ≡ tree.region j ∷ parts_left C (seen_at C L ctx f.op) k →
-        f.directive < k → k ≤ directive_count C L ctx f.op → drop f.region (regions ctx.graph f.op) ≡ [] → IsSome (operation ctx f.op) →
+        f.directive < k → k ≤ directive_count C L ctx f.op → drop f.region (regions ctx.graph f.op) ≡ [] → IsBegun C L ctx f.op f.directives →
         new ≡ old ++ encode_utf8_all (pieces_text L (parts_left C (seen_at C L ctx f.op) f.directive)) →
         frames' ≡ frames ++ frame.Operation (record f { directive = k; repeats = false }) ∷ [] → Steps C L ctx width (frame.Operation f) items items frames frames' old new
     single_ended k j old new frames' once b low high e stands w s =
@@ -539,7 +541,7 @@ module _ {T A : Type 0} (C : Printing T A) (L : Language ⊤ T A) (ctx : Context
     pub single_begins : (k j : ℕ) (r : Ptr Region) (old mid new : List ℕ) (frames' : List Frame) → f.repeats ≡ false → behind_pieces (parts_left C (seen_at C L ctx f.op) f.directive) ≡ tree.region j ∷ parts_left C (seen_at C L ctx f.op) k →
         f.directive < k → k ≤ directive_count C L ctx f.op → drop f.region (regions ctx.graph f.op) ≡ r ∷ drop (f.region + 1) (regions ctx.graph f.op) →
         covers (parts_left C (seen_at C L ctx f.op) f.directive) (seen_regions L.owns.written ctx (regions_left C L ctx f.op f.region)) ≡ true →
-        IsSome (operation ctx f.op) → Stands ctx.graph (TheRegion r) →
+        IsBegun C L ctx f.op f.directives → Stands ctx.graph (TheRegion r) →
         mid ≡ old ++ encode_utf8_all (pieces_text L (parts_left C (seen_at C L ctx f.op) f.directive)) → new ≡ mid ++ encode_utf8_all (codes " " ++ region_front width f.indent f.limit) →
         frames' ≡ frames ++ frame.Operation (record f { directive = k; region = f.region + 1 }) ∷ region_frames r f.indent f.limit → Steps C L ctx width (frame.Operation f) items items frames frames' old new
     single_begins k j r old mid new frames' once b low high e cov stands there w v s =
@@ -586,7 +588,7 @@ module _ {T A : Type 0} (C : Printing T A) (L : Language ⊤ T A) (ctx : Context
         fewer d i k b later all tf tb low high e m = omega (arith, low, high, e, m)
 
     -- a turn in which all regions that are left are written
-    pub repeat_step : (old new : List ℕ) (frames' : List Frame) → f.repeats ≡ true → IsSome (operation ctx f.op) → Nested (children ctx.graph) (parent ctx.graph) →
+    pub repeat_step : (old new : List ℕ) (frames' : List Frame) → f.repeats ≡ true → IsBegun C L ctx f.op f.directives → Nested (children ctx.graph) (parent ctx.graph) →
         new ≡ old ++ encode_utf8_all (region_turn_text ctx width f) → frames' ≡ frames ++ region_turn_frames ctx f → Steps C L ctx width (frame.Operation f) items items frames frames' old new
     repeat_step old new frames' all_left stands nested w s = go (slice_get (regions ctx.graph f.op) f.region) refl w s
       where
@@ -601,7 +603,7 @@ module _ {T A : Type 0} (C : Printing T A) (L : Language ⊤ T A) (ctx : Context
     pub single_step : (k j : ℕ) (old mid new : List ℕ) (frames' : List Frame) → f.repeats ≡ false → behind_pieces (parts_left C (seen_at C L ctx f.op) f.directive) ≡ tree.region j ∷ parts_left C (seen_at C L ctx f.op) k →
         f.directive < k → k ≤ directive_count C L ctx f.op →
         covers (parts_left C (seen_at C L ctx f.op) f.directive) (seen_regions L.owns.written ctx (regions_left C L ctx f.op f.region)) ≡ true →
-        IsSome (operation ctx f.op) → Nested (children ctx.graph) (parent ctx.graph) →
+        IsBegun C L ctx f.op f.directives → Nested (children ctx.graph) (parent ctx.graph) →
         mid ≡ old ++ encode_utf8_all (pieces_text L (parts_left C (seen_at C L ctx f.op) f.directive)) →
         new ≡ mid ++ encode_utf8_all (region_turn_text ctx width (record f { directive = k })) → frames' ≡ frames ++ region_turn_frames ctx (record f { directive = k }) →
         Steps C L ctx width (frame.Operation f) items items frames frames' old new

@@ -1,11 +1,13 @@
 -- The walk as a whole: what was written and what is left are all, from its first turn to its last.
-use Rattle.std.proofs.Common.{◌≡◌, ◌<◌, ◌+◌, ℕ, List, [], ◌∷◌, ◌++◌, length, map, IsSome, Bool, arith, refl, ap, sym, subst, ◌∙◌, append_assoc, append-nil, length-append, inl, inr, ◌⊎◌}
+use Rattle.std.proofs.Common.{◌≡◌, ◌<◌, ◌+◌, ℕ, List, [], ◌∷◌, ◌++◌, length, map, Option, Bool, arith, refl, ap, sym, subst, ◌∙◌, append_assoc, append-nil, length-append, inl, inr, ◌⊎◌}
 use Rattle.std.specs.Prelude.{⊤}
 use Rattle.std.proofs.lemmas.List.{map-append}
+use Rattle.std.specs.Borrow.{Bor}
 use Rattle.std.specs.Str.{encode_utf8_all}
 use Rattle.irtext_base.specs.Format as format
 use Rattle.irtext_base.specs.Own.{Language}
-use Rattle.irtext_context.specs.Context.{ContextView, operation}
+use Rattle.irtext_base.specs.declared.format.Directive as code
+use Rattle.irtext_context.specs.Context.{ContextView}
 use Rattle.irtext_graph.specs.Parts.{regions}
 use Rattle.irtext_graph.specs.declared.arena.Ptr.{Ptr}
 use Rattle.irtext_graph.specs.declared.object.Operation.{Operation}
@@ -24,7 +26,7 @@ use Rattle.irtext_print_ops.proofs.Turns.{operation_begins}
 use Rattle.irtext_print_ops.specs.Opened.{open_rest, rest, opened, operation_front, mark_text}
 use Rattle.irtext_print_walk.specs.Faults.{OpenFault, AnyFault}
 use Rattle.irtext_print_walk.proofs.Faults.{only_fault, any_both, any_front, any_back}
-use Rattle.irtext_print_walk.specs.Walk.{is_canonical, seen_at, regions_left, inside_of, marked_own, open_of, AllFit, FrameFits, items_of, items_left, turns_left, Steps}
+use Rattle.irtext_print_walk.specs.Walk.{is_canonical, IsBegun, seen_at, regions_left, inside_of, marked_own, open_of, AllFit, FrameFits, items_of, items_left, turns_left, Steps}
 use Rattle.irtext_print_walk.specs.declared.frame.Frame.{Frame}
 use Rattle.irtext_print_walk.specs.declared.frame.Frame.TheVariants as frame
 use Rattle.irtext_context.specs.declared.base.item.Item.{Item}
@@ -128,9 +130,9 @@ module _ {T A : Type 0} (C : Printing T A) (L : Language ⊤ T A) (ctx : Context
         let m = s.fewer in
         omega (arith, a, b, m)
 
-  module _ (p : Ptr Operation) (marked : Bool) (i : ℕ) (limit : RegionPrintDepthLimit) (n : ℕ) where
+  module _ (p : Ptr Operation) (known : Option (Bor (List code.Directive))) (marked : Bool) (i : ℕ) (limit : RegionPrintDepthLimit) (n : ℕ) where
     abbrev first_frame : Frame
-    first_frame = frame.Operation (record { op = p; directive = 0; region = 0; repeats = is_canonical (C.format_of (seen_at C L ctx p).id); marked = marked; indent = i; limit = limit })
+    first_frame = frame.Operation (record { op = p; directives = known; directive = 0; region = 0; repeats = is_canonical (C.format_of (seen_at C L ctx p).id); marked = marked; indent = i; limit = limit })
 
     -- what stands in front of the parts of the outermost operation, and what is left then
     pub first_text : (items : List Item) (old new : List ℕ) → n ≡ length items → new ≡ old ++ encode_utf8_all (operation_front L (tree_op C 0 (seen_at C L ctx p))) →
@@ -154,7 +156,7 @@ module _ {T A : Type 0} (C : Printing T A) (L : Language ⊤ T A) (ctx : Context
         ∙ (ap (λ z. old ++ encode_utf8_all z) (sym (operation_begins C L width i l own (tree_op C m o) rs n))
         ∙ ap (λ z. old ++ encode_utf8_all (concrete L (tree_op C m o) (region_texts L width i (tree_regions C l n rs)) ++ z)) (sym (same_mark C L ctx width width m own))))
 
-    pub first_fit : (scoped : format.Id → Bool) → IsSome (operation ctx p) → FitsFormat C scoped (C.format_of (seen_at C L ctx p).id) (seen_at C L ctx p) (length (regions ctx.graph p)) → AllFit C L ctx (first_frame ∷ [])
+    pub first_fit : (scoped : format.Id → Bool) → IsBegun C L ctx p known → FitsFormat C scoped (C.format_of (seen_at C L ctx p).id) (seen_at C L ctx p) (length (regions ctx.graph p)) → AllFit C L ctx (first_frame ∷ [])
     first_fit scoped stands fits = (
       (
         stands,

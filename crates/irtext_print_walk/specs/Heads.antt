@@ -1,9 +1,11 @@
 -- For callers: what an operation's own and a block's head are written as, by the formats of a context and the texts of the caller's types
 -- and attributes; and the text of all that stands under an operation, or why there is none.
 use Rattle.std.specs.Prelude.{◌≢◌, ◌+◌, ◌⊎◌, ℕ, Bool, cond, List, [], ◌++◌, length, map, Option, Some, None, codes, ⊤}
+use Rattle.std.specs.Borrow.{Bor}
 use Rattle.irtext_base.specs.Format.{Directive}
 use Rattle.irtext_base.specs.Own.{Language}
 use Rattle.irtext_base.specs.Text.{Text}
+use Rattle.irtext_base.specs.declared.format.Directive as code
 use Rattle.irtext_base.specs.declared.text.AttrText as attr_text
 use Rattle.irtext_base.specs.declared.text.IrText as ir_text
 use Rattle.irtext_context.specs.Context.{ContextView}
@@ -26,7 +28,7 @@ use Rattle.irtext_print.specs.declared.printable.refusal.Refusal.TheVariants.{Me
 use Rattle.irtext_print.specs.declared.printable.state.RegionPrintDepthLimit.{RegionPrintDepthLimit}
 use Rattle.irtext_print_ops.specs.Opened.{operation_front, block_head, mark_text, open_rest}
 use Rattle.irtext_print_walk.specs.Faults.{IndentFault, OperationFault, RegionsFault, OperationsFault, OpenFault, AnyFault}
-use Rattle.irtext_print_walk.specs.Walk.{is_canonical, part_text, pieces_text, part_at, parts_left, seen_at, regions_left, blocks_left, operations_left, marked_own, open_of, FrameFits, AllFit, marked_operation, marked_block, items_in_regions, items_in_blocks, items_in_operations, items_left, Steps, StopsBefore}
+use Rattle.irtext_print_walk.specs.Walk.{is_canonical, directives_in, AreDirectives, part_text, pieces_text, part_at, parts_left, seen_at, regions_left, blocks_left, operations_left, marked_own, open_of, FrameFits, AllFit, marked_operation, marked_block, items_in_regions, items_in_blocks, items_in_operations, items_left, Steps, StopsBefore}
 use Rattle.irtext_print_walk.specs.declared.frame.Frame.{Frame}
 use Rattle.irtext_context.specs.declared.base.item.Item.{Item}
 use Rattle.irtext_print_walk.specs.declared.frame.OperationFrame.{OperationFrame}
@@ -69,6 +71,14 @@ module _ {T A : Type 0} (types : ir_text.Ghosts T A) (owns : ir_text.Ghosts A A)
   abbrev pub is_canonical_at : Ptr Operation → Bool
   is_canonical_at p = is_canonical (printing_of.format_of (operation_at p).id)
 
+  -- the directives of an operation's format; none where it has no format of its own
+  abbrev pub directives_at : Ptr Operation → List Directive
+  directives_at p = directives_in (printing_of.format_of (operation_at p).id)
+
+  -- this was found of an operation's format: its directives, where it has some
+  abbrev pub AreDirectivesAt : Ptr Operation → Option (Bor (List code.Directive)) → Type 0
+  AreDirectivesAt p found = AreDirectives printing_of (operation_at p) found
+
   -- an operation's results and id, and what stands in front of its parts
   abbrev pub operation_front_at : Ptr Operation → Text
   operation_front_at p = operation_front language_of (tree_op printing_of 0 (operation_at p))
@@ -98,8 +108,8 @@ module _ {T A : Type 0} (types : ir_text.Ghosts T A) (owns : ir_text.Ghosts A A)
   StopsAt p k stop = StopsBefore printing_of (operation_at p) k stop
 
   -- an operation of which nothing is written but what stands in front of its parts
-  abbrev pub begun_at : Ptr Operation → Bool → ℕ → RegionPrintDepthLimit → OperationFrame
-  begun_at p marked indent limit = record { op = p; directive = 0; region = 0; repeats = is_canonical_at p; marked = marked; indent = indent; limit = limit }
+  abbrev pub begun_at : Ptr Operation → Option (Bor (List code.Directive)) → Bool → ℕ → RegionPrintDepthLimit → OperationFrame
+  begun_at p found marked indent limit = record { op = p; directives = found; directive = 0; region = 0; repeats = is_canonical_at p; marked = marked; indent = indent; limit = limit }
 
   -- an operation's mark, where it has one and it is to be written, with n marks before it
   abbrev pub own_mark_at : Ptr Operation → Bool → ℕ → Text

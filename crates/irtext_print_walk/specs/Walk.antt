@@ -1,11 +1,14 @@
 -- For callers: what a frame of the printing loop means: what it leaves open, which items are still marked in it, and how much is left of it.
-use Rattle.std.specs.Prelude.{◌≡◌, ◌<◌, ◌≤◌, ◌+◌, ◌*◌, ◌-◌, ◌||◌, ◌++◌, ◌∷◌, ℕ, suc, Bool, true, false, cond, List, [], length, map, drop, filter_map, Option, Some, None, IsSome, ⊤}
+use Rattle.std.specs.Prelude.{◌≡◌, ◌<◌, ◌≤◌, ◌+◌, ◌*◌, ◌-◌, ◌||◌, ◌++◌, ◌∷◌, ℕ, suc, Bool, true, false, cond, List, [], length, map, drop, filter_map, Option, Some, None, IsSome, option_map, ⊤}
+use Rattle.std.specs.Borrow.{Bor}
 use Rattle.std.specs.Str.{encode_utf8_all}
 use Rattle.irtext_base.specs.Format as format
 use Rattle.irtext_base.specs.Format.{Format, Directive}
 use Rattle.irtext_base.specs.Own.{Language}
 use Rattle.irtext_base.specs.Text.{Text}
+use Rattle.irtext_base.specs.declared.format.Directive as code
 use Rattle.irtext_context.specs.Context.{ContextView, operation, block}
+use Rattle.irtext_formats.specs.Directives.{directives_of}
 use Rattle.irtext_graph.specs.declared.arena.Ptr.{Ptr}
 use Rattle.irtext_graph.specs.declared.object.BasicBlock.{BasicBlock}
 use Rattle.irtext_graph.specs.declared.object.Object.TheVariants.{TheBlock, TheRegion}
@@ -26,6 +29,7 @@ use Rattle.irtext_print.specs.declared.printable.refusal.Refusal.{Refusal}
 use Rattle.irtext_print.specs.declared.printable.refusal.Refusal.TheVariants.{Misfit}
 use Rattle.irtext_print_ops.specs.Opened.{Open, an_operation, a_region, a_block, covers, Turns}
 use Rattle.irtext_print_walk.specs.Faults.{OpenFault, AnyFault}
+use Rattle.irtext_print_walk.specs.Steps.{custom_directives}
 use Rattle.irtext_print_walk.specs.declared.frame.Frame.{Frame}
 use Rattle.irtext_print_walk.specs.declared.frame.Frame.TheVariants as frame
 use Rattle.irtext_context.specs.declared.base.item.Item.{Item}
@@ -85,6 +89,10 @@ module _ {T A : Type 0} (C : Printing T A) where
   abbrev pub parts_left : GraphOp T A → ℕ → List (Part ⊤ T A)
   parts_left o k = parts_from o (drop k (directives_in (C.format_of o.id)))
 
+  -- what was found of an operation's format: its directives, where it has some
+  abbrev pub AreDirectives : GraphOp T A → Option (Bor (List code.Directive)) → Type 0
+  AreDirectives o found = option_map (λ ds. directives_of ds.now) found ≡ custom_directives (C.format_of o.id)
+
   -- Where the pieces behind a directive end, and which parts are left then: none, or one region or all that are left, and those behind.
   abbrev pub StopsBefore : GraphOp T A → ℕ → Stop → Type 0
   StopsBefore o from stop.End = behind_pieces (parts_left o from) ≡ []
@@ -95,6 +103,10 @@ module _ {T A : Type 0} (C : Printing T A) where
     -- an operation as printing sees it
     abbrev pub seen_at : Ptr Operation → GraphOp T A
     seen_at p = or_nothing (seen_own L.owns.written ctx p)
+
+    -- an operation stands, and this was found of its format
+    abbrev pub IsBegun : Ptr Operation → Option (Bor (List code.Directive)) → Type 0
+    IsBegun p found = IsSome (operation ctx p) × AreDirectives (seen_at p) found
 
     -- what stands in an operation, however deep
     abbrev pub inside_of : Ptr Operation → Regions (Ptr Operation) (Ptr BasicBlock) (Ptr Region)
@@ -122,9 +134,10 @@ module _ {T A : Type 0} (C : Printing T A) where
     open_of (frame.Region f) = a_region f.indent (levels f.limit) f.first (seen_blocks L.owns.written ctx (blocks_left f.region f.block))
     open_of (frame.Block f) = a_block f.indent (levels f.limit) f.first (seen_operations L.owns.written ctx (operations_left f.block f.operation))
 
-    -- What a frame is of stands in the context, and where the parts of an operation are still to be written, they write all its regions.
+    -- What a frame is of stands in the context, and where the parts of an operation are still to be written, they write all its regions. The
+    -- frame of an operation has the directives of its format.
     abbrev pub FrameFits : Frame → Type 0
-    FrameFits (frame.Operation f) = IsSome (operation ctx f.op)
+    FrameFits (frame.Operation f) = IsBegun f.op f.directives
         × ((f.repeats || covers (parts_left (seen_at f.op) f.directive) (seen_regions L.owns.written ctx (regions_left f.op f.region))) ≡ true)
     FrameFits (frame.Region f) = Stands ctx.graph (TheRegion f.region)
     FrameFits (frame.Block f) = Stands ctx.graph (TheBlock f.block)

@@ -2,13 +2,16 @@
 ghost use Rattle.std.specs.Prelude.{◌≡◌, ◌++◌, ◌∷◌, [], OnOk, IfOk, IfErr, length};
 ghost use Rattle.irtext_print.specs.declared.printable.refusal.Refusal.TheVariants as refusal;
 
+use irtext_base::format::Directive;
 use irtext_context::base::{BasicBlock, Item, Operation, Ptr, Region};
 use irtext_print::printable::{Refusal, RegionPrintDepthLimit};
 
 /// An operation whose results and id were written.
 #[derive(Clone, Copy)]
-pub struct OperationFrame {
+pub struct OperationFrame<'c> {
     pub op: Ptr<Operation>,
+    /// The directives of its format, where it has some: they were found when it was begun.
+    pub directives: Option<&'c [Directive]>,
     /// The index of the directive of its format that is written next.
     pub directive: usize,
     /// The index of the region that is written next.
@@ -53,15 +56,15 @@ pub struct BlockFrame {
 
 /// What is open.
 #[derive(Clone, Copy)]
-pub enum Frame {
-    Operation(OperationFrame),
+pub enum Frame<'c> {
+    Operation(OperationFrame<'c>),
     Region(RegionFrame),
     Block(BlockFrame),
 }
 
 /// Opens a frame inside of those that are open.
-pub(crate) fn open(frames: &mut Vec<Frame>, frame: Frame) -> Result<(), Refusal>
-    ensures ok { OnOk result (frames.new.items ≡ frames.old.items ++ frame ∷ []) }
+pub(crate) fn open<'c>(frames: &mut Vec<Frame<'c>>, frame: Frame<'c>) -> Result<(), Refusal>
+    ensures ok { OnOk result (frames.new.items ≡ frames.old.items ++ frame.entry ∷ []) }
     ensures refused { IfErr result (λ e. e ≡ refusal.Memory) }
 {
     match frames.push(frame) {

@@ -100,7 +100,8 @@ pub(crate) fn fmt_index(index: usize, f: &mut String) -> Result<(), Refusal>
     ensures text { OnOk result (AppendsText f.old (codes " !" ++ decimal index) f.new) }
     ensures refused { IfErr result (λ e. e ≡ refusal.Memory) }
 {
-    write!(f, " !{index}")?;
+    f.push_str(" !")?;
+    write!(f, "{index}")?;
     Ok(())
 }
 
@@ -110,7 +111,7 @@ pub(crate) fn begin_region(
     indent: u16,
     width: u16,
     limit: RegionPrintDepthLimit,
-    frames: &mut Vec<Frame>,
+    frames: &mut Vec<Frame<'_>>,
     f: &mut String,
 ) -> Result<(), Refusal>
     ensures text { OnOk result (AppendsText f.old (region_front width indent limit) f.new) }

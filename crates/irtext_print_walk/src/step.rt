@@ -10,7 +10,6 @@ ghost use Rattle.irtext_print_walk.specs.Heads as heads;
 ghost use Rattle.irtext_print_walk.specs.Steps as steps;
 ghost use Rattle.irtext_print_walk.specs.declared.frame.Frame.TheVariants as framed;
 
-use crate::formats::{directives_in, is_canonical};
 use crate::frame::{BlockFrame, Frame, OperationFrame, RegionFrame, gather, open};
 use crate::heads::WritesHeads;
 use crate::opening::{
@@ -34,19 +33,21 @@ pub(crate) enum Stop {
     Regions(usize),
 }
 
-/// Appends what the directives write from one of them on, in front of the first that writes a region.
+/// Appends what the directives that were found of an operation write from one of them on, in front of the first that writes a region.
 fn fmt_pieces<H: WritesHeads<T, A>, T: IrText<A>, A: AttrText>(
     ctx: &Context<T, A>,
     op: Ptr<Operation>,
+    found: Option<&[Directive]>,
     from: usize,
     f: &mut String,
 ) -> Result<Stop, Refusal>
     requires live { IsSome (operation ctx.now op) }
+    requires format { heads.AreDirectivesAt T.IrText.own A.IrText.own A.AttrText.own A.eq ctx.now op found }
     ensures text { OnOk result (AppendsText f.old (heads.pieces_at T.IrText.own A.IrText.own A.AttrText.own A.eq ctx.now op from) f.new) }
     ensures stop { IfOk result (λ stop. heads.StopsAt T.IrText.own A.IrText.own A.AttrText.own A.eq ctx.now op from stop) }
     ensures refused { IfErr result (λ e. e ≡ refusal.Memory) }
 {
-    let Some(directives) = directives_in(ctx, op.get_opid(ctx)) else {
+    let Some(directives) = found else {
         return Ok(Stop::End);
     };
     let mut at = from;
@@ -56,34 +57,35 @@ fn fmt_pieces<H: WritesHeads<T, A>, T: IrText<A>, A: AttrText>(
         match directive {
             Directive::Region(_) => return Ok(Stop::Region(at)),
             Directive::Regions => return Ok(Stop::Regions(at)),
-            _ => H::fmt_piece(ctx, op, directive, f)?,
+            _ => H::fmt_piece(ctx, op, directives, directive, f)?,
         }
     }
     Ok(Stop::End)
 }
 
 /// Checks that an operation fits its format, and appends what stands in front of its parts, which are then open.
-pub(crate) fn begin_operation<H: WritesHeads<T, A>, T: IrText<A>, A: AttrText>(
-    ctx: &Context<T, A>,
+pub(crate) fn begin_operation<'c, H: WritesHeads<T, A>, T: IrText<A>, A: AttrText>(
+    ctx: &'c Context<T, A>,
     op: Ptr<Operation>,
     marked: bool,
     indent: u16,
     limit: RegionPrintDepthLimit,
     f: &mut String,
-) -> Result<OperationFrame, Refusal>
+) -> Result<OperationFrame<'c>, Refusal>
     requires live { IsSome (operation ctx.now op) }
     ensures text { OnOk result (AppendsText f.old (heads.operation_front_at T.IrText.own A.IrText.own A.AttrText.own A.eq ctx.now op) f.new) }
-    ensures begun { IfOk result (λ begun. begun ≡ heads.begun_at T.IrText.own A.IrText.own A.AttrText.own A.eq ctx.now op marked indent limit) }
+    ensures begun { IfOk result (λ begun. begun ≡ heads.begun_at T.IrText.own A.IrText.own A.AttrText.own A.eq ctx.now op begun.directives marked indent limit) }
+    ensures found { IfOk result (λ begun. heads.AreDirectivesAt T.IrText.own A.IrText.own A.AttrText.own A.eq ctx.now op begun.directives) }
     ensures fits { OnOk result (heads.FitsAt T.IrText.own A.IrText.own A.AttrText.own A.eq ctx.now op) }
     ensures refused { IfErr result (λ e. e ≢ refusal.Memory → (e ≡ refusal.Misfit) × (heads.FitsAt T.IrText.own A.IrText.own A.AttrText.own A.eq ctx.now op → ⊥)) }
 {
-    H::check_fits(ctx, op)?;
-    H::fmt_operation_front(ctx, op, f)?;
+    let directives = H::begin(ctx, op, f)?;
     Ok(OperationFrame {
         op,
+        directives,
         directive: 0,
         region: 0,
-        repeats: is_canonical(ctx, op),
+        repeats: directives.is_none(),
         marked,
         indent,
         limit,
@@ -103,17 +105,17 @@ fn fmt_space(repeats: bool, f: &mut String) -> Result<(), Refusal>
 }
 
 /// Appends the next region of an operation, or nothing where none is left.
-fn region_turn<T: IrText<A>, A: AttrText>(
-    ctx: &Context<T, A>,
+fn region_turn<'c, T: IrText<A>, A: AttrText>(
+    ctx: &'c Context<T, A>,
     width: u16,
-    frame: OperationFrame,
-    frames: &mut Vec<Frame>,
+    frame: OperationFrame<'c>,
+    frames: &mut Vec<Frame<'c>>,
     f: &mut String,
 ) -> Result<(), Refusal>
     requires live { IsSome (operation ctx.now frame.op) }
-    ensures text { OnOk result (AppendsText f.old (steps.region_turn_text ctx.now width frame) f.new) }
-    ensures stack { OnOk result (frames.new.items ≡ frames.old.items ++ steps.region_turn_frames ctx.now frame) }
-    ensures refused { IfErr result (λ e. e ≢ refusal.Memory → (e ≡ refusal.Depth) × steps.NextTooDeep ctx.now width frame) }
+    ensures text { OnOk result (AppendsText f.old (steps.region_turn_text ctx.now width frame.entry) f.new) }
+    ensures stack { OnOk result (frames.new.items ≡ frames.old.items ++ steps.region_turn_frames ctx.now frame.entry) }
+    ensures refused { IfErr result (λ e. e ≢ refusal.Memory → (e ≡ refusal.Depth) × steps.NextTooDeep ctx.now width frame.entry) }
 {
     if frame.region >= frame.op.num_regions(ctx) {
         open(
@@ -140,22 +142,23 @@ fn region_turn<T: IrText<A>, A: AttrText>(
 /// Appends the mark of an operation that was written, where it has one and it is to be written.
 fn end_operation<H: WritesHeads<T, A>, T: IrText<A>, A: AttrText>(
     ctx: &Context<T, A>,
-    frame: OperationFrame,
+    op: Ptr<Operation>,
+    marked: bool,
     items: &mut Vec<Item>,
     f: &mut String,
 ) -> Result<(), Refusal>
-    requires live { IsSome (operation ctx.now frame.op) }
-    ensures text { OnOk result (AppendsText f.old (heads.own_mark_at T.IrText.own A.IrText.own A.AttrText.own A.eq ctx.now frame.op frame.marked (length items.old.items)) f.new) }
-    ensures items { OnOk result (items.new.items ≡ items.old.items ++ heads.own_items_at T.IrText.own A.IrText.own A.AttrText.own A.eq ctx.now frame.op frame.marked) }
+    requires live { IsSome (operation ctx.now op) }
+    ensures text { OnOk result (AppendsText f.old (heads.own_mark_at T.IrText.own A.IrText.own A.AttrText.own A.eq ctx.now op marked (length items.old.items)) f.new) }
+    ensures items { OnOk result (items.new.items ≡ items.old.items ++ heads.own_items_at T.IrText.own A.IrText.own A.AttrText.own A.eq ctx.now op marked) }
     ensures refused { IfErr result (λ e. e ≡ refusal.Memory) }
 {
-    if !frame.marked {
+    if !marked {
         return Ok(());
     }
-    if !H::is_operation_marked(ctx, frame.op) {
+    if !H::is_operation_marked(ctx, op) {
         return Ok(());
     }
-    let index = gather(items, Item::Operation(frame.op))?;
+    let index = gather(items, Item::Operation(op))?;
     fmt_index(index, f)
 }
 
@@ -179,24 +182,24 @@ pub(crate) fn fmt_block_mark<H: WritesHeads<T, A>, T: IrText<A>, A: AttrText>(
 }
 
 /// Writes what is next of an operation: its pieces up to a region, and that; or its mark behind the last.
-fn operation_step<H: WritesHeads<T, A>, T: IrText<A>, A: AttrText>(
-    ctx: &Context<T, A>,
+fn operation_step<'c, H: WritesHeads<T, A>, T: IrText<A>, A: AttrText>(
+    ctx: &'c Context<T, A>,
     width: u16,
-    frame: OperationFrame,
-    frames: &mut Vec<Frame>,
+    frame: OperationFrame<'c>,
+    frames: &mut Vec<Frame<'c>>,
     items: &mut Vec<Item>,
     f: &mut String,
 ) -> Result<(), Refusal>
     requires fits { heads.FrameFitsAt T.IrText.own A.IrText.own A.AttrText.own A.eq ctx.now (framed.Operation frame) }
-    ensures steps { OnOk result (heads.StepsAt T.IrText.own A.IrText.own A.AttrText.own A.eq ctx.now width (framed.Operation frame) items.old.items items.new.items frames.old.items frames.new.items f.old f.new) }
-    ensures refused { IfErr result (heads.RefusesFrame T.IrText.own A.IrText.own A.AttrText.own A.eq ctx.now width (framed.Operation frame)) }
+    ensures steps { OnOk result (heads.StepsAt T.IrText.own A.IrText.own A.AttrText.own A.eq ctx.now width (framed.Operation frame.entry) items.old.items items.new.items frames.old.items frames.new.items f.old f.new) }
+    ensures refused { IfErr result (heads.RefusesFrame T.IrText.own A.IrText.own A.AttrText.own A.eq ctx.now width (framed.Operation frame.entry)) }
 {
     ctx.graph().keeps_nesting();
     if frame.repeats {
         return region_turn(ctx, width, frame, frames, f);
     }
-    match fmt_pieces::<H, T, A>(ctx, frame.op, frame.directive, f)? {
-        Stop::End => end_operation::<H, T, A>(ctx, frame, items, f),
+    match fmt_pieces::<H, T, A>(ctx, frame.op, frame.directives, frame.directive, f)? {
+        Stop::End => end_operation::<H, T, A>(ctx, frame.op, frame.marked, items, f),
         Stop::Region(directive) => {
             let behind = OperationFrame { directive, ..frame };
             region_turn(ctx, width, behind, frames, f)
@@ -217,11 +220,11 @@ fn operation_step<H: WritesHeads<T, A>, T: IrText<A>, A: AttrText>(
 }
 
 /// Writes what is next of a region: its next block's head, or its last brace.
-fn region_step<H: WritesHeads<T, A>, T: IrText<A>, A: AttrText>(
-    ctx: &Context<T, A>,
+fn region_step<'c, H: WritesHeads<T, A>, T: IrText<A>, A: AttrText>(
+    ctx: &'c Context<T, A>,
     width: u16,
     frame: RegionFrame,
-    frames: &mut Vec<Frame>,
+    frames: &mut Vec<Frame<'c>>,
     items: &mut Vec<Item>,
     f: &mut String,
 ) -> Result<(), Refusal>
@@ -263,11 +266,11 @@ fn region_step<H: WritesHeads<T, A>, T: IrText<A>, A: AttrText>(
 
 /// Writes what is next of a block: what stands in front of its next operation's parts, or nothing behind the last. A placeholder is
 /// left out.
-fn block_step<H: WritesHeads<T, A>, T: IrText<A>, A: AttrText>(
-    ctx: &Context<T, A>,
+fn block_step<'c, H: WritesHeads<T, A>, T: IrText<A>, A: AttrText>(
+    ctx: &'c Context<T, A>,
     width: u16,
     frame: BlockFrame,
-    frames: &mut Vec<Frame>,
+    frames: &mut Vec<Frame<'c>>,
     items: &mut Vec<Item>,
     f: &mut String,
 ) -> Result<(), Refusal>
@@ -306,17 +309,17 @@ fn block_step<H: WritesHeads<T, A>, T: IrText<A>, A: AttrText>(
 }
 
 /// Writes what is next of what is open innermost.
-pub(crate) fn step<H: WritesHeads<T, A>, T: IrText<A>, A: AttrText>(
-    ctx: &Context<T, A>,
+pub(crate) fn step<'c, H: WritesHeads<T, A>, T: IrText<A>, A: AttrText>(
+    ctx: &'c Context<T, A>,
     width: u16,
-    frame: Frame,
-    frames: &mut Vec<Frame>,
+    frame: Frame<'c>,
+    frames: &mut Vec<Frame<'c>>,
     items: &mut Vec<Item>,
     f: &mut String,
 ) -> Result<(), Refusal>
     requires fits { heads.FrameFitsAt T.IrText.own A.IrText.own A.AttrText.own A.eq ctx.now frame }
-    ensures steps { OnOk result (heads.StepsAt T.IrText.own A.IrText.own A.AttrText.own A.eq ctx.now width frame items.old.items items.new.items frames.old.items frames.new.items f.old f.new) }
-    ensures refused { IfErr result (heads.RefusesFrame T.IrText.own A.IrText.own A.AttrText.own A.eq ctx.now width frame) }
+    ensures steps { OnOk result (heads.StepsAt T.IrText.own A.IrText.own A.AttrText.own A.eq ctx.now width frame.entry items.old.items items.new.items frames.old.items frames.new.items f.old f.new) }
+    ensures refused { IfErr result (heads.RefusesFrame T.IrText.own A.IrText.own A.AttrText.own A.eq ctx.now width frame.entry) }
 {
     match frame {
         Frame::Operation(frame) => operation_step::<H, T, A>(ctx, width, frame, frames, items, f),

@@ -14,10 +14,10 @@ use irtext_print::printable::{Refusal, State};
 
 /// Appends the text that is left of what is open, the innermost first, until nothing is open. What is marked in it is added to `items`, in
 /// the order of the marks, and a mark counts those before it. What was written and gathered until a refusal stays.
-pub(crate) fn print_frames<H: WritesHeads<T, A>, T: IrText<A>, A: AttrText>(
-    ctx: &Context<T, A>,
+pub(crate) fn print_frames<'c, H: WritesHeads<T, A>, T: IrText<A>, A: AttrText>(
+    ctx: &'c Context<T, A>,
     width: u16,
-    frames: &mut Vec<Frame>,
+    frames: &mut Vec<Frame<'c>>,
     items: &mut Vec<Item>,
     f: &mut String,
 ) -> Result<(), Refusal>

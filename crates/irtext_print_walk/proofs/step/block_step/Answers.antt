@@ -36,9 +36,9 @@ returns-clause-steps g c =
     let ops = operations_in ctx.graph c.args.frame.block in
     let there = is_there (operation ctx p) (c.contains_operation.ensures.stands.0 (search)) in
     block_begins (heads.printing_of g.T.IrText g.A.IrText g.A.AttrText g.A.PartialEq.eq ctx) (heads.language_of g.T.IrText g.A.IrText g.A.AttrText g.A.PartialEq.eq ctx) ctx c.args.width
-    c.args.frame c.args.items.now.items c.args.frames.now.items p there.0 c.in_ok-indent.indent (string_bytes c.args.f.now) (string_bytes c.fmt_between_operations.new.f) (string_bytes c.begin_operation.new.f) c.open-3.new.frames.items
+    c.args.frame c.args.items.now.items c.args.frames.now.items p there.0 c.in_ok-begun.begun.directives c.in_ok-indent.indent (string_bytes c.args.f.now) (string_bytes c.fmt_between_operations.new.f) (string_bytes c.begin_operation.new.f) c.open-3.new.frames.items
     (one_left ops c.args.frame.operation p (sym c.get_operation-op.ensures)) there.1 (subst (λ z. Nested (children z) (parent z)) c.graph.ensures c.keeps_nesting.ensures.forest) c.requires.fits c.in_ok-indent.ensures.ok
-    c.in_ok-begun.ensures.fits c.in_ok-fmt_between_operations.ensures.text c.in_ok-begun.ensures.text
+    c.in_ok-begun.ensures.found c.in_ok-begun.ensures.fits c.in_ok-fmt_between_operations.ensures.text c.in_ok-begun.ensures.text
     (c.in_ok-open-3.ensures.ok ∙ (ap (λ z. z ++ framed.Operation c.in_ok-begun.begun ∷ []) c.in_ok-open-2.ensures.ok
     ∙ ap (λ b. (c.args.frames.now.items ++ framed.Block (record c.args.frame { operation = c.args.frame.operation + 1; first = false }) ∷ []) ++ framed.Operation b ∷ []) c.in_ok-begun.ensures.begun))
 

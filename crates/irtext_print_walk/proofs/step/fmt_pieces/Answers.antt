@@ -1,15 +1,13 @@
 use Rattle.std.proofs.Common.{rules, ◌≡◌, ◌∷◌, ◌∙◌, ◌+◌, length, drop, refl, sym, ap, arith, string_bytes, option_map, false}
 use Rattle.std.proofs.lemmas.List.{drop_more, length-map}
 use Rattle.std.specs.List.{cons_option}
-use Rattle.irtext_base.specs.Faults.{id_of}
 use Rattle.irtext_base.specs.Format.{is_any_region}
-use Rattle.irtext_context.specs.Context.{operation}
 use Rattle.irtext_formats.specs.Directives.{directive_of, directives_of}
-use Rattle.irtext_grammar.specs.Contexts.Formats.{format_of, isolated}
+use Rattle.irtext_grammar.specs.Contexts.Formats.{isolated}
 use Rattle.irtext_grammar.specs.Grammar.Tree as tree
 use Rattle.irtext_print_walk.specs.Heads as heads
 use Rattle.irtext_print_walk.specs.Walk.{directives_in, part_at, parts_left, behind_pieces}
-use Rattle.irtext_print_walk.proofs.Directives.{seen_id, directives_found, parts_step, all_written}
+use Rattle.irtext_print_walk.proofs.Directives.{directives_found, parts_step, all_written}
 use Rattle.irtext_print_walk.proofs.Parts.{next_piece, next_behind}
 use Rattle.irtext_print_walk.proofs.step.fmt_pieces.Goals as goal
 
@@ -19,8 +17,7 @@ returns-in-Region-clause-text g c =
     let items = c.in-Some.directives.now in
     let at = c.loop-at.at in
     let x = c.index-directives-at.result in
-    let found : directives_in ((heads.printing_of g.T.IrText g.A.IrText g.A.AttrText g.A.PartialEq.eq ctx).format_of (heads.operation_at g.T.IrText g.A.IrText g.A.AttrText g.A.PartialEq.eq ctx c.args.op).id) ≡ directives_of items = ap (λ i. directives_in (format_of ctx.dialects i)) (seen_id g.A.IrText.written ctx c.args.op (operation ctx c.args.op) c.get_opid.result.now c.get_opid.ensures)
-    ∙ directives_found (format_of ctx.dialects (id_of c.get_opid.result.now)) (directives_of items) (sym (ap (option_map (λ ds. directives_of ds.now)) c.in-Some.is) ∙ c.directives_in.ensures) in
+    let found : directives_in ((heads.printing_of g.T.IrText g.A.IrText g.A.AttrText g.A.PartialEq.eq ctx).format_of (heads.operation_at g.T.IrText g.A.IrText g.A.AttrText g.A.PartialEq.eq ctx c.args.op).id) ≡ directives_of items = directives_found ((heads.printing_of g.T.IrText g.A.IrText g.A.AttrText g.A.PartialEq.eq ctx).format_of (heads.operation_at g.T.IrText g.A.IrText g.A.AttrText g.A.PartialEq.eq ctx c.args.op).id) (directives_of items) (sym (ap (option_map (λ ds. directives_of ds.now)) c.in-Some.is) ∙ c.requires.format) in
     let step = parts_step (heads.printing_of g.T.IrText g.A.IrText g.A.AttrText g.A.PartialEq.eq ctx) (heads.operation_at g.T.IrText g.A.IrText g.A.AttrText g.A.PartialEq.eq ctx c.args.op) items at x found (drop_more items at x c.loop-at-test.true ∙ ap (λ z. z ∷ drop (at + 1) items) (sym c.index-directives-at.is)) in
     let count : length (directives_in ((heads.printing_of g.T.IrText g.A.IrText g.A.AttrText g.A.PartialEq.eq ctx).format_of (heads.operation_at g.T.IrText g.A.IrText g.A.AttrText g.A.PartialEq.eq ctx c.args.op).id)) ≡ length items = ap length found ∙ length-map items directive_of in
     all_written (heads.language_of g.T.IrText g.A.IrText g.A.AttrText g.A.PartialEq.eq ctx) (parts_left (heads.printing_of g.T.IrText g.A.IrText g.A.AttrText g.A.PartialEq.eq ctx) (heads.operation_at g.T.IrText g.A.IrText g.A.AttrText g.A.PartialEq.eq ctx c.args.op) at) (tree.region c.in-Region.field-0 ∷ (parts_left (heads.printing_of g.T.IrText g.A.IrText g.A.AttrText g.A.PartialEq.eq ctx) (heads.operation_at g.T.IrText g.A.IrText g.A.AttrText g.A.PartialEq.eq ctx c.args.op) (at + 1))) (string_bytes c.loop-at.f) _ (step ∙ ap (λ y. cons_option (part_at (heads.printing_of g.T.IrText g.A.IrText g.A.AttrText g.A.PartialEq.eq ctx) (heads.operation_at g.T.IrText g.A.IrText g.A.AttrText g.A.PartialEq.eq ctx c.args.op) (directive_of y)) (parts_left (heads.printing_of g.T.IrText g.A.IrText g.A.AttrText g.A.PartialEq.eq ctx) (heads.operation_at g.T.IrText g.A.IrText g.A.AttrText g.A.PartialEq.eq ctx c.args.op) (at + 1))) c.in-Region.is) refl c.loop-at.invariant.text
@@ -31,8 +28,7 @@ returns-in-Region-clause-stop g c =
     let items = c.in-Some.directives.now in
     let at = c.loop-at.at in
     let x = c.index-directives-at.result in
-    let found : directives_in ((heads.printing_of g.T.IrText g.A.IrText g.A.AttrText g.A.PartialEq.eq ctx).format_of (heads.operation_at g.T.IrText g.A.IrText g.A.AttrText g.A.PartialEq.eq ctx c.args.op).id) ≡ directives_of items = ap (λ i. directives_in (format_of ctx.dialects i)) (seen_id g.A.IrText.written ctx c.args.op (operation ctx c.args.op) c.get_opid.result.now c.get_opid.ensures)
-    ∙ directives_found (format_of ctx.dialects (id_of c.get_opid.result.now)) (directives_of items) (sym (ap (option_map (λ ds. directives_of ds.now)) c.in-Some.is) ∙ c.directives_in.ensures) in
+    let found : directives_in ((heads.printing_of g.T.IrText g.A.IrText g.A.AttrText g.A.PartialEq.eq ctx).format_of (heads.operation_at g.T.IrText g.A.IrText g.A.AttrText g.A.PartialEq.eq ctx c.args.op).id) ≡ directives_of items = directives_found ((heads.printing_of g.T.IrText g.A.IrText g.A.AttrText g.A.PartialEq.eq ctx).format_of (heads.operation_at g.T.IrText g.A.IrText g.A.AttrText g.A.PartialEq.eq ctx c.args.op).id) (directives_of items) (sym (ap (option_map (λ ds. directives_of ds.now)) c.in-Some.is) ∙ c.requires.format) in
     let step = parts_step (heads.printing_of g.T.IrText g.A.IrText g.A.AttrText g.A.PartialEq.eq ctx) (heads.operation_at g.T.IrText g.A.IrText g.A.AttrText g.A.PartialEq.eq ctx c.args.op) items at x found (drop_more items at x c.loop-at-test.true ∙ ap (λ z. z ∷ drop (at + 1) items) (sym c.index-directives-at.is)) in
     let count : length (directives_in ((heads.printing_of g.T.IrText g.A.IrText g.A.AttrText g.A.PartialEq.eq ctx).format_of (heads.operation_at g.T.IrText g.A.IrText g.A.AttrText g.A.PartialEq.eq ctx c.args.op).id)) ≡ length items = ap length found ∙ length-map items directive_of in
     let left = sym c.loop-at.invariant.behind ∙ ap behind_pieces (step ∙ ap (λ y. cons_option (part_at (heads.printing_of g.T.IrText g.A.IrText g.A.AttrText g.A.PartialEq.eq ctx) (heads.operation_at g.T.IrText g.A.IrText g.A.AttrText g.A.PartialEq.eq ctx c.args.op) (directive_of y)) (parts_left (heads.printing_of g.T.IrText g.A.IrText g.A.AttrText g.A.PartialEq.eq ctx) (heads.operation_at g.T.IrText g.A.IrText g.A.AttrText g.A.PartialEq.eq ctx c.args.op) (at + 1))) c.in-Region.is) in
@@ -44,8 +40,7 @@ returns-in-Regions-clause-text g c =
     let items = c.in-Some.directives.now in
     let at = c.loop-at.at in
     let x = c.index-directives-at.result in
-    let found : directives_in ((heads.printing_of g.T.IrText g.A.IrText g.A.AttrText g.A.PartialEq.eq ctx).format_of (heads.operation_at g.T.IrText g.A.IrText g.A.AttrText g.A.PartialEq.eq ctx c.args.op).id) ≡ directives_of items = ap (λ i. directives_in (format_of ctx.dialects i)) (seen_id g.A.IrText.written ctx c.args.op (operation ctx c.args.op) c.get_opid.result.now c.get_opid.ensures)
-    ∙ directives_found (format_of ctx.dialects (id_of c.get_opid.result.now)) (directives_of items) (sym (ap (option_map (λ ds. directives_of ds.now)) c.in-Some.is) ∙ c.directives_in.ensures) in
+    let found : directives_in ((heads.printing_of g.T.IrText g.A.IrText g.A.AttrText g.A.PartialEq.eq ctx).format_of (heads.operation_at g.T.IrText g.A.IrText g.A.AttrText g.A.PartialEq.eq ctx c.args.op).id) ≡ directives_of items = directives_found ((heads.printing_of g.T.IrText g.A.IrText g.A.AttrText g.A.PartialEq.eq ctx).format_of (heads.operation_at g.T.IrText g.A.IrText g.A.AttrText g.A.PartialEq.eq ctx c.args.op).id) (directives_of items) (sym (ap (option_map (λ ds. directives_of ds.now)) c.in-Some.is) ∙ c.requires.format) in
     let step = parts_step (heads.printing_of g.T.IrText g.A.IrText g.A.AttrText g.A.PartialEq.eq ctx) (heads.operation_at g.T.IrText g.A.IrText g.A.AttrText g.A.PartialEq.eq ctx c.args.op) items at x found (drop_more items at x c.loop-at-test.true ∙ ap (λ z. z ∷ drop (at + 1) items) (sym c.index-directives-at.is)) in
     let count : length (directives_in ((heads.printing_of g.T.IrText g.A.IrText g.A.AttrText g.A.PartialEq.eq ctx).format_of (heads.operation_at g.T.IrText g.A.IrText g.A.AttrText g.A.PartialEq.eq ctx c.args.op).id)) ≡ length items = ap length found ∙ length-map items directive_of in
     all_written (heads.language_of g.T.IrText g.A.IrText g.A.AttrText g.A.PartialEq.eq ctx) (parts_left (heads.printing_of g.T.IrText g.A.IrText g.A.AttrText g.A.PartialEq.eq ctx) (heads.operation_at g.T.IrText g.A.IrText g.A.AttrText g.A.PartialEq.eq ctx c.args.op) at) (tree.regions ∷ (parts_left (heads.printing_of g.T.IrText g.A.IrText g.A.AttrText g.A.PartialEq.eq ctx) (heads.operation_at g.T.IrText g.A.IrText g.A.AttrText g.A.PartialEq.eq ctx c.args.op) (at + 1))) (string_bytes c.loop-at.f) _ (step ∙ ap (λ y. cons_option (part_at (heads.printing_of g.T.IrText g.A.IrText g.A.AttrText g.A.PartialEq.eq ctx) (heads.operation_at g.T.IrText g.A.IrText g.A.AttrText g.A.PartialEq.eq ctx c.args.op) (directive_of y)) (parts_left (heads.printing_of g.T.IrText g.A.IrText g.A.AttrText g.A.PartialEq.eq ctx) (heads.operation_at g.T.IrText g.A.IrText g.A.AttrText g.A.PartialEq.eq ctx c.args.op) (at + 1))) c.in-Regions.is) refl c.loop-at.invariant.text
@@ -56,8 +51,7 @@ returns-in-Regions-clause-stop g c =
     let items = c.in-Some.directives.now in
     let at = c.loop-at.at in
     let x = c.index-directives-at.result in
-    let found : directives_in ((heads.printing_of g.T.IrText g.A.IrText g.A.AttrText g.A.PartialEq.eq ctx).format_of (heads.operation_at g.T.IrText g.A.IrText g.A.AttrText g.A.PartialEq.eq ctx c.args.op).id) ≡ directives_of items = ap (λ i. directives_in (format_of ctx.dialects i)) (seen_id g.A.IrText.written ctx c.args.op (operation ctx c.args.op) c.get_opid.result.now c.get_opid.ensures)
-    ∙ directives_found (format_of ctx.dialects (id_of c.get_opid.result.now)) (directives_of items) (sym (ap (option_map (λ ds. directives_of ds.now)) c.in-Some.is) ∙ c.directives_in.ensures) in
+    let found : directives_in ((heads.printing_of g.T.IrText g.A.IrText g.A.AttrText g.A.PartialEq.eq ctx).format_of (heads.operation_at g.T.IrText g.A.IrText g.A.AttrText g.A.PartialEq.eq ctx c.args.op).id) ≡ directives_of items = directives_found ((heads.printing_of g.T.IrText g.A.IrText g.A.AttrText g.A.PartialEq.eq ctx).format_of (heads.operation_at g.T.IrText g.A.IrText g.A.AttrText g.A.PartialEq.eq ctx c.args.op).id) (directives_of items) (sym (ap (option_map (λ ds. directives_of ds.now)) c.in-Some.is) ∙ c.requires.format) in
     let step = parts_step (heads.printing_of g.T.IrText g.A.IrText g.A.AttrText g.A.PartialEq.eq ctx) (heads.operation_at g.T.IrText g.A.IrText g.A.AttrText g.A.PartialEq.eq ctx c.args.op) items at x found (drop_more items at x c.loop-at-test.true ∙ ap (λ z. z ∷ drop (at + 1) items) (sym c.index-directives-at.is)) in
     let count : length (directives_in ((heads.printing_of g.T.IrText g.A.IrText g.A.AttrText g.A.PartialEq.eq ctx).format_of (heads.operation_at g.T.IrText g.A.IrText g.A.AttrText g.A.PartialEq.eq ctx c.args.op).id)) ≡ length items = ap length found ∙ length-map items directive_of in
     let left = sym c.loop-at.invariant.behind ∙ ap behind_pieces (step ∙ ap (λ y. cons_option (part_at (heads.printing_of g.T.IrText g.A.IrText g.A.AttrText g.A.PartialEq.eq ctx) (heads.operation_at g.T.IrText g.A.IrText g.A.AttrText g.A.PartialEq.eq ctx c.args.op) (directive_of y)) (parts_left (heads.printing_of g.T.IrText g.A.IrText g.A.AttrText g.A.PartialEq.eq ctx) (heads.operation_at g.T.IrText g.A.IrText g.A.AttrText g.A.PartialEq.eq ctx c.args.op) (at + 1))) c.in-Regions.is) in
@@ -69,8 +63,7 @@ loop-at-preserved g c =
     let items = c.in-Some.directives.now in
     let at = c.loop-at.at in
     let x = c.index-directives-at.result in
-    let found : directives_in ((heads.printing_of g.T.IrText g.A.IrText g.A.AttrText g.A.PartialEq.eq ctx).format_of (heads.operation_at g.T.IrText g.A.IrText g.A.AttrText g.A.PartialEq.eq ctx c.args.op).id) ≡ directives_of items = ap (λ i. directives_in (format_of ctx.dialects i)) (seen_id g.A.IrText.written ctx c.args.op (operation ctx c.args.op) c.get_opid.result.now c.get_opid.ensures)
-    ∙ directives_found (format_of ctx.dialects (id_of c.get_opid.result.now)) (directives_of items) (sym (ap (option_map (λ ds. directives_of ds.now)) c.in-Some.is) ∙ c.directives_in.ensures) in
+    let found : directives_in ((heads.printing_of g.T.IrText g.A.IrText g.A.AttrText g.A.PartialEq.eq ctx).format_of (heads.operation_at g.T.IrText g.A.IrText g.A.AttrText g.A.PartialEq.eq ctx c.args.op).id) ≡ directives_of items = directives_found ((heads.printing_of g.T.IrText g.A.IrText g.A.AttrText g.A.PartialEq.eq ctx).format_of (heads.operation_at g.T.IrText g.A.IrText g.A.AttrText g.A.PartialEq.eq ctx c.args.op).id) (directives_of items) (sym (ap (option_map (λ ds. directives_of ds.now)) c.in-Some.is) ∙ c.requires.format) in
     let step = parts_step (heads.printing_of g.T.IrText g.A.IrText g.A.AttrText g.A.PartialEq.eq ctx) (heads.operation_at g.T.IrText g.A.IrText g.A.AttrText g.A.PartialEq.eq ctx c.args.op) items at x found (drop_more items at x c.loop-at-test.true ∙ ap (λ z. z ∷ drop (at + 1) items) (sym c.index-directives-at.is)) in
     let count : length (directives_in ((heads.printing_of g.T.IrText g.A.IrText g.A.AttrText g.A.PartialEq.eq ctx).format_of (heads.operation_at g.T.IrText g.A.IrText g.A.AttrText g.A.PartialEq.eq ctx c.args.op).id)) ≡ length items = ap length found ∙ length-map items directive_of in
     let piece : is_any_region (directive_of x) ≡ false = search rules in

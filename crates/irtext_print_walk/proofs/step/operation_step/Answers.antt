@@ -11,6 +11,15 @@ use Rattle.irtext_print.proofs.Printers.Appended.{then-err}
 use Rattle.irtext_print_walk.proofs.Refused.{region_turn_refused}
 use Rattle.irtext_print_walk.proofs.step.operation_step.Goals as goal
 
+pub region_turn-requires : goal.region_turn-requires
+region_turn-requires g c = record { live = c.requires.fits.0.0 }
+
+pub fmt_pieces-requires : goal.fmt_pieces-requires
+fmt_pieces-requires g c = record { live = c.requires.fits.0.0; format = c.requires.fits.0.1 }
+
+pub end_operation-requires : goal.end_operation-requires
+end_operation-requires g c = record { live = c.requires.fits.0.0 }
+
 pub returns-then-frame-clause-steps : goal.returns-then-frame-clause-steps
 returns-then-frame-clause-steps g c =
     let ctx = c.args.ctx.now in

@@ -20,12 +20,12 @@ print_frames-requires g c =
     let ctx = c.args.ctx.now in
     let s = c.args.state.now in
     let n = length c.args.items.now.items in
-    let first : Frame = framed.Operation (heads.begun_at g.T.IrText g.A.IrText g.A.AttrText g.A.PartialEq.eq ctx c.args.op c.args.marked c.current_indent-indent.result c.current_region_print_depth_limit-limit.result) in
+    let first : Frame = framed.Operation (heads.begun_at g.T.IrText g.A.IrText g.A.AttrText g.A.PartialEq.eq ctx c.args.op c.in_ok-begun.begun.directives c.args.marked c.current_indent-indent.result c.current_region_print_depth_limit-limit.result) in
     let opens : c.open.new.frames.items ≡ first ∷ [] = c.in_ok-open.ensures.ok ∙ (ap (λ z. z ++ framed.Operation c.in_ok-begun.begun ∷ []) c.new-frames.ensures.items ∙ ap (λ b. framed.Operation b ∷ []) c.in_ok-begun.ensures.begun) in
     let whole : ℕ → ℕ → RegionPrintDepthLimit → List ℕ = λ w i l. string_bytes c.args.f.now ++ encode_utf8_all (heads.text_under g.T.IrText g.A.IrText g.A.AttrText g.A.PartialEq.eq ctx c.args.op (record s { width = w; indent = i; limit = l }) c.args.marked n) in
     record {
       fit = subst (AllFit (heads.printing_of g.T.IrText g.A.IrText g.A.AttrText g.A.PartialEq.eq ctx) (heads.language_of g.T.IrText g.A.IrText g.A.AttrText g.A.PartialEq.eq ctx) ctx) (sym opens)
-          (first_fit (heads.printing_of g.T.IrText g.A.IrText g.A.AttrText g.A.PartialEq.eq ctx) (heads.language_of g.T.IrText g.A.IrText g.A.AttrText g.A.PartialEq.eq ctx) ctx c.indent_width-width.result c.args.op c.args.marked c.current_indent-indent.result c.current_region_print_depth_limit-limit.result n (isolated ctx.dialects) c.requires.live c.in_ok-begun.ensures.fits);
+          (first_fit (heads.printing_of g.T.IrText g.A.IrText g.A.AttrText g.A.PartialEq.eq ctx) (heads.language_of g.T.IrText g.A.IrText g.A.AttrText g.A.PartialEq.eq ctx) ctx c.indent_width-width.result c.args.op c.in_ok-begun.begun.directives c.args.marked c.current_indent-indent.result c.current_region_print_depth_limit-limit.result n (isolated ctx.dialects) (c.requires.live, c.in_ok-begun.ensures.found) c.in_ok-begun.ensures.fits);
     }
 
 pub returns-clause-text : goal.returns-clause-text
@@ -33,11 +33,11 @@ returns-clause-text g c =
     let ctx = c.args.ctx.now in
     let s = c.args.state.now in
     let n = length c.args.items.now.items in
-    let first : Frame = framed.Operation (heads.begun_at g.T.IrText g.A.IrText g.A.AttrText g.A.PartialEq.eq ctx c.args.op c.args.marked c.current_indent-indent.result c.current_region_print_depth_limit-limit.result) in
+    let first : Frame = framed.Operation (heads.begun_at g.T.IrText g.A.IrText g.A.AttrText g.A.PartialEq.eq ctx c.args.op c.in_ok-begun.begun.directives c.args.marked c.current_indent-indent.result c.current_region_print_depth_limit-limit.result) in
     let opens : c.open.new.frames.items ≡ first ∷ [] = c.in_ok-open.ensures.ok ∙ (ap (λ z. z ++ framed.Operation c.in_ok-begun.begun ∷ []) c.new-frames.ensures.items ∙ ap (λ b. framed.Operation b ∷ []) c.in_ok-begun.ensures.begun) in
     let whole : ℕ → ℕ → RegionPrintDepthLimit → List ℕ = λ w i l. string_bytes c.args.f.now ++ encode_utf8_all (heads.text_under g.T.IrText g.A.IrText g.A.AttrText g.A.PartialEq.eq ctx c.args.op (record s { width = w; indent = i; limit = l }) c.args.marked n) in
     then c.print_frames.result (λ w. w ∙ (ap (λ z. string_bytes c.begin_operation.new.f ++ frames_text (heads.printing_of g.T.IrText g.A.IrText g.A.AttrText g.A.PartialEq.eq ctx) (heads.language_of g.T.IrText g.A.IrText g.A.AttrText g.A.PartialEq.eq ctx) ctx c.indent_width-width.result z c.args.items.now.items) opens
-    ∙ (first_text (heads.printing_of g.T.IrText g.A.IrText g.A.AttrText g.A.PartialEq.eq ctx) (heads.language_of g.T.IrText g.A.IrText g.A.AttrText g.A.PartialEq.eq ctx) ctx c.indent_width-width.result c.args.op c.args.marked c.current_indent-indent.result c.current_region_print_depth_limit-limit.result n c.args.items.now.items (string_bytes c.args.f.now) (string_bytes c.begin_operation.new.f) refl c.in_ok-begun.ensures.text
+    ∙ (first_text (heads.printing_of g.T.IrText g.A.IrText g.A.AttrText g.A.PartialEq.eq ctx) (heads.language_of g.T.IrText g.A.IrText g.A.AttrText g.A.PartialEq.eq ctx) ctx c.indent_width-width.result c.args.op c.in_ok-begun.begun.directives c.args.marked c.current_indent-indent.result c.current_region_print_depth_limit-limit.result n c.args.items.now.items (string_bytes c.args.f.now) (string_bytes c.begin_operation.new.f) refl c.in_ok-begun.ensures.text
     ∙ (ap (λ w. whole w c.current_indent-indent.result c.current_region_print_depth_limit-limit.result) c.indent_width-width.ensures
     ∙ (ap (λ i. whole (width_of s) i c.current_region_print_depth_limit-limit.result) c.current_indent-indent.ensures
     ∙ ap (λ l. whole (width_of s) (indent_of s) l) c.current_region_print_depth_limit-limit.ensures))))) c.print_frames.ensures.text
@@ -47,7 +47,7 @@ returns-clause-items g c =
     let ctx = c.args.ctx.now in
     let s = c.args.state.now in
     let n = length c.args.items.now.items in
-    let first : Frame = framed.Operation (heads.begun_at g.T.IrText g.A.IrText g.A.AttrText g.A.PartialEq.eq ctx c.args.op c.args.marked c.current_indent-indent.result c.current_region_print_depth_limit-limit.result) in
+    let first : Frame = framed.Operation (heads.begun_at g.T.IrText g.A.IrText g.A.AttrText g.A.PartialEq.eq ctx c.args.op c.in_ok-begun.begun.directives c.args.marked c.current_indent-indent.result c.current_region_print_depth_limit-limit.result) in
     let opens : c.open.new.frames.items ≡ first ∷ [] = c.in_ok-open.ensures.ok ∙ (ap (λ z. z ++ framed.Operation c.in_ok-begun.begun ∷ []) c.new-frames.ensures.items ∙ ap (λ b. framed.Operation b ∷ []) c.in_ok-begun.ensures.begun) in
     let whole : ℕ → ℕ → RegionPrintDepthLimit → List ℕ = λ w i l. string_bytes c.args.f.now ++ encode_utf8_all (heads.text_under g.T.IrText g.A.IrText g.A.AttrText g.A.PartialEq.eq ctx c.args.op (record s { width = w; indent = i; limit = l }) c.args.marked n) in
     then c.print_frames.result (λ w. w ∙ (ap (λ z. c.args.items.now.items ++ items_left (heads.printing_of g.T.IrText g.A.IrText g.A.AttrText g.A.PartialEq.eq ctx) (heads.language_of g.T.IrText g.A.IrText g.A.AttrText g.A.PartialEq.eq ctx) ctx z) opens
@@ -58,7 +58,7 @@ returns-clause-fits g c =
     let ctx = c.args.ctx.now in
     let s = c.args.state.now in
     let n = length c.args.items.now.items in
-    let first : Frame = framed.Operation (heads.begun_at g.T.IrText g.A.IrText g.A.AttrText g.A.PartialEq.eq ctx c.args.op c.args.marked c.current_indent-indent.result c.current_region_print_depth_limit-limit.result) in
+    let first : Frame = framed.Operation (heads.begun_at g.T.IrText g.A.IrText g.A.AttrText g.A.PartialEq.eq ctx c.args.op c.in_ok-begun.begun.directives c.args.marked c.current_indent-indent.result c.current_region_print_depth_limit-limit.result) in
     let opens : c.open.new.frames.items ≡ first ∷ [] = c.in_ok-open.ensures.ok ∙ (ap (λ z. z ++ framed.Operation c.in_ok-begun.begun ∷ []) c.new-frames.ensures.items ∙ ap (λ b. framed.Operation b ∷ []) c.in_ok-begun.ensures.begun) in
     let whole : ℕ → ℕ → RegionPrintDepthLimit → List ℕ = λ w i l. string_bytes c.args.f.now ++ encode_utf8_all (heads.text_under g.T.IrText g.A.IrText g.A.AttrText g.A.PartialEq.eq ctx c.args.op (record s { width = w; indent = i; limit = l }) c.args.marked n) in
     let bad : heads.MisfitsUnder g.T.IrText g.A.IrText g.A.AttrText g.A.PartialEq.eq ctx c.args.op s → FramesFault (heads.printing_of g.T.IrText g.A.IrText g.A.AttrText g.A.PartialEq.eq ctx) (heads.language_of g.T.IrText g.A.IrText g.A.AttrText g.A.PartialEq.eq ctx) ctx c.indent_width-width.result Misfit c.open.new.frames.items = λ x.
@@ -76,7 +76,7 @@ returns-clause-refused g c =
     let ctx = c.args.ctx.now in
     let s = c.args.state.now in
     let n = length c.args.items.now.items in
-    let first : Frame = framed.Operation (heads.begun_at g.T.IrText g.A.IrText g.A.AttrText g.A.PartialEq.eq ctx c.args.op c.args.marked c.current_indent-indent.result c.current_region_print_depth_limit-limit.result) in
+    let first : Frame = framed.Operation (heads.begun_at g.T.IrText g.A.IrText g.A.AttrText g.A.PartialEq.eq ctx c.args.op c.in_ok-begun.begun.directives c.args.marked c.current_indent-indent.result c.current_region_print_depth_limit-limit.result) in
     let opens : c.open.new.frames.items ≡ first ∷ [] = c.in_ok-open.ensures.ok ∙ (ap (λ z. z ++ framed.Operation c.in_ok-begun.begun ∷ []) c.new-frames.ensures.items ∙ ap (λ b. framed.Operation b ∷ []) c.in_ok-begun.ensures.begun) in
     let whole : ℕ → ℕ → RegionPrintDepthLimit → List ℕ = λ w i l. string_bytes c.args.f.now ++ encode_utf8_all (heads.text_under g.T.IrText g.A.IrText g.A.AttrText g.A.PartialEq.eq ctx c.args.op (record s { width = w; indent = i; limit = l }) c.args.marked n) in
     let refuses : (e : Refusal) → FramesFault (heads.printing_of g.T.IrText g.A.IrText g.A.AttrText g.A.PartialEq.eq ctx) (heads.language_of g.T.IrText g.A.IrText g.A.AttrText g.A.PartialEq.eq ctx) ctx c.indent_width-width.result e c.open.new.frames.items → heads.FaultUnder g.T.IrText g.A.IrText g.A.AttrText g.A.PartialEq.eq ctx c.args.op s e = λ e x.

@@ -10,10 +10,10 @@ use Rattle.irtext_print_walk.specs.Heads as heads
 use Rattle.irtext_print_walk.proofs.Directives.{seen_id}
 use Rattle.irtext_print_nested.proofs.Fronts.{front_custom, front_canonical}
 use Rattle.irtext_print_nested.proofs.Seen.{own_holds}
-use Rattle.irtext_print_nested.proofs.front.fmt_operation_front.Goals as goal
+use Rattle.irtext_print_nested.proofs.front.fmt_front.Goals as goal
 
-pub returns-then-not-is_canonical : goal.returns-then-not-is_canonical
-returns-then-not-is_canonical g c =
+pub returns-then-not-canonical : goal.returns-then-not-canonical
+returns-then-not-canonical g c =
     let ctx = c.args.ctx.now in
     let C = heads.printing_of g.T.IrText g.A.IrText g.A.AttrText g.A.PartialEq.eq ctx in
     let L = heads.language_of g.T.IrText g.A.IrText g.A.AttrText g.A.PartialEq.eq ctx in
@@ -22,7 +22,7 @@ returns-then-not-is_canonical g c =
           (seen_id g.A.IrText.written ctx c.args.op (operation ctx c.args.op) c.get_opid.result.now c.get_opid.ensures)
           (string_bytes c.args.f.now) (string_bytes c.fmt_results.new.f) (string_bytes c.fmt_id.new.f)
           (own_holds g.A.IrText.written ctx c.args.op (λ o. string_bytes c.fmt_results.new.f ≡ string_bytes c.args.f.now ++ encode_utf8_all (results L (map (λ r. value C r.0) o.results))) c.requires.live c.in_ok-fmt_results.ensures.text)
-          c.in_ok-fmt_id.ensures.text (sym c.is_canonical.ensures ∙ c.if-not-is_canonical.true);
+          c.in_ok-fmt_id.ensures.text (sym c.requires.form ∙ c.if-not-canonical.true);
       refused = tt;
     }
 
@@ -36,6 +36,6 @@ returns-clause-text g c =
     (seen_id g.A.IrText.written ctx c.args.op (operation ctx c.args.op) c.get_opid.result.now c.get_opid.ensures)
     (string_bytes c.args.f.now) (string_bytes c.fmt_results.new.f) (string_bytes c.fmt_id.new.f)
     (own_holds g.A.IrText.written ctx c.args.op (λ o. string_bytes c.fmt_results.new.f ≡ string_bytes c.args.f.now ++ encode_utf8_all (results L (map (λ r. value C r.0) o.results))) c.requires.live c.in_ok-fmt_results.ensures.text)
-    c.in_ok-fmt_id.ensures.text (string_bytes c.fmt_canonical_front.new.f) (sym c.is_canonical.ensures ∙ c.if-not-is_canonical.false)
+    c.in_ok-fmt_id.ensures.text (string_bytes c.fmt_canonical_front.new.f) (sym c.requires.form ∙ c.if-not-canonical.false)
     (own_holds g.A.IrText.written ctx c.args.op (λ o. string_bytes c.fmt_canonical_front.new.f ≡ string_bytes c.fmt_id.new.f ++ encode_utf8_all (body_front L (body_of C o (Some format.canonical)))) c.requires.live p))
     c.fmt_canonical_front.ensures.text
