@@ -32,12 +32,6 @@ canonical_is None e = absurd (true≢false (sym e))
 canonical_is (Some format.canonical) e = refl
 canonical_is (Some (format.custom ds)) e = absurd (true≢false (sym e))
 
--- no directives were found
-pub none_found : (form : Option Format) → None ≡ custom_directives form → directives_in form ≡ []
-none_found None e = refl
-none_found (Some format.canonical) e = refl
-none_found (Some (format.custom ds)) e = absurd (cc)
-
 -- no directives were found, as the code says it
 pub none_is : {X : Type 0} (o : Option X) (b : Bool) → is_some o ≡ not b → b ≡ is_none o
 none_is None true e = refl

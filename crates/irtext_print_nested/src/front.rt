@@ -12,25 +12,9 @@ use irtext_context::base::{Context, Operation, OperationAccess, Ptr};
 use irtext_print::ir::print::concrete::fmt_id;
 use irtext_print::printable::Refusal;
 use irtext_print_pieces::canonical::fmt_canonical_front;
-use irtext_print_pieces::fits::{check_fits, fitting_directives};
+use irtext_print_pieces::fits::fitting_directives;
 use irtext_print_pieces::pieces::fmt_piece;
 use irtext_print_pieces::results::fmt_results;
-use irtext_print_walk::formats::{directives_in, is_canonical};
-
-/// Checks that an operation fits its format. It takes no memory, and is refused with `Misfit` alone.
-pub fn check_format<T: IrText<A>, A: AttrText>(
-    ctx: &Context<T, A>,
-    op: Ptr<Operation>,
-) -> Result<(), Refusal>
-    requires live { IsSome (operation ctx.now op) }
-    ensures fits { OnOk result (heads.FitsAt T.IrText.own A.IrText.own A.AttrText.own A.eq ctx.now op) }
-    ensures refused { IfErr result (λ e. (e ≡ refusal.Misfit) × (heads.FitsAt T.IrText.own A.IrText.own A.AttrText.own A.eq ctx.now op → ⊥)) }
-{
-    match check_fits(ctx, op) {
-        Ok(()) => Ok(()),
-        Err(_) => Err(Refusal::Misfit),
-    }
-}
 
 /// Appends the names of an operation's results and its id, and all that stands in front of its regions if it is written as any operation
 /// can be.
@@ -53,20 +37,6 @@ fn fmt_front<T: IrText<A>, A: AttrText>(
     fmt_canonical_front(ctx, op, f)
 }
 
-/// Appends the names of an operation's results and its id, and all that stands in front of its regions where it is written as any
-/// operation can be. It fails only where memory is refused; what was written until then stays.
-pub fn fmt_operation_front<T: IrText<A>, A: AttrText>(
-    ctx: &Context<T, A>,
-    op: Ptr<Operation>,
-    f: &mut String,
-) -> Result<(), Refusal>
-    requires live { IsSome (operation ctx.now op) }
-    ensures text { OnOk result (AppendsText f.old (heads.operation_front_at T.IrText.own A.IrText.own A.AttrText.own A.eq ctx.now op) f.new) }
-    ensures refused { IfErr result (λ e. e ≡ refusal.Memory) }
-{
-    fmt_front(ctx, op, is_canonical(ctx, op), f)
-}
-
 /// The directives of an operation's format, or none where it is written as any operation can be. It is refused where the operation does
 /// not fit its format.
 fn find_directives<'c, T: IrText<A>, A: AttrText>(
@@ -85,9 +55,9 @@ fn find_directives<'c, T: IrText<A>, A: AttrText>(
     }
 }
 
-/// Checks that an operation fits its format, appends what [`fmt_operation_front`] does, and answers the directives of its format, where
-/// that has some. It asks for the format once. It is refused with `Misfit` where the operation does not fit its format, and else only
-/// where memory is refused; what was written until then stays.
+/// Checks that an operation fits its format, appends the names of its results and its id, and all that is in front of its regions where it
+/// is written as any operation can be, and answers the directives of its format, where that has some. It asks for the format once. It
+/// fails with `Misfit` where the operation does not fit its format, and else only out of memory; what was written until then stays.
 pub fn begin_front<'c, T: IrText<A>, A: AttrText>(
     ctx: &'c Context<T, A>,
     op: Ptr<Operation>,
@@ -104,7 +74,8 @@ pub fn begin_front<'c, T: IrText<A>, A: AttrText>(
     Ok(directives)
 }
 
-/// Appends what a directive of the operation's format, which has these directives, writes, as [`fmt_format_piece`] does.
+/// Appends what a directive of the operation's format, which has these directives, writes, with the space in front of it: nothing where it
+/// writes a region, and nothing where what it names is not there. It fails only out of memory; what was written until then stays.
 pub fn fmt_known_piece<T: IrText<A>, A: AttrText>(
     ctx: &Context<T, A>,
     op: Ptr<Operation>,
@@ -118,22 +89,4 @@ pub fn fmt_known_piece<T: IrText<A>, A: AttrText>(
     ensures refused { IfErr result (λ e. e ≡ refusal.Memory) }
 {
     fmt_piece(ctx, op, directives, directive, f)
-}
-
-/// Appends what a directive of the operation's format writes, with the space in front of it: nothing where it writes a region, and
-/// nothing where what it names is not there. It fails only where memory is refused; what was written until then stays.
-pub fn fmt_format_piece<T: IrText<A>, A: AttrText>(
-    ctx: &Context<T, A>,
-    op: Ptr<Operation>,
-    directive: &Directive,
-    f: &mut String,
-) -> Result<(), Refusal>
-    requires live { IsSome (operation ctx.now op) }
-    ensures text { OnOk result (AppendsText f.old (heads.piece_at T.IrText.own A.IrText.own A.AttrText.own A.eq ctx.now op (directive_of directive.now)) f.new) }
-    ensures refused { IfErr result (λ e. e ≡ refusal.Memory) }
-{
-    match directives_in(ctx, op.get_opid(ctx)) {
-        Some(directives) => fmt_piece(ctx, op, directives, directive, f),
-        None => fmt_piece(ctx, op, &[], directive, f),
-    }
 }

@@ -3,10 +3,11 @@ use crate::tests::steps::{FUNCTION, Made, block_of, built, operation_of};
 use irtext_base::format::Directive;
 use irtext_context::base::{BasicBlock, Operation, OperationAccess, Ptr, Value};
 use irtext_graph::held::HasGraph;
-use irtext_print_nested::front::{check_format, fmt_format_piece, fmt_operation_front};
+use irtext_print_nested::front::begin_front;
 use irtext_print_nested::marks::{is_block_marked, is_operation_marked};
 use irtext_print_pieces::blocks::fmt_block_head;
 use irtext_print_pieces::canonical::fmt_canonical_front;
+use irtext_print_pieces::fits::check_fits;
 use irtext_print_pieces::names::{fmt_block_label, fmt_value_name};
 use irtext_print_pieces::pieces::fmt_piece;
 use irtext_print_pieces::results::fmt_results;
@@ -34,8 +35,6 @@ enum Call {
     Canonical(usize),
     /// What the directive of an index writes.
     Piece(usize, usize),
-    /// The same, where the format is looked for.
-    Format(usize, usize),
 }
 
 /// What the calls write in the function, one after the other.
@@ -61,8 +60,8 @@ const CALLS: &[(Call, &str)] = &[
     (Call::Piece(2, 2), " x_v1"),
     (Call::Piece(2, 4), " test.ptr "),
     (Call::Piece(3, 0), " ^exit_block2v1"),
-    (Call::Format(0, 1), " [k: builtin.identifier x]"),
-    (Call::Format(1, 0), " builtin.identifier x"),
+    (Call::Piece(0, 1), " [k: builtin.identifier x]"),
+    (Call::Piece(1, 0), " builtin.identifier x"),
 ];
 
 /// Appends the name of a value.
@@ -84,40 +83,32 @@ fn of_block(ctx: &Ctx, block: Ptr<BasicBlock>, whole: bool, text: &mut String) -
     Ok(fmt_block_label(ctx, block, text).ok().ok_or("refused")?)
 }
 
-/// Appends what a directive of an operation's format writes, by the call that is given the format, or by the one that looks for it.
+/// Appends what a directive of an operation's format writes.
 fn of_directive(
     ctx: &Ctx,
     op: Ptr<Operation>,
     directives: &[Directive],
     directive: &Directive,
-    given: bool,
     text: &mut String,
 ) -> Result<(), Fail> {
     if !ctx.contains_operation(op) {
         return Err(Fail::from("no such operation"));
     }
-    let answer = if given {
+    Ok(
         fmt_piece(ctx, op, directives, directive, text)
-    } else {
-        fmt_format_piece(ctx, op, directive, text)
-    };
-    Ok(answer.ok().ok_or("refused")?)
+            .ok()
+            .ok_or("refused")?,
+    )
 }
 
 /// Appends what the directive of an index writes.
-fn piece(
-    ctx: &Ctx,
-    op: Ptr<Operation>,
-    index: usize,
-    given: bool,
-    text: &mut String,
-) -> Result<(), Fail> {
+fn piece(ctx: &Ctx, op: Ptr<Operation>, index: usize, text: &mut String) -> Result<(), Fail> {
     if !ctx.contains_operation(op) {
         return Err(Fail::from("no such operation"));
     }
     let directives = directives_in(ctx, op.get_opid(ctx)).ok_or("no directives")?;
     let directive = directives.get(index).ok_or("no such directive")?;
-    of_directive(ctx, op, directives, directive, given, text)
+    of_directive(ctx, op, directives, directive, text)
 }
 
 /// Appends what a call writes of an operation.
@@ -127,7 +118,7 @@ fn of_operation(ctx: &Ctx, op: Ptr<Operation>, call: Call, text: &mut String) ->
     }
     let answer = match call {
         Call::Results(_) => fmt_results(ctx, op, text),
-        Call::Front(_) => fmt_operation_front(ctx, op, text),
+        Call::Front(_) => begin_front(ctx, op, text).map(|_| ()),
         _ => fmt_canonical_front(ctx, op, text),
     };
     Ok(answer.ok().ok_or("refused")?)
@@ -142,8 +133,7 @@ fn write(ctx: &Ctx, made: &Made, call: Call, text: &mut String) -> Result<(), Fa
         }
         Call::Label(block) => of_block(ctx, block_of(made, block)?, false, text),
         Call::Head(block) => of_block(ctx, block_of(made, block)?, true, text),
-        Call::Piece(op, index) => piece(ctx, operation_of(made, op)?, index, true, text),
-        Call::Format(op, index) => piece(ctx, operation_of(made, op)?, index, false, text),
+        Call::Piece(op, index) => piece(ctx, operation_of(made, op)?, index, text),
         Call::Results(op) | Call::Front(op) | Call::Canonical(op) => {
             of_operation(ctx, operation_of(made, op)?, call, text)
         }
@@ -180,7 +170,7 @@ fn tell_operation(ctx: &Ctx, op: Ptr<Operation>, text: &mut String) -> Result<()
         return Err(Fail::from("no such operation"));
     }
     let marked = is_operation_marked(ctx, op);
-    let fits = check_format(ctx, op).is_ok();
+    let fits = check_fits(ctx, op).is_ok();
     let canonical = is_canonical(ctx, op);
     Ok(write!(text, "o {marked} {fits} {canonical} ")?)
 }
