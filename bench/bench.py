@@ -193,7 +193,7 @@ def quoted(count):
 # What is counted, the word of the program, the text of so many items, two numbers of items, and how many instructions an item may
 # take to be read, and to be printed where that is limited.
 BUDGETS = (
-    ("root with its section", "roots", roots, 2, 2002, 7000, 3300),
+    ("root with its section", "roots", roots, 2, 2002, 7000, 1800),
     ("entry of a dictionary", "roots", dictionary, 10, 10010, 3000, None),
     ("type in a function type", "roots", function, 10, 10010, 900, None),
     ("position in a fused location", "roots", fused, 100, 10100, 2100, None),
