@@ -26,7 +26,8 @@ fn fmt_front<T: IrText<A>, A: AttrText>(
 ) -> Result<(), Refusal>
     requires live { IsSome (operation ctx.now op) }
     requires form { canonical ≡ heads.is_canonical_at T.IrText.own A.IrText.own A.AttrText.own A.eq ctx.now op }
-    ensures text { OnOk result (AppendsText f.old (heads.operation_front_at T.IrText.own A.IrText.own A.AttrText.own A.eq ctx.now op) f.new) }
+    ensures text { OnOk result
+        (AppendsText f.old (heads.operation_front_at T.IrText.own A.IrText.own A.AttrText.own A.eq ctx.now op) f.new) }
     ensures refused { IfErr result (λ e. e ≡ refusal.Memory) }
 {
     fmt_results(ctx, op, f)?;
@@ -47,7 +48,8 @@ fn find_directives<'c, T: IrText<A>, A: AttrText>(
     ensures found { IfOk result (λ found. heads.AreDirectivesAt T.IrText.own A.IrText.own A.AttrText.own A.eq ctx.now op found) }
     ensures form { IfOk result (λ found. is_none found ≡ heads.is_canonical_at T.IrText.own A.IrText.own A.AttrText.own A.eq ctx.now op) }
     ensures fits { OnOk result (heads.FitsAt T.IrText.own A.IrText.own A.AttrText.own A.eq ctx.now op) }
-    ensures refused { IfErr result (λ e. (e ≡ refusal.Misfit) × (heads.FitsAt T.IrText.own A.IrText.own A.AttrText.own A.eq ctx.now op → ⊥)) }
+    ensures refused { IfErr result (λ e.
+        (e ≡ refusal.Misfit) × (heads.FitsAt T.IrText.own A.IrText.own A.AttrText.own A.eq ctx.now op → ⊥)) }
 {
     match fitting_directives(ctx, op) {
         Ok(directives) => Ok(directives),
@@ -64,10 +66,12 @@ pub fn begin_front<'c, T: IrText<A>, A: AttrText>(
     f: &mut String,
 ) -> Result<Option<&'c [Directive]>, Refusal>
     requires live { IsSome (operation ctx.now op) }
-    ensures text { OnOk result (AppendsText f.old (heads.operation_front_at T.IrText.own A.IrText.own A.AttrText.own A.eq ctx.now op) f.new) }
+    ensures text { OnOk result
+        (AppendsText f.old (heads.operation_front_at T.IrText.own A.IrText.own A.AttrText.own A.eq ctx.now op) f.new) }
     ensures found { IfOk result (λ found. heads.AreDirectivesAt T.IrText.own A.IrText.own A.AttrText.own A.eq ctx.now op found) }
     ensures fits { OnOk result (heads.FitsAt T.IrText.own A.IrText.own A.AttrText.own A.eq ctx.now op) }
-    ensures refused { IfErr result (λ e. e ≢ refusal.Memory → (e ≡ refusal.Misfit) × (heads.FitsAt T.IrText.own A.IrText.own A.AttrText.own A.eq ctx.now op → ⊥)) }
+    ensures refused { IfErr result (λ e. e ≢ refusal.Memory →
+        (e ≡ refusal.Misfit) × (heads.FitsAt T.IrText.own A.IrText.own A.AttrText.own A.eq ctx.now op → ⊥)) }
 {
     let directives = find_directives(ctx, op)?;
     fmt_front(ctx, op, directives.is_none(), f)?;
@@ -85,7 +89,8 @@ pub fn fmt_known_piece<T: IrText<A>, A: AttrText>(
 ) -> Result<(), Refusal>
     requires live { IsSome (operation ctx.now op) }
     requires format { heads.directives_at T.IrText.own A.IrText.own A.AttrText.own A.eq ctx.now op ≡ directives_of directives.now }
-    ensures text { OnOk result (AppendsText f.old (heads.piece_at T.IrText.own A.IrText.own A.AttrText.own A.eq ctx.now op (directive_of directive.now)) f.new) }
+    ensures text { OnOk result
+        (AppendsText f.old (heads.piece_at T.IrText.own A.IrText.own A.AttrText.own A.eq ctx.now op (directive_of directive.now)) f.new) }
     ensures refused { IfErr result (λ e. e ≡ refusal.Memory) }
 {
     fmt_piece(ctx, op, directives, directive, f)

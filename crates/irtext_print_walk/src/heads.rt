@@ -24,10 +24,12 @@ pub trait WritesHeads<T: IrText<A>, A: AttrText> {
         f: &mut String,
     ) -> Result<Option<&'c [Directive]>, Refusal>
         requires live { IsSome (operation ctx.now op) }
-        ensures text { OnOk result (AppendsText f.old (heads.operation_front_at T.IrText.own A.IrText.own A.AttrText.own A.eq ctx.now op) f.new) }
+        ensures text { OnOk result
+            (AppendsText f.old (heads.operation_front_at T.IrText.own A.IrText.own A.AttrText.own A.eq ctx.now op) f.new) }
         ensures found { IfOk result (λ found. heads.AreDirectivesAt T.IrText.own A.IrText.own A.AttrText.own A.eq ctx.now op found) }
         ensures fits { OnOk result (heads.FitsAt T.IrText.own A.IrText.own A.AttrText.own A.eq ctx.now op) }
-        ensures refused { IfErr result (λ e. e ≢ refusal.Memory → (e ≡ refusal.Misfit) × (heads.FitsAt T.IrText.own A.IrText.own A.AttrText.own A.eq ctx.now op → ⊥)) };
+        ensures refused { IfErr result (λ e. e ≢ refusal.Memory →
+            (e ≡ refusal.Misfit) × (heads.FitsAt T.IrText.own A.IrText.own A.AttrText.own A.eq ctx.now op → ⊥)) };
 
     /// Appends what a directive of the operation's format, which has these directives, writes, where it writes no region. It fails only
     /// where memory is refused.
@@ -41,7 +43,8 @@ pub trait WritesHeads<T: IrText<A>, A: AttrText> {
         requires live { IsSome (operation ctx.now op) }
         requires format { heads.directives_at T.IrText.own A.IrText.own A.AttrText.own A.eq ctx.now op ≡ directives_of directives.now }
         requires piece { is_any_region (directive_of directive.now) ≡ false }
-        ensures text { OnOk result (AppendsText f.old (heads.piece_at T.IrText.own A.IrText.own A.AttrText.own A.eq ctx.now op (directive_of directive.now)) f.new) }
+        ensures text { OnOk result
+            (AppendsText f.old (heads.piece_at T.IrText.own A.IrText.own A.AttrText.own A.eq ctx.now op (directive_of directive.now)) f.new) }
         ensures refused { IfErr result (λ e. e ≡ refusal.Memory) };
 
     /// Appends a block's label, its arguments and its dictionary. It fails only where memory is refused.

@@ -73,11 +73,14 @@ pub(crate) fn begin_operation<'c, H: WritesHeads<T, A>, T: IrText<A>, A: AttrTex
     f: &mut String,
 ) -> Result<OperationFrame<'c>, Refusal>
     requires live { IsSome (operation ctx.now op) }
-    ensures text { OnOk result (AppendsText f.old (heads.operation_front_at T.IrText.own A.IrText.own A.AttrText.own A.eq ctx.now op) f.new) }
-    ensures begun { IfOk result (λ begun. begun ≡ heads.begun_at T.IrText.own A.IrText.own A.AttrText.own A.eq ctx.now op begun.directives marked indent limit) }
+    ensures text { OnOk result
+        (AppendsText f.old (heads.operation_front_at T.IrText.own A.IrText.own A.AttrText.own A.eq ctx.now op) f.new) }
+    ensures begun { IfOk result (λ begun. begun ≡
+        heads.begun_at T.IrText.own A.IrText.own A.AttrText.own A.eq ctx.now op begun.directives marked indent limit) }
     ensures found { IfOk result (λ begun. heads.AreDirectivesAt T.IrText.own A.IrText.own A.AttrText.own A.eq ctx.now op begun.directives) }
     ensures fits { OnOk result (heads.FitsAt T.IrText.own A.IrText.own A.AttrText.own A.eq ctx.now op) }
-    ensures refused { IfErr result (λ e. e ≢ refusal.Memory → (e ≡ refusal.Misfit) × (heads.FitsAt T.IrText.own A.IrText.own A.AttrText.own A.eq ctx.now op → ⊥)) }
+    ensures refused { IfErr result (λ e. e ≢ refusal.Memory →
+        (e ≡ refusal.Misfit) × (heads.FitsAt T.IrText.own A.IrText.own A.AttrText.own A.eq ctx.now op → ⊥)) }
 {
     let directives = H::begin(ctx, op, f)?;
     Ok(OperationFrame {
@@ -191,7 +194,9 @@ fn operation_step<'c, H: WritesHeads<T, A>, T: IrText<A>, A: AttrText>(
     f: &mut String,
 ) -> Result<(), Refusal>
     requires fits { heads.FrameFitsAt T.IrText.own A.IrText.own A.AttrText.own A.eq ctx.now (framed.Operation frame) }
-    ensures steps { OnOk result (heads.StepsAt T.IrText.own A.IrText.own A.AttrText.own A.eq ctx.now width (framed.Operation frame.entry) items.old.items items.new.items frames.old.items frames.new.items f.old f.new) }
+    ensures steps { OnOk result
+        (heads.StepsAt T.IrText.own A.IrText.own A.AttrText.own A.eq ctx.now width (framed.Operation frame.entry)
+        items.old.items items.new.items frames.old.items frames.new.items f.old f.new) }
     ensures refused { IfErr result (heads.RefusesFrame T.IrText.own A.IrText.own A.AttrText.own A.eq ctx.now width (framed.Operation frame.entry)) }
 {
     ctx.graph().keeps_nesting();
@@ -229,7 +234,9 @@ fn region_step<'c, H: WritesHeads<T, A>, T: IrText<A>, A: AttrText>(
     f: &mut String,
 ) -> Result<(), Refusal>
     requires fits { heads.FrameFitsAt T.IrText.own A.IrText.own A.AttrText.own A.eq ctx.now (framed.Region frame) }
-    ensures steps { OnOk result (heads.StepsAt T.IrText.own A.IrText.own A.AttrText.own A.eq ctx.now width (framed.Region frame) items.old.items items.new.items frames.old.items frames.new.items f.old f.new) }
+    ensures steps { OnOk result
+        (heads.StepsAt T.IrText.own A.IrText.own A.AttrText.own A.eq ctx.now width (framed.Region frame)
+        items.old.items items.new.items frames.old.items frames.new.items f.old f.new) }
     ensures refused { IfErr result (heads.RefusesFrame T.IrText.own A.IrText.own A.AttrText.own A.eq ctx.now width (framed.Region frame)) }
 {
     ctx.graph().keeps_nesting();
@@ -275,7 +282,9 @@ fn block_step<'c, H: WritesHeads<T, A>, T: IrText<A>, A: AttrText>(
     f: &mut String,
 ) -> Result<(), Refusal>
     requires fits { heads.FrameFitsAt T.IrText.own A.IrText.own A.AttrText.own A.eq ctx.now (framed.Block frame) }
-    ensures steps { OnOk result (heads.StepsAt T.IrText.own A.IrText.own A.AttrText.own A.eq ctx.now width (framed.Block frame) items.old.items items.new.items frames.old.items frames.new.items f.old f.new) }
+    ensures steps { OnOk result
+        (heads.StepsAt T.IrText.own A.IrText.own A.AttrText.own A.eq ctx.now width (framed.Block frame)
+        items.old.items items.new.items frames.old.items frames.new.items f.old f.new) }
     ensures refused { IfErr result (heads.RefusesFrame T.IrText.own A.IrText.own A.AttrText.own A.eq ctx.now width (framed.Block frame)) }
 {
     ctx.graph().keeps_nesting();
@@ -318,7 +327,9 @@ pub(crate) fn step<'c, H: WritesHeads<T, A>, T: IrText<A>, A: AttrText>(
     f: &mut String,
 ) -> Result<(), Refusal>
     requires fits { heads.FrameFitsAt T.IrText.own A.IrText.own A.AttrText.own A.eq ctx.now frame }
-    ensures steps { OnOk result (heads.StepsAt T.IrText.own A.IrText.own A.AttrText.own A.eq ctx.now width frame.entry items.old.items items.new.items frames.old.items frames.new.items f.old f.new) }
+    ensures steps { OnOk result
+        (heads.StepsAt T.IrText.own A.IrText.own A.AttrText.own A.eq ctx.now width frame.entry
+        items.old.items items.new.items frames.old.items frames.new.items f.old f.new) }
     ensures refused { IfErr result (heads.RefusesFrame T.IrText.own A.IrText.own A.AttrText.own A.eq ctx.now width frame.entry) }
 {
     match frame {
