@@ -1,5 +1,5 @@
 //! Dialects: their names, and their operations, each with the format in which it is written.
-ghost use Rattle.std.specs.Prelude.{◌≡◌, [], false, nat_eq, IfOk, IfErr, IfSome, IsTrue, OnOk, OnErr, Some, option_map};
+ghost use Rattle.std.specs.Prelude.{◌≡◌, [], false, nat_eq, IfOk, IfErr, IfSome, IsTrue, OnOk, OnErr, Some, option_copied, option_map};
 ghost use Rattle.std.specs.Cmp.{on_equiv, on_per, partial_equiv_from_equiv};
 ghost use Rattle.std.specs.Cmp.Lexicographic.{pointwise, bytes_decides, nat_list_eq_equiv};
 ghost use Rattle.std.specs.Cmp.Rules.{hashing};
@@ -27,7 +27,7 @@ use irtext_base::location::Location;
 use irtext_base::result;
 use irtext_base::result::{Cause, Error, ErrorKind};
 use irtext_formats::format;
-use std::alloc::Global;
+use std::alloc::{AllocError, Global};
 use std::convert::AsStr;
 use std::fmt;
 use std::hash::{Hash, Hasher};
@@ -202,15 +202,48 @@ fn wrong_dialect<A>(id: OpId, name: &DialectName) -> Cause<A>
     }
 }
 
-fn put<A>(ops: &mut IndexMap<OpId, OpInfo>, id: OpId, info: OpInfo) -> Result<(), Cause<A>>
+/// The id as a dialect keeps it: it shares the text of the dialect's name, and its own name keeps a hint of this index.
+fn kept(name: &DialectName, alloc: Global, id: &OpId, index: usize) -> Result<OpId, AllocError>
+    requires { id.now.dialect ≡ name.now }
+    ensures { IfOk result (λ i. i ≡ id.now) }
+{
+    let dialect = name.name.clone()?;
+    let name = id.name.hinted(alloc, index)?;
+    Ok(OpId { dialect, name })
+}
+
+/// Puts what is known of an operation of this dialect into its table. Where memory is refused, nothing changes.
+fn put<A>(
+    ops: &mut IndexMap<OpId, OpInfo>,
+    name: &DialectName,
+    id: OpId,
+    info: OpInfo,
+) -> Result<(), Cause<A>>
+    requires { id.dialect ≡ name.now }
     ensures ok { OnOk result (ops.new.entries ≡ insert_entry same_id ops.old.entries id info) }
     ensures err { OnErr result (ops.new.entries ≡ ops.old.entries) }
     ensures memory { IfErr result (λ cause. cause ≡ Cause.Memory) }
 {
-    match ops.insert(id, info) {
+    let alloc = *ops.allocator();
+    let Ok(key) = kept(name, alloc, &id, ops.len()) else {
+        return Err(Cause::Memory);
+    };
+    match ops.insert(key, info) {
         Ok(_) => Ok(()),
         Err(_) => Err(Cause::Memory),
     }
+}
+
+/// What is kept of an operation, if it is there: it is looked for where the hint of its name leads first.
+fn found<'o>(ops: &'o IndexMap<OpId, OpInfo>, id: &OpId) -> Option<&'o OpInfo>
+    ensures { option_copied result ≡ lookup (same_id id.now) ops.now.entries }
+{
+    if let Some((key, info)) = ops.get_index(id.name.hint()) {
+        if key == id {
+            return Some(info);
+        }
+    }
+    ops.get(id)
 }
 
 impl Dialect {
@@ -256,7 +289,7 @@ impl Dialect {
             isolated,
             sym_name_key,
         };
-        match put(&mut self.ops, id, info) {
+        match put(&mut self.ops, &self.name, id, info) {
             Ok(()) => Ok(()),
             Err(cause) => Err(invalid(cause)),
         }
@@ -275,6 +308,6 @@ impl Dialect {
         ensures found { option_map (λ info. known_of info.now) result ≡ lookup (same_id id.now) self.now.entries }
         ensures accepted { IfSome result (λ info. Accepted (format_of info.now.format)) }
     {
-        self.ops.get(id)
+        found(&self.ops, id)
     }
 }

@@ -29,7 +29,14 @@ use std::rc::Rc;
 /// where the counter of those that share it is full.
 #[derive(Drop)]
 pub struct Identifier {
-    text: Rc<Word>,
+    text: Rc<Hinted>,
+}
+
+/// A text, and where a table may have it.
+#[derive(Drop)]
+struct Hinted {
+    word: Word,
+    hint: usize,
 }
 
 /// The text of an identifier: a short one takes no memory of its own.
@@ -49,9 +56,9 @@ impl Model for Identifier {
 
     ghost coded = { coded_list coded_ℕ };
 
-    ghost view = { λ i. word_bytes i.text.value };
+    ghost view = { λ i. word_bytes i.text.value.word };
 
-    ghost invariant = { λ i. IsTrue (is_identifier (word_bytes i.text.value)) };
+    ghost invariant = { λ i. IsTrue (is_identifier (word_bytes i.text.value.word)) };
 }
 
 impl Word {
@@ -183,10 +190,31 @@ impl Identifier {
         requires { IsTrue (is_identifier text.now) }
         ensures { IfOk result (λ i. i ≡ text.now) }
     {
+        Identifier::with_hint(alloc, text, usize::MAX)
+    }
+
+    /// The identifier of a text that is one, with a hint of where a table has it. Only memory can be refused.
+    fn with_hint(alloc: Global, text: &str, hint: usize) -> Result<Identifier, AllocError>
+        requires { IsTrue (is_identifier text.now) }
+        ensures { IfOk result (λ i. i ≡ text.now) }
+    {
         let word = Word::of(alloc, text)?;
         Ok(Identifier {
-            text: Rc::new(alloc, word)?,
+            text: Rc::new(alloc, Hinted { word, hint })?,
         })
+    }
+
+    /// The same identifier with a text of its own, whose hint is the index at which a table has it. Only memory can be refused.
+    pub fn hinted(&self, alloc: Global, index: usize) -> Result<Identifier, AllocError>
+        ensures { IfOk result (λ i. i ≡ self.now) }
+    {
+        Identifier::with_hint(alloc, self.as_str(), index)
+    }
+
+    /// The index at which a table may have the identifier: what it gave to `hinted`, for this identifier and all that share its
+    /// text, else `usize::MAX`. Nothing follows from it: who looks there compares what is found.
+    pub fn hint(&self) -> usize {
+        self.text.hint
     }
 
     /// The text of the identifier.
@@ -194,7 +222,7 @@ impl Identifier {
         ensures text { result.now ≡ self.now }
         ensures fits { IsTrue (is_identifier self.now) }
     {
-        self.text.as_str()
+        self.text.word.as_str()
     }
 }
 

@@ -20,12 +20,16 @@ use irtext_base::result::{Cause, ErrorKind};
 use irtext_base::text::{AttrText, IrText};
 use std::alloc::{AllocError, Global};
 
-/// A dialect without operations, under its name.
-fn empty(alloc: Global, name: &DialectName) -> Result<(DialectName, Dialect), AllocError>
+/// A dialect without operations, under its name, which keeps a hint of this index in the table.
+fn empty(
+    alloc: Global,
+    name: &DialectName,
+    index: usize,
+) -> Result<(DialectName, Dialect), AllocError>
     ensures { IfOk result (λ e. e ≡ (name.now, no_operations name.now)) }
 {
-    let key = name.name.clone()?;
-    let name = name.name.clone()?;
+    let key = name.name.hinted(alloc, index)?;
+    let name = key.clone()?;
     let dialect = Dialect::new(alloc, DialectName { name });
     Ok((DialectName { name: key }, dialect))
 }
@@ -57,9 +61,24 @@ fn keep(
         return Ok(index);
     }
     let index = dialects.len();
-    let (key, dialect) = empty(alloc, name)?;
+    let (key, dialect) = empty(alloc, name, index)?;
     put_last(dialects, key, dialect)?;
     Ok(index)
+}
+
+/// The dialect of a name, if it is there: it is looked for where the name's hint leads first.
+fn dialect_by<'d>(
+    dialects: &'d IndexMap<DialectName, Dialect>,
+    name: &Identifier,
+) -> Option<&'d Dialect>
+    ensures { option_copied result ≡ lookup (bytes_eq name.now) dialects.now.entries }
+{
+    if let Some((key, dialect)) = dialects.get_index(name.hint()) {
+        if key.name == *name {
+            return Some(dialect);
+        }
+    }
+    dialects.get(name)
 }
 
 impl<T: IrText<A>, A: AttrText> Context<T, A> {
@@ -114,7 +133,7 @@ impl<T: IrText<A>, A: AttrText> Context<T, A> {
         ensures found { option_map (λ info. known_of info.now) result ≡ registered self.now.dialects id.now }
         ensures accepted { IfSome result (λ info. Accepted (format_of info.now.format)) }
     {
-        let dialect = self.dialects.get(&id.dialect)?;
+        let dialect = dialect_by(&self.dialects, &id.dialect)?;
         dialect.op(id)
     }
 
@@ -124,7 +143,7 @@ impl<T: IrText<A>, A: AttrText> Context<T, A> {
         ensures ok { IfOk result (λ i. (i ≡ id) × IsSome (registered self.now.dialects id)) }
         ensures refused { IfErr result (λ cause. IsUnregistered self.now.dialects id cause) }
     {
-        let Some(dialect) = self.dialects.get(&id.dialect) else {
+        let Some(dialect) = dialect_by(&self.dialects, &id.dialect) else {
             return Err(Cause::UnregisteredDialect(id.dialect));
         };
         if dialect.op(&id).is_none() {

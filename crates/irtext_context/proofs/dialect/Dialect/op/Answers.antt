@@ -4,10 +4,10 @@ use Rattle.irtext_context.proofs.Dialects.{IsAccepted, known_behind, accepted_fo
 use Rattle.irtext_context.proofs.dialect.Dialect.op.Goals as goal
 
 pub returns-clause-found : goal.returns-clause-found
-returns-clause-found c = rw (← c.self.view_is) (known_behind c.get.result (same_id c.args.id.now) c.self.inside.ops.entries c.get.ensures.value)
+returns-clause-found c = rw (← c.self.view_is) (known_behind c.found.result (same_id c.args.id.now) c.self.inside.ops.entries c.found.ensures)
 
 pub returns-clause-accepted : goal.returns-clause-accepted
 returns-clause-accepted c =
     let i = c.self.inside in
-    let found = known_behind c.get.result (same_id c.args.id.now) i.ops.entries c.get.ensures.value in
-    accepted_behind c.get.result (subst (λ o. IsAccepted o) (sym found) (accepted_found i.name (same_id c.args.id.now) (known_entries i.ops.entries) c.self.invariant))
+    let found = known_behind c.found.result (same_id c.args.id.now) i.ops.entries c.found.ensures in
+    accepted_behind c.found.result (subst (λ o. IsAccepted o) (sym found) (accepted_found i.name (same_id c.args.id.now) (known_entries i.ops.entries) c.self.invariant))
