@@ -10,7 +10,7 @@ use Rattle.std.specs.Str.{encode_utf8_all, chars, IsUtf8}
 use Rattle.memchr.specs.Find.{IsFirstByte, is_byte}
 use Rattle.std.specs.Char.{encode_utf8}
 use Rattle.irtext_stream.specs.Text.{Text, is_newline, line_behind, column_behind}
-use Rattle.irtext_stream.specs.Index.{BeginsLine, AreStarts, AreBlocks, begins_character, entry_before}
+use Rattle.irtext_stream.specs.Index.{BeginsLine, AreStarts, AreBlocks, AreLines, BeginUpTo, begins_character, entry_before}
 use Rattle.irtext_stream.proofs.Encoded.{Split, encode_some, characters_begin, split_newline, no_newlines}
 
 -- ---- tests of bytes
@@ -147,6 +147,16 @@ entries_more P xs x a p k h =
     (λ (e : k ≡ length xs). subst (λ j. P (get_or (xs ++ (x ∷ [])) j 0) j) (sym e) (subst (λ y. P y (length xs)) (sym (get_or-append_seam xs x [] 0)) p))
     (λ (l : k < length xs). subst (λ y. P y k) (sym (get_or_append_left xs (x ∷ []) 0 k l)) (a k l))
     (eq-or-lt_of_le (le_of_suc-le-suc (omega (arith, h, length-append xs (x ∷ [])))))
+
+-- as many lines begin up to what is behind an offset
+pub up_to_more : (starts : List ℕ) (line o p : ℕ) → BeginUpTo starts line o → o ≤ p → BeginUpTo starts line p
+up_to_more starts line o p b l = record { within = b.within; before = λ h. omega (arith, b.before h, l) }
+
+-- up to an offset begin as many lines as up to its stride
+pub stride_before : (starts lines : List ℕ) (size o least : ℕ) → AreLines starts size lines → o ≤ size → least ≡ get_or lines (o / 128) 0 → BeginUpTo starts least o
+stride_before starts lines size o least a l e =
+    let b = a.each (o / 128) (omega (arith, l, a.all)) in
+    up_to_more starts least (128 * (o / 128)) o (subst (λ z. BeginUpTo starts z (128 * (o / 128))) (sym e) b) (omega arith)
 
 -- the bytes behind the beginning of a line
 pub record Coming (bs : List ℕ) (o : ℕ) (behind : Text) : Type 0 where

@@ -1,6 +1,7 @@
 -- Fronts of characters of a kind, and texts that come next, among bytes.
-use Rattle.std.proofs.Common.{◌≡◌, ℕ, ◌+◌, ◌-◌, ◌<◌, ◌≤◌, Bool, true, false, cond, Some, None, List, [], ◌∷◌, ◌++◌, length, get_or, take, drop, refl, sym, ◌∙◌, ap, arith, length-append, length-drop, append_assoc, take-add, ◌&&◌}
-use Rattle.std.proofs.lemmas.List.{append-nil, drop-drop, take-append-drop}
+use Rattle.std.proofs.Common.{◌≡◌, ℕ, ◌+◌, ◌-◌, ◌<◌, ◌≤◌, Bool, true, false, cond, Some, None, List, [], ◌∷◌, ◌++◌, length, get_or, take, drop, refl, sym, ◌∙◌, ap, arith, length-append, length-drop, append_assoc, take-add, ◌&&◌, nat_eq, true≢false}
+use Rattle.std.specs.Prelude.{MatchBool}
+use Rattle.std.proofs.lemmas.List.{append-nil, drop-drop, take-append-drop, get_or-drop}
 use Rattle.std.proofs.lemmas.Str.{encodes-chars, scalars-chars, encodes-append, chars-append, encode_same, encode_ascii, IsUtf8-append}
 use Rattle.std.proofs.Math.Seq.{take-append_seam}
 use Rattle.std.specs.Str.{chars, IsUtf8, encode_utf8_all, all_scalars}
@@ -11,7 +12,7 @@ use Rattle.irtext_stream.specs.Stream.{first_of, advanced_by}
 use Rattle.irtext_stream.specs.Index.{Ends, ComesAt, width_of}
 use Rattle.std.specs.Cmp.Lexicographic.{pointwise}
 use Rattle.std.proofs.lemmas.Slice.Eq.{starts_is}
-use Rattle.std.proofs.lemmas.Bool.Decides.{Decides-eqb}
+use Rattle.std.proofs.lemmas.Bool.Decides.{Decides-eqb, nat_tests}
 use lib.Dec.{eqb}
 use Rattle.irtext_stream.proofs.Lines.{rest_of}
 use Rattle.irtext_stream.proofs.Encoded.{encode_some}
@@ -70,6 +71,10 @@ ahead_more bytes from kind at width a e n =
       after_is = ap (after kind) r ∙ (sym g ∙ a.after_is);
     }
 
+-- the first character of the kind
+pub ahead_first : (bytes : List ℕ) (from : ℕ) (kind : ℕ → Bool) (width : ℕ) → from ≤ length bytes → IsUtf8 (take from bytes) → IsUtf8 (drop from bytes) → width ≡ width_of kind (chars (drop from bytes)) → (width ≡ 0 → ⊥) → Ahead bytes from kind (from + width)
+ahead_first bytes from kind width l f u e n = ahead_more bytes from kind from width (ahead_none bytes from kind l f u) e n
+
 stops : (kind : ℕ → Bool) (text : Text) → 0 ≡ width_of kind text → (front kind text ≡ []) × (after kind text ≡ text)
 stops kind [] e = (refl, refl)
 stops kind (c ∷ text) e = go (kind c) refl
@@ -88,6 +93,18 @@ ahead_ends bytes from kind at a e =
       rest_utf8 = a.rest_utf8;
       passed = a.passed ∙ ap (λ t. chars (take from bytes) ++ t) (sym (append-nil a.taken) ∙ (ap (λ t. a.taken ++ t) (sym s.0) ∙ a.front_is));
       rest = sym s.1 ∙ a.after_is;
+    }
+
+-- the front that goes on where it has come so far ends where the whole does
+pub ends_behind : (bytes : List ℕ) (from : ℕ) (kind : ℕ → Bool) (at to : ℕ) → Ahead bytes from kind at → Ends bytes at kind to → Ends bytes from kind to
+ends_behind bytes from kind at to a e =
+    let old = chars (take from bytes) in
+    record {
+      within = e.within;
+      passed_utf8 = e.passed_utf8;
+      rest_utf8 = e.rest_utf8;
+      passed = e.passed ∙ (ap (λ t. t ++ front kind (chars (drop at bytes))) a.passed ∙ (append_assoc old a.taken (front kind (chars (drop at bytes))) ∙ ap (λ t. old ++ t) a.front_is));
+      rest = e.rest ∙ a.after_is;
     }
 
 -- the width of a character that is known
@@ -144,8 +161,46 @@ byte_width bs cs o b kind same u l e h =
 pub no_width : (bs cs : List ℕ) (o : ℕ) (kind : ℕ → Bool) → cs ≡ bs → length cs ≤ o → width_of kind (chars (drop o bs)) ≡ 0
 no_width bs cs o kind same l = width_none kind (chars (drop o bs)) (next_at_end bs o (omega (arith, l, ap length same)))
 
+-- the width of a byte that is a character of the kind
+pub byte_of : (bs cs : List ℕ) (o b : ℕ) (kind : ℕ → Bool) → cs ≡ bs → IsUtf8 (drop o bs) → o < length cs → b ≡ get_or cs o 0 → (b < 128) × (kind b ≡ true) → 1 ≡ width_of kind (chars (drop o bs))
+byte_of bs cs o b kind same u l e h = sym (byte_width bs cs o b kind same u l e h.0 ∙ ap (λ k. cond k 1 0) h.1)
+
+-- the width of a byte that is another character
+pub byte_not_of : (bs cs : List ℕ) (o b : ℕ) (kind : ℕ → Bool) → cs ≡ bs → IsUtf8 (drop o bs) → o < length cs → b ≡ get_or cs o 0 → b < 128 → (b < 128 → kind b ≡ false) → 0 ≡ width_of kind (chars (drop o bs))
+byte_not_of bs cs o b kind same u l e h n = sym (byte_width bs cs o b kind same u l e h ∙ ap (λ k. cond k 1 0) (n h))
+
 -- whether a text comes next, by its bytes
 pub comes : (bs cs text word : List ℕ) (o : ℕ) (r : Bool) → cs ≡ bs → word ≡ text → r ≡ pointwise eqb word (take (length word) (take (length cs - o) (drop o cs))) → (r ≡ true → drop o bs ≡ text ++ drop (length text) (drop o bs)) × ((rest : List ℕ) → drop o bs ≡ text ++ rest → r ≡ true)
 comes bs cs text word o r same w e =
     let f : r ≡ pointwise eqb text (take (length text) (drop o bs)) = e ∙ (ap (λ z. pointwise eqb z (take (length z) (take (length cs - o) (drop o cs)))) w ∙ ap (λ z. pointwise eqb text (take (length text) z)) (rest_of bs cs o same)) in
     starts_is (λ a b. Decides-eqb a b) (drop o bs) text r f
+
+-- what an answer about the bytes says of the text
+pub comes_where : (bs word : List ℕ) (o : ℕ) (r : Bool) → o ≤ length bs → IsUtf8 (take o bs) → IsUtf8 (drop o bs) → IsUtf8 word → (r ≡ true → drop o bs ≡ word ++ drop (length word) (drop o bs)) × ((rest : List ℕ) → drop o bs ≡ word ++ rest → r ≡ true) → MatchBool r (ComesAt bs o word) ((rest : List ℕ) → chars (drop o bs) ≡ chars word ++ rest → ⊥)
+comes_where bs word o true l f u t p = behind_text bs o word l f u t (p.0 refl)
+comes_where bs word o false l f u t p = λ rest e. true≢false (sym (p.1 (encode_utf8_all rest) (comes_next bs o word rest u t e)))
+
+first_and_rest : (xs : List ℕ) → 0 < length xs → xs ≡ get_or xs 0 0 ∷ drop 1 xs
+first_and_rest [] l = absurd (omega arith)
+first_and_rest (x ∷ xs) l = refl
+
+-- whether a text of one byte comes next
+pub one_comes : (bs cs text word : List ℕ) (o b : ℕ) (r : Bool) → cs ≡ bs → word ≡ text → length word ≡ 1 → o < length cs → b ≡ get_or cs o 0 → r ≡ nat_eq b (get_or word 0 0) → (r ≡ true → drop o bs ≡ text ++ drop (length text) (drop o bs)) × ((rest : List ℕ) → drop o bs ≡ text ++ rest → r ≡ true)
+one_comes bs cs [] word o b r same w n l e t = absurd (omega (arith, n, ap length w))
+one_comes bs cs (x ∷ y ∷ text) word o b r same w n l e t = absurd (omega (arith, n, ap length w))
+one_comes bs cs (x ∷ []) word o b r same w n l e t =
+    let within : 0 < length (drop o bs) = omega (arith, length-drop o bs, l, ap length same) in
+    let first : get_or (drop o bs) 0 0 ≡ b = get_or-drop o bs 0 0 ∙ (ap (λ k. get_or bs k 0) (omega arith) ∙ sym (e ∙ ap (λ z. get_or z o 0) same)) in
+    let split : drop o bs ≡ b ∷ drop 1 (drop o bs) = first_and_rest (drop o bs) within ∙ ap (λ z. z ∷ drop 1 (drop o bs)) first in
+    let test : r ≡ nat_eq b x = t ∙ ap (λ z. nat_eq b (get_or z 0 0)) w in
+    (λ h. split ∙ ap (λ z. z ∷ drop 1 (drop o bs)) (same_number b x (sym test ∙ h)), λ rest h. test ∙ number_same b x (sym first ∙ ap (λ z. get_or z 0 0) h))
+  where
+    same_number : (a b : ℕ) → nat_eq a b ≡ true → a ≡ b
+    same_number a b e = grind (arith, nat_tests)
+
+    number_same : (a b : ℕ) → a ≡ b → nat_eq a b ≡ true
+    number_same a b e = grind (arith, nat_tests)
+
+-- at the end none does
+pub none_comes : (bs cs text word : List ℕ) (o : ℕ) → cs ≡ bs → word ≡ text → length word ≡ 1 → length cs ≤ o → (false ≡ true → drop o bs ≡ text ++ drop (length text) (drop o bs)) × ((rest : List ℕ) → drop o bs ≡ text ++ rest → false ≡ true)
+none_comes bs cs text word o same w n l = (λ h. absurd (true≢false (sym h)), λ rest h. absurd (omega (arith, ap length h, length-append text rest, length-drop o bs, l, ap length same, n, ap length w)))

@@ -1,5 +1,5 @@
--- What is kept of a text to find lines and columns: where its lines begin, and how many characters begin before each block.
-use Rattle.std.specs.Prelude.{◌≡◌, ℕ, zero, suc, ◌+◌, ◌*◌, ◌<◌, ◌≤◌, Bool, true, false, ◌||◌, nat_lt, nat_le, cond, List, [], ◌∷◌, ◌++◌, length, get_or, take, drop, count_by}
+-- What is kept of a text to find lines and columns: where its lines begin, how many begin up to each stride, and how many characters begin before each block.
+use Rattle.std.specs.Prelude.{◌≡◌, ℕ, zero, suc, ◌+◌, ◌-◌, ◌*◌, ◌<◌, ◌≤◌, Bool, true, false, ◌||◌, nat_lt, nat_le, cond, List, [], ◌∷◌, ◌++◌, length, get_or, take, drop, count_by}
 use Rattle.std.specs.Str.{chars, encode_utf8_all, IsUtf8}
 use Rattle.std.specs.Char.{encode_utf8}
 use Rattle.irtext_stream.specs.Text.{Text, is_newline, column_behind, front, after}
@@ -33,11 +33,22 @@ pub record AreBlocks (bytes : List ℕ) (blocks : List ℕ) : Type 0 where
   pub each : (k : ℕ) → k < length blocks → get_or blocks k 0 ≡ count_by begins_character (take (512 * suc k) bytes)
   pub all : length bytes < 512 * suc (length blocks)
 
+-- this many lines begin up to an offset, but the first, and perhaps more
+pub record BeginUpTo (starts : List ℕ) (line offset : ℕ) : Type 0 where
+  pub within : line ≤ length starts
+  pub before : 0 < line → get_or starts (line - 1) 0 ≤ offset
+
+-- how many lines begin up to each stride of 128 bytes
+pub record AreLines (starts : List ℕ) (size : ℕ) (lines : List ℕ) : Type 0 where
+  pub each : (k : ℕ) → k < length lines → BeginUpTo starts (get_or lines k 0) (128 * k)
+  pub all : size < 128 * length lines
+
 -- the index is the text's
 pub record Indexes (bytes : List ℕ) (index : TextIndex) : Type 0 where
   pub lines : AreStarts (chars bytes) index.starts.items
   pub single : index.single ≡ true → count_by begins_character bytes ≡ length bytes
   pub blocks : index.single ≡ false → AreBlocks bytes index.blocks.items
+  pub strides : AreLines index.starts.items (length bytes) index.lines.items
 
 -- the front of characters of a kind that begins at one offset ends at the other
 pub record Ends (bytes : List ℕ) (from : ℕ) (kind : ℕ → Bool) (to : ℕ) : Type 0 where

@@ -1,5 +1,5 @@
 //! Classes of characters.
-ghost use Rattle.std.specs.Prelude.{◌≡◌, ◌<◌, get_or};
+ghost use Rattle.std.specs.Prelude.{◌≡◌, ◌<◌, MatchBool, true, false, get_or};
 ghost use Rattle.irtext_stream.specs.Classes.{has, bit_of};
 ghost use Rattle.irtext_stream.specs.declared.class.TheConstants.{CLASSES};
 
@@ -60,11 +60,10 @@ impl Class {
         }
     }
 
-    /// Whether the ASCII character of this byte is of this class.
+    /// Whether this byte is an ASCII character of this class.
     #[inline(always)]
     pub(crate) fn has_byte(self, b: u8) -> bool
-        requires { b < 128 }
-        ensures { result ≡ has self b }
+        ensures { MatchBool result ((b < 128) × (has self b ≡ true)) (b < 128 → has self b ≡ false) }
     {
         classes_of(b) & self.bit() != 0
     }

@@ -3,7 +3,7 @@ ghost use Rattle.std.specs.Prelude.{◌≡◌, ◌<◌, ◌≤◌, ◌-◌, ◌+
 ghost use Rattle.std.specs.Str.{chars};
 ghost use Rattle.irtext_stream.specs.Stream.{IsAt, cut};
 ghost use Rattle.irtext_stream.specs.Places.{AtOffset};
-ghost use Rattle.irtext_stream.specs.Index.{begins_character, entry_before, AreStarts, AreBlocks, Indexes};
+ghost use Rattle.irtext_stream.specs.Index.{begins_character, entry_before, AreStarts, AreBlocks, AreLines, BeginUpTo, Indexes};
 
 use crate::position::SourcePosition;
 use memchr::memchr;
@@ -18,9 +18,13 @@ pub struct TextIndex {
     pub(crate) single: bool,
     // how many characters begin before the end of each whole block; none where each byte is one
     pub(crate) blocks: Vec<usize>,
+    // how many lines begin up to each stride, but the first
+    pub(crate) lines: Vec<usize>,
 }
 
 const BLOCK: usize = 512;
+
+const STRIDE: usize = 128;
 
 /// Whether a character begins with this byte.
 fn begins_character(byte: u8) -> bool
@@ -71,23 +75,31 @@ fn block_counts(alloc: Global, bytes: &[u8]) -> Result<Vec<usize>, AllocError>
     Ok(blocks)
 }
 
-/// How many lines begin up to an offset, but the first.
-fn line_at(starts: &[usize], offset: usize) -> usize
-    ensures within { result ≤ length starts.now }
-    ensures before { 0 < result → get_or starts.now (result - 1) 0 ≤ offset }
+/// How many lines begin up to an offset, but the first. At least so many are known to.
+fn line_at(starts: &[usize], least: usize, offset: usize) -> usize
+    requires { BeginUpTo starts.now least offset }
+    ensures up_to { BeginUpTo starts.now result offset }
     ensures behind { result < length starts.now → offset < get_or starts.now result 0 }
 {
-    let mut low = 0;
-    let mut high = starts.len();
-    while low < high {
-        let middle = low + (high - low) / 2;
-        if starts[middle] <= offset {
-            low = middle + 1;
-        } else {
-            high = middle;
-        }
+    let mut line = least;
+    while line < starts.len() && starts[line] <= offset {
+        line += 1;
     }
-    low
+    line
+}
+
+/// For each stride of a text how many lines begin up to it, but the first.
+fn line_counts(alloc: Global, starts: &[usize], size: usize) -> Result<Vec<usize>, AllocError>
+    ensures { IfOk result (λ lines. AreLines starts.now size lines.items) }
+{
+    let strides = size / STRIDE + 1;
+    let mut lines = Vec::with_capacity(alloc, strides)?;
+    let mut line = 0;
+    for i in 0..strides {
+        line = line_at(starts, line, i * STRIDE);
+        lines.push(line)?;
+    }
+    Ok(lines)
 }
 
 /// The entry before this one, and 0 before the first.
@@ -115,11 +127,13 @@ impl TextIndex {
         ensures { IfOk result (λ index. Indexes text.now index) }
     {
         let starts = line_starts(alloc, text)?;
+        let lines = line_counts(alloc, &starts, text.len())?;
         if text.is_ascii() {
             return Ok(TextIndex {
                 starts,
                 single: true,
                 blocks: Vec::new(alloc),
+                lines,
             });
         }
         let blocks = block_counts(alloc, text.as_bytes())?;
@@ -127,6 +141,7 @@ impl TextIndex {
             starts,
             single: false,
             blocks,
+            lines,
         })
     }
 
@@ -163,7 +178,8 @@ impl TextIndex {
         requires within { offset ≤ length text.now }
         ensures { AtOffset offset (chars text.now) (λ passed rest. IsAt result.line result.column passed) }
     {
-        let line = line_at(&self.starts, offset);
+        let least = self.lines[offset / STRIDE];
+        let line = line_at(&self.starts, least, offset);
         let start = entry_before(&self.starts, line);
         let characters = self.characters_between(text.as_bytes(), start, offset);
         SourcePosition {

@@ -26,8 +26,15 @@ fn width_at(text: &str, at: usize, class: Class) -> usize
     ensures { result ≡ width_of (has class) (chars (drop at text.now)) }
 {
     match text.as_bytes().get(at) {
-        Some(b) if *b < 128 => if class.has_byte(*b) { 1 } else { 0 },
-        Some(_) => wide_at(text, at, class),
+        Some(b) => {
+            if class.has_byte(*b) {
+                1
+            } else if *b < 128 {
+                0
+            } else {
+                wide_at(text, at, class)
+            }
+        }
         None => 0,
     }
 }
@@ -56,10 +63,11 @@ pub(crate) fn end_of(text: &str, from: usize, class: Class) -> usize
     if let Class::Plain = class {
         return end_of_plain(text, from);
     }
-    if width_at(text, from, class) == 0 {
+    let width = width_at(text, from, class);
+    if width == 0 {
         return from;
     }
-    end_of_run(text, from, class)
+    end_of_run(text, from + width, class)
 }
 
 /// The same, where it is mostly not empty.
@@ -71,20 +79,33 @@ fn end_of_run(text: &str, from: usize, class: Class) -> usize
 {
     let mut at = from;
     while let Some(b) = text.as_bytes().get(at) {
-        if *b < 128 {
-            if !class.has_byte(*b) {
+        if !class.has_byte(*b) {
+            if *b < 128 {
                 return at;
             }
-            at += 1;
-        } else {
-            let width = wide_at(text, at, class);
-            if width == 0 {
-                return at;
-            }
-            at += width;
+            return end_of_wide(text, at, class);
         }
+        at += 1;
     }
     at
+}
+
+/// The same, where it may begin with a character of several bytes.
+#[cold]
+fn end_of_wide(text: &str, from: usize, class: Class) -> usize
+    requires within { from ≤ length text.now }
+    requires passed_utf8 { IsUtf8 (take from text.now) }
+    requires rest_utf8 { IsUtf8 (drop from text.now) }
+    ensures { Ends text.now from (has class) result }
+{
+    let mut at = from;
+    loop {
+        let width = width_at(text, at, class);
+        if width == 0 {
+            return at;
+        }
+        at += width;
+    }
 }
 
 /// The same of plain characters. To these belong all past ASCII, so no character is looked at by itself.
@@ -108,5 +129,13 @@ pub(crate) fn comes_at(text: &str, at: usize, word: &str) -> bool
     requires rest_utf8 { IsUtf8 (drop at text.now) }
     ensures { MatchBool result (ComesAt text.now at word.now) (BeginsOtherwise (chars word.now) (chars (drop at text.now))) }
 {
-    text.as_bytes()[at..].starts_with(word.as_bytes())
+    let bytes = text.as_bytes();
+    let word = word.as_bytes();
+    if word.len() == 1 {
+        return match bytes.get(at) {
+            Some(b) => *b == word[0],
+            None => false,
+        };
+    }
+    bytes[at..].starts_with(word)
 }

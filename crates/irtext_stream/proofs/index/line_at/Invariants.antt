@@ -1,13 +1,9 @@
-use Rattle.std.proofs.Common.{◌≤◌, ◌<◌, ◌-◌, length, get_or}
+use Rattle.std.proofs.Common.{◌-◌, length}
+use Rattle.irtext_stream.specs.Index.{BeginUpTo}
 use Rattle.irtext_stream.proofs.index.line_at.Given as goal
 
-abbrev pub invariant-loop-low : goal.invariant-loop-low
-invariant-loop-low l = record {
-  ordered : l.low ≤ l.high;
-  within : l.high ≤ length l.starts;
-  before : 0 < l.low → get_or l.starts (l.low - 1) 0 ≤ l.offset;
-  behind : l.high < length l.starts → l.offset < get_or l.starts l.high 0;
-}
+abbrev pub invariant-loop-line : goal.invariant-loop-line
+invariant-loop-line l = BeginUpTo l.starts l.line l.offset
 
-abbrev pub decreases-loop-low : goal.decreases-loop-low
-decreases-loop-low l = l.high - l.low
+abbrev pub decreases-loop-line : goal.decreases-loop-line
+decreases-loop-line l = length l.starts - l.line

@@ -14,4 +14,5 @@ returns-then-is_ascii c = record {
   lines = c.in_ok-starts.ensures;
   single = λ e. is_single c.args.text.now c.is_ascii.result c.is_ascii.ensures.cases c.if-is_ascii.true;
   blocks = λ e. absurd (true≢false e);
+  strides = rw c.deref.ensures.value at c.in_ok-lines.ensures;
 }

@@ -12,8 +12,8 @@ returns c = λ passed rest e o.
     let line = c.line_at-line.result in
     let start = c.entry_before-start.result in
     let n = c.characters_between-characters.result in
-    let p = position_is bs passed rest starts c.args.offset line c.utf8.text c.requires.indexed.lines e o
-    (rw c.deref.ensures.value at c.line_at-line.ensures.within) (rw c.deref.ensures.value at c.line_at-line.ensures.before) (rw c.deref.ensures.value at c.line_at-line.ensures.behind) in
+    let up = rw c.deref.ensures.value at c.line_at-line.ensures.up_to in
+    let p = position_is bs passed rest starts c.args.offset line c.utf8.text c.requires.indexed.lines e o up.within up.before (rw c.deref.ensures.value at c.line_at-line.ensures.behind) in
     let s : start ≡ entry_before starts line = c.entry_before-start.ensures ∙ ap (λ t. entry_before t line) c.deref-2.ensures.value in
     let x : count_by begins_character (take start bs) + n ≡ count_by begins_character (take c.args.offset bs) = rw c.as_bytes.ensures.value at c.characters_between-characters.ensures in
     let y : count_by begins_character (take start bs) ≡ count_by begins_character (take (entry_before starts line) bs) = ap (λ k. count_by begins_character (take k bs)) s in
