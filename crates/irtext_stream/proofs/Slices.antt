@@ -71,10 +71,6 @@ ahead_more bytes from kind at width a e n =
       after_is = ap (after kind) r ∙ (sym g ∙ a.after_is);
     }
 
--- the first character of the kind
-pub ahead_first : (bytes : List ℕ) (from : ℕ) (kind : ℕ → Bool) (width : ℕ) → from ≤ length bytes → IsUtf8 (take from bytes) → IsUtf8 (drop from bytes) → width ≡ width_of kind (chars (drop from bytes)) → (width ≡ 0 → ⊥) → Ahead bytes from kind (from + width)
-ahead_first bytes from kind width l f u e n = ahead_more bytes from kind from width (ahead_none bytes from kind l f u) e n
-
 stops : (kind : ℕ → Bool) (text : Text) → 0 ≡ width_of kind text → (front kind text ≡ []) × (after kind text ≡ text)
 stops kind [] e = (refl, refl)
 stops kind (c ∷ text) e = go (kind c) refl

@@ -46,7 +46,19 @@ pub enum Class {
 
 impl Class {
     /// Whether the character is of this class.
+    #[inline(always)]
     pub fn has(self, c: char) -> bool
+        ensures { result ≡ has self c }
+    {
+        if c.is_ascii() {
+            return self.has_byte(c as u8);
+        }
+        self.has_wide(c)
+    }
+
+    /// The same, by what the class is.
+    #[cold]
+    fn has_wide(self, c: char) -> bool
         ensures { result ≡ has self c }
     {
         match self {

@@ -10,6 +10,7 @@ use crate::class::Class;
 use memchr::memchr2;
 
 /// The character at an offset, by its bytes.
+#[cold]
 pub(crate) fn decode(text: &str, at: usize) -> Option<char>
     requires within { at ≤ length text.now }
     requires utf8 { IsUtf8 (drop at text.now) }
@@ -19,29 +20,7 @@ pub(crate) fn decode(text: &str, at: usize) -> Option<char>
 }
 
 /// How many bytes the character at an offset has, where it is of the class; and else 0.
-#[inline(always)]
 fn width_at(text: &str, at: usize, class: Class) -> usize
-    requires within { at ≤ length text.now }
-    requires utf8 { IsUtf8 (drop at text.now) }
-    ensures { result ≡ width_of (has class) (chars (drop at text.now)) }
-{
-    match text.as_bytes().get(at) {
-        Some(b) => {
-            if class.has_byte(*b) {
-                1
-            } else if *b < 128 {
-                0
-            } else {
-                wide_at(text, at, class)
-            }
-        }
-        None => 0,
-    }
-}
-
-/// The same, by the character's bytes.
-#[cold]
-fn wide_at(text: &str, at: usize, class: Class) -> usize
     requires within { at ≤ length text.now }
     requires utf8 { IsUtf8 (drop at text.now) }
     ensures { result ≡ width_of (has class) (chars (drop at text.now)) }
@@ -63,14 +42,11 @@ pub(crate) fn end_of(text: &str, from: usize, class: Class) -> usize
     if let Class::Plain = class {
         return end_of_plain(text, from);
     }
-    let width = width_at(text, from, class);
-    if width == 0 {
-        return from;
-    }
-    end_of_run(text, from + width, class)
+    end_of_run(text, from, class)
 }
 
-/// The same, where it is mostly not empty.
+/// The same, byte by byte, up to a character of several bytes.
+#[inline(always)]
 fn end_of_run(text: &str, from: usize, class: Class) -> usize
     requires within { from ≤ length text.now }
     requires passed_utf8 { IsUtf8 (take from text.now) }
@@ -90,7 +66,7 @@ fn end_of_run(text: &str, from: usize, class: Class) -> usize
     at
 }
 
-/// The same, where it may begin with a character of several bytes.
+/// The same, character by character.
 #[cold]
 fn end_of_wide(text: &str, from: usize, class: Class) -> usize
     requires within { from ≤ length text.now }
