@@ -5,9 +5,6 @@ pub mod Section
 pub mod Lead
 pub mod Attributes
 pub mod Lists
-pub mod Pieces
 pub mod Dictionary
 pub mod PartSteps
-pub mod Parts
-pub mod PartsFound
 pub mod Body

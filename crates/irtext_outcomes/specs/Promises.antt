@@ -1,8 +1,7 @@
--- What a caller is told of a root, of an operation in it, and of its section.
+-- What a caller is told of a root and of its section.
 pub mod Supported
 pub mod Root
 pub mod PrintedBack
 pub mod KeptRoot
 pub mod LocationsBack
 pub mod Section
-pub mod Operation

@@ -10,9 +10,9 @@ use Rattle.irtext_base.specs.Answers.{Outcome, Read, Missing, Bad, mapped}
 use Rattle.irtext_base.proofs.Along.{front_after}
 use Rattle.irtext_base.proofs.Sincere.{Of, of_read, of_missing, of_either, of_followed, of_mapped, not_failed, first_of_text}
 use Rattle.irtext_read.specs.AttrTexts.{leads, given_name_at, names_at, given_names_at, ident_at, attr_at}
-use Rattle.irtext_read.specs.Demanded.{spaced_at, index_at, symbol_at, braces_at}
+use Rattle.irtext_read.specs.Demanded.{spaced_at, index_at}
 use Rattle.irtext_read.specs.Infix.{Reader, ◌▷◌, ◌◁◌, ◌▶◌, ◌⇒◌, either}
-use Rattle.irtext_read.specs.Integers.{unsigned_below, signed_below, int_at, bool_at}
+use Rattle.irtext_read.specs.Integers.{unsigned_below, signed_below}
 use Rattle.irtext_read.specs.ListOutcomes.{or_empty, item_after, items_after, separated_at}
 use Rattle.irtext_read.specs.QuotedTexts.{quoted_at}
 use Rattle.irtext_read.specs.Tokens.{space_at, word_at, word, number_at, integer_at, id_at, id_with}
@@ -60,9 +60,6 @@ of_unmapped text see (Read x taken rest) h = record { says = h.says }
 of_unmapped text see (Missing cause) h = record { says = h.says }
 of_unmapped text see (Bad cause upto) h = record { says = h.says }
 
-pub honest_int : (below : Bool → ℕ) → Honest (int_at below)
-honest_int below = record { of = of_int below }
-
 pub honest_number : Honest number_at
 honest_number = record { of = λ text. of_unmapped text pos (number_at text) (subst (Of text) (number_is text) (of_int (unsigned_below 64) text)) }
 
@@ -72,10 +69,6 @@ honest_integer = record { of = λ text. subst (Of text) (integer_is text) (of_in
 pub honest_id : Honest id_at
 unfolding id_at
 honest_id = ◌so◌ (honest_name AnOperation) (λ dialect. ◌then◌ (honest_word (codes ".")) (seen (id_with dialect) (honest_name _)))
-
-pub honest_bool : Honest bool_at
-unfolding bool_at
-honest_bool = honest_either (begins (the 116)) (seen _ (honest_word (codes "true"))) (honest_either (begins (the 102)) (seen _ (honest_word (codes "false"))) (record { of = λ text. of_missing text _ refl }))
 
 pub honest_quoted : Honest quoted_at
 honest_quoted = record { of = of_quoted }
@@ -103,12 +96,6 @@ honest_spaced w = ◌then◌ honest_space (◌then◌ (honest_word w) honest_spa
 
 pub honest_index : Honest index_at
 honest_index = ◌then◌ (honest_word (codes "!")) honest_number
-
-pub honest_symbol : Honest symbol_at
-honest_symbol = ◌then◌ (honest_word (codes "@")) (honest_name _)
-
-pub honest_braces : Honest braces_at
-honest_braces = ◌then◌ (honest_word (codes "{")) (◌then◌ honest_space (honest_word (codes "}")))
 
 -- ---- attributes
 pub honest_given_name : Honest given_name_at

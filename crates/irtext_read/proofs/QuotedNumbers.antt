@@ -1,7 +1,6 @@
 -- The numbers that hexadecimal digits write, and the characters of numbers.
-use Rattle.std.proofs.Common.{◌≡◌, ℕ, ◌^◌, ◌<◌, true, false, cond, ltb, Some, None, [], ◌++◌, codes, refl, sym, ◌∙◌, ap, arith}
+use Rattle.std.proofs.Common.{◌≡◌, ℕ, ◌^◌, true, false, cond, ltb, Some, None, [], ◌++◌, codes, refl, sym, ◌∙◌, ap, arith}
 use Rattle.std.proofs.lemmas.Bool.Decides.{nat_tests}
-use Rattle.std.specs.Char.{is_ascii_hexdigit, digit_value}
 use Rattle.std.specs.Str.Parse.{digits_value}
 use lib.Utf8.{scalar}
 use Rattle.irtext_base.specs.Text.{Text}
@@ -9,10 +8,6 @@ use Rattle.irtext_base.specs.Faults.{BadUnicodeEscape}
 use Rattle.irtext_base.specs.Answers.{Outcome, Read, Bad}
 use Rattle.irtext_read.specs.QuotedTexts.{character_of, named}
 use Rattle.irtext_read.specs.Digits.{fitting, value_in}
-
--- the value of a hexadecimal digit
-pub hexdigit_below : (c : ℕ) → is_ascii_hexdigit c ≡ true → digit_value c < 16
-hexdigit_below c e = grind (arith, nat_tests)
 
 -- a number that doesn't fit is no character's
 no_scalar : (n : ℕ) → ltb n (2 ^ 64) ≡ false → scalar n ≡ false

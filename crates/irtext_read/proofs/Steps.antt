@@ -20,17 +20,6 @@ prefixed-none (Read x taken rest) = refl
 prefixed-none (Missing cause) = refl
 prefixed-none (Bad cause upto) = refl
 
--- what is demanded stands there, or it is bad
-demanded-demanded : {X : Type 0} (o : Outcome X) → demanded (demanded o) ≡ demanded o
-demanded-demanded (Read x taken rest) = refl
-demanded-demanded (Missing cause) = refl
-demanded-demanded (Bad cause upto) = refl
-
-prefixed-demanded : {X : Type 0} (t : Text) (o : Outcome X) → prefixed t (demanded o) ≡ prefixed t o
-prefixed-demanded t (Read x taken rest) = refl
-prefixed-demanded t (Missing cause) = ap (Bad cause) (append-nil t)
-prefixed-demanded t (Bad cause upto) = refl
-
 -- a value seen by a function is read, and then nothing
 pub mapped_is_followed : {X Y : Type 0} (f : X → Y) (o : Outcome X) → mapped f o ≡ followed o (λ x t. Read (f x) [] t)
 mapped_is_followed f (Read x taken rest) = ap (λ z. Read (f x) z rest) (sym (append-nil taken))

@@ -15,7 +15,3 @@ index_at = word (codes "!") ▷ number_at
 -- `@` and a name
 abbrev pub symbol_at : Reader Text
 symbol_at = word (codes "@") ▷ identifier_at
-
--- a region without blocks
-abbrev pub braces_at : Reader Unit
-braces_at = word (codes "{") ▷ space_at ▷ word (codes "}")

@@ -1,8 +1,8 @@
 -- What a text is to a list, where it is known what it is to the item.
-use Rattle.std.specs.Prelude.{◌≡◌, ℕ, ◌<◌, false, List, [], ◌∷◌, ◌++◌, length}
+use Rattle.std.specs.Prelude.{◌≡◌, ℕ, false, List, [], ◌∷◌, ◌++◌}
 use Rattle.irtext_base.specs.Text.{Text, begins, after_space}
 use Rattle.irtext_base.specs.Reading.{the}
-use Rattle.irtext_base.specs.Faults.{Fault, EmptyItem}
+use Rattle.irtext_base.specs.Faults.{Fault}
 use Rattle.irtext_base.specs.Answers.{Outcome, Read, Missing, Bad}
 use Rattle.irtext_read.specs.Lists.{spaces}
 
@@ -13,13 +13,6 @@ item_before x taken (Missing cause) = Missing cause
 item_before x taken (Bad cause upto) = Bad cause (taken ++ upto)
 
 module _ {X : Type 0} (R : Text → Outcome X → Type 0) where
-  -- Items with white space after each, until one is missing, where this is what a text is to the item.
-  pub data ItemsAt : Text → Outcome (List X) → Type 0 where
-    none_more : (text : Text) (cause : Fault) → R text (Missing cause) → ItemsAt text (Read [] [] text)
-    one_bad : (text : Text) (cause : Fault) (upto : Text) → R text (Bad cause upto) → ItemsAt text (Bad cause upto)
-    one_empty : (text : Text) (x : X) (rest : Text) → R text (Read x [] rest) → ItemsAt text (Bad EmptyItem [])
-    one_more : (text : Text) (x : X) (taken rest : Text) (o q : Outcome (List X)) → R text (Read x taken rest) → 0 < length taken → ItemsAt (after_space rest) o → q ≡ item_before x (taken ++ spaces rest) o → ItemsAt text q
-
   -- Separators and items that must stand, as long as a separator follows, with white space after each.
   pub data TailAt (sep : ℕ) : Text → Outcome (List X) → Type 0 where
     ended : (text : Text) → begins (the sep) text ≡ false → TailAt sep text (Read [] [] text)

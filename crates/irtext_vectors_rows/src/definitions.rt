@@ -1,25 +1,21 @@
 //! What the definitions say of worked texts, trees, graphs and formats. Each function does nothing: its contract is a row that
 //! is computed.
-ghost use Rattle.std.specs.Prelude.{◌≡◌, ◌==◌, ℕ, List, [], ◌∷◌, ◌++◌, codes, length, pos, Some, None, true, false};
-ghost use Rattle.irtext_base.specs.Answers.{Bad, Read};
-ghost use Rattle.irtext_base.specs.Faults.{Unexpected, Word};
-ghost use Rattle.irtext_base.specs.Faults as fault;
+ghost use Rattle.std.specs.Prelude.{◌≡◌, ℕ, List, [], ◌∷◌, ◌++◌, codes, length, pos, Some, None, true};
 ghost use Rattle.irtext_base.specs.Format as format;
-ghost use Rattle.irtext_base.specs.Locations as seen;
-ghost use Rattle.irtext_base.specs.Locations.{fused, location, no_location, src_pos};
+ghost use Rattle.irtext_base.specs.Locations.{location, src_pos};
 ghost use Rattle.irtext_base.specs.Text.{after_space, column_behind, line_behind};
 ghost use Rattle.irtext_base.specs.declared.location.Source.TheVariants.{InMemory};
 ghost use Rattle.irtext_vectors_rows.specs.Demo.{counted_demo, demo, inline_printing, isolated, labelled_printing, plain_printing};
 ghost use Rattle.irtext_vectors_rows.specs.Formats.{Breaks, Kept};
 ghost use Rattle.irtext_vectors_rows.specs.Graphs.{global_pointer, one_note_twice, two_branches, use_before_definition};
 ghost use Rattle.irtext_vectors_rows.specs.Located.{note_on_line_one, text_locations, up_to_bracket};
-ghost use Rattle.irtext_vectors_rows.specs.LocationRows.{note_at, place};
+ghost use Rattle.irtext_vectors_rows.specs.LocationRows.{place};
 ghost use Rattle.irtext_vectors_rows.specs.Sections.{dictionary_behind, early_and_marked, early_built, for_item, note_and_location, note_nine, wrong_behind, wrong_names};
 ghost use Rattle.irtext_vectors_rows.specs.Trees as trees;
 ghost use Rattle.irtext_vectors_rows.specs.Trees.{empty_block, failure, marked, only_modules, wrong};
 ghost use Rattle.irtext_grammar.specs.Grammar.Reads.{reads};
 ghost use Rattle.irtext_grammar.specs.Grammar.Section.{of_once};
-ghost use Rattle.irtext_grammar.specs.Grammar.Tree.{Tree, ident, own};
+ghost use Rattle.irtext_grammar.specs.Grammar.Tree.{Tree, own};
 ghost use Rattle.irtext_grammar.specs.Graphs.Build.{build, put_all};
 ghost use Rattle.irtext_grammar.specs.Graphs.Closed.{Closed, Fit};
 ghost use Rattle.irtext_grammar.specs.Graphs.Graph.{written};
@@ -35,9 +31,6 @@ ghost use Rattle.irtext_grammar.specs.Names.Script as script;
 ghost use Rattle.irtext_grammar.specs.Spelling.SectionEntries.{SmallSection};
 ghost use Rattle.irtext_grammar.specs.Spelling.Spell.{spelled};
 ghost use Rattle.irtext_outcomes.specs.Promises.Root.{location_of};
-ghost use Rattle.irtext_outcomes.specs.Readers.Directives.{body_at};
-ghost use Rattle.irtext_outcomes.specs.Readers.Operations.{led_id_at};
-ghost use Rattle.irtext_outcomes.specs.Readers.Section.{entry_at};
 
 /// A module with an empty block: how it is written, and that it reads so.
 pub fn an_empty_block()
@@ -192,19 +185,6 @@ pub fn premises_of_a_section()
 pub fn lines_and_columns()
     ensures beginning { (line_behind [] ≡ 1) × (column_behind [] ≡ 1) }
     ensures second_line { (line_behind (codes "ab\nc") ≡ 2) × (column_behind (codes "ab\nc") ≡ 2) }
-{}
-
-/// What a module's format reads behind its id: whole; without the brace bad behind the last character; where it isn't isolated bad
-/// at the region. An id of an unknown dialect is bad where it begins, and an entry of another index is unknown where it begins.
-pub fn what_readers_answer()
-    ensures module { body_at note_at true (format.custom (format.header ∷ format.region 0 ∷ [])) (codes " @m {}")
-        ≡ Read (record { attributes = (format.sym_name_key, ident (codes "m")) ∷ []; regions = 1 }) (codes " @m {}") [] }
-    ensures open { body_at note_at true (format.custom (format.header ∷ format.region 0 ∷ [])) (codes " @m {") ≡ Bad (Unexpected None (Word (codes "}"))) (codes " @m {") }
-    ensures not_isolated { body_at note_at false (format.custom (format.header ∷ format.region 0 ∷ [])) (codes " @m {}") ≡ Bad fault.NotIsolated (codes " @m ") }
-    ensures no_dialect { led_id_at [] (codes " builtin.module") ≡ Bad (fault.UnregisteredDialect (codes "builtin")) (codes " ") }
-    ensures entry { entry_at note_at (λ i. i == 5) (codes "!5 = @[<in-memory>: line: 7, column: 3], []") ≡ Read (5, Some (place None 7 3)) (codes "!5 = @[<in-memory>: line: 7, column: 3], []") [] }
-    ensures nested { entry_at note_at (λ i. i == 5) (codes "!5 = @[fused<note>[?]], []") ≡ Read (5, Some (fused (Some (seen.own tt)) (location seen.unknown no_location))) (codes "!5 = @[fused<note>[?]], []") [] }
-    ensures unknown { entry_at note_at (λ i. i == 0) (codes "!1 = []") ≡ Bad (fault.UnknownIndex 1) [] }
 {}
 
 /// The place one character before the end of two lines stands in the second.

@@ -91,9 +91,6 @@ module _ {T A : Type 0} (C : Printing T A) where
         ∙ ap (or_else (passing (outlined C) (lookup key es))) (lookup_put_all key [] (shown ++ read_names names)
         ∙ ap (λ o. or_else o None) (last_both key shown (read_names names) ∙ ap (or_else (last_of key (read_names names))) (last_passing inlined es shown p key))))
 
-    abbrev After : Text → Option (Attribute A) → Option (Attribute A) → Option (Attribute A)
-    After key named o = or_else (passing (outlined C) o) (or_else (or_else named (passing inlined o)) None)
-
     unnamed : (o : Option (Attribute A)) → or_else (passing (outlined C) o) (or_else (passing inlined o) None) ≡ o
     unnamed None = refl
     unnamed (Some a) = go (outlined C a)

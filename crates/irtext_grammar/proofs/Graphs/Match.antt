@@ -98,9 +98,6 @@ module _ {T A : Type 0} (C : Printing T A) (isolated : Id → Bool) where
     pub same : v ≡ map (fact_as (printed C)) w
     pub small : AllFacts Small w
 
-  abbrev names_of : List (Fact Thing) → List (Fact Text)
-  names_of w = map (fact_as (printed C)) w
-
   -- of the blocks of a region
   pub record Inside (x : Script Text ⊤) (y : Script Thing ⊤) : Type 0 where
     pub values : Scoped (facts same_text x).values (facts same_thing y).values

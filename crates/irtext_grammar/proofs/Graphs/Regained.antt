@@ -13,9 +13,6 @@ use Rattle.irtext_grammar.specs.Graphs.Closed.{Thing}
 use Rattle.irtext_grammar.specs.Graphs.Same.{stood_op, stood_block, stood_regions, stood_blocks, stood_operations, stood, Locations, SameDictionary, SameLabel, SameOp, SameBlock, UpToFillings}
 use Rattle.irtext_grammar.specs.Graphs.Regained.{HoldsNames, OpNamed, BlockNamed, Named, EqualDictionary, EqualOp, EqualBlock, UpToPositions}
 
-no_some : {X : Type 0} (x : X) → None ≡ Some x → ⊥
-no_some x e = cc
-
 -- names that are there are not filled in
 nothing_filled : {Y A : Type 0} (things : List Y) (name : Y → Text) (es fs : List (Text × Attribute A)) → HoldsNames things es → SameDictionary (map name things) es fs → EqualDictionary es fs
 nothing_filled things name es fs h s key = go (s key)

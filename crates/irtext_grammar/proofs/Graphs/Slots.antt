@@ -7,13 +7,13 @@ use Rattle.irtext_base.specs.Format.{same_text}
 use Rattle.irtext_grammar.specs.Grammar.Forest.{Regions, no_regions, region, Blocks, no_blocks, block, Operations, no_operations, operation}
 use Rattle.irtext_grammar.specs.Grammar.Tree as tree
 use Rattle.irtext_grammar.specs.Grammar.Tree.{Name, Mark, Attribute, Piece, Part, Op, Head, Brace, shown, elided, Tree, parts_of, views, in_order, operand_names, successor_labels}
-use Rattle.irtext_grammar.specs.Names.Script.{Path, Place, User, operand, successor, Act, Script, does_all}
+use Rattle.irtext_grammar.specs.Names.Script.{Path, Place, User, operand, successor, Act, does_all}
 use Rattle.irtext_grammar.specs.Names.Script as script
 use Rattle.irtext_grammar.specs.Names.Scopes.{Fact, lookup}
 use Rattle.irtext_grammar.specs.Names.Acts.{value_uses, label_uses, result_definitions, argument_definitions, mark_acts, key_act, entries_if, singles, single_labels, piece_acts, closing_acts, header_acts, Rule, may_hold, block_may_hold}
 use Rattle.irtext_grammar.specs.Graphs.Build.{BuiltOp, BuiltBlock, Built}
 use Rattle.irtext_grammar.proofs.Lists.Sets.{Same, same_refl, same_path, same_then, same_both, same_swap}
-use Rattle.irtext_grammar.proofs.Names.UsesMean.{acts_meant, meant}
+use Rattle.irtext_grammar.proofs.Names.UsesMean.{acts_meant}
 use Rattle.irtext_grammar.proofs.Graphs.PartKinds.{spread_if, chosen, views_chosen, single_operand, operand_list, single_successor, successor_list, Numbered}
 use Rattle.irtext_grammar.proofs.Lists.Numbering.{numbered, own, listed, all_numbered}
 
@@ -73,9 +73,6 @@ module _ (v l : List (Fact Text)) where
 
   abbrev look_label : {P : Type 0} → Name P → Option Place
   look_label n = lookup same_text n.text l
-
-  abbrev M : {P : Type 0} → Script Text P → Uses
-  M x = meant same_text v l x
 
   abbrev M_acts : {P : Type 0} → List (Act Text P) → Uses
   M_acts acts = acts_meant same_text v l acts

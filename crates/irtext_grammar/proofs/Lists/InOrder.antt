@@ -10,11 +10,6 @@ use Rattle.irtext_grammar.specs.Grammar.Tree.{at_place, in_order_from, in_order}
 use Rattle.irtext_grammar.proofs.Graphs.FitsFormat.{and_left, and_right, below}
 use Rattle.irtext_grammar.proofs.Lists.SameText.{same_character, same_itself}
 
--- two ways to ask whether a number is in a list
-pub any_has : (k : ℕ) (ks : List ℕ) → list_any (eqb k) ks ≡ has ◌==◌ k ks
-any_has k [] = refl
-any_has k (i ∷ ks) = ap (λ b. (k == i) || b) (any_has k ks)
-
 or_left : (a b : Bool) → (a || b) ≡ false → a ≡ false
 or_left true b e = e
 or_left false b e = refl

@@ -1,5 +1,5 @@
 -- Numbers in a row: joined, counted, and which are among them.
-use Rattle.std.proofs.Common.{◌≡◌, ℕ, zero, suc, ◌+◌, ◌<◌, ◌≤◌, Bool, true, false, cond, nat_eq, ◌∷◌, ◌++◌, length, refl, ap, ◌∙◌, arith}
+use Rattle.std.proofs.Common.{◌≡◌, ℕ, zero, suc, ◌+◌, ◌<◌, ◌≤◌, Bool, true, false, cond, nat_eq, ◌∷◌, ◌++◌, refl, ap, ◌∙◌, arith}
 use Rattle.std.proofs.lemmas.Bool.Decides.{nat_tests}
 use Rattle.irtext_grammar.specs.Names.Scopes.{is_among}
 use Rattle.irtext_grammar.specs.Spelling.SectionEntries.{numbers}
@@ -12,16 +12,8 @@ numbers_both n (suc a) b =
     let f : suc (a + b) ≡ suc a + b = omega arith in
     ap (λ z. n ∷ z) (ap (λ k. numbers (suc n) a ++ numbers k b) e ∙ numbers_both (suc n) a b) ∙ ap (numbers n) f
 
--- a run has as many numbers as it says
-pub length_numbers : (n k : ℕ) → length (numbers n k) ≡ k
-length_numbers n zero = refl
-length_numbers n (suc k) = ap suc (length_numbers (suc n) k)
-
 differ : (m n : ℕ) → m < n → nat_eq m n ≡ false
 differ m n h = grind (arith, nat_tests)
-
-alike : (n : ℕ) → nat_eq n n ≡ true
-alike n = grind (arith, nat_tests)
 
 -- a number in the row is among it
 pub among_numbers : (i n k : ℕ) → n ≤ i → i < n + k → is_among i (numbers n k) ≡ true

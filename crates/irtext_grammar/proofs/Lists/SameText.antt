@@ -47,5 +47,3 @@ same_text-bytes_eq [] [] = refl
 same_text-bytes_eq [] (d ∷ t) = refl
 same_text-bytes_eq (c ∷ s) [] = refl
 same_text-bytes_eq (c ∷ s) (d ∷ t) = rw (same_text-bytes_eq s t) refl
-
-pub ruleset texts = same_text-bytes_eq

@@ -37,10 +37,6 @@ both {xs = xs} {ys = ys} {v = v} {l = l} {f = f} {g = g} p q = record {
       (same_path _ _ (ap (λ z. z ++ ((bound_in l f.labels ++ bound_in l g.labels) ++ (f.bound ++ g.bound))) (sym (bound-append v f.values g.values)) ∙ ap (λ z. bound_in v (f.values ++ g.values) ++ (z ++ (f.bound ++ g.bound))) (sym (bound-append l f.labels g.labels)))));
 }
 
--- nothing beside
-beside : {ys : List (User × Place)} {v l : List Fact} {f g : Facts} → Spreads [] v l f → Spreads ys v l g → Spreads ys v l (f ⊕ g)
-beside p q = both p q
-
 none : (v l : List Fact) → Spreads [] v l nothing
 none v l = record { so = same_refl [] }
 

@@ -1,23 +1,13 @@
 -- What is done then follows: the events of a part and of what comes after it are joined.
-use Rattle.std.proofs.Common.{◌≡◌, ℕ, suc, Bool, List, [], ◌∷◌, ◌++◌, refl, sym, ap, ◌∙◌, append_assoc}
+use Rattle.std.proofs.Common.{◌≡◌, ℕ, suc, Bool, List, [], ◌∷◌, refl, ap, ◌∙◌}
 use Rattle.std.specs.Prelude.{⊤}
 use Rattle.irtext_base.specs.Text.{Text}
-use Rattle.irtext_grammar.specs.Grammar.Forest.{Regions, no_regions, region, Operations, no_operations, operation}
+use Rattle.irtext_grammar.specs.Grammar.Forest.{Regions, no_regions, region}
 use Rattle.irtext_grammar.specs.Grammar.Tree as tree
 use Rattle.irtext_base.specs.Format.{Id}
 use Rattle.irtext_grammar.specs.Grammar.Tree.{Part, Op, Head, Brace, shown, elided, parts_of}
-use Rattle.irtext_grammar.specs.Names.Script.{Path, Act, Script, done, does, within, does_all, follow}
-use Rattle.irtext_grammar.specs.Names.TextScopes as text
-use Rattle.irtext_grammar.specs.Names.History.{act, enter, leave, events}
-use Rattle.irtext_grammar.specs.Names.Acts.{piece_acts, all_of, parts_script, closing_acts, operation_script, region_script, region_scripts, blocks_script, operations_script, singles, single_labels}
-
--- the events of one script and then another, joined
-pub events_follow : (x y : text.Script) → events (follow x y) ≡ events x ++ events y
-events_follow done y = refl
-events_follow (does a k) y = ap (λ z. act a ∷ z) (events_follow k y)
-events_follow (within iso p body k) y =
-    ap (λ z. (enter iso ∷ (events body ++ leave iso p ∷ [])) ++ z) (events_follow k y)
-    ∙ sym (append_assoc (enter iso ∷ (events body ++ leave iso p ∷ [])) (events k) (events y))
+use Rattle.irtext_grammar.specs.Names.Script.{Path, Act, Script, does, does_all, follow}
+use Rattle.irtext_grammar.specs.Names.Acts.{piece_acts, all_of, parts_script, closing_acts, operation_script, region_script, region_scripts, blocks_script, singles, single_labels}
 
 module _ {P : Type 0} where
   does_follow : (xs : List (Act Text P)) (x y : Script Text P) → does_all xs (follow x y) ≡ follow (does_all xs x) y
@@ -56,10 +46,3 @@ module _ {P T A : Type 0} where
     pub regions_follow : (p : Path) (j : ℕ) (iso : Bool) (rs : Regions (Op P T A) (Head P T A) (Brace P)) → AllFollow (region_scripts isolated p j iso rs)
     regions_follow p j iso no_regions = tt
     regions_follow p j iso (region b bs rs) = ((λ x y. region_follow iso b (blocks_script isolated (j ∷ p) 0 bs) x y), regions_follow p (suc j) iso rs)
-
-    -- so does that of a block's operations
-    pub operations_follow : (p : Path) (i : ℕ) (os : Operations (Op P T A) (Head P T A) (Brace P)) (x y : Script Text P) → operations_script isolated p i os (follow x y) ≡ follow (operations_script isolated p i os x) y
-    operations_follow p i no_operations x y = refl
-    operations_follow p i (operation o rs os) x y =
-        ap (operation_script (i ∷ p) o (region_scripts isolated (i ∷ p) 0 (isolated o.id) rs)) (operations_follow p (suc i) os x y)
-        ∙ operation_follow (i ∷ p) o (region_scripts isolated (i ∷ p) 0 (isolated o.id) rs) (operations_script isolated p (suc i) os x) y (regions_follow (i ∷ p) 0 (isolated o.id) rs)

@@ -272,17 +272,3 @@ rebound (x ∷ F) b c (Err y) s d = d
 -- the same, with what is still open at the end
 pub reads_bound : (x : Script) → AgreesWith (failures no_scope x) (bound_all x) (read (Ok fresh_tracker) (events x))
 reads_bound x = rebound (failures no_scope x) (facts x).bound (bound_all x) (read (Ok fresh_tracker) (events x)) (same_flip (bound_same x)) (reads x)
-
--- once a front of the events fails, whatever follows fails alike
-read-failed : (f : Failure) (es : List Event) → read (Err f) es ≡ Err f
-read-failed f [] = refl
-read-failed f (e ∷ es) = read-failed f es
-
--- events are read one list after the other
-pub read-append : (r : Result Tracker Failure) (es fs : List Event) → read r (es ++ fs) ≡ read (read r es) fs
-read-append r [] fs = refl
-read-append r (e ∷ es) fs = read-append (do_next r e) es fs
-
--- what fails at the front of the events fails
-pub failed_front : (r : Result Tracker Failure) (es fs : List Event) (f : Failure) → read r es ≡ Err f → read r (es ++ fs) ≡ Err f
-failed_front r es fs f h = read-append r es fs ∙ (ap (λ q. read q fs) h ∙ read-failed f fs)

@@ -8,7 +8,6 @@ use Rattle.irtext_base.specs.Own.{Texts, Language, language, unplaced, Lawful, U
 use Rattle.irtext_grammar.specs.Grammar.Tree.{Tree}
 use Rattle.irtext_grammar.specs.Grammar.Bare.{bare}
 use Rattle.irtext_grammar.specs.Spelling.Spellable.{Each}
-use Rattle.irtext_grammar.specs.Spelling.Writable.{Writable, Behind}
 use Rattle.irtext_grammar.specs.Spelling.Spell.{spelled}
 use Rattle.irtext_grammar.specs.Graphs.Graph as graph
 use Rattle.irtext_grammar.specs.Graphs.Graph.{Graph, Printing, written, entries_of, shared}
@@ -20,8 +19,6 @@ use Rattle.irtext_grammar.specs.Grammar.Marked.{marked, section_if, reads_root}
 use Rattle.irtext_grammar.specs.Graphs.Same.{Locations}
 use Rattle.irtext_grammar.specs.Spelling.SectionEntries.{bare_section, written_section, SmallSection}
 use Rattle.irtext_base.proofs.Characters.{after_twice}
-use Rattle.irtext_grammar.proofs.Grammar.BackTree as back
-use Rattle.irtext_grammar.proofs.Grammar.Placed as placed
 use Rattle.irtext_grammar.proofs.Sections.Back.{IsSpellableEntryOf, found_section}
 use Rattle.irtext_grammar.proofs.Sections.Marked.{is_some_list, marked_bare, marked_written}
 
@@ -64,14 +61,3 @@ module _ {T A X : Type 0} (types : Texts T) (owns : Texts A) (types_law : Lawful
       let m : is_some_list all ≡ marked r.0 = marked_written C g ∙ (ap marked (sym r.3) ∙ marked_bare r.0) in
       let s = section_behind r.0 all r.1 m r.4 small items in
       (r.0, s.0, s.1, (r.1, r.2, s.2), r.3, s.3, s.4)
-
-  tree_back : (t : Tree ⊤ T A) (width n : ℕ) (f : Text) → Writable B t → Behind t.own.mark f → TreeRead t (spelled B width n t ++ f) f
-  tree_back t width n f fine behind =
-      let r = back.reads_back B types_law owns_law unreserved (λ p t. tt) width n t f fine behind in
-      let q = placed.placed L length (λ t. refl) t (spelled B width n t ++ f) r.0 r.1 in
-      (q.0, r.0, q.1, q.2, r.2)
-
-  -- the text of a graph whose tree can be written
-  pub root_back : (g : Graph T A) (width n : ℕ) → Writable B (written C None g) → Behind (written C None g).own.mark (section.section B C (entries_of C None g)) → SmallSection C g → AreSpellableItems (entries_of C None g)
-      → RootRead (written C None g) (written_section C (entries_of C None g)) (section.text B C g n width None)
-  root_back g width n fine behind small items = root_behind g width n (tree_back (written C None g) width n (section.section B C (entries_of C None g)) fine behind) small items

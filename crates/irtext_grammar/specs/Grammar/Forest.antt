@@ -28,16 +28,6 @@ abbrev pub regions_list : {O B R : Type 0} → Regions O B R → List (R × Bloc
 regions_list no_regions = []
 regions_list (region r bs rs) = (r, bs) ∷ regions_list rs
 
--- the blocks as a list, each with its operations
-abbrev pub blocks_list : {O B R : Type 0} → Blocks O B R → List (B × Operations O B R)
-blocks_list no_blocks = []
-blocks_list (block b os bs) = (b, os) ∷ blocks_list bs
-
--- the operations as a list, each with its regions
-abbrev pub operations_list : {O B R : Type 0} → Operations O B R → List (O × Regions O B R)
-operations_list no_operations = []
-operations_list (operation o rs os) = (o, rs) ∷ operations_list os
-
 -- Two forests hold the same places, and what stands at one place matches.
 module _ {O B R O' B' R' : Type 0} (SameO : O → O' → Type 0) (SameB : B → B' → Type 0) (SameR : R → R' → Type 0) where
   abbrev mutual

@@ -69,7 +69,3 @@ left_open = scopes.left_open same_text
 -- what is wrong with a script, in reading order
 abbrev pub failures : Scopes → Script → List Failure
 failures = scopes.failures same_text
-
--- what each use of a script means
-abbrev pub bound : List Fact → List Fact → Script → List (User × Place)
-bound = scopes.bound same_text

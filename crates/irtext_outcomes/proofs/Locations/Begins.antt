@@ -64,10 +64,6 @@ location_tests : (text : Text) → begins begins_location text ≡ (begins begin
 location_tests [] = refl
 location_tests (c ∷ text) = refl
 
--- none of these characters, and so no location
-pub nowhere : (text : Text) → begins begins_source text ≡ false → begins (the 102) text ≡ false → begins (the 110) text ≡ false → begins (the 99) text ≡ false → begins (the 63) text ≡ false → begins begins_location text ≡ false
-nowhere text a b c d e = location_tests text ∙ rw (a, b, c, d, e) refl
-
 quoted_begins : (text : Text) → begins (the 34) text ≡ true → is_missing (quoted_at text) ≡ false
 unfolding quoted_at
 quoted_begins text h = missing_followed (text_at (codes "\"") text) (λ mark t. units_at [] t) ∙ word_begins 34 [] text h

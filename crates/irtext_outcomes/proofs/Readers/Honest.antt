@@ -1,19 +1,17 @@
 -- Readers whose outcomes are of their texts: positions, marks, locations, and what a section's entries say.
-use Rattle.std.proofs.Common.{ℕ, Bool, zero, suc, Some, None, [], codes, length, refl, subst}
+use Rattle.std.proofs.Common.{ℕ, Bool, zero, suc, Some, None, [], codes, refl}
 use Rattle.irtext_base.specs.Text.{Text}
-use Rattle.irtext_base.specs.Answers.{Outcome, Read, Missing, Bad, prefixed}
+use Rattle.irtext_base.specs.Answers.{Missing}
 use Rattle.irtext_base.specs.Stream.{first_of}
 use Rattle.irtext_base.specs.Faults.{Unexpected, Demand, ASource, ALocation}
 use Rattle.irtext_base.specs.Locations.{AttrView, fused, named, call_site, unknown, no_location, location}
 use Rattle.irtext_base.specs.Paths.{Written}
-use Rattle.irtext_base.proofs.Sincere.{Of, of_read, of_missing, of_prefixed}
+use Rattle.irtext_base.proofs.Sincere.{of_read, of_missing}
 use Rattle.irtext_read.specs.Infix.{Reader, nothing, either, ◌▷◌, ◌▶◌, ◌⇒◌}
 use Rattle.irtext_read.specs.Tokens.{word}
-use Rattle.irtext_read.proofs.Honest.{Honest, ◌then◌, ◌so◌, seen, honest_either, honest_word, honest_space, honest_spaced, honest_integer, honest_index, honest_quoted}
+use Rattle.irtext_read.proofs.Honest.{Honest, ◌then◌, ◌so◌, seen, honest_either, honest_word, honest_space, honest_spaced, honest_integer, honest_quoted}
 use Rattle.irtext_outcomes.specs.Readers.Positions.{space_at, spaced_at, labelled_at, position_at}
-use Rattle.irtext_outcomes.specs.Readers.Parts.{mark_at}
-use Rattle.irtext_outcomes.specs.Readers.Locations.{WrittenRow, bytes_at, source_at, name_at, place_at, metadata_at, behind_location, row_of, row_at, more_at, fused_at, named_at, call_site_at, kind_at, location_within, more_within, location_at}
-use Rattle.irtext_outcomes.specs.Readers.Section.{entry_location_at, content_at}
+use Rattle.irtext_outcomes.specs.Readers.Locations.{WrittenRow, bytes_at, source_at, name_at, place_at, metadata_at, behind_location, row_at, more_at, fused_at, named_at, call_site_at, kind_at, location_within, more_within}
 
 -- nothing of the text
 pub honest_nothing : {X : Type 0} (x : X) → Honest (nothing x)
@@ -25,8 +23,6 @@ honest_demand : {X : Type 0} (demand : Demand)
 honest_demand demand = record { of = λ text. of_missing text _ refl }
 
 -- ---- marks and positions
-pub honest_mark : Honest mark_at
-honest_mark = honest_either _ (seen _ honest_index) (honest_nothing None)
 
 honest_labelled : (w : Text) → Honest (labelled_at w)
 honest_labelled w = ◌then◌ (honest_word w) (◌then◌ (honest_spaced (codes ":")) honest_integer)
@@ -122,37 +118,3 @@ module _ {P : (X : Type 0) → Reader X → Type 0} (k : Keeps P) where
       pub keeps_more_within : (n : ℕ) → P _ (more_within attr n)
       keeps_more_within zero = k.honest (honest_nothing no_location)
       keeps_more_within (suc n) = keeps_more (keeps_within n) (keeps_more_within n)
-
-module _ {A : Type 0} (inner : Reader (Written A)) (more : Reader (WrittenRow A)) where
-  of_row : ((l : Written A) → Honest (behind_location inner more l)) → (o : Outcome (Written A)) (text : Text)
-      → Of text o → Of text (row_of inner more o text)
-  of_row h (Read l taken rest) text o =
-      subst (λ z. Of z (prefixed taken (behind_location inner more l rest))) o.says
-      (of_prefixed taken rest (behind_location inner more l rest) ((h l).of rest))
-  of_row h (Missing cause) text o = of_read text no_location [] text refl
-  of_row h (Bad cause upto) text o = record { says = o.says }
-
-honest_keeps : Keeps (λ X f. Honest f)
-honest_keeps = record {
-  honest = λ h. h;
-  follows = ◌so◌;
-  sees = seen;
-  one_of = honest_either;
-  row = λ inner more i h. record { of = λ text. of_row inner more h (inner text) text (i.of text) };
-}
-
-module _ {A : Type 0} {attr : Reader (AttrView A)} (h : Honest attr) where
-  honest_location : Honest (location_at attr)
-  honest_location = record { of = λ text. (keeps_within honest_keeps h (length text)).of text }
-
-  -- ---- what an entry says
-  honest_entry_location : Honest (entry_location_at attr)
-  honest_entry_location = honest_either _
-      (◌then◌ (honest_word (codes "@[")) (◌then◌ honest_space (◌so◌ honest_location (λ l.
-      ◌then◌ (honest_spaced (codes "]")) (◌then◌ (honest_word (codes ","))
-      (seen (λ _. Some l) honest_space))))))
-      (honest_nothing None)
-
-  pub honest_content : Honest (content_at attr)
-  honest_content = ◌then◌ (honest_spaced (codes "=")) (◌so◌ honest_entry_location (λ l.
-      ◌then◌ (honest_word (codes "[")) (◌then◌ honest_space (seen _ (honest_word (codes "]"))))))

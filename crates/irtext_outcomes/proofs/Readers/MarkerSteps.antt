@@ -2,7 +2,7 @@
 use Rattle.std.proofs.Common.{◌≡◌, ℕ, Bool, true, false, cond, MatchBool, [], ◌∷◌, ◌++◌, refl, sym, ◌∙◌, ap, append_assoc, arith}
 use Rattle.std.specs.Char.{is_whitespace}
 use Rattle.std.proofs.lemmas.Bool.Decides.{nat_tests}
-use Rattle.irtext_base.specs.Text.{Text, begins, front, after_space}
+use Rattle.irtext_base.specs.Text.{Text, front, after_space}
 use Rattle.irtext_base.specs.Reading.{the}
 use Rattle.irtext_base.specs.Stream.{StreamView, behind}
 use Rattle.irtext_base.specs.Answers.{Takes}
@@ -38,16 +38,6 @@ starts_rest (c ∷ word) (d ∷ text) e = go (the c d) refl e (starts_rest word 
 starts_not : (word text : Text) → ((rest : Text) → text ≡ word ++ rest → ⊥) → starts_with word text ≡ false
 starts_not word text h =
     elim (starts_with word text) as (λ b. starts_with word text ≡ b → b ≡ false) [ true ↦ (λ e. let r = starts_rest word text e in absurd (h r.0 r.1)) | false ↦ (λ e. refl) ] refl
-
--- whether a character was accepted says whether it came next
-pub character_accepted : (c : ℕ) (old new : StreamView) (b : Bool) → MatchBool b (Comes (c ∷ []) old (λ v. new ≡ v)) (BeginsOtherwise (c ∷ []) old.rest × (new ≡ old)) → begins (the c) old.rest ≡ b
-character_accepted c old new true h = ap (begins (the c)) h.1 ∙ the-same c
-character_accepted c old new false h = go old.rest h.0
-  where
-    go : (text : Text) → BeginsOtherwise (c ∷ []) text → begins (the c) text ≡ false
-    go [] f = refl
-    go (d ∷ text) f =
-        elim (the c d) as (λ b. the c d ≡ b → b ≡ false) [ true ↦ (λ e. absurd (f text (ap (λ z. z ∷ text) (same_the c d e)))) | false ↦ (λ e. refl) ] refl
 
 module _ {S : Type 0} (view : S → StreamView) (at : S → StreamView → S) where
   module _ (view_at : (s : S) (v : StreamView) → view (at s v) ≡ v) (at_view : (s : S) → at s (view s) ≡ s) (at_at : (s : S) (v w : StreamView) → at (at s v) w ≡ at s w) where

@@ -1,18 +1,14 @@
 -- Outcomes whose cause does not say that the stream had failed, put together.
-use Rattle.std.proofs.Common.{ℕ, zero, suc, Bool, true, false, cond, Option, List, [], ◌∷◌, length}
+use Rattle.std.proofs.Common.{ℕ, zero, suc, Bool, true, false, cond, List, [], ◌∷◌, length}
 use Rattle.irtext_base.specs.Text.{Text, begins, after_space}
 use Rattle.irtext_base.specs.Reading.{the}
-use Rattle.irtext_base.specs.Faults.{Fault, Unexpected, Demand}
+use Rattle.irtext_base.specs.Faults.{Fault}
 use Rattle.irtext_base.specs.Answers.{Outcome, Read, Missing, Bad, prefixed, followed, mapped}
 use Rattle.irtext_read.specs.Infix.{Reader}
 use Rattle.irtext_read.specs.ListOutcomes.{or_empty, item_after, items_after, separated_at}
 pub use Rattle.irtext_read.proofs.Honest.{Spares, NotFailed}
 use Rattle.irtext_read.proofs.Honest.{Honest, never_failed, honest_word}
 use Rattle.irtext_outcomes.specs.Readers.Parts.{behind}
-
--- that something else was expected is another cause
-pub unexpected_fine : (found : Option ℕ) (demand : Demand) → NotFailed (Unexpected found demand)
-unexpected_fine found demand = λ e. absurd (cc)
 
 -- the reading's cause does not say so
 pub record Fine {X : Type 0} (o : Outcome X) : Type 0 where

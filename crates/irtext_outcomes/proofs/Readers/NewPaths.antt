@@ -1,9 +1,7 @@
 -- What reading a location does to a context, one reading behind another: it may keep more paths.
-use Rattle.std.proofs.Common.{◌≡◌, ◌∙◌, ap, refl, ℕ, List}
+use Rattle.std.proofs.Common.{◌∙◌, ap, refl, ℕ}
 use Rattle.irtext_context.specs.Context.{ContextView, KeepsOlder, with_paths}
 use Rattle.irtext_graph.proofs.Made.{same_keeps}
-use Rattle.irtext_base.specs.Paths.{with_path}
-use Rattle.irtext_base.proofs.PathKeys.{paths_stay}
 use Rattle.irtext_outcomes.specs.Readers.NewPaths.{AddsPaths}
 
 module _ {T A : Type 0} where
@@ -22,7 +20,3 @@ module _ {T A : Type 0} where
   -- the paths of one reading and then of another
   pub adds_more : {a b c : ContextView T A} → AddsPaths a b → AddsPaths b c → AddsPaths a c
   adds_more {a} {b} {c} h k = record { kept = λ i p e. k.kept i p (h.kept i p e); rest = k.rest ∙ ap (λ (x : ContextView T A). with_paths x c.paths) h.rest }
-
-  -- one path is kept
-  pub adds_path : (a b : ContextView T A) (path : List ℕ) → b ≡ record a { paths = with_path a.paths path } → AddsPaths a b
-  adds_path a b path e = rw e (record { kept = paths_stay a.paths path; rest = refl })

@@ -1,15 +1,13 @@
 -- For callers: what a root holds so that its text is read back.
-use Rattle.std.specs.Prelude.{◌≡◌, ◌⊎◌, true, IfSome, List, [], ℕ, Option, ⊤}
+use Rattle.std.specs.Prelude.{IfSome, List, ℕ, Option, ⊤}
 use Rattle.irtext_context.specs.Context.{ContextView, OperationView}
-use Rattle.irtext_context.specs.Dialects.{Table}
 use Rattle.irtext_base.specs.Faults.{id_of}
 use Rattle.irtext_base.specs.Locations.{AttrView, src_pos, fused, named, call_site, unknown, LocationsOf, no_location, location}
 use Rattle.irtext_base.specs.Paths.{Written}
-use Rattle.irtext_base.specs.Text.{Text}
 use Rattle.irtext_grammar.specs.Spelling.AttrText.{IsSpellableAttr}
 use Rattle.irtext_grammar.specs.Graphs.ReservedKeys.{KeepsKeys}
 use Rattle.irtext_grammar.specs.Spelling.Spellable.{Each, IsIdentifier}
-use Rattle.irtext_grammar.specs.Contexts.Formats.{isolated, IsAccepted}
+use Rattle.irtext_grammar.specs.Contexts.Formats.{IsAccepted}
 use Rattle.irtext_grammar.specs.Graphs.RoundTrip.{KeysDiffer}
 use Rattle.irtext_grammar.specs.Contexts.Held.{entries_of, location_over}
 use Rattle.irtext_grammar.specs.Graphs.Identifiers.{EntryHasIdentifiers}
@@ -42,7 +40,3 @@ pub record IsKept {T A : Type 0} (ctx : ContextView T A) (op : OperationView T A
   pub fits : AllFit (location_over ctx.paths op.loc)
   pub holds : AllHold IsSpellableAttr (location_over ctx.paths op.loc)
   pub accepted : IsAccepted ctx.dialects (id_of op.id)
-
--- a root that can be read alone: it is isolated, or has no region
-abbrev pub StandsAlone : {T A : Type 0} → List (Text × Table) → OperationView T A → Type 0
-StandsAlone dialects op = (op.regions ≡ []) ⊎ (isolated dialects (id_of op.id) ≡ true)

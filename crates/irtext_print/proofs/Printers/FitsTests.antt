@@ -1,31 +1,16 @@
 -- What the tests of formats and of attributes say, in the words of the definitions.
-use Rattle.std.proofs.Common.{◌≡◌, ◌∙◌, zero, suc, ◌==◌, ◌&&◌, ◌||◌, ◌++◌, not, Bool, true, false, cond, ℕ, List, [], ◌∷◌, map, refl, sym, ap, arith}
+use Rattle.std.proofs.Common.{◌≡◌, ◌∙◌, suc, ◌==◌, ◌||◌, ◌++◌, not, Bool, true, false, cond, ℕ, List, [], ◌∷◌, refl, sym, ap, arith}
 use Rattle.std.proofs.lemmas.Bool.Decides.{nat_tests}
-use Rattle.std.specs.List.{list_any, list_all}
+use Rattle.std.specs.List.{list_any}
 use Rattle.irtext_base.specs.Text.{Text}
 use Rattle.irtext_base.specs.Format as format
 use Rattle.irtext_base.specs.Format.{Directive, count, keys, has, same_text, is_header, sym_name_key}
 use Rattle.irtext_grammar.specs.Graphs.Graph.{Printing, written_keys}
 use Rattle.irtext_print.specs.Printers.PieceText.{is_key_written}
 
--- a test of all values of a list
-pub all_mapped : {X Y : Type 0} (test : Y → Bool) (f : X → Y) (xs : List X) → list_all (λ x. test (f x)) xs ≡ list_all test (map f xs)
-all_mapped test f [] = refl
-all_mapped test f (x ∷ xs) = ap (λ b. test (f x) && b) (all_mapped test f xs)
-
--- two tests that say the same of each value
-pub all_alike : {X : Type 0} (p q : X → Bool) → ((x : X) → p x ≡ q x) → (xs : List X) → list_all p xs ≡ list_all q xs
-all_alike p q h [] = refl
-all_alike p q h (x ∷ xs) = ap (λ b. b && list_all p xs) (h x) ∙ ap (λ b. q x && b) (all_alike p q h xs)
-
 -- what is counted once is not 0
 pub counted : (n : ℕ) → (suc n == 0) ≡ false
 counted n = grind (arith, nat_tests)
-
--- what is not 0
-pub not_zero : (n : ℕ) → (n ≡ 0 → ⊥) → (n == 0) ≡ false
-not_zero zero h = absurd (h refl)
-not_zero (suc n) h = counted n
 
 -- one directive passes where some are counted
 pub any_count : (test : Directive → Bool) (ds : List Directive) → list_any test ds ≡ not (count test ds == 0)

@@ -1,6 +1,5 @@
 -- What was appended piece by piece, as the text of a location.
-use Rattle.std.proofs.Math.Seq.{drop-cons}
-use Rattle.std.proofs.Common.{◌≡◌, ◌++◌, ◌∙◌, ◌<◌, ◌^◌, ◌+◌, length, get_or, drop, suc, ℕ, Bool, IsTrue, true, false, cond, List, [], ◌∷◌, refl, sym, ap, codes, Option, Some, None, arith}
+use Rattle.std.proofs.Common.{◌≡◌, ◌++◌, ◌∙◌, ◌<◌, ◌^◌, ◌+◌, ℕ, Bool, true, false, cond, List, [], ◌∷◌, refl, sym, ap, codes, Option, Some, None}
 use Rattle.std.proofs.lemmas.List.{append_assoc, append-nil}
 use Rattle.std.proofs.lemmas.Str.{encodes-append, IsAscii-append}
 use Rattle.std.proofs.lemmas.Fmt.{IsAscii-decimal}
@@ -9,12 +8,12 @@ use Rattle.std.specs.Fmt.{decimal}
 use Rattle.std.specs.Int.Signed.{mag}
 use Rattle.std.specs.List.{list_all}
 use Rattle.std.specs.Str.{encode_utf8_all, IsAscii}
-use Rattle.irtext_base.specs.Text.{Text, is_identifier}
+use Rattle.irtext_base.specs.Text.{Text}
 use Rattle.irtext_base.specs.Causes.{position_text}
 use Rattle.irtext_stream.specs.declared.position.SourcePosition.{SourcePosition}
 use Rattle.irtext_print.specs.Errors.Located.{between, framed}
 use Rattle.irtext_grammar.specs.Spelling.Spell.{joined, joined_from, comma}
-use Rattle.irtext_grammar.proofs.Lists.Ascii.{ascii-from, ascii-identifier, ascii-position, encodes-ascii}
+use Rattle.irtext_grammar.proofs.Lists.Ascii.{ascii-from, ascii-position, encodes-ascii}
 
 -- a fixed word
 pub word : (w : Text) → list_all is_ascii w ≡ true → w ≡ encode_utf8_all w
@@ -64,20 +63,6 @@ item_written true t ts now between next all p q h =
     more now next (next ++ encode_utf8_all (joined_from comma ts)) t (joined_from comma ts) (q ∙ ap (λ z. z ++ encode_utf8_all t) (p ∙ append-nil now)) refl ∙ h
 item_written false t ts now between next all p q h =
     worded now between (next ++ encode_utf8_all (joined_from comma ts)) comma (t ++ joined_from comma ts) refl p (more between next (next ++ encode_utf8_all (joined_from comma ts)) t (joined_from comma ts) q refl) ∙ h
-
--- an identifier
-pub name_appended : (name text : Text) (old new : List ℕ) → text ≡ name → IsTrue (is_identifier name) → new ≡ old ++ text → new ≡ old ++ encode_utf8_all name
-name_appended name text old new e i p = p ∙ ap (λ z. old ++ z) (e ∙ sym (encodes-ascii name (ascii-identifier name i)))
-
--- one item more of a list
-pub next_written : {X : Type 0} (texts : List X → List Text) (text : X → Text) → ((x : X) (xs : List X) → texts (x ∷ xs) ≡ text x ∷ texts xs)
-    → (items : List X) (i : ℕ) (x : X) (first : Bool) (now between next all : List ℕ) → i < length items → x ≡ get_or items i x
-    → between ≡ now ++ cond first [] comma → next ≡ between ++ encode_utf8_all (text x)
-    → now ++ encode_utf8_all (left_text first (texts (drop i items))) ≡ all → next ++ encode_utf8_all (left_text false (texts (drop (i + 1) items))) ≡ all
-next_written texts text cons items i x first now between next all l e p q h =
-    let after : suc i ≡ i + 1 = omega arith in
-    let left : texts (drop i items) ≡ text x ∷ texts (drop (i + 1) items) = ap texts (drop-cons items i x l ∙ ap (λ z. z ∷ drop (suc i) items) (sym e) ∙ ap (λ n. x ∷ drop n items) after) ∙ cons x (drop (i + 1) items) in
-    item_written first (text x) (texts (drop (i + 1) items)) now between next all p q (ap (λ z. now ++ encode_utf8_all (left_text first z)) (sym left) ∙ h)
 
 -- a text between two words, if there is one
 pub framed_bytes : (a c : Text) → list_all is_ascii a ≡ true → list_all is_ascii c ≡ true → (known : Option Text) → framed a c known ≡ encode_utf8_all (between a c known)

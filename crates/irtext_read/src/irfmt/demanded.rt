@@ -1,7 +1,7 @@
 //! Tokens that must stand where they are read: a missing one is a committed fault, which leaves the stream failed.
 ghost use Rattle.irtext_base.specs.Faults.{characters};
 ghost use Rattle.irtext_read.specs.Tokens.{text_at, identifier_at, number_at, integer_at};
-ghost use Rattle.irtext_read.specs.Demanded.{spaced_at, index_at, symbol_at, braces_at};
+ghost use Rattle.irtext_read.specs.Demanded.{spaced_at, index_at, symbol_at};
 ghost use Rattle.irtext_read.specs.MustRead.{MustRead};
 ghost use Rattle.irtext_read.specs.Reads.{SparesMemory};
 
@@ -110,13 +110,4 @@ pub fn symbol_demanded<S: CharStream, A>(stream: &mut S) -> ParseResult<Identifi
 {
     text_demanded(stream, "@")?;
     identifier_demanded(stream)
-}
-
-/// Reads the braces of a region without blocks.
-pub fn braces_demanded<S: CharStream, A>(stream: &mut S) -> ParseResult<(), A>
-    ensures { MustRead S.view S.at (λ u. u) braces_at stream.old result stream.new }
-{
-    text_demanded(stream, "{")?;
-    skip_white_space(stream);
-    text_demanded(stream, "}")
 }
