@@ -82,11 +82,6 @@ module _ {T A : Type 0} (c : ContextView T A) where
   behind_new n k os is_new o (inl e) there = absurd (is_new (subst (λ z. IsThere c z) e there))
   behind_new n k os is_new o (inr i) there = first_within k os o i there
 
-  -- what came alone was not there
-  none_within : (n : Object) (os : List Object) → (IsThere c n → ⊥) → (o : Object) → Among o (n ∷ []) → IsThere c o → Among o os
-  none_within n os is_new o (inl e) there = absurd (is_new (subst (λ z. IsThere c z) e there))
-  none_within n os is_new o (inr i) there = absurd i
-
   -- an object that was there is none that came
   not_new : (n : Object) → (IsThere c n → ⊥) → (o : Object) → IsThere c o → Among o (n ∷ []) → ⊥
   not_new n is_new o there (inl e) = is_new (subst (λ z. IsThere c z) e there)
@@ -617,24 +612,3 @@ module _ {T A : Type 0} (IsLocation : Object → ℕ → Location A → Type 0) 
             not_whole = closed_not_whole (TheOperation p) objects whole (apart_head (TheOperation p) objects h.apart) (λ o i. h.not_whole o (inr i));
             apart = apart_tail (TheOperation p) objects h.apart;
           }
-
--- ---- with the block that is open
-module _ {T A : Type 0} (IsLocation : Object → ℕ → Location A → Type 0) (whole : List Object) (root : Option (Ptr Operation)) (formats : Id → Option Format) where
-  abbrev builds : Doing T A (Building T A)
-  builds = building {T = T} {A = A} formats
-
-  -- a block begins behind another, which ends
-  pub heads_next : (old new : ContextView T A) (r : Ptr Region) (before : Ptr BasicBlock) (ats : List (OpenAt T A)) (b : Ptr BasicBlock) (head : Head ℕ T A) (built : Building T A)
-      → HoldsSoFar IsLocation old whole (region_under r (Some before) ∷ ats) root built → BlockCame old new (IsLocation (TheBlock b)) b head → RegionGains old new r b → Spares (TheBlock b ∷ TheRegion r ∷ []) old new
-      → HoldsSoFar IsLocation new (TheBlock before ∷ whole) (region_under r (Some b) ∷ ats) root (builds.heads head built)
-  heads_next old new r before ats b head built h came g s =
-      subst (λ z. HoldsSoFar IsLocation new (TheBlock before ∷ whole) (region_under r (Some b) ∷ ats) root (record { unfinished = z; tree = built.tree })) (begins_behind head built.unfinished)
-      (heads_first IsLocation old new (TheBlock before ∷ whole) root formats r ats b head (record { unfinished = block_ended built.unfinished; tree = built.tree }) (block_ends IsLocation old whole root r before ats built h) came g s)
-
-  -- a region ends, with the block that is open in it
-  pub leaves_with_block : (c : ContextView T A) (iso : Bool) (place : ℕ) (r : Ptr Region) (b : Ptr BasicBlock) (p : Ptr Operation) (own : OwnSoFar T A) (ats : List (OpenAt T A)) (built : Building T A)
-      → HoldsSoFar IsLocation c whole (region_under r (Some b) ∷ operation_under p own ∷ ats) root built
-      → HoldsSoFar IsLocation c (TheRegion r ∷ TheBlock b ∷ whole) (operation_under p own ∷ ats) root (builds.leaves iso place built)
-  leaves_with_block c iso place r b p own ats built h =
-      subst (λ z. HoldsSoFar IsLocation c (TheRegion r ∷ TheBlock b ∷ whole) (operation_under p own ∷ ats) root (record { unfinished = z; tree = built.tree })) (ends_behind place built.unfinished)
-      (leaves_empty IsLocation c (TheBlock b ∷ whole) root formats iso place r p own ats (record { unfinished = block_ended built.unfinished; tree = built.tree }) (block_ends IsLocation c whole root r b (operation_under p own ∷ ats) built h))

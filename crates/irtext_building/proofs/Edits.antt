@@ -149,11 +149,6 @@ module _ {O B T : Type 0} where
   HasAsMany g k (TheBlock b) = ⊤
   HasAsMany g k (TheRegion r) = ⊤
 
-  many_back : (g k : GraphView O B T) (q : Object) → HasAsMany g k q → HasAsMany k g q
-  many_back g k (TheOperation p) m = record { as_many_operands = sym m.as_many_operands; as_many_successors = sym m.as_many_successors }
-  many_back g k (TheBlock b) m = tt
-  many_back g k (TheRegion r) m = tt
-
   many_same : (g k : GraphView O B T) (q : Object) → content k q ≡ content g q → HasAsMany g k q
   many_same g k (TheOperation p) e = same_as_many g k p e
   many_same g k (TheBlock b) e = tt
@@ -253,23 +248,6 @@ module _ {T A : Type 0} (old new : ContextView T A) where
   -- what is alike is spared, and nothing came, but for these
   pub spares_alike : (but : List Object) → ((q : Object) → (Among q but → ⊥) → IsAlike old.graph new.graph q) → Spares but old new
   spares_alike but h = spares_by but (λ q apart. alike_as q (h q apart))
-
-  -- an object is the one, or another
-  is_it : (o : Option Object) (q : Object) → (o ≡ Some q) ⊎ ((o ≡ Some q) → ⊥)
-  is_it None q = inr (λ e. cc)
-  is_it (Some k) q = elim (told object_tells k q) [ inl e ↦ inl (ap Some e) | inr n ↦ inr (λ e. n (some_eq e)) ]
-
-  -- so is all, where it is alike but for one object that was not there, as a placeholder that went or came
-  pub spares_but_one : (o : Option Object) → ((q : Object) → o ≡ Some q → IsThere old q → ⊥) → ((q : Object) → o ≡ Some q → IsThere new q → ⊥) → ((q : Object) → (o ≡ Some q → ⊥) → IsAlike old.graph new.graph q) → Spares [] old new
-  spares_but_one o was is h = record {
-    spared = λ q there apart. alike_as q (h q (λ e. was q e there));
-    brought = λ q there. elim (is_it o q) [ inl e ↦ absurd (is q e there) | inr n ↦ inl (there_before q (alike_as q (h q n)) there) ];
-  }
-
-  -- the same the other way round
-  pub spares_but_new : (o : Option Object) → ((q : Object) → o ≡ Some q → IsThere old q → ⊥) → ((q : Object) → o ≡ Some q → IsThere new q → ⊥) → ((q : Object) → (o ≡ Some q → ⊥) → IsAlike new.graph old.graph q) → Spares [] old new
-  spares_but_new o was is h = spares_but_one o was is
-      (λ q n. let a = h q n in record { contents = sym a.contents; as_many = many_back new.graph old.graph q a.as_many; parents = sym a.parents; lists = sym a.lists })
 
   -- so is what stands under the same pointers
   spares_same : (but : List Object) → ((p : Ptr Operation) → (Among (TheOperation p) but → ⊥) → get new.graph.operations p ≡ get old.graph.operations p)

@@ -54,7 +54,7 @@ module _ {T A : Type 0} (types : Texts T) (owns : Texts A) (formats : Id → Opt
     regions_read (region elided no_blocks rs) ((t, u, a), d) = absurd a
     regions_read (region elided (block h os bs) rs) ((t, u, a), d) = absurd a
 
-    blocks_read : (bs : Blocks (Op ℕ T A) (Head ℕ T A) (Brace ℕ)) → AllUsed (reads.block_readings L bs) → WholeBlocks formats bs
+    pub blocks_read : (bs : Blocks (Op ℕ T A) (Head ℕ T A) (Brace ℕ)) → AllUsed (reads.block_readings L bs) → WholeBlocks formats bs
     blocks_read no_blocks a = tt
     blocks_read (block h os bs) ((t, u, a), d) = (operations_read os (block_used L h (reads.operation_readings L os) t u a), blocks_read bs d)
 

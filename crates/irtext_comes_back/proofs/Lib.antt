@@ -1,5 +1,4 @@
 pub mod Fitting
-pub mod Written
 pub mod Nowhere
 pub mod Back
 pub mod Again

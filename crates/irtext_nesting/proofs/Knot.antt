@@ -7,6 +7,5 @@ pub mod Steps
 pub mod Loops
 pub mod Found
 pub mod Read
-pub mod Roots
 pub mod Whole
 pub mod Formats

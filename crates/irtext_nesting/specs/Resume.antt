@@ -108,22 +108,6 @@ module _ {T A S : Type 0} (dialects : List (Text × Table)) (types_at : Text →
   pub record StuckAt (next : Option (Open T A)) (frames : List (Open T A)) (s : S) (text : Text) (s' : S) (cause : Fault) (place : ℕ) : Type 0 where
     pub so : whole next frames s text ≡ Stuck s' cause place
 
-  -- From this point all is read, up to this rest, and this was done.
-  pub record CameAt (next : Option (Open T A)) (frames : List (Open T A)) (s : S) (text : Text) (s' : S) (rest : Text) : Type 0 where
-    pub so : whole next frames s text ≡ Came tt s' rest
-
-  -- From each state at which the one holds, the loop came to a state at which the other holds.
-  pub record GoesWhere (R : S → Type 0) (next : Option (Open T A)) (frames : List (Open T A)) (text : Text) (R' : S → Type 0) (next' : Option (Open T A)) (frames' : List (Open T A)) (text' : Text) : Type 0 where
-    pub so : (s : S) → R s → (s' : S) × R' s' × Goes next frames s text next' frames' s' text'
-
-  -- From each state at which the one holds, the text is at fault, where a state was come to at which the other holds.
-  pub record StuckWhere (R : S → Type 0) (next : Option (Open T A)) (frames : List (Open T A)) (text : Text) (R' : S → Type 0) (cause : Fault) (place : ℕ) : Type 0 where
-    pub so : (s : S) → R s → (s' : S) × R' s' × StuckAt next frames s text s' cause place
-
-  -- From each state at which this holds, the reading ends in this state.
-  pub record EndsWhere (R : S → Type 0) (next : Option (Open T A)) (frames : List (Open T A)) (text : Text) (s' : S) : Type 0 where
-    pub so : (s : S) → R s → EndsIn s' (whole next frames s text)
-
 -- how much is to be done of what is open, where none of the text is read: of an operation its steps
 abbrev pub weight : {T A : Type 0} → Open T A → ℕ
 weight (to_come inside) = 1

@@ -59,14 +59,6 @@ made_here p op i [] n ms known a = subst (λ j. Among (result p j, Result op j) 
 made_here p op i (m ∷ ns) n ms known a = subst (λ j. Among (result p j, Result op j) known.values) (omega arith) (made_here p op (suc i) ns n ms known a.1)
 
 module _ {O B T : Type 0} where
-  pub no_results : (op : Ptr Operation) (names : NameTracker Value (Ptr BasicBlock)) (g : GraphView (Option O) B T) → DefinesResults op [] names names g g
-  no_results op names g = record { so = none }
-    where
-      none : (ws : List (Name ℕ)) → AreNamed names.names [] ws → (p : Path) (known : Known) (st : State) → AreMadeIn (made_results {X = ℕ} p op 0 []) known → StandsAt names g known [] st
-          → (next : State) × (run (going st) (map act (result_definitions p 0 ws)) ≡ going next) × StandsAt names g known [] next
-      none [] a p known st m s = (st, refl, s)
-      none (w ∷ ws) a p known st m s = absurd a
-
   -- a definition takes no other value away, and no name comes to wait with one
   pub still_ready : (n : ℕ) (v x : Value) (vs vs' : List (Scope Value)) (ls : List (Scope (Ptr BasicBlock))) (g k : GraphView (Option O) B T) → AreTied vs ls g → Defines OfValue vs vs' g k n v
       → IsDefined g (OfValue x) × IsNoPlaceholder vs x → IsDefined k (OfValue x) × IsNoPlaceholder vs' x

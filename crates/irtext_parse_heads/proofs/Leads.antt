@@ -41,10 +41,6 @@ unfolding id_at word_at
 id_there text name b e c = rw (b, e, c) refl
 
 module _ {S : Type 0} (l : Lens S) where
-  -- a stream stands where it stood
-  pub stands_still : (old new : S) → new ≡ old → Stands l.view l.at (l.view old).failed old new
-  stands_still old new e = record { seen = l.view old; is = e ∙ sym (l.at_view old); fails = refl; same = refl }
-
   -- a word was taken, and `.` behind it
   pub record Dotted (old mid : S) : Type 0 where
     pub begun : begins begins_word (l.view old).rest ≡ true
@@ -101,9 +97,6 @@ behind_is (c ∷ lead) o x taken rest e = ap (prefixed (c ∷ lead)) e
 dialect_there : (o : Option Table) (id : OpId) → is_some (option_and_then (λ table. lookup (same_id id) table.entries) o) ≡ true → is_some o ≡ true
 dialect_there None id e = e
 dialect_there (Some table) id e = refl
-
-gives_read : {S X : Type 0} (l : Lens S) (b : Bool) (o : Outcome X) (x y : X) (t r : Text) (old now new : S) → b ≡ false → o ≡ Read x t r → y ≡ x → Takes l.view l.at t r old now → new ≡ now → Gives l.view l.at (unless_failed b o) old y new
-gives_read l b o x y t r old now new f e p k n = rw (f, e, n) (p, k)
 
 module _ {S : Type 0} (dialects : List (Text × Table)) (l : Lens S) where
   found_led : (lead : Text) {i : OpId} (mid now : S) → is_some (registered dialects i) ≡ true → (h : TakesId l.view l.at mid i now) → registered_behind dialects lead (behind lead (id_at (l.view mid).rest)) ≡ Read (id_of i) (lead ++ h.taken) (l.view now).rest

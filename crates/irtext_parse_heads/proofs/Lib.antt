@@ -10,4 +10,3 @@ pub mod EntrySteps
 pub mod PieceSteps
 pub mod FormatSteps
 pub mod FrontSteps
-pub mod FrontTold

@@ -76,10 +76,6 @@ module _ {S X Y : Type 0} (l : Lens S) (item : Text → Outcome X) where
     listing_first x y old fine h = record { items = x ∷ []; each = (h, tt); so_far = found_first 44 item l (x ∷ []) old fine }
 
     module _ {begun : List X} {old now : S} {found : List Y} where
-      -- what stands for something does so in another way
-      pub listing_on : (Other : Y → X → Type 0) → ((y : Y) (x : X) → Means y x → Other y x) → Listing Means begun old now found → Listing Other begun old now found
-      listing_on Other on p = record { items = p.items; each = each_on Means Other on found p.items p.each; so_far = p.so_far }
-
       -- where no separator follows, these are all
       pub listing_all : {A W : Type 0} (MeansAll : W → List X → Type 0) (w : W) → begins (the 44) (l.view now).rest ≡ false → (p : Listing Means begun old now found) → MeansAll w p.items
           → MustMean {A = A} l.view l.at MeansAll (λ t. items_after 44 item (length t) begun t) old (Ok w) now

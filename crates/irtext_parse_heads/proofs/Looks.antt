@@ -1,19 +1,18 @@
 -- What a look for names tells of a text, where nothing is read.
-use Rattle.std.proofs.Common.{◌≡◌, ℕ, Bool, true, false, Result, Ok, Err, Option, Some, None, List, [], ◌∷◌, ◌++◌, codes, refl, sym, ◌∙◌, ap, subst, ◌⊎◌, inl, inr, true≢false}
+use Rattle.std.proofs.Common.{◌≡◌, ℕ, Bool, true, false, Result, Ok, Err, Option, Some, None, List, [], ◌∷◌, ◌++◌, refl, sym, ◌∙◌, ap, subst, ◌⊎◌, inl, inr, true≢false}
 use Rattle.std.specs.Char.{is_whitespace}
 use Rattle.irtext_base.specs.Text.{Text, begins, front, after, begins_word, in_word}
 use Rattle.irtext_base.specs.Reading.{the}
-use Rattle.irtext_base.specs.Stream.{advanced}
 use Rattle.irtext_base.specs.Answers.{Outcome, Read, Missing, Bad, Takes, Gives, Commits, Stands, Starves, StarvesHere, Refuses, demanded, prefixed, mapped, followed, unless_failed}
 use Rattle.irtext_base.specs.declared.parsable.fault.ParseFault.{ParseFault}
 use Rattle.irtext_base.specs.Faults.{Failed}
 use Rattle.irtext_base.proofs.Compose.{starves_after, stands_after, takes_stands, takes_none, seen_after, starves_behind}
 use Rattle.irtext_read.specs.ListOutcomes.{item_after, items_after, or_empty, separated_at}
-use Rattle.irtext_read.specs.MustRead.{MayRead, MustRead}
-use Rattle.irtext_read.specs.Tokens.{space_at, text_at, word_at}
+use Rattle.irtext_read.specs.MustRead.{MayRead}
+use Rattle.irtext_read.specs.Tokens.{space_at, word_at}
 use Rattle.irtext_read.proofs.ListOutcomes.{behind_space}
 use Rattle.irtext_read.proofs.Spelling.{begins_the}
-use Rattle.irtext_read.proofs.Steps.{Lens, Passed, first, took, ends, turned, mapped_is_followed, begins_with, fine_there}
+use Rattle.irtext_read.proofs.Steps.{Lens, Passed, begins_with, fine_there}
 use Rattle.irtext_grammar.specs.Grammar.Tree.{Name}
 use Rattle.irtext_nesting.specs.Heads.{name_at, results_at, named}
 use Rattle.irtext_parse_heads.specs.declared.names.ReadName.{ReadName}
@@ -38,16 +37,6 @@ unread_followed (Read x t r) k e = absurd (true≢false e)
 unread_followed (Missing cause) k e = refl
 unread_followed (Bad cause upto) k e = refl
 
--- a character that does not come next is not read
-unread_text : (c : ℕ) (text : Text) → begins (the c) text ≡ false → is_read (text_at (c ∷ []) text) ≡ false
-unread_text c [] e = refl
-unread_text c (d ∷ text) e = rw e refl
-
-unread_mapped : {X Y : Type 0} (f : X → Y) (o : Outcome X) → is_read o ≡ false → is_read (mapped f o) ≡ false
-unread_mapped f (Read x t r) e = absurd (true≢false e)
-unread_mapped f (Missing cause) e = refl
-unread_mapped f (Bad cause upto) e = refl
-
 -- where no names and `=` stand, there are no results
 pub no_results : (o : Outcome (List (Name ℕ))) (text : Text) → is_read o ≡ false → named o text ≡ Read [] [] text
 no_results (Read x t r) text e = absurd (true≢false e)
@@ -58,10 +47,6 @@ no_results (Bad cause upto) text e = refl
 pub dotted_unread : (text rest : Text) → begins begins_word text ≡ true → after in_word text ≡ 46 ∷ rest → is_read (results_at text) ≡ false
 unfolding word_at
 dotted_unread text rest b e = rw (b, e) refl
-
--- no list is there
-pub list_missing : (text : Text) → is_read (separated_at 44 name_at text) ≡ false → is_read (results_at text) ≡ false
-list_missing text e = unread_followed (separated_at 44 name_at text) (λ x t. mapped (λ _. x) (text_at (codes "=") t)) e
 
 -- no item stands behind the separator
 pub next_unread : (n : ℕ) (found : List (Name ℕ)) (text : Text) → is_read (name_at text) ≡ false → is_read (behind_space 44 name_at n found tt text) ≡ false
@@ -88,12 +73,6 @@ module _ {S : Type 0} (l : Lens S) where
       let v : (l.view mid).rest ≡ after in_word (l.view old).rest = ap (λ w. w.rest) (seen_after l.view l.at l.view_at l.at_at old mid (front in_word (l.view old).rest) (after in_word (l.view old).rest) t) in
       let f = begins_the 46 (l.view mid).rest e in
       dotted_unread (l.view old).rest f.0 b (sym v ∙ f.1)
-
-  named_so : (b : Bool) (o : Outcome (List (Name ℕ))) (text : Text) (old new : S) (x : List (Name ℕ)) → Gives l.view l.at (demanded (unless_failed b o)) old x new → Gives l.view l.at (demanded (unless_failed b (named o text))) old x new
-  named_so true o text old new x h = absurd h
-  named_so false (Read y t r) text old new x h = h
-  named_so false (Missing cause) text old new x h = absurd h
-  named_so false (Bad cause upto) text old new x h = absurd h
 
   begun_unread : (b : Bool) (o : Outcome (List (Name ℕ))) (k : List (Name ℕ) → Text → Outcome (List (Name ℕ))) (text : Text) (old new : S) (x : List (Name ℕ)) → Gives l.view l.at (unless_failed b o) old x new → is_read (followed o k) ≡ false → is_read (or_empty (followed o k) text) ≡ false
   begun_unread true o k text old new x h e = absurd h
@@ -126,12 +105,6 @@ module _ {S A : Type 0} (l : Lens S) where
   pub passed_starves : {V : Type 0} {outcome next : Text → Outcome V} {old mid new : S} {fault : ParseFault A} → Passed l outcome next old mid → Starves l.view l.at mid fault new → Starves l.view l.at old fault new
   passed_starves {old = old} {mid = mid} {new = new} {fault = fault} p h = starves_after l.view l.at l.view_at l.at_at old mid new p.taken (l.view mid).rest fault p.takes h
 
-  -- the results that were read
-  pub results_some : {names : List Text} {old start new : S} {found : List ReadName} → start ≡ old → MustNames {A = A} l.view l.at names results_at start (Ok found) new → MustNames {A = A} l.view l.at names results_if_at old (Ok found) new
-  results_some {names = names} {start = start} {new = new} {found = found} still h =
-      subst (λ s. MustNames {A = A} l.view l.at names results_if_at s (Ok found) new) still
-      (record { meant = h.meant; means = h.means; read = record { answers = named_so l (l.view start).failed (results_at (l.view start).rest) (l.view start).rest start new (h.meant found) h.read.answers } })
-
   -- there are none
   pub results_none : {names : List Text} {old new : S} (found : List ReadName) → found ≡ [] → (l.view old).failed ≡ false → is_read (results_at (l.view old).rest) ≡ false → new ≡ old → MustNames {A = A} l.view l.at names results_if_at old (Ok found) new
   results_none {names = names} {old = old} found none fine e n = record {
@@ -148,20 +121,6 @@ module _ {S A : Type 0} (l : Lens S) where
   pub results_starve : {names : List Text} {old start new : S} {fault : ParseFault A} → start ≡ old → Starves l.view l.at start fault new → MustNames {A = A} l.view l.at names results_if_at old (Err fault) new
   results_starve {names = names} {new = new} {fault = fault} still h =
       subst (λ s. MustNames {A = A} l.view l.at names results_if_at s (Err fault) new) still (record { meant = λ _. []; means = tt; read = record { answers = inl h } })
-
-  -- a list was read, and no `=` comes next
-  pub equals_missing : {Y : Type 0} {see : Y → List (Name ℕ)} {old mid : S} {y : Y} → MustRead {A = A} l.view l.at see (separated_at 44 name_at) old (Ok y) mid → begins (the 61) (l.view mid).rest ≡ false → (is_read (results_at (l.view old).rest) ≡ false) × Stands l.view l.at false old mid
-  equals_missing {see = see} {mid = mid} {y = y} h e =
-      let p = first l (λ x t. mapped (λ _. x) (text_at (codes "=") t)) h in
-      (passed_unread l p (unread_mapped (λ _. see y) (text_at (codes "=") (l.view mid).rest) (unread_text 61 (l.view mid).rest e)), passed_stands l p)
-
-  -- a list was read, and `=` behind it
-  pub equals_there : {names : List Text} {old mid new : S} {found : List ReadName} → MustNames {A = A} l.view l.at names (separated_at 44 name_at) old (Ok found) mid → begins (the 61) (l.view mid).rest ≡ true → new ≡ l.at mid (advanced (l.view mid)) → MustNames {A = A} l.view l.at names results_at old (Ok found) new
-  equals_there {mid = mid} {found = found} h e n =
-      let xs = h.meant found in
-      let p = first l (λ x t. mapped (λ _. x) (text_at (codes "=") t)) h.read in
-      let q = turned l (λ t. followed (text_at (61 ∷ []) t) (λ _ u. Read xs [] u)) (mapped_is_followed (λ _. xs) (text_at (codes "=") (l.view mid).rest)) p in
-      record { meant = λ _. xs; means = h.means; read = ends l (λ _. xs) found (took l 61 (λ _ u. Read xs [] u) q e n) }
 
   -- memory was refused where the stream stands
   pub passed_here : {V : Type 0} {outcome next : Text → Outcome V} {old mid new : S} {fault : ParseFault A} → Passed l outcome next old mid → StarvesHere l.view l.at mid fault new → Starves l.view l.at old fault new

@@ -40,8 +40,6 @@ module _ {T A : Type 0} where
   operations_behind (operation o rs os) more = ap (λ z. (marks_in_regions rs ++ noted_as o.mark o.place) ++ z) (operations_behind os more) ∙ simp append_assoc
 
 -- ---- what is done
-regroup_last : {X : Type 0} (a b c d e : List X) → a ++ (b ++ (((c ++ d) ++ ((e ++ []) ++ [])) ++ [])) ≡ ((a ++ (b ++ (c ++ (d ++ [])))) ++ e)
-regroup_last a b c d e = simp (append_assoc, append-nil)
 
 module _ {T A : Type 0} where
   -- a region has begun, or an operation, and nothing in it

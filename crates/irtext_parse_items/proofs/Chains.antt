@@ -32,7 +32,7 @@ use Rattle.irtext_parse_items.specs.Built.{Built}
 use Rattle.irtext_parse_items.specs.Here.{Base}
 use Rattle.irtext_parse_items.specs.Levels.{Level, next_of, waiting, pledges_of}
 use Rattle.irtext_parse_items.specs.Told.{Did, all_done}
-use Rattle.irtext_parse_items.specs.Turned.{Carries, Remains, IsSoundOnce, Turned, Faulted, at_text, by_names}
+use Rattle.irtext_parse_items.specs.Turned.{Carries, Remains, Turned, Faulted, at_text, by_names}
 use Rattle.irtext_parse_items.proofs.Carrying.{falls_both}
 use Rattle.irtext_parse_items.proofs.Staying.{stay_still, stay_both}
 use Rattle.irtext_parse_items.proofs.Telling.{done_both, goes_told, goes_behind, stuck_behind}
@@ -149,10 +149,6 @@ module _ {T A U : Type 0} where
   -- or where memory is refused behind it
   pub remains_so : {n0 n1 : Names} {s0 s1 : StateStream T A U} → Carries n0 s0 n1 s1 → Remains s0.state s1.state
   remains_so h = record { rest = h.rest; gains = h.gains }
-
-  -- what was sound is so still
-  pub sound_on : {n0 n1 : Names} {s0 s1 : StateStream T A U} → Carries n0 s0 n1 s1 → IsSoundOnce n0 s0.state → IsSoundOnce n1 s1.state
-  sound_on h z = record { since = z.since; past = (let l = z.past in let up = h.lasts.made in omega (arith, l, up)); sound = h.sound z.since z.past z.sound }
 
 -- ---- turns
 module _ {T A U : Type 0} {types_at : Reader T} {attr : Reader (AttrView A)} {dialects : List (Text × Table)} {source : Source} {text : Text} {base : Base} where

@@ -1,5 +1,5 @@
 -- What is open in code and in theory: it lasts, it is pushed and popped, and as much is left to do of the one as of the other.
-use Rattle.std.proofs.Common.{◌≡◌, ◌∙◌, ◌+◌, ◌*◌, ◌<◌, ◌≤◌, ℕ, suc, true, false, List, [], ◌∷◌, ◌++◌, map, drop, length, length-append, Option, Some, None, IsSome, refl, sym, ap, subst, arith}
+use Rattle.std.proofs.Common.{◌≡◌, ◌∙◌, ◌+◌, ◌*◌, ◌≤◌, ℕ, suc, false, List, [], ◌∷◌, ◌++◌, map, drop, length, length-append, Option, Some, None, IsSome, refl, sym, ap, subst, arith}
 use Rattle.std.proofs.lemmas.List.{map_push}
 use Rattle.irtext_base.specs.Text.{Text}
 use Rattle.irtext_base.specs.Faults.{id_of}
@@ -8,7 +8,6 @@ use Rattle.irtext_context.specs.Dialects.{Table}
 use Rattle.irtext_graph.specs.declared.object.Object.TheVariants.{TheOperation, TheBlock, TheRegion}
 use Rattle.irtext_graph.specs.Graph.{GraphView}
 use Rattle.irtext_scopes.specs.Names.{KeepsNames}
-use Rattle.irtext_scopes.specs.Scopes.{Scope, is_open}
 use Rattle.irtext_grammar.specs.Contexts.Formats.{format_of}
 use Rattle.irtext_grammar.specs.Grammar.Tree.{Name, Part}
 use Rattle.irtext_grammar.specs.Names.Acts.{result_types}
@@ -152,8 +151,3 @@ module _ {T A : Type 0} (m : ℕ) (old new : ContextView T A) (lasts : Lasts old
   pub frames_new : (fs : List Frame) → AreNewFrames m old.graph fs → AreNewFrames m new.graph fs
   frames_new [] h = tt
   frames_new (f ∷ fs) h = (frame_new f h.0, frames_new fs h.1)
-
--- ---- scopes
-pub is_some_open : {V : Type 0} (ss : List (Scope V)) → 0 < length ss → is_open ss ≡ true
-is_some_open [] l = absurd (omega (arith, l))
-is_some_open (s ∷ ss) l = refl

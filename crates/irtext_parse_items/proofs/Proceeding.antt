@@ -56,7 +56,7 @@ use Rattle.irtext_parse_items.proofs.Owns.{own_region, begun_region, piece_comes
 use Rattle.irtext_parse_items.proofs.Turning.{with_stream, block_left, operation_in_block, piece_read, region_entered, another_entered, regions_over, root_over, operation_over, block_begun, region_over, base_over}
 use Rattle.irtext_base.specs.Faults.{id_of}
 use Rattle.irtext_parse_items.proofs.Chains.{moved_whole, carries_passed, carries_pass}
-use Rattle.irtext_parse_items.proofs.Levels.{begun_lasts, level_lasts, levels_last, taken_last, left_is, new_ends, new_taken, frame_new, frames_new, is_some_open, theory_pops}
+use Rattle.irtext_parse_items.proofs.Levels.{begun_lasts, level_lasts, levels_last, taken_last, left_is, new_ends, new_taken, frame_new, frames_new, theory_pops}
 
 -- ---- which level is innermost
 module _ {T A : Type 0} where

@@ -44,14 +44,6 @@ demanded_none (Read x taken rest) = refl
 demanded_none (Missing cause) = refl
 demanded_none (Bad cause upto) = refl
 
-demanded_mapped : {X Y : Type 0} (see : X → Y) (o p : Outcome X) → demanded o ≡ demanded p → demanded (mapped see o) ≡ demanded (mapped see p)
-demanded_mapped see o p e = sym (same see o) ∙ (ap (mapped see) e ∙ same see p)
-  where
-    same : {X Y : Type 0} (see : X → Y) (o : Outcome X) → mapped see (demanded o) ≡ demanded (mapped see o)
-    same see (Read x taken rest) = refl
-    same see (Missing cause) = refl
-    same see (Bad cause upto) = refl
-
 module _ {X Y : Type 0} where
   -- two things that are alike where they are demanded, and what follows them
   pub demanded_followed : (o p : Outcome X) (k : X → Text → Outcome Y) → demanded o ≡ demanded p → demanded (followed o k) ≡ demanded (followed p k)
@@ -95,12 +87,6 @@ pub followed_nothing : {X : Type 0} (o : Outcome X) → followed o (λ x t. Read
 followed_nothing (Read x taken rest) = ap (λ z. Read x z rest) (append-nil taken)
 followed_nothing (Missing cause) = refl
 followed_nothing (Bad cause upto) = refl
-
--- what is not missing is what is demanded
-demanded_there : {X : Type 0} (o : Outcome X) → is_missing o ≡ false → demanded o ≡ o
-demanded_there (Read x taken rest) e = refl
-demanded_there (Missing cause) e = absurd (true≢false e)
-demanded_there (Bad cause upto) e = refl
 
 -- one location more, in the middle of a row
 joined_one : {S A : Type 0} (row more : LocationsOf S A) (l : LocationOf S A) → joined_rows (with_one row l) more ≡ joined_rows row (location l more)

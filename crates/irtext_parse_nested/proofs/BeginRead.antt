@@ -4,9 +4,8 @@ use Rattle.std.specs.Prelude.{IfSome}
 use Rattle.irtext_context.specs.Context.{ContextView, MakesOperation, KeepsOlder, with_graph}
 use Rattle.irtext_context.specs.declared.base.operation.OperationData.{OperationData}
 use Rattle.irtext_graph.specs.Back.{AllOlder}
-use Rattle.irtext_graph.specs.Chained.{Among}
 use Rattle.irtext_graph.specs.Graph as graphs
-use Rattle.irtext_graph.specs.Graph.{GraphView, Stands, IsNew}
+use Rattle.irtext_graph.specs.Graph.{Stands, IsNew}
 use Rattle.irtext_graph.proofs.Closed.{older_on}
 use Rattle.irtext_graph.specs.declared.arena.Ptr.{Ptr}
 use Rattle.irtext_graph.specs.declared.object.BasicBlock.{BasicBlock}
@@ -14,20 +13,10 @@ use Rattle.irtext_graph.specs.declared.object.Operation.{Operation}
 use Rattle.irtext_graph.specs.declared.object.Object.TheVariants.{TheBlock, TheOperation}
 use Rattle.irtext_graph.specs.declared.object.Value.{Value}
 use Rattle.irtext_building.specs.Stands.{IsThere}
-use Rattle.irtext_parse_nested.specs.declared.gathering.Gathered.{Gathered}
-use Rattle.irtext_parse_nested.specs.Gathered.{AllStand, IsNothing, IsSteady}
+use Rattle.irtext_parse_nested.specs.Gathered.{IsSteady}
 use Rattle.irtext_parse_nested.specs.Items.{Names, Lasts}
 use Rattle.irtext_parse_nested.proofs.Lasting.{block_stands}
 use Rattle.irtext_parse_nested.proofs.UsedStands.{lasts_then, used_lasts, made_lasts, made_new}
-
--- nothing stands anywhere
-pub nothing_stands : {T A O B : Type 0} (g : GraphView (Option O) B (Option T)) (x : Gathered T A) → IsNothing x → AllStand g x
-nothing_stands g x n = record {
-  operands = λ e i. absurd (subst (Among e) n.operands.0 i);
-  listed_operands = λ v i. absurd (subst (Among v) n.operands.1 i);
-  successors = λ e i. absurd (subst (Among e) n.successors.0 i);
-  listed_successors = λ b i. absurd (subst (Among b) n.successors.1 i);
-}
 
 -- what is said of an answer and of what it left
 pub if_ok_both : {X E : Type 0} {P R : X → Type 0} {Q : Type 0} (r : Result X E) → ((x : X) → P x → Q → R x) → IfOk r P → OnOk r Q → IfOk r R

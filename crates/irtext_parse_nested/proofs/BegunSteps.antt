@@ -1,14 +1,14 @@
 -- What an operation that was begun has so far, as its steps are read, and at its end.
-use Rattle.std.proofs.Common.{◌≡◌, ◌∙◌, ℕ, List, [], ◌∷◌, ◌++◌, length, map, Option, refl, sym, ap, subst, append-nil, append_assoc}
+use Rattle.std.proofs.Common.{◌≡◌, ◌∙◌, ℕ, List, [], ◌∷◌, ◌++◌, length, Option, refl, sym, ap, subst, append_assoc}
 use Rattle.irtext_base.specs.Text.{Text}
 use Rattle.irtext_base.specs.Format.{Format, Id}
 use Rattle.irtext_grammar.specs.Grammar.Tree.{Part, Attribute, views, parts_of, operand_names, successor_labels}
-use Rattle.irtext_grammar.specs.Graphs.Build.{put, put_all, stored, read_names}
+use Rattle.irtext_grammar.specs.Graphs.Build.{put, put_all, stored}
 use Rattle.irtext_grammar.specs.Names.Acts.{result_types}
 use Rattle.irtext_nesting.specs.Heads.{Step}
 use Rattle.irtext_nesting.specs.Naming.{body_of, unmarked}
 use Rattle.irtext_nesting.specs.Resume.{Begun, with_steps}
-use Rattle.irtext_building.specs.Stands.{OwnSoFar, own_of}
+use Rattle.irtext_building.specs.Stands.{OwnSoFar}
 use Rattle.irtext_parse_nested.specs.Beginning.{HasBegun, IsPartOf, ArePartsOf}
 use Rattle.irtext_parse_nested.proofs.BegunParts.{views_both}
 
@@ -41,30 +41,3 @@ module _ {T A : Type 0} (formats : Id → Option Format) (o : Begun T A) (own : 
       types = λ later a. ap (λ ps. result_types (body_of (formats o.id) ps)) (moved later) ∙ h.types (part ∷ later) (behind later a);
       stores = λ later a. ap (λ ps. views stored (parts_of (body_of (formats o.id) ps))) (moved later) ∙ (h.stores (part ∷ later) (behind later a) ∙ ap (views stored) (sym (moved later)));
     }
-
-  -- ---- no step is left
-  module _ (steps : o.steps ≡ []) where
-    none : ArePartsOf {T = T} {A = A} o.steps []
-    none = subst (λ zs. ArePartsOf {T = T} {A = A} zs []) (sym steps) tt
-
-    whole_parts : o.parts ++ [] ≡ o.parts
-    whole_parts = append-nil o.parts
-
-    entries_whole : put_all own.entries (read_names (map (λ n. n.text) o.names)) ≡ put_all [] (views stored (parts_of (body_of (formats o.id) o.parts)) ++ read_names (map (λ n. n.text) o.names))
-    entries_whole =
-        let es = ap (λ ps. views stored (parts_of (body_of (formats o.id) ps))) (sym whole_parts) ∙ (h.stores [] none ∙ ap (views stored) whole_parts) in
-        ap (λ z. put_all z (read_names (map (λ n. n.text) o.names))) h.entries
-        ∙ (sym (put_both (views stored o.parts) [] (read_names (map (λ n. n.text) o.names))) ∙ ap (λ z. put_all [] (z ++ read_names (map (λ n. n.text) o.names))) (sym es))
-
-    operands_whole : own.operands ≡ length (operand_names (unmarked o.place o.names o.id (body_of (formats o.id) o.parts)))
-    operands_whole = sym (h.operands [] none) ∙ ap (λ ps. length (operand_names (unmarked o.place o.names o.id (body_of (formats o.id) ps)))) whole_parts
-
-    successors_whole : own.successors ≡ length (successor_labels (unmarked o.place o.names o.id (body_of (formats o.id) o.parts)))
-    successors_whole = sym (h.successors [] none) ∙ ap (λ ps. length (successor_labels (unmarked o.place o.names o.id (body_of (formats o.id) ps)))) whole_parts
-
-    types_whole : own.types ≡ result_types (body_of (formats o.id) o.parts)
-    types_whole = sym (h.types [] none) ∙ ap (λ ps. result_types (body_of (formats o.id) ps)) whole_parts
-
-    -- with the given names of its results it is that of the whole operation
-    pub begun_whole : with_entries own (put_all own.entries (read_names (map (λ n. n.text) o.names))) ≡ own_of (unmarked o.place o.names o.id (body_of (formats o.id) o.parts))
-    begun_whole = λ i. record { place = h.place i; id = h.id i; operands = operands_whole i; successors = successors_whole i; types = types_whole i; entries = entries_whole i }

@@ -15,7 +15,7 @@ use Rattle.irtext_parse_heads.specs.declared.entries.Key.{Key}
 use Rattle.irtext_parse_heads.specs.declared.names.ReadName.{ReadName}
 use Rattle.irtext_parse_nested.specs.declared.gathering.NotGathered.{NotGathered}
 use Rattle.irtext_parse_nested.specs.declared.gathering.NotGathered.TheVariants as refusal
-use Rattle.irtext_parse_nested.specs.Blocks.{AreAllowed, IsFirstForbidden, Forbids, IsOfEntries}
+use Rattle.irtext_parse_nested.specs.Blocks.{AreAllowed, IsFirstForbidden, Forbids}
 use Rattle.irtext_parse_nested.specs.Ends.{numbers_of}
 use Rattle.irtext_parse_nested.specs.Gathered.{entry_read, MayAllHold, RefusesEntries}
 
@@ -42,12 +42,6 @@ module _ {A : Type 0} where
   entry_forbidden e (refusal.ReservedKey key) (inl h) = inl (ap (λ b. b && not (same_text e.0.name block_label_key)) h.0, h.1)
   entry_forbidden e (refusal.ReservedKey key) (inr h) = absurd h.1
   entry_forbidden e (refusal.NoActiveScope n) h = absurd h
-
-  -- entries are refused for memory or a key
-  pub forbids_of_entries : (rule : Rule A) (es : List (Key × AttrObj A)) (r : NotGathered) → Forbids rule es r → IsOfEntries r
-  forbids_of_entries rule es refusal.Memory h = tt
-  forbids_of_entries rule es (refusal.ReservedKey key) h = tt
-  forbids_of_entries rule es (refusal.NoActiveScope n) h = absurd h
 
   -- ---- entries in a row
   module _ (rule : Rule A) where

@@ -1,5 +1,5 @@
 -- A piece behind a region of its operation: what it does with names and keys, and where its reader refuses.
-use Rattle.std.proofs.Common.{◌≡◌, ◌∙◌, ℕ, zero, suc, ◌+◌, Bool, true, List, [], ◌∷◌, drop, map, slice_get, Option, Some, None, IsSome, option_map, Result, IfOk, false, refl, sym, ap, subst, arith}
+use Rattle.std.proofs.Common.{◌≡◌, ◌∙◌, ℕ, zero, suc, ◌+◌, Bool, true, List, [], ◌∷◌, drop, map, slice_get, Option, Some, None, option_map, Result, IfOk, false, refl, sym, ap, subst, arith}
 use Rattle.irtext_base.specs.Text.{Text}
 use Rattle.std.specs.Char.{is_whitespace}
 use Rattle.irtext_base.specs.Text.{front, after}
@@ -16,7 +16,7 @@ use Rattle.irtext_base.specs.Locations.{AttrView}
 use Rattle.irtext_base.specs.Faults.{id_of}
 use Rattle.irtext_base.specs.declared.base.identifier.OpId.{OpId}
 use Rattle.irtext_context.specs.DialectTable.{registered}
-use Rattle.irtext_context.specs.Dialects.{Known, Table, known_of}
+use Rattle.irtext_context.specs.Dialects.{Table, known_of}
 use Rattle.irtext_context.specs.declared.dialect.OpInfo.{OpInfo}
 use Rattle.irtext_formats.specs.Directives.{format_of}
 use Rattle.irtext_nesting.specs.Reached.{steps_in}
@@ -35,7 +35,6 @@ use Rattle.irtext_nesting.specs.Heads.{Step, flat, types, one, all, steps_of, di
 use Rattle.irtext_parse_acts.specs.Rows.{TakesUses}
 use Rattle.irtext_parse_heads.specs.declared.entries.Key.{Key}
 use Rattle.irtext_parse_heads.specs.declared.names.ReadName.{ReadName}
-use Rattle.irtext_parse_heads.specs.declared.names.Symbol.{Symbol}
 use Rattle.irtext_parse_heads.specs.declared.pieces.ReadPiece.{ReadPiece}
 use Rattle.irtext_parse_heads.specs.declared.pieces.ReadPiece.TheVariants as read
 use Rattle.irtext_parse_heads.specs.Entries.{IsKey}
@@ -69,23 +68,6 @@ first_left (z ∷ xs) (suc n) x ys e = first_left xs n x ys e
 -- the steps of a registered operation are those of its format
 pub registered_steps : (dialects : List (Text × Table)) (id : OpId) (info : OpInfo) → registered dialects id ≡ Some (known_of info) → steps_in dialects (id_of id) ≡ steps_of (format_of info.format)
 registered_steps dialects id info known = ap (λ o. elim o [ Some f ↦ steps_of f | None ↦ [] ]) (ap (λ o. option_map (λ k. k.format) o) known)
-
--- an operation that has steps is registered
-pub steps_registered : (dialects : List (Text × Table)) (id : OpId) (n : ℕ) → IsFlatNext (slice_get (steps_in dialects (id_of id)) n) → IsSome (registered dialects id)
-steps_registered dialects id n next = go (registered dialects id) refl
-  where
-    none : (n : ℕ) → IsFlatNext (slice_get [] n) → ⊥
-    none zero h = h
-    none (suc n) h = h
-
-    go : (k : Option Known) → registered dialects id ≡ k → IsSome k
-    go None e = absurd (none n (subst (λ o. IsFlatNext (slice_get (elim o [ Some f ↦ steps_of f | None ↦ [] ]) n)) (ap (λ o. option_map (λ k. k.format) o) e) next))
-    go (Some k) e = refl
-
--- what is seen of something is there
-pub seen_there : {X Y : Type 0} (f : X → Y) (o : Option X) → IsSome (option_map f o) → (x : X) × (o ≡ Some x)
-seen_there f None h = absurd (cc)
-seen_there f (Some x) h = (x, refl)
 
 -- ---- what is read
 module _ {T A : Type 0} (types_at : Reader T) (attr : Reader (AttrView A)) where
@@ -155,32 +137,6 @@ module _ {T A O B : Type 0} (names : Names) (g : GraphView (Option O) B (Option 
 pub given_is : (T : Type 0) {A : Type 0} (key : Text) (a : Option (AttrObj A)) → given_by key a ≡ stored_of {T = T} (read.Attr key a)
 given_is T key None = refl
 given_is T key (Some a) = refl
-
-module _ {T A : Type 0} where
-  -- what is neither an attribute nor a dictionary nor a symbol's name gives nothing
-  pub other_stored : (piece : ReadPiece T A) → ((key : Text) (a : Option (AttrObj A)) → piece ≡ read.Attr key a → ⊥) → ((es : List (Key × AttrObj A)) → piece ≡ read.Dictionary es → ⊥) → ((s : Symbol) → piece ≡ read.Header s → ⊥) → stored_of piece ≡ []
-  other_stored read.Word a d h = refl
-  other_stored (read.Operand i n) a d h = refl
-  other_stored (read.Operands ns) a d h = refl
-  other_stored (read.Successor i n) a d h = refl
-  other_stored (read.Successors ns) a d h = refl
-  other_stored (read.Attr k x) a d h = absurd (a k x refl)
-  other_stored (read.Dictionary es) a d h = absurd (d es refl)
-  other_stored (read.ResultType i t) a d h = refl
-  other_stored (read.Header s) a d h = absurd (h s refl)
-  other_stored (read.Types ts) a d h = refl
-
-  pub other_may : (piece : ReadPiece T A) → ((es : List (Key × AttrObj A)) → piece ≡ read.Dictionary es → ⊥) → MayStore piece
-  other_may read.Word d = tt
-  other_may (read.Operand i n) d = tt
-  other_may (read.Operands ns) d = tt
-  other_may (read.Successor i n) d = tt
-  other_may (read.Successors ns) d = tt
-  other_may (read.Attr k x) d = tt
-  other_may (read.Dictionary es) d = absurd (d es refl)
-  other_may (read.ResultType i t) d = tt
-  other_may (read.Header s) d = tt
-  other_may (read.Types ts) d = tt
 
 -- ---- how it is refused
 module _ {T A : Type 0} where

@@ -74,19 +74,10 @@ module _ {O B T : Type 0} (g k : GraphView (Option O) B T) where
   ]
 
 module _ {O B T : Type 0} where
-  many_itself : (g : GraphView (Option O) B T) (q : Object) → HasAsMany g g q
-  many_itself g (TheOperation p) = record { as_many_operands = refl; as_many_successors = refl }
-  many_itself g (TheBlock b) = tt
-  many_itself g (TheRegion r) = tt
-
   many_more : (g h k : GraphView (Option O) B T) (q : Object) → HasAsMany g h q → HasAsMany h k q → HasAsMany g k q
   many_more g h k (TheOperation p) m n = as_many_then g h k p m n
   many_more g h k (TheBlock b) m n = tt
   many_more g h k (TheRegion r) m n = tt
-
-  -- nothing is lost, and twice
-  pub loses_nothing : (g : GraphView (Option O) B T) → LosesPlaceholders g g
-  loses_nothing g = record { operations = λ p x e. e; results = λ p x e. refl; blocks = λ b o e. (e, λ s. s); regions = λ r s. s; newer = λ m q n. n; made = refl; alike = λ q p. record { contents = refl; as_many = many_itself g q; parents = refl; lists = refl }; brought = λ q p. p; blanks = λ m h. h }
 
   -- what is alike is no placeholder still
   still_placed : (g h : GraphView (Option O) B T) (q : Object) → StaysAlike g h q → IsPlaced g q → IsPlaced h q

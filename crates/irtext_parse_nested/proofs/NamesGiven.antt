@@ -19,13 +19,6 @@ named_texts names [] (w ∷ ws) a = absurd a
 named_texts names (n ∷ ns) [] a = absurd a
 named_texts names (n ∷ ns) (w ∷ ws) a = ap₂ ◌∷◌ a.0 (named_texts names ns ws a.1)
 
--- where there are no names, none are stored
-pub none_given : {A : Type 0} (names : List Text) (read : List ReadName) (es : List (Text × AttrObj A)) → length read ≡ 0 → (ws : List (Name ℕ)) → AreNamed names (numbers_of read) ws
-    → entries_of es ≡ put_all (entries_of es) (read_names (map (λ w. w.text) ws))
-none_given names [] es e [] a = refl
-none_given names [] es e (w ∷ ws) a = absurd a
-none_given names (n ∷ ns) es e ws a = absurd (cc)
-
 -- where there are some, they are
 pub some_given : {A : Type 0} (names : List Text) (read : List ReadName) (old new : List (Text × AttrObj A)) (key : Text) (a : AttrObj A) (items : List (Option Text)) → (length read ≡ 0 → ⊥) → key ≡ given_names_key → attribute_of a ≡ given_names items
     → items ≡ map (slice_get names) (numbers_of read) → entries_of new ≡ put_all (entries_of old) ((key, attribute_of a) ∷ []) → (ws : List (Name ℕ)) → AreNamed names (numbers_of read) ws

@@ -32,14 +32,6 @@ module _ (path : ℕ → Path) (items : List (ℕ × Object)) (n : ℕ) (k : Obj
   site_still u (AtOperand p i) h = (h.0, h.1, inr h.2)
   site_still u (AtSuccessor p i) h = (h.0, h.1, inr h.2)
 
-  -- what was made is of these items where one is more
-  pub of_wider : (known : Known) → AreOf path items known → AreOf path more known
-  of_wider known h = record {
-    values_of = λ q v a. value_still q v (h.values_of q v a);
-    blocks_of = λ q b a. let x = h.blocks_of q b a in (x.0, x.1, inr x.2);
-    sites_of = λ u s a. site_still u s (h.sites_of u s a);
-  }
-
 -- ---- an operation
 module _ (path : ℕ → Path) (items : List (ℕ × Object)) (n : ℕ) (op : Ptr Operation) where
   abbrev with_it : List (ℕ × Object)
@@ -75,19 +67,10 @@ module _ (path : ℕ → Path) (items : List (ℕ × Object)) (n : ℕ) (op : Pt
   }
 
 -- ---- a block
--- the arguments of the block at a path from i on, one for each of these, and what they were made into
-abbrev pub made_arguments : {X : Type 0} → Path → Ptr BasicBlock → ℕ → List X → List (Place × Value)
-made_arguments p b i [] = []
-made_arguments p b i (x ∷ xs) = (argument p i, Argument b i) ∷ made_arguments p b (suc i) xs
 
 module _ (path : ℕ → Path) (items : List (ℕ × Object)) (n : ℕ) (b : Ptr BasicBlock) where
   abbrev with_block_of : List (ℕ × Object)
   with_block_of = (n, TheBlock b) ∷ items
-
-  argument_of : {X : Type 0} (k : ℕ) (xs : List X) (q : Place) (v : Value) → Among (q, v) (made_arguments (path n) b k xs) → IsValueOf path with_block_of q v
-  argument_of k [] q v a = absurd a
-  argument_of k (x ∷ xs) q v (inl e) = subst (IsValueOf path with_block_of q) (sym (ap (λ z. z.1) e)) (n, ap (λ z. z.0) e, inl refl)
-  argument_of k (x ∷ xs) q v (inr a) = argument_of (suc k) xs q v a
 
   -- what is made where a block is made is of the items with it: whatever values came at places of its arguments, and blocks at its place
   pub of_block : (known more : Known) → AreOf path items known

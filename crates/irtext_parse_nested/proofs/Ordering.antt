@@ -1,5 +1,5 @@
 -- Items with places, taken out one after another in the order of their places.
-use Rattle.std.proofs.Common.{◌≡◌, ◌<◌, ◌≤◌, ◌+◌, ◌-◌, ◌∙◌, ◌==◌, ℕ, zero, suc, Bool, true, false, cond, List, [], ◌∷◌, ◌++◌, length, option_to_list, Option, Some, None, refl, sym, ap, ap₂, subst, arith, eqb-true, append_assoc, append-nil, slice_get, inl, inr, ◌⊎◌}
+use Rattle.std.proofs.Common.{◌≡◌, ◌<◌, ◌≤◌, ◌+◌, ◌-◌, ◌∙◌, ◌==◌, ℕ, zero, suc, Bool, true, false, cond, List, [], ◌∷◌, ◌++◌, length, option_to_list, Option, Some, None, refl, sym, ap, ap₂, subst, arith, eqb-true, append_assoc, slice_get, inl, inr, ◌⊎◌}
 use Rattle.std.specs.Map.{lookup, remove_entry}
 use Rattle.irtext_graph.specs.Chained.{Among}
 use Rattle.irtext_grammar.specs.Grammar.Tree.{at_place, in_order_from, in_order}
@@ -41,9 +41,6 @@ module _ {X : Type 0} (n i : ℕ) (all more whole : List X) (es fs : List (ℕ �
   next_taken l h so e =
       ap (λ xs. xs ++ in_order_from (n - (i + 1)) (i + 1) fs) e
       ∙ (append_assoc all (option_to_list (at_place i es)) (in_order_from (n - (i + 1)) (i + 1) fs) ∙ (ap (λ xs. all ++ xs) (sym (next_place n i es fs l h)) ∙ so))
-
-  pub all_taken : n ≤ i → all ++ in_order_from (n - i) i es ≡ whole → all ≡ whole
-  all_taken l so = let z : n - i ≡ 0 = omega (arith, l) in sym (append-nil all) ∙ (ap (λ m. all ++ in_order_from m i es) (sym z) ∙ so)
 
 -- ---- what is among those in order is among those with places
 at_place_among : {X : Type 0} (k : ℕ) (es : List (ℕ × X)) (x : X) → at_place k es ≡ Some x → (e : ℕ × X) × Among e es × (e.1 ≡ x)

@@ -64,14 +64,6 @@ as_many f [] = refl
 as_many f (s ∷ ss) = refl
 
 module _ {O B T : Type 0} (value : ℕ → Value) where
-  pub no_names : (names : NameTracker Value (Ptr BasicBlock)) (g : GraphView (Option O) B T) → DefinesRow value [] names names g g
-  no_names names g = record { so = none }
-    where
-      none : (ws : List (Name ℕ)) → AreNamed names.names [] ws → (place : ℕ → Place) (known : Known) (st : State) → AreMadeAs {X = ℕ} place value [] known → StandsAt names g known [] st
-          → (next : State) × (run (going st) (map act (definitions_from place 0 ws)) ≡ going next) × StandsAt names g known [] next
-      none [] a place known st m s = (st, refl, s)
-      none (w ∷ ws) a place known st m s = absurd a
-
   -- a definition takes no other value away, and no name comes to wait with one
   pub still_ready : (n : ℕ) (v x : Value) (vs vs' : List (Scope Value)) (ls : List (Scope (Ptr BasicBlock))) (g k : GraphView (Option O) B T) → AreTied vs ls g → Defines OfValue vs vs' g k n v
       → IsDefined g (OfValue x) × IsNoPlaceholder vs x → IsDefined k (OfValue x) × IsNoPlaceholder vs' x

@@ -1,6 +1,6 @@
 -- What an operation that begins leaves of a context, step by step: where names were used, where it was made, and where it came last into a
 -- block.
-use Rattle.std.proofs.Common.{◌≡◌, ◌≢◌, ◌≤◌, ◌+◌, ◌∙◌, inl, inr, ℕ, Bool, true, false, List, [], ◌∷◌, length, map, Option, Some, None, IsSome, nat_lt, if◌then◌else◌, refl, sym, ap, subst, arith, ltb-true}
+use Rattle.std.proofs.Common.{◌≡◌, ◌≢◌, ◌≤◌, ◌+◌, ◌∙◌, inl, inr, ℕ, Bool, true, false, List, [], ◌∷◌, length, Option, Some, None, IsSome, nat_lt, if◌then◌else◌, refl, sym, ap, subst, arith, ltb-true}
 use Rattle.std.specs.Prelude.{option_and_then}
 use Rattle.std.specs.Option.{option_map}
 use Rattle.irtext_context.specs.Context.{ContextView, operation, operation_of, block, block_of, region, region_of, MakesOperation}
@@ -11,7 +11,7 @@ use Rattle.irtext_graph.specs.Back.{AllOlder}
 use Rattle.irtext_graph.specs.Chained.{Among}
 use Rattle.irtext_graph.specs.Content.{Node, Content, Content.{AnOperation, ABlock, ARegion}, OperationContent, BlockContent, RegionContent, Typed}
 use Rattle.irtext_graph.specs.Graph as graphs
-use Rattle.irtext_graph.specs.Graph.{GraphView, Appends, IsNew, Stands, content, content_of, parent, parent_of, children_of}
+use Rattle.irtext_graph.specs.Graph.{GraphView, Appends, IsNew, Stands, content, content_of, parent, parent_of}
 use Rattle.irtext_graph.specs.Objects.{is_older}
 use Rattle.irtext_graph.specs.Parts.{operation_at, results, results_of}
 use Rattle.irtext_graph.specs.Store.{Store, get, before}
@@ -208,16 +208,6 @@ module _ {T A : Type 0} (old new : ContextView T A) (op : Ptr Operation) (held :
     made = let e = makes.graph.made in omega (arith, e);
     dialects = makes.dialects;
   }
-
-  -- it stands nowhere and holds nothing
-  pub made_stands_there : Stands new.graph (TheOperation op)
-  made_stands_there = subst (λ e. IsSome (seen_operation (Option (OperationData A)) (BlockData A) (Option T) (content_of e))) (sym makes.graph.operations.updates.changed) refl
-
-  pub made_free : parent new.graph (TheOperation op) ≡ None
-  made_free = ap (λ e. option_map TheBlock (parent_of e)) makes.graph.operations.updates.changed
-
-  pub made_empty : graphs.children new.graph (TheOperation op) ≡ []
-  made_empty = ap (λ e. map TheRegion (children_of e)) makes.graph.operations.updates.changed
 
 -- the results of an object, by what it is
 abbrev results_seen : {O B T : Type 0} → Option (Content O B T) → List (Typed T)

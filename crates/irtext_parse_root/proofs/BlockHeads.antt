@@ -13,13 +13,12 @@ use Rattle.irtext_base.specs.Locations.{AttrView}
 use Rattle.irtext_base.specs.declared.base.attributes.AttrObj.{AttrObj}
 use Rattle.irtext_base.specs.declared.parsable.fault.ParseFault.{ParseFault}
 use Rattle.irtext_base.proofs.Compose.{starves_here}
-use Rattle.irtext_base.proofs.Sincere.{Of, of_mapped, of_sincere}
+use Rattle.irtext_base.proofs.Sincere.{Of}
 use Rattle.irtext_stream.specs.Places.{AtOffset}
 use Rattle.irtext_read.specs.AttrTexts.{attr_at}
-use Rattle.irtext_read.specs.Demanded.{index_at}
 use Rattle.irtext_read.specs.Infix.{◌▷◌}
 use Rattle.irtext_read.specs.Tokens.{word, spelled_at, identifier_at}
-use Rattle.irtext_read.proofs.Honest.{Honest, ◌then◌, ◌kept◌, ◌so◌, seen, honest_either, honest_word, honest_space, honest_index, honest_name, honest_separated, honest_spaced, honest_attr, never_failed}
+use Rattle.irtext_read.proofs.Honest.{never_failed}
 use Rattle.irtext_state.specs.States.{same_index}
 use Rattle.irtext_grammar.specs.Contexts.Held.{whole, attribute_of}
 use Rattle.irtext_grammar.specs.Grammar.Tree.{Name, Mark, Attribute, Head}
@@ -33,9 +32,8 @@ use Rattle.irtext_outcomes.specs.Readers.Refusals.{Refusal}
 use Rattle.irtext_outcomes.specs.Readers.Streams.{itself, replaced}
 use Rattle.irtext_outcomes.proofs.Readers.EntryIndices.{refusal}
 use Rattle.irtext_outcomes.proofs.Readers.FirstMissing.{FirstMissing}
-use Rattle.irtext_outcomes.proofs.Readers.Honest.{honest_nothing}
 use Rattle.irtext_outcomes.proofs.Readers.PlainStream.{alone}
-use Rattle.irtext_nesting.specs.Heads.{name_of, name_at, label_at, mark_at, mark_if_at, pair_at, dictionary_at, argument_at, head_at}
+use Rattle.irtext_nesting.specs.Heads.{name_of, label_at, head_at}
 use Rattle.irtext_parse_heads.specs.declared.entries.Key.{Key}
 use Rattle.irtext_parse_heads.specs.declared.headers.BlockHead.{BlockHead}
 use Rattle.irtext_parse_heads.specs.declared.marks.ReadMark.{ReadMark}
@@ -53,37 +51,8 @@ use Rattle.irtext_parse_nested.specs.Definitions.{IsFaultOf}
 use Rattle.irtext_parse_nested.proofs.Faults.{stands_there, some_same}
 use Rattle.irtext_parse_nested.proofs.Headers.{keys_each}
 use Rattle.irtext_parse_nested.proofs.Marking.{not_noted, noted_before}
+use Rattle.irtext_parse_root.proofs.Failing.{head_honest}
 use Rattle.irtext_parse_root.specs.Block.{outside_with, FailsOutside, MissesBlock, no_header, by_header, first_reserved, noted_twice}
-
--- ---- the reader of headers: what it says of a text is of that text
-name_honest : Honest name_at
-name_honest = record { of = λ text. of_mapped text (name_of (length text)) (identifier_at text) ((honest_name _).of text) }
-
-label_honest : Honest label_at
-label_honest = record { of = λ text. of_mapped text (name_of (length text)) ((word (codes "^") ▷ identifier_at) text) ((◌then◌ (honest_word (codes "^")) (honest_name _)).of text) }
-
-mark_honest : Honest mark_at
-mark_honest = record { of = λ text. of_mapped text (λ i. record { place = length text; index = i }) (index_at text) (honest_index.of text) }
-
-mark_if_honest : Honest mark_if_at
-mark_if_honest = honest_either (begins (the 33)) (seen Some mark_honest) (honest_nothing None)
-
-module _ {T A : Type 0} (types_at : Text → Outcome T) (attr : Text → Outcome (AttrView A)) (types_honest : Honest types_at) (attr_honest : Honest attr) where
-  pair_honest : Honest (pair_at attr)
-  pair_honest = ◌so◌ name_honest (λ key. ◌then◌ (honest_spaced (codes ":")) (seen (λ a. (key, a)) (seen _ attr_honest)))
-
-  dictionary_honest : Honest (dictionary_at attr)
-  unfolding dictionary_at
-  dictionary_honest = record { of = λ text. (◌then◌ (honest_word (codes "[")) (◌then◌ honest_space (◌kept◌ (honest_separated 44 (pair_at attr) pair_honest) (honest_word (codes "]"))))).of text }
-
-  argument_honest : Honest (argument_at types_at attr)
-  argument_honest = ◌so◌ name_honest (λ n. ◌then◌ (honest_spaced (codes ":")) (seen (λ t. (n, t)) types_honest))
-
-  head_honest : Honest (head_at types_at attr)
-  head_honest =
-      ◌so◌ label_honest (λ label. ◌then◌ (honest_spaced (codes "(")) (◌so◌ (honest_separated 44 (argument_at types_at attr) argument_honest) (λ arguments. ◌then◌ (honest_word (codes ")")) (◌then◌ honest_space
-      (◌so◌ (honest_either (begins (the 91)) (seen Some dictionary_honest) (honest_nothing None)) (λ attributes. ◌then◌ honest_space
-      (◌so◌ mark_if_honest (λ mark. ◌then◌ honest_space (seen (λ _. record { label = label; arguments = arguments; attributes = attributes; mark = mark }) (honest_word (codes ":")))))))))))
 
 -- ---- where no `^` stands, and where one does
 stays_prefixed : {X : Type 0} (t : Text) (o : Outcome X) → demanded (prefixed t o) ≡ prefixed t o
@@ -392,5 +361,5 @@ module _ {T A : Type 0} (types_at : Text → Outcome T) (attr : Text → Outcome
 pub unread_refusal : {T A Y : Type 0} {Means : Y → Head ℕ T A → Type 0} (types_at : Text → Outcome T) (reading : Text → Outcome A) → Sincere types_at → Sincere reading → {old new : StreamView} {fault : ParseFault A}
     → MayMean {Y = Y} itself replaced Means (head_at types_at (attr_at reading)) old (Err fault) new → Refusal old fault new
 unread_refusal types_at reading sincere_types sincere m =
-    let honest = head_honest types_at (attr_at reading) (record { of = of_sincere types_at sincere_types }) (honest_attr (record { of = of_sincere reading sincere })) in
+    let honest = head_honest types_at reading sincere_types sincere in
     refusal (λ text. never_failed honest text) (λ text. first_missing (head_at types_at (attr_at reading) text) (honest.of text)) m.read

@@ -195,7 +195,7 @@ module _ {T A : Type 0} (types_at : Text → Outcome T) (reading : Text → Outc
   argument_honest : Honest (argument_at types_at attr)
   argument_honest = ◌so◌ name_honest (λ n. ◌then◌ (honest_spaced (codes ":")) (seen (λ t. (n, t)) types_honest))
 
-  head_honest : Honest (head_at types_at attr)
+  pub head_honest : Honest (head_at types_at attr)
   head_honest =
       ◌so◌ label_honest (λ label. ◌then◌ (honest_spaced (codes "(")) (◌so◌ (honest_separated 44 (argument_at types_at attr) argument_honest) (λ arguments. ◌then◌ (honest_word (codes ")")) (◌then◌ honest_space
       (◌so◌ (honest_either (begins (the 91)) (seen Some dictionary_honest) (honest_nothing None)) (λ attributes. ◌then◌ honest_space

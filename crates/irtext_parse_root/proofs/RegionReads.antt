@@ -17,7 +17,7 @@ use Rattle.irtext_grammar.specs.Contexts.Formats.{format_of, isolated, IsAccepte
 use Rattle.irtext_grammar.specs.Grammar.Forest.{Regions, no_regions, region, Blocks, no_blocks, block, Operations, no_operations, operation}
 use Rattle.irtext_grammar.specs.Grammar.Reads as grammar
 use Rattle.irtext_grammar.specs.Grammar.Tree as tree
-use Rattle.irtext_grammar.specs.Grammar.Tree.{Op, Head, Brace, Tree, custom, shown, elided, parts_of}
+use Rattle.irtext_grammar.specs.Grammar.Tree.{Op, Head, Brace, Tree, custom, shown, elided}
 use Rattle.irtext_grammar.specs.Spelling.Spellable.{Each}
 use Rattle.irtext_grammar.specs.Names.History as history
 use Rattle.irtext_grammar.specs.Names.History.{going, start, run, events, after}
@@ -27,7 +27,7 @@ use Rattle.irtext_grammar.specs.Names.Acts.{blocks_script}
 use Rattle.irtext_grammar.specs.Names.TextScopes.{Facts, failures, facts, outward}
 use Rattle.irtext_grammar.proofs.Names.InScripts as enough
 use Rattle.irtext_grammar.proofs.Names.TreeLists.{marks_in_root}
-use Rattle.irtext_grammar.proofs.Grammar.ListReadings.{AllUsed, repeated_used, parts_used, block_used}
+use Rattle.irtext_grammar.proofs.Grammar.ListReadings.{repeated_used}
 use Rattle.irtext_outcomes.specs.Promises.Root.{IsFresh}
 use Rattle.irtext_outcomes.specs.Promises.Section.{indices_of}
 use Rattle.irtext_outcomes.proofs.Joins.Answers.{Splits}
@@ -39,7 +39,7 @@ use Rattle.irtext_nesting.proofs.Naming.Shorter.{Shortens}
 use Rattle.irtext_building.specs.Building.{Unfinished, region_so_far, Building, whole_blocks, nothing_open, building}
 use Rattle.irtext_building.proofs.Built.{blocks_after, last_after, whole_after, in_region, blocks_build}
 use Rattle.irtext_building.proofs.Seen.{shows_blocks}
-use Rattle.irtext_building.proofs.Whole.{HasParts, WholeRegions, WholeBlocks, WholeOperations}
+use Rattle.irtext_building.proofs.Whole.{WholeRegions, WholeBlocks, WholeOperations, blocks_read}
 use Rattle.irtext_names.proofs.Linked.Passes.{ran_through}
 use Rattle.irtext_promises.specs.Alone.{region_alone}
 use Rattle.irtext_parse_nested.specs.Items.{Names, StandsAs, doing}
@@ -67,7 +67,7 @@ use Rattle.irtext_parse_nested.specs.Items.{IsSound}
 use Rattle.irtext_parse_nested.specs.Located.{IsLocated}
 use Rattle.irtext_parse_root.proofs.RegionBuilt as built
 use Rattle.irtext_promises.proofs.Behind.{place_told}
-use Rattle.irtext_parse_root.specs.Region.{GainsRegion, ReadsRegion}
+use Rattle.irtext_parse_root.specs.Region.{GainsRegion}
 use Rattle.irtext_parse_root.proofs.RegionPlaces.{paths_exist}
 use Rattle.irtext_parse_root.proofs.RegionRuns.{region_runs}
 
@@ -79,28 +79,9 @@ module _ {T A : Type 0} (types : Texts T) (owns : Texts A) (formats : Id → Opt
   abbrev L : Language ℕ T A
   L = language types owns formats
 
-  operation_read : (o : Op ℕ T A) (rs : Regions (Op ℕ T A) (Head ℕ T A) (Brace ℕ)) (t u : Text) → grammar.operation_read L o (grammar.region_readings L rs) t u
-      → HasParts formats o rs × AllUsed (grammar.region_readings L rs)
-  operation_read o rs t u (at, (known, (m, a, (w, b, (x, c, d))))) = let h = parts_used L (parts_of o.body) rs w x c in ((known, h.0), h.1)
-
-  mutual
-    regions_read : (rs : Regions (Op ℕ T A) (Head ℕ T A) (Brace ℕ)) → AllUsed (grammar.region_readings L rs) → WholeRegions formats rs
-    regions_read no_regions a = tt
-    regions_read (region (shown place) bs rs) ((t, u, (at, (m, a, (w, b, c)))), d) = (blocks_read bs (repeated_used (the 94) (grammar.block_readings L bs) (after_space m) w b), regions_read rs d)
-    regions_read (region elided no_blocks rs) ((t, u, a), d) = absurd a
-    regions_read (region elided (block h os bs) rs) ((t, u, a), d) = absurd a
-
-    blocks_read : (bs : Blocks (Op ℕ T A) (Head ℕ T A) (Brace ℕ)) → AllUsed (grammar.block_readings L bs) → WholeBlocks formats bs
-    blocks_read no_blocks a = tt
-    blocks_read (block h os bs) ((t, u, a), d) = (operations_read os (block_used L h (grammar.operation_readings L os) t u a), blocks_read bs d)
-
-    operations_read : (os : Operations (Op ℕ T A) (Head ℕ T A) (Brace ℕ)) → AllUsed (grammar.operation_readings L os) → WholeOperations formats os
-    operations_read no_operations a = tt
-    operations_read (operation o rs os) ((t, u, a), d) = let f = operation_read o rs t u a in (f.0, regions_read rs f.1, operations_read os d)
-
   -- blocks that a text reads as in braces are whole
   blocks_whole : (place : ℕ) (bs : Blocks (Op ℕ T A) (Head ℕ T A) (Brace ℕ)) (text rest : Text) → grammar.region_read L (shown place) (grammar.block_readings L bs) text rest → WholeBlocks formats bs
-  blocks_whole place bs text rest (at, (m, a, (w, b, c))) = blocks_read bs (repeated_used (the 94) (grammar.block_readings L bs) (after_space m) w b)
+  blocks_whole place bs text rest (at, (m, a, (w, b, c))) = blocks_read types owns formats bs (repeated_used (the 94) (grammar.block_readings L bs) (after_space m) w b)
 
 -- so each of their operations has a place for each of its regions
 module _ {T A : Type 0} (formats : Id → Option Format) where
@@ -232,10 +213,6 @@ module _ {T A U : Type 0} (types_at : Reader T) (types_written : T → Text) (re
       ∙ (marks_are (isolated ds) round
       ∙ (sym (marks_in_root (isolated ds) round ((tt, (whole, tt)), tt))
       ∙ ap (λ ms. ms ++ []) outer))))
-
-  -- so it keeps what is told of a region that was read
-  pub reads_region : GainsRegion op r old.state.ctx.now new.state.ctx.now → ReadsRegion types owns op r old new
-  reads_region gains = record { blocks = blocks; reads = region_reads; resolves = region_resolves; moves = u.moves; marks = region_marks; gains = gains }
 
   -- ---- what it built
   module _ (id : Id) (id_closed : isolated ds id ≡ true) (here : IsSome (context.operation old.state.ctx.now op)) (older : AllOlder old.state.ctx.now.graph.made old.state.ctx.now.graph)

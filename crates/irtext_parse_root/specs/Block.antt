@@ -13,7 +13,7 @@ use Rattle.irtext_grammar.specs.Contexts.Held.{whole, attribute_of}
 use Rattle.irtext_grammar.specs.Grammar.Tree.{Head}
 use Rattle.irtext_grammar.specs.Names.Acts.{block_may_hold, header_acts}
 use Rattle.irtext_grammar.specs.Names.Scopes.{Scopes, no_scope, failures}
-use Rattle.irtext_grammar.specs.Names.Script.{Failure, done, does_all}
+use Rattle.irtext_grammar.specs.Names.Script.{done, does_all}
 use Rattle.irtext_outcomes.specs.Readers.Streams.{itself, replaced}
 use Rattle.irtext_nesting.specs.Heads.{head_at}
 use Rattle.irtext_parse_heads.specs.declared.entries.Key.{Key}

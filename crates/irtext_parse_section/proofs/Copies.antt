@@ -4,34 +4,12 @@ use Rattle.std.specs.Map.{keys_of}
 use Rattle.std.specs.Str.{bytes_eq}
 use Rattle.irtext_base.specs.Text.{Text}
 use Rattle.irtext_base.specs.Format.{same_text, has, distinct}
-use Rattle.irtext_base.specs.Locations as views
-use Rattle.irtext_base.specs.Locations.{AttrView, attr_view}
 use Rattle.irtext_base.specs.declared.base.attributes.AttrObj.{AttrObj}
-use Rattle.irtext_base.specs.declared.base.attributes.AttrObj.TheVariants.{GivenNames, Ident, Own}
-use Rattle.irtext_grammar.specs.Contexts.Held.{attribute_of, entries_of}
+use Rattle.irtext_grammar.specs.Contexts.Held.{entries_of}
 use Rattle.irtext_grammar.specs.Graphs.Build.{put, put_all}
-use Rattle.irtext_grammar.specs.Grammar.Tree.{Attribute, given_names, ident, own}
+use Rattle.irtext_grammar.specs.Grammar.Tree.{Attribute}
 use Rattle.irtext_grammar.proofs.Graphs.FitsFormat.{and_left, and_right}
 use Rattle.irtext_grammar.proofs.Lists.SameText.{same_text-bytes_eq, same_text_eq, other_text}
-
--- ---- one attribute
-abbrev of_view : {A : Type 0} → AttrView A → Attribute A
-of_view (views.given_names ns) = given_names ns
-of_view (views.ident n) = ident n
-of_view (views.own a) = own a
-
-seen : {A : Type 0} (a : AttrObj A) → attribute_of a ≡ of_view (attr_view a)
-seen (GivenNames ns) = refl
-seen (Ident n) = refl
-seen (Own a) = refl
-
--- attributes that are seen to be equal are
-pub attribute_same : {A : Type 0} (a b : AttrObj A) → attr_view a ≡ attr_view b → attribute_of a ≡ attribute_of b
-attribute_same a b e = seen a ∙ (ap of_view e ∙ sym (seen b))
-
--- a copy of an entry is put in
-pub entry_put : {A : Type 0} (es : List (Text × Attribute A)) (key name : Text) (a b : AttrObj A) → name ≡ key → attr_view b ≡ attr_view a → put_all es ((name, attribute_of b) ∷ []) ≡ put_all es ((key, attribute_of a) ∷ [])
-entry_put es key name a b e f = ap (λ n. put_all es ((n, attribute_of b) ∷ [])) e ∙ ap (λ x. put_all es ((key, x) ∷ [])) (attribute_same b a f)
 
 -- ---- entries in a row
 -- no entry is under the key

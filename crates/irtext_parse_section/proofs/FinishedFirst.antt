@@ -37,14 +37,6 @@ attributes_at c p = option_map (λ op. op.attributes) (operation c p)
 abbrev pub block_attributes_at : {T A : Type 0} → ContextView T A → Ptr BasicBlock → Option (Attributes A)
 block_attributes_at c p = option_map (λ b. b.attributes) (block c p)
 
-is_some_map : {X Y : Type 0} (f : X → Y) (o : Option X) → is_some (option_map f o) ≡ is_some o
-is_some_map f None = refl
-is_some_map f (Some x) = refl
-
--- what is seen to be there in one way is there
-seen_there : {X Y : Type 0} (f : X → Y) (o q : Option X) → option_map f q ≡ option_map f o → is_some q ≡ is_some o
-seen_there f o q e = sym (is_some_map f q) ∙ (ap is_some e ∙ is_some_map f o)
-
 module _ {T A : Type 0} (a b : ContextView T A) where
   module _ (p : Ptr Operation) (h : OperationData A → OperationData A) (e : EditsOperation a b p h) where
     stands_in : (x : OperationEntry T A) (o : Option (OperationData A)) → is_some (option_map (view_of {T = T} {A = A} x.content.content.results x.content.children) (option_map h o)) ≡ is_some (option_map (view_of {T = T} {A = A} x.content.content.results x.content.children) o)

@@ -61,14 +61,6 @@ module _ {T A : Type 0} (marks : List (ℕ × Item)) (paths : List (List ℕ)) (
   pub applied_paths : b.paths ≡ a.paths
   applied_paths = applied (λ (c d : ContextView T A). d.paths ≡ c.paths) (λ c. refl) (λ c d e k l. l ∙ k) (λ p change c d e. e.paths) (λ p change c d e. e.paths) marks paths all es a b h
 
-  -- and no dialect
-  pub applied_dialects : b.dialects ≡ a.dialects
-  applied_dialects = applied (λ (c d : ContextView T A). d.dialects ≡ c.dialects) (λ c. refl) (λ c d e k l. l ∙ k) (λ p change c d e. e.dialects) (λ p change c d e. e.dialects) marks paths all es a b h
-
-  -- regions stand as they stood
-  pub applied_regions : b.graph.regions ≡ a.graph.regions
-  applied_regions = applied (λ (c d : ContextView T A). d.graph.regions ≡ c.graph.regions) (λ c. refl) (λ c d e k l. l ∙ k) (λ p change c d e. e.graph.regions) (λ p change c d e. e.graph.regions) marks paths all es a b h
-
 -- ---- what is given to others
 module _ {T A : Type 0} (p : Ptr Operation) where
   located_other : (q : Ptr Operation) → p ≢ q → (l : Option (Location A)) (a b : ContextView T A) → LocatesOperation q l a b → get b.graph.operations p ≡ get a.graph.operations p

@@ -8,7 +8,7 @@ use Rattle.irtext_base.specs.Text.{Text}
 use Rattle.irtext_base.specs.Format.{same_text, block_label_key}
 use Rattle.irtext_base.specs.Locations.{AttrView}
 use Rattle.irtext_base.specs.Answers.{Outcome}
-use Rattle.irtext_base.specs.Paths.{Written, KeepsPaths}
+use Rattle.irtext_base.specs.Paths.{Written}
 use Rattle.irtext_base.specs.declared.base.attributes.AttrObj.{AttrObj}
 use Rattle.irtext_base.specs.declared.location.Location.{Location}
 use Rattle.irtext_context.specs.Context.{ContextView, OperationView, BlockView, operation_of, block_of, operation, block, EditsOperation, EditsBlock, with_loc, with_attributes, with_block_loc, with_block_attributes, with_label}
@@ -36,7 +36,7 @@ use Rattle.irtext_section.proofs.Claims.{wrong_index, wrong_pairs, wrong_entries
 use Rattle.irtext_parse_section.specs.Applied.{no_label, label_by, label_in, LocatesOperation, StoresOperation, LocatesBlock, StoresBlock, LabelsBlock, Gives, AppliesAll}
 use Rattle.irtext_parse_section.specs.Items.{CarriesOnly, OperationGiven, BlockGiven}
 use Rattle.irtext_parse_section.specs.Section.{ReadsSection}
-use Rattle.irtext_parse_section.proofs.Frames.{Avoids, applied_paths, applied_dialects, applied_regions, operation_beside, block_beside, operation_avoided, block_avoided}
+use Rattle.irtext_parse_section.proofs.Frames.{Avoids, applied_paths, operation_beside, block_beside, operation_avoided, block_avoided}
 
 -- ---- indices
 front_none : {X : Type 0} (xs ys : List X) → xs ++ ys ≡ [] → xs ≡ []
@@ -323,16 +323,6 @@ module _ {T A U : Type 0} (attr : Text → Outcome (AttrView A)) (old new : Stat
   -- so does a block
   pub block_untouched : (p : Ptr BasicBlock) → CarriesOnly marks (item.Block p) None → get d.graph.blocks p ≡ get c.graph.blocks p
   block_untouched p n = block_avoided marks r.middle.paths r.entries p r.entries r.middle d (avoids_unmarked {A = A} marks (λ i k a. true) (item.Block p) n r.entries) r.applied ∙ ap (λ g. get g.blocks p) same_graph
-
-  -- each region does
-  pub regions_same : d.graph.regions ≡ c.graph.regions
-  regions_same = applied_regions marks r.middle.paths r.entries r.entries r.middle d r.applied ∙ ap (λ g. g.regions) same_graph
-
-  pub dialects_same : d.dialects ≡ c.dialects
-  dialects_same = applied_dialects marks r.middle.paths r.entries r.entries r.middle d r.applied ∙ ap (λ (x : ContextView T A). x.dialects) r.adds.rest
-
-  pub paths_kept : KeepsPaths c.paths d.paths
-  paths_kept = subst (λ z. KeepsPaths c.paths z) (sym same_paths) r.adds.kept
 
   module _ (rules : ℕ → Rule A) (none : refused (indices_of marks) rules r.entries ≡ []) where
     all_fine : wrong_entries (indices_of marks) rules [] r.entries ≡ []

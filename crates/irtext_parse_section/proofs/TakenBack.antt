@@ -137,9 +137,6 @@ is_there t o h e = h.0 e
 pub branch_true : {P : Type 0} (Q : Type 0) (t : Bool) → t ≡ true → P → cond t P Q
 branch_true Q t e x = rw e x
 
-pub branch_false : (P : Type 0) {Q : Type 0} (t : Bool) → t ≡ false → Q → cond t P Q
-branch_false P t e x = rw e x
-
 -- ---- what an entry gives leaves what is older than its item
 module _ {T A : Type 0} (mark : ℕ) where
   operation_located_kept : (p : Ptr Operation) (l : Option (Location A)) (a b : ContextView T A) → before mark a.graph.operations p ≡ None → LocatesOperation p l a b → KeepsOlder mark a b

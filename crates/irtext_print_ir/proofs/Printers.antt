@@ -1,7 +1,6 @@
 -- What is printable.
 pub mod Requirements
 pub mod Calls
-pub mod Items
 pub mod OpPrinters
 pub mod Roots
 pub mod Gathered

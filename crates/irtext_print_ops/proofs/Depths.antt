@@ -14,7 +14,7 @@ use Rattle.irtext_graph.specs.declared.object.BasicBlock.{BasicBlock}
 use Rattle.irtext_graph.specs.declared.object.Region.{Region}
 use Rattle.irtext_graph.specs.declared.object.Object.{Object}
 use Rattle.irtext_graph.specs.declared.object.Object.TheVariants.{TheOperation, TheBlock, TheRegion}
-use Rattle.irtext_graph.specs.Graph.{GraphView, parent, children, parent_of, children_of}
+use Rattle.irtext_graph.specs.Graph.{GraphView, parent, children, children_of}
 use Rattle.irtext_graph.specs.Nested.{climb, Nested}
 use Rattle.irtext_graph.specs.Parts.{regions, blocks, operations_in}
 use Rattle.irtext_graph.specs.Store.{Cell, Store, get, object_in}
@@ -80,12 +80,6 @@ module _ {O B T : Type 0} (g : GraphView O B T) where
     three_up : (p : Ptr Operation) (r : Ptr Region) (b : Ptr BasicBlock) (q : Ptr Operation) → parent g (TheRegion r) ≡ Some (TheOperation p) → parent g (TheBlock b) ≡ Some (TheRegion r) →
         parent g (TheOperation q) ≡ Some (TheBlock b) → climb (parent g) 3 (Some (TheOperation q)) ≡ Some (TheOperation p)
     three_up p r b q e f k = ap (climb (parent g) 2) k ∙ (ap (climb (parent g) 1) f ∙ e)
-
-    has_parent : (q : Ptr Operation) (b : Ptr BasicBlock) → parent g (TheOperation q) ≡ Some (TheBlock b) → (x : _) × (get g.operations q ≡ Some x)
-    has_parent q b e = elim (seen (get g.operations q)) [
-      | inl none ↦ absurd (let k : option_map TheBlock (parent_of (get g.operations q)) ≡ None = ap (λ o. option_map TheBlock (parent_of o)) none in cc)
-      | inr at ↦ at
-    ]
 
     -- operations that stand, each of them round the one before
     abbrev AreRound : Ptr Operation → List (Ptr Operation) → Type 0

@@ -16,11 +16,6 @@ use Rattle.irtext_print_pieces.specs.Names.{name_of}
 use Rattle.irtext_print_pieces.specs.declared.lists.Facet.TheVariants as facet
 use Rattle.irtext_print_pieces.proofs.ListTexts.{texts_known}
 
--- there is none
-pub none_defined : (ts : List Text) (old new : List ℕ) → true ≡ are_none ts → new ≡ old ++ encode_utf8_all (joined comma ts) → new ≡ old ++ encode_utf8_all (defined_text ts)
-none_defined [] old new e p = p
-none_defined (t ∷ ts) old new e p = absurd (true≢false e)
-
 -- there are some
 pub some_defined : (ts : List Text) (old mid new : List ℕ) → false ≡ are_none ts → mid ≡ old ++ encode_utf8_all (joined comma ts) → new ≡ mid ++ codes " = " → new ≡ old ++ encode_utf8_all (defined_text ts)
 some_defined [] old mid new e p q = absurd (true≢false (sym e))

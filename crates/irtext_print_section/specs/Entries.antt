@@ -1,5 +1,5 @@
 -- For callers: the texts of entries, piece by piece.
-use Rattle.std.specs.Prelude.{ℕ, Bool, ◌+◌, cond, List, [], ◌∷◌, ◌++◌, map, codes, decimal, Option, ⊤}
+use Rattle.std.specs.Prelude.{ℕ, ◌+◌, List, [], ◌∷◌, ◌++◌, map, codes, decimal, Option, ⊤}
 use Rattle.irtext_base.specs.Own.{Language}
 use Rattle.irtext_base.specs.Text.{Text}
 use Rattle.irtext_grammar.specs.Grammar.Tree.{Attribute}
@@ -20,10 +20,6 @@ module _ {T A : Type 0} (C : Printing T A) (items : ℕ) (once : List A) where
     -- a key, and the attribute under it or the reference to one that is written once
     abbrev pub pair_text : Text × Attribute A → Text
     pair_text e = e.0 ++ (codes " = " ++ item L C items once e.1)
-
-    -- the same, behind `, ` where it is not the first
-    abbrev pub next_pair : Bool → Text × Attribute A → Text
-    next_pair first e = cond first [] comma ++ pair_text e
 
     -- attributes with `, ` between them
     abbrev pub pairs_text : List (Text × Attribute A) → Text

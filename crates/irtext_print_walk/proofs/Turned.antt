@@ -33,7 +33,7 @@ use Rattle.irtext_grammar.specs.Spelling.Spell.{mark_if, newline}
 use Rattle.irtext_print.specs.Printers.PrintedOperation.{levels}
 use Rattle.irtext_print.specs.declared.printable.state.RegionPrintDepthLimit.{RegionPrintDepthLimit}
 use Rattle.irtext_print.specs.declared.printable.state.RegionPrintDepthLimit.TheVariants.{Unlimited, Max}
-use Rattle.irtext_print_ops.specs.Opened.{Open, an_operation, a_region, a_block, covers, Turns, mark_text, mark_count, opened, operation_front, block_head, block_front, between_blocks, between_operations, unless_first, closing}
+use Rattle.irtext_print_ops.specs.Opened.{an_operation, a_region, a_block, covers, Turns, mark_text, mark_count, opened, operation_front, block_head, block_front, between_blocks, between_operations, unless_first, closing}
 use Rattle.irtext_print_ops.proofs.Depths.{inside_is}
 use Rattle.irtext_print_ops.proofs.Turns.{goes_on, operation_ends, no_region_turns, repeats_turns, repeats_end, elided_turns, elided_repeats, shown_turns, shown_repeats, region_ends, block_ends, block_turns, operation_turns}
 use Rattle.irtext_print_walk.specs.Walk.{is_canonical, AreDirectives, IsBegun, directives_in, or_nothing, pieces_text, behind_pieces, parts_left, seen_at, inside_of, regions_left, blocks_left, operations_left, marked_own, open_of, AllFit, marked_operation, marked_block, items_in_regions, items_in_blocks, items_in_operations, items_left, directive_count, turns_of_regions, turns_of_blocks, turns_of_operations, turns_left, Steps}
@@ -327,10 +327,6 @@ module _ {T A : Type 0} (C : Printing T A) (L : Language ⊤ T A) (ctx : Context
       items_in_regions C L ctx l (regions_by ctx.graph f rs) ≡ []
   none_covered f l [] e = refl
   none_covered f l (r ∷ rs) e = absurd (true≢false (sym e))
-
-  -- the parts of an operation whose regions are left in this way
-  abbrev left_open : OperationFrame → Bool → List (Part ⊤ T A) → Regions (Ptr Operation) (Ptr BasicBlock) (Ptr Region) → Open T A
-  left_open f repeats ps rs = an_operation f.indent (levels f.limit) (marked_own C L ctx f.marked f.op) repeats ps (seen_regions L.owns.written ctx rs)
 
   module _ (f : OperationFrame) (items : List Item) (frames : List Frame) where
     -- all is written but the mark

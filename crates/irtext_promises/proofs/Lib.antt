@@ -14,9 +14,6 @@ pub mod Kept
 pub mod WithSection
 pub mod Behind
 pub mod Root
-pub mod Alone
-pub mod Blanks
 pub mod Shapes
-pub mod Uses
 mod Rows
 pub mod AloneBuilds

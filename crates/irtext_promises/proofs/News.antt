@@ -234,8 +234,6 @@ module _ {T A : Type 0} (L : ℕ → Location A → Type 0) (start c : ContextVi
   ]
 
   -- ---- what is new uses what is new
-  root_view : OperationView T A
-  root_view = is.0.view
 
   held_is : ◌≡◌ {A = Built T A (Written A)} (record { own = held_op c all p is.0.view; regions = held_regions c all (pointers c.graph p).regions }) b
   held_is = some_eq (sym (ap (option_map (λ view. record { own = held_op c all p view; regions = held_regions c all (pointers c.graph p).regions })) is.0.is) ∙ stands)

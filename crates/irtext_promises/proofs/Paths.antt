@@ -53,8 +53,6 @@ unfolding Ends
 ends_itself s = ([], refl)
 
 -- ---- lists of objects with their paths
-Placed : Type 0
-Placed = List (Object × Path)
 
 -- each path ends in one number of these and this path
 record UnderFrom (p : Path) (k : ℕ) (xs : List (Object × Path)) : Type 0 where

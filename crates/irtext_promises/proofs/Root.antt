@@ -1,9 +1,9 @@
--- The promise of a root with its section, from what the readers of the operation and of the section leave.
-use Rattle.std.proofs.Common.{◌≡◌, ◌∙◌, ℕ, Bool, true, false, List, [], ◌∷◌, Option, Some, None, IsSome, refl, sym, ap, subst}
+-- What is wrong with a root and its section, from what the readers of the operation and of the section leave or refuse.
+use Rattle.std.proofs.Common.{◌≡◌, ◌∙◌, ℕ, Bool, true, false, List, ◌∷◌, Option, None, refl, sym, ap, subst}
 use Rattle.irtext_base.specs.Text.{Text}
 use Rattle.irtext_base.specs.Format.{Id}
 use Rattle.irtext_base.specs.Own.{texts_of}
-use Rattle.irtext_base.specs.Paths.{Written, KeepsPaths}
+use Rattle.irtext_base.specs.Paths.{Written}
 use Rattle.irtext_base.specs.Stream.{StreamView}
 use Rattle.irtext_base.specs.declared.location.Location.{Location}
 use Rattle.irtext_base.specs.declared.parsable.fault.ParseFault.{ParseFault}
@@ -12,27 +12,18 @@ use Rattle.irtext_context.specs.Context.{ContextView}
 use Rattle.irtext_context.specs.Dialects.{Table}
 use Rattle.irtext_graph.specs.declared.arena.Ptr.{Ptr}
 use Rattle.irtext_graph.specs.declared.object.Operation.{Operation}
-use Rattle.irtext_graph.specs.declared.object.BasicBlock.{BasicBlock}
-use Rattle.irtext_graph.specs.declared.object.Region.{Region}
-use Rattle.irtext_graph.specs.Store.{get}
 use Rattle.irtext_read.specs.AttrTexts.{attr_at}
 use Rattle.irtext_grammar.specs.Contexts.Formats.{format_of, isolated, IsAccepted}
-use Rattle.irtext_grammar.specs.Contexts.Held.{location_over, whole}
-use Rattle.irtext_grammar.specs.Contexts.Nested.{pointers}
+use Rattle.irtext_grammar.specs.Contexts.Held.{whole}
 use Rattle.irtext_grammar.specs.Grammar.Marked.{marked, section_if, reads_root}
 use Rattle.irtext_grammar.specs.Grammar.Reads as grammar
 use Rattle.irtext_grammar.specs.Grammar.Section.{Entry}
 use Rattle.irtext_grammar.specs.Grammar.Tree.{Tree}
-use Rattle.irtext_grammar.specs.Graphs.Build.{build}
 use Rattle.irtext_grammar.specs.Names.Acts.{rule_of, failures_of}
 use Rattle.irtext_grammar.specs.Names.Scopes.{no_scope}
-use Rattle.irtext_grammar.specs.Names.Script.{Failure, done}
+use Rattle.irtext_grammar.specs.Names.Script.{Failure}
 use Rattle.irtext_grammar.proofs.Grammar.WholeTree as trees
-use Rattle.irtext_grammar.proofs.Graphs.Links.{all_there}
-use Rattle.irtext_state.specs.States.{marks_of}
-use Rattle.irtext_state.specs.declared.parsable.state.StateStream.{StateStream}
-use Rattle.irtext_outcomes.specs.Promises.Root.{location_of}
-use Rattle.irtext_outcomes.specs.Promises.Section.{Moves, indices_of, is_noted}
+use Rattle.irtext_outcomes.specs.Promises.Section.{is_noted}
 use Rattle.irtext_outcomes.specs.Promises.Supported.{location_standing}
 use Rattle.irtext_outcomes.proofs.Joins.Answers.{Splits}
 use Rattle.irtext_nesting.specs.Exact.{NeedsWord}
@@ -42,18 +33,13 @@ use Rattle.irtext_nesting.proofs.Naming.Shorter.{Shortens}
 use Rattle.irtext_building.specs.Building.{Building, building, nothing_open, finished}
 use Rattle.irtext_building.proofs.Built.{tree_finished}
 use Rattle.irtext_building.proofs.Whole.{whole_read}
-use Rattle.irtext_promises.specs.Given.{RootHas}
-use Rattle.irtext_promises.specs.Held.{held_root, IsWhole}
-use Rattle.irtext_promises.specs.Leaves.{StandsBehind, LeavesTree, LeavesClosed}
+use Rattle.irtext_promises.specs.Leaves.{StandsBehind, LeavesTree}
 use Rattle.irtext_promises.specs.OnlyNew.{OnlyNew}
-use Rattle.irtext_promises.specs.Promises.{IsFirst, HasFault, RefusesRoot, BuildsRoot, tree_marks}
-use Rattle.irtext_promises.specs.WithSection.{refused, SameShape}
-use Rattle.irtext_promises.proofs.Builds as builds
-use Rattle.irtext_promises.proofs.Given.{Gives, root_given}
+use Rattle.irtext_promises.specs.Promises.{IsFirst, HasFault, RefusesRoot, tree_marks}
+use Rattle.irtext_promises.specs.WithSection.{refused}
 use Rattle.irtext_promises.proofs.Kept as kept
 use Rattle.irtext_promises.proofs.Refuses.{refuses_root}
-use Rattle.irtext_promises.proofs.Wholes.{root_whole}
-use Rattle.irtext_promises.proofs.WithSection.{section_alone, tree_noted, pointers_same, builds_given, only_still}
+use Rattle.irtext_promises.proofs.WithSection.{section_alone, tree_noted}
 
 came_with : {X S : Type 0} (x y : X) (s t : S) (a b : Text) → Came x s a ≡ Came y t b → (s ≡ t) × (a ≡ b)
 came_with x y s t a b e = (cc, cc)
@@ -97,64 +83,6 @@ module _ {T A : Type 0} (types_at : Text → Outcome T) (types_written : T → T
         let moved = subst (λ z. section_if (knot.L types_at types_written reading written dialects) (location_standing (attr_at reading)) (marked leaves.tree) es z left) (sym same.1)
         (subst (λ z. section_if (knot.L types_at types_written reading written dialects) (location_standing (attr_at reading)) (marked z) es between left) (sym same.0) s) in
         subst (λ z. IsFirst all (failures_of (isolated dialects) z es) fault) same.0 (subst (λ fs. IsFirst all fs fault) (sym (section_failures es)) (first es left moved))
-
-    module _ (closed : LeavesClosed old mid) (new : ContextView T A) (shape : SameShape mid.graph new.graph) (first : ℕ → Written A) (es : List (Entry ℕ A (Written A))) (gives : Gives L mid leaves.items first new es) where
-      -- what the tree builds with its section stands under the pointer
-      pub root_builds : held_root new op ≡ Some (build (isolated dialects) first es leaves.tree)
-      root_builds =
-          let named = kept.named types_at types_written reading written dialects types_split splits words short_types short_owns accepted L op marks old mid text rest leaves in
-          let behind = kept.behind types_at types_written reading written dialects types_split splits words short_types short_owns accepted L op marks old mid text rest leaves in
-          let formed = kept.formed types_at types_written reading written dialects types_split splits words short_types short_owns accepted L op marks old mid text rest leaves in
-          let ran = kept.ran types_at types_written reading written dialects types_split splits words short_types short_owns accepted L op marks old mid text rest leaves in
-          let is = builds.is_tree L old mid leaves.items leaves.whole op leaves.tree leaves.held closed.nest named.0 named.1 first (isolated dialects) formed behind.names behind.known behind.are behind.state behind.stands ran in
-          let resolves = kept.tree_resolves types_at types_written reading written dialects types_split splits words short_types short_owns accepted L op marks old mid text rest leaves in
-          let keeps = builds.keeps L old mid leaves.items leaves.whole op leaves.tree leaves.held closed.nest named.0 named.1 first (isolated dialects) formed behind.names behind.known behind.are behind.state behind.stands ran es in
-          builds_given mid new shape first (isolated dialects) op leaves.tree es (all_there (isolated dialects) first es leaves.tree formed done resolves) keeps (root_given L mid leaves.items first new es gives (pointers mid.graph op) leaves.tree is)
-
-      -- all of it is there
-      pub root_there : IsWhole new op
-      root_there =
-          let named = kept.named types_at types_written reading written dialects types_split splits words short_types short_owns accepted L op marks old mid text rest leaves in
-          let behind = kept.behind types_at types_written reading written dialects types_split splits words short_types short_owns accepted L op marks old mid text rest leaves in
-          let formed = kept.formed types_at types_written reading written dialects types_split splits words short_types short_owns accepted L op marks old mid text rest leaves in
-          let ran = kept.ran types_at types_written reading written dialects types_split splits words short_types short_owns accepted L op marks old mid text rest leaves in
-          let is = builds.is_tree L old mid leaves.items leaves.whole op leaves.tree leaves.held closed.nest named.0 named.1 first (isolated dialects) formed behind.names behind.known behind.are behind.state behind.stands ran in
-          let has = root_given L mid leaves.items first new es gives (pointers mid.graph op) leaves.tree is in
-          root_whole new first es op leaves.tree (subst (λ ps. RootHas new first es ps leaves.tree) (sym (pointers_same mid.graph new.graph shape op)) has)
-
--- a root that was read with its section keeps the promise
-pub builds_root : {T A U : Type 0} (types_at : Text → Outcome T) (types_written : T → Text) (reading : Text → Outcome A) (written : A → Text) → Splits types_at → Splits reading → NeedsWord reading → Shortens (texts_of types_at types_written) → Shortens (texts_of reading written)
-    → (L : ℕ → Location A → Type 0) (op : Ptr Operation) (old mid new : StateStream T A U) → ((id : Id) → IsAccepted old.state.ctx.now.dialects id)
-    → (leaves : LeavesTree types_at (attr_at reading) old.state.ctx.now.dialects L op (indices_of (marks_of mid.state)) old.state.ctx.now mid.state.ctx.now old.stream.rest mid.stream.rest) → LeavesClosed old.state.ctx.now mid.state.ctx.now
-    → (es : List (Entry ℕ A (Written A))) → section_if (knot.L types_at types_written reading written old.state.ctx.now.dialects) (location_standing (attr_at reading)) (marked leaves.tree) es mid.stream.rest new.stream.rest
-    → refused (indices_of (marks_of mid.state)) (rule_of leaves.tree) es ≡ []
-    → SameShape mid.state.ctx.now.graph new.state.ctx.now.graph
-    → Gives L mid.state.ctx.now leaves.items (location_of new.state.ctx.now.paths old.state.src (whole old.stream)) new.state.ctx.now es
-    → ((p : Ptr Operation) → IsSome (get old.state.ctx.now.graph.operations p) → get new.state.ctx.now.graph.operations p ≡ get mid.state.ctx.now.graph.operations p)
-    → ((b : Ptr BasicBlock) → IsSome (get old.state.ctx.now.graph.blocks b) → get new.state.ctx.now.graph.blocks b ≡ get mid.state.ctx.now.graph.blocks b)
-    → ((r : Ptr Region) → IsSome (get old.state.ctx.now.graph.regions r) → get new.state.ctx.now.graph.regions r ≡ get mid.state.ctx.now.graph.regions r)
-    → KeepsPaths old.state.ctx.now.paths new.state.ctx.now.paths → new.state.ctx.now.dialects ≡ mid.state.ctx.now.dialects
-    → ((n : ℕ) (l : Location A) → L n l → location_over mid.state.ctx.now.paths l ≡ location_of mid.state.ctx.now.paths old.state.src (whole old.stream) n)
-    → Moves old.stream new.stream → marks_of new.state ≡ []
-    → BuildsRoot (texts_of types_at types_written) (texts_of reading written) (attr_at reading) op old new
-builds_root types_at types_written reading written types_split splits words short_types short_owns L op old mid new accepted leaves closed es section none shape gives operations blocks regions paths dialects tells moves fresh =
-    let ds = old.state.ctx.now.dialects in
-    let ms = indices_of (marks_of mid.state) in
-    record {
-      tree = leaves.tree;
-      entries = es;
-      reads = (mid.stream.rest, kept.reads_tree types_at types_written reading written ds types_split splits words short_types short_owns accepted L op ms old.state.ctx.now mid.state.ctx.now old.stream.rest mid.stream.rest leaves, section);
-      resolves = section_failures types_at types_written reading written ds types_split splits words short_types short_owns accepted L op ms old.state.ctx.now mid.state.ctx.now old.stream.rest mid.stream.rest leaves es ∙ none;
-      moves = moves;
-      builds = root_builds types_at types_written reading written ds types_split splits words short_types short_owns accepted L op ms old.state.ctx.now mid.state.ctx.now old.stream.rest mid.stream.rest leaves closed new.state.ctx.now shape
-          (location_of new.state.ctx.now.paths old.state.src (whole old.stream)) es gives;
-      is_whole = root_there types_at types_written reading written ds types_split splits words short_types short_owns accepted L op ms old.state.ctx.now mid.state.ctx.now old.stream.rest mid.stream.rest leaves closed new.state.ctx.now shape
-          (location_of new.state.ctx.now.paths old.state.src (whole old.stream)) es gives;
-      fresh = fresh;
-      only = only_still op old.state.ctx.now mid.state.ctx.now new.state.ctx.now
-          (kept.tree_only types_at types_written reading written ds types_split splits words short_types short_owns accepted L op ms old.state.ctx.now mid.state.ctx.now old.stream.rest mid.stream.rest leaves closed
-          (location_of mid.state.ctx.now.paths old.state.src (whole old.stream)) tells) shape operations blocks regions paths dialects;
-    }
 
 module _ {T A : Type 0} (types_at : Text → Outcome T) (types_written : T → Text) (reading : Text → Outcome A) (written : A → Text) (dialects : List (Text × Table)) (types_split : Splits types_at) (splits : Splits reading) (words : NeedsWord reading)
     (short_types : Shortens (texts_of types_at types_written)) (short_owns : Shortens (texts_of reading written)) where

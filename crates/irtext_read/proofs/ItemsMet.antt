@@ -15,7 +15,6 @@ module _ {S X Y A : Type 0} (view : S → StreamView) (at : S → StreamView →
 
 module _ {S F X Y A : Type 0} (view : S → StreamView) (at : S → StreamView → S) (view_at : (s : S) (v : StreamView) → view (at s v) ≡ v) (at_view : (s : S) → at s (view s) ≡ s) (at_at : (s : S) (v w : StreamView) → at (at s v) w ≡ at s w)
     (calls : F → S → Result X (ParseFault A) → F → S → Type 0) (see : X → Y) (R : Text → Outcome Y → Type 0) where
-
   -- a value with the rest as the stream has it
   pub settled : (s t : S) (x : X) → Each {A = A} view at see R s (Ok x) t → (k : Text) × R (view s).rest (Read (see x) k (view t).rest) × Takes view at k (view t).rest s t
   settled s t x e =

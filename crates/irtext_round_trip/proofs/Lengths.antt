@@ -17,9 +17,6 @@ length_both (x ∷ xs) ys = let r = length_both xs ys in omega (arith, r)
 longer : (xs ys : Text) → length ys ≤ length (xs ++ ys)
 longer xs ys = let e = length_both xs ys in omega (arith, e)
 
-more : (c : ℕ) (xs ys : Text) (n : ℕ) → n ≤ length ys → suc n ≤ length ((c ∷ xs) ++ ys)
-more c xs ys n h = let e = longer xs ys in omega (arith, e, h)
-
 module _ {T A : Type 0} (L : Language ⊤ T A) (C : Printing T A) where
   entries_long : (items : ℕ) (once : List A) (n : ℕ) (es : List (graph.Entry C)) → length es ≤ length (entry_texts L C items once n es)
   entries_long items once n [] = omega arith

@@ -1,13 +1,12 @@
--- Heads and links agree with the bindings: one more binding, the last one taken away, one rebound; and the scopes that the marks cut.
-use Rattle.std.proofs.Common.{◌≡◌, ℕ, zero, suc, ◌<◌, ◌≤◌, Bool, true, false, cond, List, [], ◌∷◌, ◌++◌, reverse, length, take, drop, set, is_some, length-set, length-append, length-take-le, Option, Some, None, nat_eq, nat_le, nat_lt, ltb-true, ltb-false, refl, sym, ap, ◌∙◌, subst, arith, eq-eqb, eqb-true, leb-true, le-leb, ⊎_elim}
-use Rattle.std.proofs.lemmas.List.{reverse-append}
+-- Heads and links agree with the bindings: one more binding, the last one taken away, one rebound.
+use Rattle.std.proofs.Common.{◌≡◌, ℕ, zero, suc, ◌<◌, ◌≤◌, Bool, true, false, cond, List, [], ◌∷◌, ◌++◌, reverse, length, take, drop, set, length-set, length-append, Option, Some, None, nat_eq, nat_le, nat_lt, ltb-true, ltb-false, refl, sym, ap, ◌∙◌, subst, arith, eq-eqb, eqb-true, leb-true, le-leb, ⊎_elim}
 use Rattle.std.specs.List.{slice_get}
 use Rattle.std.specs.Option.{option_or, option_map}
 use Rattle.irtext_scopes.specs.declared.scopes.Binding.{Binding}
-use Rattle.irtext_scopes.specs.Scopes.{find, innermost, outer, is_open, in_innermost, mentioned, resolved, first_pending}
+use Rattle.irtext_scopes.specs.Scopes.{find, innermost, in_innermost, mentioned, resolved}
 use Rattle.irtext_scopes.specs.Bindings.{entries_of, scopes_from, scopes_at, newest, head_at, first, from_mark, place_in, falls, are_apart, are_maps, rebound, Chained, IsSound}
-use Rattle.irtext_scopes.proofs.Lists.{get_within, get_or_there, get_snoc, take_snoc, take_whole, drop_snoc, take_length, drop_length, get_last, get_front, set_there}
-use Rattle.irtext_scopes.proofs.Maps.{innermost_apart, outer_maps, mentioned_maps, resolved_maps}
+use Rattle.irtext_scopes.proofs.Lists.{get_within, get_or_there, get_snoc, take_snoc, take_whole, drop_snoc, get_last, get_front, set_there}
+use Rattle.irtext_scopes.proofs.Maps.{innermost_apart, mentioned_maps, resolved_maps}
 use Rattle.irtext_scopes.proofs.Newest.{newest_there, innermost_at, find_absent, find_hidden, find_there, rebound_scopes}
 
 -- ---- marks
@@ -70,14 +69,6 @@ module _ {V : Type 0} where
     maps = ap are_maps (added_scopes heads marks bs b s) ∙ mentioned_maps b.name b.entry (scopes_at marks bs) s.maps none;
   }
 
-  -- other heads that lead to the same places
-  pub same_sound : (heads heads' : List (Option ℕ)) (marks : List ℕ) (bs : List (Binding V)) → IsSound heads bs marks → ((n : ℕ) → head_at heads' n ≡ head_at heads n) → IsSound heads' bs marks
-  same_sound heads heads' marks bs s same = record {
-    chained = record { heads_lead = λ n. same n ∙ s.chained.heads_lead n; links_lead = s.chained.links_lead };
-    marks_fall = s.marks_fall;
-    maps = s.maps;
-  }
-
   -- ---- the last binding taken away
   pub taken_chained : (heads heads' : List (Option ℕ)) (bs : List (Binding V)) (b : Binding V) → Chained heads (bs ++ b ∷ [])
       → ((n : ℕ) → head_at heads' n ≡ cond (nat_eq b.name n) b.hidden (head_at heads n)) → Chained heads' bs
@@ -98,40 +89,6 @@ module _ {V : Type 0} where
       in_range heads b.name (length bs) (c.heads_lead b.name ∙ (newest_snoc b.name bs b ∙ ap (λ d. cond d (Some (length bs)) (newest b.name bs)) (eq-eqb b.name b.name refl)))
 
   -- ---- a scope begins, and ends
-  pub entered_scopes : (marks : List ℕ) (bs : List (Binding V)) (m : ℕ) → m ≡ length bs → scopes_at (marks ++ m ∷ []) bs ≡ [] ∷ scopes_at marks bs
-  entered_scopes marks bs m e =
-      ap (λ k. scopes_from k bs) (reverse-append marks (m ∷ []))
-      ∙ (λ i. entries_of ((ap (λ k. drop k bs) e ∙ drop_length bs) i) ∷ scopes_from (reverse marks) ((ap (λ k. take k bs) e ∙ take_length bs) i))
-
-  pub entered_sound : (heads : List (Option ℕ)) (marks : List ℕ) (bs : List (Binding V)) (m : ℕ) → m ≡ length bs → IsSound heads bs marks → IsSound heads bs (marks ++ m ∷ [])
-  entered_sound heads marks bs m e s = record {
-    chained = s.chained;
-    marks_fall = ap (falls (length bs)) (reverse-append marks (m ∷ []))
-        ∙ (ap (λ c. cond c (falls m (reverse marks)) false) (le-leb m (length bs) (omega (arith, e))) ∙ (ap (λ k. falls k (reverse marks)) e ∙ s.marks_fall));
-    maps = ap are_maps (entered_scopes marks bs m e) ∙ s.maps;
-  }
-
-  -- where the innermost scope begins, and what the marks of the others say
-  pub last_mark : (heads : List (Option ℕ)) (marks : List ℕ) (bs : List (Binding V)) (m : ℕ) → IsSound heads bs (marks ++ m ∷ []) → (m ≤ length bs) × (falls m (reverse marks) ≡ true)
-  last_mark heads marks bs m s = fall_first (length bs) m (reverse marks) (sym (ap (falls (length bs)) (reverse-append marks (m ∷ []))) ∙ s.marks_fall)
-
-  whole_scopes : (marks : List ℕ) (bs : List (Binding V)) (m : ℕ) → scopes_at (marks ++ m ∷ []) bs ≡ entries_of (drop m bs) ∷ scopes_at marks (take m bs)
-  whole_scopes marks bs m = ap (λ k. scopes_from k bs) (reverse-append marks (m ∷ []))
-
-  pub left_scopes : (marks : List ℕ) (bs : List (Binding V)) (m : ℕ) → scopes_at marks (take m bs) ≡ outer (scopes_at (marks ++ m ∷ []) bs)
-  left_scopes marks bs m = sym (ap outer (whole_scopes marks bs m))
-
-  pub left_first : (marks : List ℕ) (bs : List (Binding V)) (m : ℕ) → first_pending (entries_of (drop m bs)) ≡ first_pending (innermost (scopes_at (marks ++ m ∷ []) bs))
-  left_first marks bs m = sym (ap (λ ss. first_pending (innermost ss)) (whole_scopes marks bs m))
-
-  pub left_sound : (heads heads' : List (Option ℕ)) (marks : List ℕ) (bs : List (Binding V)) (m : ℕ) → IsSound heads bs (marks ++ m ∷ []) → Chained heads' (take m bs) → IsSound heads' (take m bs) marks
-  left_sound heads heads' marks bs m s c =
-      let k = last_mark heads marks bs m s in
-      record {
-        chained = c;
-        marks_fall = ap (λ z. falls z (reverse marks)) (length-take-le m bs k.0) ∙ k.1;
-        maps = ap are_maps (left_scopes marks bs m) ∙ outer_maps (scopes_at (marks ++ m ∷ []) bs) s.maps;
-      }
 
   pub closed_scopes : (marks : List ℕ) (bs : List (Binding V)) → first (reverse marks) ≡ None → scopes_at marks bs ≡ []
   closed_scopes marks bs e = go (reverse marks) e
@@ -139,13 +96,6 @@ module _ {V : Type 0} where
       go : (ms : List ℕ) → first ms ≡ None → scopes_from ms bs ≡ []
       go [] h = refl
       go (m ∷ ms) h = cc
-
-  open_from : (ms : List ℕ) (bs : List (Binding V)) → is_some (first ms) ≡ is_open (scopes_from ms bs)
-  open_from [] bs = refl
-  open_from (m ∷ ms) bs = refl
-
-  pub open_scopes : (marks : List ℕ) (bs : List (Binding V)) → is_some (first (reverse marks)) ≡ is_open (scopes_at marks bs)
-  open_scopes marks bs = open_from (reverse marks) bs
 
   -- no name stands twice in the innermost scope
   pub mark_apart : (heads : List (Option ℕ)) (marks : List ℕ) (bs : List (Binding V)) (m : ℕ) → IsSound heads bs marks → first (reverse marks) ≡ Some m → are_apart (entries_of (drop m bs)) ≡ true

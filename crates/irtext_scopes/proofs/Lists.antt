@@ -32,14 +32,6 @@ module _ {A : Type 0} where
   drop_snoc [] b (suc i) h = absurd (omega arith)
   drop_snoc (k ∷ bs) b (suc i) h = drop_snoc bs b i (omega arith)
 
-  pub take_length : (bs : List A) → take (length bs) bs ≡ bs
-  take_length [] = refl
-  take_length (b ∷ bs) = ap (λ z. b ∷ z) (take_length bs)
-
-  pub drop_length : (bs : List A) → drop (length bs) bs ≡ []
-  drop_length [] = refl
-  drop_length (b ∷ bs) = drop_length bs
-
   pub get_last : (bs : List A) (b : A) → slice_get (bs ++ b ∷ []) (length bs) ≡ Some b
   get_last [] b = refl
   get_last (k ∷ bs) b = get_last bs b

@@ -3,7 +3,7 @@ use Rattle.std.proofs.Common.{◌≡◌, ℕ, Bool, true, false, cond, List, [],
 use Rattle.std.specs.Option.{option_or}
 use Rattle.irtext_scopes.specs.declared.scopes.Entry.{Entry}
 use Rattle.irtext_scopes.specs.declared.scopes.Entry.TheVariants.{Defined}
-use Rattle.irtext_scopes.specs.Scopes.{Scope, find, innermost, outer, in_innermost, mentioned, resolved, defined_from}
+use Rattle.irtext_scopes.specs.Scopes.{Scope, find, innermost, in_innermost, mentioned, resolved}
 use Rattle.irtext_scopes.specs.Bindings.{are_apart, are_maps}
 
 module _ {V : Type 0} where
@@ -49,10 +49,6 @@ module _ {V : Type 0} where
   pub innermost_apart : (ss : List (Scope V)) → are_maps ss ≡ true → are_apart (innermost ss) ≡ true
   innermost_apart [] h = refl
   innermost_apart (s ∷ ss) h = maps_head s ss h
-
-  pub outer_maps : (ss : List (Scope V)) → are_maps ss ≡ true → are_maps (outer ss) ≡ true
-  outer_maps [] h = refl
-  outer_maps (s ∷ ss) h = maps_tail s ss h
 
   -- the innermost scope changed into one in which no name stands twice
   changed_maps : (f : Scope V → Scope V) (ss : List (Scope V)) → are_maps ss ≡ true → are_apart (f (innermost ss)) ≡ true → are_maps (in_innermost f ss) ≡ true
@@ -118,12 +114,3 @@ module _ {V : Type 0} where
   pub in_innermost_unknown : (n : ℕ) (v : V) (ss : List (Scope V)) → None ≡ find n (innermost ss) → ss ≡ in_innermost (resolved n v) ss
   in_innermost_unknown n v [] e = refl
   in_innermost_unknown n v (s ∷ ss) e = ap (λ z. z ∷ ss) (sym (resolved_unknown n v s (sym e)))
-
-  -- a name that is known is defined in its place, and a new one behind the others
-  pub defined_known : (n : ℕ) (v : V) (e : Entry V) (ss : List (Scope V)) → find n (innermost ss) ≡ Some e → in_innermost (resolved n v) ss ≡ in_innermost (λ s. defined_from n v s (find n s)) ss
-  defined_known n v e [] h = refl
-  defined_known n v e (s ∷ ss) h = ap (λ o. defined_from n v s o ∷ ss) (sym h)
-
-  pub defined_new : (n : ℕ) (v : V) (ss : List (Scope V)) → find n (innermost ss) ≡ None → in_innermost (mentioned n (Defined v)) ss ≡ in_innermost (λ s. defined_from n v s (find n s)) ss
-  defined_new n v [] h = refl
-  defined_new n v (s ∷ ss) h = ap (λ o. defined_from n v s o ∷ ss) (sym h)

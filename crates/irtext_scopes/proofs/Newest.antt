@@ -1,5 +1,5 @@
 -- The newest binding of a name is what the innermost scope has under it.
-use Rattle.std.proofs.Common.{◌≡◌, ℕ, zero, suc, ◌<◌, ◌≤◌, Bool, true, false, cond, List, [], ◌∷◌, length, drop, set, take, get_or, Option, Some, None, nat_eq, nat_lt, refl, sym, ap, ◌∙◌, subst, arith, eqb-true, lt-ltb, le-ltb, ltb-true, ltb-false}
+use Rattle.std.proofs.Common.{◌≡◌, ℕ, zero, suc, ◌<◌, ◌≤◌, Bool, true, false, cond, List, [], ◌∷◌, drop, set, take, get_or, Option, Some, None, nat_eq, nat_lt, refl, sym, ap, ◌∙◌, subst, arith, eqb-true, lt-ltb, le-ltb, ltb-true, ltb-false}
 use Rattle.std.specs.List.{slice_get}
 use Rattle.std.specs.Option.{option_or, option_map}
 use Rattle.irtext_scopes.specs.declared.scopes.Entry.{Entry}
@@ -7,7 +7,7 @@ use Rattle.irtext_scopes.specs.declared.scopes.Entry.TheVariants.{Defined}
 use Rattle.irtext_scopes.specs.declared.scopes.Binding.{Binding}
 use Rattle.irtext_scopes.specs.Scopes.{find, innermost, in_innermost, resolved}
 use Rattle.irtext_scopes.specs.Bindings.{entries_of, scopes_from, newest, first, are_apart, rebound}
-use Rattle.irtext_scopes.proofs.Lists.{get_within, get_or_there}
+use Rattle.irtext_scopes.proofs.Lists.{get_or_there}
 use Rattle.irtext_scopes.proofs.Maps.{not_again, apart_tail, resolved_unknown}
 
 module _ {V : Type 0} where
@@ -30,9 +30,6 @@ module _ {V : Type 0} where
 
   pub newest_there : (n i : ℕ) (bs : List (Binding V)) → newest n bs ≡ Some i → (b : Binding V) × (slice_get bs i ≡ Some b) × (b.name ≡ n)
   newest_there n i bs h = subst (Stands n bs) h (stands n bs)
-
-  pub newest_within : (n i : ℕ) (bs : List (Binding V)) → newest n bs ≡ Some i → i < length bs
-  newest_within n i bs h = let t = newest_there n i bs h in get_within bs i t.0 t.1
 
   -- what a scope that begins at m has under n, by the newest binding of n
   abbrev pub Tells : ℕ → ℕ → List (Binding V) → Option ℕ → Type 0

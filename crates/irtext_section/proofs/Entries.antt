@@ -51,21 +51,6 @@ no_given_there (c ∷ text) e = other c e
     other : (c : ℕ) → begins_word c ≡ true → (the 64 c || the 91 c) ≡ false
     other c e = grind (arith, nat_tests)
 
--- where one of both characters stands it goes on
-given_by : (text : Text) → begins (the 91) text ≡ true → begins_given text ≡ true
-given_by [] e = e
-given_by (c ∷ text) e = other c e
-  where
-    other : (c : ℕ) → the 91 c ≡ true → (the 64 c || the 91 c) ≡ true
-    other c e = grind (arith, nat_tests)
-
-given_at_sign : (text : Text) → begins (the 64) text ≡ true → begins_given text ≡ true
-given_at_sign [] e = e
-given_at_sign (c ∷ text) e = other c e
-  where
-    other : (c : ℕ) → the 64 c ≡ true → (the 64 c || the 91 c) ≡ true
-    other c e = grind (arith, nat_tests)
-
 -- ---- one entry
 -- a head that is answered passed the test, where an item's entry goes on
 tested_read : (test : ℕ → Bool) (o : Outcome (Mark ℕ)) (m : Mark ℕ) (taken rest : Text) → tested test o ≡ Read m taken rest → (o ≡ Read m taken rest) × ((begins_given rest && not (test m.index)) ≡ false)

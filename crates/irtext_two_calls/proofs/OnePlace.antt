@@ -25,9 +25,6 @@ use Rattle.irtext_promises.specs.Held.{PtrRegions, placed_regions, placed_blocks
 use Rattle.irtext_promises.proofs.Equal.{get_map}
 use Rattle.irtext_promises.proofs.Paths.{Once, once_under, path_found}
 
-abbrev Placed : Type 0
-Placed = List (Object × Path)
-
 head_same : (j k : ℕ) (p q : Path) → ◌≡◌ {A = Path} (j ∷ p) (k ∷ q) → j ≡ k
 head_same j k p q e = cc
 

@@ -18,7 +18,7 @@ use Rattle.irtext_graph.specs.Erasing.{owner, named_at}
 use Rattle.irtext_graph.specs.Graph.{GraphView, content, content_of, MakesOperation, MakesBlock}
 use Rattle.irtext_graph.specs.Parts.{operation_at, operands_of, successors_of}
 use Rattle.irtext_graph.specs.Store.{get}
-use Rattle.irtext_graph.specs.Used.{replaced, used_at, user, IsUse}
+use Rattle.irtext_graph.specs.Used.{replaced, user, IsUse}
 use Rattle.irtext_graph.proofs.Linked.{defined_tells}
 use Rattle.irtext_graph.proofs.Nests.{some_eq}
 use Rattle.irtext_graph.proofs.Redirected.{replaced_kept}
@@ -53,12 +53,6 @@ module _ {O B T : Type 0} where
     f.1,
     subst (λ c. option_map (λ c. c.data_of) (option_map (λ e. e.content.content) c) ≡ Some (Some f.1)) (sym e) f.2,
   )
-
-  -- a use is in place still that names what it named, in an operation that has data still
-  pub stays_named : (g k : GraphView (Option O) B T) (s : Site) (d : Defined) → used_at k s ≡ used_at g s
-      → ((x : O) → option_map (λ c. c.data_of) (operation_at g (user s)) ≡ Some (Some x) → (y : O) × (option_map (λ c. c.data_of) (operation_at k (user s)) ≡ Some (Some y)))
-      → IsInPlace g d s → IsInPlace k d s
-  stays_named g k s d e data_stays f = let r = data_stays f.1 f.2 in (e ∙ f.0, r.0, r.1)
 
   -- nothing is in place where no operation stands
   absent : (g : GraphView (Option O) B T) (s : Site) (d : Defined) → IsInPlace g d s → get g.operations (user s) ≡ None → ⊥

@@ -7,7 +7,7 @@ use Rattle.irtext_graph.specs.declared.object.Defined.TheVariants.{OfValue, OfBl
 use Rattle.irtext_graph.specs.Graph.{GraphView}
 use Rattle.irtext_scopes.specs.declared.tracker.NameTracker.{NameTracker}
 use Rattle.irtext_scopes.specs.Scopes.{is_open}
-use Rattle.irtext_grammar.specs.Names.Script.{Place, User, use_value, use_label, define_value, define_label, NoActiveScope}
+use Rattle.irtext_grammar.specs.Names.Script.{Place, User, use_value, use_label, define_value, NoActiveScope}
 use Rattle.irtext_grammar.specs.Names.Scopes.{fact_of, outside}
 use Rattle.irtext_grammar.specs.Names.TextScopes.{Word, defined_before}
 use Rattle.irtext_grammar.specs.Names.History.{act, after, outcome}
@@ -33,10 +33,4 @@ module _ {O B T : Type 0} (names : NameTracker Value (Ptr BasicBlock)) (g : Grap
   label_use_outside u shut = record {
     so = λ known held st s.
         ap (λ o. outcome (outside o w) (after st (fact_of (use_label w u)))) (none_open OfBlock names.names known.blocks known.sites held g st.labels names.labels shut s.label_links);
-  }
-
-  pub label_definition_outside : (p : Place) → is_open names.labels ≡ false → FailsBy (act (define_label w p)) names g (record { cause = NoActiveScope w.name; at = Some w.at })
-  label_definition_outside p shut = record {
-    so = λ known held st s.
-        ap (λ o. outcome (defined_before o w) (after st (fact_of (define_label w p)))) (none_open OfBlock names.names known.blocks known.sites held g st.labels names.labels shut s.label_links);
   }

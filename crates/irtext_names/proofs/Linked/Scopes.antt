@@ -184,12 +184,6 @@ module _ {V : Type 0} where
     mentioned_there : (n : ℕ) (t : Text) (e : Entry V) → slice_get names n ≡ Some t → find n s ≡ Some e → among t (names_from [] fs) ≡ true
     mentioned_there n t e k f = let r = in_texts names s (names_from [] fs) (order_of m) n e f in ap (λ u. among u (names_from [] fs)) (some_eq (sym k ∙ r.1)) ∙ r.2
 
-    -- a name that is used is in the scope
-    pub used_there : (n : ℕ) (t : Text) (u : User) → AreDistinct names → slice_get names n ≡ Some t → Among (uses t u) fs → (e : Entry V) × (find n s ≡ Some e)
-    used_there n t u distinct k a =
-        let r = of_texts names s (names_from [] fs) (order_of m) t (used_among t u [] fs a) in
-        (r.2, ap (λ i. find i s) (distinct n r.0 t k r.1) ∙ r.3)
-
     -- a name of the scope is used once more
     pub means_known_use : (n : ℕ) (t : Text) (u : User) (e : Entry V) → find n s ≡ Some e → slice_get names n ≡ Some t → Means names made (fs ++ uses t u ∷ []) s
     means_known_use n t u e f k = record {

@@ -1,11 +1,11 @@
 -- The reader of an operation's lead answers what the grammar reads in front of its parts: the names of its results, and its id.
 use Rattle.std.proofs.Common.{◌≡◌, ◌∙◌, ℕ, Bool, true, false, cond, List, Option, Some, None, [], ◌∷◌, ◌++◌, map, refl, sym, ap, ap₂, subst, inl, inr, is_some, true≢false}
-use Rattle.std.specs.Prelude.{◌↔◌, codes, option_and_then}
+use Rattle.std.specs.Prelude.{codes, option_and_then}
 use Rattle.std.specs.Option.{option_map}
 use Rattle.std.specs.Char.{is_whitespace}
 use Rattle.std.specs.Map.{lookup}
 use Rattle.irtext_base.specs.Text.{Text, front, after, after_space}
-use Rattle.irtext_base.specs.Reading.{Reading, ◌▹◌, ◌▸◌, literal, separated}
+use Rattle.irtext_base.specs.Reading.{Reading, ◌▸◌, literal, separated}
 use Rattle.irtext_base.specs.Faults.{UnregisteredDialect, UnregisteredOp}
 use Rattle.irtext_base.specs.Format.{Id, Format}
 use Rattle.irtext_base.specs.Answers.{Outcome, Read, Missing, Bad, mapped, followed, prefixed}
@@ -16,23 +16,17 @@ use Rattle.irtext_context.specs.DialectTable.{dialect_of}
 use Rattle.irtext_read.specs.Tokens.{space_at, id_at}
 use Rattle.irtext_grammar.specs.Contexts.Formats.{op_id, format_of}
 use Rattle.irtext_grammar.specs.Grammar.Reads as reads
-use Rattle.irtext_grammar.specs.Grammar.Tree.{Name, Op, IsOf, parts_of}
+use Rattle.irtext_grammar.specs.Grammar.Tree.{Name}
 use Rattle.irtext_outcomes.specs.Readers.Parts.{behind}
 use Rattle.irtext_outcomes.specs.Readers.Operations.{registered_behind}
 use Rattle.irtext_outcomes.proofs.Joins.Answers.{followed_read, followed-read, mapped_read}
 use Rattle.irtext_outcomes.proofs.Joins.Lead.{format_known}
 use Rattle.irtext_outcomes.proofs.Joins.Tokens.{id_read, id_found, splits_space, splits_id}
-use Rattle.irtext_nesting.specs.Exact.{Exact, operation_lead, registered_lead}
+use Rattle.irtext_nesting.specs.Exact.{Exact, registered_lead}
 use Rattle.irtext_nesting.specs.Heads.{results_at, named, lead_at, led_by, led_at}
 use Rattle.irtext_nesting.proofs.Exact.Combined.{exact_word, exact_before, split_behind}
 use Rattle.irtext_nesting.proofs.Exact.Listed.{exact_list, loosened, tightened}
 use Rattle.irtext_nesting.proofs.Exact.Names.{exact_name, starts_name}
-
-module _ {P T A : Type 0} (L : Language P T A) where
-  -- An operation is its lead, where it is registered, its parts, and its mark.
-  pub operation_in_parts : (o : Op P T A) (regions : List Reading) (text rest : Text) → reads.operation_read L o regions text rest
-      ↔ ((f : Format) × (L.format_of o.id ≡ Some f) × IsOf f o.body) × reads.here L o.place (operation_lead L (o.names, o.id) ▸ (reads.parts L (parts_of o.body) regions ▹ reads.mark_if L o.mark)) text rest
-  operation_in_parts o regions text rest = (λ (at, (r, (m, a, (n, b, z)))). (r, (at, (n, (m, a, b), z))), λ (r, (at, (n, (m, a, b), z))). (at, (r, (m, a, (n, b, z)))))
 
 -- ---- names and `=`
 module _ {T A : Type 0} (types : Texts T) (owns : Texts A) (formats : Id → Option Format) where

@@ -18,7 +18,7 @@ use Rattle.irtext_outcomes.proofs.Locations.RestLengths.{within_honest, ◌then�
 use Rattle.irtext_nesting.specs.Heads.{Step, flat, types, one, all, front_steps, region_steps, piece_at}
 use Rattle.irtext_nesting.specs.Reached.{Reached, tells, Doing, Reads, begins_operation, begins_region, begins_block, steps_in, regions_by, more_by, operations_by, blocks_by, front_by, steps_by, end_by, body_by, operation_by, block_by, region_by, region_within, region_at, operation_at}
 use Rattle.irtext_nesting.proofs.Knot.Leaving.{brace_leaves, mark_within, piece_within, head_leaves, led_leaves}
-use Rattle.irtext_nesting.proofs.Knot.Alike.{Alike, alike_came, alike_stuck, alike_either, alike_behind, alike_tells, weaker, Agree, Shrink, IsLoop, loops_agree, loop_enough}
+use Rattle.irtext_nesting.proofs.Knot.Alike.{Alike, alike_came, alike_stuck, alike_either, alike_behind, alike_tells, weaker, Agree, Shrink, IsLoop, loops_agree}
 
 -- ---- loops
 without_first_bound : (b : ℕ) (text : Text) → length text ≤ suc b → length (after_space (without_first text)) ≤ b
@@ -187,17 +187,3 @@ module _ {T A S : Type 0} (dialects : List (Text × Table)) (types_at : Reader T
     -- behind a block less than its text is left
     pub block_shrinks : (b : ℕ) → Shrink b block_at block_at
     block_shrinks b = block_agree b _ _ (operations_agree b _ _ (shrunk (operation_shrinks b true)))
-
-    -- as many regions as the text has characters are enough
-    pub regions_enough : (iso : Bool) (n m : ℕ) (text : Text) (s : S) → length text ≤ n → length text ≤ m
-        → regions_by (region_at dialects types_at attr does iso) n text s ≡ regions_by (region_at dialects types_at attr does iso) m text s
-    regions_enough iso = loop_enough (regions_loop (region_at dialects types_at attr does iso)) refl (λ b. region_shrinks b iso)
-
-    -- the same of operations behind a `;`
-    pub more_enough : (n m : ℕ) (text : Text) (s : S) → length text ≤ n → length text ≤ m
-        → more_by (operation_at dialects types_at attr does true) n text s ≡ more_by (operation_at dialects types_at attr does true) m text s
-    more_enough = loop_enough (more_loop (operation_at dialects types_at attr does true)) refl (λ b. behind_semicolon_agree b _ _ (shrunk (operation_shrinks b true)))
-
-    -- the same of blocks
-    pub blocks_enough : (n m : ℕ) (text : Text) (s : S) → length text ≤ n → length text ≤ m → blocks_by block_at n text s ≡ blocks_by block_at m text s
-    blocks_enough = loop_enough (blocks_loop block_at) refl block_shrinks

@@ -1,6 +1,6 @@
 -- What the readers of nested text answer is what the grammar reads: a caller's types and attributes are asked that what they take and
 -- leave is the text, and where a marker may stand in an attribute's place, that attributes begin as a word does.
-use Rattle.std.proofs.Common.{◌≡◌, ℕ, Bool, true, false, List, [], length, ap, arith, length-append}
+use Rattle.std.proofs.Common.{◌≡◌, ℕ, Bool, true, false, List, length, ap, arith, length-append}
 use Rattle.irtext_base.specs.Text.{Text}
 use Rattle.irtext_base.specs.Faults.{Fault}
 use Rattle.irtext_base.specs.Format.{Id}
@@ -13,7 +13,6 @@ use Rattle.irtext_grammar.specs.Contexts.Formats.{format_of, isolated, IsAccepte
 use Rattle.irtext_grammar.specs.Grammar.Forest.{Blocks}
 use Rattle.irtext_grammar.specs.Grammar.Reads as reads
 use Rattle.irtext_grammar.specs.Grammar.Tree.{Op, Head, Brace, shown, Tree, Piece, parts_of}
-use Rattle.irtext_grammar.specs.Names.Resolves.{used_values, used_labels}
 use Rattle.irtext_outcomes.specs.Readers.RestLengths.{LeavesNoMore}
 use Rattle.irtext_outcomes.proofs.Joins.Answers.{Splits}
 use Rattle.irtext_outcomes.proofs.Joins.Attributes.{splits_attr}
@@ -28,7 +27,6 @@ use Rattle.irtext_nesting.proofs.Exact.Pieces.{exact_piece, piece_read}
 use Rattle.irtext_nesting.proofs.Knot.Found as found
 use Rattle.irtext_nesting.proofs.Knot.Heads.{MayUse, ReadHeads, FoundHeads, inside_all}
 use Rattle.irtext_nesting.proofs.Knot.Read as read
-use Rattle.irtext_nesting.proofs.Knot.Roots as roots
 
 -- a reader that takes and leaves the text leaves no more than the text
 pub leaves_no_more : {X : Type 0} (at : Reader X) → Splits at → LeavesNoMore at
@@ -88,13 +86,6 @@ module _ {T A : Type 0} (types_at : Text → Outcome T) (types_written : T → T
           read.region_is_read (texts_of types_at types_written) (texts_of reading written) dialects types_at (attr_at reading) does heads_read (leaves_no_more types_at types_split)
           (leaves_no_more (attr_at reading) (splits_attr reading splits)) accepted iso text s t rest e
 
-      -- The same of an operation outside of each region, and it uses no value and no label.
-      pub root_read : ((id : Id) → IsAccepted dialects id) → (text : Text) (s t : S) (rest : Text) → operation_at dialects types_at (attr_at reading) does false text s ≡ Came tt t rest
-          → (x : Tree ℕ T A) × reads.reads L x text rest × (used_values x.own ≡ []) × (used_labels x.own ≡ []) × (t ≡ do_tree (isolated dialects) does x s)
-      root_read accepted text s t rest e =
-          roots.root_read (texts_of types_at types_written) (texts_of reading written) dialects types_at (attr_at reading) does (leaves_no_more types_at types_split)
-          (leaves_no_more (attr_at reading) (splits_attr reading splits)) heads_read accepted text s t rest e
-
       -- ---- where attributes begin as a word does
       module _ (words : NeedsWord reading) where
         -- What the grammar reads as a tree an operation's reader reads inside of a region, and does what the tree does.
@@ -110,19 +101,7 @@ module _ {T A : Type 0} (types_at : Text → Outcome T) (types_written : T → T
             found.region_is_found (texts_of types_at types_written) (texts_of reading written) dialects types_at (attr_at reading) does (heads_found words) (leaves_no_more types_at types_split)
             (leaves_no_more (attr_at reading) (splits_attr reading splits)) iso bs (length text) text rest s r
 
-        -- The same of an operation outside of each region, where it uses no value and no label.
-        pub root_found : (x : Tree ℕ T A) (text rest : Text) (s : S) → used_values x.own ≡ [] → used_labels x.own ≡ [] → reads.reads L x text rest
-            → operation_at dialects types_at (attr_at reading) does false text s ≡ Came tt (do_tree (isolated dialects) does x s) rest
-        root_found x text rest s e f r =
-            roots.root_found (texts_of types_at types_written) (texts_of reading written) dialects types_at (attr_at reading) does (leaves_no_more types_at types_split)
-            (leaves_no_more (attr_at reading) (splits_attr reading splits)) (heads_found words) x text rest s e f r
-
         -- Where an operation's reader is stuck inside of a region, the grammar reads no tree.
         pub stuck_unread : (text : Text) (s t : S) (cause : Fault) (place : ℕ) → operation_at dialects types_at (attr_at reading) does true text s ≡ Stuck t cause place
             → (x : Tree ℕ T A) (rest : Text) → reads.reads L x text rest → ⊥
         stuck_unread text s t cause place e x rest r = let f = tree_found x text rest s r in cc (e, f)
-
-        -- Where it is stuck outside of each region, the grammar reads no tree whose own operation uses no value and no label.
-        pub root_stuck_unread : (text : Text) (s t : S) (cause : Fault) (place : ℕ) → operation_at dialects types_at (attr_at reading) does false text s ≡ Stuck t cause place
-            → (x : Tree ℕ T A) (rest : Text) → used_values x.own ≡ [] → used_labels x.own ≡ [] → reads.reads L x text rest → ⊥
-        root_stuck_unread text s t cause place e x rest v b r = let f = root_found x text rest s v b r in cc (e, f)

@@ -1,8 +1,8 @@
 -- What no item changes stays as it is through a whole reading, also through one that is stuck: so a machine that has failed stays so.
-use Rattle.std.proofs.Common.{◌≡◌, ◌∙◌, ℕ, zero, suc, Bool, true, false, cond, List, [], ◌∷◌, ◌++◌, length, Option, codes, refl, ap}
+use Rattle.std.proofs.Common.{◌≡◌, ◌∙◌, ℕ, zero, suc, Bool, true, false, cond, List, [], ◌∷◌, ◌++◌, length, codes, refl, ap}
 use Rattle.irtext_base.specs.Text.{Text, begins, after_space}
 use Rattle.irtext_base.specs.Reading.{the}
-use Rattle.irtext_base.specs.Format.{Format, Id}
+use Rattle.irtext_base.specs.Format.{Id}
 use Rattle.irtext_base.specs.Answers.{Outcome, Read, Missing, Bad}
 use Rattle.irtext_base.specs.Locations.{AttrView}
 use Rattle.irtext_context.specs.Dialects.{Table}
@@ -11,14 +11,10 @@ use Rattle.irtext_read.specs.Tokens.{space_at, word}
 use Rattle.irtext_grammar.specs.Contexts.Formats.{isolated}
 use Rattle.irtext_grammar.specs.Grammar.Tree as tree
 use Rattle.irtext_grammar.specs.Grammar.Tree.{Name, Part}
-use Rattle.irtext_grammar.specs.Names.Script.{Path}
-use Rattle.irtext_grammar.specs.Names.TextScopes.{Failure}
-use Rattle.irtext_grammar.specs.Names.History.{failed}
 use Rattle.irtext_outcomes.specs.Readers.Parts.{without_first}
 use Rattle.irtext_nesting.specs.Heads.{Step, one, all, front_steps, region_steps, piece_at, head_at, led_at, mark_if_at}
 use Rattle.irtext_nesting.specs.Reached.{Reached, Came, Stuck, came, tells, Doing, Reads, begins_operation, begins_region, begins_block, steps_in, regions_by, more_by, operations_by, blocks_by, front_by, steps_by, end_by, body_by, operation_by, block_by, region_by, region_within, region_at, operation_at}
-use Rattle.irtext_nesting.specs.Naming.{naming}
-use Rattle.irtext_nesting.proofs.Naming.Keeps.{Keeps, failed_keeps}
+use Rattle.irtext_nesting.proofs.Naming.Keeps.{Keeps}
 
 -- what had been done where the reading came to its end or is stuck
 abbrev pub done_in : {X S : Type 0} → Reached X S → S
@@ -139,8 +135,3 @@ module _ {T A S : Type 0} (dialects : List (Text × Table)) (types_at : Text →
   -- and so does an operation's
   pub quiet_operation_at : (inside : Bool) → Quiet s (operation_at dialects types_at attr does inside)
   quiet_operation_at inside = record { at = (quiet_operation (region_at dialects types_at attr does) quiet_region_at inside).at }
-
--- a machine that has failed stays so through an operation's reading
-pub failed_through : {T A : Type 0} (dialects : List (Text × Table)) (types_at : Text → Outcome T) (attr : Text → Outcome (AttrView A)) (formats : Id → Option Format) (path : ℕ → Path) (e : Failure) (inside : Bool) (text : Text)
-    → done_in (operation_at dialects types_at attr (naming {T = T} {A = A} formats path) inside text (failed e)) ≡ failed e
-failed_through dialects types_at attr formats path e inside text = (quiet_operation_at dialects types_at attr (naming formats path) (failed e) (failed_keeps formats path e) inside).at text

@@ -44,7 +44,7 @@ falls_below high low (item ∷ items) f = (f.0, each_lower item.0 high items f.0
 
 -- ---- the path at a place
 -- the path of the first item of a place
-path_at : List (ℕ × Path) → ℕ → Path
+pub path_at : List (ℕ × Path) → ℕ → Path
 path_at items place = elim (at_place place items) [ Some p ↦ p | None ↦ [] ]
 
 own_path : (e : ℕ × Path) (es : List (ℕ × Path)) → path_at (e ∷ es) e.0 ≡ e.1
@@ -60,13 +60,13 @@ others_paths e es [] h p = tt
 others_paths e es (item ∷ items) h p = (other_path e es item.0 h.0 ∙ p.0, others_paths e es items h.1 p.1)
 
 -- where places fall, each has its item's path
-paths_apart : (high low : ℕ) (items : List (ℕ × Path)) → Falls high low items → Each (λ item. path_at items item.0 ≡ item.1) items
+pub paths_apart : (high low : ℕ) (items : List (ℕ × Path)) → Falls high low items → Each (λ item. path_at items item.0 ≡ item.1) items
 paths_apart high low [] f = tt
 paths_apart high low (e ∷ es) f = (own_path e es, others_paths e es es (falls_below e.0 low es f.1) (paths_apart e.0 low es f.1))
 
 -- ---- readings along which the places of these items fall
-record Spans (R : Reading) (items : List (ℕ × Path)) : Type 0 where
-  falls : (t u : Text) → R t u → Falls (suc (length t)) (suc (length u)) items
+pub record Spans (R : Reading) (items : List (ℕ × Path)) : Type 0 where
+  pub falls : (t u : Text) → R t u → Falls (suc (length t)) (suc (length u)) items
 
 module _ {T A : Type 0} (types : Texts T) (owns : Texts A) (formats : Id → Option Format) (short_types : Shortens types) (short_owns : Shortens owns) where
   abbrev L : Language ℕ T A
@@ -162,7 +162,7 @@ module _ {T A : Type 0} (types : Texts T) (owns : Texts A) (formats : Id → Opt
         );
   }
 
-  region_spans : (p : Path) (brace : Brace ℕ) (bs : Blocks (Op ℕ T A) (Head ℕ T A) (Brace ℕ)) → BlocksSpan p 0 bs → Spans (reads.region_read L brace (reads.block_readings L bs)) (paths_in_blocks p 0 bs)
+  pub region_spans : (p : Path) (brace : Brace ℕ) (bs : Blocks (Op ℕ T A) (Head ℕ T A) (Brace ℕ)) → BlocksSpan p 0 bs → Spans (reads.region_read L brace (reads.block_readings L bs)) (paths_in_blocks p 0 bs)
   region_spans p elided no_blocks s = record { falls = λ t u h. absurd h }
   region_spans p elided (block h os bs) s = record { falls = λ t u h. absurd h }
   region_spans p (shown place) bs s = record {
@@ -179,7 +179,7 @@ module _ {T A : Type 0} (types : Texts T) (owns : Texts A) (formats : Id → Opt
     regions_span p j no_regions = tt
     regions_span p j (region brace bs rs) = (region_spans (j ∷ p) brace bs (blocks_span (j ∷ p) 0 bs), regions_span p (suc j) rs)
 
-    blocks_span : (p : Path) (k : ℕ) (bs : Blocks (Op ℕ T A) (Head ℕ T A) (Brace ℕ)) → BlocksSpan p k bs
+    pub blocks_span : (p : Path) (k : ℕ) (bs : Blocks (Op ℕ T A) (Head ℕ T A) (Brace ℕ)) → BlocksSpan p k bs
     blocks_span p k no_blocks = tt
     blocks_span p k (block h os bs) = (block_spans (k ∷ p) (k ∷ p) h os (operations_span (k ∷ p) 0 os), blocks_span p (suc k) bs)
 

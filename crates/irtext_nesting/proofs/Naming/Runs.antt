@@ -8,11 +8,10 @@ use Rattle.irtext_grammar.specs.Grammar.Tree as tree
 use Rattle.irtext_grammar.specs.Grammar.Tree.{Name, Part, Body, Op, Head, Brace, shown, elided, Tree, IsOf, parts_of, views, directive}
 use Rattle.irtext_grammar.specs.Spelling.Spellable.{Each}
 use Rattle.irtext_grammar.specs.Names.Script.{Path, done, does_all, claim, ResultCount}
-use Rattle.irtext_grammar.specs.Names.TextScopes.{Act, Script, failures, facts}
+use Rattle.irtext_grammar.specs.Names.TextScopes.{Act, Script}
 use Rattle.irtext_grammar.specs.Names.Acts.{singles, single_labels, piece_acts, closing_acts, result_definitions, result_types, mark_acts, header_acts, all_of, region_script, parts_script, operation_script, region_scripts, blocks_script, operations_script, tree_script}
-use Rattle.irtext_grammar.specs.Names.History.{Event, act, events, Outcome, going, outcome, next, run, start, scopes_of, after}
+use Rattle.irtext_grammar.specs.Names.History.{Event, act, events, Outcome, next, run}
 use Rattle.irtext_grammar.specs.Names.History as history
-use Rattle.irtext_grammar.proofs.Names.OnePass.{one_pass}
 use Rattle.irtext_grammar.proofs.Lists.Each.{each_left, each_right}
 use Rattle.irtext_nesting.specs.Reached.{Doing, front_parts, region_parts, each_of, do_parts, do_operation, do_region, do_regions, do_blocks, do_operations, do_tree}
 use Rattle.irtext_nesting.specs.Naming.{acted, single_operands, single_successors, body_of, unmarked, naming, HasFormat, HaveFormats, paths_in_regions, paths_in_blocks, paths_in_operations, Names}
@@ -92,8 +91,8 @@ module _ {P T A : Type 0} where
 
 -- ---- what scripts of regions do, and what states come to
 -- a script with another behind it is what a state comes to, and then the other
-record Does (script : Script → Script) (come : Outcome → Outcome) : Type 0 where
-  so : (then : Script) (o : Outcome) → run o (events (script then)) ≡ run (come o) (events then)
+pub record Does (script : Script → Script) (come : Outcome → Outcome) : Type 0 where
+  pub so : (then : Script) (o : Outcome) → run o (events (script then)) ≡ run (come o) (events then)
 
 -- so it is of each
 abbrev EachDoes : List (Script → Script) → List (Outcome → Outcome) → Type 0
@@ -112,7 +111,7 @@ module _ (T A : Type 0) (formats : Id → Option Format) (path : ℕ → Path) w
   does = naming {T = T} {A = A} formats path
 
   -- a region in its braces, of which the inside is known
-  region_does : (isolated : Id → Bool) (iso : Bool) (brace : Brace ℕ) (body : Script) (inside : Outcome → Outcome) → ((o : Outcome) → run o (events body) ≡ inside o)
+  pub region_does : (isolated : Id → Bool) (iso : Bool) (brace : Brace ℕ) (body : Script) (inside : Outcome → Outcome) → ((o : Outcome) → run o (events body) ≡ inside o)
       → Does (region_script iso brace body) (do_region isolated does iso brace inside)
   region_does isolated iso elided body inside h = record { so = λ then o. refl }
   region_does isolated iso (shown place) body inside h = record {
@@ -202,7 +201,7 @@ module _ (T A : Type 0) (formats : Id → Option Format) (path : ℕ → Path) w
             regions_do p (suc j) iso rs others f.2,
           )
 
-      blocks_do : (p : Path) (k : ℕ) (bs : Blocks (Op ℕ T A) (Head ℕ T A) (Brace ℕ)) → Said (paths_in_blocks p k bs) → AllBlocks Formed (λ h. ⊤) (λ b. ⊤) bs
+      pub blocks_do : (p : Path) (k : ℕ) (bs : Blocks (Op ℕ T A) (Head ℕ T A) (Brace ℕ)) → Said (paths_in_blocks p k bs) → AllBlocks Formed (λ h. ⊤) (λ b. ⊤) bs
           → (o : Outcome) → run o (events (blocks_script isolated p k bs)) ≡ do_blocks isolated does bs o
       blocks_do p k no_blocks n f o = refl
       blocks_do p k (block h os bs) n f o =
@@ -240,8 +239,3 @@ module _ {T A : Type 0} (formats : Id → Option Format) (path : ℕ → Path) (
   -- what a tree does is what the machine comes to that reads the events of its script
   pub runs_script : (o : Outcome) → do_tree isolated (naming formats path) t o ≡ run o (events (tree_script isolated t done))
   runs_script o = sym (runs_before done o)
-
-  -- from where no scope is open, a tree and then a script fail first where the whole script does, and else come to what it says
-  pub fails_first : (then : Script)
-      → run (do_tree isolated (naming formats path) t (going start)) (events then) ≡ outcome (failures (scopes_of start) (tree_script isolated t then)) (after start (facts (tree_script isolated t then)))
-  fails_first then = sym (runs_before then (going start)) ∙ one_pass (tree_script isolated t then)

@@ -11,15 +11,14 @@ use Rattle.irtext_grammar.specs.Grammar.Forest.{Regions, no_regions, region, Blo
 use Rattle.irtext_grammar.specs.Grammar.Tree.{Op, Head, Brace, shown, elided, Tree, parts_of}
 use Rattle.irtext_grammar.specs.Grammar.Reads as reads
 use Rattle.irtext_grammar.specs.Names.Script.{Path, done}
-use Rattle.irtext_grammar.specs.Names.TextScopes.{Script, failures, facts}
 use Rattle.irtext_grammar.specs.Names.Acts.{tree_script}
-use Rattle.irtext_grammar.specs.Names.History.{events, run, going, outcome, start, scopes_of, after}
+use Rattle.irtext_grammar.specs.Names.History.{events, run}
 use Rattle.irtext_grammar.specs.Names.History as history
 use Rattle.irtext_grammar.proofs.Grammar.ListReadings.{AllUsed, repeated_used, parts_used, block_used}
 use Rattle.irtext_nesting.specs.Reached.{do_tree}
 use Rattle.irtext_nesting.specs.Naming.{naming, HasFormat, HaveFormats, Names}
 use Rattle.irtext_nesting.proofs.Naming.Shorter.{Shortens}
-use Rattle.irtext_nesting.proofs.Naming.Runs.{runs_script, fails_first}
+use Rattle.irtext_nesting.proofs.Naming.Runs.{runs_script}
 
 module _ {T A : Type 0} (types : Texts T) (owns : Texts A) (formats : Id → Option Format) where
   abbrev L : Language ℕ T A
@@ -38,7 +37,7 @@ module _ {T A : Type 0} (types : Texts T) (owns : Texts A) (formats : Id → Opt
     regions_formed (region elided no_blocks rs) ((t, u, a), d) = absurd a
     regions_formed (region elided (block h os bs) rs) ((t, u, a), d) = absurd a
 
-    blocks_formed : (bs : Blocks (Op ℕ T A) (Head ℕ T A) (Brace ℕ)) → AllUsed (reads.block_readings L bs) → AllBlocks Formed (λ h. ⊤) (λ b. ⊤) bs
+    pub blocks_formed : (bs : Blocks (Op ℕ T A) (Head ℕ T A) (Brace ℕ)) → AllUsed (reads.block_readings L bs) → AllBlocks Formed (λ h. ⊤) (λ b. ⊤) bs
     blocks_formed no_blocks a = tt
     blocks_formed (block h os bs) ((t, u, a), d) = (tt, operations_formed os (block_used L h (reads.operation_readings L os) t u a), blocks_formed bs d)
 
@@ -54,15 +53,6 @@ module _ {T A : Type 0} (types : Texts T) (owns : Texts A) (formats : Id → Opt
     -- what the items of a tree that a text reads as come to is what the script of its names comes to
     pub read_runs : (o : history.Outcome) → do_tree isolated (naming formats path) t o ≡ run o (events (tree_script isolated t done))
     read_runs o = runs_script formats path isolated t names (formats_read t text rest h) o
-
-    -- the first failure of the tree and then of a script, as of a section, is the first of the whole script; where none fails they come to what it says
-    pub read_fails_before : (then : Script)
-        → run (do_tree isolated (naming formats path) t (going start)) (events then) ≡ outcome (failures (scopes_of start) (tree_script isolated t then)) (after start (facts (tree_script isolated t then)))
-    read_fails_before then = fails_first formats path isolated t names (formats_read t text rest h) then
-
-    -- the same of the tree alone
-    pub read_fails_first : do_tree isolated (naming formats path) t (going start) ≡ outcome (failures (scopes_of start) (tree_script isolated t done)) (after start (facts (tree_script isolated t done)))
-    read_fails_first = read_fails_before done
 
 -- ---- values whose readers take a front of the text
 module _ {X : Type 0} (reading : Text → Outcome X) (written : X → Text) (leaves : (text : Text) (x : X) (taken rest : Text) → reading text ≡ Read x taken rest → length rest ≤ length text) where

@@ -2,7 +2,7 @@
 use Rattle.std.proofs.Common.{◌≡◌, ℕ, ◌+◌, Bool, true, false, cond, ◌≤◌, List, [], ◌∷◌, length, map, Option, Some, None, codes, ap, length-append, arith, inl, inr}
 use Rattle.std.specs.Char.{is_whitespace, is_ascii_digit}
 use Rattle.irtext_base.specs.Text.{Text, after, after_space, in_word}
-use Rattle.irtext_base.specs.Reading.{Reading, ◌▹◌, ◌▸◌, ends, the, literal, keyword, identifier, number, more, separated}
+use Rattle.irtext_base.specs.Reading.{Reading, ◌▹◌, ends, the, literal, keyword, identifier, number, more, separated}
 use Rattle.irtext_base.specs.Format.{Format, Id}
 use Rattle.irtext_base.specs.Own.{Texts, Language, language, found}
 use Rattle.irtext_grammar.specs.Grammar.Tree as tree
@@ -32,9 +32,6 @@ word_shorter w t u e = omega (arith, ap length e, length-append w u)
 module _ {R S : Reading} where
   leaves_then : Leaves R → Leaves S → Leaves (R ▹ S)
   leaves_then r s = record { by = λ t u h. omega (arith, r.by t h.0 h.1, space_shorter h.0, s.by (after_space h.0) u h.2) }
-
-  leaves_next : Leaves R → Leaves S → Leaves (R ▸ S)
-  leaves_next r s = record { by = λ t u h. omega (arith, r.by t h.0 h.1, s.by h.0 u h.2) }
 
 leaves_ends : (test : ℕ → Bool) → Leaves (ends test)
 leaves_ends test = record { by = λ t u h. omega (arith, ap length h.1) }

@@ -7,7 +7,7 @@ use Rattle.irtext_context.specs.Dialects.{Table}
 use Rattle.irtext_read.specs.Tokens.{word}
 use Rattle.irtext_grammar.specs.Contexts.Formats.{isolated}
 use Rattle.irtext_nesting.specs.Reached.{Reached, Came, Stuck, tells, Doing, Reads, operations_by, blocks_by, steps_by, end_by, region_at, operation_at}
-use Rattle.irtext_nesting.specs.Resume.{Begun, Open, to_come, an_operation, a_region, a_block, EndsIn, block_at, rest_of, resume, whole, Goes, EndsWhere}
+use Rattle.irtext_nesting.specs.Resume.{Begun, Open, to_come, an_operation, a_region, a_block, EndsIn, block_at, rest_of, resume, whole, Goes}
 use Rattle.irtext_nesting.proofs.Naming.Keeps.{Keeps}
 use Rattle.irtext_nesting.proofs.Naming.KeepsReading.{done_in, Quiet, quiet_came, quiet_tells, quiet_more, quiet_operations, quiet_blocks, quiet_steps, quiet_end, quiet_block, quiet_region_at, quiet_operation_at}
 
@@ -57,7 +57,3 @@ module _ {T A S : Type 0} (dialects : List (Text × Table)) (types_at : Text →
 module _ {T A S : Type 0} {dialects : List (Text × Table)} {types_at : Text → Outcome T} {attr : Text → Outcome (AttrView A)} {does : Doing T A S} {n n' : Option (Open T A)} {fr fr' : List (Open T A)} {t t' : Text} {z : S} (keeps : Keeps does z) where
   pub failed_at : {s : S} → Goes dialects types_at attr does n fr s t n' fr' z t' → EndsIn z (whole dialects types_at attr does n fr s t)
   failed_at g = subst (EndsIn z) (sym g.so) (failed_rest dialects types_at attr does z keeps n' fr' t')
-
-  -- the same from a state that is known by what holds of it
-  pub failed_where : {R : S → Type 0} (act : S → S) → ((s : S) → R s → act s ≡ z) → ((s : S) → Goes dialects types_at attr does n fr s t n' fr' (act s) t') → EndsWhere dialects types_at attr does R n fr t z
-  failed_where act h g = record { so = λ s r. failed_at (subst (λ y. Goes dialects types_at attr does n fr s t n' fr' y t') (h s r) (g s)) }

@@ -1,5 +1,5 @@
 -- The front of an operation, which does nothing, is one reading.
-use Rattle.std.proofs.Common.{◌≡◌, ℕ, ◌-◌, ◌+◌, Bool, true, false, List, [], ◌∷◌, ◌++◌, None, slice_get, drop, length, length-append, arith, refl, ap, sym, ◌∙◌}
+use Rattle.std.proofs.Common.{◌≡◌, ℕ, ◌-◌, ◌+◌, Bool, true, false, List, [], ◌∷◌, ◌++◌, None, length, length-append, arith, refl, ap, sym, ◌∙◌}
 use Rattle.std.specs.Char.{is_whitespace}
 use Rattle.irtext_base.specs.Text.{Text, front, after}
 use Rattle.irtext_base.specs.Faults.{Fault}
@@ -33,22 +33,6 @@ behind_front (flat d) ss e = absurd (cc)
 behind_front types ss e = absurd (cc)
 behind_front (one i) ss e = (refl, refl)
 behind_front all ss e = (refl, refl)
-
--- those from the first region on are all behind these
-pub regions_behind : (ss : List Step) → region_steps ss ≡ drop (length (front_steps ss)) ss
-regions_behind [] = refl
-regions_behind (flat d ∷ ss) = regions_behind ss
-regions_behind (types ∷ ss) = regions_behind ss
-regions_behind (one i ∷ ss) = refl
-regions_behind (all ∷ ss) = refl
-
--- and the first of them, if there is one, stands where these end
-pub first_region_step : (ss : List Step) → slice_get ss (length (front_steps ss)) ≡ slice_get (region_steps ss) 0
-first_region_step [] = refl
-first_region_step (flat d ∷ ss) = first_region_step ss
-first_region_step (types ∷ ss) = first_region_step ss
-first_region_step (one i ∷ ss) = refl
-first_region_step (all ∷ ss) = refl
 
 -- ---- the front as one reading
 -- white space and what stands behind it are the text

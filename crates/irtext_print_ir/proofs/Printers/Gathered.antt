@@ -1,5 +1,5 @@
 -- What was printed and gathered of an operation, as the clauses of its printing have it.
-use Rattle.std.proofs.Common.{◌≡◌, ◌∙◌, ◌++◌, ℕ, Bool, List, [], true, refl, sym, ap, length, Option, Some, None, option_map, IsSome, Result, Ok, Err, OnOk, append-nil, append_assoc}
+use Rattle.std.proofs.Common.{◌≡◌, ◌∙◌, ◌++◌, ℕ, Bool, List, [], true, refl, sym, ap, length, Option, Some, None, option_map, IsSome, Result, Ok, Err, OnOk, append_assoc}
 use Rattle.std.specs.Str.{encode_utf8_all}
 use Rattle.irtext_base.specs.Text.{Text}
 use Rattle.irtext_base.specs.declared.text.AttrText as attr_text
@@ -18,7 +18,6 @@ use Rattle.irtext_grammar.specs.Graphs.Graph.{Graph}
 use Rattle.irtext_grammar.specs.Spelling.Section.{text}
 use Rattle.irtext_print.proofs.Printers.Locations.{more}
 use Rattle.irtext_print.proofs.Printers.RootParts.{there}
-use Rattle.irtext_print.specs.Printers.Appended.{Appends}
 use Rattle.irtext_print.specs.Printers.PrintedOperation.{levels}
 use Rattle.irtext_print.specs.Printers.Printing.{gathered_of, with_gathered}
 use Rattle.irtext_print.specs.Printers.Shown.{Shown}
@@ -44,10 +43,6 @@ pub together : {X E P Q R Z : Type 0} (r : Result X E) → (P → Q → R → Z)
 together (Ok x) f p q k = f p q k
 together (Err e) f p q k = tt
 
--- what was printed was appended
-pub appended : {U : Type 0} (text : Text) (left : Shown U) (M : Type 0) (old : List ℕ) (t : Shown U) (new : List ℕ) → Printed text left M old t new → Appends (encode_utf8_all text, left) t old new
-appended text left M old t new p = record { text = p.text; state = p.state }
-
 module _ {T A U : Type 0} (types : ir_text.Ghosts T A) (owns : ir_text.Ghosts A A) (attributes : attr_text.Ghosts A) (same : A → A → Bool) (ctx : ContextView T A) (p : Ptr Operation) (s : Shown U) where
   -- the text with the mark, behind so many
   abbrev marked_text : ℕ → Text
@@ -69,15 +64,6 @@ module _ {T A U : Type 0} (types : ir_text.Ghosts T A) (owns : ir_text.Ghosts A 
   kept o = elim o [ Some b ↦ s.gathered ++ items | None ↦ [] ]
 
   module _ (old : List ℕ) (t : Shown U) (new : List ℕ) where
-    -- an operation that stands in a block
-    pub in_block : (b : Ptr BasicBlock) → block_round ctx p ≡ Some b → new ≡ old ++ encode_utf8_all (marked_text (length s.gathered)) → t ≡ gathers s items → (Misfits → ⊥)
-        → Printed (root_text types owns attributes same ctx p s) (root_left types owns attributes same ctx p s) Misfits old t new
-    in_block b is w k f = record {
-      text = w ∙ ap (λ z. old ++ encode_utf8_all z) (sym (append-nil (marked_text (length s.gathered)))) ∙ ap (λ o. old ++ encode_utf8_all (marked_text (length s.gathered) ++ behind_mark s.gathered o)) (sym is);
-      state = k ∙ ap (λ o. with_gathered s (kept o)) (sym is);
-      fits = f;
-    }
-
     -- an operation that stands in no block
     pub outermost : (mid : List ℕ) (between : Shown U) → block_round ctx p ≡ None → mid ≡ old ++ encode_utf8_all (marked_text (length s.gathered)) → between ≡ gathers s items → (Misfits → ⊥)
         → new ≡ mid ++ encode_utf8_all (section_at types owns attributes same ctx (gathered_of between)) → t ≡ with_gathered between []

@@ -1,5 +1,5 @@
 -- For callers: items that are written one behind another, with separators between.
-use Rattle.std.specs.Prelude.{◌≡◌, ℕ, List, [], ◌∷◌, ◌++◌, Bool, true, false, cond, MatchBool, string_bytes, Option}
+use Rattle.std.specs.Prelude.{◌≡◌, ℕ, List, ◌++◌, Bool, true, false, MatchBool, string_bytes, Option}
 use Rattle.std.specs.List.{FoldsTo}
 use Rattle.std.specs.Iterator.{Drains}
 use Rattle.std.specs.declared.string.String.{String}
@@ -47,8 +47,3 @@ WritesGiven {X = X} steps call i sep s b t d = (xs : List X) × Drains steps i x
 -- the same of a clone of the iterator
 abbrev pub WritesCloned : {I U X : Type 0} → (I → I → Type 0) → (I → Option X → I → Type 0) → (X → Shown U → String Global → Shown U → String Global → Type 0) → I → ListSeparator → Shown U → String Global → Shown U → String Global → Type 0
 WritesCloned {X = X} is_clone steps call i sep s b t d = (xs : List X) × CloneGives is_clone steps i xs × WritesItems call sep xs s b t d
-
--- the texts of the items, with separators between
-abbrev pub items_text : {U X : Type 0} → (X → List ℕ) → ListSeparator → Shown U → Bool → List X → List ℕ
-items_text t sep s first [] = []
-items_text t sep s first (x ∷ xs) = cond first [] (separator_text sep s) ++ (t x ++ items_text t sep s false xs)

@@ -3,7 +3,7 @@ use Rattle.irtext_graph.specs.declared.object.Value.TheVariants.{Result}
 use Rattle.irtext_graph.proofs.Closed.{older_on, closed_kept}
 use Rattle.irtext_parse_acts.specs.Rows.{DefinesResults, FailsResults}
 use Rattle.irtext_parse_acts.proofs.Lists.{known_at, number_more, number_here, numbers_before, older_itself}
-use Rattle.irtext_parse_acts.proofs.Results.{no_results, still_ready, define_open, result_more, result_fails}
+use Rattle.irtext_parse_acts.proofs.Results.{still_ready, define_open, result_more, result_fails}
 use Rattle.irtext_parse_acts.proofs.definitions.process_parsed_ssa_defs.Goals as goal
 
 pub ssa_def-requires-clause-known : goal.ssa_def-requires-clause-known

@@ -1,4 +1,4 @@
-use Rattle.std.proofs.Common.{◌∙◌, ap, sym, subst}
+use Rattle.std.proofs.Common.{◌∙◌, ap, sym}
 use Rattle.irtext_read.specs.AttrTexts.{attr_at}
 use Rattle.irtext_state.specs.States.{marks_of}
 use Rattle.irtext_outcomes.specs.Promises.Section.{indices_of}
