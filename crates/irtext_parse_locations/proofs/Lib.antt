@@ -1,2 +1,4 @@
 pub mod FrameOutcomes
 pub mod FrameSteps
+pub mod Plain
+pub mod Places

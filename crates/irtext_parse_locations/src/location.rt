@@ -3,5 +3,6 @@
 mod frame;
 mod made;
 pub mod nested;
+pub mod plain;
 pub mod read;
 pub mod source;

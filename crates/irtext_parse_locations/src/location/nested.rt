@@ -240,8 +240,9 @@ fn location_behind<A: AttrText>(
     }
 }
 
-/// A location, which must stand there.
-pub fn location_demanded<T: IrText<A>, A: AttrText>(
+/// A location of any kind, which must stand there.
+#[inline(never)]
+fn nested_demanded<T: IrText<A>, A: AttrText>(
     stream: &mut TextStream,
     ctx: &mut Context<T, A>,
 ) -> ParseResult<Location<A>, A>
@@ -273,6 +274,23 @@ pub fn location_demanded<T: IrText<A>, A: AttrText>(
             }
         }
     }
+}
+
+/// A location, which must stand there.
+#[inline(always)]
+pub fn location_demanded<T: IrText<A>, A: AttrText>(
+    stream: &mut TextStream,
+    ctx: &mut Context<T, A>,
+) -> ParseResult<Location<A>, A>
+    ensures adds { AddsPaths ctx.old ctx.new }
+    ensures read { MustReadWithin known_location location_over (location_within (attr_at A.IrText.reading))
+        ctx.new.paths stream.old result stream.new }
+    ensures paths { IfOk result (λ l. ctx.new.paths ≡ all_kept ctx.old.paths (location_over ctx.new.paths l)) }
+{
+    if begins_source(stream) {
+        return place_demanded(stream, ctx);
+    }
+    nested_demanded(stream, ctx)
 }
 
 /// A location, which may be missing.

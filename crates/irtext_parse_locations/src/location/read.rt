@@ -2,8 +2,11 @@
 ghost use Rattle.irtext_base.specs.Faults.{characters};
 ghost use Rattle.irtext_read.specs.MustRead.{MustRead};
 ghost use Rattle.irtext_outcomes.specs.Readers.Positions.{labelled_at, position_at};
+ghost use Rattle.irtext_outcomes.specs.Readers.Streams.{itself, replaced};
+ghost use Rattle.irtext_parse_locations.specs.Plain.{behind_source_at};
 
-use irtext_base::parsable::{CharStream, ParseResult, SourcePosition};
+use crate::location::plain::position_there;
+use irtext_base::parsable::{CharStream, ParseResult, SourcePosition, TextStream};
 use irtext_read::irfmt::demanded::{i32_demanded, spaced_text_demanded, text_demanded};
 
 /// A word, `:` and a number.
@@ -23,4 +26,28 @@ pub(crate) fn position_demanded<S: CharStream, A>(stream: &mut S) -> ParseResult
     spaced_text_demanded(stream, ",")?;
     let column = labelled_number(stream, "column")?;
     Ok(SourcePosition { line, column })
+}
+
+/// `:`, a line and a column, part by part.
+#[cold]
+#[inline(never)]
+fn position_read<A>(stream: &mut TextStream) -> ParseResult<SourcePosition, A>
+    ensures { MustRead itself replaced (λ at. at) behind_source_at stream.old result stream.new }
+{
+    spaced_text_demanded(stream, ":")?;
+    position_demanded(stream)
+}
+
+/// `:`, a line and a column.
+#[inline(always)]
+pub(crate) fn position_behind<A>(stream: &mut TextStream) -> ParseResult<SourcePosition, A>
+    ensures { MustRead itself replaced (λ at. at) behind_source_at stream.old result stream.new }
+{
+    if stream.has_failed() {
+        return position_read(stream);
+    }
+    match position_there(stream) {
+        Some(position) => Ok(position),
+        None => position_read(stream),
+    }
 }

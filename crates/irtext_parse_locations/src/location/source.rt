@@ -10,7 +10,7 @@ ghost use Rattle.irtext_outcomes.specs.Readers.NewPaths.{AddsPaths, MustReadOver
 ghost use Rattle.irtext_outcomes.specs.Readers.Streams.{itself, replaced};
 
 use crate::location::nested::begins_source;
-use crate::location::read::position_demanded;
+use crate::location::read::{position_behind, position_demanded};
 use irtext_base::location::{Location, Source};
 use irtext_base::parsable::{CharStream, ParseResult, SourcePosition, TextStream};
 use irtext_base::result::{Cause, Expected};
@@ -69,6 +69,7 @@ fn source_demanded<T: IrText<A>, A: AttrText>(
 }
 
 /// A source, a line and a column, which must stand there.
+#[inline]
 pub(crate) fn place_demanded<T: IrText<A>, A: AttrText>(
     stream: &mut TextStream,
     ctx: &mut Context<T, A>,
@@ -77,9 +78,31 @@ pub(crate) fn place_demanded<T: IrText<A>, A: AttrText>(
     ensures read { MustReadOver known_location location_over place_at ctx.new.paths stream.old result stream.new }
     ensures paths { IfOk result (λ l. ctx.new.paths ≡ all_kept ctx.old.paths (location_over ctx.new.paths l)) }
 {
+    if stream.has_failed() {
+        return place_parse(stream, ctx);
+    }
+    if stream.accept("<in-memory>") {
+        let pos = position_behind(stream)?;
+        return Ok(Location::SrcPos {
+            src: Source::InMemory,
+            pos,
+        });
+    }
+    place_parse(stream, ctx)
+}
+
+/// The same, whatever source it is of.
+#[inline(never)]
+fn place_parse<T: IrText<A>, A: AttrText>(
+    stream: &mut TextStream,
+    ctx: &mut Context<T, A>,
+) -> ParseResult<Location<A>, A>
+    ensures adds { AddsPaths ctx.old ctx.new }
+    ensures read { MustReadOver known_location location_over place_at ctx.new.paths stream.old result stream.new }
+    ensures paths { IfOk result (λ l. ctx.new.paths ≡ all_kept ctx.old.paths (location_over ctx.new.paths l)) }
+{
     let src = source_demanded(stream, ctx)?;
-    spaced_text_demanded(stream, ":")?;
-    let pos = position_demanded(stream)?;
+    let pos = position_behind(stream)?;
     Ok(Location::SrcPos { src, pos })
 }
 

@@ -2,7 +2,7 @@ use Rattle.std.proofs.Common.{length}
 use Rattle.irtext_read.specs.AttrTexts.{attr_at}
 use Rattle.irtext_outcomes.specs.Readers.NewPaths.{AddsPaths}
 use Rattle.irtext_parse_locations.proofs.FrameSteps.{attr_leaves, SoFar}
-use Rattle.irtext_parse_locations.proofs.location.nested.location_demanded.Given as goal
+use Rattle.irtext_parse_locations.proofs.location.nested.nested_demanded.Given as goal
 
 -- what is open and what was read are all that was read
 abbrev pub invariant-loop-progress : goal.invariant-loop-progress
