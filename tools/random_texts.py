@@ -14,6 +14,16 @@ QUOTED = ["a", "Z9", BLANK, "\\n", "\\t", "\\r", "\\0", "\\\\", '\\"', "\\'", "\
 STYLES = [[" "], ["", " "], ["", " ", "\n", "\t", "\r\n", "\u00a0", "\u2028", " \n  "]]
 
 
+class Chance(random.Random):
+    """What a text is made by; quick, since a text takes hundreds of choices."""
+
+    def choice(self, items):
+        return items[int(self.random() * len(items))]
+
+    def randrange(self, low, high=None):
+        return int(self.random() * low) if high is None else low + int(self.random() * (high - low))
+
+
 @dataclass
 class Scope:
     """The values of a region that is isolated from above: all their names, and those that are not defined yet."""
@@ -105,7 +115,7 @@ class Text:
     # -- marks and their entries
 
     def number(self):
-        number = self.chance.choice([self.chance.randrange(40), self.chance.randrange(2**64)])
+        number = self.chance.choice([self.chance.randrange(40), self.chance.getrandbits(64)])
         if number in self.numbers:
             return self.number()
         self.numbers.add(number)
@@ -225,21 +235,24 @@ PIECES = list("{}[]()<>:;,=!@^?.\"\\ \n+-09aé") + ["{..}", "!0", "^a", "!outlin
 PIECES += ["builtin_given_names", "builtin_block_label", "builtin_sym_name", "\\u{d800}", "outlined_attributes:", "test.nop;", str(2**64)]
 
 
+WORD = re.compile(r"\w+|\W")
+
+
 def edited(chance, text):
     """Returns the text with a word, a character or a longer piece left out, put twice, put elsewhere, or another in its place or before."""
-    at, end = chance.choice([it.span() for it in re.finditer(r"\w+|\W", text)])
+    at, end = WORD.search(text, chance.randrange(len(text))).span()
     end = chance.choice([end, end, end, at + 1, min(len(text), at + 8), min(len(text), at + 60)])
     before, piece, behind = text[:at], text[at:end], text[end:]
     if chance.random() < 0.2:
         rest = before + behind
         to = chance.randrange(len(rest) + 1)
         return rest[:to] + piece + rest[to:]
-    other = chance.choice(PIECES + re.findall(r"\w+", text))
+    other = chance.choice([chance.choice(PIECES), WORD.search(text, chance.randrange(len(text)))[0]])
     return before + chance.choice(["", piece + piece, other, other, other + piece]) + behind
 
 
 def text_and_edit(seed, number, rooms=(0, 4, 15, 40)):
     """Returns the text of this number, which has to be accepted, and an edit of it. It has about as many operations as one of the rooms."""
-    chance = random.Random(f"{seed} {number}")
+    chance = Chance(f"{seed} {number}")
     text = Text(chance, rooms).whole()
     return text, edited(chance, text)

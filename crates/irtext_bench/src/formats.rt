@@ -62,7 +62,8 @@ fn print(alloc: Global, words: &str, text: &str) -> Result<Option<String>, Alloc
     print_with(alloc, &mut ctx, words, text)
 }
 
-/// What becomes of a text with an operation in a format that is accepted.
+/// What becomes of a text with an operation in a format that is accepted: its print is printed as it is (`back`), or the print of that is
+/// (`filled`).
 fn fate(alloc: Global, words: &str, text: &str, wanted: &str) -> Result<&'static str, AllocError> {
     let Some(first) = print(alloc, words, text)? else {
         return Ok("wrong: it is not printed");
@@ -73,10 +74,16 @@ fn fate(alloc: Global, words: &str, text: &str, wanted: &str) -> Result<&'static
     let Some(second) = print(alloc, words, first.as_str())? else {
         return Ok("wrong: its print is not printed");
     };
-    Ok(if second.as_str() == first.as_str() {
-        "back"
+    if second.as_str() == first.as_str() {
+        return Ok("back");
+    }
+    let Some(third) = print(alloc, words, second.as_str())? else {
+        return Ok("wrong: its second print is not printed");
+    };
+    Ok(if third.as_str() == second.as_str() {
+        "filled"
     } else {
-        "wrong: its print is printed otherwise"
+        "wrong: its second print is printed otherwise"
     })
 }
 
