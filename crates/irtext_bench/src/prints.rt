@@ -1,6 +1,6 @@
 //! Texts that are printed, and their prints printed again, each with a context of its own; and each beside a root that stands.
 
-use crate::said::{Ctx, Said, erase, print_of, printed, read, refused, said};
+use crate::said::{Ctx, Said, erase, print_of, printed, read, refused, said_of};
 use irtext_types::dialects::register_demo;
 use pliron_text::base::{Context, Operation, Ptr};
 use std::alloc::{AllocError, Global};
@@ -23,7 +23,7 @@ fn register(ctx: &mut Ctx) -> Result<(), AllocError> {
 /// What is said of a text, with an empty context that is lent.
 fn said_with(alloc: Global, ctx: &mut Ctx, text: &str) -> Result<Said, AllocError> {
     register(ctx)?;
-    said(alloc, ctx, text)
+    said_of(alloc, ctx, text)
 }
 
 /// What is said of a text, with a context of its own.

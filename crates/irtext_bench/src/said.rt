@@ -68,7 +68,7 @@ pub fn refused(alloc: Global, error: &Error<DemoAttr>) -> Result<Said, AllocErro
 }
 
 /// What is said of a text, with a context that is lent.
-pub fn said(alloc: Global, ctx: &mut Ctx, text: &str) -> Result<Said, AllocError> {
+pub fn said_of(alloc: Global, ctx: &mut Ctx, text: &str) -> Result<Said, AllocError> {
     let live = ctx.num_live();
     match read(ctx, text) {
         Ok(root) => Ok(match printed(alloc, ctx, root) {
@@ -82,7 +82,7 @@ pub fn said(alloc: Global, ctx: &mut Ctx, text: &str) -> Result<Said, AllocError
 
 /// The print of a text, if it is read and printed.
 pub fn print_of(alloc: Global, ctx: &mut Ctx, text: &str) -> Result<Option<String>, AllocError> {
-    match said(alloc, ctx, text)? {
+    match said_of(alloc, ctx, text)? {
         Said::Printed(print) => Ok(Some(print)),
         _ => Ok(None),
     }
