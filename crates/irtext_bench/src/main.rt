@@ -1,12 +1,19 @@
 //! The program of the benchmark. Its first word says what is measured on the standard input: `roots` are read from one stream, and
 //! printed once for each further word; `numbers` and `strings` are read as one list; the text is `quoted` or `copied` once for each
-//! further word; and for each the `positions` of its end are asked for, a million times.
+//! further word; and for each the `positions` of its end are asked for, a million times. Other words try what was not written here:
+//! roots are `erased` as they are read, once for each further word; texts are read, and their `prints` read again; and so are texts with
+//! operations in given `formats`.
 #![tactic(auto)]
 
+mod directives;
+mod erased;
+mod formats;
 mod lists;
 mod positions;
+mod prints;
 mod quoted;
 mod roots;
+mod said;
 
 use std::alloc::{AllocError, Global};
 use std::io::Write;
@@ -29,6 +36,15 @@ fn measured(alloc: Global, word: &str, times: usize, text: &str) -> Result<Strin
     }
     if word == "copied" {
         return quoted::copied(alloc, text, times);
+    }
+    if word == "erased" {
+        return erased::erased(alloc, text, times);
+    }
+    if word == "prints" {
+        return prints::prints(alloc, text);
+    }
+    if word == "formats" {
+        return formats::formats(alloc, text);
     }
     roots::roots(alloc, text, times)
 }

@@ -9,6 +9,7 @@ mod reading;
 mod registering;
 mod strings;
 
+use crate::printing::Located;
 use irtext_types::{DemoAttr, DemoType};
 use pliron_text::base::Context;
 use pliron_text::result::{Cause, Error};
@@ -71,6 +72,7 @@ enum Call {
     Location,
     Objects,
     Strings,
+    Unlocated,
 }
 
 impl Call {
@@ -82,6 +84,7 @@ impl Call {
             "location" => Some(Call::Location),
             "objects" => Some(Call::Objects),
             "strings" => Some(Call::Strings),
+            "unlocated" => Some(Call::Unlocated),
             _ => None,
         }
     }
@@ -90,10 +93,11 @@ impl Call {
     fn answer(self, alloc: Global, text: &str) -> Result<String, Fault> {
         match self {
             Call::Again => reading::again(alloc, text),
-            Call::Disp => printing::displayed(alloc, text),
+            Call::Disp => printing::displayed(alloc, text, Located::AsRead),
             Call::Location => locating::read(alloc, text),
             Call::Objects => registering::objects(alloc, text),
             Call::Strings => strings::read(alloc, text),
+            Call::Unlocated => printing::displayed(alloc, text, Located::Nowhere),
         }
     }
 }

@@ -7,6 +7,7 @@ use crate::{Ctx, Fault};
 use irtext_types::dialects::register_demo;
 use pliron_text::base::{Context, Operation, Ptr};
 use pliron_text::ir::OperationText;
+use pliron_text::location::erase_locations;
 use pliron_text::parsable::parse_from_str;
 use pliron_text::printable::{Disp, Printable, RegionPrintDepthLimit, State};
 use std::alloc::Global;
@@ -93,28 +94,54 @@ fn twice_lent(alloc: Global, ctx: &Ctx, root: Ptr<Operation>) -> Result<String, 
     }
 }
 
-/// The text of the root that stands in the text, which is printed twice as it is displayed, and twice with a state that is lent.
-fn read(alloc: Global, ctx: &mut Ctx, text: &str) -> Result<String, Fault> {
+/// What is printed of a root's locations.
+#[derive(Clone, Copy)]
+pub enum Located {
+    /// Those that its text gives it.
+    AsRead,
+    /// None: they are erased first.
+    Nowhere,
+}
+
+/// The text of a root, which is printed twice as it is displayed, and twice with a state that is lent.
+fn printed_ways(
+    alloc: Global,
+    ctx: &mut Ctx,
+    root: Ptr<Operation>,
+    located: Located,
+) -> Result<String, Fault> {
+    if !ctx.contains_operation(root) {
+        return Err(Fault::Wrong);
+    }
+    if let Located::Nowhere = located {
+        erase_locations(ctx, root);
+    }
+    if !ctx.contains_operation(root) {
+        return Err(Fault::Wrong);
+    }
+    let displayed = twice(alloc, ctx, root)?;
+    let lent = twice_lent(alloc, ctx, root)?;
+    Ok(format!(in alloc; "{displayed}{lent}")?)
+}
+
+/// The same of the root that stands in the text.
+fn read(alloc: Global, ctx: &mut Ctx, text: &str, located: Located) -> Result<String, Fault> {
     match parse_from_str(|stream| Operation::top_level_parse(stream), ctx, text) {
-        Ok(root) => {
-            let displayed = twice(alloc, ctx, root)?;
-            let lent = twice_lent(alloc, ctx, root)?;
-            Ok(format!(in alloc; "{displayed}{lent}")?)
-        }
+        Ok(root) => printed_ways(alloc, ctx, root, located),
         Err(error) => Err(Fault::of(&error)),
     }
 }
 
 /// The same once the demo dialects are registered.
-fn registered(alloc: Global, ctx: &mut Ctx, text: &str) -> Result<String, Fault> {
+fn registered(alloc: Global, ctx: &mut Ctx, text: &str, located: Located) -> Result<String, Fault> {
     match register_demo(ctx) {
-        Ok(()) => read(alloc, ctx, text),
+        Ok(()) => read(alloc, ctx, text, located),
         Err(error) => Err(Fault::of(&error)),
     }
 }
 
 /// The same with a context of its own.
-pub fn displayed(alloc: Global, text: &str) -> Result<String, Fault> {
+pub fn displayed(alloc: Global, text: &str, located: Located) -> Result<String, Fault> {
     let mut ctx: Ctx = Context::new(alloc);
-    registered(alloc, &mut ctx, text)
+    registered(alloc, &mut ctx, text, located)
 }

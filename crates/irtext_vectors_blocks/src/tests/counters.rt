@@ -2,7 +2,8 @@
 use irtext_types::DemoAttr;
 use irtext_types::dialects::register_demo;
 use irtext_vectors_common::contexts::{Ctx, with_counters};
-use irtext_vectors_roots::reading::{concrete, read_root};
+use irtext_vectors_roots::reading::{concrete, read_root, whole};
+use pliron_text::base::{Operation, Ptr};
 use pliron_text::result::{Cause, Error};
 use std::alloc::Global;
 use std::test::Fail;
@@ -21,6 +22,21 @@ const ROWS: &[Row] = &[
                 "Out of memory, 0",
             ),
             ("builtin.module @m {}", "builtin.module @m \n{\n  \n}, 2"),
+        ],
+    ),
+    (
+        u64::MAX - 2,
+        1,
+        &[
+            (
+                "builtin.module @m { ^b(x: test.ptr): test.use x }",
+                "builtin.module @m \n{\n  ^b_block1v1(x_v18446744073709551613: test.ptr ) !0:\n    test.use x_v18446744073709551613 !1\n}, 4",
+            ),
+            (
+                "builtin.module @m { ^b(): test.use x; x = test.make: builtin.integer si64 }",
+                "Out of memory, 4",
+            ),
+            ("test.nop", "test.nop, 5"),
         ],
     ),
     (
@@ -49,22 +65,40 @@ fn told(alloc: Global, error: &Error<DemoAttr>) -> Result<String, Fail> {
     }
 }
 
-/// What is said of a text, and how many objects there are then.
-fn said(alloc: Global, ctx: &mut Ctx, text: &str) -> Result<String, Fail> {
+/// A root that stands, and its text.
+type Root = (Ptr<Operation>, String);
+
+/// What is said of a text, and how many objects there are then. A root that is read joins those that stand.
+fn said(alloc: Global, ctx: &mut Ctx, stand: &mut Vec<Root>, text: &str) -> Result<String, Fail> {
     let said = match read_root(ctx, text) {
-        Ok(op) => concrete(alloc, ctx, op)?,
+        Ok(op) => {
+            stand.push((op, whole(alloc, ctx, op)?))?;
+            concrete(alloc, ctx, op)?
+        }
         Err(error) => told(alloc, &error)?,
     };
     Ok(format!(in alloc; "{said}, {}", ctx.num_live())?)
 }
 
-/// The first text of a row of which something else is said.
+/// Whether each root that stands has its text.
+fn are_as_they_were(alloc: Global, ctx: &Ctx, stand: &[Root]) -> Result<bool, Fail> {
+    for root in stand {
+        if whole(alloc, ctx, root.0)?.as_str() != root.1.as_str() {
+            return Ok(false);
+        }
+    }
+    Ok(true)
+}
+
+/// The first text of a row of which something else is said, or behind which a root that stood is not as it was.
 fn differing(alloc: Global, ctx: &mut Ctx, texts: &[(&str, &str)]) -> Result<Option<usize>, Fail> {
     if register_demo(ctx).is_err() {
         return Err(Fail::from("not registered"));
     }
+    let mut stand = Vec::new(alloc);
     for (index, text) in texts.iter().enumerate() {
-        if said(alloc, ctx, text.0)?.as_str() != text.1 {
+        let said = said(alloc, ctx, &mut stand, text.0)?;
+        if said.as_str() != text.1 || !are_as_they_were(alloc, ctx, stand.as_slice())? {
             return Ok(Some(index));
         }
     }

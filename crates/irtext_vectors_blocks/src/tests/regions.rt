@@ -1,4 +1,5 @@
 //! Regions that are read alone, into an operation that stands; and blocks that are read outside of every region, which are refused.
+use crate::tests::standing::{STANDS, faulted};
 use irtext_types::{DemoAttr, DemoType};
 use irtext_vectors_common::answers::told;
 use irtext_vectors_common::contexts::{Ctx, with_demo};
@@ -80,7 +81,8 @@ fn answered(
     }
 }
 
-/// What is said of a region that is read into an operation, and whether a mark is noted then.
+/// What is said of a region that is read into an operation, and whether a mark is noted then. One more call on the stream has to say that it
+/// has failed, where it has.
 fn read(
     alloc: Global,
     ctx: &mut Ctx,
@@ -95,6 +97,9 @@ fn read(
     let mut s = StateStream { stream, state };
     let answer = <Region as Parsable<DemoType, DemoAttr, ()>>::parse(&mut s, op);
     let marks = s.state.has_marks();
+    if let Err(fault) = &answer {
+        faulted(alloc, &mut s, fault)?;
+    }
     let ctx = s.into_ctx();
     Ok((answered(alloc, ctx, op, &answer)?, marks))
 }
@@ -159,21 +164,29 @@ const BLOCKS: &[(&str, &str)] = &[
     ),
 ];
 
-/// What is said of a block, whether a mark is noted, and how many objects there are then.
-fn block(alloc: Global, ctx: &mut Ctx, text: &str) -> Result<String, Fail> {
+/// What is said of a block, and whether a mark is noted then. One more call on the stream has to say that it has failed, where it has.
+fn block_read(alloc: Global, ctx: &mut Ctx, text: &str) -> Result<(String, bool), Fail> {
     let stream = TextStream::new(alloc, text)?;
     let state = State::new(ctx, Source::InMemory, ());
     let mut s = StateStream { stream, state };
     let answer = <BasicBlock as Parsable<DemoType, DemoAttr, ()>>::parse(&mut s, ());
     let marks = s.state.has_marks();
-    let live = s.into_ctx().num_live();
-    if marks || live != 0 {
-        return Err(Fail::from("something was left"));
-    }
     match answer {
         Ok(_) => Err(Fail::from("read")),
-        Err(fault) => told(alloc, &fault),
+        Err(fault) => Ok((faulted(alloc, &mut s, &fault)?, marks)),
     }
+}
+
+/// What is said of a block beside a root that stands, which has to be as it was, with no object and no mark beside it.
+fn block(alloc: Global, ctx: &mut Ctx, text: &str) -> Result<String, Fail> {
+    let stands = root(ctx, STANDS).ok_or("refused")?;
+    let before = whole(alloc, ctx, stands)?;
+    let live = ctx.num_live();
+    let (said, marks) = block_read(alloc, ctx, text)?;
+    if marks || ctx.num_live() != live || whole(alloc, ctx, stands)?.as_str() != before.as_str() {
+        return Err(Fail::from("something was left"));
+    }
+    Ok(said)
 }
 
 #[test]

@@ -12,7 +12,7 @@ use std::alloc::Global;
 use std::test::Fail;
 
 /// A module with a function that returns a constant, which stands before any other text is read.
-const STANDS: &str =
+pub(crate) const STANDS: &str =
     "builtin.module @bar \n{\n  ^block1v1():\n    builtin.func @foo: builtin.function <()->(builtin.integer si64)> \n    {\n      ^entry_block2v1() !0:\n        c0_v0 = test.constant builtin.integer <0: si64>: builtin.integer si64 !1;\n        test.return c0_v0\n    }\n}\n\noutlined_attributes:\n!0 = [builtin_block_label = builtin.identifier entry]\n!1 = [builtin_given_names = builtin.given_names [c0]]\n";
 
 /// Whether an answer is that the stream had failed.
@@ -24,7 +24,7 @@ fn says_failed(answer: &Result<Ptr<Operation>, ParseFault<DemoAttr>>) -> bool {
 }
 
 /// What a fault says. Where it is committed, one more call has to say that the stream has failed; else it has to say something else.
-fn faulted(
+pub(crate) fn faulted(
     alloc: Global,
     s: &mut Stream<'_>,
     fault: &ParseFault<DemoAttr>,

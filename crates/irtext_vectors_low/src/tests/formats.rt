@@ -1,6 +1,6 @@
 //! Which formats are accepted, and by which condition the others are refused; and the operations of a dialect.
 use irtext_base::base::{Identifier, OpId};
-use irtext_base::format::{FormatFault, OpFormat};
+use irtext_base::format::{Directive, FormatFault, OpFormat};
 use irtext_base::result::Result as Answer;
 use irtext_context::dialect::{Dialect, DialectName};
 use irtext_formats::format::check_format;
@@ -155,6 +155,60 @@ fn keeps(alloc: Global, dialect: &mut Dialect) -> Result<bool, Fail> {
 fn last_is_kept(alloc: Global) -> Result<bool, Fail> {
     let mut dialect = Dialect::new(alloc, dialect_name(alloc, "test")?);
     keeps(alloc, &mut dialect)
+}
+
+/// Whether a format is the first operand alone.
+fn is_first_operand(format: &OpFormat) -> bool {
+    match format {
+        OpFormat::Custom(directives) => matches!(directives.as_slice(), [Directive::Operand(0)]),
+        OpFormat::Canonical => false,
+    }
+}
+
+/// Whether `test.z` is isolated, and written as its first operand.
+fn is_as_it_was(alloc: Global, dialect: &Dialect) -> Result<bool, Fail> {
+    let id = OpId {
+        dialect: named(alloc, "test")?,
+        name: named(alloc, "z")?,
+    };
+    Ok(match dialect.op(&id) {
+        Some(info) => info.isolated && is_first_operand(&info.format),
+        None => false,
+    })
+}
+
+/// What is said of registering `test.z` again, with a format that is refused: what was registered first has to stay.
+fn refused_behind(alloc: Global, dialect: &mut Dialect, letters: &str) -> Result<String, Fail> {
+    if !registered(alloc, dialect, "0", true)?.as_str().is_empty() {
+        return Err(Fail::from("not registered"));
+    }
+    let said = registered(alloc, dialect, letters, false)?;
+    if !is_as_it_was(alloc, dialect)? {
+        return Err(Fail::from("the table has changed"));
+    }
+    Ok(said)
+}
+
+/// The same with a dialect of its own.
+fn refused_by_add_op(alloc: Global, letters: &str) -> Result<String, Fail> {
+    let mut dialect = Dialect::new(alloc, dialect_name(alloc, "test")?);
+    refused_behind(alloc, &mut dialect, letters)
+}
+
+/// What has to be said of a format that fails this condition first.
+fn refusal(alloc: Global, fault: FormatFault) -> Result<String, Fail> {
+    Ok(format!(in alloc; "Compilation error: invalid argument.\n{fault}")?)
+}
+
+#[test]
+fn a_refused_format_leaves_the_table_unchanged(rt: HostRuntime) -> Result<(), Fail> {
+    for row in REFUSED {
+        assert_eq!(rt;
+            refused_by_add_op(rt.alloc(), row.0)?.as_str(),
+            refusal(rt.alloc(), row.1)?.as_str()
+        );
+    }
+    Ok(())
 }
 
 /// What is said of registering `test.z` with another dialect.

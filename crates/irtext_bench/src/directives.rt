@@ -1,0 +1,74 @@
+//! Formats as words, one for each directive: `operand.0`, `operands`, `successor.0`, `successors`, `attribute.KEY`, `dictionary`,
+//! `result.0`, `region.0`, `regions`, `symbol`, and `literal.TEXT`. The word `canonical` alone is the canonical form.
+
+use irtext_types::DemoAttr;
+use pliron_text::base::Identifier;
+use pliron_text::format::{Directive, OpFormat};
+use pliron_text::result::Result as Answer;
+use std::alloc::{AllocError, Global};
+
+/// The directive of a word that says all of it.
+fn whole(word: &str) -> Option<Directive> {
+    match word {
+        "operands" => Some(Directive::Operands),
+        "successors" => Some(Directive::Successors),
+        "dictionary" => Some(Directive::AttrDict),
+        "regions" => Some(Directive::Regions),
+        "symbol" => Some(Directive::SymbolHeader),
+        _ => None,
+    }
+}
+
+/// The directive of a kind with a place.
+fn placed(kind: &str, place: usize) -> Option<Directive> {
+    match kind {
+        "operand" => Some(Directive::Operand(place)),
+        "successor" => Some(Directive::Successor(place)),
+        "result" => Some(Directive::ResultType(place)),
+        "region" => Some(Directive::Region(place)),
+        _ => None,
+    }
+}
+
+/// The directive of an attribute.
+fn attribute(alloc: Global, key: &str) -> Result<Directive, AllocError> {
+    let name: Answer<Identifier, DemoAttr> = Identifier::try_new(alloc, key);
+    match name {
+        Ok(key) => Ok(Directive::Attr(key)),
+        Err(_) => Err(AllocError),
+    }
+}
+
+/// The directive of a kind with a text.
+fn with_text(alloc: Global, kind: &str, text: &str) -> Result<Directive, AllocError> {
+    if kind == "literal" {
+        return Ok(Directive::Literal(String::from_str(alloc, text)?));
+    }
+    if kind == "attribute" {
+        return attribute(alloc, text);
+    }
+    match text.parse::<usize>() {
+        Ok(place) => placed(kind, place).ok_or(AllocError),
+        Err(_) => Err(AllocError),
+    }
+}
+
+/// The directive of a word.
+fn directive(alloc: Global, word: &str) -> Result<Directive, AllocError> {
+    match word.split_once('.') {
+        Some((kind, text)) => with_text(alloc, kind, text),
+        None => whole(word).ok_or(AllocError),
+    }
+}
+
+/// The format of the words.
+pub fn format_of(alloc: Global, words: &str) -> Result<OpFormat, AllocError> {
+    if words == "canonical" {
+        return Ok(OpFormat::Canonical);
+    }
+    let mut directives = Vec::new(alloc);
+    for word in words.split_whitespace() {
+        directives.push(directive(alloc, word)?)?;
+    }
+    Ok(OpFormat::Custom(directives))
+}
