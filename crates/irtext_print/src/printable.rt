@@ -1,5 +1,5 @@
 //! The printing state with its guards, what it gathered, why a printing is refused, and the texts of attributes and of new lines.
-ghost use Rattle.std.specs.Prelude.{◌≡◌, OnOk, ◌++◌, string_bytes};
+ghost use Rattle.std.specs.Prelude.{◌≡◌, ◌≤◌, [], OnOk, ◌++◌, codes, cond, string_bytes};
 ghost use Rattle.irtext_print.specs.Printers.Printing.{indent_of};
 ghost use Rattle.irtext_grammar.specs.Spelling.Spell.{newline};
 
@@ -20,6 +20,39 @@ const SPACES: &str = "                                                          
 
 /// A newline, and as many spaces as are appended with it.
 const NEWLINE: &str = "\n                                                                ";
+
+/// A space, a brace on a line of its own, and as many spaces as are appended with it.
+const OPENING: &str = " \n{\n                                                                ";
+
+/// Appends the first brace of a region that stands at no indentation, as [`fmt_opening`] does.
+fn fmt_outer_opening(joins: bool, inner: u16, f: &mut String) -> fmt::Result
+    requires { inner ≤ 64 }
+    ensures { OnOk result (string_bytes f.new ≡ string_bytes f.old ++ (cond joins [] (codes " ") ++ (newline 0 ++ (codes "{" ++ newline inner)))) }
+{
+    let end = 4 + inner as usize;
+    if joins {
+        f.push_str(&OPENING[1..end])?;
+        return Ok(());
+    }
+    f.push_str(&OPENING[..end])?;
+    Ok(())
+}
+
+/// Appends the first brace of a region, on a line of its own at this indentation, and a newline and the inner indentation; behind a space, unless the
+/// region joins what stands before it. It fails only where memory is refused.
+pub fn fmt_opening(joins: bool, indent: u16, inner: u16, f: &mut String) -> fmt::Result
+    ensures { OnOk result (string_bytes f.new ≡ string_bytes f.old ++ (cond joins [] (codes " ") ++ (newline indent ++ (codes "{" ++ newline inner)))) }
+{
+    if indent == 0 && inner <= 64 {
+        return fmt_outer_opening(joins, inner, f);
+    }
+    if !joins {
+        f.push_str(" ")?;
+    }
+    fmt_newline(indent, f)?;
+    f.push_str("{")?;
+    fmt_newline(inner, f)
+}
 
 /// Appends a newline and so many spaces. It fails only where memory is refused.
 pub fn fmt_newline(indent: u16, f: &mut String) -> fmt::Result

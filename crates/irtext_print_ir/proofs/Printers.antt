@@ -4,3 +4,4 @@ pub mod Calls
 pub mod OpPrinters
 pub mod Roots
 pub mod Gathered
+pub mod Ends

@@ -1,5 +1,5 @@
 //! Printing of an operation, a block or a region with all that nests in it.
-ghost use Rattle.std.specs.Prelude.{◌≡◌, ◌++◌, OnOk, IfErr, IsSome, length};
+ghost use Rattle.std.specs.Prelude.{◌≡◌, ◌++◌, OnOk, IfErr, IsSome, length, true};
 ghost use Rattle.irtext_context.specs.Context.{operation};
 ghost use Rattle.irtext_context.specs.Context as context;
 ghost use Rattle.irtext_graph.specs.Graph.{Stands};
@@ -13,7 +13,7 @@ use irtext_base::text::{AttrText, IrText};
 use irtext_context::base::{BasicBlock, Context, Item, Operation, Ptr, Region};
 use irtext_print::printable::{Refusal, State};
 use irtext_print_walk::blocks::{print_block_inside, print_region_inside};
-use irtext_print_walk::walk::print_inside;
+use irtext_print_walk::walk::{print_inside, print_mark};
 
 /// Appends the text of an operation with all that nests in it, at the state's indentation and under its limit; and behind it its mark,
 /// if `marked`. What is marked is added to `items`, in the order of the marks, and a mark counts those before it. What was written and
@@ -80,4 +80,20 @@ pub fn print_nested_region<T: IrText<A>, A: AttrText, U>(
     ensures refused { IfErr result (heads.RefusesRegionUnder T.IrText.own A.IrText.own A.AttrText.own A.eq ctx.now region state.now) }
 {
     print_region_inside::<Heads, T, A, U>(ctx, region, state, items, f)
+}
+
+/// Appends the mark of an operation, where it has one, with the marks of `items` before it, and adds the operation to them. It is refused
+/// only where memory is.
+pub fn print_nested_mark<T: IrText<A>, A: AttrText>(
+    ctx: &Context<T, A>,
+    op: Ptr<Operation>,
+    items: &mut Vec<Item>,
+    f: &mut String,
+) -> Result<(), Refusal>
+    requires live { IsSome (operation ctx.now op) }
+    ensures text { OnOk result (AppendsText f.old (heads.own_mark_at T.IrText.own A.IrText.own A.AttrText.own A.eq ctx.now op true (length items.old.items)) f.new) }
+    ensures items { OnOk result (items.new.items ≡ items.old.items ++ heads.own_items_at T.IrText.own A.IrText.own A.AttrText.own A.eq ctx.now op true) }
+    ensures refused { IfErr result (λ e. e ≡ refusal.Memory) }
+{
+    print_mark::<Heads, T, A>(ctx, op, items, f)
 }

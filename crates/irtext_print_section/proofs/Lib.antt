@@ -3,3 +3,4 @@ pub mod Sections
 pub mod Texts
 pub mod Givens
 pub mod Written
+pub mod Lone

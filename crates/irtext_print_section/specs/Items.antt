@@ -1,5 +1,5 @@
 -- For callers: the section's text of items of which some may have been erased, and its entries.
-use Rattle.std.specs.Prelude.{ℕ, Bool, suc, ◌+◌, List, [], ◌∷◌, ◌++◌, map, length, filter_map, Option, Some, None, codes, decimal, ⊤}
+use Rattle.std.specs.Prelude.{ℕ, Bool, cond, suc, ◌+◌, List, [], ◌∷◌, ◌++◌, map, length, filter_map, Option, Some, None, codes, decimal, ⊤}
 use Rattle.irtext_base.specs.Own.{Language}
 use Rattle.irtext_base.specs.Text.{Text}
 use Rattle.irtext_base.specs.declared.text.AttrText as attr_text
@@ -11,7 +11,7 @@ use Rattle.irtext_grammar.specs.Spelling.Section.{located, entry_text, once_text
 use Rattle.irtext_grammar.specs.Spelling.Spell.{attribute, joined, comma}
 use Rattle.irtext_grammar.specs.Spelling.SectionEntries.{mark_of, written_pair, written_once}
 use Rattle.irtext_print.specs.Printers.PrintedOperation.{language_in}
-use Rattle.irtext_print_section.specs.Given.{printing_of, given_at}
+use Rattle.irtext_print_section.specs.Given.{printing_of, given_at, is_marked_by}
 use Rattle.irtext_print_section.specs.Mentions.{one_noted, items_noted}
 use Rattle.irtext_context.specs.declared.base.item.Item.{Item}
 
@@ -69,6 +69,10 @@ module _ {T A : Type 0} (C : Printing T A) where
     section_of (g ∷ gs) = let all = g ∷ gs in
         codes "\n\noutlined_attributes:\n" ++ (given_texts (length all) (shared_by all) 0 all ++ once_texts L C (length all) (shared_by all))
 
+    -- the mark of an item of which the section gives this, and the section with its entry alone; nothing where no mark is written
+    abbrev pub alone_of : Option (Entry C) → Text
+    alone_of g = cond (is_marked_by C g) (codes " !0" ++ section_of (g ∷ [])) []
+
 module _ {T A : Type 0} (types : ir_text.Ghosts T A) (owns : ir_text.Ghosts A A) (attributes : attr_text.Ghosts A) (same : A → A → Bool) (ctx : ContextView T A) where
   -- what the caller's types and attributes mean by their texts, and the formats of the context
   abbrev pub language_of : Language ⊤ T A
@@ -93,6 +97,10 @@ module _ {T A : Type 0} (types : ir_text.Ghosts T A) (owns : ir_text.Ghosts A A)
   -- the same behind items
   abbrev pub all_known : List A → List Item → List A
   all_known known items = items_noted (printing_of types owns attributes same ctx) known (all_given items)
+
+  -- the mark of an item and the section with its entry alone; nothing where no mark is written
+  abbrev pub alone_at : Item → Text
+  alone_at i = alone_of (printing_of types owns attributes same ctx) language_of (given_at types owns attributes same ctx i)
 
   -- the section of these items
   abbrev pub section_at : List Item → Text

@@ -34,7 +34,8 @@ fn fmt_reference<'c, A: AttrText>(
 {
     let place = note(known, attr)?;
     let index = items + place;
-    write!(f, "!{index}")?;
+    f.push_str("!")?;
+    write!(f, "{index}")?;
     Ok(())
 }
 
@@ -151,7 +152,9 @@ pub(crate) fn fmt_entry<'c, T: IrText<A>, A: AttrText>(
         AppendsText f.old (texts.entry_with (mentions.asking A.print_once A.eq) items (mentions.known_in known.new ++ more) (words A.IrText.written) index
         (known_text A.written ctx.now.paths given.now.location.now) (attributes_of A.outlined given.now)) f.new) }
 {
-    write!(f, "!{index} = ")?;
+    f.push_str("!")?;
+    write!(f, "{index}")?;
+    f.push_str(" = ")?;
     fmt_known(given.location, "@[", "], ", ctx, f)?;
     f.push_str("[")?;
     fmt_pairs(given, items, known, f)?;

@@ -2,6 +2,7 @@
 //! outlined attributes. Marks and entries are made of this alone.
 ghost use Rattle.std.specs.Prelude.{◌≡◌, ◌++◌, [], option_copied};
 ghost use Rattle.std.specs.Iterator.{YieldsFirstBy, item_count};
+ghost use Rattle.irtext_base.specs.declared.location.Location.TheVariants.{Unknown};
 ghost use Rattle.irtext_print_section.specs.Given as gives;
 
 use irtext_base::base::{AttrObj, Identifier};
@@ -86,15 +87,19 @@ impl<'c, A: AttrText> Given<'c, A> {
         }
     }
 
+    /// Whether the section gives something of the item beside its location.
+    pub fn has_attributes(&self) -> bool
+        ensures { result ≡ gives.marks_given Unknown (gives.attributes_of A.outlined self.now) }
+    {
+        let mut attributes = self.attributes();
+        attributes.next().is_some()
+    }
+
     /// Whether a mark is written of the item: the section gives something of it.
     pub fn is_marked(&self) -> bool
         ensures { result ≡ gives.marks_given self.now.location.now (gives.attributes_of A.outlined self.now) }
     {
-        if is_located(self.location) {
-            return true;
-        }
-        let mut attributes = self.attributes();
-        attributes.next().is_some()
+        is_located(self.location) || self.has_attributes()
     }
 }
 

@@ -14,6 +14,7 @@ use crate::mentions::Mentions;
 use indexmap::IndexSet;
 use irtext_base::text::{AttrText, IrText};
 use irtext_context::base::{Context, Item};
+use irtext_print::location::print::fmt_known;
 use irtext_print::printable::Refusal;
 use irtext_print::printable::refusal::memory_alone;
 use std::fmt;
@@ -108,4 +109,43 @@ pub fn print_section<T: IrText<A>, A: AttrText>(
     ensures refused { IfErr result (λ e. e ≡ refusal.Memory) }
 {
     memory_alone(fmt_section(ctx, items, f))
+}
+
+/// Appends the mark and the section of an item, as [`print_alone`] does.
+fn fmt_alone<T: IrText<A>, A: AttrText>(
+    ctx: &Context<T, A>,
+    item: Item,
+    f: &mut String,
+) -> fmt::Result
+    ensures { OnOk result (AppendsText f.old (section.alone_at T.IrText.own A.IrText.own A.AttrText.own A.eq ctx.now item) f.new) }
+{
+    let Some(given) = given_of(ctx, item) else {
+        return Ok(());
+    };
+    if given.has_attributes() {
+        f.push_str(" !0")?;
+        return fmt_section(ctx, &[item], f);
+    }
+    fmt_known(
+        given.location,
+        " !0\n\noutlined_attributes:\n!0 = @[",
+        "], []\n",
+        ctx,
+        f,
+    )
+}
+
+/// Appends the mark of an item and a section that has its entry alone, where a mark is written of it: so the section's words and the entry
+/// are appended together, and no list of items is asked for.
+///
+/// It takes memory as [`print_section`] does, and is refused only where memory is; what was written until then stays.
+pub fn print_alone<T: IrText<A>, A: AttrText>(
+    ctx: &Context<T, A>,
+    item: Item,
+    f: &mut String,
+) -> Result<(), Refusal>
+    ensures text { OnOk result (AppendsText f.old (section.alone_at T.IrText.own A.IrText.own A.AttrText.own A.eq ctx.now item) f.new) }
+    ensures refused { IfErr result (λ e. e ≡ refusal.Memory) }
+{
+    memory_alone(fmt_alone(ctx, item, f))
 }

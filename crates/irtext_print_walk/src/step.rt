@@ -143,7 +143,7 @@ fn region_turn<'c, T: IrText<A>, A: AttrText>(
 }
 
 /// Appends the mark of an operation that was written, where it has one and it is to be written.
-fn end_operation<H: WritesHeads<T, A>, T: IrText<A>, A: AttrText>(
+pub(crate) fn end_operation<H: WritesHeads<T, A>, T: IrText<A>, A: AttrText>(
     ctx: &Context<T, A>,
     op: Ptr<Operation>,
     marked: bool,

@@ -1,5 +1,5 @@
 //! Printing of an operation with all that nests in it.
-ghost use Rattle.std.specs.Prelude.{◌≡◌, ◌≢◌, ◌++◌, OnOk, IfErr, IsSome, length};
+ghost use Rattle.std.specs.Prelude.{◌≡◌, ◌≢◌, ◌++◌, OnOk, IfErr, IsSome, length, true};
 ghost use Rattle.irtext_context.specs.Context.{operation};
 ghost use Rattle.irtext_print.specs.Printers.Appended.{AppendsText};
 ghost use Rattle.irtext_print.specs.declared.printable.refusal.Refusal.TheVariants as refusal;
@@ -7,7 +7,7 @@ ghost use Rattle.irtext_print_walk.specs.Heads as heads;
 
 use crate::frame::{Frame, open};
 use crate::heads::WritesHeads;
-use crate::step::{begin_operation, step};
+use crate::step::{begin_operation, end_operation, step};
 use irtext_base::text::{AttrText, IrText};
 use irtext_context::base::{Context, Item, Operation, Ptr};
 use irtext_print::printable::{Refusal, State};
@@ -60,4 +60,20 @@ pub fn print_inside<H: WritesHeads<T, A>, T: IrText<A>, A: AttrText, U>(
     let mut frames = Vec::new(ctx.allocator());
     open(&mut frames, Frame::Operation(begun))?;
     print_frames::<H, T, A>(ctx, width, &mut frames, items, f)
+}
+
+/// Appends the mark of an operation, where it has one, with the marks of `items` before it, and adds the operation to them. It is refused
+/// only where memory is.
+pub fn print_mark<H: WritesHeads<T, A>, T: IrText<A>, A: AttrText>(
+    ctx: &Context<T, A>,
+    op: Ptr<Operation>,
+    items: &mut Vec<Item>,
+    f: &mut String,
+) -> Result<(), Refusal>
+    requires live { IsSome (operation ctx.now op) }
+    ensures text { OnOk result (AppendsText f.old (heads.own_mark_at T.IrText.own A.IrText.own A.AttrText.own A.eq ctx.now op true (length items.old.items)) f.new) }
+    ensures items { OnOk result (items.new.items ≡ items.old.items ++ heads.own_items_at T.IrText.own A.IrText.own A.AttrText.own A.eq ctx.now op true) }
+    ensures refused { IfErr result (λ e. e ≡ refusal.Memory) }
+{
+    end_operation::<H, T, A>(ctx, op, true, items, f)
 }

@@ -66,3 +66,26 @@ pub newline-slice : (n : ℕ) → n ≤ 64 → slice_range {X = ℕ} (10 ∷ rep
 newline-slice n few =
     let size : 1 + n - 0 ≡ suc n = omega arith in
     ap (λ k. take k (10 ∷ replicate 64 32)) size ∙ ap (λ z. 10 ∷ z) (take-replicate n 64 32 few)
+
+-- a space, a brace on a line of its own, a newline and spaces are ASCII
+pub opening-ascii : (n : ℕ) → IsAscii (32 ∷ 10 ∷ 123 ∷ 10 ∷ replicate n 32)
+opening-ascii n zero = omega arith
+opening-ascii n (suc zero) = omega arith
+opening-ascii n (suc (suc zero)) = omega arith
+opening-ascii n (suc (suc (suc i))) = newline-ascii n i
+
+-- a slice of them
+pub opening-whole : (n : ℕ) → n ≤ 64 → slice_range {X = ℕ} (32 ∷ 10 ∷ 123 ∷ 10 ∷ replicate 64 32) 0 (4 + n) ≡ 32 ∷ 10 ∷ 123 ∷ 10 ∷ replicate n 32
+opening-whole n few =
+    let size : 4 + n - 0 ≡ suc (suc (suc (suc n))) = omega arith in
+    ap (λ k. take k (32 ∷ 10 ∷ 123 ∷ 10 ∷ replicate 64 32)) size ∙ ap (λ z. 32 ∷ 10 ∷ 123 ∷ 10 ∷ z) (take-replicate n 64 32 few)
+
+-- a slice of them behind the space
+pub opening-behind : (n : ℕ) → n ≤ 64 → slice_range {X = ℕ} (32 ∷ 10 ∷ 123 ∷ 10 ∷ replicate 64 32) 1 (4 + n) ≡ 10 ∷ 123 ∷ 10 ∷ replicate n 32
+opening-behind n few =
+    let size : 4 + n - 1 ≡ suc (suc (suc n)) = omega arith in
+    ap (λ k. take k (10 ∷ 123 ∷ 10 ∷ replicate 64 32)) size ∙ ap (λ z. 10 ∷ 123 ∷ 10 ∷ z) (take-replicate n 64 32 few)
+
+-- bytes, and those behind them
+pub piece : (f0 f1 f2 a r : List ℕ) → f1 ≡ f0 ++ a → f2 ≡ f1 ++ r → f2 ≡ f0 ++ (a ++ r)
+piece f0 f1 f2 a r p q = q ∙ ap (λ z. z ++ r) p ∙ append_assoc f0 a r

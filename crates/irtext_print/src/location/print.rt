@@ -1,5 +1,6 @@
 //! Printing of locations: files by the paths that a context keeps for them.
 ghost use Rattle.std.specs.Prelude.{◌≡◌, ◌<◌, ◌^◌, ◌++◌, OnOk, codes, option_copied, string_bytes};
+ghost use Rattle.std.specs.Fmt.{signed_decimal};
 ghost use Rattle.std.specs.Int.Signed.{mag};
 ghost use Rattle.irtext_print.specs.Printers.Appended.{AppendsText};
 ghost use Rattle.irtext_base.specs.Causes.{position_text};
@@ -55,13 +56,33 @@ fn number_fits(number: &i32)
     let _number = *number;
 }
 
-/// Appends the line and the column.
-fn fmt_position(pos: &SourcePosition, f: &mut String) -> fmt::Result
-    ensures { OnOk result (AppendsText f.old (position_text pos.now) f.new) }
+/// Appends a source and the word in front of a line.
+fn fmt_front<T: IrText<A>, A: AttrText>(
+    src: Source,
+    ctx: &Context<T, A>,
+    f: &mut String,
+) -> fmt::Result
+    ensures { OnOk result (AppendsText f.old (source_text (path_of ctx.now.paths src) ++ codes ": line: ") f.new) }
+{
+    match path_of(src, ctx) {
+        Some(path) => {
+            fmt_quoted(path, f)?;
+            f.push_str(": line: ")?;
+        }
+        None => f.push_str("<in-memory>: line: ")?,
+    }
+    Ok(())
+}
+
+/// Appends the numbers of the line and the column.
+fn fmt_numbers(pos: &SourcePosition, f: &mut String) -> fmt::Result
+    ensures { OnOk result (AppendsText f.old (signed_decimal pos.now.line ++ (codes ", column: " ++ signed_decimal pos.now.column)) f.new) }
 {
     number_fits(&pos.line);
     number_fits(&pos.column);
-    write!(f, "{pos}")?;
+    write!(f, "{}", pos.line)?;
+    f.push_str(", column: ")?;
+    write!(f, "{}", pos.column)?;
     Ok(())
 }
 
@@ -89,9 +110,8 @@ pub(super) fn fmt_place<T: IrText<A>, A: AttrText>(
 ) -> fmt::Result
     ensures { OnOk result (AppendsText f.old (source_text (path_of ctx.now.paths src) ++ (codes ": " ++ position_text pos.now)) f.new) }
 {
-    fmt_source(src, ctx, f)?;
-    f.push_str(": ")?;
-    fmt_position(pos, f)
+    fmt_front(src, ctx, f)?;
+    fmt_numbers(pos, f)
 }
 
 /// Appends the text of a location. It fails only where memory is refused; what was written until then stays. It doesn't recurse:

@@ -70,6 +70,10 @@ module _ {T A : Type 0} (types : ir_text.Ghosts T A) (owns : ir_text.Ghosts A A)
   abbrev pub root_left : {U : Type 0} → Ptr Operation → Shown U → Shown U
   root_left p s = with_gathered s (elim (block_round ctx p) [ Some b ↦ root_items p s | None ↦ [] ])
 
+  -- what stands behind the concrete text of an operation in no block, where these items were gathered: its mark, and the section
+  abbrev pub end_text : Ptr Operation → List Item → Text
+  end_text p gs = heads.own_mark_at types owns attributes same ctx p true (length gs) ++ section_at types owns attributes same ctx (gs ++ heads.own_items_at types owns attributes same ctx p true)
+
   -- with nothing gathered before, the text of a root in no block is the one that the definitions of printing give of what is seen under it
   abbrev pub IsDefined : Ptr Operation → Type 0
   IsDefined p = (s : Shown (Unit {0})) (g : Graph T A) → seen_root owns.written ctx p ≡ Some g → block_round ctx p ≡ None → s.gathered ≡ []

@@ -8,13 +8,13 @@ ghost use Rattle.irtext_print_ir.specs.Printers.Printed as printed;
 ghost use Rattle.irtext_print_section.specs.Items.{section_at};
 ghost use Rattle.irtext_print_walk.specs.Heads as heads;
 
-use crate::ir::print::gathering::gather_operation;
+use crate::ir::print::gathering::{gather_mark, gather_operation};
 use crate::printable::{Printable, Refusal, State};
 use irtext_base::text::{AttrText, IrText};
-use irtext_context::base::{Context, Operation, Ptr};
+use irtext_context::base::{Context, Item, Operation, Ptr};
 use irtext_graph::held::HasGraph;
-use irtext_print::printable::gathered::take_gathered;
-use irtext_print_section::section::print_section;
+use irtext_print::printable::gathered::{has_gathered, take_gathered};
+use irtext_print_section::section::{print_alone, print_section};
 use std::fmt;
 
 pub mod concrete;
@@ -36,6 +36,27 @@ fn fmt_section<T: IrText<A>, A: AttrText, U>(
     print_section(ctx, &gathered, f)
 }
 
+/// Appends what stands behind the concrete text of an operation in no block: its mark, and the section of all that was gathered, which is
+/// taken out. Where nothing was gathered, no list is made of the operation alone.
+fn fmt_end<T: IrText<A>, A: AttrText, U>(
+    ctx: &Context<T, A>,
+    op: Ptr<Operation>,
+    state: &mut State<U>,
+    f: &mut String,
+) -> Result<(), Refusal>
+    requires live { IsSome (operation ctx.now op) }
+    ensures text { OnOk result (AppendsText f.old (printed.end_text T.IrText.own A.IrText.own A.AttrText.own A.eq ctx.now op (gathered_of state.old)) f.new) }
+    ensures state { OnOk result (state.new ≡ with_gathered state.old []) }
+    ensures refused { IfErr result (λ e. e ≡ refusal.Memory) }
+    ensures rest { state.new ≡ with_gathered state.old (gathered_of state.new) }
+{
+    if !has_gathered(state) {
+        return print_alone(ctx, Item::Operation(op), f);
+    }
+    gather_mark(ctx, op, state, f)?;
+    fmt_section(ctx, state, f)
+}
+
 /// Appends the text of an operation with all that nests in it, with its mark behind those that were gathered before; and where it stands
 /// in no block, the section of all that was gathered, which is taken out. What `Printable` appends of it is the same; this call says why
 /// it was refused. What was written and gathered until then stays.
@@ -53,10 +74,12 @@ pub fn print_root<T: IrText<A>, A: AttrText, U>(
     ensures rest { state.new ≡ with_gathered state.old (gathered_of state.new) }
 {
     ctx.graph().keeps_nesting();
-    gather_operation(ctx, op, true, state, f)?;
     match op.get_parent_block(ctx) {
-        Some(_block) => Ok(()),
-        None => fmt_section(ctx, state, f),
+        Some(_block) => gather_operation(ctx, op, true, state, f),
+        None => {
+            gather_operation(ctx, op, false, state, f)?;
+            fmt_end(ctx, op, state, f)
+        }
     }
 }
 

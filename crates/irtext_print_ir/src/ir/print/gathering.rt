@@ -1,5 +1,5 @@
 //! Printing of what nests, where the printing state gathers what is marked.
-ghost use Rattle.std.specs.Prelude.{◌≡◌, ◌++◌, OnOk, IfErr, IsSome, length};
+ghost use Rattle.std.specs.Prelude.{◌≡◌, ◌++◌, OnOk, IfErr, IsSome, length, true};
 ghost use Rattle.irtext_context.specs.Context.{operation};
 ghost use Rattle.irtext_context.specs.Context as context;
 ghost use Rattle.irtext_graph.specs.Graph.{Stands};
@@ -14,7 +14,9 @@ use crate::printable::{Refusal, State};
 use irtext_base::text::{AttrText, IrText};
 use irtext_context::base::{BasicBlock, Context, Operation, Ptr, Region};
 use irtext_print::printable::gathered::{put_gathered, take_gathered};
-use irtext_print_nested::nested::{print_nested, print_nested_block, print_nested_region};
+use irtext_print_nested::nested::{
+    print_nested, print_nested_block, print_nested_mark, print_nested_region,
+};
 
 /// Appends the text of an operation with all that nests in it, and behind it its mark, if `marked`. What is marked is gathered.
 pub(crate) fn gather_operation<T: IrText<A>, A: AttrText, U>(
@@ -33,6 +35,25 @@ pub(crate) fn gather_operation<T: IrText<A>, A: AttrText, U>(
 {
     let mut items = take_gathered(state, ctx.allocator());
     let answer = print_nested(ctx, op, marked, state, &mut items, f);
+    put_gathered(state, items);
+    answer
+}
+
+/// Appends the mark of an operation, where it has one, behind those that were gathered, and gathers the operation.
+pub(crate) fn gather_mark<T: IrText<A>, A: AttrText, U>(
+    ctx: &Context<T, A>,
+    op: Ptr<Operation>,
+    state: &mut State<U>,
+    f: &mut String,
+) -> Result<(), Refusal>
+    requires live { IsSome (operation ctx.now op) }
+    ensures text { OnOk result (AppendsText f.old (heads.own_mark_at T.IrText.own A.IrText.own A.AttrText.own A.eq ctx.now op true (length (gathered_of state.old))) f.new) }
+    ensures state { OnOk result (state.new ≡ printed.gathers state.old (heads.own_items_at T.IrText.own A.IrText.own A.AttrText.own A.eq ctx.now op true)) }
+    ensures refused { IfErr result (λ e. e ≡ refusal.Memory) }
+    ensures rest { state.new ≡ with_gathered state.old (gathered_of state.new) }
+{
+    let mut items = take_gathered(state, ctx.allocator());
+    let answer = print_nested_mark(ctx, op, &mut items, f);
     put_gathered(state, items);
     answer
 }
