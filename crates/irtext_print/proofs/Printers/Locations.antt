@@ -8,11 +8,11 @@ use Rattle.std.specs.Fmt.{decimal, signed_decimal}
 use Rattle.std.specs.Int.Signed.{mag}
 use Rattle.std.specs.List.{list_all}
 use Rattle.std.specs.Str.{encode_utf8_all, IsAscii}
-use Rattle.irtext_base.specs.Text.{Text, is_identifier}
+use Rattle.irtext_base.specs.Text.{Text}
 use Rattle.irtext_stream.specs.declared.position.SourcePosition.{SourcePosition}
 use Rattle.irtext_print.specs.Errors.Located.{between, framed}
 use Rattle.irtext_grammar.specs.Spelling.Spell.{joined, joined_from, comma}
-use Rattle.irtext_grammar.proofs.Lists.Ascii.{ascii-from, ascii-identifier, encodes-ascii}
+use Rattle.irtext_grammar.proofs.Lists.Ascii.{ascii-from, encodes-ascii}
 
 -- a fixed word
 pub word : (w : Text) → list_all is_ascii w ≡ true → w ≡ encode_utf8_all w
