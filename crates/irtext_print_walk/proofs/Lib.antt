@@ -7,3 +7,4 @@ pub mod Turned
 pub mod Walked
 pub mod Refused
 pub mod Alone
+pub mod Chained

@@ -49,7 +49,7 @@ module _ {T A : Type 0} (C : Printing T A) (L : Language ⊤ T A) (ctx : Context
   fit_last [] f a = a.0
   fit_last (g ∷ gs) f a = fit_last gs f a.1
 
-  items_both : (gs hs : List Frame) → items_left C L ctx (gs ++ hs) ≡ items_left C L ctx hs ++ items_left C L ctx gs
+  pub items_both : (gs hs : List Frame) → items_left C L ctx (gs ++ hs) ≡ items_left C L ctx hs ++ items_left C L ctx gs
   items_both [] hs = sym (append-nil (items_left C L ctx hs))
   items_both (g ∷ gs) hs = ap (λ z. z ++ items_of C L ctx g) (items_both gs hs) ∙ append_assoc (items_left C L ctx hs) (items_left C L ctx gs) (items_of C L ctx g)
 

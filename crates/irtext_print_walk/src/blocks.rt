@@ -6,8 +6,9 @@ ghost use Rattle.irtext_graph.specs.declared.object.Object.TheVariants.{TheRegio
 ghost use Rattle.irtext_print.specs.Printers.Appended.{AppendsText};
 ghost use Rattle.irtext_print.specs.declared.printable.refusal.Refusal.TheVariants as refusal;
 ghost use Rattle.irtext_print_walk.specs.Heads as heads;
+ghost use Rattle.irtext_print_walk.specs.Steps.{begun_frames, listed};
 
-use crate::frame::{BlockFrame, Frame, open};
+use crate::frame::{BlockFrame, Frame, RegionFrame};
 use crate::heads::WritesHeads;
 use crate::opening::{begin_region, deeper, fmt_colon};
 use crate::step::fmt_block_mark;
@@ -15,6 +16,16 @@ use crate::walk::print_frames;
 use irtext_base::text::{AttrText, IrText};
 use irtext_context::base::{BasicBlock, Context, Item, Ptr, Region};
 use irtext_print::printable::{Refusal, State};
+
+/// The frame of a region that was begun, where it isn't elided.
+fn region_frame<'c>(begun: Option<RegionFrame>) -> Option<Frame<'c>>
+    ensures { listed result ≡ begun_frames begun }
+{
+    match begun {
+        Some(begun) => Some(Frame::Region(begun)),
+        None => None,
+    }
+}
 
 /// Appends the text of a region with all that nests in it, at the state's indentation and under its limit. What is marked is added to
 /// `items`, in the order of the marks, and a mark counts those before it. What was written and gathered until a refusal stays. It is
@@ -35,9 +46,9 @@ pub fn print_region_inside<H: WritesHeads<T, A>, T: IrText<A>, A: AttrText, U>(
     let width = state.indent_width();
     let indent = state.current_indent();
     let limit = state.current_region_print_depth_limit();
+    let begun = begin_region(region, true, indent, width, limit, f)?;
     let mut frames = Vec::new(ctx.allocator());
-    begin_region(region, indent, width, limit, &mut frames, f)?;
-    print_frames::<H, T, A>(ctx, width, &mut frames, items, f)
+    print_frames::<H, T, A>(ctx, width, region_frame(begun), &mut frames, items, f)
 }
 
 /// Appends the text of a block with all that nests in it, at the state's indentation and under its limit; its mark is written where it
@@ -66,16 +77,13 @@ pub fn print_block_inside<H: WritesHeads<T, A>, T: IrText<A>, A: AttrText, U>(
     H::fmt_block_head(ctx, block, f)?;
     fmt_block_mark::<H, T, A>(ctx, block, items, f)?;
     fmt_colon(inner, f)?;
+    let first = Frame::Block(BlockFrame {
+        block,
+        operation: 0,
+        first: true,
+        indent,
+        limit,
+    });
     let mut frames = Vec::new(ctx.allocator());
-    open(
-        &mut frames,
-        Frame::Block(BlockFrame {
-            block,
-            operation: 0,
-            first: true,
-            indent,
-            limit,
-        }),
-    )?;
-    print_frames::<H, T, A>(ctx, width, &mut frames, items, f)
+    print_frames::<H, T, A>(ctx, width, Some(first), &mut frames, items, f)
 }

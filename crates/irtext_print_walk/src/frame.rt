@@ -62,6 +62,17 @@ pub enum Frame<'c> {
     Block(BlockFrame),
 }
 
+/// What is open behind a turn of an operation.
+#[derive(Clone, Copy)]
+pub(crate) enum Turn {
+    /// The operation, and nothing inside of it.
+    Stays,
+    /// The operation, and a region inside of it.
+    Enters(RegionFrame),
+    /// Nothing.
+    Ends,
+}
+
 /// Opens a frame inside of those that are open.
 pub(crate) fn open<'c>(frames: &mut Vec<Frame<'c>>, frame: Frame<'c>) -> Result<(), Refusal>
     ensures ok { OnOk result (frames.new.items ≡ frames.old.items ++ frame.entry ∷ []) }

@@ -1,15 +1,15 @@
 //! What stands in front of regions, blocks and operations, and behind them.
-ghost use Rattle.std.specs.Prelude.{◌≡◌, ◌≢◌, ◌+◌, ◌≤◌, ◌^◌, ◌++◌, OnOk, IfOk, IfErr, codes, decimal};
+ghost use Rattle.std.specs.Prelude.{◌≡◌, ◌≢◌, ◌+◌, ◌≤◌, ◌^◌, ◌++◌, [], OnOk, IfOk, IfErr, codes, cond, decimal};
 ghost use Rattle.irtext_grammar.specs.Spelling.Spell.{newline};
 ghost use Rattle.irtext_print.specs.Printers.Appended.{AppendsText};
 ghost use Rattle.irtext_print.specs.Printers.Printing.{lowered};
 ghost use Rattle.irtext_print.specs.declared.printable.refusal.Refusal.TheVariants as refusal;
 ghost use Rattle.irtext_print_ops.specs.Opened.{closing, between_blocks, between_operations, unless_first};
-ghost use Rattle.irtext_print_walk.specs.Steps.{IsTooDeep, region_front, region_frames};
+ghost use Rattle.irtext_print_walk.specs.Steps.{IsTooDeep, begun_frames, region_front, region_frames};
 
-use crate::frame::{Frame, RegionFrame, open};
+use crate::frame::RegionFrame;
 use irtext_context::base::{Ptr, Region};
-use irtext_print::printable::{Refusal, RegionPrintDepthLimit, fmt_newline};
+use irtext_print::printable::{Refusal, RegionPrintDepthLimit, fmt_newline, fmt_opening};
 
 /// One indentation more, where the spaces fit 16 bits.
 pub(crate) fn deeper(indent: u16, width: u16) -> Result<u16, Refusal>
@@ -90,6 +90,10 @@ pub(crate) fn fmt_closing(indent: u16, f: &mut String) -> Result<(), Refusal>
     ensures text { OnOk result (AppendsText f.old (closing indent) f.new) }
     ensures refused { IfErr result (λ e. e ≡ refusal.Memory) }
 {
+    if indent == 0 {
+        f.push_str("\n}")?;
+        return Ok(());
+    }
     fmt_line(indent, f)?;
     f.push_str("}")?;
     Ok(())
@@ -105,35 +109,54 @@ pub(crate) fn fmt_index(index: usize, f: &mut String) -> Result<(), Refusal>
     Ok(())
 }
 
-/// Begins a region: appends that it is elided, or what stands in front of its blocks, which are then open.
+/// Appends that a region is elided; behind a space, unless the region joins what stands before it.
+fn fmt_elided(joins: bool, f: &mut String) -> Result<(), Refusal>
+    ensures text { OnOk result (AppendsText f.old (cond joins [] (codes " ") ++ codes "{..}") f.new) }
+    ensures refused { IfErr result (λ e. e ≡ refusal.Memory) }
+{
+    if joins {
+        f.push_str("{..}")?;
+        return Ok(());
+    }
+    f.push_str(" {..}")?;
+    Ok(())
+}
+
+/// Appends what stands in front of a region's blocks; behind a space, unless the region joins what stands before it.
+fn fmt_begun(joins: bool, indent: u16, inner: u16, f: &mut String) -> Result<(), Refusal>
+    ensures text { OnOk result (AppendsText f.old (cond joins [] (codes " ") ++ (newline indent ++ (codes "{" ++ newline inner))) f.new) }
+    ensures refused { IfErr result (λ e. e ≡ refusal.Memory) }
+{
+    match fmt_opening(joins, indent, inner, f) {
+        Ok(()) => Ok(()),
+        Err(_) => Err(Refusal::Memory),
+    }
+}
+
+/// Begins a region, behind a space unless it stands behind another one: appends that it is elided, or what stands in front of its blocks.
 pub(crate) fn begin_region(
     region: Ptr<Region>,
+    joins: bool,
     indent: u16,
     width: u16,
     limit: RegionPrintDepthLimit,
-    frames: &mut Vec<Frame<'_>>,
     f: &mut String,
-) -> Result<(), Refusal>
-    ensures text { OnOk result (AppendsText f.old (region_front width indent limit) f.new) }
-    ensures stack { OnOk result (frames.new.items ≡ frames.old.items ++ region_frames region indent limit) }
+) -> Result<Option<RegionFrame>, Refusal>
+    ensures text { OnOk result (AppendsText f.old (cond joins [] (codes " ") ++ region_front width indent limit) f.new) }
+    ensures opens { IfOk result (λ begun. begun_frames begun ≡ region_frames region indent limit) }
     ensures refused { IfErr result (λ e. e ≢ refusal.Memory → (e ≡ refusal.Depth) × IsTooDeep width indent limit) }
 {
     let Some(limit) = inside(limit) else {
-        f.push_str("{..}")?;
-        return Ok(());
+        fmt_elided(joins, f)?;
+        return Ok(None);
     };
     let inner = deeper(indent, width)?;
-    fmt_line(indent, f)?;
-    f.push_str("{")?;
-    fmt_line(inner, f)?;
-    open(
-        frames,
-        Frame::Region(RegionFrame {
-            region,
-            block: 0,
-            first: true,
-            indent,
-            limit,
-        }),
-    )
+    fmt_begun(joins, indent, inner, f)?;
+    Ok(Some(RegionFrame {
+        region,
+        block: 0,
+        first: true,
+        indent,
+        limit,
+    }))
 }

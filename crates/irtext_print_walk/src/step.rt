@@ -1,5 +1,5 @@
 //! The turns of the walk: what is written next of what is open innermost, and what is open then.
-ghost use Rattle.std.specs.Prelude.{◌≡◌, ◌≢◌, ◌++◌, ◌∷◌, [], OnOk, IfOk, IfErr, IsSome, length, cond, codes};
+ghost use Rattle.std.specs.Prelude.{◌≡◌, ◌≢◌, ◌++◌, ◌∷◌, [], OnOk, IfOk, IfErr, IsSome, length};
 ghost use Rattle.irtext_context.specs.Context.{operation};
 ghost use Rattle.irtext_context.specs.Context as context;
 ghost use Rattle.irtext_graph.specs.Graph.{Stands};
@@ -10,7 +10,7 @@ ghost use Rattle.irtext_print_walk.specs.Heads as heads;
 ghost use Rattle.irtext_print_walk.specs.Steps as steps;
 ghost use Rattle.irtext_print_walk.specs.declared.frame.Frame.TheVariants as framed;
 
-use crate::frame::{BlockFrame, Frame, OperationFrame, RegionFrame, gather, open};
+use crate::frame::{BlockFrame, Frame, OperationFrame, RegionFrame, Turn, gather, open};
 use crate::heads::WritesHeads;
 use crate::opening::{
     begin_region, deeper, fmt_between_blocks, fmt_between_operations, fmt_closing, fmt_colon,
@@ -95,51 +95,47 @@ pub(crate) fn begin_operation<'c, H: WritesHeads<T, A>, T: IrText<A>, A: AttrTex
     })
 }
 
-/// Appends what stands in front of a region: a space, but nothing where all regions that are left stand one behind the other.
-fn fmt_space(repeats: bool, f: &mut String) -> Result<(), Refusal>
-    ensures text { OnOk result (AppendsText f.old (cond repeats [] (codes " ")) f.new) }
-    ensures refused { IfErr result (λ e. e ≡ refusal.Memory) }
-{
-    if repeats {
-        return Ok(());
-    }
-    f.push_str(" ")?;
-    Ok(())
-}
-
-/// Appends the next region of an operation, or nothing where none is left.
+/// Begins the next region of an operation, where one is left: appends that it is elided, or what stands in front of its blocks.
 fn region_turn<'c, T: IrText<A>, A: AttrText>(
     ctx: &'c Context<T, A>,
     width: u16,
-    frame: OperationFrame<'c>,
-    frames: &mut Vec<Frame<'c>>,
+    frame: &mut OperationFrame<'c>,
     f: &mut String,
-) -> Result<(), Refusal>
-    requires live { IsSome (operation ctx.now frame.op) }
-    ensures text { OnOk result (AppendsText f.old (steps.region_turn_text ctx.now width frame.entry) f.new) }
-    ensures stack { OnOk result (frames.new.items ≡ frames.old.items ++ steps.region_turn_frames ctx.now frame.entry) }
-    ensures refused { IfErr result (λ e. e ≢ refusal.Memory → (e ≡ refusal.Depth) × steps.NextTooDeep ctx.now width frame.entry) }
+) -> Result<Option<RegionFrame>, Refusal>
+    requires live { IsSome (operation ctx.now frame.old.op) }
+    ensures text { OnOk result (AppendsText f.old (steps.region_turn_text ctx.now width frame.old) f.new) }
+    ensures left { IfOk result (λ begun. framed.Operation frame.new ∷ steps.begun_frames begun ≡ steps.region_turn_frames ctx.now frame.old) }
+    ensures refused { IfErr result (λ e. e ≢ refusal.Memory → (e ≡ refusal.Depth) × steps.NextTooDeep ctx.now width frame.old) }
 {
     if frame.region >= frame.op.num_regions(ctx) {
-        open(
-            frames,
-            Frame::Operation(OperationFrame {
-                repeats: false,
-                ..frame
-            }),
-        )?;
-        return Ok(());
+        frame.repeats = false;
+        return Ok(None);
     }
     let region = frame.op.get_region(ctx, frame.region);
-    fmt_space(frame.repeats, f)?;
-    open(
-        frames,
-        Frame::Operation(OperationFrame {
-            region: frame.region + 1,
-            ..frame
-        }),
-    )?;
-    begin_region(region, frame.indent, width, frame.limit, frames, f)
+    let begun = begin_region(region, frame.repeats, frame.indent, width, frame.limit, f)?;
+    frame.region += 1;
+    Ok(begun)
+}
+
+/// Ends a region that was begun, where it has no block, and says what is open then.
+fn entered<T: IrText<A>, A: AttrText>(
+    ctx: &Context<T, A>,
+    begun: Option<RegionFrame>,
+    f: &mut String,
+) -> Result<Turn, Refusal>
+    requires stand { heads.FramesFitAt T.IrText.own A.IrText.own A.AttrText.own A.eq ctx.now (steps.begun_frames begun) }
+    ensures text { OnOk result (AppendsText f.old (steps.ended_text ctx.now begun) f.new) }
+    ensures left { IfOk result (λ turn. turn ≡ steps.ended_turn ctx.now begun) }
+    ensures refused { IfErr result (λ e. e ≡ refusal.Memory) }
+{
+    let Some(inside) = begun else {
+        return Ok(Turn::Stays);
+    };
+    if inside.region.num_blocks(ctx) == 0 {
+        fmt_closing(inside.indent, f)?;
+        return Ok(Turn::Stays);
+    }
+    Ok(Turn::Enters(inside))
 }
 
 /// Appends the mark of an operation that was written, where it has one and it is to be written.
@@ -185,6 +181,67 @@ pub(crate) fn fmt_block_mark<H: WritesHeads<T, A>, T: IrText<A>, A: AttrText>(
 }
 
 /// Writes what is next of an operation: its pieces up to a region, and that; or its mark behind the last.
+fn operation_turn<'c, H: WritesHeads<T, A>, T: IrText<A>, A: AttrText>(
+    ctx: &'c Context<T, A>,
+    width: u16,
+    frame: &mut OperationFrame<'c>,
+    items: &mut Vec<Item>,
+    f: &mut String,
+) -> Result<Turn, Refusal>
+    requires fits { heads.FrameFitsAt T.IrText.own A.IrText.own A.AttrText.own A.eq ctx.now (framed.Operation frame.old) }
+    ensures steps { IfOk result (λ turn.
+        heads.StepsAt T.IrText.own A.IrText.own A.AttrText.own A.eq ctx.now width (framed.Operation frame.old)
+        items.old.items items.new.items [] (steps.turn_frames frame.new turn) f.old f.new) }
+    ensures refused { IfErr result (heads.RefusesFrame T.IrText.own A.IrText.own A.AttrText.own A.eq ctx.now width (framed.Operation frame.old)) }
+{
+    ctx.graph().keeps_nesting();
+    if frame.repeats {
+        let begun = region_turn(ctx, width, frame, f)?;
+        return entered(ctx, begun, f);
+    }
+    match fmt_pieces::<H, T, A>(ctx, frame.op, frame.directives, frame.directive, f)? {
+        Stop::End => {
+            end_operation::<H, T, A>(ctx, frame.op, frame.marked, items, f)?;
+            Ok(Turn::Ends)
+        }
+        Stop::Region(directive) => {
+            frame.directive = directive;
+            let begun = region_turn(ctx, width, frame, f)?;
+            entered(ctx, begun, f)
+        }
+        Stop::Regions(directive) => {
+            f.push_str(" ")?;
+            frame.directive = directive;
+            frame.repeats = true;
+            Ok(Turn::Stays)
+        }
+    }
+}
+
+/// Writes what is left of an operation, up to the first of its regions that has blocks: that one is begun.
+pub(crate) fn operation_turns<'c, H: WritesHeads<T, A>, T: IrText<A>, A: AttrText>(
+    ctx: &'c Context<T, A>,
+    width: u16,
+    frame: &mut OperationFrame<'c>,
+    items: &mut Vec<Item>,
+    f: &mut String,
+) -> Result<Option<RegionFrame>, Refusal>
+    requires fits { heads.FrameFitsAt T.IrText.own A.IrText.own A.AttrText.own A.eq ctx.now (framed.Operation frame.old) }
+    ensures steps { IfOk result (λ inside.
+        heads.StepsAt T.IrText.own A.IrText.own A.AttrText.own A.eq ctx.now width (framed.Operation frame.old)
+        items.old.items items.new.items [] (steps.left_frames frame.new inside) f.old f.new) }
+    ensures refused { IfErr result (heads.RefusesFrame T.IrText.own A.IrText.own A.AttrText.own A.eq ctx.now width (framed.Operation frame.old)) }
+{
+    loop {
+        match operation_turn::<H, T, A>(ctx, width, frame, items, f)? {
+            Turn::Stays => {}
+            Turn::Enters(inside) => return Ok(Some(inside)),
+            Turn::Ends => return Ok(None),
+        }
+    }
+}
+
+/// Writes what is next of an operation.
 fn operation_step<'c, H: WritesHeads<T, A>, T: IrText<A>, A: AttrText>(
     ctx: &'c Context<T, A>,
     width: u16,
@@ -192,36 +249,19 @@ fn operation_step<'c, H: WritesHeads<T, A>, T: IrText<A>, A: AttrText>(
     frames: &mut Vec<Frame<'c>>,
     items: &mut Vec<Item>,
     f: &mut String,
-) -> Result<(), Refusal>
+) -> Result<Option<Frame<'c>>, Refusal>
     requires fits { heads.FrameFitsAt T.IrText.own A.IrText.own A.AttrText.own A.eq ctx.now (framed.Operation frame) }
-    ensures steps { OnOk result
-        (heads.StepsAt T.IrText.own A.IrText.own A.AttrText.own A.eq ctx.now width (framed.Operation frame.entry)
-        items.old.items items.new.items frames.old.items frames.new.items f.old f.new) }
+    ensures steps { IfOk result (λ inner.
+        heads.StepsAt T.IrText.own A.IrText.own A.AttrText.own A.eq ctx.now width (framed.Operation frame.entry)
+        items.old.items items.new.items frames.old.items (frames.new.items ++ steps.listed inner) f.old f.new) }
     ensures refused { IfErr result (heads.RefusesFrame T.IrText.own A.IrText.own A.AttrText.own A.eq ctx.now width (framed.Operation frame.entry)) }
 {
-    ctx.graph().keeps_nesting();
-    if frame.repeats {
-        return region_turn(ctx, width, frame, frames, f);
-    }
-    match fmt_pieces::<H, T, A>(ctx, frame.op, frame.directives, frame.directive, f)? {
-        Stop::End => end_operation::<H, T, A>(ctx, frame.op, frame.marked, items, f),
-        Stop::Region(directive) => {
-            let behind = OperationFrame { directive, ..frame };
-            region_turn(ctx, width, behind, frames, f)
-        }
-        Stop::Regions(directive) => {
-            f.push_str(" ")?;
-            open(
-                frames,
-                Frame::Operation(OperationFrame {
-                    directive,
-                    repeats: true,
-                    ..frame
-                }),
-            )?;
-            Ok(())
-        }
-    }
+    let mut left = frame;
+    let Some(inside) = operation_turns::<H, T, A>(ctx, width, &mut left, items, f)? else {
+        return Ok(None);
+    };
+    open(frames, Frame::Operation(left))?;
+    Ok(Some(Frame::Region(inside)))
 }
 
 /// Writes what is next of a region: its next block's head, or its last brace.
@@ -232,16 +272,17 @@ fn region_step<'c, H: WritesHeads<T, A>, T: IrText<A>, A: AttrText>(
     frames: &mut Vec<Frame<'c>>,
     items: &mut Vec<Item>,
     f: &mut String,
-) -> Result<(), Refusal>
+) -> Result<Option<Frame<'c>>, Refusal>
     requires fits { heads.FrameFitsAt T.IrText.own A.IrText.own A.AttrText.own A.eq ctx.now (framed.Region frame) }
-    ensures steps { OnOk result
-        (heads.StepsAt T.IrText.own A.IrText.own A.AttrText.own A.eq ctx.now width (framed.Region frame)
-        items.old.items items.new.items frames.old.items frames.new.items f.old f.new) }
+    ensures steps { IfOk result (λ inner.
+        heads.StepsAt T.IrText.own A.IrText.own A.AttrText.own A.eq ctx.now width (framed.Region frame)
+        items.old.items items.new.items frames.old.items (frames.new.items ++ steps.listed inner) f.old f.new) }
     ensures refused { IfErr result (heads.RefusesFrame T.IrText.own A.IrText.own A.AttrText.own A.eq ctx.now width (framed.Region frame)) }
 {
     ctx.graph().keeps_nesting();
     if frame.block >= frame.region.num_blocks(ctx) {
-        return fmt_closing(frame.indent, f);
+        fmt_closing(frame.indent, f)?;
+        return Ok(None);
     }
     let block = frame.region.get_block(ctx, frame.block);
     let indent = deeper(frame.indent, width)?;
@@ -258,21 +299,17 @@ fn region_step<'c, H: WritesHeads<T, A>, T: IrText<A>, A: AttrText>(
             ..frame
         }),
     )?;
-    open(
-        frames,
-        Frame::Block(BlockFrame {
-            block,
-            operation: 0,
-            first: true,
-            indent,
-            limit: frame.limit,
-        }),
-    )?;
-    Ok(())
+    Ok(Some(Frame::Block(BlockFrame {
+        block,
+        operation: 0,
+        first: true,
+        indent,
+        limit: frame.limit,
+    })))
 }
 
-/// Writes what is next of a block: what stands in front of its next operation's parts, or nothing behind the last. A placeholder is
-/// left out.
+/// Writes what is next of a block: its next operation, up to the first region of that one that has blocks, or nothing behind the last. A
+/// placeholder is left out.
 fn block_step<'c, H: WritesHeads<T, A>, T: IrText<A>, A: AttrText>(
     ctx: &'c Context<T, A>,
     width: u16,
@@ -280,41 +317,38 @@ fn block_step<'c, H: WritesHeads<T, A>, T: IrText<A>, A: AttrText>(
     frames: &mut Vec<Frame<'c>>,
     items: &mut Vec<Item>,
     f: &mut String,
-) -> Result<(), Refusal>
+) -> Result<Option<Frame<'c>>, Refusal>
     requires fits { heads.FrameFitsAt T.IrText.own A.IrText.own A.AttrText.own A.eq ctx.now (framed.Block frame) }
-    ensures steps { OnOk result
-        (heads.StepsAt T.IrText.own A.IrText.own A.AttrText.own A.eq ctx.now width (framed.Block frame)
-        items.old.items items.new.items frames.old.items frames.new.items f.old f.new) }
+    ensures steps { IfOk result (λ inner.
+        heads.StepsAt T.IrText.own A.IrText.own A.AttrText.own A.eq ctx.now width (framed.Block frame)
+        items.old.items items.new.items frames.old.items (frames.new.items ++ steps.listed inner) f.old f.new) }
     ensures refused { IfErr result (heads.RefusesFrame T.IrText.own A.IrText.own A.AttrText.own A.eq ctx.now width (framed.Block frame)) }
 {
     ctx.graph().keeps_nesting();
     if frame.operation >= frame.block.num_operations(ctx) {
-        return Ok(());
+        return Ok(None);
     }
     let op = frame.block.get_operation(ctx, frame.operation);
     if !ctx.contains_operation(op) {
-        open(
-            frames,
-            Frame::Block(BlockFrame {
-                operation: frame.operation + 1,
-                ..frame
-            }),
-        )?;
-        return Ok(());
+        return Ok(Some(Frame::Block(BlockFrame {
+            operation: frame.operation + 1,
+            ..frame
+        })));
     }
     let indent = deeper(frame.indent, width)?;
     fmt_between_operations(frame.first, indent, f)?;
-    let begun = begin_operation::<H, T, A>(ctx, op, true, indent, frame.limit, f)?;
-    open(
-        frames,
-        Frame::Block(BlockFrame {
-            operation: frame.operation + 1,
-            first: false,
-            ..frame
-        }),
-    )?;
+    let mut begun = begin_operation::<H, T, A>(ctx, op, true, indent, frame.limit, f)?;
+    let behind = Frame::Block(BlockFrame {
+        operation: frame.operation + 1,
+        first: false,
+        ..frame
+    });
+    let Some(inside) = operation_turns::<H, T, A>(ctx, width, &mut begun, items, f)? else {
+        return Ok(Some(behind));
+    };
+    open(frames, behind)?;
     open(frames, Frame::Operation(begun))?;
-    Ok(())
+    Ok(Some(Frame::Region(inside)))
 }
 
 /// Writes what is next of what is open innermost.
@@ -325,11 +359,11 @@ pub(crate) fn step<'c, H: WritesHeads<T, A>, T: IrText<A>, A: AttrText>(
     frames: &mut Vec<Frame<'c>>,
     items: &mut Vec<Item>,
     f: &mut String,
-) -> Result<(), Refusal>
+) -> Result<Option<Frame<'c>>, Refusal>
     requires fits { heads.FrameFitsAt T.IrText.own A.IrText.own A.AttrText.own A.eq ctx.now frame }
-    ensures steps { OnOk result
-        (heads.StepsAt T.IrText.own A.IrText.own A.AttrText.own A.eq ctx.now width frame.entry
-        items.old.items items.new.items frames.old.items frames.new.items f.old f.new) }
+    ensures steps { IfOk result (λ inner.
+        heads.StepsAt T.IrText.own A.IrText.own A.AttrText.own A.eq ctx.now width frame.entry
+        items.old.items items.new.items frames.old.items (frames.new.items ++ steps.listed inner) f.old f.new) }
     ensures refused { IfErr result (heads.RefusesFrame T.IrText.own A.IrText.own A.AttrText.own A.eq ctx.now width frame.entry) }
 {
     match frame {

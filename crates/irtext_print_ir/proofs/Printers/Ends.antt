@@ -13,7 +13,6 @@ use Rattle.irtext_context.specs.declared.base.item.Item.TheVariants as item
 use Rattle.irtext_graph.specs.declared.arena.Ptr.{Ptr}
 use Rattle.irtext_graph.specs.declared.object.Operation.{Operation}
 use Rattle.irtext_grammar.specs.Contexts.Nested.{seen_operation, seen_own, seen_regions}
-use Rattle.irtext_grammar.specs.Grammar.Tree.{Mark}
 use Rattle.irtext_grammar.specs.Graphs.Graph.{GraphOp, Entry, Printing, is_marked, mark_at, op_outlined, entries_of_regions, marks_in_regions}
 use Rattle.irtext_grammar.specs.Spelling.Spell.{mark_if}
 use Rattle.irtext_grammar.proofs.Sections.Content.{regions_length}

@@ -1,4 +1,4 @@
-use Rattle.std.proofs.Common.{◌≡◌, ◌∙◌, Some, None, sym, ap, string_bytes, option_map}
+use Rattle.std.proofs.Common.{◌≡◌, ◌∙◌, Some, sym, ap, string_bytes, option_map}
 use Rattle.irtext_grammar.specs.Spelling.Locations.{known_text}
 use Rattle.irtext_print.proofs.Printers.Appended.{then}
 use Rattle.irtext_print_section.specs.Given.{printing_of, given_at, entry_of, attributes_of}

@@ -1,8 +1,7 @@
-use Rattle.std.proofs.Common.{◌≡◌, ◌++◌, ◌∷◌, [], ◌∙◌, ℕ, length, refl, sym, ap, subst, string_bytes, map, inl, inr, ◌⊎◌}
+use Rattle.std.proofs.Common.{◌≡◌, ◌++◌, ◌∷◌, [], ◌∙◌, length, sym, ap, subst, string_bytes, map, inl}
 use Rattle.std.specs.Str.{encode_utf8_all}
 use Rattle.irtext_print.proofs.Printers.Appended.{then, then-err}
 use Rattle.irtext_print.specs.Printers.Printing.{width_of, indent_of}
-use Rattle.irtext_print.specs.declared.printable.refusal.Refusal.{Refusal}
 use Rattle.irtext_print.specs.declared.printable.refusal.Refusal.TheVariants.{Misfit}
 use Rattle.irtext_print_ops.specs.Opened.{open_rest}
 use Rattle.irtext_print_walk.specs.Heads as heads
@@ -18,8 +17,8 @@ print_frames-requires g c =
     let s = c.args.state.now in
     let n = length c.args.items.now.items in
     let first = lone.first_block (heads.printing_of g.T.IrText g.A.IrText g.A.AttrText g.A.PartialEq.eq ctx) (heads.language_of g.T.IrText g.A.IrText g.A.AttrText g.A.PartialEq.eq ctx) ctx c.indent_width-width.result c.current_indent-indent.result c.args.block c.current_region_print_depth_limit-limit.result in
-    let opens : c.open.new.frames.items ≡ first ∷ [] = c.in_ok-open.ensures.ok ∙ ap (λ z. z ++ first ∷ []) c.new-frames.ensures.items in
-    record { fit = subst (AllFit (heads.printing_of g.T.IrText g.A.IrText g.A.AttrText g.A.PartialEq.eq ctx) (heads.language_of g.T.IrText g.A.IrText g.A.AttrText g.A.PartialEq.eq ctx) ctx) (sym opens) (lone.block_fits (heads.printing_of g.T.IrText g.A.IrText g.A.AttrText g.A.PartialEq.eq ctx) (heads.language_of g.T.IrText g.A.IrText g.A.AttrText g.A.PartialEq.eq ctx) ctx c.indent_width-width.result c.current_indent-indent.result c.args.block c.current_region_print_depth_limit-limit.result c.requires.live) }
+    let opens : c.new-frames.result.items ++ first ∷ [] ≡ first ∷ [] = ap (λ z. z ++ first ∷ []) c.new-frames.ensures.items in
+    record { some = tt; fit = subst (AllFit (heads.printing_of g.T.IrText g.A.IrText g.A.AttrText g.A.PartialEq.eq ctx) (heads.language_of g.T.IrText g.A.IrText g.A.AttrText g.A.PartialEq.eq ctx) ctx) (sym opens) (lone.block_fits (heads.printing_of g.T.IrText g.A.IrText g.A.AttrText g.A.PartialEq.eq ctx) (heads.language_of g.T.IrText g.A.IrText g.A.AttrText g.A.PartialEq.eq ctx) ctx c.indent_width-width.result c.current_indent-indent.result c.args.block c.current_region_print_depth_limit-limit.result c.requires.live) }
 
 pub returns-clause-text : goal.returns-clause-text
 returns-clause-text g c =
@@ -27,7 +26,7 @@ returns-clause-text g c =
     let s = c.args.state.now in
     let n = length c.args.items.now.items in
     let first = lone.first_block (heads.printing_of g.T.IrText g.A.IrText g.A.AttrText g.A.PartialEq.eq ctx) (heads.language_of g.T.IrText g.A.IrText g.A.AttrText g.A.PartialEq.eq ctx) ctx c.indent_width-width.result c.current_indent-indent.result c.args.block c.current_region_print_depth_limit-limit.result in
-    let opens : c.open.new.frames.items ≡ first ∷ [] = c.in_ok-open.ensures.ok ∙ ap (λ z. z ++ first ∷ []) c.new-frames.ensures.items in
+    let opens : c.new-frames.result.items ++ first ∷ [] ≡ first ∷ [] = ap (λ z. z ++ first ∷ []) c.new-frames.ensures.items in
     then c.print_frames.result (λ p. p ∙ ap (λ z. string_bytes c.fmt_colon.new.f ++ encode_utf8_all (open_rest (heads.printing_of g.T.IrText g.A.IrText g.A.AttrText g.A.PartialEq.eq ctx) (heads.language_of g.T.IrText g.A.IrText g.A.AttrText g.A.PartialEq.eq ctx) c.indent_width-width.result (map (open_of (heads.printing_of g.T.IrText g.A.IrText g.A.AttrText g.A.PartialEq.eq ctx) (heads.language_of g.T.IrText g.A.IrText g.A.AttrText g.A.PartialEq.eq ctx) ctx) z) (length c.fmt_block_mark.new.items.items))) opens
     ∙ lone.block_written (heads.printing_of g.T.IrText g.A.IrText g.A.AttrText g.A.PartialEq.eq ctx) (heads.language_of g.T.IrText g.A.IrText g.A.AttrText g.A.PartialEq.eq ctx) ctx c.indent_width-width.result c.current_indent-indent.result c.args.block c.current_region_print_depth_limit-limit.result c.args.items.now.items c.fmt_block_mark.new.items.items c.in_ok-inner.inner (string_bytes c.args.f.now) (string_bytes c.fmt_block_head.new.f) (string_bytes c.fmt_block_mark.new.f) (string_bytes c.fmt_colon.new.f)
     c.in_ok-inner.ensures.ok c.in_ok-fmt_block_head.ensures.text c.in_ok-fmt_block_mark.ensures.text c.in_ok-fmt_colon.ensures.text c.in_ok-fmt_block_mark.ensures.items
@@ -41,7 +40,7 @@ returns-clause-items g c =
     let s = c.args.state.now in
     let n = length c.args.items.now.items in
     let first = lone.first_block (heads.printing_of g.T.IrText g.A.IrText g.A.AttrText g.A.PartialEq.eq ctx) (heads.language_of g.T.IrText g.A.IrText g.A.AttrText g.A.PartialEq.eq ctx) ctx c.indent_width-width.result c.current_indent-indent.result c.args.block c.current_region_print_depth_limit-limit.result in
-    let opens : c.open.new.frames.items ≡ first ∷ [] = c.in_ok-open.ensures.ok ∙ ap (λ z. z ++ first ∷ []) c.new-frames.ensures.items in
+    let opens : c.new-frames.result.items ++ first ∷ [] ≡ first ∷ [] = ap (λ z. z ++ first ∷ []) c.new-frames.ensures.items in
     then c.print_frames.result (λ p. lone.block_gathered (heads.printing_of g.T.IrText g.A.IrText g.A.AttrText g.A.PartialEq.eq ctx) (heads.language_of g.T.IrText g.A.IrText g.A.AttrText g.A.PartialEq.eq ctx) ctx c.indent_width-width.result c.current_indent-indent.result c.args.block c.current_region_print_depth_limit-limit.result c.args.items.now.items c.fmt_block_mark.new.items.items c.print_frames.new.items.items c.in_ok-fmt_block_mark.ensures.items
     (p ∙ ap (λ z. c.fmt_block_mark.new.items.items ++ items_left (heads.printing_of g.T.IrText g.A.IrText g.A.AttrText g.A.PartialEq.eq ctx) (heads.language_of g.T.IrText g.A.IrText g.A.AttrText g.A.PartialEq.eq ctx) ctx z) opens)
     ∙ ap (λ l. c.args.items.now.items ++ heads.block_items_under g.T.IrText g.A.IrText g.A.AttrText g.A.PartialEq.eq ctx c.args.block (record s { limit = l })) c.current_region_print_depth_limit-limit.ensures) c.print_frames.ensures.items
@@ -52,7 +51,7 @@ returns-clause-fits g c =
     let s = c.args.state.now in
     let n = length c.args.items.now.items in
     let first = lone.first_block (heads.printing_of g.T.IrText g.A.IrText g.A.AttrText g.A.PartialEq.eq ctx) (heads.language_of g.T.IrText g.A.IrText g.A.AttrText g.A.PartialEq.eq ctx) ctx c.indent_width-width.result c.current_indent-indent.result c.args.block c.current_region_print_depth_limit-limit.result in
-    let opens : c.open.new.frames.items ≡ first ∷ [] = c.in_ok-open.ensures.ok ∙ ap (λ z. z ++ first ∷ []) c.new-frames.ensures.items in
+    let opens : c.new-frames.result.items ++ first ∷ [] ≡ first ∷ [] = ap (λ z. z ++ first ∷ []) c.new-frames.ensures.items in
     then c.print_frames.result (λ none bad. none (subst (FramesFault (heads.printing_of g.T.IrText g.A.IrText g.A.AttrText g.A.PartialEq.eq ctx) (heads.language_of g.T.IrText g.A.IrText g.A.AttrText g.A.PartialEq.eq ctx) ctx c.indent_width-width.result Misfit) (sym opens) (inl (subst (λ w. heads.BlockFaultUnder g.T.IrText g.A.IrText g.A.AttrText g.A.PartialEq.eq ctx c.args.block (record s { width = w; indent = c.current_indent-indent.result; limit = c.current_region_print_depth_limit-limit.result }) Misfit) (sym c.indent_width-width.ensures)
     (subst (λ i. heads.BlockFaultUnder g.T.IrText g.A.IrText g.A.AttrText g.A.PartialEq.eq ctx c.args.block (record s { width = (width_of s); indent = i; limit = c.current_region_print_depth_limit-limit.result }) Misfit) (sym c.current_indent-indent.ensures)
     (subst (λ l. heads.BlockFaultUnder g.T.IrText g.A.IrText g.A.AttrText g.A.PartialEq.eq ctx c.args.block (record s { width = (width_of s); indent = (indent_of s); limit = l }) Misfit) (sym c.current_region_print_depth_limit-limit.ensures) (bad))))))) c.print_frames.ensures.fits
@@ -63,7 +62,7 @@ returns-clause-refused g c =
     let s = c.args.state.now in
     let n = length c.args.items.now.items in
     let first = lone.first_block (heads.printing_of g.T.IrText g.A.IrText g.A.AttrText g.A.PartialEq.eq ctx) (heads.language_of g.T.IrText g.A.IrText g.A.AttrText g.A.PartialEq.eq ctx) ctx c.indent_width-width.result c.current_indent-indent.result c.args.block c.current_region_print_depth_limit-limit.result in
-    let opens : c.open.new.frames.items ≡ first ∷ [] = c.in_ok-open.ensures.ok ∙ ap (λ z. z ++ first ∷ []) c.new-frames.ensures.items in
+    let opens : c.new-frames.result.items ++ first ∷ [] ≡ first ∷ [] = ap (λ z. z ++ first ∷ []) c.new-frames.ensures.items in
     then-err c.print_frames.result (λ e h other. subst (λ l. heads.BlockFaultUnder g.T.IrText g.A.IrText g.A.AttrText g.A.PartialEq.eq ctx c.args.block (record s { width = (width_of s); indent = (indent_of s); limit = l }) e) c.current_region_print_depth_limit-limit.ensures
     (subst (λ i. heads.BlockFaultUnder g.T.IrText g.A.IrText g.A.AttrText g.A.PartialEq.eq ctx c.args.block (record s { width = (width_of s); indent = i; limit = c.current_region_print_depth_limit-limit.result }) e) c.current_indent-indent.ensures
     (subst (λ w. heads.BlockFaultUnder g.T.IrText g.A.IrText g.A.AttrText g.A.PartialEq.eq ctx c.args.block (record s { width = w; indent = c.current_indent-indent.result; limit = c.current_region_print_depth_limit-limit.result }) e) c.indent_width-width.ensures (lone.block_fault (heads.printing_of g.T.IrText g.A.IrText g.A.AttrText g.A.PartialEq.eq ctx) (heads.language_of g.T.IrText g.A.IrText g.A.AttrText g.A.PartialEq.eq ctx) ctx c.indent_width-width.result c.current_indent-indent.result c.args.block c.current_region_print_depth_limit-limit.result e (subst (FramesFault (heads.printing_of g.T.IrText g.A.IrText g.A.AttrText g.A.PartialEq.eq ctx) (heads.language_of g.T.IrText g.A.IrText g.A.AttrText g.A.PartialEq.eq ctx) ctx c.indent_width-width.result e) opens (h other)))))) c.print_frames.ensures.refused

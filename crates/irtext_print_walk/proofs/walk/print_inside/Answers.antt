@@ -15,17 +15,17 @@ use Rattle.irtext_print_walk.proofs.Walked.{frames_text, FramesFault, first_text
 use Rattle.irtext_print_walk.proofs.Refused.{handed_on, under_refuses, misfits, fits_seen}
 use Rattle.irtext_print_walk.proofs.walk.print_inside.Goals as goal
 
-pub print_frames-requires : goal.print_frames-requires
-print_frames-requires g c =
+pub print_operation-requires : goal.print_operation-requires
+print_operation-requires g c =
     let ctx = c.args.ctx.now in
     let s = c.args.state.now in
     let n = length c.args.items.now.items in
     let first : Frame = framed.Operation (heads.begun_at g.T.IrText g.A.IrText g.A.AttrText g.A.PartialEq.eq ctx c.args.op c.in_ok-begun.begun.directives c.args.marked c.current_indent-indent.result c.current_region_print_depth_limit-limit.result) in
-    let opens : c.open.new.frames.items ≡ first ∷ [] = c.in_ok-open.ensures.ok ∙ (ap (λ z. z ++ framed.Operation c.in_ok-begun.begun ∷ []) c.new-frames.ensures.items ∙ ap (λ b. framed.Operation b ∷ []) c.in_ok-begun.ensures.begun) in
+    let opens : framed.Operation c.in_ok-begun.begun ∷ [] ≡ first ∷ [] = ap (λ b. framed.Operation b ∷ []) c.in_ok-begun.ensures.begun in
     let whole : ℕ → ℕ → RegionPrintDepthLimit → List ℕ = λ w i l. string_bytes c.args.f.now ++ encode_utf8_all (heads.text_under g.T.IrText g.A.IrText g.A.AttrText g.A.PartialEq.eq ctx c.args.op (record s { width = w; indent = i; limit = l }) c.args.marked n) in
     record {
-      fit = subst (AllFit (heads.printing_of g.T.IrText g.A.IrText g.A.AttrText g.A.PartialEq.eq ctx) (heads.language_of g.T.IrText g.A.IrText g.A.AttrText g.A.PartialEq.eq ctx) ctx) (sym opens)
-          (first_fit (heads.printing_of g.T.IrText g.A.IrText g.A.AttrText g.A.PartialEq.eq ctx) (heads.language_of g.T.IrText g.A.IrText g.A.AttrText g.A.PartialEq.eq ctx) ctx c.indent_width-width.result c.args.op c.in_ok-begun.begun.directives c.args.marked c.current_indent-indent.result c.current_region_print_depth_limit-limit.result n (isolated ctx.dialects) (c.requires.live, c.in_ok-begun.ensures.found) c.in_ok-begun.ensures.fits);
+      fits = (subst (AllFit (heads.printing_of g.T.IrText g.A.IrText g.A.AttrText g.A.PartialEq.eq ctx) (heads.language_of g.T.IrText g.A.IrText g.A.AttrText g.A.PartialEq.eq ctx) ctx) (sym opens)
+          (first_fit (heads.printing_of g.T.IrText g.A.IrText g.A.AttrText g.A.PartialEq.eq ctx) (heads.language_of g.T.IrText g.A.IrText g.A.AttrText g.A.PartialEq.eq ctx) ctx c.indent_width-width.result c.args.op c.in_ok-begun.begun.directives c.args.marked c.current_indent-indent.result c.current_region_print_depth_limit-limit.result n (isolated ctx.dialects) (c.requires.live, c.in_ok-begun.ensures.found) c.in_ok-begun.ensures.fits)).0;
     }
 
 pub returns-clause-text : goal.returns-clause-text
@@ -34,13 +34,13 @@ returns-clause-text g c =
     let s = c.args.state.now in
     let n = length c.args.items.now.items in
     let first : Frame = framed.Operation (heads.begun_at g.T.IrText g.A.IrText g.A.AttrText g.A.PartialEq.eq ctx c.args.op c.in_ok-begun.begun.directives c.args.marked c.current_indent-indent.result c.current_region_print_depth_limit-limit.result) in
-    let opens : c.open.new.frames.items ≡ first ∷ [] = c.in_ok-open.ensures.ok ∙ (ap (λ z. z ++ framed.Operation c.in_ok-begun.begun ∷ []) c.new-frames.ensures.items ∙ ap (λ b. framed.Operation b ∷ []) c.in_ok-begun.ensures.begun) in
+    let opens : framed.Operation c.in_ok-begun.begun ∷ [] ≡ first ∷ [] = ap (λ b. framed.Operation b ∷ []) c.in_ok-begun.ensures.begun in
     let whole : ℕ → ℕ → RegionPrintDepthLimit → List ℕ = λ w i l. string_bytes c.args.f.now ++ encode_utf8_all (heads.text_under g.T.IrText g.A.IrText g.A.AttrText g.A.PartialEq.eq ctx c.args.op (record s { width = w; indent = i; limit = l }) c.args.marked n) in
-    then c.print_frames.result (λ w. w ∙ (ap (λ z. string_bytes c.begin_operation.new.f ++ frames_text (heads.printing_of g.T.IrText g.A.IrText g.A.AttrText g.A.PartialEq.eq ctx) (heads.language_of g.T.IrText g.A.IrText g.A.AttrText g.A.PartialEq.eq ctx) ctx c.indent_width-width.result z c.args.items.now.items) opens
+    then c.print_operation.result (λ w. w ∙ (ap (λ z. string_bytes c.begin_operation.new.f ++ frames_text (heads.printing_of g.T.IrText g.A.IrText g.A.AttrText g.A.PartialEq.eq ctx) (heads.language_of g.T.IrText g.A.IrText g.A.AttrText g.A.PartialEq.eq ctx) ctx c.indent_width-width.result z c.args.items.now.items) opens
     ∙ (first_text (heads.printing_of g.T.IrText g.A.IrText g.A.AttrText g.A.PartialEq.eq ctx) (heads.language_of g.T.IrText g.A.IrText g.A.AttrText g.A.PartialEq.eq ctx) ctx c.indent_width-width.result c.args.op c.in_ok-begun.begun.directives c.args.marked c.current_indent-indent.result c.current_region_print_depth_limit-limit.result n c.args.items.now.items (string_bytes c.args.f.now) (string_bytes c.begin_operation.new.f) refl c.in_ok-begun.ensures.text
     ∙ (ap (λ w. whole w c.current_indent-indent.result c.current_region_print_depth_limit-limit.result) c.indent_width-width.ensures
     ∙ (ap (λ i. whole (width_of s) i c.current_region_print_depth_limit-limit.result) c.current_indent-indent.ensures
-    ∙ ap (λ l. whole (width_of s) (indent_of s) l) c.current_region_print_depth_limit-limit.ensures))))) c.print_frames.ensures.text
+    ∙ ap (λ l. whole (width_of s) (indent_of s) l) c.current_region_print_depth_limit-limit.ensures))))) c.print_operation.ensures.text
 
 pub returns-clause-items : goal.returns-clause-items
 returns-clause-items g c =
@@ -48,10 +48,10 @@ returns-clause-items g c =
     let s = c.args.state.now in
     let n = length c.args.items.now.items in
     let first : Frame = framed.Operation (heads.begun_at g.T.IrText g.A.IrText g.A.AttrText g.A.PartialEq.eq ctx c.args.op c.in_ok-begun.begun.directives c.args.marked c.current_indent-indent.result c.current_region_print_depth_limit-limit.result) in
-    let opens : c.open.new.frames.items ≡ first ∷ [] = c.in_ok-open.ensures.ok ∙ (ap (λ z. z ++ framed.Operation c.in_ok-begun.begun ∷ []) c.new-frames.ensures.items ∙ ap (λ b. framed.Operation b ∷ []) c.in_ok-begun.ensures.begun) in
+    let opens : framed.Operation c.in_ok-begun.begun ∷ [] ≡ first ∷ [] = ap (λ b. framed.Operation b ∷ []) c.in_ok-begun.ensures.begun in
     let whole : ℕ → ℕ → RegionPrintDepthLimit → List ℕ = λ w i l. string_bytes c.args.f.now ++ encode_utf8_all (heads.text_under g.T.IrText g.A.IrText g.A.AttrText g.A.PartialEq.eq ctx c.args.op (record s { width = w; indent = i; limit = l }) c.args.marked n) in
-    then c.print_frames.result (λ w. w ∙ (ap (λ z. c.args.items.now.items ++ items_left (heads.printing_of g.T.IrText g.A.IrText g.A.AttrText g.A.PartialEq.eq ctx) (heads.language_of g.T.IrText g.A.IrText g.A.AttrText g.A.PartialEq.eq ctx) ctx z) opens
-    ∙ ap (λ l. c.args.items.now.items ++ (heads.items_under g.T.IrText g.A.IrText g.A.AttrText g.A.PartialEq.eq ctx c.args.op (record s { limit = l }) c.args.marked)) c.current_region_print_depth_limit-limit.ensures)) c.print_frames.ensures.items
+    then c.print_operation.result (λ w. w ∙ (ap (λ z. c.args.items.now.items ++ items_left (heads.printing_of g.T.IrText g.A.IrText g.A.AttrText g.A.PartialEq.eq ctx) (heads.language_of g.T.IrText g.A.IrText g.A.AttrText g.A.PartialEq.eq ctx) ctx z) opens
+    ∙ ap (λ l. c.args.items.now.items ++ (heads.items_under g.T.IrText g.A.IrText g.A.AttrText g.A.PartialEq.eq ctx c.args.op (record s { limit = l }) c.args.marked)) c.current_region_print_depth_limit-limit.ensures)) c.print_operation.ensures.items
 
 pub returns-clause-fits : goal.returns-clause-fits
 returns-clause-fits g c =
@@ -59,9 +59,9 @@ returns-clause-fits g c =
     let s = c.args.state.now in
     let n = length c.args.items.now.items in
     let first : Frame = framed.Operation (heads.begun_at g.T.IrText g.A.IrText g.A.AttrText g.A.PartialEq.eq ctx c.args.op c.in_ok-begun.begun.directives c.args.marked c.current_indent-indent.result c.current_region_print_depth_limit-limit.result) in
-    let opens : c.open.new.frames.items ≡ first ∷ [] = c.in_ok-open.ensures.ok ∙ (ap (λ z. z ++ framed.Operation c.in_ok-begun.begun ∷ []) c.new-frames.ensures.items ∙ ap (λ b. framed.Operation b ∷ []) c.in_ok-begun.ensures.begun) in
+    let opens : framed.Operation c.in_ok-begun.begun ∷ [] ≡ first ∷ [] = ap (λ b. framed.Operation b ∷ []) c.in_ok-begun.ensures.begun in
     let whole : ℕ → ℕ → RegionPrintDepthLimit → List ℕ = λ w i l. string_bytes c.args.f.now ++ encode_utf8_all (heads.text_under g.T.IrText g.A.IrText g.A.AttrText g.A.PartialEq.eq ctx c.args.op (record s { width = w; indent = i; limit = l }) c.args.marked n) in
-    let bad : heads.MisfitsUnder g.T.IrText g.A.IrText g.A.AttrText g.A.PartialEq.eq ctx c.args.op s → FramesFault (heads.printing_of g.T.IrText g.A.IrText g.A.AttrText g.A.PartialEq.eq ctx) (heads.language_of g.T.IrText g.A.IrText g.A.AttrText g.A.PartialEq.eq ctx) ctx c.indent_width-width.result Misfit c.open.new.frames.items = λ x.
+    let bad : heads.MisfitsUnder g.T.IrText g.A.IrText g.A.AttrText g.A.PartialEq.eq ctx c.args.op s → FramesFault (heads.printing_of g.T.IrText g.A.IrText g.A.AttrText g.A.PartialEq.eq ctx) (heads.language_of g.T.IrText g.A.IrText g.A.AttrText g.A.PartialEq.eq ctx) ctx c.indent_width-width.result Misfit (framed.Operation c.in_ok-begun.begun ∷ []) = λ x.
     let y = subst (λ l. heads.FaultUnder g.T.IrText g.A.IrText g.A.AttrText g.A.PartialEq.eq ctx c.args.op (record s { width = c.indent_width-width.result; indent = c.current_indent-indent.result; limit = l }) Misfit) (sym c.current_region_print_depth_limit-limit.ensures)
     (subst (λ i. heads.FaultUnder g.T.IrText g.A.IrText g.A.AttrText g.A.PartialEq.eq ctx c.args.op (record s { width = c.indent_width-width.result; indent = i }) Misfit) (sym c.current_indent-indent.ensures)
     (subst (λ w. heads.FaultUnder g.T.IrText g.A.IrText g.A.AttrText g.A.PartialEq.eq ctx c.args.op (record s { width = w }) Misfit) (sym c.indent_width-width.ensures) x)) in
@@ -69,7 +69,7 @@ returns-clause-fits g c =
       | inl other ↦ absurd (other (fits_seen (heads.printing_of g.T.IrText g.A.IrText g.A.AttrText g.A.PartialEq.eq ctx) (heads.language_of g.T.IrText g.A.IrText g.A.AttrText g.A.PartialEq.eq ctx) ctx c.indent_width-width.result c.args.op c.in_ok-begun.ensures.fits))
       | inr z ↦ inl z
     ]) in
-    then c.print_frames.result (λ none x. none (bad x)) c.print_frames.ensures.fits
+    then c.print_operation.result (λ none x. none (bad x)) c.print_operation.ensures.fits
 
 pub returns-clause-refused : goal.returns-clause-refused
 returns-clause-refused g c =
@@ -77,15 +77,15 @@ returns-clause-refused g c =
     let s = c.args.state.now in
     let n = length c.args.items.now.items in
     let first : Frame = framed.Operation (heads.begun_at g.T.IrText g.A.IrText g.A.AttrText g.A.PartialEq.eq ctx c.args.op c.in_ok-begun.begun.directives c.args.marked c.current_indent-indent.result c.current_region_print_depth_limit-limit.result) in
-    let opens : c.open.new.frames.items ≡ first ∷ [] = c.in_ok-open.ensures.ok ∙ (ap (λ z. z ++ framed.Operation c.in_ok-begun.begun ∷ []) c.new-frames.ensures.items ∙ ap (λ b. framed.Operation b ∷ []) c.in_ok-begun.ensures.begun) in
+    let opens : framed.Operation c.in_ok-begun.begun ∷ [] ≡ first ∷ [] = ap (λ b. framed.Operation b ∷ []) c.in_ok-begun.ensures.begun in
     let whole : ℕ → ℕ → RegionPrintDepthLimit → List ℕ = λ w i l. string_bytes c.args.f.now ++ encode_utf8_all (heads.text_under g.T.IrText g.A.IrText g.A.AttrText g.A.PartialEq.eq ctx c.args.op (record s { width = w; indent = i; limit = l }) c.args.marked n) in
-    let refuses : (e : Refusal) → FramesFault (heads.printing_of g.T.IrText g.A.IrText g.A.AttrText g.A.PartialEq.eq ctx) (heads.language_of g.T.IrText g.A.IrText g.A.AttrText g.A.PartialEq.eq ctx) ctx c.indent_width-width.result e c.open.new.frames.items → heads.FaultUnder g.T.IrText g.A.IrText g.A.AttrText g.A.PartialEq.eq ctx c.args.op s e = λ e x.
+    let refuses : (e : Refusal) → FramesFault (heads.printing_of g.T.IrText g.A.IrText g.A.AttrText g.A.PartialEq.eq ctx) (heads.language_of g.T.IrText g.A.IrText g.A.AttrText g.A.PartialEq.eq ctx) ctx c.indent_width-width.result e (framed.Operation c.in_ok-begun.begun ∷ []) → heads.FaultUnder g.T.IrText g.A.IrText g.A.AttrText g.A.PartialEq.eq ctx c.args.op s e = λ e x.
     subst (λ l. heads.FaultUnder g.T.IrText g.A.IrText g.A.AttrText g.A.PartialEq.eq ctx c.args.op (record s { limit = l }) e) c.current_region_print_depth_limit-limit.ensures
     (subst (λ i. heads.FaultUnder g.T.IrText g.A.IrText g.A.AttrText g.A.PartialEq.eq ctx c.args.op (record s { indent = i; limit = c.current_region_print_depth_limit-limit.result }) e) c.current_indent-indent.ensures
     (subst (λ w. heads.FaultUnder g.T.IrText g.A.IrText g.A.AttrText g.A.PartialEq.eq ctx c.args.op (record s { width = w; indent = c.current_indent-indent.result; limit = c.current_region_print_depth_limit-limit.result }) e) c.indent_width-width.ensures
     (inr (only_fault (heads.printing_of g.T.IrText g.A.IrText g.A.AttrText g.A.PartialEq.eq ctx) (isolated ctx.dialects) c.indent_width-width.result e (open_of (heads.printing_of g.T.IrText g.A.IrText g.A.AttrText g.A.PartialEq.eq ctx) (heads.language_of g.T.IrText g.A.IrText g.A.AttrText g.A.PartialEq.eq ctx) ctx first)
     (subst (FramesFault (heads.printing_of g.T.IrText g.A.IrText g.A.AttrText g.A.PartialEq.eq ctx) (heads.language_of g.T.IrText g.A.IrText g.A.AttrText g.A.PartialEq.eq ctx) ctx c.indent_width-width.result e) opens x))))) in
-    then-err c.print_frames.result (λ e h. under_refuses g.T.IrText g.A.IrText g.A.AttrText g.A.PartialEq.eq ctx c.args.op s e (λ other. refuses e (h other))) c.print_frames.ensures.refused
+    then-err c.print_operation.result (λ e h. under_refuses g.T.IrText g.A.IrText g.A.AttrText g.A.PartialEq.eq ctx c.args.op s e (λ other. refuses e (h other))) c.print_operation.ensures.refused
 
 pub returns-in_err-begun-clause-refused : goal.returns-in_err-begun-clause-refused
 returns-in_err-begun-clause-refused g c =

@@ -1,4 +1,4 @@
-use Rattle.std.proofs.Common.{◌≡◌, ◌∙◌, ◌++◌, [], sym, ap, subst, string_bytes, length, true}
+use Rattle.std.proofs.Common.{◌≡◌, ◌∙◌, ◌++◌, [], sym, ap, string_bytes, length, true}
 use Rattle.std.specs.Str.{encode_utf8_all}
 use Rattle.irtext_print.proofs.Printers.Appended.{then}
 use Rattle.irtext_print.proofs.Printers.Locations.{more}

@@ -1,4 +1,4 @@
-use Rattle.std.proofs.Common.{◌≡◌, ◌∙◌, [], ap, subst, string_bytes, Some, None, option_map}
+use Rattle.std.proofs.Common.{◌∙◌, ap, subst, string_bytes, Some, None, option_map}
 use Rattle.irtext_graph.specs.Graph.{children, parent}
 use Rattle.irtext_graph.specs.Nested.{Nested}
 use Rattle.irtext_graph.specs.declared.object.Object.TheVariants.{TheBlock}
