@@ -1,5 +1,5 @@
 -- What was printed and gathered of an operation, as the clauses of its printing have it.
-use Rattle.std.proofs.Common.{◌≡◌, ◌∙◌, ◌++◌, ℕ, Bool, List, [], true, refl, sym, ap, length, Option, Some, None, option_map, IsSome, Result, Ok, Err, OnOk, append_assoc}
+use Rattle.std.proofs.Common.{◌≡◌, ◌∙◌, ◌++◌, ℕ, Bool, List, [], true, refl, sym, ap, length, Option, Some, None, option_map, IsSome, Result, Ok, Err, OnOk, append-nil, append_assoc}
 use Rattle.std.specs.Str.{encode_utf8_all}
 use Rattle.irtext_base.specs.Text.{Text}
 use Rattle.irtext_base.specs.declared.text.AttrText as attr_text
@@ -64,6 +64,15 @@ module _ {T A U : Type 0} (types : ir_text.Ghosts T A) (owns : ir_text.Ghosts A 
   kept o = elim o [ Some b ↦ s.gathered ++ items | None ↦ [] ]
 
   module _ (old : List ℕ) (t : Shown U) (new : List ℕ) where
+    -- an operation that stands in a block
+    pub in_block : (b : Ptr BasicBlock) → block_round ctx p ≡ Some b → new ≡ old ++ encode_utf8_all (marked_text (length s.gathered)) → t ≡ gathers s items → (Misfits → ⊥)
+        → Printed (root_text types owns attributes same ctx p s) (root_left types owns attributes same ctx p s) Misfits old t new
+    in_block b is w k f = record {
+      text = w ∙ ap (λ z. old ++ encode_utf8_all z) (sym (append-nil (marked_text (length s.gathered)))) ∙ ap (λ o. old ++ encode_utf8_all (marked_text (length s.gathered) ++ behind_mark s.gathered o)) (sym is);
+      state = k ∙ ap (λ o. with_gathered s (kept o)) (sym is);
+      fits = f;
+    }
+
     -- an operation that stands in no block
     pub outermost : (mid : List ℕ) (between : Shown U) → block_round ctx p ≡ None → mid ≡ old ++ encode_utf8_all (marked_text (length s.gathered)) → between ≡ gathers s items → (Misfits → ⊥)
         → new ≡ mid ++ encode_utf8_all (section_at types owns attributes same ctx (gathered_of between)) → t ≡ with_gathered between []
