@@ -1,5 +1,6 @@
 -- Steps of what is put where it belongs.
-use Rattle.std.proofs.Common.{◌≡◌, ◌∙◌, Bool, true, false, not, List, [], ◌∷◌, ◌++◌, Option, refl, sym, ap}
+use Rattle.std.proofs.Common.{◌≡◌, ◌∙◌, ℕ, Bool, true, false, not, ◌==◌, List, [], ◌∷◌, ◌++◌, length, Option, refl, sym, ap, arith}
+use Rattle.std.proofs.lemmas.Bool.Decides.{nat_tests}
 use Rattle.std.specs.Str.{bytes_eq}
 use Rattle.indexmap.specs.IndexMap.{insert_entry}
 use Rattle.irtext_base.specs.Text.{Text}
@@ -8,7 +9,9 @@ use Rattle.irtext_base.specs.declared.base.attributes.AttrObj.{AttrObj}
 use Rattle.irtext_grammar.specs.Contexts.Held.{attribute_of, entries_of}
 use Rattle.irtext_grammar.specs.Graphs.Build.{put, put_all}
 use Rattle.irtext_grammar.specs.Grammar.Tree.{Attribute}
-use Rattle.irtext_parse_section.specs.Applied.{no_label, label_by, label_in}
+use Rattle.irtext_parse_heads.specs.declared.entries.Key.{Key}
+use Rattle.irtext_parse_section.specs.Applied.{all_stored, no_label, label_by, label_in}
+use Rattle.irtext_parse_section.specs.declared.said.GivenAttr.{GivenAttr}
 use Rattle.irtext_grammar.proofs.Lists.SameText.{same_text-bytes_eq, same_text_true}
 
 under : {A : Type 0} (a : Attribute A) (es : List (Text × Attribute A)) (s t : Text) → s ≡ t → (s, a) ∷ es ≡ (t, a) ∷ es
@@ -42,3 +45,12 @@ module _ {A : Type 0} where
   pub label_both : (l : Option Text) (xs ys : List (Text × Attribute A)) → label_in l (xs ++ ys) ≡ label_in (label_in l xs) ys
   label_both l [] ys = refl
   label_both l (x ∷ xs) ys = label_both (label_in l (x ∷ [])) xs ys
+
+-- none is no more than nothing
+pub no_length : (n : ℕ) → (n == 0) ≡ true → n ≡ 0
+no_length n e = grind (arith, nat_tests)
+
+-- no pairs put nothing
+pub none_stored : {A : Type 0} (es : List (Text × Attribute A)) (once : List (ℕ × AttrObj A)) (pairs : List (Key × GivenAttr A)) → length pairs ≡ 0 → es ≡ put_all es (all_stored once pairs)
+none_stored es once [] e = refl
+none_stored es once (p ∷ pairs) e = absurd (omega (arith, e))

@@ -20,3 +20,4 @@ pub mod Swaps
 pub mod FinishedFirst
 pub mod TakenBack
 pub mod AllOrNone
+mod PlainEntries

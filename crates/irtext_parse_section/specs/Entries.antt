@@ -1,5 +1,5 @@
 -- Between functions: what entries that were read stand for, over the paths that the context keeps, and what all of them are.
-use Rattle.std.specs.Prelude.{◌≡◌, ◌≤◌, ℕ, Bool, true, false, cond, not, ◌&&◌, is_some, List, [], ◌∷◌, ◌++◌, length, Option, Some, None, Vec, nat_eq, ⊤}
+use Rattle.std.specs.Prelude.{◌≡◌, ◌≤◌, ℕ, Bool, true, false, cond, not, ◌&&◌, is_some, List, [], ◌∷◌, ◌++◌, length, Option, Some, None, Vec, nat_eq, codes, ⊤}
 use Rattle.std.specs.Global.{Global}
 use Rattle.std.specs.Map.{lookup}
 use Rattle.std.specs.Option.{option_map}
@@ -12,6 +12,9 @@ use Rattle.irtext_base.specs.Paths.{Written}
 use Rattle.irtext_base.specs.declared.base.attributes.AttrObj.{AttrObj}
 use Rattle.irtext_base.specs.declared.location.Location.{Location}
 use Rattle.irtext_context.specs.declared.base.item.Item.{Item}
+use Rattle.irtext_read.specs.Demanded.{spaced_at}
+use Rattle.irtext_read.specs.Infix.{Reader, ◌▷◌}
+use Rattle.irtext_read.specs.Tokens.{space_at, word}
 use Rattle.irtext_state.specs.States.{same_index, marks_of}
 use Rattle.irtext_state.specs.declared.parsable.state.StateStream.{StateStream}
 use Rattle.irtext_grammar.specs.Contexts.Held.{attribute_of}
@@ -37,6 +40,10 @@ use Rattle.irtext_parse_section.specs.declared.said.ReadEntry.TheVariants as rea
 use Rattle.irtext_parse_section.specs.declared.said.Entries.{Entries}
 
 -- ---- one entry
+-- what stands behind an entry's location
+abbrev pub location_end_at : Reader ⊤
+location_end_at = spaced_at (codes "]") ▷ word (codes ",") ▷ space_at
+
 -- the item that carries a mark of this index, unless an earlier entry has the index
 abbrev pub next_item : {X Y : Type 0} → List (ℕ × X) → List (ℕ × Y) → ℕ → Option X
 next_item marks seen i = cond (is_some (lookup (same_index i) seen)) None (lookup (same_index i) marks)

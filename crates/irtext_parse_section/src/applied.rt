@@ -79,6 +79,9 @@ pub(crate) fn pairs_stored<A: AttrText>(
 ) -> Result<(), AllocError>
     ensures { OnOk result (entries_of attributes.new ≡ put_all (entries_of attributes.old) (all_stored once.now.entries pairs.items)) }
 {
+    if pairs.is_empty() {
+        return Ok(());
+    }
     for pair in pairs {
         pair_stored(alloc, once, attributes, pair)?;
     }

@@ -38,6 +38,7 @@ fn entry_noted<A: Drop>(entries: &mut Entries<A>, entry: ReadEntry<A>) -> Result
 }
 
 /// Entries as long as `!` follows, with white space behind each. A fault is committed.
+#[inline(always)]
 pub(crate) fn entries_parse<T: IrText<A>, A: AttrText, U>(
     s: &mut StateStream<'_, T, A, U>,
 ) -> ParseResult<Entries<A>, A>

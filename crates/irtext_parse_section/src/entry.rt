@@ -1,6 +1,8 @@
 //! Reading of one entry: of an item, or of an attribute that is written once.
-ghost use Rattle.std.specs.Prelude.{◌≡◌, IfOk, is_some};
+ghost use Rattle.std.specs.Prelude.{◌≡◌, IfOk, is_some, codes};
 ghost use Rattle.irtext_read.specs.AttrTexts.{attr_at};
+ghost use Rattle.irtext_read.specs.Demanded.{spaced_at, index_at};
+ghost use Rattle.irtext_read.specs.MustRead.{MustRead};
 ghost use Rattle.irtext_stream.specs.Places.{StandsBehind};
 ghost use Rattle.irtext_state.specs.States.{marks_of};
 ghost use Rattle.irtext_outcomes.specs.Readers.Marks.{may_follow};
@@ -8,6 +10,7 @@ ghost use Rattle.irtext_outcomes.specs.Readers.NewPaths.{AddsPaths};
 ghost use Rattle.irtext_outcomes.specs.Readers.Streams.{itself, replaced, KeepsRest};
 ghost use Rattle.irtext_parse_heads.specs.Marks.{IsMark};
 ghost use Rattle.irtext_parse_heads.specs.Named.{MustMean, whole};
+ghost use Rattle.irtext_parse_locations.specs.Plain.{Looks, Sees, Gets};
 ghost use Rattle.irtext_section.specs.Readers.{begins_given, tested, entry_head_at, entry_at};
 ghost use Rattle.irtext_parse_section.specs.Said.{rules_of};
 ghost use Rattle.irtext_parse_section.specs.Entries.{IsHead, GoesOn, IsEntry, entry_kept, next_item};
@@ -21,8 +24,10 @@ use irtext_base::text::{AttrText, IrText};
 use irtext_context::base::Item;
 use irtext_parse_heads::entries::attr_demanded;
 use irtext_parse_heads::marks::ReadMark;
+use irtext_parse_locations::location::plain::digits_there;
 use irtext_read::irfmt::demanded::{index_demanded, spaced_text_demanded};
-use irtext_read::irfmt::faults::{next_is, refuse_at};
+use irtext_read::irfmt::faults::refuse_at;
+use irtext_read::irfmt::parsers::skip_white_space;
 use irtext_state::parsable::StateStream;
 use irtext_state::parsable::numbered::Numbered;
 
@@ -43,14 +48,87 @@ fn begins_given(stream: &TextStream) -> bool
     }
 }
 
+/// `!` and digits behind it. Where they don't stand there, the stream stands anywhere in its text.
+#[inline(always)]
+fn marked_digits(stream: &mut TextStream) -> Option<u64>
+    ensures { Looks (Gets index_at stream.old stream.new) stream.old result stream.new }
+{
+    if !stream.accept("!") {
+        return None;
+    }
+    digits_there(stream)
+}
+
+/// The same, as an index. Where it doesn't stand there, the stream stays.
+#[inline(always)]
+fn index_there(stream: &mut TextStream) -> Option<usize>
+    ensures { Sees (Gets index_at stream.old stream.new) stream.old result stream.new }
+{
+    let place = stream.position();
+    match marked_digits(stream) {
+        Some(index) => Some(index as usize),
+        None => {
+            stream.reset(place);
+            None
+        }
+    }
+}
+
+/// The same as `index_read`, for what is written in another way.
+#[cold]
+#[inline(never)]
+fn index_missed<A>(stream: &mut TextStream) -> ParseResult<usize, A>
+    ensures { MustRead itself replaced (λ n. n) index_at stream.old result stream.new }
+{
+    index_demanded(stream)
+}
+
+/// `!` and an index.
+#[inline(always)]
+fn index_read<A>(stream: &mut TextStream) -> ParseResult<usize, A>
+    ensures { MustRead itself replaced (λ n. n) index_at stream.old result stream.new }
+{
+    if stream.has_failed() {
+        return index_missed(stream);
+    }
+    match index_there(stream) {
+        Some(index) => Ok(index),
+        None => index_missed(stream),
+    }
+}
+
+/// The same as `equals_read`, for what is written in another way.
+#[cold]
+#[inline(never)]
+fn equals_missed<A>(stream: &mut TextStream) -> ParseResult<(), A>
+    ensures { MustRead itself replaced (λ u. u) (spaced_at (codes "=")) stream.old result stream.new }
+{
+    spaced_text_demanded(stream, "=")
+}
+
+/// `=` with white space round it.
+#[inline(always)]
+fn equals_read<A>(stream: &mut TextStream) -> ParseResult<(), A>
+    ensures { MustRead itself replaced (λ u. u) (spaced_at (codes "=")) stream.old result stream.new }
+{
+    if stream.has_failed() {
+        return equals_missed(stream);
+    }
+    if stream.accept(" = ") {
+        skip_white_space(stream);
+        return Ok(());
+    }
+    equals_missed(stream)
+}
+
 /// An index, and `=` with white space round it. A fault is committed.
 fn index_parse<A>(stream: &mut TextStream) -> ParseResult<ReadMark, A>
     ensures read { MustMean itself replaced (IsMark (whole stream.old)) entry_head_at stream.old result stream.new }
     ensures at { IfOk result (λ mark. StandsBehind mark.at stream.old.passed) }
 {
     let at = stream.position();
-    let index = index_demanded(stream)?;
-    spaced_text_demanded(stream, "=")?;
+    let index = index_read(stream)?;
+    equals_read(stream)?;
     Ok(ReadMark { index, at })
 }
 

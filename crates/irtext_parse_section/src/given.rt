@@ -1,6 +1,7 @@
 //! Reading of what an item's entry gives: a location, where one stands, and pairs.
 ghost use Rattle.std.specs.Prelude.{◌≡◌, IfOk};
 ghost use Rattle.irtext_read.specs.AttrTexts.{attr_at};
+ghost use Rattle.irtext_read.specs.MustRead.{MustRead};
 ghost use Rattle.irtext_outcomes.specs.Promises.Section.{known_given, given_over, given_kept};
 ghost use Rattle.irtext_outcomes.specs.Readers.NewPaths.{AddsPaths, MustReadOver};
 ghost use Rattle.irtext_outcomes.specs.Readers.Section.{entry_location_at};
@@ -8,7 +9,7 @@ ghost use Rattle.irtext_outcomes.specs.Readers.Streams.{itself, replaced};
 ghost use Rattle.irtext_parse_heads.specs.Named.{MustMean, whole};
 ghost use Rattle.irtext_section.specs.Readers.{given_at};
 ghost use Rattle.irtext_parse_section.specs.Said.{rule_for};
-ghost use Rattle.irtext_parse_section.specs.Entries.{IsGivenOver};
+ghost use Rattle.irtext_parse_section.specs.Entries.{IsGivenOver, location_end_at};
 
 use crate::pairs::pairs_parse;
 use crate::said::ReadPair;
@@ -24,6 +25,33 @@ use irtext_read::irfmt::parsers::skip_white_space;
 
 /// What an item's entry gives: a location or none, and pairs.
 pub(crate) type Given<A> = (Option<Location<A>>, Vec<ReadPair<A>>);
+
+/// The same as `location_ended`, for what is written in another way.
+#[cold]
+#[inline(never)]
+fn end_missed<A>(stream: &mut TextStream) -> ParseResult<(), A>
+    ensures { MustRead itself replaced (λ u. u) location_end_at stream.old result stream.new }
+{
+    spaced_text_demanded(stream, "]")?;
+    text_demanded(stream, ",")?;
+    skip_white_space(stream);
+    Ok(())
+}
+
+/// What stands behind an entry's location: `]` and `,`, with white space round them but between.
+#[inline(always)]
+fn location_ended<A>(stream: &mut TextStream) -> ParseResult<(), A>
+    ensures { MustRead itself replaced (λ u. u) location_end_at stream.old result stream.new }
+{
+    if stream.has_failed() {
+        return end_missed(stream);
+    }
+    if stream.accept("], ") {
+        skip_white_space(stream);
+        return Ok(());
+    }
+    end_missed(stream)
+}
 
 /// The location of an entry, where it gives one.
 fn entry_location<T: IrText<A>, A: AttrText>(
@@ -44,9 +72,7 @@ fn entry_location<T: IrText<A>, A: AttrText>(
     text_demanded(stream, "@[")?;
     skip_white_space(stream);
     let location = location_demanded(stream, ctx)?;
-    spaced_text_demanded(stream, "]")?;
-    text_demanded(stream, ",")?;
-    skip_white_space(stream);
+    location_ended(stream)?;
     Ok(Some(location))
 }
 

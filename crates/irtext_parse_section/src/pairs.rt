@@ -133,8 +133,9 @@ fn list_parse<A: AttrText>(
     }
 }
 
-/// Reads the pairs of the entry of a block, or of an operation, between brackets and with `,` between them. A fault is committed.
-pub(crate) fn pairs_parse<A: AttrText>(
+/// The pairs between brackets, with `,` between them.
+#[inline(never)]
+fn bracketed_parse<A: AttrText>(
     stream: &mut TextStream,
     of_block: bool,
 ) -> ParseResult<Vec<ReadPair<A>>, A>
@@ -145,4 +146,21 @@ pub(crate) fn pairs_parse<A: AttrText>(
     let pairs = list_parse(stream, of_block)?;
     text_demanded(stream, "]")?;
     Ok(pairs)
+}
+
+/// Reads the pairs of the entry of a block, or of an operation, between brackets and with `,` between them. A fault is committed.
+#[inline(always)]
+pub(crate) fn pairs_parse<A: AttrText>(
+    stream: &mut TextStream,
+    of_block: bool,
+) -> ParseResult<Vec<ReadPair<A>>, A>
+    ensures { MustPairs (pairs_at (attr_at A.IrText.reading) (rule_for of_block)) stream.old result stream.new }
+{
+    if stream.has_failed() {
+        return bracketed_parse(stream, of_block);
+    }
+    if stream.accept("[]") {
+        return Ok(Vec::new(stream.allocator()));
+    }
+    bracketed_parse(stream, of_block)
 }

@@ -18,10 +18,10 @@ pub returns-in_err-index-clause-read : goal.returns-in_err-index-clause-read
 returns-in_err-index-clause-read g c =
     rw (handed_on c.from_residual.result c.from_residual.ensures.1) (must_refuse alone (first_refused alone {sees = λ _. a_mark 0 0} behind_index (mark_unread c.in_err-index.ensures)))
 
-pub returns-in_err-spaced_text_demanded-clause-read : goal.returns-in_err-spaced_text_demanded-clause-read
-returns-in_err-spaced_text_demanded-clause-read g c =
+pub returns-in_err-equals_read-clause-read : goal.returns-in_err-equals_read-clause-read
+returns-in_err-equals_read-clause-read g c =
     let m = a_mark (length c.args.stream.now.rest) c.in_ok-index.index in
-    rw (handed_on c.from_residual-in_err-spaced_text_demanded.result c.from_residual-in_err-spaced_text_demanded.ensures.1) (must_refuse alone (refuses_seen alone {sees = λ _. a_mark 0 0} (λ _. m) (first alone behind_index (mark_read c.in_ok-index.ensures)) c.in_err-spaced_text_demanded.ensures))
+    rw (handed_on c.from_residual-in_err-equals_read.result c.from_residual-in_err-equals_read.ensures.1) (must_refuse alone (refuses_seen alone {sees = λ _. a_mark 0 0} (λ _. m) (first alone behind_index (mark_read c.in_ok-index.ensures)) c.in_err-equals_read.ensures))
 
 pub returns-clause-read : goal.returns-clause-read
 returns-clause-read g c =
@@ -30,7 +30,7 @@ returns-clause-read g c =
     record {
       meant = λ _. m;
       means = record { indexed = refl; place = record { passed = old.passed; rest = old.rest; same = refl; stands = c.position-at.ensures; counts = refl } };
-      read = last_seen alone (λ _. m) (λ _. m) (record { index = c.in_ok-index.index; at = c.position-at.result }) refl (first alone behind_index (mark_read c.in_ok-index.ensures)) c.in_ok-spaced_text_demanded.ensures;
+      read = last_seen alone (λ _. m) (λ _. m) (record { index = c.in_ok-index.index; at = c.position-at.result }) refl (first alone behind_index (mark_read c.in_ok-index.ensures)) c.in_ok-equals_read.ensures;
     }
 
 pub returns-clause-at : goal.returns-clause-at
