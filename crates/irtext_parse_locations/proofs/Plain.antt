@@ -1,5 +1,5 @@
 -- Numbers, lines and columns as they are mostly written are those that the readers of their parts read.
-use Rattle.std.proofs.Common.{◌≡◌, ℕ, ℤ, pos, true, false, cond, nat_lt, Option, Some, None, Ok, [], ◌∷◌, ◌++◌, codes, refl, sym, ◌∙◌, ap, subst, arith}
+use Rattle.std.proofs.Common.{◌≡◌, ℕ, ℤ, pos, ◌≤◌, Bool, true, false, cond, nat_lt, Option, Some, None, Ok, [], ◌∷◌, ◌++◌, codes, length, refl, sym, ◌∙◌, ap, subst, arith}
 use Rattle.std.proofs.lemmas.Bool.Decides.{nat_tests}
 use Rattle.std.specs.Str.{chars}
 use Rattle.std.specs.Option.{option_map}
@@ -11,7 +11,7 @@ use Rattle.irtext_base.specs.Stream.{StreamView, behind}
 use Rattle.irtext_stream.specs.Stream.{Comes}
 use Rattle.irtext_base.specs.Answers.{Outcome, Read, Missing, Bad, Takes, Gives, Stands, demanded, followed, mapped, prefixed, unless_failed}
 use Rattle.irtext_base.proofs.Characters.{word_no_space}
-use Rattle.irtext_base.proofs.Compose.{takes_more, takes_stands, stands_after}
+use Rattle.irtext_base.proofs.Compose.{seen_after, takes_more, takes_stands, stands_after}
 use Rattle.irtext_base.proofs.Numbers.{digit_in_word}
 use Rattle.irtext_read.specs.Infix.{Reader}
 use Rattle.irtext_read.specs.Integers.{signed_below, within}
@@ -19,7 +19,7 @@ use Rattle.irtext_read.specs.MustRead.{MustRead}
 use Rattle.irtext_read.specs.Tokens.{is_sign, sign_of, after_sign, value_of, number_at, integer_of, integer_at}
 use Rattle.irtext_read.proofs.Steps.{alone, mapped_followed}
 use Rattle.irtext_read.proofs.Spelling.{prefixed-prefixed}
-use Rattle.irtext_outcomes.specs.Readers.Positions.{spaced_at, labelled_at}
+use Rattle.irtext_outcomes.specs.Readers.Positions.{spaced_at, labelled_at, position_at}
 use Rattle.irtext_outcomes.specs.Readers.Streams.{itself, replaced}
 use Rattle.irtext_stream.specs.declared.position.SourcePosition.{SourcePosition}
 use Rattle.irtext_parse_locations.specs.Plain.{TakesDigits, TakesNumber, Looks, Gets, GetsInteger, line_at, column_at, behind_source_at}
