@@ -37,10 +37,16 @@ pub(crate) fn print_frames<'c, H: WritesHeads<T, A>, T: IrText<A>, A: AttrText>(
 ) -> Result<(), Refusal>
     requires some { IfNone first (frames.old.items ≡ []) }
     requires fit { heads.FramesFitAt T.IrText.own A.IrText.own A.AttrText.own A.eq ctx.now (frames.old.items ++ listed first) }
-    ensures text { OnOk result (AppendsText f.old (heads.frames_text_at T.IrText.own A.IrText.own A.AttrText.own A.eq ctx.now width (frames.old.items ++ listed first.entry) (length items.old.items)) f.new) }
-    ensures items { OnOk result (items.new.items ≡ items.old.items ++ heads.frames_items_at T.IrText.own A.IrText.own A.AttrText.own A.eq ctx.now (frames.old.items ++ listed first.entry)) }
-    ensures fits { OnOk result (heads.FramesFault T.IrText.own A.IrText.own A.AttrText.own A.eq ctx.now width refusal.Misfit (frames.old.items ++ listed first.entry) → ⊥) }
-    ensures refused { IfErr result (λ e. e ≢ refusal.Memory → heads.FramesFault T.IrText.own A.IrText.own A.AttrText.own A.eq ctx.now width e (frames.old.items ++ listed first.entry)) }
+    ensures text { OnOk result (AppendsText f.old
+        (heads.frames_text_at T.IrText.own A.IrText.own A.AttrText.own A.eq ctx.now width
+        (frames.old.items ++ listed first.entry) (length items.old.items)) f.new) }
+    ensures items { OnOk result (items.new.items ≡ items.old.items ++
+        heads.frames_items_at T.IrText.own A.IrText.own A.AttrText.own A.eq ctx.now (frames.old.items ++ listed first.entry)) }
+    ensures fits { OnOk result (
+        heads.FramesFault T.IrText.own A.IrText.own A.AttrText.own A.eq ctx.now width
+        refusal.Misfit (frames.old.items ++ listed first.entry) → ⊥) }
+    ensures refused { IfErr result (λ e. e ≢ refusal.Memory →
+        heads.FramesFault T.IrText.own A.IrText.own A.AttrText.own A.eq ctx.now width e (frames.old.items ++ listed first.entry)) }
 {
     let mut next = first;
     while let Some(frame) = next {
@@ -60,10 +66,16 @@ fn print_operation<'c, H: WritesHeads<T, A>, T: IrText<A>, A: AttrText>(
     f: &mut String,
 ) -> Result<(), Refusal>
     requires fits { heads.FrameFitsAt T.IrText.own A.IrText.own A.AttrText.own A.eq ctx.now (framed.Operation frame) }
-    ensures text { OnOk result (AppendsText f.old (heads.frames_text_at T.IrText.own A.IrText.own A.AttrText.own A.eq ctx.now width (framed.Operation frame.entry ∷ []) (length items.old.items)) f.new) }
-    ensures items { OnOk result (items.new.items ≡ items.old.items ++ heads.frames_items_at T.IrText.own A.IrText.own A.AttrText.own A.eq ctx.now (framed.Operation frame.entry ∷ [])) }
-    ensures fits { OnOk result (heads.FramesFault T.IrText.own A.IrText.own A.AttrText.own A.eq ctx.now width refusal.Misfit (framed.Operation frame.entry ∷ []) → ⊥) }
-    ensures refused { IfErr result (λ e. e ≢ refusal.Memory → heads.FramesFault T.IrText.own A.IrText.own A.AttrText.own A.eq ctx.now width e (framed.Operation frame.entry ∷ [])) }
+    ensures text { OnOk result (AppendsText f.old
+        (heads.frames_text_at T.IrText.own A.IrText.own A.AttrText.own A.eq ctx.now width
+        (framed.Operation frame.entry ∷ []) (length items.old.items)) f.new) }
+    ensures items { OnOk result (items.new.items ≡ items.old.items ++
+        heads.frames_items_at T.IrText.own A.IrText.own A.AttrText.own A.eq ctx.now (framed.Operation frame.entry ∷ [])) }
+    ensures fits { OnOk result (
+        heads.FramesFault T.IrText.own A.IrText.own A.AttrText.own A.eq ctx.now width
+        refusal.Misfit (framed.Operation frame.entry ∷ []) → ⊥) }
+    ensures refused { IfErr result (λ e. e ≢ refusal.Memory →
+        heads.FramesFault T.IrText.own A.IrText.own A.AttrText.own A.eq ctx.now width e (framed.Operation frame.entry ∷ [])) }
 {
     let mut left = frame;
     let Some(inside) = operation_turns::<H, T, A>(ctx, width, &mut left, items, f)? else {
