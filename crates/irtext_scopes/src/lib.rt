@@ -2,6 +2,7 @@
 //! that are open.
 #![tactic(auto)]
 
+mod marks;
 pub mod names;
 pub mod scopes;
 mod text;

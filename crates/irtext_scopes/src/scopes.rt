@@ -1,11 +1,12 @@
 //! The scopes of names of one kind as one vector of bindings: leaving a scope cuts the vector back to where
 //! the scope began.
-ghost use Rattle.std.specs.Prelude.{◌≡◌, ℕ, ◌<◌, ◌≤◌, [], ◌∷◌, length, None, Some, true, OnOk, OnErr, IfOk, cond, nat_eq, slice_get, reverse, drop, take, set, Err, ◌↔◌};
+ghost use Rattle.std.specs.Prelude.{◌≡◌, ℕ, ◌<◌, ◌≤◌, [], ◌∷◌, length, None, Some, true, OnOk, OnErr, IfOk, cond, nat_eq, slice_get, drop, take, set, Err, ◌↔◌};
 ghost use Rattle.irtext_scopes.specs.declared.scopes.DefineFault.{DefineFault};
 ghost use Rattle.irtext_scopes.specs.declared.scopes.Binding.{Binding};
-ghost use Rattle.irtext_scopes.specs.Bindings.{Chained, entries_of, rebound, head_at, first, place_in};
+ghost use Rattle.irtext_scopes.specs.Bindings.{Chained, entries_of, rebound, head_at, place_in};
 ghost use Rattle.irtext_scopes.specs.Scopes.{innermost, outer, in_innermost, is_open, find, mentioned, resolved, defined, is_defined, placeholder_of, first_pending};
 
+use crate::marks::Marks;
 use std::alloc::{AllocError, Global};
 use std::marker::Model;
 
@@ -39,7 +40,7 @@ pub struct Scopes<V> {
     heads: Vec<Option<usize>>,
     bindings: Vec<Binding<V>>,
     // where each scope begins
-    marks: Vec<usize>,
+    marks: Marks,
 }
 
 impl<V> Model for Scopes<V> {
@@ -49,9 +50,9 @@ impl<V> Model for Scopes<V> {
 
     ghost Value = { List (Scope V) };
 
-    ghost view = { λ s. scopes_at s.marks.items s.bindings.items };
+    ghost view = { λ s. scopes_at s.marks s.bindings.items };
 
-    ghost invariant = { λ s. IsSound s.heads.items s.bindings.items s.marks.items };
+    ghost invariant = { λ s. IsSound s.heads.items s.bindings.items s.marks };
 }
 
 // the place of the newest binding of a name
@@ -124,22 +125,11 @@ fn rebind<V: Copy>(bindings: &mut Vec<Binding<V>>, place: usize, value: V)
     };
 }
 
-// where the innermost scope begins
-fn last_of(marks: &[usize]) -> Option<usize>
-    ensures { result ≡ first (reverse marks.now) }
-{
-    if marks.is_empty() {
-        None
-    } else {
-        Some(marks[marks.len() - 1])
-    }
-}
-
 // the place of the binding that the innermost scope has of a name
-fn place_of(heads: &[Option<usize>], marks: &[usize], name: usize) -> Option<usize>
+fn place_of(heads: &[Option<usize>], marks: &Marks, name: usize) -> Option<usize>
     ensures { result ≡ place_in heads.now marks.now name }
 {
-    let Some(mark) = last_of(marks) else {
+    let Some(mark) = marks.last() else {
         return None;
     };
     let Some(place) = head_of(heads, name) else {
@@ -159,7 +149,7 @@ impl<V: Copy> Scopes<V> {
         Scopes {
             heads: Vec::new(alloc),
             bindings: Vec::new(alloc),
-            marks: Vec::new(alloc),
+            marks: Marks::new(alloc),
         }
     }
 
@@ -167,7 +157,7 @@ impl<V: Copy> Scopes<V> {
     pub fn is_open(&self) -> bool
         ensures { result ≡ is_open self.now }
     {
-        last_of(&self.marks).is_some()
+        self.marks.last().is_some()
     }
 
     /// Opens a scope without names inside the innermost one. Where memory is refused, nothing changes.
