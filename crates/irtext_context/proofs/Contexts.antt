@@ -117,7 +117,3 @@ module _ {T A : Type 0} where
     -- the region that came is seen
     pub region_seen : (op : Ptr Operation) (r : Ptr Region) → AddsRegion old new op r → region new r ≡ Some (record { parent = Some op; blocks = [] })
     region_seen op r a = ap (option_map region_of) a.graph.regions.updates.changed
-
-    -- and each other region is seen as it was
-    pub same_region_seen : (p : Ptr Region) (op : Ptr Operation) (r : Ptr Region) → AddsRegion old new op r → p ≢ r → region new p ≡ region old p
-    same_region_seen p op r a n = ap (option_map region_of) (a.graph.regions.updates.others p n)

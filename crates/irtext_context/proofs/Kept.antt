@@ -27,10 +27,6 @@ module _ {T A : Type 0} where
       → MakesOperation old new p held types operands successors → before mark new.graph.operations p ≡ None
   before_made {old} {new} {p} {held} {types} {operands} {successors} mark up m = operation_came mark old.graph new.graph p (Some held) (known types) operands successors up m.graph
 
-  -- a block that was made stood nowhere before
-  pub before_block_made : {old new : ContextView T A} {p : Ptr BasicBlock} {held : BlockData A} {types : List T} → (mark : ℕ) → mark ≤ old.graph.made → MakesBlock old new p held types → before mark new.graph.blocks p ≡ None
-  before_block_made {old} {new} {p} {held} {types} mark up m = block_came mark old.graph new.graph p held (known types) up m.graph
-
   -- what was closed below a mark is closed while it is kept
   pub kept_closed : {mark : ℕ} {old mid : ContextView T A} → IsClosedBelow mark old.graph → KeepsOlder mark old mid → IsClosedBelow mark mid.graph
   kept_closed {mark} {old} {mid} c k = closed_kept mark old.graph mid.graph k.graph c

@@ -2,6 +2,7 @@
 use Rattle.std.proofs.Common.{◌≡◌, ◌≢◌, ◌<◌, ◌≤◌, ◌+◌, ◌∙◌, ◌++◌, ◌∷◌, ◌⊎◌, inl, inr, ℕ, zero, suc, refl, ap, subst, arith, Option, Some, None, List, [], map}
 use Rattle.std.specs.Option.{option_map}
 use Rattle.std.proofs.lemmas.List.{map-append}
+use Rattle.irtext_graph.specs.ChildList.{listed}
 use Rattle.irtext_graph.specs.declared.graph.Counters.{Counters}
 use Rattle.irtext_graph.specs.Arena as arena
 use Rattle.irtext_graph.specs.Arena.{HasFew, KeepsPlaces}
@@ -127,7 +128,7 @@ module _ {O B T : Type 0} where
   }
 
   module _ (x : Objects O B T) (made : ℕ) (grown : Arena (Nest BasicBlock Region (OperationData O T))) (after : Arena (Nest Operation BasicBlock RegionData)) (op : Ptr Operation) (p : Ptr Region)
-      (e : Entry (Nest Operation BasicBlock RegionData)) (g : Grown x grown op p) (i : arena.Inserts x.regions after p e) (stands : e.content.parent ≡ Some op) (empty : e.content.children.items ≡ []) where
+      (e : Entry (Nest Operation BasicBlock RegionData)) (g : Grown x grown op p) (i : arena.Inserts x.regions after p e) (stands : e.content.parent ≡ Some op) (empty : listed e.content.children ≡ []) where
     abbrev added : Objects O B T
     added = record x { operations = grown; regions = after }
 

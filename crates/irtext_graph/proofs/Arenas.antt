@@ -186,16 +186,6 @@ module _ {X : Type 0} where
       go (inl e) = ap (λ q. view (get new q)) e ∙ ap view r.now ∙ same r.born ∙ sym (ap view r.was) ∙ sym (ap (λ q. view (get old q)) e)
       go (inr n) = ap view (r.others q n)
 
-  -- what is the same of both contents but at one index is the same under every pointer but at that index
-  pub same_elsewhere : {K V : Type 0} {old new : Arena X} {p : Ptr K} {x w : X} (view : Option (Entry X) → ℕ → V) (i : ℕ) → Replaced old new p x w
-      → ((b j : ℕ) → j ≢ i → view (Some (record { born = b; content = w })) j ≡ view (Some (record { born = b; content = x })) j)
-      → (q : Ptr K) (j : ℕ) → (q ≡ p → j ≢ i) → view (get new q) j ≡ view (get old q) j
-  same_elsewhere {old = old} {new = new} {p = p} view i r same q j n = go (ptr_or q p)
-    where
-      go : (q ≡ p) ⊎ (q ≢ p) → view (get new q) j ≡ view (get old q) j
-      go (inl e) = ap (λ q. view (get new q) j) e ∙ ap (λ o. view o j) r.now ∙ same r.born j (n e) ∙ sym (ap (λ o. view o j) r.was) ∙ sym (ap (λ q. view (get old q) j) e)
-      go (inr m) = ap (λ o. view o j) (r.others q m)
-
   -- what has a content stands
   pub stood : {K : Type 0} (a : Arena X) (p : Ptr K) (x : X) → option_map (λ o. o.content) (get a p) ≡ Some x → (b : ℕ) × (get a p ≡ Some (record { born = b; content = x }))
   stood a p x e = go (get a p) e

@@ -1,6 +1,7 @@
 -- Sums over all objects, when one has another content.
 use Rattle.std.proofs.Common.{◌≡◌, ◌+◌, ◌∙◌, ℕ, zero, suc, refl, ap, arith, Option, Some, None, List, [], ◌∷◌, length, slice_get, set, get_or, sum_by, option_map}
 use Rattle.std.proofs.lemmas.List.Sums.{sum_by-set}
+use Rattle.irtext_graph.specs.ChildList.{listed}
 use Rattle.irtext_graph.specs.declared.arena.Arena.{Arena}
 use Rattle.irtext_graph.specs.declared.arena.Entry.{Entry}
 use Rattle.irtext_graph.specs.declared.arena.Ptr.{Ptr}
@@ -41,5 +42,5 @@ module _ {X : Type 0} (count : Slot X → ℕ) (size : X → ℕ) (counted : (g 
 
 module _ {P C D : Type 0} where
   pub links_with : {K : Type 0} (a : Arena (Nest P C D)) (p : Ptr K) (x w : Nest P C D) → option_map (λ o. o.content) (get a p) ≡ Some x
-      → links (with_content_at a p.index w) + length x.children.items ≡ links a + length w.children.items
-  links_with a p x w e = sum_with size (λ n. length n.children.items) (λ g o. refl) a p x w e
+      → links (with_content_at a p.index w) + length (listed x.children) ≡ links a + length (listed w.children)
+  links_with a p x w e = sum_with size (λ (n : Nest P C D). length (listed n.children)) (λ g o. refl) a p x w e

@@ -1,6 +1,5 @@
 -- How many children there are, and lists of objects.
-use Rattle.std.proofs.Common.{◌≡◌, ◌<◌, ◌≤◌, ◌+◌, ℕ, zero, suc, refl, sym, ap, arith, Option, Some, List, [], ◌∷◌, ◌++◌, length, slice_get, map, IsSome, set, get_or, sum_by}
-use Rattle.std.specs.Option.{option_to_list}
+use Rattle.std.proofs.Common.{◌≡◌, ◌<◌, ◌≤◌, ℕ, zero, suc, refl, sym, ap, arith, List, [], ◌∷◌, ◌++◌, length, slice_get, map, IsSome, set, get_or, sum_by}
 use Rattle.std.proofs.lemmas.List.Sums.{sum_by-set}
 use Rattle.irtext_graph.specs.declared.arena.Slot.{Slot}
 use Rattle.irtext_graph.specs.Arena.{found}
@@ -16,13 +15,6 @@ pub entry-low : {X : Type 0} (xs : List (Slot X)) (p g : ℕ) → IsSome (found 
 entry-low [] p g h = absurd (cc)
 entry-low (x ∷ xs) zero g h = omega arith
 entry-low (x ∷ xs) (suc p) g h = omega (arith, entry-low xs p g h)
-
-pub length-last : {A : Type 0} (xs ys : List A) (o : Option A) (a : A) → xs ≡ ys ++ option_to_list o → o ≡ Some a → length xs ≡ length ys + 1
-length-last xs ys o a e p = rw (e, p) (go ys)
-  where
-    go : (ys : List _) → length (ys ++ a ∷ []) ≡ length ys + 1
-    go [] = refl
-    go (y ∷ ys) = let k = go ys in omega (arith, k)
 
 -- an element that counts for less takes another's place
 pub sum-less : {X : Type 0} (f : X → ℕ) (xs : List X) (i : ℕ) (x y : X) → i < length xs → y ≡ get_or xs i y → f x < f y → sum_by f (set xs i x) < sum_by f xs

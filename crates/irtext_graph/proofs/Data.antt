@@ -26,9 +26,9 @@ use Rattle.irtext_graph.specs.declared.objects.Objects.{Objects}
 use Rattle.irtext_graph.specs.declared.objects.BlockData.{BlockData}
 use Rattle.irtext_graph.specs.declared.objects.OperationData.{OperationData}
 use Rattle.irtext_graph.specs.Store.{Cell, Store, Edits, store_of, cell_of, object_of, object_in, drawn, get, before}
-use Rattle.irtext_graph.specs.Content.{Node, Content, Content.{AnOperation, ABlock}, node_of, operation_content, block_content}
+use Rattle.irtext_graph.specs.Content.{Node, Content, node_of, operation_content, block_content}
 use Rattle.irtext_graph.specs.Data.{edited_at, with_object, with_data, with_block, with_operation_data, with_block_data, EditsOperation, EditsBlock}
-use Rattle.irtext_graph.specs.Graph.{GraphView, graph_of, content_of, IsNew, KeepsOlder}
+use Rattle.irtext_graph.specs.Graph.{GraphView, graph_of, content_of, KeepsOlder}
 use Rattle.irtext_graph.specs.Lending.{with_content_at}
 use Rattle.irtext_graph.specs.Log.{age}
 use Rattle.irtext_graph.specs.Nest.{parent_in, children_in}
@@ -39,7 +39,6 @@ use Rattle.irtext_graph.specs.Sound.{IsSound, IsKept}
 use Rattle.irtext_graph.specs.Uses.{operand_in, successor_in, result_in, argument_in, preds_in, first_of, use_at, head_at, def_of, prev_of, next_of, either, eq_site, eq_defined}
 use Rattle.irtext_graph.proofs.Arenas.{Replaced, replaced, same_view, edited as arena_edited, lent, stood, places_kept}
 use Rattle.irtext_graph.proofs.Chains.{reframed}
-use Rattle.irtext_graph.proofs.Frames.{new_operation, new_block}
 use Rattle.irtext_graph.proofs.Linked.{site_tells, defined_tells}
 use Rattle.irtext_graph.proofs.Logs.{logged_kept}
 use Rattle.irtext_graph.proofs.Nests.{renested, some_eq}
@@ -185,12 +184,6 @@ module _ {P C E K D : Type 0} (s : Store (Node P C E)) (p : Ptr K) (value : E �
       go (Some o) f h = written_over s p o (put (λ _. d)) f (ap (λ x. put (λ _. x) o.content) (sym (some_eq h)) ∙ same o.content)
 
 module _ {O B T : Type 0} where
-  pub is_new_operation : (m : ℕ) (g : GraphView O B T) (p : Ptr Operation) → before m g.operations p ≡ None → IsNew m g (TheOperation p)
-  is_new_operation m g p e = not_older m (λ d. AnOperation d.0 d.1) (λ d. refl) (get g.operations p) e
-
-  pub is_new_block : (m : ℕ) (g : GraphView O B T) (p : Ptr BasicBlock) → before m g.blocks p ≡ None → IsNew m g (TheBlock p)
-  is_new_block m g p e = not_older m (λ d. ABlock d.0 d.1) (λ d. refl) (get g.blocks p) e
-
   -- the data that were read and changed are written back: the data of one operation changed
   pub edited : (g : GraphView O B T) (p : Ptr Operation) (d : O) (change : O → O) → option_map (λ c. c.data_of) (operation_at g p) ≡ Some d → EditsOperation g (with_operation_data g p (change d)) p change
   edited g p d change e = record {
@@ -241,13 +234,6 @@ module _ {O B T : Type 0} where
     values = let k = e.values in omega (arith, k);
     first_place = e.first_place;
   }
-
-  -- the same, where the object is said to be new
-  pub edited_new-keeps : (m : ℕ) (old new : GraphView O B T) (p : Ptr Operation) (change : O → O) → IsNew m old (TheOperation p) → EditsOperation old new p change → KeepsOlder m old new
-  edited_new-keeps m old new p change n e = edited-keeps m old new p change (new_operation m old p n) e
-
-  pub edited_new_block-keeps : (m : ℕ) (old new : GraphView O B T) (p : Ptr BasicBlock) (change : B → B) → IsNew m old (TheBlock p) → EditsBlock old new p change → KeepsOlder m old new
-  edited_new_block-keeps m old new p change n e = edited_block-keeps m old new p change (new_block m old p n) e
 
 module _ {O B T : Type 0} (x : Objects O B T) (p : Ptr Operation) (n : Nest BasicBlock Region (OperationData O T)) (e : option_map (λ o. o.content) (arena.get x.operations p) ≡ Some n) (d : O) where
   abbrev with_d : Nest BasicBlock Region (OperationData O T)

@@ -3,7 +3,6 @@ use Rattle.std.proofs.Common.{◌≡◌, ◌≢◌, ◌<◌, ◌≤◌, ◌+◌,
 use Rattle.std.specs.Option.{option_map}
 use Rattle.std.proofs.lemmas.Option.{slice_get_past}
 use Rattle.irtext_graph.specs.Arena.{get}
-use Rattle.irtext_graph.specs.Used.{user}
 use Rattle.irtext_graph.specs.Graph.{seen}
 use Rattle.irtext_graph.specs.Uses.{use_at, operand_in, successor_in, either, val, def_of, AreUsesLinked}
 use Rattle.irtext_graph.specs.declared.arena.Entry.{Entry}
@@ -23,7 +22,7 @@ use Rattle.irtext_graph.proofs.Backs.{use_there, not_some}
 use Rattle.irtext_graph.proofs.Linked.{site_tells}
 use Rattle.irtext_graph.proofs.Moves.{lower}
 use Rattle.irtext_graph.proofs.Nests.{told}
-use Rattle.irtext_graph.proofs.Pointers.{ptr_or, equal_or_not}
+use Rattle.irtext_graph.proofs.Pointers.{equal_or_not}
 
 pub some_mapped : {A B : Type 0} (f : A → B) (o : Option A) → IsSome o → IsSome (option_map f o)
 some_mapped f None l = l
@@ -90,16 +89,3 @@ module _ {O B T : Type 0} where
 
   pub detaching_ends : (w x : Objects O B T) (site : ℕ → Site) (n : ℕ) → Detaching w x site n → ((j : ℕ) → n ≤ j → use_at w (site j) ≡ None) → (j : ℕ) → val x (site j) ≡ None
   detaching_ends w x site n d none j = elim (lower j n) [ inl low ↦ d.gone j low | inr high ↦ no_use w x d.same (site j) (none j high) ]
-
-  module _ (x y z : Objects O B T) (p : Ptr Operation) (operands : (i : ℕ) → val y (AtOperand p i) ≡ None) (successors : (i : ℕ) → val z (AtSuccessor p i) ≡ None)
-      (kept : (u : Site) → ((i : ℕ) → u ≢ AtOperand p i) → val y u ≡ val x u) (kept_too : (u : Site) → ((i : ℕ) → u ≢ AtSuccessor p i) → val z u ≡ val y u) where
-    -- no use of the operation is in a list
-    pub both_gone : (u : Site) → user u ≡ p → val z u ≡ None
-    both_gone (AtOperand q i) e = kept_too (AtOperand q i) (λ j f. cc) ∙ ap (λ q. val y (AtOperand q i)) e ∙ operands i
-    both_gone (AtSuccessor q i) e = ap (λ q. val z (AtSuccessor q i)) e ∙ successors i
-
-    pub both_kept : (u : Site) → user u ≢ p → val z u ≡ val x u
-    both_kept u ne = kept_too u (λ i e. ne (ap user e)) ∙ kept u (λ i e. ne (ap user e))
-
-    pub both_fewer : (u : Site) → val x u ≡ None → val z u ≡ None
-    both_fewer u n = elim (ptr_or (user u) p) [ inl e ↦ both_gone u e | inr ne ↦ both_kept u ne ∙ n ]

@@ -184,10 +184,6 @@ module _ {O B T : Type 0} where
     age = λ o. ap (is_older m) (a.whats o);
   }
 
-  -- nothing older than m stands next to what is newer
-  abbrev pub IsClosedAt : ℕ → Objects O B T → Type 0
-  IsClosedAt m x = (c k : Object) → up x c ≡ Some k → stays m x c ≡ stays m x k
-
   pub keeps_self : (m : ℕ) (x : Objects O B T) → KeepsOlder m x x
   keeps_self m x = record { same = λ o _. record { same_up = refl; same_kids = refl; same_what = refl }; age = λ o. refl }
 
@@ -196,13 +192,3 @@ module _ {O B T : Type 0} where
     same = λ o old. same_on (a.same o old) (b.same o (a.age o ∙ old));
     age = λ o. b.age o ∙ a.age o;
   }
-
-  pub appends_closed : (x y : Objects O B T) (k c : Object) (m : ℕ) → Appends x y k c → stays m x k ≡ false → stays m x c ≡ false → IsClosedAt m x → IsClosedAt m y
-  appends_closed x y k c m a fk fc closed = λ d e u.
-      let age : (o : Object) → stays m y o ≡ stays m x o = λ o. ap (is_older m) (a.whats o) in
-      elim (told object_tells d c) [
-        | inl same ↦
-            let ke : k ≡ e = some_eq (sym a.up_here ∙ ap (up y) (sym same) ∙ u) in
-            age d ∙ ap (stays m x) same ∙ fc ∙ sym (sym (ap (stays m x) ke) ∙ fk) ∙ sym (age e)
-        | inr ne ↦ age d ∙ closed d e (sym (a.ups d ne) ∙ u) ∙ sym (age e)
-      ]

@@ -204,9 +204,6 @@ module _ {O B T : Type 0} where
       now_items : (q : Object) → children now q ≡ children old q
       now_items q = elim (d.either q) [ inl s ↦ s.items | inr s ↦ s.1.items ]
 
-      pub now_inside : (q : Object) → IsInside old o q → IsInside now o q
-      now_inside q w = (w.0, climb-same (parent old) (parent now) now_holder w.0 (Some q) ∙ w.1)
-
       was_inside : (q : Object) → IsInside now o q → IsInside old o q
       was_inside q w = (w.0, sym (climb-same (parent old) (parent now) now_holder w.0 (Some q)) ∙ w.1)
 

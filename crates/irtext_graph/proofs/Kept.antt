@@ -31,9 +31,6 @@ shed_on h k = record { generations = λ i. k.generations i ∙ h.generations i; 
 shed_none : {X : Type 0} {a b : Arena X} → KeepsPlaces a b → ShedsPlaces a b
 shed_none h = record { generations = h.generations; len = h.len; age = h.age }
 
-pub shed_self : {X : Type 0} (a : Arena X) → ShedsPlaces a a
-shed_self a = record { generations = λ i. refl; len = refl; age = λ m o. o }
-
 -- one object goes
 pub shed_one : {X K : Type 0} (a b : Arena X) (p : Ptr K) → ((i : ℕ) → generation_at b i ≡ generation_at a i) → length b.slots.items ≡ length a.slots.items → get b p ≡ None → ((q : Ptr K) → q ≢ p → get b q ≡ get a q) → ShedsPlaces a b
 shed_one {X} {K} a b p generations len gone others = record {

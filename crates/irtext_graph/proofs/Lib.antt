@@ -51,4 +51,3 @@ pub mod Throughout
 pub mod Going
 pub mod Alone
 pub mod Numbers
-pub mod PlacesSeen

@@ -12,7 +12,7 @@ use Rattle.irtext_graph.specs.declared.object.Value.{Value}
 use Rattle.irtext_graph.specs.declared.object.Value.TheVariants.{Result, Argument}
 use Rattle.irtext_graph.proofs.Same.{both, all, ptr_tells}
 use Rattle.irtext_graph.proofs.Nests.{Tells, told}
-use Rattle.irtext_graph.specs.Uses.{eq_site, eq_value, eq_defined, use_at, def_of, relinked, either}
+use Rattle.irtext_graph.specs.Uses.{eq_site, eq_value, eq_defined, use_at, def_of, relinked}
 
 site_is : (u : Site) → eq_site u u ≡ true
 site_is (AtOperand p i) = all _ _ (ptr_tells.same p) (eq-eqb i i refl)
@@ -36,9 +36,6 @@ value_sound (Result p i) (Result q j) e = let k = both _ _ e in rw (ptr_tells.so
 value_sound (Argument p i) (Argument q j) e = let k = both _ _ e in rw (ptr_tells.sound p q k.0, eqb-true i j k.1) refl
 value_sound (Result p i) (Argument q j) e = absurd (cc)
 value_sound (Argument p i) (Result q j) e = absurd (cc)
-
-value_tells : Tells eq_value
-value_tells = record { same = value_same; sound = value_sound }
 
 defined_same : (d : Defined) → eq_defined d d ≡ true
 defined_same (OfValue v) = value_same v
@@ -65,11 +62,6 @@ used_def o p e h = ap def_of e ∙ go p.links.linked (rw e at h)
     go : (t : Bool) → IsSome (cond t (Some p.def) None) → cond t (Some p.def) None ≡ Some p.def
     go true h = refl
     go false h = absurd (cc)
-
--- other links are seen alike whichever kind of use has them
-pub either_relinked : {D : Type 0} (f : D → Defined) (l : Links) (o : Option (Use D)) → option_map (either f) (option_map (relinked l) o) ≡ option_map (relinked l) (option_map (either f) o)
-either_relinked f l None = refl
-either_relinked f l (Some u) = refl
 
 -- where a use got other links, what does not read them is as it was
 pub relinked_same : {O B T V : Type 0} (x y : Objects O B T) (u : Site) (l : Links) (o : Use Defined) (view : Option (Use Defined) → V) → use_at x u ≡ Some o → use_at y u ≡ option_map (relinked l) (use_at x u) → ((w : Site) → w ≢ u → use_at y w ≡ use_at x w)

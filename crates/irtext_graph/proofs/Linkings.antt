@@ -2,6 +2,7 @@
 use Rattle.std.proofs.Common.{◌≡◌, ◌≢◌, ◌<◌, ◌+◌, ◌⊎◌, ◌∙◌, ◌∷◌, ℕ, refl, sym, ap, subst, arith, inl, inr, Option, Some, None, List, [], zero, suc, map, length, slice_get, IsSome}
 use Rattle.std.specs.Option.{option_map}
 use Rattle.std.proofs.lemmas.Option.{slice_get-map}
+use Rattle.irtext_graph.specs.ChildList.{listed}
 use Rattle.irtext_graph.specs.Arena.{get, HasFew, Inserts}
 use Rattle.irtext_graph.specs.declared.arena.Arena.{Arena}
 use Rattle.irtext_graph.specs.declared.arena.Entry.{Entry}
@@ -55,7 +56,7 @@ unlinked_defs (d ∷ ds) = ap (λ xs. d ∷ xs) (unlinked_defs ds)
 -- an operation is blank whose lists are new uses and new values
 pub blank : {O T : Type 0} (n : Nest BasicBlock Region (OperationData O T)) (value : O) (types : List T) (from : ℕ) (operands : List Value) (successors : List (Ptr BasicBlock))
     (uses : List (Use Value)) (leads : List (Use (Ptr BasicBlock))) (results : List (Definition T))
-    → n.parent ≡ None → n.children.items ≡ [] → n.data.data ≡ value → n.data.operands ≡ uses → n.data.successors ≡ leads → n.data.results ≡ results
+    → n.parent ≡ None → listed n.children ≡ [] → n.data.data ≡ value → n.data.operands ≡ uses → n.data.successors ≡ leads → n.data.results ≡ results
     → uses ≡ map unlinked operands → leads ≡ map unlinked successors → Defines results types from → IsBlank n value types from operands successors
 blank n value types from operands successors uses leads results alone childless v o s r u l d = record {
   parent = alone;

@@ -1,5 +1,6 @@
 -- What is seen of an object that was made, and that what is older stands as it did.
 use Rattle.std.proofs.Common.{◌≡◌, ◌≤◌, ◌+◌, ℕ, refl, sym, ap, subst, arith, ◌∙◌, None, List, [], map, length, Result, Ok, Err, OnErr}
+use Rattle.irtext_graph.specs.ChildList.{listed}
 use Rattle.irtext_graph.specs.declared.graph.Counters.{Counters}
 use Rattle.irtext_graph.specs.Arena as arena
 use Rattle.irtext_graph.specs.declared.arena.Arena.{Arena}
@@ -44,7 +45,7 @@ module _ {O B T : Type 0} where
   blocks_same m v x after e f = rw (store_same (node_of block_content) x.blocks after e f) refl
 
   pub region_made : (m : ℕ) (v : Counters) (x : Objects O B T) (after : Arena (Nest Operation BasicBlock RegionData)) (p : Ptr Region) (e : Entry (Nest Operation BasicBlock RegionData)) → arena.Inserts x.regions after p e
-      → e.born ≡ m → e.content.parent ≡ None → e.content.children.items ≡ [] → MakesRegion (graph_of m v x) (graph_of (m + 1) v (record x { regions = after })) p
+      → e.born ≡ m → e.content.parent ≡ None → listed e.content.children ≡ [] → MakesRegion (graph_of m v x) (graph_of (m + 1) v (record x { regions = after })) p
   region_made m v x after p e i born none empty = record {
     regions = subst (λ o. Inserts (store_of (node_of region_content) x.regions) (store_of (node_of region_content) after) p o) same (inserts_seen (node_of region_content) x.regions after p e i);
     operations = refl;
@@ -68,7 +69,7 @@ module _ {O B T : Type 0} where
   }
 
   pub block_made : (m : ℕ) (v : Counters) (n : ℕ) (x : Objects O B T) (after : Arena (Nest Region Operation (BlockData B T))) (p : Ptr BasicBlock) (e : Entry (Nest Region Operation (BlockData B T))) (value : B) (types : List T) → arena.Inserts x.blocks after p e
-      → e.born ≡ m → e.content.parent ≡ None → e.content.children.items ≡ [] → e.content.data.data ≡ value → map typed e.content.data.arguments ≡ numbered v.values types → n ≡ v.values + length types
+      → e.born ≡ m → e.content.parent ≡ None → listed e.content.children ≡ [] → e.content.data.data ≡ value → map typed e.content.data.arguments ≡ numbered v.values types → n ≡ v.values + length types
       → MakesBlock (graph_of m v x) (graph_of (m + 1) (record v { values = n }) (record x { blocks = after })) p value types
   block_made m v n x after p e value types i born none empty same_value numbers count = record {
     blocks = subst (λ o. Inserts (store_of (node_of block_content) x.blocks) (store_of (node_of block_content) after) p o) same (inserts_seen (node_of block_content) x.blocks after p e i);

@@ -10,7 +10,6 @@ use Rattle.irtext_graph.specs.declared.object.Region.{Region}
 use Rattle.irtext_graph.specs.declared.object.Value.{Value}
 use Rattle.irtext_graph.specs.Back.{AllOlder, IsClosedBelow, RollsBack}
 use Rattle.irtext_graph.specs.Graph.{GraphView, MakesOperation, MakesBlock, MakesRegion, KeepsOlder}
-use Rattle.irtext_graph.specs.Regions.{AddsRegion}
 use Rattle.irtext_graph.specs.Store.{Store, Inserts, get, before}
 use Rattle.irtext_graph.proofs.Closed.{closed_kept as closed, back_to}
 
@@ -30,19 +29,6 @@ module _ {O B T : Type 0} where
 
   pub region_came : (m : ℕ) (old new : GraphView O B T) (p : Ptr Region) → m ≤ old.made → MakesRegion old new p → before m new.regions p ≡ None
   region_came m old new p up k = came m old.regions new.regions p _ up k.regions
-
-  pub added_came : (m : ℕ) (old new : GraphView O B T) (op : Ptr Operation) (p : Ptr Region) → m ≤ old.made → AddsRegion old new op p → before m new.regions p ≡ None
-  added_came m old new op p up k = came m old.regions new.regions p _ up k.regions
-
-  -- what is not there before a mark is not there before it later
-  pub operation_stays_new : (m : ℕ) (old new : GraphView O B T) (p : Ptr Operation) → KeepsOlder m old new → before m old.operations p ≡ None → before m new.operations p ≡ None
-  operation_stays_new m old new p k none = k.operations p ∙ none
-
-  pub block_stays_new : (m : ℕ) (old new : GraphView O B T) (p : Ptr BasicBlock) → KeepsOlder m old new → before m old.blocks p ≡ None → before m new.blocks p ≡ None
-  block_stays_new m old new p k none = k.blocks p ∙ none
-
-  pub region_stays_new : (m : ℕ) (old new : GraphView O B T) (p : Ptr Region) → KeepsOlder m old new → before m old.regions p ≡ None → before m new.regions p ≡ None
-  region_stays_new m old new p k none = k.regions p ∙ none
 
   -- where all was older than the mark and is kept, a roll-back can be made
   pub can_roll_back : (m : ℕ) (old mid : GraphView O B T) → KeepsOlder m old mid → IsClosedBelow m old → IsClosedBelow m mid

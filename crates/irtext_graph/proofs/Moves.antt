@@ -1,8 +1,8 @@
 -- A child leaves its parent's list, and a part of the objects goes.
-use Rattle.std.proofs.Common.{◌≡◌, ◌<◌, ◌≤◌, ◌⊎◌, ℕ, zero, suc, Option, Some, None, refl, sym, ap, ◌∙◌, inl, inr, arith, Bool, true, false, List, [], ◌∷◌, slice_get, length}
+use Rattle.std.proofs.Common.{◌≡◌, ◌<◌, ◌≤◌, ◌⊎◌, ℕ, zero, suc, Option, Some, None, refl, sym, ap, ◌∙◌, inl, inr, arith, Bool, List, [], ◌∷◌, slice_get, length}
 use Rattle.std.specs.List.{remove}
 use Rattle.irtext_graph.specs.Nested.{climb, Nested}
-use Rattle.irtext_graph.proofs.Nests.{Tells, told, seen, some_eq, ends-on, climb-none}
+use Rattle.irtext_graph.proofs.Nests.{Tells, told, some_eq, ends-on}
 
 pub lower : (a b : ℕ) → (a < b) ⊎ (b ≤ a)
 lower zero zero = inr (omega arith)
@@ -108,55 +108,3 @@ module _ {O : Type 0} (eqO : O → O → Bool) (t : Tells eqO) where
 
       ends : (x : O) → (n : ℕ) × (climb up' n (Some x) ≡ None)
       ends x = let e = s.ends x in ends-on eqO t up up' c a.ups 1 a.up_here e.0 (Some x) e.1
-
--- only what passes the test stays
-module _ {O : Type 0} (kids kids' : O → List O) (up up' : O → Option O) (stays : O → Bool) where
-  pub record Restricts : Type 0 where
-    pub kept_kids : (x : O) → stays x ≡ true → kids' x ≡ kids x
-    pub kept_up : (x : O) → stays x ≡ true → up' x ≡ up x
-    pub gone_kids : (x : O) → stays x ≡ false → kids' x ≡ []
-    pub gone_up : (x : O) → stays x ≡ false → up' x ≡ None
-    -- nothing that stays stands next to what goes
-    pub closed : (x y : O) → up x ≡ Some y → stays x ≡ stays y
-
-  pub restricted : Nested kids up → Restricts → Nested kids' up'
-  restricted s r = record { down = down; listed = listed; once = once; ends = ends }
-    where
-      kid : (x : O) (i : ℕ) (c : O) → slice_get (kids' x) i ≡ Some c → (stays x ≡ true) × (slice_get (kids x) i ≡ Some c)
-      kid x i c e = go (stays x) refl
-        where
-          go : (b : Bool) → stays x ≡ b → (stays x ≡ true) × (slice_get (kids x) i ≡ Some c)
-          go true p = (p, rw (r.kept_kids x p) at e)
-          go false p = absurd (let k = ap (λ xs. slice_get xs i) (r.gone_kids x p) in cc)
-
-      above : (x y : O) → up' x ≡ Some y → (stays x ≡ true) × (up x ≡ Some y)
-      above x y e = go (stays x) refl
-        where
-          go : (b : Bool) → stays x ≡ b → (stays x ≡ true) × (up x ≡ Some y)
-          go true p = (p, sym (r.kept_up x p) ∙ e)
-          go false p = absurd (let k = r.gone_up x p in cc)
-
-      down : (x : O) (i : ℕ) (c : O) → slice_get (kids' x) i ≡ Some c → up' c ≡ Some x
-      down x i c e =
-          let k = kid x i c e in
-          let u = s.down x i c k.1 in
-          r.kept_up c (r.closed c x u ∙ k.0) ∙ u
-
-      listed : (c x : O) → up' c ≡ Some x → (i : ℕ) × (slice_get (kids' x) i ≡ Some c)
-      listed c x e =
-          let k = above c x e in
-          let o = s.listed c x k.1 in
-          (o.0, rw (r.kept_kids x (sym (r.closed c x k.1) ∙ k.0)) o.1)
-
-      once : (x : O) (i j : ℕ) (c : O) → slice_get (kids' x) i ≡ Some c → slice_get (kids' x) j ≡ Some c → i ≡ j
-      once x i j c e f = s.once x i j c (kid x i c e).1 (kid x j c f).1
-
-      ends : (x : O) → (n : ℕ) × (climb up' n (Some x) ≡ None)
-      ends x = let e = s.ends x in (e.0, go e.0 x e.1)
-        where
-          go : (n : ℕ) (x : O) → climb up n (Some x) ≡ None → climb up' n (Some x) ≡ None
-          go zero x e = absurd (cc)
-          go (suc n) x e = elim (seen (up' x)) [
-            | inl none ↦ ap (climb up' n) none ∙ climb-none up' n
-            | inr (y, f) ↦ let k = above x y f in ap (climb up' n) f ∙ go n y (ap (climb up n) (sym k.1) ∙ e)
-          ]

@@ -1,7 +1,7 @@
 -- Objects that are no older than a mark are taken out.
-use Rattle.std.proofs.Common.{◌≡◌, ◌≢◌, ◌≤◌, ◌∙◌, ◌⊎◌, inl, inr, ℕ, refl, sym, ap, cond, Option, Some, None, slice_get}
+use Rattle.std.proofs.Common.{◌≡◌, ◌∙◌, inl, inr, ℕ, refl, sym, ap, cond, Option, Some, None, slice_get}
 use Rattle.std.proofs.lemmas.Bool.{lt-ltb, le-ltb}
-use Rattle.irtext_graph.specs.Arena.{get, found, generation_at, born_in, older, AtLeast, HasFew, AreOlder, Updates, Sheds}
+use Rattle.irtext_graph.specs.Arena.{get, found, born_in, older, AtLeast, AreOlder, Sheds}
 use Rattle.irtext_graph.specs.Back.{ShedsAll}
 use Rattle.irtext_graph.specs.Log.{age}
 use Rattle.irtext_graph.specs.declared.arena.Arena.{Arena}
@@ -11,12 +11,8 @@ use Rattle.irtext_graph.specs.declared.object.Object.{Object}
 use Rattle.irtext_graph.specs.declared.object.Object.TheVariants.{TheOperation, TheBlock, TheRegion}
 use Rattle.irtext_graph.specs.declared.objects.Objects.{Objects}
 use Rattle.irtext_graph.proofs.Moves.{lower}
-use Rattle.irtext_graph.proofs.Pointers.{ptr_or}
 
 module _ {X : Type 0} where
-  pub sheds_self : (mark : ℕ) (a : Arena X) → Sheds mark a a
-  sheds_self mark a = record { at = λ i g. inl refl; generations = λ i. refl; few = λ f. f }
-
   pub sheds_on : (mark : ℕ) (a b c : Arena X) → Sheds mark a b → Sheds mark b c → Sheds mark a c
   sheds_on mark a b c s t = record {
     at = λ i g. elim (t.at i g) [
@@ -32,18 +28,6 @@ module _ {X : Type 0} where
     generations = λ i. t.generations i ∙ s.generations i;
     few = λ f. t.few (s.few f);
   }
-
-  -- one object was taken out
-  pub sheds_one : {K : Type 0} (mark born : ℕ) (a b : Arena X) (p : Ptr K) → born_in (get a p) ≡ Some born → mark ≤ born → Updates a b p None
-      → ((i : ℕ) → generation_at b i ≡ generation_at a i) → (HasFew a → HasFew b) → Sheds mark a b
-  sheds_one {K} mark born a b p e up u gens few = record { at = at; generations = gens; few = few }
-    where
-      at : (i g : ℕ) → (found (slice_get b.slots.items i) g ≡ found (slice_get a.slots.items i) g) ⊎ ((found (slice_get b.slots.items i) g ≡ None) × AtLeast mark (born_in (found (slice_get a.slots.items i) g)))
-      at i g = go (record { index = i; generation = g; of = p.of }) (ptr_or (record { index = i; generation = g; of = p.of }) p)
-        where
-          go : (q : Ptr K) → (q ≡ p) ⊎ (q ≢ p) → (get b q ≡ get a q) ⊎ ((get b q ≡ None) × AtLeast mark (born_in (get a q)))
-          go q (inr away) = inl (u.others q away)
-          go q (inl here) = inr (ap (get b) here ∙ u.changed, rw (here, e) up)
 
   -- who was no older before is no older after, or gone
   pub shed_age : (mark : ℕ) (a b : Arena X) → Sheds mark a b → (i g : ℕ) → AtLeast mark (born_in (found (slice_get b.slots.items i) g)) → AtLeast mark (born_in (found (slice_get a.slots.items i) g))
@@ -78,9 +62,6 @@ module _ {X : Type 0} where
   ]
 
 module _ {O B T : Type 0} where
-  pub sheds_all_self : (mark : ℕ) (x : Objects O B T) → ShedsAll mark x x
-  sheds_all_self mark x = record { operations = sheds_self mark x.operations; blocks = sheds_self mark x.blocks; regions = sheds_self mark x.regions }
-
   pub sheds_all_on : (mark : ℕ) (x y z : Objects O B T) → ShedsAll mark x y → ShedsAll mark y z → ShedsAll mark x z
   sheds_all_on mark x y z s t = record {
     operations = sheds_on mark x.operations y.operations z.operations s.operations t.operations;

@@ -1,6 +1,7 @@
 -- What is always true of the objects stays true.
 use Rattle.std.proofs.Common.{◌≡◌, ◌≢◌, ◌<◌, ◌+◌, ◌⊎◌, ◌∙◌, ℕ, refl, sym, ap, arith, inl, inr, Option, Some, None, [], map, length, slice_get}
 use Rattle.std.specs.Option.{option_map}
+use Rattle.irtext_graph.specs.ChildList.{listed}
 use Rattle.irtext_graph.specs.Arena.{get, found, HasFew, Inserts}
 use Rattle.irtext_graph.specs.declared.arena.Arena.{Arena}
 use Rattle.irtext_graph.specs.declared.arena.Entry.{Entry}
@@ -190,7 +191,7 @@ module _ {O B T : Type 0} where
     }
 
   -- a region came that stands nowhere and holds none
-  module _ (x : Objects O B T) (made : ℕ) (after : Arena (Nest Operation BasicBlock RegionData)) (p : Ptr Region) (e : Entry (Nest Operation BasicBlock RegionData)) (i : Inserts x.regions after p e) (none : e.content.parent ≡ None) (empty : e.content.children.items ≡ []) where
+  module _ (x : Objects O B T) (made : ℕ) (after : Arena (Nest Operation BasicBlock RegionData)) (p : Ptr Region) (e : Entry (Nest Operation BasicBlock RegionData)) (i : Inserts x.regions after p e) (none : e.content.parent ≡ None) (empty : listed e.content.children ≡ []) where
     abbrev with_region : Objects O B T
     with_region = record x { regions = after }
 
@@ -218,7 +219,7 @@ module _ {O B T : Type 0} where
     }
 
   -- a block came that stands nowhere, holds none and is used nowhere
-  module _ (x : Objects O B T) (made : ℕ) (after : Arena (Nest Region Operation (BlockData B T))) (p : Ptr BasicBlock) (e : Entry (Nest Region Operation (BlockData B T))) (i : Inserts x.blocks after p e) (none : e.content.parent ≡ None) (empty : e.content.children.items ≡ [])
+  module _ (x : Objects O B T) (made : ℕ) (after : Arena (Nest Region Operation (BlockData B T))) (p : Ptr BasicBlock) (e : Entry (Nest Region Operation (BlockData B T))) (i : Inserts x.blocks after p e) (none : e.content.parent ≡ None) (empty : listed e.content.children ≡ [])
       (unused : (j : ℕ) (u : Site) → first_of (slice_get e.content.data.arguments j) ≢ Some (Some u)) (no_preds : e.content.data.preds ≡ None) where
     abbrev with_block : Objects O B T
     with_block = record x { blocks = after }

@@ -1,5 +1,6 @@
 -- What an object is, apart from its place in the forest and from any links.
 use Rattle.std.specs.Prelude.{ℕ, List, Option, map}
+use Rattle.irtext_graph.specs.ChildList.{listed}
 use Rattle.irtext_graph.specs.declared.arena.Arena.{Arena}
 use Rattle.irtext_graph.specs.declared.nest.Nest.{Nest}
 use Rattle.irtext_graph.specs.Store.{Store, store_of}
@@ -66,7 +67,7 @@ pub record Node (P C E : Type 0) : Type 0 where
 
 -- an object without the room of its list, with its data as `see` shows it
 abbrev pub node_of : {P C D E : Type 0} → (D → E) → Nest P C D → Node P C E
-node_of see n = record { parent = n.parent; children = n.children.items; content = see n.data }
+node_of see n = record { parent = n.parent; children = listed n.children; content = see n.data }
 
 -- the objects of an arena with their places in the forest, and with all that they hold
 abbrev pub nodes : {P C D : Type 0} → Arena (Nest P C D) → Store (Node P C D)

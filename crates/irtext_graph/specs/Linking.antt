@@ -1,5 +1,6 @@
 -- New uses, which are in no use list yet, new values, which nothing uses, and new operations, which have both.
 use Rattle.std.specs.Prelude.{◌≡◌, ◌≢◌, ℕ, List, [], map, Some, None, false, slice_get}
+use Rattle.irtext_graph.specs.ChildList.{listed}
 use Rattle.irtext_graph.specs.declared.arena.Ptr.{Ptr}
 use Rattle.irtext_graph.specs.declared.nest.Nest.{Nest}
 use Rattle.irtext_graph.specs.declared.object.Operation.{Operation}
@@ -35,7 +36,7 @@ pub record Defines {T : Type 0} (ds : List (Definition T)) (types : List T) (fro
 pub record IsBlank {O T : Type 0} (n : Nest BasicBlock Region (OperationData O T)) (value : O) (types : List T) (from : ℕ)
     (operands : List Value) (successors : List (Ptr BasicBlock)) : Type 0 where
   pub parent : n.parent ≡ None
-  pub children : n.children.items ≡ []
+  pub children : listed n.children ≡ []
   pub value_is : n.data.data ≡ value
   pub operand_uses : n.data.operands ≡ map unlinked operands
   pub successor_uses : n.data.successors ≡ map unlinked successors

@@ -1,5 +1,6 @@
 -- What an arena of nested objects holds under its pointers.
 use Rattle.std.specs.Prelude.{ℕ, List, [], length, Option, Some, None, sum_by}
+use Rattle.irtext_graph.specs.ChildList.{listed}
 use Rattle.irtext_graph.specs.declared.arena.Slot.{Slot}
 use Rattle.irtext_graph.specs.declared.arena.Slot.TheVariants.{Vacant, Full}
 use Rattle.irtext_graph.specs.declared.arena.Entry.{Entry}
@@ -17,7 +18,7 @@ module _ {P C D : Type 0} where
   -- what stands in an object, in order, where there is one
   abbrev pub children_in : Option (Entry (Nest P C D)) → List (Ptr C)
   children_in None = []
-  children_in (Some x) = x.content.children.items
+  children_in (Some x) = listed x.content.children
 
   -- how many objects were made before an object, and its data
   abbrev pub datum_in : Option (Entry (Nest P C D)) → Option (ℕ × D)
@@ -39,7 +40,7 @@ module _ {P C D : Type 0} where
   -- how many children the object of a place has
   abbrev pub size : Slot (Nest P C D) → ℕ
   size (Vacant _ _) = 0
-  size (Full _ x) = length x.content.children.items
+  size (Full _ x) = length (listed x.content.children)
 
   -- how many children there are in all
   abbrev pub links : Arena (Nest P C D) → ℕ

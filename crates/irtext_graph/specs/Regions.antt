@@ -1,11 +1,11 @@
 -- Regions that come last into operations as they are made.
-use Rattle.std.specs.Prelude.{◌≡◌, ◌<◌, ◌+◌, ◌++◌, ◌∷◌, [], Option, Some, None}
-use Rattle.std.specs.Vec.{vec_len, vec_capacity}
+use Rattle.std.specs.Prelude.{◌≡◌, ◌+◌, ◌++◌, ◌∷◌, [], Option, Some, None}
 use Rattle.irtext_graph.specs.declared.arena.Entry.{Entry}
 use Rattle.irtext_graph.specs.declared.arena.Ptr.{Ptr}
 use Rattle.irtext_graph.specs.declared.nest.Nest.{Nest}
 use Rattle.irtext_graph.specs.declared.object.Operation.{Operation}
 use Rattle.irtext_graph.specs.declared.object.Region.{Region}
+use Rattle.irtext_graph.specs.ChildList.{HasPlace}
 use Rattle.irtext_graph.specs.Store.{Inserts, Edits}
 use Rattle.irtext_graph.specs.Content.{Node}
 use Rattle.irtext_graph.specs.Graph.{GraphView}
@@ -13,7 +13,7 @@ use Rattle.irtext_graph.specs.Graph.{GraphView}
 -- an object is there, and has room for one more child
 abbrev pub HasRoom : {P C D : Type 0} → Option (Entry (Nest P C D)) → Type 0
 HasRoom None = ⊥
-HasRoom (Some e) = vec_len e.content.children < vec_capacity e.content.children
+HasRoom (Some e) = HasPlace e.content.children
 
 -- an object's node with another child, which comes last
 abbrev pub with_child : {P C E : Type 0} → Ptr C → Node P C E → Node P C E

@@ -3,6 +3,7 @@
 
 pub mod arena;
 mod back;
+mod child_list;
 mod erasing;
 mod forest;
 pub mod graph;

@@ -2,11 +2,13 @@
 ghost use Rattle.std.specs.Prelude.{◌≡◌, ◌≢◌, ◌≤◌, ◌+◌, ◌++◌, ◌∷◌, ℕ, Some, None, [], IsSome, IfOk, OnOk, OnErr, length, slice_get};
 ghost use Rattle.irtext_graph.specs.Graph.{MakesRegion, MakesBlock, MakesOperation, KeepsOlder, Stands};
 ghost use Rattle.irtext_graph.specs.Parts.{ValueStands};
+ghost use Rattle.irtext_graph.specs.ChildList.{listed};
 ghost use Rattle.irtext_graph.specs.Linking.{Defines};
 ghost use Rattle.irtext_graph.specs.Regions.{HasRoom, with_child, AddsRegion};
 ghost use Rattle.irtext_graph.specs.Store.{Edits, before};
 
 use crate::arena::{Arena, Ptr};
+use crate::child_list::ChildList;
 use crate::graph::Graph;
 use crate::linking::{Side, unlinked_uses};
 use crate::log::{make_room, note};
@@ -77,7 +79,7 @@ fn blank_operation<O: Drop, T: Drop>(
     successors: Few<Use<Ptr<BasicBlock>>>,
 ) -> Nest<BasicBlock, Region, OperationData<O, T>>
     ensures parent { result.parent ≡ None }
-    ensures children { result.children.items ≡ [] }
+    ensures children { listed result.children ≡ [] }
     ensures value { result.data.data ≡ value }
     ensures operands { result.data.operands ≡ operands }
     ensures successors { result.data.successors ≡ successors }
@@ -85,7 +87,7 @@ fn blank_operation<O: Drop, T: Drop>(
 {
     Nest {
         parent: None,
-        children: Vec::new(alloc),
+        children: ChildList::new(alloc),
         noted: 0,
         data: OperationData {
             data: value,
@@ -113,7 +115,7 @@ impl<O: Drop, T: Drop> Arena<Nest<BasicBlock, Region, OperationData<O, T>>> {
         ensures places { KeepsPlaces self.old self.new }
         ensures seen { seen self.new ≡ seen self.old }
     {
-        self.content_mut(p).children.reserve(1)
+        self.content_mut(p).children.make_room()
     }
 
     /// Puts a region last into an operation's list. There is room for it.
@@ -126,10 +128,7 @@ impl<O: Drop, T: Drop> Arena<Nest<BasicBlock, Region, OperationData<O, T>>> {
         ensures places { KeepsPlaces self.old self.new }
         ensures edits { Edits (seen self.old) (seen self.new) p (with_child r) }
     {
-        match self.content_mut(p).children.push(r) {
-            Ok(()) => (),
-            Err(_) => unreachable!(),
-        }
+        self.content_mut(p).children.push_reserved(r);
     }
 }
 
@@ -151,7 +150,7 @@ impl<O: Drop, B: Drop, T: Drop> Graph<O, B, T> {
         }
         let region = Nest {
             parent: None,
-            children: Vec::new(self.alloc),
+            children: ChildList::new(self.alloc),
             noted: 0,
             data: RegionData {},
         };
@@ -178,7 +177,7 @@ impl<O: Drop, B: Drop, T: Drop> Graph<O, B, T> {
         self.objects.operations.make_region_room(op)?;
         let region = Nest {
             parent: Some(op),
-            children: Vec::new(self.alloc),
+            children: ChildList::new(self.alloc),
             noted: self.objects.operations.child_count(op),
             data: RegionData {},
         };
@@ -209,7 +208,7 @@ impl<O: Drop, B: Drop, T: Drop> Graph<O, B, T> {
         let arguments = definitions(self.alloc, types, values)?;
         let block = Nest {
             parent: None,
-            children: Vec::new(self.alloc),
+            children: ChildList::new(self.alloc),
             noted: 0,
             data: BlockData {
                 data: value,

@@ -2,13 +2,14 @@
 ghost use Rattle.std.specs.Prelude.{◌≡◌, ◌≢◌, ◌<◌, ◌≤◌, ◌+◌, ◌++◌, ◌∷◌, ℕ, Some, None, [], IsSome, OnOk, OnErr, length, slice_get};
 
 use crate::arena::{Arena, Ptr};
+use crate::child_list::ChildList;
 use std::alloc::AllocError;
 
 /// An object's parent, of kind P, its children in order, of kind C, and its data.
 #[derive(Drop)]
 pub(crate) struct Nest<P, C, D> {
     pub(crate) parent: Option<Ptr<P>>,
-    pub(crate) children: Vec<Ptr<C>>,
+    pub(crate) children: ChildList<C>,
     // the index in the parent's list as it was noted last: it is tried first, and nothing rests on it
     pub(crate) noted: usize,
     pub(crate) data: D,
@@ -92,7 +93,7 @@ impl<P, C, D: Drop> Arena<Nest<P, C, D>> {
         requires within { i < length (kids self.now p) }
         ensures { slice_get (kids self.now p) i ≡ Some result }
     {
-        self.content(p).children[i]
+        self.content(p).children.at(i)
     }
 
     /// Takes the child at an index out of an object's list.

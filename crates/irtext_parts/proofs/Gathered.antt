@@ -43,14 +43,6 @@ module _ {X : Type 0} where
   pub none_gathered : {Allows : ℕ → X → Type 0} (xs : List X) → xs ≡ [] → AreGathered Allows 0 xs
   none_gathered xs none = rw none (record { count = refl; each = λ i x e. absurd (cc) })
 
-  -- one more item was pushed
-  pub next_gathered : {Allows : ℕ → X → Type 0} (n : ℕ) (xs new : List X) (x : X) → new ≡ xs ++ x ∷ [] → AreGathered Allows n xs → Allows n x → AreGathered Allows (n + 1) new
-  next_gathered {Allows} n xs new x e so allowed = rw e (record {
-    count = length-append xs (x ∷ []) ∙ ap (λ k. k + 1) so.count;
-    each = λ i y at. elim (at_pushed xs x i y at) [
-      | inl there ↦ so.each i y there
-      | inr last ↦ subst (λ z. Allows i z) last.1 (subst (λ k. Allows k x) (sym (last.0 ∙ so.count)) allowed)
-    ];
   })
 
 -- what is seen of the items is a list, where what is seen of each stands there at its index

@@ -46,7 +46,7 @@ invariant_of-self-2 g c =
     let e = c.in_ok-p.ensures in
     let r : Roomier x c.make_region_room.new.self = record { ups = s.ups; lists = s.kids; all_data = s.«data»; places = s.places } in
     let grown = grown_in x c.make_region_room.new.self c.push_region.new.self c.args.op c.in_ok-p.p r (record { here = t.here; others = t.others; ups = t.ups; all_data = t.«data»; places = t.places }) in
-    added_kept x c.self.inside.made c.push_region.new.self c.insert.new.self c.args.op c.in_ok-p.p _ grown e.inserts refl c.new.ensures.items c.self.inside.counters c.self.inside.log.items c.note.new.log.items
+    added_kept x c.self.inside.made c.push_region.new.self c.insert.new.self c.args.op c.in_ok-p.p _ grown e.inserts refl c.new.ensures c.self.inside.counters c.self.inside.log.items c.note.new.log.items
     (noted_list c.self.inside.log.items c.make_room.new.log.items c.note.new.log.items _ c.make_room.ensures.same c.note.ensures) refl (e.few c.self.invariant.sound.few_regions) c.self.invariant
 
 pub returns-clause-added : goal.returns-clause-added
@@ -57,7 +57,7 @@ returns-clause-added g c =
     let r : Roomier x c.make_region_room.new.self = record { ups = s.ups; lists = s.kids; all_data = s.«data»; places = s.places } in
     let grown = grown_in x c.make_region_room.new.self c.push_region.new.self c.args.op c.in_ok-p.p r (record { here = t.here; others = t.others; ups = t.ups; all_data = t.«data»; places = t.places }) in
     rw (← c.self.view_is)
-    (adds_seen x c.self.inside.made c.push_region.new.self c.insert.new.self c.args.op c.in_ok-p.p _ grown c.in_ok-p.ensures.inserts refl c.new.ensures.items c.self.inside.counters refl
+    (adds_seen x c.self.inside.made c.push_region.new.self c.insert.new.self c.args.op c.in_ok-p.p _ grown c.in_ok-p.ensures.inserts refl c.new.ensures c.self.inside.counters refl
     (subst (λ z. Edits z (operations_seen c.push_region.new.self) c.args.op (with_child c.in_ok-p.p)) s.seen t.edits))
 
 pub returns-clause-kept : goal.returns-clause-kept

@@ -26,17 +26,17 @@ pub invariant_of-self-2 : goal.invariant_of-self-2
 invariant_of-self-2 g c =
     let e = c.in_ok-p.ensures in
     record {
-      sound = sound_block c.self.inside.objects c.self.inside.made c.insert.new.self c.in_ok-p.p _ e.inserts refl c.new.ensures.items c.in_ok-arguments.ensures.unused refl c.self.invariant.sound (omega arith) (e.few c.self.invariant.sound.few_blocks);
+      sound = sound_block c.self.inside.objects c.self.inside.made c.insert.new.self c.in_ok-p.p _ e.inserts refl c.new.ensures c.in_ok-arguments.ensures.unused refl c.self.invariant.sound (omega arith) (e.few c.self.invariant.sound.few_blocks);
       logged = block_noted c.self.inside.made c.self.inside.log.items c.note.new.log.items c.self.inside.objects c.insert.new.self c.in_ok-p.p _ (noted_list c.self.inside.log.items c.make_room.new.log.items c.note.new.log.items _ c.make_room.ensures.same c.note.ensures) c.self.invariant.logged e.inserts.updates refl;
       numbered = block_numbers _ _ c.in_ok-p.p c.args.value c.args.types
-          (block_made c.self.inside.made c.self.inside.counters c.in-Some.next c.self.inside.objects c.insert.new.self c.in_ok-p.p _ c.args.value c.args.types e.inserts refl refl c.new.ensures.items refl
+          (block_made c.self.inside.made c.self.inside.counters c.in-Some.next c.self.inside.objects c.insert.new.self c.in_ok-p.p _ c.args.value c.args.types e.inserts refl refl c.new.ensures refl
           c.in_ok-arguments.ensures.values (omega (arith, c.in-Some.ensures.1, c.len.ensures)))
           c.self.invariant.numbered;
     }
 
 pub returns-clause-made : goal.returns-clause-made
 returns-clause-made g c =
-    rw (← c.self.view_is) (block_made c.self.inside.made c.self.inside.counters c.in-Some.next c.self.inside.objects c.insert.new.self c.in_ok-p.p _ c.args.value c.args.types c.in_ok-p.ensures.inserts refl refl c.new.ensures.items refl
+    rw (← c.self.view_is) (block_made c.self.inside.made c.self.inside.counters c.in-Some.next c.self.inside.objects c.insert.new.self c.in_ok-p.p _ c.args.value c.args.types c.in_ok-p.ensures.inserts refl refl c.new.ensures refl
     c.in_ok-arguments.ensures.values (omega (arith, c.in-Some.ensures.1, c.len.ensures)))
 
 pub returns-clause-kept : goal.returns-clause-kept

@@ -24,13 +24,13 @@ pub invariant_of-self-2 : goal.invariant_of-self-2
 invariant_of-self-2 g c =
     let e = c.in_ok-p.ensures in
     record {
-      sound = sound_region c.self.inside.objects c.self.inside.made c.insert.new.self c.in_ok-p.p _ e.inserts refl c.new.ensures.items c.self.invariant.sound (omega arith) (e.few c.self.invariant.sound.few_regions);
+      sound = sound_region c.self.inside.objects c.self.inside.made c.insert.new.self c.in_ok-p.p _ e.inserts refl c.new.ensures c.self.invariant.sound (omega arith) (e.few c.self.invariant.sound.few_regions);
       logged = region_noted c.self.inside.made c.self.inside.log.items c.note.new.log.items c.self.inside.objects c.insert.new.self c.in_ok-p.p _ (noted_list c.self.inside.log.items c.make_room.new.log.items c.note.new.log.items _ c.make_room.ensures.same c.note.ensures) c.self.invariant.logged e.inserts.updates refl;
       numbered = record { below = c.self.invariant.numbered.below; differ = c.self.invariant.numbered.differ };
     }
 
 pub returns-clause-made : goal.returns-clause-made
-returns-clause-made g c = rw (← c.self.view_is) (region_made c.self.inside.made c.self.inside.counters c.self.inside.objects c.insert.new.self c.in_ok-p.p _ c.in_ok-p.ensures.inserts refl refl c.new.ensures.items)
+returns-clause-made g c = rw (← c.self.view_is) (region_made c.self.inside.made c.self.inside.counters c.self.inside.objects c.insert.new.self c.in_ok-p.p _ c.in_ok-p.ensures.inserts refl refl c.new.ensures)
 
 pub returns-clause-kept : goal.returns-clause-kept
 returns-clause-kept g c = λ m up. region-keeps m _ _ c.in_ok-p.p up (returns-clause-made g c)

@@ -1,5 +1,6 @@
 use Rattle.std.proofs.Common.{ap}
 use Rattle.irtext_graph.specs.Content.{operation_content, node_of}
+use Rattle.irtext_graph.proofs.Arenas.{places_kept}
 use Rattle.irtext_graph.proofs.Stores.{content_same}
 use Rattle.irtext_graph.proofs.making.Arena+Nest+BasicBlock+Region+OperationData+O+T.make_region_room.Goals as goal
 
@@ -7,4 +8,7 @@ pub returns-clause-seen : goal.returns-clause-seen
 returns-clause-seen g c =
     let x = c.content_mut.result.now in
     content_same (node_of operation_content) c.args.self.now c.args.p x _ c.content_mut.ensures.value
-    (ap (λ cs. record { parent = x.parent; children = cs; content = operation_content x.data }) c.reserve.ensures.items)
+    (ap (λ cs. record { parent = x.parent; children = cs; content = operation_content x.data }) c.make_room.ensures.same)
+
+pub returns-clause-places : goal.returns-clause-places
+returns-clause-places g c = places_kept c.args.self.now c.args.p c.content_mut.result.now _ c.content_mut.ensures.value

@@ -1,6 +1,7 @@
 use Rattle.std.proofs.Common.{ap}
 use Rattle.irtext_graph.specs.Content.{operation_content, node_of}
 use Rattle.irtext_graph.specs.Regions.{with_child}
+use Rattle.irtext_graph.proofs.Arenas.{places_kept}
 use Rattle.irtext_graph.proofs.Stores.{content_edits}
 use Rattle.irtext_graph.proofs.making.Arena+Nest+BasicBlock+Region+OperationData+O+T.push_region.Goals as goal
 
@@ -8,4 +9,7 @@ pub returns-clause-edits : goal.returns-clause-edits
 returns-clause-edits g c =
     let x = c.content_mut.result.now in
     content_edits (node_of operation_content) (with_child c.args.r) c.args.self.now c.args.p x _ c.content_mut.ensures.value
-    (ap (λ cs. record { parent = x.parent; children = cs; content = operation_content x.data }) c.in-Ok.ensures.items)
+    (ap (λ cs. record { parent = x.parent; children = cs; content = operation_content x.data }) c.push_reserved.ensures)
+
+pub returns-clause-places : goal.returns-clause-places
+returns-clause-places g c = places_kept c.args.self.now c.args.p c.content_mut.result.now _ c.content_mut.ensures.value

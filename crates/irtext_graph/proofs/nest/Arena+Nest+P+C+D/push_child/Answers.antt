@@ -33,4 +33,4 @@ pub returns-in-Err-clause-refused : goal.returns-in-Err-clause-refused
 returns-in-Err-clause-refused g c =
     let x = c.content_mut.result.now in
     content_same (node_of (λ d. d)) c.args.self.now c.args.p x _ c.content_mut.ensures.value
-    (ap (λ cs. record { parent = x.parent; children = cs; content = x.data }) c.in-Err.ensures.items)
+    (ap (λ cs. record { parent = x.parent; children = cs; content = x.data }) c.in-Err.ensures.err)

@@ -1,4 +1,5 @@
 use Rattle.std.proofs.Common.{◌≡◌, ap, arith, refl, length}
+use Rattle.irtext_graph.specs.ChildList.{listed}
 use Rattle.irtext_graph.specs.Nest.{kids, children_in, parent_in, datum_in}
 use Rattle.irtext_graph.proofs.Arenas.{replaced, same_view, places_kept, stood}
 use Rattle.irtext_graph.proofs.Children.{links_with}
@@ -22,7 +23,7 @@ returns-clause-less g c =
     let x = c.content_mut.result.now in
     let k = links_with c.args.self.now c.args.p x (record x { children = c.remove.new.self }) c.content_mut.ensures.value in
     let r = stood c.args.self.now c.args.p x c.content_mut.ensures.value in
-    let here : length (kids c.args.self.now c.args.p) ≡ length x.children.items = ap (λ e. length (children_in e)) r.1 in
-    let n = length-remove x.children.items c.args.i (omega (arith, here, c.requires.within)) in
-    let m = ap length c.remove.ensures.items in
+    let here : length (kids c.args.self.now c.args.p) ≡ length (listed x.children) = ap (λ e. length (children_in e)) r.1 in
+    let n = length-remove (listed x.children) c.args.i (omega (arith, here, c.requires.within)) in
+    let m = ap length c.remove.ensures in
     omega (arith, k, n, m)
