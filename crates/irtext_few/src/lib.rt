@@ -1,6 +1,8 @@
 //! Lists that are mostly short: up to two items stand in place, and more in a vector.
 #![tactic(auto)]
 
+pub mod growing;
+
 ghost use Rattle.std.specs.Prelude.{◌≡◌, ◌<◌, ◌∷◌, [], length, slice_index_or, slice_set};
 ghost use Rattle.std.specs.Borrow.{Lends, sem};
 

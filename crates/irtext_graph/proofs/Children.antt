@@ -1,7 +1,7 @@
 -- Sums over all objects, when one has another content.
 use Rattle.std.proofs.Common.{◌≡◌, ◌+◌, ◌∙◌, ℕ, zero, suc, refl, ap, arith, Option, Some, None, List, [], ◌∷◌, length, slice_get, set, get_or, sum_by, option_map}
 use Rattle.std.proofs.lemmas.List.Sums.{sum_by-set}
-use Rattle.irtext_graph.specs.ChildList.{listed}
+use Rattle.irtext_few.specs.Growing.{listed}
 use Rattle.irtext_graph.specs.declared.arena.Arena.{Arena}
 use Rattle.irtext_graph.specs.declared.arena.Entry.{Entry}
 use Rattle.irtext_graph.specs.declared.arena.Ptr.{Ptr}

@@ -2,7 +2,7 @@
 use Rattle.std.proofs.Common.{◌≡◌, ◌≢◌, ◌<◌, ◌+◌, ◌⊎◌, ◌∙◌, ◌∷◌, ℕ, refl, sym, ap, subst, arith, inl, inr, Option, Some, None, List, [], zero, suc, map, length, slice_get, IsSome}
 use Rattle.std.specs.Option.{option_map}
 use Rattle.std.proofs.lemmas.Option.{slice_get-map}
-use Rattle.irtext_graph.specs.ChildList.{listed}
+use Rattle.irtext_few.specs.Growing.{listed}
 use Rattle.irtext_graph.specs.Arena.{get, HasFew, Inserts}
 use Rattle.irtext_graph.specs.declared.arena.Arena.{Arena}
 use Rattle.irtext_graph.specs.declared.arena.Entry.{Entry}

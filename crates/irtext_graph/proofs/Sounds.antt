@@ -1,7 +1,7 @@
 -- What is always true of the objects stays true.
 use Rattle.std.proofs.Common.{◌≡◌, ◌≢◌, ◌<◌, ◌+◌, ◌⊎◌, ◌∙◌, ℕ, refl, sym, ap, arith, inl, inr, Option, Some, None, [], map, length, slice_get}
 use Rattle.std.specs.Option.{option_map}
-use Rattle.irtext_graph.specs.ChildList.{listed}
+use Rattle.irtext_few.specs.Growing.{listed}
 use Rattle.irtext_graph.specs.Arena.{get, found, HasFew, Inserts}
 use Rattle.irtext_graph.specs.declared.arena.Arena.{Arena}
 use Rattle.irtext_graph.specs.declared.arena.Entry.{Entry}

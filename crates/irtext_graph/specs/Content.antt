@@ -1,6 +1,6 @@
 -- What an object is, apart from its place in the forest and from any links.
 use Rattle.std.specs.Prelude.{ℕ, List, Option, map}
-use Rattle.irtext_graph.specs.ChildList.{listed}
+use Rattle.irtext_few.specs.Growing.{listed}
 use Rattle.irtext_graph.specs.declared.arena.Arena.{Arena}
 use Rattle.irtext_graph.specs.declared.nest.Nest.{Nest}
 use Rattle.irtext_graph.specs.Store.{Store, store_of}

@@ -1,6 +1,5 @@
 pub mod Arena
 pub mod Store
-pub mod ChildList
 pub mod Nest
 pub mod Nested
 pub mod Content

@@ -1,6 +1,6 @@
 -- What an arena of nested objects holds under its pointers.
 use Rattle.std.specs.Prelude.{ℕ, List, [], length, Option, Some, None, sum_by}
-use Rattle.irtext_graph.specs.ChildList.{listed}
+use Rattle.irtext_few.specs.Growing.{listed}
 use Rattle.irtext_graph.specs.declared.arena.Slot.{Slot}
 use Rattle.irtext_graph.specs.declared.arena.Slot.TheVariants.{Vacant, Full}
 use Rattle.irtext_graph.specs.declared.arena.Entry.{Entry}

@@ -5,7 +5,7 @@ use Rattle.irtext_graph.specs.declared.arena.Ptr.{Ptr}
 use Rattle.irtext_graph.specs.declared.nest.Nest.{Nest}
 use Rattle.irtext_graph.specs.declared.object.Operation.{Operation}
 use Rattle.irtext_graph.specs.declared.object.Region.{Region}
-use Rattle.irtext_graph.specs.ChildList.{HasPlace}
+use Rattle.irtext_few.specs.Growing.{HasPlace}
 use Rattle.irtext_graph.specs.Store.{Inserts, Edits}
 use Rattle.irtext_graph.specs.Content.{Node}
 use Rattle.irtext_graph.specs.Graph.{GraphView}

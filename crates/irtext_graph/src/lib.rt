@@ -3,7 +3,6 @@
 
 pub mod arena;
 mod back;
-mod child_list;
 mod erasing;
 mod forest;
 pub mod graph;

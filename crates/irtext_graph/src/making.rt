@@ -2,19 +2,19 @@
 ghost use Rattle.std.specs.Prelude.{◌≡◌, ◌≢◌, ◌≤◌, ◌+◌, ◌++◌, ◌∷◌, ℕ, Some, None, [], IsSome, IfOk, OnOk, OnErr, length, slice_get};
 ghost use Rattle.irtext_graph.specs.Graph.{MakesRegion, MakesBlock, MakesOperation, KeepsOlder, Stands};
 ghost use Rattle.irtext_graph.specs.Parts.{ValueStands};
-ghost use Rattle.irtext_graph.specs.ChildList.{listed};
+ghost use Rattle.irtext_few.specs.Growing.{listed};
 ghost use Rattle.irtext_graph.specs.Linking.{Defines};
 ghost use Rattle.irtext_graph.specs.Regions.{HasRoom, with_child, AddsRegion};
 ghost use Rattle.irtext_graph.specs.Store.{Edits, before};
 
 use crate::arena::{Arena, Ptr};
-use crate::child_list::ChildList;
 use crate::graph::Graph;
 use crate::linking::{Side, unlinked_uses};
 use crate::log::{make_room, note};
 use crate::nest::Nest;
 use crate::object::{BasicBlock, Object, Operation, Region, Value};
 use crate::objects::{BlockData, Definition, OperationData, RegionData, Use};
+use irtext_few::growing::Growing;
 use irtext_few::{Few, Items};
 use std::alloc::{AllocError, Global};
 
@@ -87,7 +87,7 @@ fn blank_operation<O: Drop, T: Drop>(
 {
     Nest {
         parent: None,
-        children: ChildList::new(alloc),
+        children: Growing::new(alloc),
         noted: 0,
         data: OperationData {
             data: value,
@@ -150,7 +150,7 @@ impl<O: Drop, B: Drop, T: Drop> Graph<O, B, T> {
         }
         let region = Nest {
             parent: None,
-            children: ChildList::new(self.alloc),
+            children: Growing::new(self.alloc),
             noted: 0,
             data: RegionData {},
         };
@@ -177,7 +177,7 @@ impl<O: Drop, B: Drop, T: Drop> Graph<O, B, T> {
         self.objects.operations.make_region_room(op)?;
         let region = Nest {
             parent: Some(op),
-            children: ChildList::new(self.alloc),
+            children: Growing::new(self.alloc),
             noted: self.objects.operations.child_count(op),
             data: RegionData {},
         };
@@ -208,7 +208,7 @@ impl<O: Drop, B: Drop, T: Drop> Graph<O, B, T> {
         let arguments = definitions(self.alloc, types, values)?;
         let block = Nest {
             parent: None,
-            children: ChildList::new(self.alloc),
+            children: Growing::new(self.alloc),
             noted: 0,
             data: BlockData {
                 data: value,

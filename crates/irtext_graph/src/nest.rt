@@ -2,14 +2,14 @@
 ghost use Rattle.std.specs.Prelude.{◌≡◌, ◌≢◌, ◌<◌, ◌≤◌, ◌+◌, ◌++◌, ◌∷◌, ℕ, Some, None, [], IsSome, OnOk, OnErr, length, slice_get};
 
 use crate::arena::{Arena, Ptr};
-use crate::child_list::ChildList;
+use irtext_few::growing::Growing;
 use std::alloc::AllocError;
 
 /// An object's parent, of kind P, its children in order, of kind C, and its data.
 #[derive(Drop)]
 pub(crate) struct Nest<P, C, D> {
     pub(crate) parent: Option<Ptr<P>>,
-    pub(crate) children: ChildList<C>,
+    pub(crate) children: Growing<Ptr<C>>,
     // the index in the parent's list as it was noted last: it is tried first, and nothing rests on it
     pub(crate) noted: usize,
     pub(crate) data: D,

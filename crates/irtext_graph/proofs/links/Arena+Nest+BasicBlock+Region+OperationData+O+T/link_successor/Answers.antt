@@ -1,5 +1,5 @@
 use Rattle.std.proofs.Common.{ap, map}
-use Rattle.irtext_graph.specs.ChildList.{listed}
+use Rattle.irtext_few.specs.Growing.{listed}
 use Rattle.irtext_graph.specs.Content.{operation_content, node_of, typed}
 use Rattle.std.proofs.Math.Seq.{map-set_same}
 use Rattle.irtext_graph.proofs.Stores.{content_same}

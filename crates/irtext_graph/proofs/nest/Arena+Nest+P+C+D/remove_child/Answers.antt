@@ -1,5 +1,5 @@
 use Rattle.std.proofs.Common.{◌≡◌, ap, arith, refl, length}
-use Rattle.irtext_graph.specs.ChildList.{listed}
+use Rattle.irtext_few.specs.Growing.{listed}
 use Rattle.irtext_graph.specs.Nest.{kids, children_in, parent_in, datum_in}
 use Rattle.irtext_graph.proofs.Arenas.{replaced, same_view, places_kept, stood}
 use Rattle.irtext_graph.proofs.Children.{links_with}

@@ -1,7 +1,7 @@
 use Rattle.std.proofs.Common.{◌≡◌, ◌∙◌, ◌<◌, ◌⊎◌, inl, inr, true, sym, true≢false, []}
 use Rattle.std.specs.Vec.{vec_len, vec_capacity}
-use Rattle.irtext_graph.specs.ChildList.{listed}
-use Rattle.irtext_graph.proofs.child_list.ChildList.push_reserved.Goals as goal
+use Rattle.irtext_few.specs.Growing.{listed}
+use Rattle.irtext_few.proofs.growing.Growing.push_reserved.Goals as goal
 
 pub push_reserved-requires : goal.push_reserved-requires
 push_reserved-requires g c = go c.requires

@@ -1,38 +1,38 @@
-//! The children of an object in order: the first is held in place, the others in a vector, so that one child takes no memory.
+//! A list that items are put into and taken out of: its first item is held in place, the others in a vector, so that one item takes no
+//! memory.
 ghost use Rattle.std.specs.Prelude.{◌≡◌, ◌<◌, ◌++◌, ◌∷◌, [], Some, IsTrue, OnOk, OnErr, length, slice_get, ◌↔◌};
 ghost use Rattle.std.specs.List.{remove};
-ghost use Rattle.irtext_graph.specs.ChildList.{listed, HasPlace};
+ghost use Rattle.irtext_few.specs.Growing.{listed, HasPlace};
 
-use crate::arena::Ptr;
 use std::alloc::{AllocError, Global};
 
-/// Children in order. Where none is held in place, the first of the vector is the first of all.
+/// A list. Where no item is held in place, the first of the vector is the first of all.
 #[derive(Drop)]
-pub(crate) struct ChildList<C> {
-    pub(crate) first: Option<Ptr<C>>,
-    pub(crate) more: Vec<Ptr<C>>,
+pub struct Growing<X> {
+    pub first: Option<X>,
+    pub more: Vec<X>,
 }
 
-impl<C> ChildList<C> {
-    /// No children.
-    pub(crate) fn new(alloc: Global) -> ChildList<C>
+impl<X: Copy> Growing<X> {
+    /// No items. They take no memory.
+    pub fn new(alloc: Global) -> Growing<X>
         ensures { listed result ≡ [] }
     {
-        ChildList {
+        Growing {
             first: None,
             more: Vec::new(alloc),
         }
     }
 
-    /// Whether there is no child.
+    /// Whether there is no item.
     fn is_empty(&self) -> bool
         ensures { IsTrue result ↔ (listed self.now ≡ []) }
     {
         self.first.is_none() && self.more.is_empty()
     }
 
-    /// How many children there are.
-    pub(crate) fn len(&self) -> usize
+    /// How many items there are.
+    pub fn len(&self) -> usize
         ensures { result ≡ length (listed self.now) }
     {
         match self.first {
@@ -41,8 +41,8 @@ impl<C> ChildList<C> {
         }
     }
 
-    /// The child at an index.
-    pub(crate) fn at(&self, index: usize) -> Ptr<C>
+    /// The item at an index.
+    pub fn at(&self, index: usize) -> X
         requires { index < length (listed self.now) }
         ensures { slice_get (listed self.now) index ≡ Some result }
     {
@@ -55,8 +55,8 @@ impl<C> ChildList<C> {
         self.more[index - 1]
     }
 
-    /// Makes room for one more child.
-    pub(crate) fn make_room(&mut self) -> Result<(), AllocError>
+    /// Makes room for one more item. Where memory is refused nothing changes.
+    pub fn make_room(&mut self) -> Result<(), AllocError>
         ensures same { listed self.new ≡ listed self.old }
         ensures room { OnOk result (HasPlace self.new) }
     {
@@ -69,35 +69,35 @@ impl<C> ChildList<C> {
         }
     }
 
-    /// Puts a child last. There is room for it.
-    pub(crate) fn push_reserved(&mut self, c: Ptr<C>)
+    /// Puts an item last. There is room for it.
+    pub fn push_reserved(&mut self, x: X)
         requires { HasPlace self.old }
-        ensures { listed self.new ≡ listed self.old ++ c ∷ [] }
+        ensures { listed self.new ≡ listed self.old ++ x ∷ [] }
     {
         if self.is_empty() {
-            self.first = Some(c);
+            self.first = Some(x);
             return;
         }
-        self.more.push_reserved(c);
+        self.more.push_reserved(x);
     }
 
-    /// Puts a child last. Where memory is refused nothing changes.
-    pub(crate) fn push(&mut self, c: Ptr<C>) -> Result<(), AllocError>
-        ensures here { OnOk result (listed self.new ≡ listed self.old ++ c ∷ []) }
+    /// Puts an item last. Where memory is refused nothing changes.
+    pub fn push(&mut self, x: X) -> Result<(), AllocError>
+        ensures here { OnOk result (listed self.new ≡ listed self.old ++ x ∷ []) }
         ensures err { OnErr result (listed self.new ≡ listed self.old) }
     {
         if self.is_empty() {
-            self.first = Some(c);
+            self.first = Some(x);
             return Ok(());
         }
-        match self.more.push(c) {
+        match self.more.push(x) {
             Ok(()) => Ok(()),
             Err(_) => Err(AllocError),
         }
     }
 
-    /// Takes the child at an index out.
-    pub(crate) fn remove(&mut self, index: usize)
+    /// Takes the item at an index out; those after it move down.
+    pub fn remove(&mut self, index: usize)
         requires { index < length (listed self.old) }
         ensures { listed self.new ≡ remove (listed self.old) index }
     {

@@ -1,5 +1,5 @@
 use Rattle.std.proofs.Common.{inl, inr, arith}
-use Rattle.irtext_graph.proofs.child_list.ChildList.make_room.Goals as goal
+use Rattle.irtext_few.proofs.growing.Growing.make_room.Goals as goal
 
 pub returns-then-is_empty-clause-room : goal.returns-then-is_empty-clause-room
 returns-then-is_empty-clause-room g c = inl (c.is_empty.ensures.0 c.if-is_empty.true)
