@@ -2,6 +2,7 @@
 #![tactic(auto)]
 
 pub mod growing;
+pub mod lone;
 
 ghost use Rattle.std.specs.Prelude.{◌≡◌, ◌<◌, ◌∷◌, [], length, slice_index_or, slice_set};
 ghost use Rattle.std.specs.Borrow.{Lends, sem};

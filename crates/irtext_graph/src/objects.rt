@@ -5,6 +5,7 @@ use crate::arena::{Arena, Ptr};
 use crate::nest::Nest;
 use crate::object::{BasicBlock, Object, Operation, Region, Site, Value};
 use irtext_few::Few;
+use irtext_few::lone::Lone;
 use std::alloc::AllocError;
 
 /// Where a use stands in a use list: whether it is in it, and the uses before and behind it there.
@@ -35,8 +36,8 @@ pub(crate) struct Definition<T> {
 pub(crate) struct OperationData<O, T> {
     pub(crate) data: O,
     pub(crate) operands: Few<Use<Value>>,
-    pub(crate) successors: Few<Use<Ptr<BasicBlock>>>,
-    pub(crate) results: Few<Definition<T>>,
+    pub(crate) successors: Lone<Use<Ptr<BasicBlock>>>,
+    pub(crate) results: Lone<Definition<T>>,
 }
 
 /// What there is of a block beside its place in the forest.

@@ -1,0 +1,161 @@
+//! Lists of which more than one item are seldom: one is held in place, and more in a vector.
+ghost use Rattle.std.specs.Prelude.{◌≡◌, ◌<◌, ◌∷◌, [], length, slice_index_or, slice_set};
+ghost use Rattle.std.specs.Borrow.{Lends, sem};
+
+use std::marker::Model;
+use std::ops::{Index, IndexMut};
+
+/// The item of a list of one, in place, or a vector.
+#[derive(Drop)]
+pub enum OneOrMany<X> {
+    Nothing,
+    One(X),
+    Many(Vec<X>),
+}
+
+/// A list, of which one item takes no memory of its own.
+#[derive(Drop)]
+pub struct Lone<X> {
+    items: OneOrMany<X>,
+}
+
+impl<X> Model for Lone<X> {
+    ghost use Rattle.std.specs.Prelude.{List};
+    ghost use Rattle.irtext_few.specs.Lone.{items_of};
+
+    ghost Value = { List X };
+
+    ghost view = { λ f. items_of f.items };
+}
+
+impl<X> OneOrMany<X> {
+    ghost use Rattle.irtext_few.specs.contracts.lone.OneOrMany.{the_row};
+    ghost use Rattle.irtext_few.specs.Lone.{items_of, form, with_item_at};
+
+    /// The item of a list of one, for writing.
+    fn only_mut(&mut self) -> &mut X
+        requires { form self.old ≡ 1 }
+        ensures* lends { sem 𝓛 (Lends (the_row X.row) X.row self.entry result (with_item_at self.old 0)) }
+        ensures value { result.now ≡ slice_index_or (items_of self.old) 0 result.now }
+    {
+        match self {
+            OneOrMany::One(x) => x,
+            _ => unreachable!(),
+        }
+    }
+
+    /// An item of a vector, for writing.
+    fn one_of_many_mut(&mut self, index: usize) -> &mut X
+        requires many { form self.old ≡ 2 }
+        requires within { index < length (items_of self.old) }
+        ensures* lends { sem 𝓛 (Lends (the_row X.row) X.row self.entry result (with_item_at self.old index)) }
+        ensures value { result.now ≡ slice_index_or (items_of self.old) index result.now }
+    {
+        match self {
+            OneOrMany::Many(xs) => &mut xs[index],
+            _ => unreachable!(),
+        }
+    }
+
+    /// An item, for writing.
+    fn item_mut(&mut self, index: usize) -> &mut X
+        requires { index < length (items_of self.old) }
+        ensures* lends { sem 𝓛 (Lends (the_row X.row) X.row self.entry result (with_item_at self.old index)) }
+        ensures value { result.now ≡ slice_index_or (items_of self.old) index result.now }
+    {
+        match self {
+            OneOrMany::Nothing => unreachable!(),
+            OneOrMany::One(_) => self.only_mut(),
+            OneOrMany::Many(_) => self.one_of_many_mut(index),
+        }
+    }
+}
+
+impl<X> Lone<X> {
+    ghost use Rattle.irtext_few.specs.Lone.{items_of};
+
+    /// A list without items.
+    pub fn none() -> Lone<X>
+        ensures { result ≡ [] }
+    {
+        Lone {
+            items: OneOrMany::Nothing,
+        }
+    }
+
+    /// A list of one item.
+    pub fn one(x: X) -> Lone<X>
+        ensures { result ≡ x ∷ [] }
+    {
+        Lone {
+            items: OneOrMany::One(x),
+        }
+    }
+
+    /// How many items there are.
+    pub fn len(&self) -> usize
+        ensures { result ≡ length self.now }
+    {
+        match &self.items {
+            OneOrMany::Nothing => 0,
+            OneOrMany::One(_) => 1,
+            OneOrMany::Many(xs) => xs.len(),
+        }
+    }
+
+    /// The items, taken out of the list.
+    pub fn into_items(self) -> OneOrMany<X>
+        ensures { items_of result ≡ self }
+    {
+        self.items
+    }
+}
+
+impl<X: Drop> Lone<X> {
+    /// Drops all items.
+    pub fn clear(&mut self)
+        ensures { self.new ≡ [] }
+    {
+        self.items = OneOrMany::Nothing;
+    }
+
+    /// The items of a vector.
+    pub fn many(xs: Vec<X>) -> Lone<X>
+        ensures { result ≡ xs.items }
+    {
+        Lone {
+            items: OneOrMany::Many(xs),
+        }
+    }
+}
+
+impl<X> Index<usize> for Lone<X> {
+    type Output = X;
+
+    ghost can_index = { λ f i. i < length f };
+
+    ghost index_gives = { λ f i x. x ≡ slice_index_or f i x };
+
+    fn index(&self, index: usize) -> &X
+        requires { index < length self.now }
+        ensures { result.now ≡ slice_index_or self.now index result.now }
+    {
+        match &self.items {
+            OneOrMany::Nothing => unreachable!(),
+            OneOrMany::One(x) => x,
+            OneOrMany::Many(xs) => &xs[index],
+        }
+    }
+}
+
+impl<X> IndexMut<usize> for Lone<X> {
+    ghost use Rattle.irtext_few.specs.contracts.lone.Lone as lone;
+
+    fn index_mut(&mut self, index: usize) -> &mut X
+        requires { index < length self.old }
+        ensures* lends { sem 𝓛 (Lends (lone.the_row X.row) X.row self.entry result (slice_set self.old index)) }
+        ensures value { result.now ≡ slice_index_or self.old index result.now }
+    {
+        self.items.item_mut(index)
+    }
+}
