@@ -7,6 +7,8 @@ pub mod lone;
 ghost use Rattle.std.specs.Prelude.{◌≡◌, ◌<◌, ◌∷◌, [], length, slice_index_or, slice_set};
 ghost use Rattle.std.specs.Borrow.{Lends, sem};
 
+pub use crate::growing::Growing;
+pub use crate::lone::Lone;
 use std::marker::Model;
 use std::ops::{Index, IndexMut};
 

@@ -1,7 +1,9 @@
 //! Lists of which more than one item are seldom: one is held in place, and more in a vector.
-ghost use Rattle.std.specs.Prelude.{◌≡◌, ◌<◌, ◌∷◌, [], length, slice_index_or, slice_set};
+ghost use Rattle.std.specs.Prelude.{◌≡◌, ◌<◌, ◌∷◌, [], IfOk, length, slice_index_or, slice_set};
 ghost use Rattle.std.specs.Borrow.{Lends, sem};
 
+use crate::{Few, Items};
+use std::alloc::{AllocError, Global};
 use std::marker::Model;
 use std::ops::{Index, IndexMut};
 
@@ -125,6 +127,24 @@ impl<X: Drop> Lone<X> {
     {
         Lone {
             items: OneOrMany::Many(xs),
+        }
+    }
+
+    /// The items of a short list. It takes memory for two alone.
+    #[inline(always)]
+    pub fn from_few(alloc: Global, few: Few<X>) -> Result<Lone<X>, AllocError>
+        ensures { IfOk result (λ items. items ≡ few) }
+    {
+        match few.into_items() {
+            Items::Nothing => Ok(Lone::none()),
+            Items::One(only) => Ok(Lone::one(only)),
+            Items::Two(first, second) => {
+                let mut two = Vec::with_capacity(alloc, 2)?;
+                two.push(first)?;
+                two.push(second)?;
+                Ok(Lone::many(two))
+            }
+            Items::Many(items) => Ok(Lone::many(items)),
         }
     }
 }

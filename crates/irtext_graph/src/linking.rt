@@ -6,7 +6,6 @@ use crate::arena::Ptr;
 use crate::object::{Operation, Site};
 use crate::objects::{Links, Objects, Use};
 use irtext_few::Few;
-use irtext_few::lone::Lone;
 use std::alloc::{AllocError, Global};
 
 /// The operands of an operation, or its successors.
@@ -65,21 +64,6 @@ pub(crate) fn unlinked_uses<D: Copy + Drop>(
         [def] => Ok(Few::one(unlinked_use(*def))),
         [first, second] => Ok(Few::two(unlinked_use(*first), unlinked_use(*second))),
         _ => Ok(Few::from_vec(many_unlinked_uses(alloc, defs)?)),
-    }
-}
-
-/// The same in a list that takes no memory for up to one.
-#[inline(always)]
-pub(crate) fn unlinked_leads<D: Copy + Drop>(
-    alloc: Global,
-    defs: &[D],
-) -> Result<Lone<Use<D>>, AllocError>
-    ensures { IfOk result (λ uses. uses ≡ map unlinked defs.now) }
-{
-    match defs {
-        [] => Ok(Lone::none()),
-        [def] => Ok(Lone::one(unlinked_use(*def))),
-        _ => Ok(Lone::many(many_unlinked_uses(alloc, defs)?)),
     }
 }
 

@@ -9,14 +9,12 @@ ghost use Rattle.irtext_graph.specs.Store.{Edits, before};
 
 use crate::arena::{Arena, Ptr};
 use crate::graph::Graph;
-use crate::linking::{Side, unlinked_leads, unlinked_uses};
+use crate::linking::{Side, unlinked_uses};
 use crate::log::{make_room, note};
 use crate::nest::Nest;
 use crate::object::{BasicBlock, Object, Operation, Region, Value};
 use crate::objects::{BlockData, Definition, OperationData, RegionData, Use};
-use irtext_few::growing::Growing;
-use irtext_few::lone::Lone;
-use irtext_few::{Few, Items};
+use irtext_few::{Few, Growing, Items, Lone};
 use std::alloc::{AllocError, Global};
 
 /// A value with this type and this number, which nothing uses.
@@ -70,56 +68,33 @@ fn definitions<T: Drop>(
     }
 }
 
-/// The same in a list that takes no memory for up to one.
-#[inline(always)]
-fn results_of<T: Drop>(
-    alloc: Global,
-    types: Few<T>,
-    from: u64,
-) -> Result<Lone<Definition<T>>, AllocError>
-    requires { from + length types ≤ 18446744073709551615 }
-    ensures { IfOk result (λ ds. Defines ds types from) }
-{
-    match types.into_items() {
-        Items::Nothing => Ok(Lone::none()),
-        Items::One(only) => Ok(Lone::one(definition(only, from))),
-        Items::Two(first, second) => {
-            let mut two = Vec::with_capacity(alloc, 2)?;
-            two.push(definition(first, from))?;
-            two.push(definition(second, from + 1))?;
-            Ok(Lone::many(two))
-        }
-        Items::Many(types) => Ok(Lone::many(many_definitions(alloc, types, from)?)),
-    }
-}
-
-/// An operation with this data and these lists that stands nowhere and holds no region.
+/// An operation with this data and these lists that stands nowhere and holds no region. Two results or successors take memory.
 #[inline(always)]
 fn blank_operation<O: Drop, T: Drop>(
     alloc: Global,
     value: O,
-    results: Lone<Definition<T>>,
+    results: Few<Definition<T>>,
     operands: Few<Use<Value>>,
-    successors: Lone<Use<Ptr<BasicBlock>>>,
-) -> Nest<BasicBlock, Region, OperationData<O, T>>
-    ensures parent { result.parent ≡ None }
-    ensures children { listed result.children ≡ [] }
-    ensures value { result.data.data ≡ value }
-    ensures operands { result.data.operands ≡ operands }
-    ensures successors { result.data.successors ≡ successors }
-    ensures results { result.data.results ≡ results }
+    successors: Few<Use<Ptr<BasicBlock>>>,
+) -> Result<Nest<BasicBlock, Region, OperationData<O, T>>, AllocError>
+    ensures parent { IfOk result (λ n. n.parent ≡ None) }
+    ensures children { IfOk result (λ n. listed n.children ≡ []) }
+    ensures value { IfOk result (λ n. n.data.data ≡ value) }
+    ensures operands { IfOk result (λ n. n.data.operands ≡ operands) }
+    ensures successors { IfOk result (λ n. n.data.successors ≡ successors) }
+    ensures results { IfOk result (λ n. n.data.results ≡ results) }
 {
-    Nest {
+    Ok(Nest {
         parent: None,
         children: Growing::new(alloc),
         noted: 0,
         data: OperationData {
             data: value,
             operands,
-            successors,
-            results,
+            successors: Lone::from_few(alloc, successors)?,
+            results: Lone::from_few(alloc, results)?,
         },
-    }
+    })
 }
 
 impl<O: Drop, T: Drop> Arena<Nest<BasicBlock, Region, OperationData<O, T>>> {
@@ -272,11 +247,11 @@ impl<O: Drop, B: Drop, T: Drop> Graph<O, B, T> {
         if made == u64::MAX {
             return Err(AllocError);
         }
-        let results = results_of(self.alloc, types, values)?;
+        let results = definitions(self.alloc, types, values)?;
         let used = unlinked_uses(self.alloc, operands)?;
-        let led_to = unlinked_leads(self.alloc, successors)?;
+        let led_to = unlinked_uses(self.alloc, successors)?;
         make_room(&mut self.log)?;
-        let blank = blank_operation(self.alloc, value, results, used, led_to);
+        let blank = blank_operation(self.alloc, value, results, used, led_to)?;
         let first = self.counters.first_place;
         let p = self.objects.operations.insert(first, made, blank)?;
         note(&mut self.log, made, Object::TheOperation(p));

@@ -2,7 +2,7 @@
 ghost use Rattle.std.specs.Prelude.{◌≡◌, ◌≢◌, ◌<◌, ◌≤◌, ◌+◌, ◌++◌, ◌∷◌, ℕ, Some, None, [], IsSome, OnOk, OnErr, length, slice_get};
 
 use crate::arena::{Arena, Ptr};
-use irtext_few::growing::Growing;
+use irtext_few::Growing;
 use std::alloc::AllocError;
 
 /// An object's parent, of kind P, its children in order, of kind C, and its data.

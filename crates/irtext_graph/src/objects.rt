@@ -4,8 +4,7 @@ ghost use Rattle.std.specs.Prelude.{◌≡◌, ◌≢◌, ◌<◌, ◌≤◌, �
 use crate::arena::{Arena, Ptr};
 use crate::nest::Nest;
 use crate::object::{BasicBlock, Object, Operation, Region, Site, Value};
-use irtext_few::Few;
-use irtext_few::lone::Lone;
+use irtext_few::{Few, Lone};
 use std::alloc::AllocError;
 
 /// Where a use stands in a use list: whether it is in it, and the uses before and behind it there.
