@@ -1,5 +1,5 @@
 //! One step of the loop: the turn of what is innermost, which begins something in it, goes on, or ends it.
-ghost use Rattle.std.specs.Prelude.{◌≡◌, ◌≢◌, ◌≤◌, ◌+◌, ◌++◌, ◌∷◌, [], ℕ, false, IfOk, IfErr, OnOk, OnErr, Some};
+ghost use Rattle.std.specs.Prelude.{◌≡◌, ◌≢◌, ◌≤◌, ◌+◌, ◌++◌, ◌∷◌, [], ℕ, false, length, IfOk, IfErr, OnOk, OnErr, Some};
 ghost use Rattle.irtext_base.specs.Faults.{id_of};
 ghost use Rattle.irtext_context.specs.Context.{KeepsOlder};
 ghost use Rattle.irtext_graph.specs.Back.{IsClosedBelow};
@@ -8,6 +8,7 @@ ghost use Rattle.irtext_scopes.specs.Names.{KeepsNames};
 ghost use Rattle.irtext_grammar.specs.Contexts.Formats as formats;
 ghost use Rattle.irtext_grammar.specs.Contexts.Held.{whole};
 ghost use Rattle.irtext_outcomes.specs.Promises.Section.{IsStarved};
+ghost use Rattle.irtext_nesting.specs.Reached.{steps_in};
 ghost use Rattle.irtext_parse_nested.specs.Items.{IsSound};
 ghost use Rattle.irtext_parse_items.specs.Here.{AreHere};
 ghost use Rattle.irtext_parse_items.specs.Levels.{AreAllNew};
@@ -51,8 +52,9 @@ fn coming_here<T: IrText<A>, A: AttrText, U>(
     state: &State<'_, T, A, U>,
     begun: &BegunOperation,
 ) -> Next
+    requires counted { begun.now.steps ≡ length (steps_in state.now.ctx.now.dialects (id_of begun.now.id)) }
     ensures next { IsNext state.now.ctx.now.dialects begun.now result.coming }
-    ensures isolated { result.isolated ≡ formats.isolated state.now.ctx.now.dialects (id_of begun.now.id) }
+    ensures isolated { result.coming ≢ comes.End → result.isolated ≡ formats.isolated state.now.ctx.now.dialects (id_of begun.now.id) }
     ensures behind { result.coming ≢ comes.End → result.behind ≡ begun.now.step + 1 }
 {
     next_turn(state.ctx, begun)

@@ -25,9 +25,12 @@ ghost use Rattle.irtext_parse_heads.specs.Named.{Each, NamesRead};
 ghost use Rattle.irtext_parse_nested.specs.Beginning.{FrontStands, LacksFront, IsKnownIn, SaysGather, NotGatheredAs, types_made, PlacedIn, MakesOf, HasBegun, ComesInto};
 ghost use Rattle.irtext_parse_nested.specs.Gathered.{AllStand, CanGather, Gathers, IsNothing, IsSteady};
 ghost use Rattle.irtext_parse_nested.specs.Items.{IsSound, Lasts};
+ghost use Rattle.irtext_base.specs.Faults.{id_of};
+ghost use Rattle.irtext_nesting.specs.Reached.{steps_in};
 ghost use Rattle.irtext_parse_nested.specs.Located.{IsLocated};
 ghost use Rattle.irtext_parse_nested.specs.Read.{ReadsFront, begun_by, BeginsOperation, RefusesOperation};
 
+use crate::counting::step_count;
 use crate::frame::{BegunOperation, Names};
 use crate::gathering::{Gathered, NotGathered, all_items, gather, nothing};
 use crate::making::make_gathered;
@@ -59,6 +62,8 @@ pub struct ReadFront<T, A> {
     pub id: OpId,
     /// The key of a symbol's name, where one is kept for the operation.
     pub key: Option<Identifier>,
+    /// How many steps its format has.
+    pub steps: usize,
     pub pieces: Few<ReadPiece<T, A>>,
 }
 
@@ -91,6 +96,7 @@ fn front_read<T: IrText<A>, A: AttrText>(
     ensures stands { IfOk result (λ front. FrontStands T.IrText.reading (attr_at A.IrText.reading) ctx.now.dialects true names.new.names stream.old front.names front.id front.pieces stream.new) }
     ensures lacks { IfErr result (UnlessMemory (LacksFront T.IrText.reading (attr_at A.IrText.reading) ctx.now.dialects true wanted stream.old)) }
     ensures key { IfOk result (λ front. IfSome front.key (λ key. key ≡ sym_name_key)) }
+    ensures counted { IfOk result (λ front. front.steps ≡ length (steps_in ctx.now.dialects (id_of front.id))) }
     ensures unread { IfErr result (λ fault. fault.committed ≡ false → stream.new ≡ stream.old) }
     ensures names { NamesRead names.old names.new }
     ensures distinct { OnOk result (AreDistinct names.new.names) }
@@ -105,6 +111,7 @@ fn front_read<T: IrText<A>, A: AttrText>(
         names: results,
         id,
         key: kept_key(info),
+        steps: step_count(&info.format),
         pieces,
     })
 }
@@ -277,6 +284,7 @@ fn begin_read<T: IrText<A>, A: AttrText, U>(
         names: results,
         id,
         key,
+        steps,
         pieces,
     } = front;
     let step = pieces.len();
@@ -293,6 +301,7 @@ fn begin_read<T: IrText<A>, A: AttrText, U>(
         at,
         inside: true,
         step,
+        steps,
     })
 }
 
