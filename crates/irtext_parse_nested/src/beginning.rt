@@ -32,7 +32,7 @@ ghost use Rattle.irtext_parse_nested.specs.Read.{ReadsFront, begun_by, BeginsOpe
 
 use crate::counting::step_count;
 use crate::frame::{BegunOperation, Names};
-use crate::gathering::{Gathered, NotGathered, all_items, gather, nothing};
+use crate::gathering::{Gathered, NotGathered, gather, nothing};
 use crate::making::make_gathered;
 use crate::naming::outside_fault;
 use irtext_base::base::{Identifier, OpId};
@@ -45,10 +45,10 @@ use irtext_context::base::{BasicBlock, Context, Operation, Ptr};
 use irtext_context::dialect::OpInfo;
 use irtext_few::Few;
 use irtext_graph::held::HasGraph;
+use irtext_parse_heads::found::Pieces;
 use irtext_parse_heads::fronts::front_parse;
 use irtext_parse_heads::ids::led_parse;
 use irtext_parse_heads::names::ReadName;
-use irtext_parse_heads::pieces::ReadPiece;
 use irtext_read::irfmt::faults::{commit, out_of_memory, refuse_at};
 use irtext_state::parsable::StateStream;
 use irtext_state::parsable::state::StreamLocation;
@@ -64,7 +64,7 @@ pub struct ReadFront<T, A> {
     pub key: Option<Identifier>,
     /// How many steps its format has.
     pub steps: usize,
-    pub pieces: Few<ReadPiece<T, A>>,
+    pub pieces: Pieces<T, A>,
 }
 
 /// The fault, committed where this is wanted.
@@ -138,7 +138,7 @@ fn pieces_gathered<T: IrText<A>, A: AttrText, U>(
     s: &mut StateStream<'_, T, A, U>,
     names: &mut Names,
     key: &Option<Identifier>,
-    pieces: Few<ReadPiece<T, A>>,
+    pieces: Pieces<T, A>,
 ) -> ParseResult<Gathered<T, A>, A>
     requires can { CanGather names.old [] [] pieces }
     requires are { (text : Text) × (parts : List (Part ℕ T A)) × Each (IsPart names.old.names text) pieces parts }
@@ -155,9 +155,6 @@ fn pieces_gathered<T: IrText<A>, A: AttrText, U>(
     ensures ctx { s.new.state.ctx.now ≡ with_graph s.old.state.ctx.now s.new.state.ctx.now.graph }
 {
     let alloc = s.stream.allocator();
-    let Ok(pieces) = all_items(alloc, pieces) else {
-        return Err(out_of_memory(&mut s.stream));
-    };
     let mut gathered = nothing(alloc);
     let ctx = &mut *s.state.ctx;
     match gather(alloc, names, ctx.graph_mut(), &mut gathered, key, pieces) {
