@@ -9,7 +9,8 @@ use Rattle.irtext_base.specs.Own.{Language}
 use Rattle.irtext_base.specs.Paths.{written_with}
 use Rattle.irtext_base.specs.Text.{Text}
 use Rattle.irtext_base.specs.declared.location.Location.TheVariants.{SrcPos, Unknown}
-use Rattle.irtext_base.specs.declared.location.Source.TheVariants.{InMemory}
+use Rattle.irtext_base.specs.declared.location.Source.{Source}
+use Rattle.irtext_base.specs.declared.location.Source.TheVariants.{File, InMemory}
 use Rattle.irtext_grammar.specs.Grammar.Tree.{Attribute}
 use Rattle.irtext_grammar.specs.Graphs.Graph.{Printing, Entry, is_marked}
 use Rattle.irtext_grammar.specs.Spelling.Locations.{known_text, written_text}
@@ -27,6 +28,11 @@ zero_written = decimal_digit 0 (omega arith)
 pub none_given : {A : Type 0} (es : List (Text × Attribute A)) → marks_given {A = A} Unknown es ≡ false → es ≡ []
 none_given [] e = refl
 none_given (x ∷ es) e = absurd (true≢false e)
+
+-- a source that the test calls in memory is
+pub memory_is : (src : Source) → elim src [ InMemory ↦ true | _ ↦ false ] ≡ true → src ≡ InMemory
+memory_is InMemory e = refl
+memory_is (File key) e = absurd (true≢false (sym e))
 
 -- a place in memory alone, of which the words up to the line are written at once
 pub place_alone : {A : Type 0} (written : A → Text) (paths : List (List ℕ)) (pos : SourcePosition) (f0 f1 f2 f3 : List ℕ)

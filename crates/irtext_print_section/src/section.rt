@@ -1,5 +1,6 @@
 //! The section behind a root.
-ghost use Rattle.std.specs.Prelude.{◌≡◌, ◌++◌, ◌<◌, ◌^◌, List, [], OnOk, IfErr, codes, length, string_bytes};
+ghost use Rattle.std.specs.Prelude.{◌≡◌, ◌++◌, ◌<◌, ◌^◌, List, [], OnOk, IfErr, codes, length, string_bytes, true, false};
+ghost use Rattle.irtext_base.specs.declared.location.Source.TheVariants as source;
 ghost use Rattle.irtext_grammar.specs.Spelling.Locations.{known_text};
 ghost use Rattle.irtext_grammar.specs.Spelling.Section.{once_texts};
 ghost use Rattle.irtext_print.specs.Errors.Located.{framed};
@@ -123,6 +124,13 @@ pub fn print_section<T: IrText<A>, A: AttrText>(
     memory_alone(fmt_section(ctx, items, f))
 }
 
+/// Whether a source is in memory, and so has no path.
+fn is_in_memory(src: Source) -> bool
+    ensures { result ≡ elim src [ source.InMemory ↦ true | _ ↦ false ] }
+{
+    matches!(src, Source::InMemory)
+}
+
 /// Appends the mark and the section of an item of which the section gives this location alone, where that is known. What stands in front of
 /// the line of a place in memory is appended at once.
 fn fmt_located<T: IrText<A>, A: AttrText>(
@@ -133,15 +141,13 @@ fn fmt_located<T: IrText<A>, A: AttrText>(
     ensures { OnOk result (string_bytes f.new ≡ string_bytes f.old
         ++ framed (codes " !0\n\noutlined_attributes:\n!0 = @[") (codes "], []\n") (known_text A.written ctx.now.paths location.now)) }
 {
-    if let Location::SrcPos {
-        src: Source::InMemory,
-        pos,
-    } = location
-    {
-        f.push_str(" !0\n\noutlined_attributes:\n!0 = @[<in-memory>: line: ")?;
-        fmt_numbers(pos, f)?;
-        f.push_str("], []\n")?;
-        return Ok(());
+    if let Location::SrcPos { src, pos } = location {
+        if is_in_memory(*src) {
+            f.push_str(" !0\n\noutlined_attributes:\n!0 = @[<in-memory>: line: ")?;
+            fmt_numbers(pos, f)?;
+            f.push_str("], []\n")?;
+            return Ok(());
+        }
     }
     fmt_known(
         location,
