@@ -61,7 +61,7 @@ pub(crate) fn print_frames<'c, H: WritesHeads<T, A>, T: IrText<A>, A: AttrText>(
 fn print_operation<'c, H: WritesHeads<T, A>, T: IrText<A>, A: AttrText>(
     ctx: &'c Context<T, A>,
     width: u16,
-    mut frame: OperationFrame<'c>,
+    frame: OperationFrame<'c>,
     items: &mut Vec<Item>,
     f: &mut String,
 ) -> Result<(), Refusal>
@@ -77,11 +77,12 @@ fn print_operation<'c, H: WritesHeads<T, A>, T: IrText<A>, A: AttrText>(
     ensures refused { IfErr result (λ e. e ≢ refusal.Memory →
         heads.FramesFault T.IrText.own A.IrText.own A.AttrText.own A.eq ctx.now width e (framed.Operation frame.entry ∷ [])) }
 {
-    let Some(inside) = operation_turns::<H, T, A>(ctx, width, &mut frame, items, f)? else {
+    let mut left = frame;
+    let Some(inside) = operation_turns::<H, T, A>(ctx, width, &mut left, items, f)? else {
         return Ok(());
     };
     let mut frames = Vec::new(ctx.allocator());
-    open(&mut frames, Frame::Operation(frame))?;
+    open(&mut frames, Frame::Operation(left))?;
     print_frames::<H, T, A>(
         ctx,
         width,
