@@ -104,13 +104,6 @@ impl<X> Lone<X> {
             OneOrMany::Many(xs) => xs.len(),
         }
     }
-
-    /// The items, taken out of the list.
-    pub fn into_items(self) -> OneOrMany<X>
-        ensures { items_of result ≡ self }
-    {
-        self.items
-    }
 }
 
 impl<X: Drop> Lone<X> {

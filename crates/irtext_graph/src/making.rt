@@ -47,54 +47,56 @@ fn many_definitions<T: Drop>(
     Ok(defined)
 }
 
-/// Values with these types, numbered from a number on, which nothing uses. It takes no memory for up to two.
+/// Values with these types, numbered from a number on, which nothing uses. It takes no memory for up to one.
 #[inline(always)]
 fn definitions<T: Drop>(
     alloc: Global,
     types: Few<T>,
     from: u64,
-) -> Result<Few<Definition<T>>, AllocError>
+) -> Result<Lone<Definition<T>>, AllocError>
     requires { from + length types ≤ 18446744073709551615 }
     ensures { IfOk result (λ ds. Defines ds types from) }
 {
     match types.into_items() {
-        Items::Nothing => Ok(Few::none()),
-        Items::One(only) => Ok(Few::one(definition(only, from))),
-        Items::Two(first, second) => Ok(Few::two(
-            definition(first, from),
-            definition(second, from + 1),
-        )),
-        Items::Many(types) => Ok(Few::from_vec(many_definitions(alloc, types, from)?)),
+        Items::Nothing => Ok(Lone::none()),
+        Items::One(only) => Ok(Lone::one(definition(only, from))),
+        Items::Two(first, second) => {
+            let mut two = Vec::with_capacity(alloc, 2)?;
+            two.push(definition(first, from))?;
+            two.push(definition(second, from + 1))?;
+            Ok(Lone::many(two))
+        }
+        Items::Many(types) => Ok(Lone::many(many_definitions(alloc, types, from)?)),
     }
 }
 
-/// An operation with this data and these lists that stands nowhere and holds no region. Two results or successors take memory.
+/// An operation with this data and these lists that stands nowhere and holds no region.
 #[inline(always)]
 fn blank_operation<O: Drop, T: Drop>(
     alloc: Global,
     value: O,
-    results: Few<Definition<T>>,
+    results: Lone<Definition<T>>,
     operands: Few<Use<Value>>,
-    successors: Few<Use<Ptr<BasicBlock>>>,
-) -> Result<Nest<BasicBlock, Region, OperationData<O, T>>, AllocError>
-    ensures parent { IfOk result (λ n. n.parent ≡ None) }
-    ensures children { IfOk result (λ n. listed n.children ≡ []) }
-    ensures value { IfOk result (λ n. n.data.data ≡ value) }
-    ensures operands { IfOk result (λ n. n.data.operands ≡ operands) }
-    ensures successors { IfOk result (λ n. n.data.successors ≡ successors) }
-    ensures results { IfOk result (λ n. n.data.results ≡ results) }
+    successors: Lone<Use<Ptr<BasicBlock>>>,
+) -> Nest<BasicBlock, Region, OperationData<O, T>>
+    ensures parent { result.parent ≡ None }
+    ensures children { listed result.children ≡ [] }
+    ensures value { result.data.data ≡ value }
+    ensures operands { result.data.operands ≡ operands }
+    ensures successors { result.data.successors ≡ successors }
+    ensures results { result.data.results ≡ results }
 {
-    Ok(Nest {
+    Nest {
         parent: None,
         children: Growing::new(alloc),
         noted: 0,
         data: OperationData {
             data: value,
             operands,
-            successors: Lone::from_few(alloc, successors)?,
-            results: Lone::from_few(alloc, results)?,
+            successors,
+            results,
         },
-    })
+    }
 }
 
 impl<O: Drop, T: Drop> Arena<Nest<BasicBlock, Region, OperationData<O, T>>> {
@@ -180,10 +182,8 @@ impl<O: Drop, B: Drop, T: Drop> Graph<O, B, T> {
             noted: self.objects.operations.child_count(op),
             data: RegionData {},
         };
-        let p = self
-            .objects
-            .regions
-            .insert(self.counters.first_place, made, region)?;
+        let first = self.counters.first_place;
+        let p = self.objects.regions.insert(first, made, region)?;
         self.objects.operations.push_region(op, p);
         note(&mut self.log, made, Object::TheRegion(p));
         self.made = made + 1;
@@ -249,9 +249,10 @@ impl<O: Drop, B: Drop, T: Drop> Graph<O, B, T> {
         }
         let results = definitions(self.alloc, types, values)?;
         let used = unlinked_uses(self.alloc, operands)?;
-        let led_to = unlinked_uses(self.alloc, successors)?;
+        let leads = unlinked_uses(self.alloc, successors)?;
+        let led_to = Lone::from_few(self.alloc, leads)?;
         make_room(&mut self.log)?;
-        let blank = blank_operation(self.alloc, value, results, used, led_to)?;
+        let blank = blank_operation(self.alloc, value, results, used, led_to);
         let first = self.counters.first_place;
         let p = self.objects.operations.insert(first, made, blank)?;
         note(&mut self.log, made, Object::TheOperation(p));

@@ -43,7 +43,7 @@ pub(crate) struct OperationData<O, T> {
 #[derive(Drop)]
 pub(crate) struct BlockData<B, T> {
     pub(crate) data: B,
-    pub(crate) arguments: Few<Definition<T>>,
+    pub(crate) arguments: Lone<Definition<T>>,
     pub(crate) preds: Option<Site>,
 }
 

@@ -8,6 +8,7 @@ use std::fmt;
 pub mod attributes;
 pub mod gathered;
 pub mod guards;
+pub mod numbers;
 pub mod refusal;
 pub mod state;
 
@@ -27,7 +28,8 @@ const OPENING: &str = " \n{\n                                                   
 /// Appends the first brace of a region that stands at no indentation, as [`fmt_opening`] does.
 fn fmt_outer_opening(joins: bool, inner: u16, f: &mut String) -> fmt::Result
     requires { inner ≤ 64 }
-    ensures { OnOk result (string_bytes f.new ≡ string_bytes f.old ++ (cond joins [] (codes " ") ++ (newline 0 ++ (codes "{" ++ newline inner)))) }
+    ensures { OnOk result (string_bytes f.new ≡ string_bytes f.old ++
+        (cond joins [] (codes " ") ++ (newline 0 ++ (codes "{" ++ newline inner)))) }
 {
     let end = 4 + inner as usize;
     if joins {
@@ -41,7 +43,8 @@ fn fmt_outer_opening(joins: bool, inner: u16, f: &mut String) -> fmt::Result
 /// Appends the first brace of a region, on a line of its own at this indentation, and a newline and the inner indentation; behind a space, unless the
 /// region joins what stands before it. It fails only where memory is refused.
 pub fn fmt_opening(joins: bool, indent: u16, inner: u16, f: &mut String) -> fmt::Result
-    ensures { OnOk result (string_bytes f.new ≡ string_bytes f.old ++ (cond joins [] (codes " ") ++ (newline indent ++ (codes "{" ++ newline inner)))) }
+    ensures { OnOk result (string_bytes f.new ≡ string_bytes f.old ++
+        (cond joins [] (codes " ") ++ (newline indent ++ (codes "{" ++ newline inner)))) }
 {
     if indent == 0 && inner <= 64 {
         return fmt_outer_opening(joins, inner, f);

@@ -30,8 +30,10 @@ pub fn print_nested<T: IrText<A>, A: AttrText, U>(
     f: &mut String,
 ) -> Result<(), Refusal>
     requires live { IsSome (operation ctx.now op) }
-    ensures text { OnOk result (AppendsText f.old (heads.text_under T.IrText.own A.IrText.own A.AttrText.own A.eq ctx.now op state.now marked (length items.old.items)) f.new) }
-    ensures items { OnOk result (items.new.items ≡ items.old.items ++ heads.items_under T.IrText.own A.IrText.own A.AttrText.own A.eq ctx.now op state.now marked) }
+    ensures text { OnOk result (AppendsText f.old (heads.text_under T.IrText.own A.IrText.own A.AttrText.own A.eq ctx.now op state.now
+        marked (length items.old.items)) f.new) }
+    ensures items { OnOk result (items.new.items ≡ items.old.items ++
+        heads.items_under T.IrText.own A.IrText.own A.AttrText.own A.eq ctx.now op state.now marked) }
     ensures fits { OnOk result (heads.MisfitsUnder T.IrText.own A.IrText.own A.AttrText.own A.eq ctx.now op state.now → ⊥) }
     ensures refused { IfErr result (heads.RefusesUnder T.IrText.own A.IrText.own A.AttrText.own A.eq ctx.now op state.now) }
 {
@@ -52,9 +54,12 @@ pub fn print_nested_block<T: IrText<A>, A: AttrText, U>(
     f: &mut String,
 ) -> Result<(), Refusal>
     requires live { IsSome (context.block ctx.now block) }
-    ensures text { OnOk result (AppendsText f.old (heads.block_text_under T.IrText.own A.IrText.own A.AttrText.own A.eq ctx.now block state.now (length items.old.items)) f.new) }
-    ensures items { OnOk result (items.new.items ≡ items.old.items ++ heads.block_items_under T.IrText.own A.IrText.own A.AttrText.own A.eq ctx.now block state.now) }
-    ensures fits { OnOk result (heads.BlockFaultUnder T.IrText.own A.IrText.own A.AttrText.own A.eq ctx.now block state.now refusal.Misfit → ⊥) }
+    ensures text { OnOk result (AppendsText f.old (heads.block_text_under T.IrText.own A.IrText.own A.AttrText.own A.eq ctx.now block
+        state.now (length items.old.items)) f.new) }
+    ensures items { OnOk result (items.new.items ≡ items.old.items ++
+        heads.block_items_under T.IrText.own A.IrText.own A.AttrText.own A.eq ctx.now block state.now) }
+    ensures fits { OnOk result (
+        heads.BlockFaultUnder T.IrText.own A.IrText.own A.AttrText.own A.eq ctx.now block state.now refusal.Misfit → ⊥) }
     ensures refused { IfErr result (heads.RefusesBlockUnder T.IrText.own A.IrText.own A.AttrText.own A.eq ctx.now block state.now) }
 {
     print_block_inside::<Heads, T, A, U>(ctx, block, state, items, f)
@@ -74,9 +79,12 @@ pub fn print_nested_region<T: IrText<A>, A: AttrText, U>(
     f: &mut String,
 ) -> Result<(), Refusal>
     requires live { Stands ctx.now.graph (TheRegion region) }
-    ensures text { OnOk result (AppendsText f.old (heads.region_text_under T.IrText.own A.IrText.own A.AttrText.own A.eq ctx.now region state.now (length items.old.items)) f.new) }
-    ensures items { OnOk result (items.new.items ≡ items.old.items ++ heads.region_items_under T.IrText.own A.IrText.own A.AttrText.own A.eq ctx.now region state.now) }
-    ensures fits { OnOk result (heads.RegionFaultUnder T.IrText.own A.IrText.own A.AttrText.own A.eq ctx.now region state.now refusal.Misfit → ⊥) }
+    ensures text { OnOk result (AppendsText f.old (heads.region_text_under T.IrText.own A.IrText.own A.AttrText.own A.eq ctx.now region
+        state.now (length items.old.items)) f.new) }
+    ensures items { OnOk result (items.new.items ≡ items.old.items ++
+        heads.region_items_under T.IrText.own A.IrText.own A.AttrText.own A.eq ctx.now region state.now) }
+    ensures fits { OnOk result (
+        heads.RegionFaultUnder T.IrText.own A.IrText.own A.AttrText.own A.eq ctx.now region state.now refusal.Misfit → ⊥) }
     ensures refused { IfErr result (heads.RefusesRegionUnder T.IrText.own A.IrText.own A.AttrText.own A.eq ctx.now region state.now) }
 {
     print_region_inside::<Heads, T, A, U>(ctx, region, state, items, f)
@@ -91,8 +99,10 @@ pub fn print_nested_mark<T: IrText<A>, A: AttrText>(
     f: &mut String,
 ) -> Result<(), Refusal>
     requires live { IsSome (operation ctx.now op) }
-    ensures text { OnOk result (AppendsText f.old (heads.own_mark_at T.IrText.own A.IrText.own A.AttrText.own A.eq ctx.now op true (length items.old.items)) f.new) }
-    ensures items { OnOk result (items.new.items ≡ items.old.items ++ heads.own_items_at T.IrText.own A.IrText.own A.AttrText.own A.eq ctx.now op true) }
+    ensures text { OnOk result (AppendsText f.old (heads.own_mark_at T.IrText.own A.IrText.own A.AttrText.own A.eq ctx.now op true
+        (length items.old.items)) f.new) }
+    ensures items { OnOk result (items.new.items ≡ items.old.items ++
+        heads.own_items_at T.IrText.own A.IrText.own A.AttrText.own A.eq ctx.now op true) }
     ensures refused { IfErr result (λ e. e ≡ refusal.Memory) }
 {
     print_mark::<Heads, T, A>(ctx, op, items, f)

@@ -9,3 +9,4 @@ pub mod UsesStand
 pub mod CanonicalTexts
 pub mod BlockTexts
 pub mod FitTexts
+pub mod Counting

@@ -1,36 +1,43 @@
--- Names of values and labels of blocks are ASCII, so their bytes are appended as they are.
-use Rattle.std.proofs.Common.{◌≡◌, ◌<◌, ◌∙◌, ◌++◌, ◌^◌, ℕ, refl, sym, ap, arith, List, Some, None, IsTrue, codes}
-use Rattle.std.specs.Str.{IsAscii, encode_utf8_all}
-use Rattle.std.proofs.lemmas.Str.{IsAscii-append}
+-- Names of values and labels of blocks, appended piece by piece.
+use Rattle.std.proofs.Common.{◌≡◌, ◌∙◌, ◌++◌, ℕ, List, refl, sym, ap, append_assoc, Option, Some, None, IsTrue, codes}
+use Rattle.std.specs.Fmt.{decimal}
+use Rattle.std.specs.Str.{encode_utf8_all}
 use Rattle.irtext_base.specs.Text.{Text, is_identifier}
-use Rattle.irtext_grammar.specs.Spelling.PrintedNames.{value_name, block_name}
-use Rattle.irtext_grammar.proofs.Lists.Ascii.{ascii-from, encodes-ascii}
-use Rattle.irtext_unique.proofs.AsciiNames.{ascii-value, ascii-named, ascii-block, ascii-labelled}
+use Rattle.irtext_grammar.specs.Spelling.PrintedNames.{prefixed, value_name, block_name}
+use Rattle.irtext_grammar.proofs.Lists.Ascii.{ascii-identifier, encodes-ascii}
+use Rattle.irtext_print.proofs.Printers.Locations.{word, more, worded, ending}
 
--- an ASCII text was appended
-appended : (text : Text) (old new : List ℕ) → IsAscii text → new ≡ old ++ text → new ≡ old ++ encode_utf8_all text
-appended text old new a p = p ∙ ap (λ z. old ++ z) (sym (encodes-ascii text a))
+-- an identifier was appended
+identifier : (name text : Text) (old new : List ℕ) → IsTrue (is_identifier name) → text ≡ name → new ≡ old ++ text → new ≡ old ++ encode_utf8_all name
+identifier name text old new i e p = p ∙ ap (λ z. old ++ z) (e ∙ sym (encodes-ascii name (ascii-identifier name i)))
 
 -- a value without a given name
-pub plain_value : (n : ℕ) (old new : List ℕ) → n < 2 ^ 64 → new ≡ old ++ value_name None n → new ≡ old ++ encode_utf8_all (value_name None n)
-plain_value n old new small p = appended (value_name None n) old new (ascii-value n small) p
+pub plain_value : (n : ℕ) (f0 f1 f2 : List ℕ) → f1 ≡ f0 ++ codes "v" → f2 ≡ f1 ++ encode_utf8_all (decimal n) → f2 ≡ f0 ++ encode_utf8_all (value_name None n)
+plain_value n f0 f1 f2 p q = worded f0 f1 f2 (codes "v") (decimal n) refl p q
 
 -- a value with a given name
-pub named_value : (name text : Text) (n : ℕ) (old new : List ℕ) → IsTrue (is_identifier name) → text ≡ name → n < 2 ^ 64 → new ≡ old ++ value_name (Some text) n → new ≡ old ++ encode_utf8_all (value_name (Some name) n)
-named_value name text n old new i e small p = appended (value_name (Some name) n) old new (ascii-named name n i small) (p ∙ ap (λ t. old ++ value_name (Some t) n) e)
+pub named_value : (name text : Text) (n : ℕ) (f0 f1 f2 f3 : List ℕ) → IsTrue (is_identifier name) → text ≡ name → f1 ≡ f0 ++ text → f2 ≡ f1 ++ codes "_v" → f3 ≡ f2 ++ encode_utf8_all (decimal n)
+    → f3 ≡ f0 ++ encode_utf8_all (value_name (Some name) n)
+named_value name text n f0 f1 f2 f3 i e p q r = more f0 f1 f3 name (codes "_v" ++ decimal n) (identifier name text f0 f1 i e p) (worded f1 f2 f3 (codes "_v") (decimal n) refl q r)
 
-wider : {n : ℕ} → n < 2 ^ 32 → n < 2 ^ 64
-wider small = omega arith
+-- what stands in front of the place of a block without a label
+pub plain_front : (f0 f1 : List ℕ) → f1 ≡ f0 ++ codes "^block" → f1 ≡ f0 ++ encode_utf8_all (codes "^" ++ prefixed None (codes "block"))
+plain_front f0 f1 p = p ∙ ap (λ z. f0 ++ z) (word (codes "^block") refl)
 
--- a block without a label
-pub plain_block : (place generation : ℕ) (old new : List ℕ) → place < 2 ^ 64 → generation < 2 ^ 32 → new ≡ old ++ (codes "^" ++ block_name None (place, generation)) → new ≡ old ++ encode_utf8_all (codes "^" ++ block_name None (place, generation))
-plain_block place generation old new first second p =
-    appended (codes "^" ++ block_name None (place, generation)) old new
-    (IsAscii-append (codes "^") (block_name None (place, generation)) (ascii-from (codes "^") refl) (ascii-block place generation first (wider second))) p
+-- the same of a block with a label
+pub labelled_front : (name text : Text) (f0 f1 f2 f3 : List ℕ) → IsTrue (is_identifier name) → text ≡ name → f1 ≡ f0 ++ codes "^" → f2 ≡ f1 ++ text → f3 ≡ f2 ++ codes "_block"
+    → f3 ≡ f0 ++ encode_utf8_all (codes "^" ++ prefixed (Some name) (codes "block"))
+labelled_front name text f0 f1 f2 f3 i e p q r = worded f0 f1 f3 (codes "^") (name ++ codes "_block") refl p (ending f1 f2 f3 name (codes "_block") refl (identifier name text f1 f2 i e q) r)
 
--- a block with a label
-pub labelled_block : (name text : Text) (place generation : ℕ) (old new : List ℕ) → IsTrue (is_identifier name) → text ≡ name → place < 2 ^ 64 → generation < 2 ^ 32 → new ≡ old ++ (codes "^" ++ block_name (Some text) (place, generation))
-    → new ≡ old ++ encode_utf8_all (codes "^" ++ block_name (Some name) (place, generation))
-labelled_block name text place generation old new i e first second p =
-    appended (codes "^" ++ block_name (Some name) (place, generation)) old new
-    (IsAscii-append (codes "^") (block_name (Some name) (place, generation)) (ascii-from (codes "^") refl) (ascii-labelled name place generation i first (wider second))) (p ∙ ap (λ t. old ++ (codes "^" ++ block_name (Some t) (place, generation))) e)
+-- what stands behind a name's word stands behind the whole
+prefixed_more : (label : Option Text) (word rest : Text) → prefixed label word ++ rest ≡ prefixed label (word ++ rest)
+prefixed_more None word rest = refl
+prefixed_more (Some name) word rest = append_assoc name (codes "_" ++ word) rest
+
+-- a block
+pub block_placed : (label : Option Text) (place generation : ℕ) (f0 f1 f2 f3 f4 : List ℕ) → f1 ≡ f0 ++ encode_utf8_all (codes "^" ++ prefixed label (codes "block")) → f2 ≡ f1 ++ encode_utf8_all (decimal place)
+    → f3 ≡ f2 ++ codes "v" → f4 ≡ f3 ++ encode_utf8_all (decimal generation) → f4 ≡ f0 ++ encode_utf8_all (codes "^" ++ block_name label (place, generation))
+block_placed label place generation f0 f1 f2 f3 f4 p q r s =
+    let rest = decimal place ++ (codes "v" ++ decimal generation) in
+    more f0 f1 f4 (codes "^" ++ prefixed label (codes "block")) rest p (more f1 f2 f4 (decimal place) (codes "v" ++ decimal generation) q (worded f2 f3 f4 (codes "v") (decimal generation) refl r s))
+    ∙ ap (λ z. f0 ++ encode_utf8_all (codes "^" ++ z)) (prefixed_more label (codes "block") rest)

@@ -1,5 +1,5 @@
 -- For callers: why an operation does not fit its format, in the order in which it is looked for.
-use Rattle.std.specs.Prelude.{◌≡◌, ℕ, suc, Bool, cond, not, ◌||◌, ◌==◌, nat_lt, List, [], ◌∷◌, ◌++◌, length, codes, decimal, Option, Some, None, is_none, Result, Ok, Err, ⊤}
+use Rattle.std.specs.Prelude.{◌≡◌, ◌<◌, ◌+◌, ◌^◌, ℕ, suc, Bool, true, false, cond, not, ◌||◌, ◌==◌, nat_lt, List, [], ◌∷◌, ◌++◌, length, codes, decimal, Option, Some, None, is_none, Result, Ok, Err, ⊤}
 use Rattle.irtext_base.specs.Text.{Text}
 use Rattle.irtext_base.specs.Format as format
 use Rattle.irtext_base.specs.Format.{Format, Directive, Id, count, operand_places, successor_places, type_places, is_operands, is_successors, is_dictionary}
@@ -12,10 +12,56 @@ use Rattle.irtext_print.specs.Printers.PrintedOperation.{regions_fit, symbol_fit
 use Rattle.irtext_print_pieces.specs.declared.fits.Counts.{Counts}
 use Rattle.irtext_print_pieces.specs.declared.fits.FitFault.{FitFault}
 use Rattle.irtext_print_pieces.specs.declared.fits.FitFault.TheVariants as fault
+use Rattle.irtext_print_pieces.specs.declared.fits.Places.{Places}
 
 -- so many parts fit the places and the lists of directives: no more than there are places, where no list writes the others
 abbrev pub counts_fit : ℕ → ℕ → ℕ → Bool
 counts_fit places lists n = cond (lists == 0) (n == places) (not (nat_lt n places))
+
+-- what is counted before the first directive
+abbrev pub no_places : Places
+no_places = record {
+  operands = 0;
+  successors = 0;
+  types = 0;
+  regions = 0;
+  all_operands = false;
+  all_successors = false;
+  all_regions = false;
+  keys = false;
+  header = false;
+  dictionary = false;
+}
+
+-- what is counted behind one directive more
+abbrev pub counted : Places → Directive → Places
+counted p (format.word s) = p
+counted p (format.operand i) = record p { operands = p.operands + 1 }
+counted p format.operands = record p { all_operands = true }
+counted p (format.successor i) = record p { successors = p.successors + 1 }
+counted p format.successors = record p { all_successors = true }
+counted p (format.attribute k) = record p { keys = true }
+counted p format.dictionary = record p { dictionary = true }
+counted p (format.result_type i) = record p { types = p.types + 1 }
+counted p (format.region i) = record p { regions = p.regions + 1 }
+counted p format.regions = record p { all_regions = true }
+counted p format.header = record p { header = true }
+
+-- the same behind more directives
+abbrev pub counted_on : Places → List Directive → Places
+counted_on p [] = p
+counted_on p (d ∷ ds) = counted_on (counted p d) ds
+
+-- what is counted of directives
+abbrev pub places_of : List Directive → Places
+places_of ds = counted_on no_places ds
+
+-- one more can be counted
+pub record AreFew (p : Places) : Type 0 where
+  pub operands : p.operands + 1 < 2 ^ 64
+  pub successors : p.successors + 1 < 2 ^ 64
+  pub types : p.types + 1 < 2 ^ 64
+  pub regions : p.regions + 1 < 2 ^ 64
 
 -- the number of the first test that fails, where the first of them has this number
 abbrev pub first_failed : ℕ → List Bool → Option ℕ

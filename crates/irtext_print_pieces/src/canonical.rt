@@ -66,7 +66,8 @@ fn fmt_front<T: IrText<A>, A: AttrText>(
 ) -> fmt::Result
     requires live { IsSome (operation ctx.now op) }
     ensures { OnOk result (IfSome (seen_own A.IrText.written ctx.now op) (λ o. AppendsText f.old
-        (body_front (language_in T.IrText.own A.IrText.own ctx.now) (body_of (printing_by A.AttrText.own A.eq ctx.now) o (Some format.canonical))) f.new)) }
+        (body_front (language_in T.IrText.own A.IrText.own ctx.now)
+        (body_of (printing_by A.AttrText.own A.eq ctx.now) o (Some format.canonical))) f.new)) }
 {
     fmt_uses(ctx, op, f)?;
     fmt_dictionary(op.attributes(ctx), &[], f)?;
@@ -82,7 +83,8 @@ pub fn fmt_canonical_front<T: IrText<A>, A: AttrText>(
 ) -> Result<(), Refusal>
     requires live { IsSome (operation ctx.now op) }
     ensures text { OnOk result (IfSome (seen_own A.IrText.written ctx.now op) (λ o. AppendsText f.old
-        (body_front (language_in T.IrText.own A.IrText.own ctx.now) (body_of (printing_by A.AttrText.own A.eq ctx.now) o (Some format.canonical))) f.new)) }
+        (body_front (language_in T.IrText.own A.IrText.own ctx.now)
+        (body_of (printing_by A.AttrText.own A.eq ctx.now) o (Some format.canonical))) f.new)) }
     ensures refused { IfErr result (λ e. e ≡ refusal.Memory) }
 {
     memory_alone(fmt_front(ctx, op, f))

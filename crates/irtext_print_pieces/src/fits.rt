@@ -1,7 +1,5 @@
 //! Whether an operation fits its format, and why not.
-ghost use Rattle.std.specs.Prelude.{◌≡◌, is_some, not, ◌==◌, length, option_copied, option_map, Some, None, IsSome, IfSome, IfOk, IfErr, OnOk};
-ghost use Rattle.irtext_base.specs.Format as format;
-ghost use Rattle.irtext_base.specs.Format.{type_places, is_operands, is_successors};
+ghost use Rattle.std.specs.Prelude.{◌≡◌, not, ◌||◌, ◌==◌, nat_lt, cond, length, option_copied, option_map, Some, None, IsSome, IfSome, IfOk, IfErr, OnOk};
 ghost use Rattle.irtext_context.specs.Context.{operation};
 ghost use Rattle.irtext_formats.specs.Directives.{directive_of, directives_of};
 ghost use Rattle.irtext_graph.specs.Graph.{Stands};
@@ -10,22 +8,22 @@ ghost use Rattle.irtext_graph.specs.declared.object.Object.TheVariants.{TheOpera
 ghost use Rattle.irtext_grammar.specs.Contexts.Formats.{format_of, isolated};
 ghost use Rattle.irtext_grammar.specs.Contexts.Held.{attribute_of, entries_of, known_types};
 ghost use Rattle.irtext_grammar.specs.Contexts.Nested.{seen_own};
+ghost use Rattle.irtext_print.specs.Printers.FitFaults.{missing_key};
+ghost use Rattle.irtext_print.specs.Printers.PrintedOperation.{has_symbol};
 ghost use Rattle.irtext_print_pieces.specs.Fits as fits;
 ghost use Rattle.irtext_print_pieces.specs.Listed as texts;
 ghost use Rattle.irtext_print_pieces.specs.Names.{printing_by};
 ghost use Rattle.irtext_print_pieces.specs.declared.lists.Listed.TheVariants as listed;
 
 use crate::lists::{Listed, count};
-use crate::pieces::{count_operands, count_successors, keeps_operands, known_type};
+use crate::pieces::{keeps_operands, known_type};
 use irtext_base::base::{AttrObj, Identifier};
 use irtext_base::format::{Directive, OpFormat};
 use irtext_base::text::{AttrText, IrText};
 use irtext_context::base::{Context, Operation, OperationAccess, Ptr, Value};
 use irtext_dict::base::AttributeDict;
-use irtext_print::ir::print::fits::{
-    SingleKind, has_directive, missing_key, regions_fit, symbol_fits,
-};
-use irtext_print::ir::print::pieces::{is_key_written, is_outlined};
+use irtext_print::ir::print::fits::missing_key;
+use irtext_print::ir::print::pieces::{is_key_written, is_outlined, symbol_of};
 use std::fmt;
 use std::fmt::Display;
 
@@ -87,74 +85,100 @@ struct Counts {
     regions: usize,
 }
 
-fn lists_operands(directive: &Directive) -> bool
-    ensures { result ≡ is_operands (directive_of directive.now) }
-{
-    matches!(directive, Directive::Operands)
+/// How many parts directives write one by one, and what else they write.
+#[derive(Clone, Copy)]
+struct Places {
+    operands: usize,
+    successors: usize,
+    types: usize,
+    regions: usize,
+    /// Whether a directive writes the operands that have no directive of their own.
+    all_operands: bool,
+    /// Whether a directive writes the successors that have no directive of their own.
+    all_successors: bool,
+    /// Whether a directive writes the regions that have no directive of their own.
+    all_regions: bool,
+    /// Whether a directive names a key.
+    keys: bool,
+    /// Whether a directive writes the symbol's name.
+    header: bool,
+    /// Whether a directive writes the dictionary.
+    dictionary: bool,
 }
 
-fn lists_successors(directive: &Directive) -> bool
-    ensures { result ≡ is_successors (directive_of directive.now) }
+/// Counts one directive more.
+fn count_directive(places: &mut Places, directive: &Directive)
+    requires few { fits.AreFew places.old }
+    ensures { places.new ≡ fits.counted places.old (directive_of directive.now) }
 {
-    matches!(directive, Directive::Successors)
-}
-
-fn writes_type(directive: &Directive) -> bool
-    ensures { result ≡ is_some (elim (directive_of directive.now) [ format.result_type i ↦ Some i | _ ↦ None ]) }
-{
-    matches!(directive, Directive::ResultType(_))
-}
-
-/// Whether a directive writes the operands that have no directive of their own.
-fn has_operand_list(directives: &[Directive]) -> bool
-    ensures { result ≡ not (format.count is_operands (directives_of directives.now) == 0) }
-{
-    directives.iter().any(|d| lists_operands(d))
-}
-
-/// Whether a directive writes the successors that have no directive of their own.
-fn has_successor_list(directives: &[Directive]) -> bool
-    ensures { result ≡ not (format.count is_successors (directives_of directives.now) == 0) }
-{
-    directives.iter().any(|d| lists_successors(d))
-}
-
-/// How many types of results directives write.
-fn count_types(directives: &[Directive]) -> usize
-    ensures { result ≡ length (type_places (directives_of directives.now)) }
-{
-    directives.iter().filter(|d| writes_type(*d)).count()
-}
-
-/// Whether directives write so many operands.
-fn operands_fit(directives: &[Directive], operands: usize) -> bool
-    ensures { result ≡ fits.counts_fit (length (format.operand_places (directives_of directives.now))) (format.count is_operands (directives_of directives.now)) operands }
-{
-    let places = count_operands(directives);
-    if has_operand_list(directives) {
-        operands >= places
-    } else {
-        operands == places
+    match directive {
+        Directive::Literal(_) => {}
+        Directive::Operand(_) => places.operands += 1,
+        Directive::Operands => places.all_operands = true,
+        Directive::Successor(_) => places.successors += 1,
+        Directive::Successors => places.all_successors = true,
+        Directive::Attr(_) => places.keys = true,
+        Directive::AttrDict => places.dictionary = true,
+        Directive::ResultType(_) => places.types += 1,
+        Directive::Region(_) => places.regions += 1,
+        Directive::Regions => places.all_regions = true,
+        Directive::SymbolHeader => places.header = true,
     }
 }
 
-/// Whether directives write so many successors.
-fn successors_fit(directives: &[Directive], successors: usize) -> bool
-    ensures { result ≡ fits.counts_fit (length (format.successor_places (directives_of directives.now))) (format.count is_successors (directives_of directives.now)) successors }
+/// What directives write, in one pass over them.
+fn places_of(directives: &[Directive]) -> Places
+    ensures { result ≡ fits.places_of (directives_of directives.now) }
 {
-    let places = count_successors(directives);
-    if has_successor_list(directives) {
-        successors >= places
+    let mut places = Places {
+        operands: 0,
+        successors: 0,
+        types: 0,
+        regions: 0,
+        all_operands: false,
+        all_successors: false,
+        all_regions: false,
+        keys: false,
+        header: false,
+        dictionary: false,
+    };
+    for directive in directives {
+        count_directive(&mut places, directive);
+    }
+    places
+}
+
+/// Whether directives with so many places, of which one writes all parts that have none if `all`, write so many parts.
+fn counts_fit(places: usize, all: bool, parts: usize) -> bool
+    ensures { result ≡ cond all (not (nat_lt parts places)) (parts == places) }
+{
+    if all {
+        parts >= places
     } else {
-        successors == places
+        parts == places
     }
 }
 
-/// Whether directives write so many types of results.
-fn results_fit(directives: &[Directive], results: usize) -> bool
-    ensures { result ≡ (results == length (type_places (directives_of directives.now))) }
+/// The first key that directives name and that no attribute has, where they name one at all.
+fn missing_named<'d, A: AttrText>(
+    names_keys: bool,
+    attributes: &AttributeDict<A>,
+    directives: &'d [Directive],
+) -> Option<&'d Identifier>
+    requires { names_keys ≡ (fits.places_of (directives_of directives.now)).keys }
+    ensures { option_copied result ≡ missing_key (entries_of attributes.now) (directives_of directives.now) }
 {
-    results == count_types(directives)
+    if !names_keys {
+        return None;
+    }
+    missing_key(attributes, directives)
+}
+
+/// Whether the symbol's name is there, where a directive writes it.
+fn symbol_fits<A: AttrText>(header: bool, attributes: &AttributeDict<A>) -> bool
+    ensures { result ≡ (not header || has_symbol (entries_of attributes.now)) }
+{
+    !header || symbol_of(attributes).is_some()
 }
 
 /// Whether an attribute is written by a directive that names its key, or in the section.
@@ -181,12 +205,14 @@ fn first_uncovered<'c, A: AttrText>(
 
 /// The key of the first attribute that is not written at all.
 fn uncovered_key<'c, A: AttrText>(
+    dictionary: bool,
     attributes: &'c AttributeDict<A>,
     directives: &[Directive],
 ) -> Option<&'c Identifier>
+    requires { dictionary ≡ (fits.places_of (directives_of directives.now)).dictionary }
     ensures { option_copied result ≡ fits.uncovered_key A.outlined (directives_of directives.now) (entries_of attributes.now) }
 {
-    if has_directive(SingleKind::Dictionary, directives) {
+    if dictionary {
         return None;
     }
     first_uncovered(attributes, directives)
@@ -198,29 +224,31 @@ fn check_parts<'c, A: AttrText>(
     counts: Counts,
     attributes: &'c AttributeDict<A>,
 ) -> Result<(), FitFault<'c>>
-    ensures first { fits.refused_by result ≡ fits.first_failed 1 (fits.tests A.outlined (directives_of directives.now) counts (entries_of attributes.now)) }
+    ensures first { fits.refused_by result ≡ fits.first_failed 1
+        (fits.tests A.outlined (directives_of directives.now) counts (entries_of attributes.now)) }
     ensures names { IfErr result (fits.Names A.outlined (directives_of directives.now) counts (entries_of attributes.now)) }
 {
-    if !operands_fit(directives, counts.operands) {
+    let places = places_of(directives);
+    if !counts_fit(places.operands, places.all_operands, counts.operands) {
         return Err(FitFault::OperandCount(counts.operands));
     }
-    if !successors_fit(directives, counts.successors) {
+    if !counts_fit(places.successors, places.all_successors, counts.successors) {
         return Err(FitFault::SuccessorCount(counts.successors));
     }
-    if !results_fit(directives, counts.results) {
+    if !counts_fit(places.types, false, counts.results) {
         return Err(FitFault::ResultCount(counts.results));
     }
-    if !regions_fit(directives, counts.regions) {
+    if !counts_fit(places.regions, places.all_regions, counts.regions) {
         return Err(FitFault::RegionCount(counts.regions));
     }
-    match missing_key(attributes, directives) {
+    match missing_named(places.keys, attributes, directives) {
         Some(key) => return Err(FitFault::MissingAttribute(key)),
         None => {}
     }
-    if !symbol_fits(attributes, directives) {
+    if !symbol_fits(places.header, attributes) {
         return Err(FitFault::NoSymbol);
     }
-    match uncovered_key(attributes, directives) {
+    match uncovered_key(places.dictionary, attributes, directives) {
         Some(key) => Err(FitFault::UnwrittenAttribute(key)),
         None => Ok(()),
     }
@@ -267,7 +295,8 @@ pub fn fitting_directives<'c, T: IrText<A>, A: AttrText>(
     ensures fits { OnOk result (IfSome (seen_own A.IrText.written ctx.now op) (λ o.
         fits.FitsOwn (printing_by A.AttrText.own A.eq ctx.now) (isolated ctx.now.dialects) o (length (regions ctx.now.graph op)))) }
     ensures fault { IfErr result (λ reason. IfSome (seen_own A.IrText.written ctx.now op) (λ o.
-        fits.IsFirstReason (printing_by A.AttrText.own A.eq ctx.now) (isolated ctx.now.dialects) o (length (regions ctx.now.graph op)) reason)) }
+        fits.IsFirstReason (printing_by A.AttrText.own A.eq ctx.now) (isolated ctx.now.dialects) o
+        (length (regions ctx.now.graph op)) reason)) }
 {
     let Some(info) = ctx.op_info(op.get_opid(ctx)) else {
         return Err(FitFault::NotRegistered);
@@ -296,7 +325,8 @@ pub fn check_fits<'c, T: IrText<A>, A: AttrText>(
     ensures fits { OnOk result (IfSome (seen_own A.IrText.written ctx.now op) (λ o.
         fits.FitsOwn (printing_by A.AttrText.own A.eq ctx.now) (isolated ctx.now.dialects) o (length (regions ctx.now.graph op)))) }
     ensures fault { IfErr result (λ reason. IfSome (seen_own A.IrText.written ctx.now op) (λ o.
-        fits.IsFirstReason (printing_by A.AttrText.own A.eq ctx.now) (isolated ctx.now.dialects) o (length (regions ctx.now.graph op)) reason)) }
+        fits.IsFirstReason (printing_by A.AttrText.own A.eq ctx.now) (isolated ctx.now.dialects) o
+        (length (regions ctx.now.graph op)) reason)) }
 {
     match fitting_directives(ctx, op) {
         Ok(_directives) => Ok(()),

@@ -123,7 +123,8 @@ fn fmt_facet<T: IrText<A>, A: AttrText>(
     f: &mut String,
 ) -> fmt::Result
     requires { ValueStands ctx.now.graph value }
-    ensures { OnOk result (IfSome (number_of ctx.now value) (λ n. AppendsText f.old (texts.facet_text T.IrText.written ctx.now facet (n, of_type.now)) f.new)) }
+    ensures { OnOk result (IfSome (number_of ctx.now value)
+        (λ n. AppendsText f.old (texts.facet_text T.IrText.written ctx.now facet (n, of_type.now)) f.new)) }
 {
     match facet {
         Facet::Name => fmt_value_name(ctx, value, f),
@@ -146,8 +147,10 @@ fn fmt_typed<T: IrText<A>, A: AttrText>(
     f: &mut String,
 ) -> Result<bool, fmt::Error>
     requires { ValueStands ctx.now.graph value }
-    ensures text { OnOk result (AppendsText f.old (texts.next_text first (option_and_then (texts.typed_text T.IrText.written ctx.now facet) (value_at ctx.now.graph value))) f.new) }
-    ensures left { IfOk result (λ left. left ≡ (first && not (is_some (option_and_then (texts.typed_text T.IrText.written ctx.now facet) (value_at ctx.now.graph value))))) }
+    ensures text { OnOk result (AppendsText f.old (texts.next_text first
+        (option_and_then (texts.typed_text T.IrText.written ctx.now facet) (value_at ctx.now.graph value))) f.new) }
+    ensures left { IfOk result (λ left. left ≡ (first && not
+        (is_some (option_and_then (texts.typed_text T.IrText.written ctx.now facet) (value_at ctx.now.graph value))))) }
 {
     let Some(of_type) = ctx.graph().type_of(value) else {
         return Ok(first);

@@ -12,6 +12,7 @@ use irtext_base::base::Identifier;
 use irtext_base::text::{AttrText, IrText};
 use irtext_context::base::{BasicBlock, BlockAccess, Context, Ptr, Value};
 use irtext_graph::held::HasGraph;
+use irtext_print::printable::numbers::fmt_number;
 use irtext_unique::name::given_name;
 use std::fmt;
 
@@ -30,12 +31,30 @@ fn fmt_numbered(given: Option<&Identifier>, number: u64, f: &mut String) -> fmt:
 {
     match given {
         Some(name) => {
-            let name = name.as_str();
-            write!(f, "{name}_v{number}")?;
+            f.push_str(name.as_str())?;
+            f.push_str("_v")?;
+            fmt_number(number, f)
+        }
+        None => {
+            f.push_str("v")?;
+            fmt_number(number, f)
+        }
+    }
+}
+
+/// Appends `^` and what stands in front of the place in the name of a block with this label or none.
+fn fmt_block_front(label: Option<&Identifier>, f: &mut String) -> fmt::Result
+    ensures { OnOk result (AppendsText f.old (codes "^" ++ printed.prefixed (option_copied label.entry) (codes "block")) f.new) }
+{
+    match label {
+        Some(label) => {
+            f.push_str("^")?;
+            f.push_str(label.as_str())?;
+            f.push_str("_block")?;
             Ok(())
         }
         None => {
-            write!(f, "v{number}")?;
+            f.push_str("^block")?;
             Ok(())
         }
     }
@@ -50,17 +69,10 @@ fn fmt_placed(
 ) -> fmt::Result
     ensures { OnOk result (AppendsText f.old (codes "^" ++ printed.block_name (option_copied label.entry) (place, generation)) f.new) }
 {
-    match label {
-        Some(label) => {
-            let label = label.as_str();
-            write!(f, "^{label}_block{place}v{generation}")?;
-            Ok(())
-        }
-        None => {
-            write!(f, "^block{place}v{generation}")?;
-            Ok(())
-        }
-    }
+    fmt_block_front(label, f)?;
+    fmt_number(place, f)?;
+    f.push_str("v")?;
+    fmt_number(generation as u64, f)
 }
 
 /// Appends the name of a value. It fails only where memory is refused.

@@ -79,7 +79,8 @@ fn fmt_successor_at<T: IrText<A>, A: AttrText>(
 /// The type of a value, where it is known.
 pub(crate) fn known_type<T: IrText<A>, A: AttrText>(ctx: &Context<T, A>, value: Value) -> Option<&T>
     requires { ValueStands ctx.now.graph value }
-    ensures { option_map (λ t. T.IrText.written t.now) result ≡ option_and_then (texts.typed_text T.IrText.written ctx.now facet.Type) (value_at ctx.now.graph value) }
+    ensures { option_map (λ t. T.IrText.written t.now) result ≡
+        option_and_then (texts.typed_text T.IrText.written ctx.now facet.Type) (value_at ctx.now.graph value) }
 {
     match ctx.graph().type_of(value) {
         Some(of_type) => Some(of_type),
@@ -95,7 +96,8 @@ fn fmt_result_type_at<T: IrText<A>, A: AttrText>(
     f: &mut String,
 ) -> fmt::Result
     requires { Stands ctx.now.graph (TheOperation op) }
-    ensures { OnOk result (AppendsText f.old (spaced_if (slice_get (known_types (texts.texts_of T.IrText.written ctx.now (listed.ResultTypes op))) index)) f.new) }
+    ensures { OnOk result (AppendsText f.old (spaced_if
+        (slice_get (known_types (texts.texts_of T.IrText.written ctx.now (listed.ResultTypes op))) index)) f.new) }
 {
     let mut left = index;
     for place in 0..count(ctx, Listed::ResultTypes(op)) {
@@ -162,7 +164,8 @@ fn fmt_part<T: IrText<A>, A: AttrText>(
 ) -> fmt::Result
     requires live { IsSome (operation ctx.now op) }
     ensures { OnOk result (IfSome (seen_own A.IrText.written ctx.now op) (λ o. AppendsText f.old
-        (part_text (language_in T.IrText.own A.IrText.own ctx.now) (part_of (printing_by A.AttrText.own A.eq ctx.now) (directives_of directives.now) o (directive_of directive.now)))
+        (part_text (language_in T.IrText.own A.IrText.own ctx.now)
+        (part_of (printing_by A.AttrText.own A.eq ctx.now) (directives_of directives.now) o (directive_of directive.now)))
         f.new)) }
 {
     keeps_operands(ctx, op);
@@ -196,7 +199,8 @@ pub fn fmt_piece<T: IrText<A>, A: AttrText>(
 ) -> Result<(), Refusal>
     requires live { IsSome (operation ctx.now op) }
     ensures text { OnOk result (IfSome (seen_own A.IrText.written ctx.now op) (λ o. AppendsText f.old
-        (part_text (language_in T.IrText.own A.IrText.own ctx.now) (part_of (printing_by A.AttrText.own A.eq ctx.now) (directives_of directives.now) o (directive_of directive.now)))
+        (part_text (language_in T.IrText.own A.IrText.own ctx.now)
+        (part_of (printing_by A.AttrText.own A.eq ctx.now) (directives_of directives.now) o (directive_of directive.now)))
         f.new)) }
     ensures refused { IfErr result (λ e. e ≡ refusal.Memory) }
 {

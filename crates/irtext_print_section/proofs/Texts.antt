@@ -1,16 +1,13 @@
 -- What was appended piece by piece, as the text of entries.
 use Rattle.std.proofs.Common.{◌≡◌, ℕ, Bool, true, false, ◌+◌, ◌<◌, ◌≤◌, ◌^◌, cond, List, [], ◌∷◌, ◌++◌, map, codes, Option, Some, None, length, get_or, drop, suc, arith, refl, sym, ap, ◌∙◌}
-use Rattle.std.proofs.lemmas.Fmt.{IsAscii-decimal}
 use Rattle.std.proofs.lemmas.List.{append_assoc, append-nil, drop_all}
-use Rattle.std.proofs.lemmas.Str.{IsAscii-append}
 use Rattle.std.proofs.Math.Seq.{drop-cons}
 use Rattle.std.specs.Borrow.{Bor}
 use Rattle.std.specs.Fmt.{decimal}
 use Rattle.std.specs.Prelude.{⊤}
-use Rattle.std.specs.Str.{IsAscii, encode_utf8_all}
+use Rattle.std.specs.Str.{encode_utf8_all}
 use Rattle.irtext_base.specs.Own.{Language}
 use Rattle.irtext_base.specs.Text.{Text}
-use Rattle.irtext_grammar.proofs.Lists.Ascii.{ascii-from, encodes-ascii}
 use Rattle.irtext_grammar.specs.Grammar.Tree.{Attribute}
 use Rattle.irtext_grammar.specs.Graphs.Graph.{Printing, place_in}
 use Rattle.irtext_grammar.specs.Spelling.Section.{item, located, once_texts}
@@ -19,31 +16,20 @@ use Rattle.irtext_print.proofs.Printers.Locations.{more, worded, ending, framed_
 use Rattle.irtext_print.specs.Errors.Located.{between, framed}
 use Rattle.irtext_print_section.specs.Entries.{reference_text, pair_text, pairs_text, entry_with, once_text}
 
--- `!` and a number are ASCII
-index_ascii : (n : ℕ) → n < 2 ^ 64 → IsAscii (codes "!" ++ decimal n)
-index_ascii n small = IsAscii-append (codes "!") (decimal n) (ascii-from (codes "!") refl) (IsAscii-decimal n small)
-
--- so are these and `=`
-head_ascii : (n : ℕ) → n < 2 ^ 64 → IsAscii (codes "!" ++ (decimal n ++ codes " = "))
-head_ascii n small = IsAscii-append (codes "!") (decimal n ++ codes " = ") (ascii-from (codes "!") refl) (IsAscii-append (decimal n) (codes " = ") (IsAscii-decimal n small) (ascii-from (codes " = ") refl))
-
 -- a reference is written
-pub reference_appended : (index wanted : ℕ) (old new : List ℕ) → index < 2 ^ 64 → index ≡ wanted → new ≡ old ++ (codes "!" ++ decimal index) → new ≡ old ++ encode_utf8_all (codes "!" ++ decimal wanted)
-reference_appended index wanted old new small same p =
-    p ∙ ap (λ z. old ++ z) (sym (encodes-ascii (codes "!" ++ decimal index) (index_ascii index small))) ∙ ap (λ n. old ++ encode_utf8_all (codes "!" ++ decimal n)) same
+pub reference_appended : (index wanted : ℕ) (f0 f1 f2 : List ℕ) → index ≡ wanted → f1 ≡ f0 ++ codes "!" → f2 ≡ f1 ++ encode_utf8_all (decimal index) → f2 ≡ f0 ++ encode_utf8_all (codes "!" ++ decimal wanted)
+reference_appended index wanted f0 f1 f2 same p q = worded f0 f1 f2 (codes "!") (decimal index) refl p q ∙ ap (λ n. f0 ++ encode_utf8_all (codes "!" ++ decimal n)) same
 
 -- an entry's head, and behind it the rest
-pub head_appended : (n : ℕ) (rest : Text) (old mid new : List ℕ) → n < 2 ^ 64 → mid ≡ old ++ (codes "!" ++ (decimal n ++ codes " = ")) → new ≡ mid ++ encode_utf8_all rest
-    → new ≡ old ++ encode_utf8_all (codes "!" ++ (decimal n ++ (codes " = " ++ rest)))
-head_appended n rest old mid new small p q =
-    more old mid new (codes "!" ++ (decimal n ++ codes " = ")) rest (p ∙ ap (λ z. old ++ z) (sym (encodes-ascii (codes "!" ++ (decimal n ++ codes " = ")) (head_ascii n small)))) q
-    ∙ ap (λ z. old ++ encode_utf8_all (33 ∷ z)) (append_assoc (decimal n) (codes " = ") rest)
+pub head_appended : (n : ℕ) (rest : Text) (f0 f1 f2 f3 f4 : List ℕ) → f1 ≡ f0 ++ codes "!" → f2 ≡ f1 ++ encode_utf8_all (decimal n) → f3 ≡ f2 ++ codes " = " → f4 ≡ f3 ++ encode_utf8_all rest
+    → f4 ≡ f0 ++ encode_utf8_all (codes "!" ++ (decimal n ++ (codes " = " ++ rest)))
+head_appended n rest f0 f1 f2 f3 f4 p q r s =
+    worded f0 f1 f4 (codes "!") (decimal n ++ (codes " = " ++ rest)) refl p (more f1 f2 f4 (decimal n) (codes " = " ++ rest) q (worded f2 f3 f4 (codes " = ") rest refl r s))
 
 -- an attribute that is written once is written
-pub once_appended : {A : Type 0} (written : A → Text) (n : ℕ) (a : A) (old first second new : List ℕ) → n < 2 ^ 64
-    → first ≡ old ++ (codes "!" ++ (decimal n ++ codes " = ")) → second ≡ first ++ encode_utf8_all (written a) → new ≡ second ++ codes "\n"
-    → new ≡ old ++ encode_utf8_all (once_text written n a)
-once_appended written n a old first second new small p q r = head_appended n (written a ++ codes "\n") old first new small p (ending first second new (written a) (codes "\n") refl q r)
+pub once_appended : {A : Type 0} (written : A → Text) (n : ℕ) (a : A) (f0 f1 f2 f3 f4 f5 : List ℕ) → f1 ≡ f0 ++ codes "!" → f2 ≡ f1 ++ encode_utf8_all (decimal n) → f3 ≡ f2 ++ codes " = "
+    → f4 ≡ f3 ++ encode_utf8_all (written a) → f5 ≡ f4 ++ codes "\n" → f5 ≡ f0 ++ encode_utf8_all (once_text written n a)
+once_appended written n a f0 f1 f2 f3 f4 f5 p q r s t = head_appended n (written a ++ codes "\n") f0 f1 f2 f3 f5 p q r (ending f3 f4 f5 (written a) (codes "\n") refl s t)
 
 module _ {T A : Type 0} (L : Language ⊤ T A) (C : Printing T A) where
   -- a known location is written between its brackets
@@ -52,18 +38,20 @@ module _ {T A : Type 0} (L : Language ⊤ T A) (C : Printing T A) where
   located_between (Some t) = refl
 
   -- an entry is written: its head, its location, and its attributes between brackets
-  pub entry_appended : (items : ℕ) (once : List A) (n : ℕ) (l : Option Text) (es : List (Text × Attribute A)) (f0 f1 f2 f3 f4 f5 : List ℕ) → n < 2 ^ 64
-      → f1 ≡ f0 ++ (codes "!" ++ (decimal n ++ codes " = "))
-      → f2 ≡ f1 ++ framed (codes "@[") (codes "], ") l
-      → f3 ≡ f2 ++ codes "["
-      → f4 ≡ f3 ++ encode_utf8_all (pairs_text C items once L es)
-      → f5 ≡ f4 ++ codes "]\n"
-      → f5 ≡ f0 ++ encode_utf8_all (entry_with C items once L n l es)
-  entry_appended items once n l es f0 f1 f2 f3 f4 f5 small p q r s t =
+  pub entry_appended : (items : ℕ) (once : List A) (n : ℕ) (l : Option Text) (es : List (Text × Attribute A)) (f0 f1 f2 f3 f4 f5 f6 f7 : List ℕ)
+      → f1 ≡ f0 ++ codes "!"
+      → f2 ≡ f1 ++ encode_utf8_all (decimal n)
+      → f3 ≡ f2 ++ codes " = "
+      → f4 ≡ f3 ++ framed (codes "@[") (codes "], ") l
+      → f5 ≡ f4 ++ codes "["
+      → f6 ≡ f5 ++ encode_utf8_all (pairs_text C items once L es)
+      → f7 ≡ f6 ++ codes "]\n"
+      → f7 ≡ f0 ++ encode_utf8_all (entry_with C items once L n l es)
+  entry_appended items once n l es f0 f1 f2 f3 f4 f5 f6 f7 a b c q r s t =
       let pairs = pairs_text C items once L es in
-      let inside : f5 ≡ f2 ++ encode_utf8_all (codes "[" ++ (pairs ++ codes "]\n")) = worded f2 f3 f5 (codes "[") (pairs ++ codes "]\n") refl r (ending f3 f4 f5 pairs (codes "]\n") refl s t) in
-      let place : f2 ≡ f1 ++ encode_utf8_all (located L C l) = q ∙ ap (λ z. f1 ++ z) (framed_bytes (codes "@[") (codes "], ") refl refl l) ∙ ap (λ z. f1 ++ encode_utf8_all z) (located_between l) in
-      head_appended n (located L C l ++ (codes "[" ++ (pairs ++ codes "]\n"))) f0 f1 f5 small p (more f1 f2 f5 (located L C l) (codes "[" ++ (pairs ++ codes "]\n")) place inside)
+      let inside : f7 ≡ f4 ++ encode_utf8_all (codes "[" ++ (pairs ++ codes "]\n")) = worded f4 f5 f7 (codes "[") (pairs ++ codes "]\n") refl r (ending f5 f6 f7 pairs (codes "]\n") refl s t) in
+      let place : f4 ≡ f3 ++ encode_utf8_all (located L C l) = q ∙ ap (λ z. f3 ++ z) (framed_bytes (codes "@[") (codes "], ") refl refl l) ∙ ap (λ z. f3 ++ encode_utf8_all z) (located_between l) in
+      head_appended n (located L C l ++ (codes "[" ++ (pairs ++ codes "]\n"))) f0 f1 f2 f3 f7 a b c (more f3 f4 f7 (located L C l) (codes "[" ++ (pairs ++ codes "]\n")) place inside)
 
   -- a key, ` = ` and what stands under it
   pub pair_appended : (items : ℕ) (once : List A) (e : Text × Attribute A) (f0 f1 f2 f3 : List ℕ) → f1 ≡ f0 ++ encode_utf8_all e.0 → f2 ≡ f1 ++ codes " = " → f3 ≡ f2 ++ encode_utf8_all (item L C items once e.1)

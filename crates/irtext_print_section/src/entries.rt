@@ -18,6 +18,7 @@ use irtext_base::text::{AttrText, IrText};
 use irtext_context::base::Context;
 use irtext_print::location::print::fmt_known;
 use irtext_print::printable::attributes::fmt_attr;
+use irtext_print::printable::numbers::fmt_number;
 use std::fmt;
 
 /// Appends the reference to an attribute that is written once, which is known from then on: its index behind all items.
@@ -28,15 +29,16 @@ fn fmt_reference<'c, A: AttrText>(
     f: &mut String,
 ) -> fmt::Result
     requires { items < 2 ^ 63 }
-    ensures known { OnOk result (mentions.known_in known.new ≡ mentions.with_mention (mentions.asking A.print_once A.eq) (mentions.known_in known.old) attr.now) }
+    ensures known { OnOk result (mentions.known_in known.new ≡
+        mentions.with_mention (mentions.asking A.print_once A.eq) (mentions.known_in known.old) attr.now) }
     ensures text { OnOk result ((more : List A) →
-        AppendsText f.old (texts.reference_text (mentions.asking A.print_once A.eq) items (mentions.known_in known.new ++ more) attr.now) f.new) }
+        AppendsText f.old (texts.reference_text (mentions.asking A.print_once A.eq) items (mentions.known_in known.new ++ more) attr.now)
+        f.new) }
 {
     let place = note(known, attr)?;
     let index = items + place;
     f.push_str("!")?;
-    write!(f, "{index}")?;
-    Ok(())
+    fmt_number(index as u64, f)
 }
 
 /// Appends an attribute of the caller's, or the reference to one that is written once.
@@ -47,9 +49,11 @@ fn fmt_own<'c, A: AttrText>(
     f: &mut String,
 ) -> fmt::Result
     requires { items < 2 ^ 63 }
-    ensures known { OnOk result (mentions.known_in known.new ≡ mentions.noted (mentions.asking A.print_once A.eq) (mentions.known_in known.old) (tree.own attr.now)) }
+    ensures known { OnOk result (mentions.known_in known.new ≡
+        mentions.noted (mentions.asking A.print_once A.eq) (mentions.known_in known.old) (tree.own attr.now)) }
     ensures text { OnOk result ((more : List A) →
-        AppendsText f.old (item (words A.IrText.written) (mentions.asking A.print_once A.eq) items (mentions.known_in known.new ++ more) (tree.own attr.now)) f.new) }
+        AppendsText f.old (item (words A.IrText.written) (mentions.asking A.print_once A.eq) items (mentions.known_in known.new ++ more)
+        (tree.own attr.now)) f.new) }
 {
     if attr.is_print_once() {
         return fmt_reference(attr, items, known, f);
@@ -65,9 +69,11 @@ fn fmt_attribute<'c, A: AttrText>(
     f: &mut String,
 ) -> fmt::Result
     requires { items < 2 ^ 63 }
-    ensures known { OnOk result (mentions.known_in known.new ≡ mentions.noted (mentions.asking A.print_once A.eq) (mentions.known_in known.old) (attribute_of attr.now)) }
+    ensures known { OnOk result (mentions.known_in known.new ≡
+        mentions.noted (mentions.asking A.print_once A.eq) (mentions.known_in known.old) (attribute_of attr.now)) }
     ensures text { OnOk result ((more : List A) →
-        AppendsText f.old (item (words A.IrText.written) (mentions.asking A.print_once A.eq) items (mentions.known_in known.new ++ more) (attribute_of attr.now)) f.new) }
+        AppendsText f.old (item (words A.IrText.written) (mentions.asking A.print_once A.eq) items (mentions.known_in known.new ++ more)
+        (attribute_of attr.now)) f.new) }
 {
     match attr {
         AttrObj::Own(own) => fmt_own(own, items, known, f),
@@ -92,9 +98,11 @@ fn fmt_pair<'c, A: AttrText>(
     f: &mut String,
 ) -> fmt::Result
     requires { items < 2 ^ 63 }
-    ensures known { OnOk result (mentions.known_in known.new ≡ mentions.noted (mentions.asking A.print_once A.eq) (mentions.known_in known.old) (given_pair pair.entry).1) }
+    ensures known { OnOk result (mentions.known_in known.new ≡
+        mentions.noted (mentions.asking A.print_once A.eq) (mentions.known_in known.old) (given_pair pair.entry).1) }
     ensures text { OnOk result ((more : List A) →
-        AppendsText f.old (texts.pair_text (mentions.asking A.print_once A.eq) items (mentions.known_in known.new ++ more) (words A.IrText.written) (given_pair pair.entry)) f.new) }
+        AppendsText f.old (texts.pair_text (mentions.asking A.print_once A.eq) items (mentions.known_in known.new ++ more)
+        (words A.IrText.written) (given_pair pair.entry)) f.new) }
 {
     match pair {
         GivenAttribute::Label(label) => fmt_label(label, f),
@@ -124,9 +132,11 @@ fn fmt_pairs<'c, A: AttrText>(
     f: &mut String,
 ) -> fmt::Result
     requires { items < 2 ^ 63 }
-    ensures known { OnOk result (mentions.known_in known.new ≡ mentions.all_noted (mentions.asking A.print_once A.eq) (mentions.known_in known.old) (attributes_of A.outlined given.now)) }
+    ensures known { OnOk result (mentions.known_in known.new ≡
+        mentions.all_noted (mentions.asking A.print_once A.eq) (mentions.known_in known.old) (attributes_of A.outlined given.now)) }
     ensures text { OnOk result ((more : List A) →
-        AppendsText f.old (texts.pairs_text (mentions.asking A.print_once A.eq) items (mentions.known_in known.new ++ more) (words A.IrText.written) (attributes_of A.outlined given.now)) f.new) }
+        AppendsText f.old (texts.pairs_text (mentions.asking A.print_once A.eq) items (mentions.known_in known.new ++ more)
+        (words A.IrText.written) (attributes_of A.outlined given.now)) f.new) }
 {
     let mut first = true;
     for pair in given.attributes() {
@@ -147,13 +157,15 @@ pub(crate) fn fmt_entry<'c, T: IrText<A>, A: AttrText>(
     f: &mut String,
 ) -> fmt::Result
     requires { items < 2 ^ 63 }
-    ensures known { OnOk result (mentions.known_in known.new ≡ mentions.all_noted (mentions.asking A.print_once A.eq) (mentions.known_in known.old) (attributes_of A.outlined given.now)) }
+    ensures known { OnOk result (mentions.known_in known.new ≡
+        mentions.all_noted (mentions.asking A.print_once A.eq) (mentions.known_in known.old) (attributes_of A.outlined given.now)) }
     ensures text { OnOk result ((more : List A) →
-        AppendsText f.old (texts.entry_with (mentions.asking A.print_once A.eq) items (mentions.known_in known.new ++ more) (words A.IrText.written) index
+        AppendsText f.old (texts.entry_with (mentions.asking A.print_once A.eq) items (mentions.known_in known.new ++ more)
+        (words A.IrText.written) index
         (known_text A.written ctx.now.paths given.now.location.now) (attributes_of A.outlined given.now)) f.new) }
 {
     f.push_str("!")?;
-    write!(f, "{index}")?;
+    fmt_number(index as u64, f)?;
     f.push_str(" = ")?;
     fmt_known(given.location, "@[", "], ", ctx, f)?;
     f.push_str("[")?;

@@ -16,8 +16,10 @@ pub(crate) fn note<'c, A: AttrText>(
     known: &mut Mentions<'c, A>,
     attr: &'c A,
 ) -> Result<usize, fmt::Error>
-    ensures known { OnOk result (mentions.known_in known.new ≡ mentions.with_mention (mentions.asking A.print_once A.eq) (mentions.known_in known.old) attr.now) }
-    ensures place { IfOk result (λ place. (more : List A) → place ≡ place_in (mentions.asking A.print_once A.eq) (mentions.known_in known.new ++ more) attr.now) }
+    ensures known { OnOk result (mentions.known_in known.new ≡
+        mentions.with_mention (mentions.asking A.print_once A.eq) (mentions.known_in known.old) attr.now) }
+    ensures place { IfOk result (λ place. (more : List A) → place ≡
+        place_in (mentions.asking A.print_once A.eq) (mentions.known_in known.new ++ more) attr.now) }
     ensures small { IfOk result (λ place. place < 2 ^ 63) }
 {
     match known.insert_full(attr) {

@@ -38,9 +38,12 @@ pub fn print_region_inside<H: WritesHeads<T, A>, T: IrText<A>, A: AttrText, U>(
     f: &mut String,
 ) -> Result<(), Refusal>
     requires live { Stands ctx.now.graph (TheRegion region) }
-    ensures text { OnOk result (AppendsText f.old (heads.region_text_under T.IrText.own A.IrText.own A.AttrText.own A.eq ctx.now region state.now (length items.old.items)) f.new) }
-    ensures items { OnOk result (items.new.items ≡ items.old.items ++ heads.region_items_under T.IrText.own A.IrText.own A.AttrText.own A.eq ctx.now region state.now) }
-    ensures fits { OnOk result (heads.RegionFaultUnder T.IrText.own A.IrText.own A.AttrText.own A.eq ctx.now region state.now refusal.Misfit → ⊥) }
+    ensures text { OnOk result (AppendsText f.old (heads.region_text_under T.IrText.own A.IrText.own A.AttrText.own A.eq ctx.now region
+        state.now (length items.old.items)) f.new) }
+    ensures items { OnOk result (items.new.items ≡ items.old.items ++
+        heads.region_items_under T.IrText.own A.IrText.own A.AttrText.own A.eq ctx.now region state.now) }
+    ensures fits { OnOk result (heads.RegionFaultUnder T.IrText.own A.IrText.own A.AttrText.own A.eq ctx.now region state.now refusal.Misfit
+        → ⊥) }
     ensures refused { IfErr result (heads.RefusesRegionUnder T.IrText.own A.IrText.own A.AttrText.own A.eq ctx.now region state.now) }
 {
     let width = state.indent_width();
@@ -65,9 +68,12 @@ pub fn print_block_inside<H: WritesHeads<T, A>, T: IrText<A>, A: AttrText, U>(
     f: &mut String,
 ) -> Result<(), Refusal>
     requires live { IsSome (context.block ctx.now block) }
-    ensures text { OnOk result (AppendsText f.old (heads.block_text_under T.IrText.own A.IrText.own A.AttrText.own A.eq ctx.now block state.now (length items.old.items)) f.new) }
-    ensures items { OnOk result (items.new.items ≡ items.old.items ++ heads.block_items_under T.IrText.own A.IrText.own A.AttrText.own A.eq ctx.now block state.now) }
-    ensures fits { OnOk result (heads.BlockFaultUnder T.IrText.own A.IrText.own A.AttrText.own A.eq ctx.now block state.now refusal.Misfit → ⊥) }
+    ensures text { OnOk result (AppendsText f.old (heads.block_text_under T.IrText.own A.IrText.own A.AttrText.own A.eq ctx.now block
+        state.now (length items.old.items)) f.new) }
+    ensures items { OnOk result (items.new.items ≡ items.old.items ++
+        heads.block_items_under T.IrText.own A.IrText.own A.AttrText.own A.eq ctx.now block state.now) }
+    ensures fits { OnOk result (heads.BlockFaultUnder T.IrText.own A.IrText.own A.AttrText.own A.eq ctx.now block state.now refusal.Misfit →
+        ⊥) }
     ensures refused { IfErr result (heads.RefusesBlockUnder T.IrText.own A.IrText.own A.AttrText.own A.eq ctx.now block state.now) }
 {
     let width = state.indent_width();

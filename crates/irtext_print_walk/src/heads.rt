@@ -54,7 +54,8 @@ pub trait WritesHeads<T: IrText<A>, A: AttrText> {
         f: &mut String,
     ) -> Result<(), Refusal>
         requires live { IsSome (context.block ctx.now block) }
-        ensures text { OnOk result (AppendsText f.old (heads.block_head_at T.IrText.own A.IrText.own A.AttrText.own A.eq ctx.now block) f.new) }
+        ensures text { OnOk result (AppendsText f.old
+            (heads.block_head_at T.IrText.own A.IrText.own A.AttrText.own A.eq ctx.now block) f.new) }
         ensures refused { IfErr result (λ e. e ≡ refusal.Memory) };
 
     /// Whether a mark is written of an operation: its location is known, or an attribute of it is outlined.

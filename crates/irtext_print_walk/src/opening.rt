@@ -9,6 +9,7 @@ ghost use Rattle.irtext_print_walk.specs.Steps.{IsTooDeep, begun_frames, region_
 
 use crate::frame::RegionFrame;
 use irtext_context::base::{Ptr, Region};
+use irtext_print::printable::numbers::fmt_number;
 use irtext_print::printable::{Refusal, RegionPrintDepthLimit, fmt_newline, fmt_opening};
 
 /// One indentation more, where the spaces fit 16 bits.
@@ -105,8 +106,10 @@ pub(crate) fn fmt_index(index: usize, f: &mut String) -> Result<(), Refusal>
     ensures refused { IfErr result (λ e. e ≡ refusal.Memory) }
 {
     f.push_str(" !")?;
-    write!(f, "{index}")?;
-    Ok(())
+    match fmt_number(index as u64, f) {
+        Ok(()) => Ok(()),
+        Err(_) => Err(Refusal::Memory),
+    }
 }
 
 /// Appends that a region is elided; behind a space, unless the region joins what stands before it.

@@ -104,7 +104,8 @@ fn region_turn<'c, T: IrText<A>, A: AttrText>(
 ) -> Result<Option<RegionFrame>, Refusal>
     requires live { IsSome (operation ctx.now frame.old.op) }
     ensures text { OnOk result (AppendsText f.old (steps.region_turn_text ctx.now width frame.old) f.new) }
-    ensures left { IfOk result (λ begun. framed.Operation frame.new ∷ steps.begun_frames begun ≡ steps.region_turn_frames ctx.now frame.old) }
+    ensures left { IfOk result (λ begun. framed.Operation frame.new ∷ steps.begun_frames begun ≡
+        steps.region_turn_frames ctx.now frame.old) }
     ensures refused { IfErr result (λ e. e ≢ refusal.Memory → (e ≡ refusal.Depth) × steps.NextTooDeep ctx.now width frame.old) }
 {
     if frame.region >= frame.op.num_regions(ctx) {
@@ -147,8 +148,10 @@ pub(crate) fn end_operation<H: WritesHeads<T, A>, T: IrText<A>, A: AttrText>(
     f: &mut String,
 ) -> Result<(), Refusal>
     requires live { IsSome (operation ctx.now op) }
-    ensures text { OnOk result (AppendsText f.old (heads.own_mark_at T.IrText.own A.IrText.own A.AttrText.own A.eq ctx.now op marked (length items.old.items)) f.new) }
-    ensures items { OnOk result (items.new.items ≡ items.old.items ++ heads.own_items_at T.IrText.own A.IrText.own A.AttrText.own A.eq ctx.now op marked) }
+    ensures text { OnOk result (AppendsText f.old (heads.own_mark_at T.IrText.own A.IrText.own A.AttrText.own A.eq ctx.now op marked
+        (length items.old.items)) f.new) }
+    ensures items { OnOk result (items.new.items ≡ items.old.items ++
+        heads.own_items_at T.IrText.own A.IrText.own A.AttrText.own A.eq ctx.now op marked) }
     ensures refused { IfErr result (λ e. e ≡ refusal.Memory) }
 {
     if !marked {
@@ -169,8 +172,10 @@ pub(crate) fn fmt_block_mark<H: WritesHeads<T, A>, T: IrText<A>, A: AttrText>(
     f: &mut String,
 ) -> Result<(), Refusal>
     requires live { IsSome (context.block ctx.now block) }
-    ensures text { OnOk result (AppendsText f.old (heads.block_mark_at T.IrText.own A.IrText.own A.AttrText.own A.eq ctx.now block (length items.old.items)) f.new) }
-    ensures items { OnOk result (items.new.items ≡ items.old.items ++ heads.block_items_at T.IrText.own A.IrText.own A.AttrText.own A.eq ctx.now block) }
+    ensures text { OnOk result (AppendsText f.old (heads.block_mark_at T.IrText.own A.IrText.own A.AttrText.own A.eq ctx.now block
+        (length items.old.items)) f.new) }
+    ensures items { OnOk result (items.new.items ≡ items.old.items ++
+        heads.block_items_at T.IrText.own A.IrText.own A.AttrText.own A.eq ctx.now block) }
     ensures refused { IfErr result (λ e. e ≡ refusal.Memory) }
 {
     if !H::is_block_marked(ctx, block) {
@@ -192,7 +197,8 @@ fn operation_turn<'c, H: WritesHeads<T, A>, T: IrText<A>, A: AttrText>(
     ensures steps { IfOk result (λ turn.
         heads.StepsAt T.IrText.own A.IrText.own A.AttrText.own A.eq ctx.now width (framed.Operation frame.old)
         items.old.items items.new.items [] (steps.turn_frames frame.new turn) f.old f.new) }
-    ensures refused { IfErr result (heads.RefusesFrame T.IrText.own A.IrText.own A.AttrText.own A.eq ctx.now width (framed.Operation frame.old)) }
+    ensures refused { IfErr result (heads.RefusesFrame T.IrText.own A.IrText.own A.AttrText.own A.eq ctx.now width
+        (framed.Operation frame.old)) }
 {
     ctx.graph().keeps_nesting();
     if frame.repeats {
@@ -230,7 +236,8 @@ pub(crate) fn operation_turns<'c, H: WritesHeads<T, A>, T: IrText<A>, A: AttrTex
     ensures steps { IfOk result (λ inside.
         heads.StepsAt T.IrText.own A.IrText.own A.AttrText.own A.eq ctx.now width (framed.Operation frame.old)
         items.old.items items.new.items [] (steps.left_frames frame.new inside) f.old f.new) }
-    ensures refused { IfErr result (heads.RefusesFrame T.IrText.own A.IrText.own A.AttrText.own A.eq ctx.now width (framed.Operation frame.old)) }
+    ensures refused { IfErr result (heads.RefusesFrame T.IrText.own A.IrText.own A.AttrText.own A.eq ctx.now width
+        (framed.Operation frame.old)) }
 {
     loop {
         match operation_turn::<H, T, A>(ctx, width, frame, items, f)? {
@@ -254,7 +261,8 @@ fn operation_step<'c, H: WritesHeads<T, A>, T: IrText<A>, A: AttrText>(
     ensures steps { IfOk result (λ inner.
         heads.StepsAt T.IrText.own A.IrText.own A.AttrText.own A.eq ctx.now width (framed.Operation frame.entry)
         items.old.items items.new.items frames.old.items (frames.new.items ++ steps.listed inner) f.old f.new) }
-    ensures refused { IfErr result (heads.RefusesFrame T.IrText.own A.IrText.own A.AttrText.own A.eq ctx.now width (framed.Operation frame.entry)) }
+    ensures refused { IfErr result (heads.RefusesFrame T.IrText.own A.IrText.own A.AttrText.own A.eq ctx.now width
+        (framed.Operation frame.entry)) }
 {
     let mut left = frame;
     let Some(inside) = operation_turns::<H, T, A>(ctx, width, &mut left, items, f)? else {

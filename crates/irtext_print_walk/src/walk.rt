@@ -56,8 +56,8 @@ pub(crate) fn print_frames<'c, H: WritesHeads<T, A>, T: IrText<A>, A: AttrText>(
     Ok(())
 }
 
-/// Appends the text that is left of an operation. What is marked in it is added to `items`, in the order of the marks, and a mark counts those
-/// before it. What was written and gathered until a refusal stays. It takes no memory of its own where no region has blocks.
+/// Appends the text that is left of an operation. What is marked in it is added to `items`, in the order of the marks, and a mark counts
+/// those before it. What was written and gathered until a refusal stays. It takes no memory of its own where no region has blocks.
 fn print_operation<'c, H: WritesHeads<T, A>, T: IrText<A>, A: AttrText>(
     ctx: &'c Context<T, A>,
     width: u16,
@@ -108,8 +108,10 @@ pub fn print_inside<H: WritesHeads<T, A>, T: IrText<A>, A: AttrText, U>(
     f: &mut String,
 ) -> Result<(), Refusal>
     requires live { IsSome (operation ctx.now op) }
-    ensures text { OnOk result (AppendsText f.old (heads.text_under T.IrText.own A.IrText.own A.AttrText.own A.eq ctx.now op state.now marked (length items.old.items)) f.new) }
-    ensures items { OnOk result (items.new.items ≡ items.old.items ++ heads.items_under T.IrText.own A.IrText.own A.AttrText.own A.eq ctx.now op state.now marked) }
+    ensures text { OnOk result (AppendsText f.old (heads.text_under T.IrText.own A.IrText.own A.AttrText.own A.eq ctx.now op state.now
+        marked (length items.old.items)) f.new) }
+    ensures items { OnOk result (items.new.items ≡ items.old.items ++
+        heads.items_under T.IrText.own A.IrText.own A.AttrText.own A.eq ctx.now op state.now marked) }
     ensures fits { OnOk result (heads.MisfitsUnder T.IrText.own A.IrText.own A.AttrText.own A.eq ctx.now op state.now → ⊥) }
     ensures refused { IfErr result (heads.RefusesUnder T.IrText.own A.IrText.own A.AttrText.own A.eq ctx.now op state.now) }
 {
@@ -129,8 +131,10 @@ pub fn print_mark<H: WritesHeads<T, A>, T: IrText<A>, A: AttrText>(
     f: &mut String,
 ) -> Result<(), Refusal>
     requires live { IsSome (operation ctx.now op) }
-    ensures text { OnOk result (AppendsText f.old (heads.own_mark_at T.IrText.own A.IrText.own A.AttrText.own A.eq ctx.now op true (length items.old.items)) f.new) }
-    ensures items { OnOk result (items.new.items ≡ items.old.items ++ heads.own_items_at T.IrText.own A.IrText.own A.AttrText.own A.eq ctx.now op true) }
+    ensures text { OnOk result (AppendsText f.old (heads.own_mark_at T.IrText.own A.IrText.own A.AttrText.own A.eq ctx.now op true
+        (length items.old.items)) f.new) }
+    ensures items { OnOk result (items.new.items ≡ items.old.items ++
+        heads.own_items_at T.IrText.own A.IrText.own A.AttrText.own A.eq ctx.now op true) }
     ensures refused { IfErr result (λ e. e ≡ refusal.Memory) }
 {
     end_operation::<H, T, A>(ctx, op, true, items, f)

@@ -1,6 +1,6 @@
 //! Worked rows of the graph: each call once, which places objects take, full counters, what is given back, uses that go in every
-//! order, a chain that is nested deep, walks over all inside an object, and a value that is used often; and a random script beside a
-//! plain model.
+//! order, a chain that is nested deep, walks over all inside an object, and a value that is used often; lists whose first item is
+//! held in place; and a random script beside a plain model.
 #![tactic(auto)]
 
 #[cfg(test)]
@@ -11,6 +11,8 @@ mod compared;
 mod counters;
 #[cfg(test)]
 mod held;
+#[cfg(test)]
+mod lists;
 #[cfg(test)]
 mod model;
 #[cfg(test)]

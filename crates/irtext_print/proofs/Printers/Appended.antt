@@ -1,9 +1,10 @@
 -- What was appended piece by piece, as one text.
 use Rattle.std.proofs.Common.{◌≡◌, ◌∷◌, ◌++◌, ◌∙◌, ℕ, List, true≢false, refl, sym, ap, Result, Ok, Err, OnOk, IsOk, IfErr, codes, ◌+◌, ◌*◌, replicate, take, ◌-◌, ◌≤◌, zero, suc, arith}
-use Rattle.std.specs.Str.{IsAscii}
+use Rattle.std.specs.Str.{IsAscii, encode_utf8_all}
 use Rattle.std.proofs.lemmas.List.{append_assoc, replicate-append-replicate, take-replicate}
 use Rattle.std.specs.List.{slice_range}
 use Rattle.irtext_base.specs.Text.{Text}
+use Rattle.irtext_grammar.proofs.Lists.Ascii.{encodes-ascii}
 use Rattle.std.proofs.Common.{Box, Global}
 use Rattle.irtext_base.specs.Causes.{headed, kind_text, cause_text}
 use Rattle.irtext_base.specs.declared.result.Error.{Error}
@@ -89,3 +90,7 @@ opening-behind n few =
 -- bytes, and those behind them
 pub piece : (f0 f1 f2 a r : List ℕ) → f1 ≡ f0 ++ a → f2 ≡ f1 ++ r → f2 ≡ f0 ++ (a ++ r)
 piece f0 f1 f2 a r p q = q ∙ ap (λ z. z ++ r) p ∙ append_assoc f0 a r
+
+-- the digits of a number are ASCII, so their bytes are appended as they are
+pub number_appended : (text digits old new : List ℕ) → digits ≡ text → IsAscii digits → new ≡ old ++ digits → new ≡ old ++ encode_utf8_all text
+number_appended text digits old new e a p = p ∙ ap (λ z. old ++ z) (sym (encodes-ascii digits a)) ∙ ap (λ z. old ++ encode_utf8_all z) e

@@ -1,15 +1,11 @@
 -- What was appended piece by piece, as the text of a location.
-use Rattle.std.proofs.Common.{◌≡◌, ◌++◌, ◌∙◌, ◌<◌, ◌^◌, ◌+◌, ℕ, Bool, true, false, cond, List, [], ◌∷◌, refl, sym, ap, codes, Option, Some, None}
+use Rattle.std.proofs.Common.{◌≡◌, ◌++◌, ◌∙◌, ℕ, Bool, true, false, cond, List, [], ◌∷◌, refl, sym, ap, codes, Option, Some, None}
 use Rattle.std.proofs.lemmas.List.{append_assoc, append-nil}
-use Rattle.std.proofs.lemmas.Str.{encodes-append, IsAscii-append}
-use Rattle.std.proofs.lemmas.Fmt.{IsAscii-decimal, IsAscii-signed}
+use Rattle.std.proofs.lemmas.Str.{encodes-append}
 use Rattle.std.specs.Char.{is_ascii}
-use Rattle.std.specs.Fmt.{decimal, signed_decimal}
-use Rattle.std.specs.Int.Signed.{mag}
 use Rattle.std.specs.List.{list_all}
-use Rattle.std.specs.Str.{encode_utf8_all, IsAscii}
+use Rattle.std.specs.Str.{encode_utf8_all}
 use Rattle.irtext_base.specs.Text.{Text}
-use Rattle.irtext_stream.specs.declared.position.SourcePosition.{SourcePosition}
 use Rattle.irtext_print.specs.Errors.Located.{between, framed}
 use Rattle.irtext_grammar.specs.Spelling.Spell.{joined, joined_from, comma}
 use Rattle.irtext_grammar.proofs.Lists.Ascii.{ascii-from, encodes-ascii}
@@ -45,13 +41,6 @@ two_framed a t b u c f0 f1 f2 f3 f4 f5 i j k p q r s v = worded f0 f1 f5 a (t ++
 pub between_two : (t b u : Text) (f0 f1 f2 f3 : List ℕ) → list_all is_ascii b ≡ true → f1 ≡ f0 ++ encode_utf8_all t → f2 ≡ f1 ++ b → f3 ≡ f2 ++ encode_utf8_all u
     → f3 ≡ f0 ++ encode_utf8_all (t ++ (b ++ u))
 between_two t b u f0 f1 f2 f3 j p q r = more f0 f1 f3 t (b ++ u) p (worded f1 f2 f3 b u j q r)
-
--- the numbers of a position
-pub numbers_appended : (pos : SourcePosition) (f0 f1 f2 f3 : List ℕ) → mag pos.line < 2 ^ 63 → mag pos.column < 2 ^ 63 → f1 ≡ f0 ++ signed_decimal pos.line → f2 ≡ f1 ++ codes ", column: " → f3 ≡ f2 ++ signed_decimal pos.column
-    → f3 ≡ f0 ++ encode_utf8_all (signed_decimal pos.line ++ (codes ", column: " ++ signed_decimal pos.column))
-numbers_appended pos f0 f1 f2 f3 l c p q r =
-    more f0 f1 f3 (signed_decimal pos.line) (codes ", column: " ++ signed_decimal pos.column) (p ∙ ap (λ z. f0 ++ z) (sym (encodes-ascii (signed_decimal pos.line) (IsAscii-signed pos.line l))))
-    (worded f1 f2 f3 (codes ", column: ") (signed_decimal pos.column) refl q (r ∙ ap (λ z. f2 ++ z) (sym (encodes-ascii (signed_decimal pos.column) (IsAscii-signed pos.column c)))))
 
 -- what is left of items with `, ` between
 abbrev pub left_text : Bool → List Text → Text

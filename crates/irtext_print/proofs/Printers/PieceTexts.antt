@@ -1,5 +1,5 @@
 -- What is written of an operation's attributes: attributes that are found under a key, and the texts of pieces.
-use Rattle.std.proofs.Common.{◌≡◌, ◌++◌, ◌∙◌, ◌||◌, ◌&&◌, not, filter, ℕ, List, [], ◌∷◌, Bool, true, false, cond, map, refl, sym, ap, Option, Some, IsTrue, codes}
+use Rattle.std.proofs.Common.{◌≡◌, ◌++◌, ◌∙◌, ◌||◌, ◌&&◌, not, filter, ℕ, List, [], ◌∷◌, Bool, true, false, cond, map, refl, sym, ap, Option, Some, IsTrue, codes, slice_get}
 use Rattle.std.proofs.lemmas.List.{append-nil}
 use Rattle.std.proofs.lemmas.Str.{encodes-chars}
 use Rattle.std.specs.List.{list_any, list_all}
@@ -37,6 +37,13 @@ looked key (e ∷ es) = ap (λ b. cond b (Some (attribute_of e.1)) (lookup key (
 pub found_under : {A : Type 0} (key : Text) (es : List (Text × AttrObj A)) (found value : Option (AttrObj A)) → found ≡ dictionary.lookup (bytes_eq key) es → found ≡ value
     → lookup key (entries_of es) ≡ option_map attribute_of value
 found_under key es found value e is = looked key es ∙ ap (option_map attribute_of) (sym e ∙ is)
+
+-- the first entry has the key
+pub first_under : {A : Type 0} (key k : Text) (a : AttrObj A) (es : List (Text × AttrObj A)) → slice_get es 0 ≡ Some (k, a) → bytes_eq key k ≡ true → Some a ≡ dictionary.lookup (bytes_eq key) es
+first_under key k a [] e t = absurd (cc)
+first_under {A = A} key k a (x ∷ es) e t =
+    let is : x ≡ (k, a) = cc in
+    sym (ap (λ (z : Text × AttrObj A). cond (bytes_eq key z.0) (Some z.1) (dictionary.lookup (bytes_eq key) es)) is ∙ ap (λ b. cond b (Some a) (dictionary.lookup (bytes_eq key) es)) t)
 
 -- nothing was appended
 pub unchanged : (old : List ℕ) → old ≡ old ++ encode_utf8_all []

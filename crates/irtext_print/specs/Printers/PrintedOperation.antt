@@ -4,7 +4,7 @@ use Rattle.std.specs.Prelude.{ℕ, Bool, true, false, cond, not, ◌||◌, ◌==
 use Rattle.std.specs.List.{list_all}
 use Rattle.irtext_base.specs.Text.{Text}
 use Rattle.irtext_base.specs.Format as format
-use Rattle.irtext_base.specs.Format.{Directive, count, keys, region_places, is_regions, is_dictionary, is_header, sym_name_key}
+use Rattle.irtext_base.specs.Format.{Directive, count, keys, region_places, is_regions, is_header, sym_name_key}
 use Rattle.irtext_base.specs.Own.{Language, texts_of, unplaced}
 use Rattle.irtext_base.specs.declared.text.IrText as ir_text
 use Rattle.irtext_context.specs.Context.{ContextView}
@@ -13,8 +13,6 @@ use Rattle.irtext_grammar.specs.Graphs.Graph.{Limit, lookup}
 use Rattle.irtext_grammar.specs.Grammar.Tree.{Attribute, ident}
 use Rattle.irtext_print.specs.declared.printable.state.RegionPrintDepthLimit.{RegionPrintDepthLimit}
 use Rattle.irtext_print.specs.declared.printable.state.RegionPrintDepthLimit.TheVariants.{Unlimited, Max}
-use Rattle.irtext_print.specs.declared.ir.print.fits.SingleKind.{SingleKind}
-use Rattle.irtext_print.specs.declared.ir.print.fits.SingleKind.TheVariants as sole
 
 -- a directive that names no value, no block and no type
 abbrev pub is_supported : Directive → Bool
@@ -51,9 +49,3 @@ language_in types owns ctx = unplaced (texts_of types.reading types.written) (te
 abbrev pub levels : RegionPrintDepthLimit → Limit
 levels Unlimited = None
 levels (Max n) = Some n
-
--- the directive is of this kind
-abbrev pub is_of_kind : SingleKind → Directive → Bool
-is_of_kind sole.Regions = is_regions
-is_of_kind sole.Dictionary = is_dictionary
-is_of_kind sole.Header = is_header

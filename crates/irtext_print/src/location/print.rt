@@ -1,7 +1,7 @@
 //! Printing of locations: files by the paths that a context keeps for them.
-ghost use Rattle.std.specs.Prelude.{◌≡◌, ◌<◌, ◌^◌, ◌++◌, OnOk, codes, option_copied, string_bytes};
+ghost use Rattle.std.specs.Prelude.{◌≡◌, ◌++◌, FitsSigned, OnOk, codes, option_copied, string_bytes};
 ghost use Rattle.std.specs.Fmt.{signed_decimal};
-ghost use Rattle.std.specs.Int.Signed.{mag};
+ghost use Rattle.std.specs.Int.{w32};
 ghost use Rattle.irtext_print.specs.Printers.Appended.{AppendsText};
 ghost use Rattle.irtext_base.specs.Causes.{position_text};
 ghost use Rattle.irtext_base.specs.Locations.{attr_view_in};
@@ -11,6 +11,7 @@ ghost use Rattle.irtext_print.specs.Errors.Located.{framed};
 
 use crate::location::parts::{Part, fmt_part};
 use crate::printable::attributes::fmt_attr;
+use crate::printable::numbers::fmt_signed;
 use irtext_base::base::AttrObj;
 use irtext_base::location::{Location, Source};
 use irtext_base::parsable::SourcePosition;
@@ -51,7 +52,7 @@ pub fn fmt_source<T: IrText<A>, A: AttrText>(
 
 /// A number fits its type.
 fn number_fits(number: &i32)
-    ensures { mag number.now < 2 ^ 63 }
+    ensures { FitsSigned w32 number.now }
 {
     let _number = *number;
 }
@@ -74,16 +75,15 @@ fn fmt_front<T: IrText<A>, A: AttrText>(
     Ok(())
 }
 
-/// Appends the numbers of the line and the column.
-fn fmt_numbers(pos: &SourcePosition, f: &mut String) -> fmt::Result
+/// Appends the numbers of the line and the column. It fails only where memory is refused.
+pub fn fmt_numbers(pos: &SourcePosition, f: &mut String) -> fmt::Result
     ensures { OnOk result (AppendsText f.old (signed_decimal pos.now.line ++ (codes ", column: " ++ signed_decimal pos.now.column)) f.new) }
 {
     number_fits(&pos.line);
     number_fits(&pos.column);
-    write!(f, "{}", pos.line)?;
+    fmt_signed(pos.line, f)?;
     f.push_str(", column: ")?;
-    write!(f, "{}", pos.column)?;
-    Ok(())
+    fmt_signed(pos.column, f)
 }
 
 /// Appends an attribute between `<` and `>`, if there is one.

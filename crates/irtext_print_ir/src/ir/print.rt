@@ -28,7 +28,8 @@ fn fmt_section<T: IrText<A>, A: AttrText, U>(
     state: &mut State<U>,
     f: &mut String,
 ) -> Result<(), Refusal>
-    ensures text { OnOk result (AppendsText f.old (section_at T.IrText.own A.IrText.own A.AttrText.own A.eq ctx.now (gathered_of state.old)) f.new) }
+    ensures text { OnOk result (AppendsText f.old
+        (section_at T.IrText.own A.IrText.own A.AttrText.own A.eq ctx.now (gathered_of state.old)) f.new) }
     ensures state { state.new ≡ with_gathered state.old [] }
     ensures refused { IfErr result (λ e. e ≡ refusal.Memory) }
 {
@@ -45,7 +46,8 @@ fn fmt_end<T: IrText<A>, A: AttrText, U>(
     f: &mut String,
 ) -> Result<(), Refusal>
     requires live { IsSome (operation ctx.now op) }
-    ensures text { OnOk result (AppendsText f.old (printed.end_text T.IrText.own A.IrText.own A.AttrText.own A.eq ctx.now op (gathered_of state.old)) f.new) }
+    ensures text { OnOk result (AppendsText f.old
+        (printed.end_text T.IrText.own A.IrText.own A.AttrText.own A.eq ctx.now op (gathered_of state.old)) f.new) }
     ensures state { OnOk result (state.new ≡ with_gathered state.old []) }
     ensures refused { IfErr result (λ e. e ≡ refusal.Memory) }
     ensures rest { state.new ≡ with_gathered state.old (gathered_of state.new) }
@@ -67,9 +69,11 @@ pub fn print_root<T: IrText<A>, A: AttrText, U>(
     f: &mut String,
 ) -> Result<(), Refusal>
     requires live { IsSome (operation ctx.now op) }
-    ensures prints { OnOk result (printed.PrintsRoot T.IrText.own A.IrText.own A.AttrText.own A.eq ctx.now op state.old f.old state.new f.new) }
+    ensures prints { OnOk result (printed.PrintsRoot T.IrText.own A.IrText.own A.AttrText.own A.eq ctx.now op state.old f.old state.new
+        f.new) }
     ensures text { OnOk result (printed.WritesRoot T.IrText.own A.IrText.own A.AttrText.own A.eq ctx.now op state.old f.old state.new f.new) }
-    ensures defined { OnOk result (printed.DefinesRoot T.IrText.own A.IrText.own A.AttrText.own A.eq ctx.now op state.old f.old state.new f.new) }
+    ensures defined { OnOk result (printed.DefinesRoot T.IrText.own A.IrText.own A.AttrText.own A.eq ctx.now op state.old f.old state.new
+        f.new) }
     ensures refused { IfErr result (heads.RefusesUnder T.IrText.own A.IrText.own A.AttrText.own A.eq ctx.now op state.old) }
     ensures rest { state.new ≡ with_gathered state.old (gathered_of state.new) }
 {

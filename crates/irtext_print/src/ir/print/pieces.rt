@@ -1,6 +1,7 @@
 //! What a format's directives write of an operation's attributes. Each of these calls fails only where memory is refused.
 ghost use Rattle.std.specs.Prelude.{◌≡◌, ◌++◌, ◌&&◌, [], Some, OnOk, codes, cond, not, option_copied};
-ghost use Rattle.std.specs.Str.{chars};
+ghost use Rattle.std.specs.Map.{lookup};
+ghost use Rattle.std.specs.Str.{bytes_eq, chars};
 ghost use Rattle.irtext_print.specs.Printers.Appended.{AppendsText};
 ghost use Rattle.irtext_formats.specs.Directives.{directive_of, directives_of};
 ghost use Rattle.irtext_base.specs.Format.{sym_name_key};
@@ -75,7 +76,7 @@ pub fn fmt_keyed<A: AttrText>(
 ) -> fmt::Result
     ensures { OnOk result (AppendsText f.old (pieces.keyed_text A.IrText.written A.outlined key.now (entries_of attributes.now)) f.new) }
 {
-    let Some(attr) = attributes.get(key) else {
+    let Some(attr) = attribute_under(attributes, key.as_str()) else {
         return Ok(());
     };
     f.push_str(" ")?;
@@ -92,11 +93,27 @@ fn ident_of<A: AttrText>(attr: &AttrObj<A>) -> Option<&Identifier>
     }
 }
 
+/// The attribute under a key. An operation's first attribute is the one that is asked for most, so it is looked at before all others.
+#[inline(always)]
+pub(crate) fn attribute_under<'a, A: AttrText>(
+    attributes: &'a AttributeDict<A>,
+    key: &str,
+) -> Option<&'a AttrObj<A>>
+    ensures { option_copied result ≡ lookup (bytes_eq key.now) attributes.now }
+{
+    if let Some((first, attr)) = attributes.get_index(0) {
+        if key == first.as_str() {
+            return Some(attr);
+        }
+    }
+    attributes.get_str(key)
+}
+
 /// The symbol's name, where the attribute under its key is an identifier.
 pub fn symbol_of<A: AttrText>(attributes: &AttributeDict<A>) -> Option<&Identifier>
     ensures { option_copied result ≡ pieces.symbol_in (graph.lookup sym_name_key (entries_of attributes.now)) }
 {
-    match attributes.get_str("builtin_sym_name") {
+    match attribute_under(attributes, "builtin_sym_name") {
         Some(attr) => ident_of(attr),
         None => None,
     }

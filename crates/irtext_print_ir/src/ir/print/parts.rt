@@ -22,7 +22,8 @@ pub fn print_block<T: IrText<A>, A: AttrText, U>(
     f: &mut String,
 ) -> Result<(), Refusal>
     requires live { IsSome (context.block ctx.now block) }
-    ensures prints { OnOk result (printed.PrintsBlock T.IrText.own A.IrText.own A.AttrText.own A.eq ctx.now block state.old f.old state.new f.new) }
+    ensures prints { OnOk result (printed.PrintsBlock T.IrText.own A.IrText.own A.AttrText.own A.eq ctx.now block state.old f.old state.new
+        f.new) }
     ensures refused { IfErr result (heads.RefusesBlockUnder T.IrText.own A.IrText.own A.AttrText.own A.eq ctx.now block state.old) }
     ensures rest { state.new ≡ with_gathered state.old (gathered_of state.new) }
 {
@@ -38,7 +39,8 @@ pub fn print_region<T: IrText<A>, A: AttrText, U>(
     f: &mut String,
 ) -> Result<(), Refusal>
     requires live { Stands ctx.now.graph (TheRegion region) }
-    ensures prints { OnOk result (printed.PrintsRegion T.IrText.own A.IrText.own A.AttrText.own A.eq ctx.now region state.old f.old state.new f.new) }
+    ensures prints { OnOk result (printed.PrintsRegion T.IrText.own A.IrText.own A.AttrText.own A.eq ctx.now region state.old f.old
+        state.new f.new) }
     ensures refused { IfErr result (heads.RefusesRegionUnder T.IrText.own A.IrText.own A.AttrText.own A.eq ctx.now region state.old) }
     ensures rest { state.new ≡ with_gathered state.old (gathered_of state.new) }
 {

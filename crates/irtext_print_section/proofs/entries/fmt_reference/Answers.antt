@@ -1,13 +1,12 @@
-use Rattle.std.proofs.Common.{◌+◌, ◌++◌, ap, arith, codes, string_bytes}
-use Rattle.std.specs.Fmt.{decimal}
-use Rattle.irtext_print.proofs.Printers.Appended.{piece}
+use Rattle.std.proofs.Common.{◌+◌, ◌++◌, ap, string_bytes}
+use Rattle.irtext_print.proofs.Printers.Appended.{then}
 use Rattle.irtext_grammar.specs.Graphs.Graph.{place_in}
 use Rattle.irtext_print_section.specs.Mentions as mentions
 use Rattle.irtext_print_section.proofs.Texts.{reference_appended}
 use Rattle.irtext_print_section.proofs.entries.fmt_reference.Goals as goal
 
 pub returns-clause-text : goal.returns-clause-text
-returns-clause-text g c = λ more.
+returns-clause-text g c =
+    then c.fmt_number.result (λ q more.
     reference_appended (c.args.items + c.in_ok-place.place) (c.args.items + place_in (mentions.asking g.A.AttrText.print_once g.A.PartialEq.eq) (mentions.known_in c.note.new.known ++ more) c.args.attr.now)
-    (string_bytes c.args.f.now) (string_bytes c.write.new.self) (omega (arith, c.requires, c.in_ok-place.ensures.small)) (ap (λ p. c.args.items + p) (c.in_ok-place.ensures.place more))
-    (piece (string_bytes c.args.f.now) (string_bytes c.push_str.new.self) (string_bytes c.write.new.self) (codes "!") (decimal (c.args.items + c.in_ok-place.place)) c.in_ok-push_str.ensures.bytes c.in_ok-write.ensures.bytes)
+    (string_bytes c.args.f.now) (string_bytes c.push_str.new.self) (string_bytes c.fmt_number.new.f) (ap (λ p. c.args.items + p) (c.in_ok-place.ensures.place more)) c.in_ok-push_str.ensures.bytes q) c.fmt_number.ensures

@@ -19,5 +19,5 @@ returns-then-has_attributes g c =
 pub returns : goal.returns
 returns g c =
     let is : Some ((entry_of (printing_of g.T.IrText g.A.IrText g.A.AttrText g.A.PartialEq.eq c.args.ctx.now) g.A.IrText.written c.args.ctx.now g.A.AttrText.outlined) c.in-Some.given) ≡ (given_at g.T.IrText g.A.IrText g.A.AttrText g.A.PartialEq.eq c.args.ctx.now c.args.item) = ap (option_map (entry_of (printing_of g.T.IrText g.A.IrText g.A.AttrText g.A.PartialEq.eq c.args.ctx.now) g.A.IrText.written c.args.ctx.now g.A.AttrText.outlined)) (sym c.in-Some.is) ∙ c.given_of.ensures in
-    then c.fmt_known.result (λ w. location_alone (printing_of g.T.IrText g.A.IrText g.A.AttrText g.A.PartialEq.eq c.args.ctx.now) (language_of g.T.IrText g.A.IrText g.A.AttrText g.A.PartialEq.eq c.args.ctx.now) (given_at g.T.IrText g.A.IrText g.A.AttrText g.A.PartialEq.eq c.args.ctx.now c.args.item) (known_text g.A.IrText.written c.args.ctx.now.paths c.in-Some.given.location.now) (attributes_of g.A.AttrText.outlined c.in-Some.given) (string_bytes c.args.f.now) (string_bytes c.fmt_known.new.f)
-    is (sym c.has_attributes.ensures ∙ c.if-has_attributes.false) w) c.fmt_known.ensures
+    then c.fmt_located.result (λ w. location_alone (printing_of g.T.IrText g.A.IrText g.A.AttrText g.A.PartialEq.eq c.args.ctx.now) (language_of g.T.IrText g.A.IrText g.A.AttrText g.A.PartialEq.eq c.args.ctx.now) (given_at g.T.IrText g.A.IrText g.A.AttrText g.A.PartialEq.eq c.args.ctx.now c.args.item) (known_text g.A.IrText.written c.args.ctx.now.paths c.in-Some.given.location.now) (attributes_of g.A.AttrText.outlined c.in-Some.given) (string_bytes c.args.f.now) (string_bytes c.fmt_located.new.f)
+    is (sym c.has_attributes.ensures ∙ c.if-has_attributes.false) w) c.fmt_located.ensures

@@ -5,7 +5,7 @@ use Rattle.irtext_print.proofs.Printers.PieceTexts.{found_under}
 use Rattle.irtext_print.proofs.ir.print.pieces.symbol_of.Goals as goal
 
 pub returns-in-Some : goal.returns-in-Some
-returns-in-Some g c = c.ident_of.ensures ∙ ap symbol_in (sym (found_under sym_name_key c.args.attributes.now (option_copied c.get_str.result) (Some c.in-Some.attr.now) c.get_str.ensures (ap option_copied c.in-Some.is)))
+returns-in-Some g c = c.ident_of.ensures ∙ ap symbol_in (sym (found_under sym_name_key c.args.attributes.now (option_copied c.attribute_under.result) (Some c.in-Some.attr.now) c.attribute_under.ensures (ap option_copied c.in-Some.is)))
 
 pub returns-in-None : goal.returns-in-None
-returns-in-None g c = ap symbol_in (sym (found_under sym_name_key c.args.attributes.now (option_copied c.get_str.result) None c.get_str.ensures (ap option_copied c.in-None.is)))
+returns-in-None g c = ap symbol_in (sym (found_under sym_name_key c.args.attributes.now (option_copied c.attribute_under.result) None c.attribute_under.ensures (ap option_copied c.in-None.is)))

@@ -1,0 +1,49 @@
+//! Lists whose first item is held in place.
+
+use irtext_few::{Few, Growing, Lone};
+use std::alloc::{AllocError, Global};
+use std::test::Fail;
+
+/// The items of a list, as a number with a digit for each.
+fn digits(list: &Growing<u8>) -> u64 {
+    let mut number: u64 = 0;
+    for i in 0..list.len() {
+        number = number.wrapping_mul(10).wrapping_add(list.at(i) as u64);
+    }
+    number
+}
+
+/// Three items are put into a list, the first is taken out, and two more come behind the others.
+fn grows(alloc: Global) -> Result<bool, AllocError> {
+    let mut list: Growing<u8> = Growing::new(alloc);
+    let empty = list.len() == 0;
+    list.push(1)?;
+    list.push(2)?;
+    list.push(3)?;
+    let three = digits(&list) == 123;
+    list.remove(0);
+    let two = digits(&list) == 23;
+    list.make_room()?;
+    list.push_reserved(4);
+    list.remove(1);
+    Ok(empty && three && two && digits(&list) == 24)
+}
+
+/// The only item, and one of two, of lists that are made of short ones.
+fn alone(alloc: Global) -> Result<bool, AllocError> {
+    let mut one = Lone::from_few(alloc, Few::one(5))?;
+    one[0] = 6;
+    let mut two = Lone::from_few(alloc, Few::two(7, 8))?;
+    two[1] = 9;
+    let items = one.len() == 1 && one[0] == 6 && two.len() == 2 && two[0] == 7 && two[1] == 9;
+    two.clear();
+    Ok(items && two.len() == 0)
+}
+
+#[test]
+fn lists_grow(rt: HostRuntime) -> Result<(), Fail> {
+    let grown = grows(rt.alloc()).ok() == Some(true);
+    let lone = alone(rt.alloc()).ok() == Some(true);
+    assert!(rt; grown && lone);
+    Ok(())
+}
