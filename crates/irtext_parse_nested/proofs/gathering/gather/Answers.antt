@@ -10,9 +10,9 @@ use Rattle.irtext_parse_nested.proofs.gathering.gather.Goals as goal
 
 pub loop-found-init : goal.loop-found-init
 loop-found-init g c =
-    let rest : c.into_iter-found-iterator.result.rest.items ≡ c.into_found.result.items = search rules in
-    let words = c.into_found.ensures.0 in
-    let e : with_words c.into_iter-found-iterator.result.rest.items words ≡ c.args.pieces = ap (λ fs. with_words fs words) rest ∙ sym c.into_found.ensures.1 in
+    let rest : c.into_iter-found-iterator.result.rest.items ≡ c.into_found-found-items.result.items = search rules in
+    let words = c.into_found-found-items.ensures.0 in
+    let e : with_words c.into_iter-found-iterator.result.rest.items words ≡ c.args.pieces = ap (λ fs. with_words fs words) rest ∙ sym c.into_found-found-items.ensures.1 in
     record {
       words = words;
       steady = steady_itself c.args.names.now c.args.graph.now c.requires.tied;
