@@ -71,6 +71,12 @@ noted_first {A} old new e none n = go e (subst (λ z. Notes z e new) none n)
     go (read.OfItem i e) n = three (e ∷ []) ((i, tt) ∷ []) [] n.0 (n.1 refl) n.2
     go (read.OfOnce i a) n = three [] [] ((i, a) ∷ []) n.0 n.1 n.2
 
+module _ {A : Type 0} (attr : Text → Outcome (AttrView A)) where
+  -- less is left behind an entry and its white space
+  pub entries_shorter : {E : Type 0} {Means : ReadEntry A → Entry ℕ A (Written A) → Type 0} (test : ℕ → Bool) (rules : ℕ → Rule A) {now mid new : StreamView} {e : ReadEntry A} → MustMean {A = E} itself replaced Means (entry_at attr test rules) now (Ok e) mid
+      → Takes itself replaced (front is_whitespace mid.rest) (after is_whitespace mid.rest) mid new → length new.rest < length now.rest
+  entries_shorter test rules k left = entry_shorter attr [] rules test k.read left
+
 module _ {T A U : Type 0} (attr : Text → Outcome (AttrView A)) where
   -- all entries of a text, behind a root of the marks of a state
   abbrev pub all_of : StateStream T A U → Text → Outcome (List (Entry ℕ A (Written A)))
@@ -86,11 +92,6 @@ module _ {T A U : Type 0} (attr : Text → Outcome (AttrView A)) where
     are = record { are = record { items = refl; once = λ i. refl }; seen = λ i. refl; kept = refl };
     so_far = text_begins attr (indices_of (marks_of s.state)) (rules_of (marks_of s.state)) s.stream fine;
   }
-
-  -- less is left behind an entry and its white space
-  pub entries_shorter : {E : Type 0} {Means : ReadEntry A → Entry ℕ A (Written A) → Type 0} (test : ℕ → Bool) (rules : ℕ → Rule A) {now mid new : StreamView} {e : ReadEntry A} → MustMean {A = E} itself replaced Means (entry_at attr test rules) now (Ok e) mid
-      → Takes itself replaced (front is_whitespace mid.rest) (after is_whitespace mid.rest) mid new → length new.rest < length now.rest
-  entries_shorter test rules k left = entry_shorter attr [] rules test k.read left
 
   module _ (old now : StateStream T A U) (entries : Noted A) (h : EntriesSoFar attr old now entries) where
     abbrev marks : List (ℕ × Item)
@@ -168,7 +169,7 @@ module _ {T A U : Type 0} (attr : Text → Outcome (AttrView A)) where
 
   -- a first entry was read, and alone is noted
   pub first_so_far : (begin mid : StateStream T A U) {E : Type 0} (e : ReadEntry A) (new : StreamView) → begin.stream.failed ≡ false → begins (the 33) begin.stream.rest ≡ true
-      → MustMean {A = E} itself replaced (IsEntry (marks_of begin.state) mid.state.ctx.now.paths (whole begin.stream)) (entry_at attr (may_follow (marks_of begin.state) []) (rules_of (marks_of begin.state))) begin.stream (Ok e) mid.stream
+      → MustMean {A = E} itself replaced (IsEntry (marks_of begin.state) mid.state.ctx.now.paths (whole begin.stream)) (entry_at attr (may_follow {Y = Unit {0}} (marks_of begin.state) []) (rules_of (marks_of begin.state))) begin.stream (Ok e) mid.stream
       → Takes itself replaced (front is_whitespace mid.stream.rest) (after is_whitespace mid.stream.rest) mid.stream new
       → KeepsRest begin.state mid.state → marks_of mid.state ≡ marks_of begin.state → AddsPaths begin.state.ctx.now mid.state.ctx.now
       → mid.state.ctx.now.paths ≡ entry_kept begin.state.ctx.now.paths mid.state.ctx.now.paths e → EntriesSoFar attr begin (record mid { stream = new }) (one_noted e)

@@ -53,13 +53,10 @@ fn entry_noted<A: Drop>(
 }
 
 /// A first entry, noted.
-fn first_noted<A: Drop>(
-    alloc: Global,
-    first: ReadEntry<A>,
-) -> Result<Box<NotedEntries<A>>, AllocError>
-    ensures { IfOk result (λ entries. noted entries.value ≡ one_noted first) }
+fn first_noted<A: Drop>(alloc: Global, first: ReadEntry<A>) -> Result<NotedEntries<A>, AllocError>
+    ensures { IfOk result (λ entries. noted entries ≡ one_noted first) }
 {
-    let mut entries = Box::new(alloc, none_noted(alloc))?;
+    let mut entries = none_noted(alloc);
     entry_noted(&mut entries, first)?;
     Ok(entries)
 }
@@ -67,13 +64,13 @@ fn first_noted<A: Drop>(
 /// More entries behind those that are noted, as long as `!` follows, with white space behind each. A fault is committed.
 fn more_parse<T: IrText<A>, A: AttrText, U>(
     s: &mut StateStream<'_, T, A, U>,
-    entries: Box<NotedEntries<A>>,
+    entries: NotedEntries<A>,
 ) -> ParseResult<Entries<A>, A>
     ensures lent { s.new.state.ctx.ghost_name ≡ s.old.state.ctx.ghost_name }
     ensures rest { KeepsRest s.old.state s.new.state }
     ensures marks { marks_of s.new.state ≡ marks_of s.old.state }
     ensures adds { AddsPaths s.old.state.ctx.now s.new.state.ctx.now }
-    ensures read { MustGoOn (attr_at A.IrText.reading) (noted entries.value) s.old result s.new }
+    ensures read { MustGoOn (attr_at A.IrText.reading) (noted entries) s.old result s.new }
 {
     let mut entries = entries;
     while next_is(&s.stream, '!') {
@@ -83,7 +80,10 @@ fn more_parse<T: IrText<A>, A: AttrText, U>(
         }
         skip_white_space(&mut s.stream);
     }
-    Ok(Entries::All(entries))
+    match Box::new(s.stream.allocator(), entries) {
+        Ok(all) => Ok(Entries::All(all)),
+        Err(_) => Err(out_of_memory(&mut s.stream)),
+    }
 }
 
 /// A first entry, and more behind it, as long as `!` follows.

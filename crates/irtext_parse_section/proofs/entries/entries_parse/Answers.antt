@@ -1,8 +1,8 @@
-use Rattle.std.proofs.Common.{true, sym, ◌∙◌, refl}
+use Rattle.std.proofs.Common.{true, sym, subst, ◌∙◌, refl}
 use Rattle.irtext_read.specs.AttrTexts.{attr_at}
 use Rattle.irtext_read.proofs.Exits.{handed_on}
 use Rattle.irtext_outcomes.proofs.Readers.NewPaths.{adds_none, adds_more}
-use Rattle.irtext_parse_section.specs.Entries.{nothing}
+use Rattle.irtext_parse_section.specs.Entries.{nothing, one_noted, EntriesSoFar}
 use Rattle.irtext_parse_section.proofs.LoopSteps.{rest_stays, rest_joins, so_far_none, all_entries, entries_refused, first_so_far, only_entry}
 use Rattle.irtext_parse_section.proofs.entries.entries_parse.Goals as goal
 
@@ -47,3 +47,10 @@ returns-in-OfItem-clause-read g c =
     only_entry (attr_at g.A.IrText.reading) s _ c.in_ok-first.first _ _ c.in-OfItem.is
     (first_so_far (attr_at g.A.IrText.reading) s c.entry_parse.new.s c.in_ok-first.first c.skip_white_space.new.stream c.requires.fine (sym c.next_is.ensures ∙ c.if-not-next_is.false) e.read c.skip_white_space.ensures e.rest e.marks e.adds e.paths)
     (sym c.next_is-2.ensures ∙ c.if-next_is.false)
+
+pub returns-in-OfOnce-clause-read : goal.returns-in-OfOnce-clause-read
+returns-in-OfOnce-clause-read g c =
+    let s = c.args.s.now in
+    let e = c.in_ok-first.ensures in
+    c.first_and_more-in-OfOnce.ensures.read s (subst (λ f. EntriesSoFar (attr_at g.A.IrText.reading) s (record c.entry_parse.new.s { stream = c.skip_white_space.new.stream }) (one_noted f)) c.in-OfOnce.is
+    (first_so_far (attr_at g.A.IrText.reading) s c.entry_parse.new.s c.in_ok-first.first c.skip_white_space.new.stream c.requires.fine (sym c.next_is.ensures ∙ c.if-not-next_is.false) e.read c.skip_white_space.ensures e.rest e.marks e.adds e.paths))

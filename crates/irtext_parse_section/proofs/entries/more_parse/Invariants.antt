@@ -14,7 +14,7 @@ invariant-loop-s g l =
     × KeepsRest l.fn.s.state l.s.state
     × (marks_of l.s.state ≡ marks_of l.fn.s.state)
     × AddsPaths l.fn.s.state.ctx.now l.s.state.ctx.now
-    × ((old : StateStream g.row.T.Denot g.row.A.Denot g.row.U.Denot) → EntriesSoFar (attr_at g.A.IrText.reading) old l.fn.s (noted l.fn.entries.value) → EntriesSoFar (attr_at g.A.IrText.reading) old l.s (noted l.entries.value))
+    × ((old : StateStream g.row.T.Denot g.row.A.Denot g.row.U.Denot) → EntriesSoFar (attr_at g.A.IrText.reading) old l.fn.s (noted l.fn.entries) → EntriesSoFar (attr_at g.A.IrText.reading) old l.s (noted l.entries))
 
 abbrev pub decreases-loop-s : goal.decreases-loop-s
 decreases-loop-s g l = length l.s.stream.rest
