@@ -24,6 +24,10 @@ use Rattle.irtext_parse_section.specs.declared.said.ItemEntry.{ItemEntry}
 use Rattle.irtext_parse_section.proofs.FinishedFirst.{gives_both}
 
 -- ---- nothing is put into attributes
+-- no label
+abbrev no_text : Option Text
+no_text = None
+
 module _ {T A : Type 0} where
   -- an operation with the attributes that it has is as it was
   same_data : (x : OperationEntry T A) (o : Option (OperationData A)) (view : OperationView T A) → option_map (view_of {T = T} {A = A} x.content.content.results x.content.children) o ≡ Some view → o ≡ option_map (with_attributes view.attributes) o
@@ -68,7 +72,7 @@ module _ {T A : Type 0} where
       }
   stores_none (item.Block p) c = go (block c p) refl
     where
-      go : (o : Option (BlockView T A)) → block c p ≡ o → cond (is_some o) (StoresBlock p [] c c × (None {X = Text} ≡ None)) (c ≡ c)
+      go : (o : Option (BlockView T A)) → block c p ≡ o → cond (is_some o) (StoresBlock p [] c c × (no_text ≡ None)) (c ≡ c)
       go None e = refl
       go (Some view) e = (
         record {
