@@ -1,5 +1,5 @@
 -- A table of names to which an identifier came, or which stayed as it was.
-use Rattle.std.proofs.Common.{◌≡◌, ℕ, zero, suc, true, Option, Some, None, List, [], ◌∷◌, ◌++◌, slice_get, position, sym, ◌∙◌, ap, subst}
+use Rattle.std.proofs.Common.{◌≡◌, ℕ, zero, suc, true, Option, Some, None, List, [], ◌∷◌, ◌++◌, slice_get, position, subst}
 use Rattle.std.specs.Str.{bytes_eq}
 use Rattle.irtext_base.specs.Text.{Text, is_identifier}
 use Rattle.irtext_scopes.specs.Names.{with_name, found_or_last}

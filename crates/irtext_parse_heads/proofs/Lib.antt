@@ -10,3 +10,4 @@ pub mod EntrySteps
 pub mod PieceSteps
 pub mod FormatSteps
 pub mod FrontSteps
+pub mod Founds

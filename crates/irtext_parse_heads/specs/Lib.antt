@@ -9,4 +9,5 @@ pub mod Entries
 pub mod Headers
 pub mod Steps
 pub mod Pieces
+pub mod Found
 pub mod Fronts

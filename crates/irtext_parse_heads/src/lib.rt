@@ -4,6 +4,7 @@
 
 pub mod arguments;
 pub mod entries;
+pub mod found;
 pub mod fronts;
 pub mod headers;
 pub mod ids;

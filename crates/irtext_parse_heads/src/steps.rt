@@ -1,8 +1,9 @@
 //! The steps by which an operation's own parts are read: the directives of its format, or the steps of the form that any operation has.
-ghost use Rattle.std.specs.Prelude.{◌≡◌, slice_get, option_map};
-ghost use Rattle.irtext_base.specs.Format.{is_any_region};
+ghost use Rattle.std.specs.Prelude.{◌≡◌, ◌+◌, ◌<◌, ◌^◌, slice_get, option_map, IfSome};
+ghost use Rattle.irtext_base.specs.Faults.{characters};
+ghost use Rattle.irtext_base.specs.Format.{is_any_region, word};
 ghost use Rattle.irtext_formats.specs.Directives.{directive_of, format_of};
-ghost use Rattle.irtext_nesting.specs.Heads.{canonical_steps, steps_of};
+ghost use Rattle.irtext_nesting.specs.Heads.{canonical_steps, steps_of, flat};
 ghost use Rattle.irtext_nesting.specs.Resume.{is_flat};
 ghost use Rattle.irtext_parse_heads.specs.Steps.{seen_step};
 
@@ -54,9 +55,11 @@ fn canonical_step<'f>(index: usize) -> Option<FormatStep<'f>>
     }
 }
 
-/// The step of a format at this place: a directive of it, or a step of the form that any operation has. There is none behind the last.
-pub fn step_at(format: &OpFormat, index: usize) -> Option<FormatStep<'_>>
-    ensures { option_map seen_step result ≡ slice_get (steps_of (format_of format.now)) index }
+/// The step of a format at this place, as `step_at` says. The place behind it is a number too.
+#[inline]
+pub(crate) fn step_there(format: &OpFormat, index: usize) -> Option<FormatStep<'_>>
+    ensures step { option_map seen_step result ≡ slice_get (steps_of (format_of format.now)) index }
+    ensures fits { IfSome result (λ _. index + 1 < 2 ^ 64) }
 {
     match format {
         OpFormat::Canonical => canonical_step(index),
@@ -65,6 +68,13 @@ pub fn step_at(format: &OpFormat, index: usize) -> Option<FormatStep<'_>>
             None => None,
         },
     }
+}
+
+/// The step of a format at this place: a directive of it, or a step of the form that any operation has. There is none behind the last.
+pub fn step_at(format: &OpFormat, index: usize) -> Option<FormatStep<'_>>
+    ensures { option_map seen_step result ≡ slice_get (steps_of (format_of format.now)) index }
+{
+    step_there(format, index)
 }
 
 /// Whether a directive reads regions.
@@ -82,5 +92,20 @@ pub(crate) fn reads_piece(step: FormatStep<'_>) -> bool
         FormatStep::Directive(directive) => !reads_regions(directive),
         FormatStep::Regions => false,
         _ => true,
+    }
+}
+
+/// The fixed text that a step is, if it is one.
+#[inline]
+pub(crate) fn word_of<'f>(step: FormatStep<'f>) -> Option<&'f str>
+    ensures { IfSome result (λ text. seen_step step.entry ≡ flat (word (characters text.now))) }
+{
+    match step {
+        FormatStep::Word(text) => Some(text),
+        FormatStep::Directive(directive) => match directive {
+            Directive::Literal(text) => Some(text.as_str()),
+            _ => None,
+        },
+        _ => None,
     }
 }

@@ -44,6 +44,7 @@ module _ {T A : Type 0} (names more : List Text) (text : Text) (old new : Contex
     id = h.id;
     known = subst (λ d. IsSome (format_of d o.id)) (sym lasts.dialects) h.known;
     steps = subst (λ d. o.steps ≡ drop b.step (steps_in d o.id)) (sym lasts.dialects) h.steps;
+    counted = subst (λ d. b.steps ≡ length (steps_in d o.id)) (sym lasts.dialects) h.counted;
     late = h.late;
     stands = lasts.operations b.op h.stands;
     counts = lasts.results b.op h.stands ∙ h.counts;

@@ -103,6 +103,7 @@ module _ {T A : Type 0} (names : List Text) (text : Text) (ctx : ContextView T A
     id = h.id;
     known = h.known;
     steps = rest_of (steps_in ctx.dialects o.id) b.step (sym e ∙ h.steps);
+    counted = h.counted;
     late = (subst ReadNeither e h.late).1;
     stands = h.stands;
     counts = h.counts;

@@ -1,5 +1,5 @@
 //! What comes next in an operation that is open, by its format.
-ghost use Rattle.std.specs.Prelude.{◌≡◌, ◌+◌, ◌<◌, length, slice_get, Some, IsSome};
+ghost use Rattle.std.specs.Prelude.{◌≡◌, ◌≢◌, ◌+◌, ◌<◌, false, length, slice_get, Some, IsSome};
 ghost use Rattle.irtext_base.specs.Faults.{id_of};
 ghost use Rattle.irtext_formats.specs.Directives.{format_of};
 ghost use Rattle.irtext_grammar.specs.Contexts.Formats.{isolated};
@@ -7,6 +7,7 @@ ghost use Rattle.irtext_nesting.specs.Heads.{steps_of};
 ghost use Rattle.irtext_nesting.specs.Reached.{steps_in};
 ghost use Rattle.irtext_parse_heads.specs.Steps.{seen_step};
 ghost use Rattle.irtext_parse_items.specs.Turns.{IsStep, IsNext};
+ghost use Rattle.irtext_parse_items.specs.declared.coming.Coming.TheVariants as comes;
 
 use irtext_base::format::{Directive, OpFormat};
 use irtext_base::text::{AttrText, IrText};
@@ -64,21 +65,32 @@ fn behind(format: &OpFormat, index: usize) -> usize
     }
 }
 
-/// What comes next in an operation that is open.
+/// Nothing is left of an operation but its end.
+fn ended(step: usize) -> Next
+    ensures { result ≡ record { coming = comes.End; isolated = false; behind = step } }
+{
+    Next {
+        coming: Coming::End,
+        isolated: false,
+        behind: step,
+    }
+}
+
+/// What comes next in an operation that is open. Its format is looked up but where all of its steps were read.
 pub(crate) fn next_turn<T: IrText<A>, A: AttrText>(
     ctx: &Context<T, A>,
     begun: &BegunOperation,
 ) -> Next
+    requires counted { begun.now.steps ≡ length (steps_in ctx.now.dialects (id_of begun.now.id)) }
     ensures next { IsNext ctx.now.dialects begun.now result.coming }
-    ensures isolated { result.isolated ≡ isolated ctx.now.dialects (id_of begun.now.id) }
+    ensures isolated { result.coming ≢ comes.End → result.isolated ≡ isolated ctx.now.dialects (id_of begun.now.id) }
     ensures behind { IsSome (slice_get (steps_in ctx.now.dialects (id_of begun.now.id)) begun.now.step) → result.behind ≡ begun.now.step + 1 }
 {
+    if begun.steps <= begun.step {
+        return ended(begun.step);
+    }
     let Some(info) = ctx.op_info(&begun.id) else {
-        return Next {
-            coming: Coming::End,
-            isolated: false,
-            behind: begun.step,
-        };
+        return ended(begun.step);
     };
     match step_at(&info.format, begun.step) {
         Some(step) => Next {
@@ -86,10 +98,6 @@ pub(crate) fn next_turn<T: IrText<A>, A: AttrText>(
             isolated: info.isolated,
             behind: behind(&info.format, begun.step),
         },
-        None => Next {
-            coming: Coming::End,
-            isolated: info.isolated,
-            behind: begun.step,
-        },
+        None => ended(begun.step),
     }
 }

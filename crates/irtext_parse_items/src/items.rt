@@ -10,7 +10,7 @@ ghost use Rattle.irtext_parse_items.specs.Here.{AreHere};
 ghost use Rattle.irtext_parse_items.specs.Levels.{AreAllNew};
 ghost use Rattle.irtext_parse_items.specs.Turned.{IsSoundOnce, Remains, Finishes, Stops};
 
-use crate::frames::Frame;
+use crate::frames::{Frame, Waiting};
 use crate::steps::step;
 use irtext_base::parsable::ParseResult;
 use irtext_base::text::{AttrText, IrText};
@@ -34,7 +34,7 @@ pub(crate) fn items_parse<T: IrText<A>, A: AttrText, U>(
     ensures kept { (m : ℕ) → m ≤ s.old.state.ctx.now.graph.made → IsClosedBelow m s.old.state.ctx.now.graph → IsSound m names.old s.old.state
         → AreAllNew m s.old.state.ctx.now.graph (Some first) [] → KeepsOlder m s.old.state.ctx.now s.new.state.ctx.now }
 {
-    let mut frames = Vec::new(s.stream.allocator());
+    let mut frames = Waiting::new(s.stream.allocator());
     let mut next = Some(first);
     while let Some(frame) = next {
         next = step(s, names, &mut frames, frame)?;

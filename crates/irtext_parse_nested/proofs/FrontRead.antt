@@ -128,7 +128,7 @@ module _ {T A : Type 0} (types_at : Text → Outcome T) (reading : Text → Outc
     known_format : formats.format_of dialects (id_of op.1) ≡ Some (format_of info.format)
     known_format = ap (λ o. option_map (λ k. k.format) o) known.known
 
-    steps_are : steps_in dialects (id_of op.1) ≡ steps_of (format_of info.format)
+    pub steps_are : steps_in dialects (id_of op.1) ≡ steps_of (format_of info.format)
     steps_are = ap (λ o. elim o [ Some f ↦ steps_of f | None ↦ [] ]) known_format
 
     -- a piece is missing

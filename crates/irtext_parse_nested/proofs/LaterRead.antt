@@ -165,6 +165,7 @@ module _ {T A U : Type 0} (types_at : Reader T) (attr : Reader (AttrView A)) (ol
               id = is.id;
               known = subst (λ d. IsSome (format_of d o.id)) (sym lasts.dialects) is.known;
               steps = first.1 ∙ (ap (λ n. drop n (steps_in dialects o.id)) up ∙ ap (λ d. drop (b.step + 1) (steps_in d o.id)) (sym lasts.dialects));
+              counted = is.counted ∙ ap (λ d. length (steps_in d o.id)) (sym lasts.dialects);
               late = neither.1;
               stands = lasts.operations b.op is.stands;
               counts = lasts.results b.op is.stands ∙ is.counts;

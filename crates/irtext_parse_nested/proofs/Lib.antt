@@ -17,6 +17,7 @@ pub mod StepParts
 pub mod Steady
 pub mod Gathers
 pub mod Pieces
+pub mod Words
 pub mod Stores
 pub mod Begins
 pub mod Entering

@@ -277,15 +277,16 @@ module _ {T A U : Type 0} (types_at : Text → Outcome T) (attr : Text → Outco
     same_dialects = (begun_lasts block front at loc middle old_ctx names new_ctx b m all_older).dialects
 
     -- what was begun is what was read
-    pub front_is_begun : (rest : Text) (e : mid.rest ≡ rest) → Leaves (whole old.stream) at (length old.stream.rest) → IsBegun names.names (whole old.stream) new_ctx b (begun_by types_at attr true old rest (front_reads f rest e))
+    pub front_is_begun : front.steps ≡ length (steps_in dialects (id_of front.id)) → (rest : Text) (e : mid.rest ≡ rest) → Leaves (whole old.stream) at (length old.stream.rest) → IsBegun names.names (whole old.stream) new_ctx b (begun_by types_at attr true old rest (front_reads f rest e))
     unfolding front_reads
-    front_is_begun rest e left = record {
+    front_is_begun counted rest e left = record {
       inside = m.inside_is;
       place = subst (λ p. Leaves (whole old.stream) p (length old.stream.rest)) (sym m.at_is) left;
       names_are = subst (λ ns. Each (StandsFor ns (whole old.stream)) b.names f.results) (sym m.steady.names) (subst (λ ns. Each (StandsFor middle.names (whole old.stream)) ns f.results) (sym m.names_are) f.named);
       id = ap id_of m.id_is;
       known = subst (λ d. IsSome (format_of d (id_of front.id))) (sym same_dialects) (subst IsSome (sym f.known) refl);
       steps = steps_behind (steps_in dialects (id_of front.id)) ∙ (ap (λ n. drop n (steps_in dialects (id_of front.id))) (sym f.counts ∙ sym m.step_is) ∙ ap (λ d. drop b.step (steps_in d (id_of front.id))) (sym same_dialects));
+      counted = m.steps_are ∙ (counted ∙ ap (λ d. length (steps_in d (id_of front.id))) (sym same_dialects));
       late = neither f;
       stands = subst IsSome (sym (begun_is block front at loc middle old_ctx names new_ctx b m all_older)) refl;
       counts = begun_counts block front at loc middle old_ctx names new_ctx b m all_older;
@@ -344,13 +345,13 @@ module _ {T A U : Type 0} (types_at : Text → Outcome T) (attr : Text → Outco
               }
 
       -- the operation was begun
-      pub front_begins : (rest : Text) → mid.rest ≡ rest → new.stream ≡ mid → Leaves (whole old.stream) at (length old.stream.rest) → BeginsOperation types_at attr true before old b names new
-      front_begins rest e same left =
+      pub front_begins : front.steps ≡ length (steps_in dialects (id_of front.id)) → (rest : Text) → mid.rest ≡ rest → new.stream ≡ mid → Leaves (whole old.stream) at (length old.stream.rest) → BeginsOperation types_at attr true before old b names new
+      front_begins counted rest e same left =
           let k : mid.rest ≡ new.stream.rest = ap (λ v. v.rest) (sym same) in
           record {
             read = front_reads f new.stream.rest k;
             moves = subst (Moves old.stream) (sym same) f.moves;
-            begun = front_is_begun new.stream.rest k left;
+            begun = front_is_begun counted new.stream.rest k left;
             acts = front_acts new.stream.rest k;
           }
 

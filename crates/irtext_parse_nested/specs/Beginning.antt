@@ -127,6 +127,7 @@ module _ {T A : Type 0} where
     pub at_is : b.at ≡ at
     pub inside_is : b.inside ≡ true
     pub step_is : b.step ≡ length front.pieces
+    pub steps_are : b.steps ≡ front.steps
 
 -- ---- an own that grows
 -- the part is one that the step reads

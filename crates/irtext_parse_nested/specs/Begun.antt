@@ -44,7 +44,7 @@ abbrev pub pledge_of : BegunOperation → ℕ → Pledge
 pledge_of b place = record { place = place; op = b.op; results = b.results }
 
 module _ {T A : Type 0} (names : List Text) (text : Text) (ctx : ContextView T A) where
-  -- The operation that was begun is this one: its names, its place, its id, the steps that are left, which read no names and no types,
+  -- The operation that was begun is this one: its names, its place, its id, the steps that are left, of how many, which read no names and no types,
   -- and as many results as its parts give types, whatever parts without types come.
   pub record IsBegun (b : BegunOperation) (o : Begun T A) : Type 0 where
     pub inside : b.inside ≡ o.inside
@@ -53,6 +53,7 @@ module _ {T A : Type 0} (names : List Text) (text : Text) (ctx : ContextView T A
     pub id : id_of b.id ≡ o.id
     pub known : IsSome (format_of ctx.dialects o.id)
     pub steps : o.steps ≡ drop b.step (steps_in ctx.dialects o.id)
+    pub counted : b.steps ≡ length (steps_in ctx.dialects o.id)
     pub late : ReadNeither o.steps
     pub stands : IsSome (operation ctx b.op)
     pub counts : length (results ctx.graph b.op) ≡ b.results

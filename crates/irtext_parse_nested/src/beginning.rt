@@ -25,11 +25,14 @@ ghost use Rattle.irtext_parse_heads.specs.Named.{Each, NamesRead};
 ghost use Rattle.irtext_parse_nested.specs.Beginning.{FrontStands, LacksFront, IsKnownIn, SaysGather, NotGatheredAs, types_made, PlacedIn, MakesOf, HasBegun, ComesInto};
 ghost use Rattle.irtext_parse_nested.specs.Gathered.{AllStand, CanGather, Gathers, IsNothing, IsSteady};
 ghost use Rattle.irtext_parse_nested.specs.Items.{IsSound, Lasts};
+ghost use Rattle.irtext_base.specs.Faults.{id_of};
+ghost use Rattle.irtext_nesting.specs.Reached.{steps_in};
 ghost use Rattle.irtext_parse_nested.specs.Located.{IsLocated};
 ghost use Rattle.irtext_parse_nested.specs.Read.{ReadsFront, begun_by, BeginsOperation, RefusesOperation};
 
+use crate::counting::step_count;
 use crate::frame::{BegunOperation, Names};
-use crate::gathering::{Gathered, NotGathered, all_items, gather, nothing};
+use crate::gathering::{Gathered, NotGathered, gather, nothing};
 use crate::making::make_gathered;
 use crate::naming::outside_fault;
 use irtext_base::base::{Identifier, OpId};
@@ -42,10 +45,10 @@ use irtext_context::base::{BasicBlock, Context, Operation, Ptr};
 use irtext_context::dialect::OpInfo;
 use irtext_few::Few;
 use irtext_graph::held::HasGraph;
+use irtext_parse_heads::found::Pieces;
 use irtext_parse_heads::fronts::front_parse;
 use irtext_parse_heads::ids::led_parse;
 use irtext_parse_heads::names::ReadName;
-use irtext_parse_heads::pieces::ReadPiece;
 use irtext_read::irfmt::faults::{commit, out_of_memory, refuse_at};
 use irtext_state::parsable::StateStream;
 use irtext_state::parsable::state::StreamLocation;
@@ -59,7 +62,9 @@ pub struct ReadFront<T, A> {
     pub id: OpId,
     /// The key of a symbol's name, where one is kept for the operation.
     pub key: Option<Identifier>,
-    pub pieces: Few<ReadPiece<T, A>>,
+    /// How many steps its format has.
+    pub steps: usize,
+    pub pieces: Pieces<T, A>,
 }
 
 /// The fault, committed where this is wanted.
@@ -91,6 +96,7 @@ fn front_read<T: IrText<A>, A: AttrText>(
     ensures stands { IfOk result (λ front. FrontStands T.IrText.reading (attr_at A.IrText.reading) ctx.now.dialects true names.new.names stream.old front.names front.id front.pieces stream.new) }
     ensures lacks { IfErr result (UnlessMemory (LacksFront T.IrText.reading (attr_at A.IrText.reading) ctx.now.dialects true wanted stream.old)) }
     ensures key { IfOk result (λ front. IfSome front.key (λ key. key ≡ sym_name_key)) }
+    ensures counted { IfOk result (λ front. front.steps ≡ length (steps_in ctx.now.dialects (id_of front.id))) }
     ensures unread { IfErr result (λ fault. fault.committed ≡ false → stream.new ≡ stream.old) }
     ensures names { NamesRead names.old names.new }
     ensures distinct { OnOk result (AreDistinct names.new.names) }
@@ -105,6 +111,7 @@ fn front_read<T: IrText<A>, A: AttrText>(
         names: results,
         id,
         key: kept_key(info),
+        steps: step_count(&info.format),
         pieces,
     })
 }
@@ -131,7 +138,7 @@ fn pieces_gathered<T: IrText<A>, A: AttrText, U>(
     s: &mut StateStream<'_, T, A, U>,
     names: &mut Names,
     key: &Option<Identifier>,
-    pieces: Few<ReadPiece<T, A>>,
+    pieces: Pieces<T, A>,
 ) -> ParseResult<Gathered<T, A>, A>
     requires can { CanGather names.old [] [] pieces }
     requires are { (text : Text) × (parts : List (Part ℕ T A)) × Each (IsPart names.old.names text) pieces parts }
@@ -148,9 +155,6 @@ fn pieces_gathered<T: IrText<A>, A: AttrText, U>(
     ensures ctx { s.new.state.ctx.now ≡ with_graph s.old.state.ctx.now s.new.state.ctx.now.graph }
 {
     let alloc = s.stream.allocator();
-    let Ok(pieces) = all_items(alloc, pieces) else {
-        return Err(out_of_memory(&mut s.stream));
-    };
     let mut gathered = nothing(alloc);
     let ctx = &mut *s.state.ctx;
     match gather(alloc, names, ctx.graph_mut(), &mut gathered, key, pieces) {
@@ -277,6 +281,7 @@ fn begin_read<T: IrText<A>, A: AttrText, U>(
         names: results,
         id,
         key,
+        steps,
         pieces,
     } = front;
     let step = pieces.len();
@@ -293,6 +298,7 @@ fn begin_read<T: IrText<A>, A: AttrText, U>(
         at,
         inside: true,
         step,
+        steps,
     })
 }
 

@@ -26,6 +26,8 @@ pub struct BegunOperation {
     pub inside: bool,
     /// The index of the step of its format that is read next.
     pub step: usize,
+    /// How many steps its format has.
+    pub steps: usize,
 }
 
 /// A region that was entered and made, whose first brace was read.

@@ -24,6 +24,7 @@ use irtext_few::{Few, Items};
 use irtext_graph::graph::Graph;
 use irtext_graph::object::Value;
 use irtext_parse_heads::entries::{Key, ReadEntry};
+use irtext_parse_heads::found::Pieces;
 use irtext_parse_heads::names::{ReadName, Symbol};
 use irtext_parse_heads::pieces::ReadPiece;
 use std::alloc::{AllocError, Global};
@@ -381,16 +382,17 @@ pub fn gather<T: Drop, A: Drop>(
     graph: &mut Objects<T, A>,
     gathered: &mut Gathered<T, A>,
     key: &Option<Identifier>,
-    pieces: Vec<ReadPiece<T, A>>,
+    pieces: Pieces<T, A>,
 ) -> Result<(), NotGathered>
-    requires can { CanGather names.old gathered.old.operands.list.items gathered.old.successors.list.items pieces.items }
+    requires can { CanGather names.old gathered.old.operands.list.items gathered.old.successors.list.items pieces }
     requires tied { AreTied names.old.values names.old.labels graph.old }
     requires key { IfSome key.now (λ k. k ≡ sym_name_key) }
-    ensures gathers { OnOk result (Gathers pieces.items names.old graph.old gathered.old names.new graph.new gathered.new) }
-    ensures refused { IfErr result (RefusesGathering pieces.items names.old graph.old) }
+    ensures gathers { OnOk result (Gathers pieces names.old graph.old gathered.old names.new graph.new gathered.new) }
+    ensures refused { IfErr result (RefusesGathering pieces names.old graph.old) }
     ensures steady { IsSteady names.old names.new graph.old graph.new }
 {
-    for piece in pieces {
+    for found in pieces.into_found() {
+        let (_, piece) = found;
         piece_gathered(alloc, names, graph, gathered, key, piece)?;
     }
     Ok(())

@@ -5,6 +5,7 @@
 pub mod beginning;
 pub mod blocks;
 pub mod closing;
+mod counting;
 mod dictionary;
 pub mod frame;
 pub mod gathering;

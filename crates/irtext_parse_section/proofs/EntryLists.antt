@@ -28,8 +28,7 @@ use Rattle.irtext_outcomes.specs.Readers.Marks.{may_follow}
 use Rattle.irtext_outcomes.proofs.Joins.Answers.{followed_read, mapped_read}
 use Rattle.irtext_section.specs.Readers.{begins_given, tested, entry_head_at, given_at, entry_at, may_have}
 use Rattle.irtext_parse_section.specs.Said.{rules_of}
-use Rattle.irtext_parse_section.specs.Entries.{IsItemEntry, IsEntry, AreItems, AreSeen, AreOnce, AreEntries, AreEntriesOver, entry_kept, all_entries_kept, Notes}
-use Rattle.irtext_parse_section.specs.declared.said.Entries.{Entries}
+use Rattle.irtext_parse_section.specs.Entries.{IsItemEntry, IsEntry, AreItems, AreSeen, AreOnce, Noted, AreNoted, entry_kept, all_entries_kept, Notes}
 use Rattle.irtext_parse_section.specs.declared.said.ItemEntry.{ItemEntry}
 use Rattle.irtext_parse_section.specs.declared.said.ReadEntry.{ReadEntry}
 use Rattle.irtext_parse_section.specs.declared.said.ReadEntry.TheVariants as read
@@ -191,28 +190,28 @@ module _ {A : Type 0} where
   IsFresh seen (of_item m x ps) = lookup (same_index m.index) seen ≡ None
   IsFresh seen (of_once m a) = Unit {0}
 
-  pub entry_more : (marks : List (ℕ × Item)) (first before paths : List (List ℕ)) (text : Text) (old new : Entries A) (found : List (Entry ℕ A (Written A))) (e : ReadEntry A) (x : Entry ℕ A (Written A)) → KeepsPaths before paths
-      → AreEntriesOver marks first before text old found → IsFresh old.seen x → IsEntry marks paths text e x → paths ≡ entry_kept before paths e → Notes old e new → AreEntriesOver marks first paths text new (found ++ x ∷ [])
+  pub entry_more : (marks : List (ℕ × Item)) (first before paths : List (List ℕ)) (text : Text) (old new : Noted A) (found : List (Entry ℕ A (Written A))) (e : ReadEntry A) (x : Entry ℕ A (Written A)) → KeepsPaths before paths
+      → AreNoted marks first before text old found → IsFresh old.seen x → IsEntry marks paths text e x → paths ≡ entry_kept before paths e → Notes old e new → AreNoted marks first paths text new (found ++ x ∷ [])
   entry_more marks first before paths text old new found (read.OfItem i e) (of_item m x ps) keeps h fresh is kept n =
-      let items = items_item marks text paths old.items.items found e m x ps (items_on marks text before paths keeps old.items.items found h.are.items) is.1 in
+      let items = items_item marks text paths old.items found e m x ps (items_on marks text before paths keeps old.items found h.are.items) is.1 in
       record {
         are = record {
           items = subst (λ z. AreItems marks paths text z (found ++ of_item m x ps ∷ [])) (sym n.0) items;
-          seen = subst (λ z. AreSeen z (found ++ of_item m x ps ∷ [])) (sym (n.1 (ap (λ j. lookup (same_index j) old.seen) is.0 ∙ fresh))) (seen_item old.seen found h.are.seen i m x ps is.0);
-          once = subst (λ z. AreOnce z (found ++ of_item m x ps ∷ [])) (sym n.2) (once_item old.once.entries found h.are.once m x ps);
+          once = subst (λ z. AreOnce z (found ++ of_item m x ps ∷ [])) (sym n.2) (once_item old.once found h.are.once m x ps);
         };
+        seen = subst (λ z. AreSeen z (found ++ of_item m x ps ∷ [])) (sym (n.1 (ap (λ j. lookup (same_index j) old.seen) is.0 ∙ fresh))) (seen_item old.seen found h.seen i m x ps is.0);
         kept = kept ∙ (ap₂ given_kept h.kept is.1.location ∙ sym (kept_item first found m x ps));
       }
   entry_more marks first before paths text old new found (read.OfItem i e) (of_once m a) keeps h fresh is kept n = absurd is
   entry_more marks first before paths text old new found (read.OfOnce i b) (of_item m x ps) keeps h fresh is kept n = absurd is
   entry_more marks first before paths text old new found (read.OfOnce i b) (of_once m a) keeps h fresh is kept n =
-      let items = items_once marks text paths old.items.items found m a (items_on marks text before paths keeps old.items.items found h.are.items) in
+      let items = items_once marks text paths old.items found m a (items_on marks text before paths keeps old.items found h.are.items) in
       record {
         are = record {
           items = subst (λ z. AreItems marks paths text z (found ++ of_once m a ∷ [])) (sym n.0) items;
-          seen = subst (λ z. AreSeen z (found ++ of_once m a ∷ [])) (sym n.1) (seen_once old.seen found h.are.seen m a);
-          once = subst (λ z. AreOnce z (found ++ of_once m a ∷ [])) (sym n.2) (once_once old.once.entries found h.are.once i b m a is.0 is.1);
+          once = subst (λ z. AreOnce z (found ++ of_once m a ∷ [])) (sym n.2) (once_once old.once found h.are.once i b m a is.0 is.1);
         };
+        seen = subst (λ z. AreSeen z (found ++ of_once m a ∷ [])) (sym n.1) (seen_once old.seen found h.seen m a);
         kept = kept ∙ (h.kept ∙ sym (kept_once first found m a));
       }
 

@@ -21,3 +21,4 @@ pub mod FinishedFirst
 pub mod TakenBack
 pub mod AllOrNone
 mod PlainEntries
+pub mod OnlyEntry

@@ -8,12 +8,15 @@ use Rattle.irtext_base.specs.Stream.{StreamView}
 use Rattle.irtext_base.specs.Answers.{Outcome, Takes, StarvesHere}
 use Rattle.irtext_base.specs.Locations.{AttrView}
 use Rattle.irtext_base.specs.Paths.{Written}
+use Rattle.irtext_base.specs.declared.base.attributes.AttrObj.{AttrObj}
 use Rattle.irtext_base.specs.declared.parsable.fault.ParseFault.{ParseFault}
 use Rattle.irtext_read.proofs.Steps.{alone}
 use Rattle.irtext_context.specs.declared.base.item.Item.{Item}
 use Rattle.irtext_state.specs.States.{marks_of}
+use Rattle.irtext_state.specs.declared.parsable.state.State.{State}
 use Rattle.irtext_state.specs.declared.parsable.state.StateStream.{StateStream}
 use Rattle.irtext_grammar.specs.Grammar.Section.{Entry}
+use Rattle.irtext_grammar.specs.Names.Acts.{Rule}
 use Rattle.irtext_outcomes.specs.Promises.Section.{indices_of, Moves}
 use Rattle.irtext_outcomes.specs.Readers.Marks.{may_follow}
 use Rattle.irtext_outcomes.specs.Readers.NewPaths.{AddsPaths}
@@ -24,11 +27,14 @@ use Rattle.irtext_parse_heads.specs.Named.{whole, MustMean}
 use Rattle.irtext_parse_heads.proofs.Meanings.{takes_whole, must_refuse}
 use Rattle.irtext_section.specs.Readers.{entry_at, may_have, entries_after}
 use Rattle.irtext_parse_section.specs.Said.{rules_of}
-use Rattle.irtext_parse_section.specs.Entries.{IsEntry, AreEntriesOver, AreItems, AreSeen, AreOnce, entry_kept, Notes, EntriesSoFar}
+use Rattle.irtext_parse_section.specs.Entries.{items_of, once_of, IsEntry, Noted, nothing, one_noted, AreEntriesOver, AreItems, AreOnce, entry_kept, Notes, EntriesSoFar}
 use Rattle.irtext_parse_section.specs.declared.said.Entries.{Entries}
+use Rattle.irtext_parse_section.specs.declared.said.Entries.TheVariants as said
+use Rattle.irtext_parse_section.specs.declared.said.ItemEntry.{ItemEntry}
 use Rattle.irtext_parse_section.specs.declared.said.ReadEntry.{ReadEntry}
+use Rattle.irtext_parse_section.specs.declared.said.ReadEntry.TheVariants as read
 use Rattle.irtext_parse_section.proofs.EntryLists.{test_same, entry_more, entry_fresh}
-use Rattle.irtext_parse_section.proofs.LoopText.{text_begins, text_ends, text_refused, text_starved, text_shorter, text_more}
+use Rattle.irtext_parse_section.proofs.LoopText.{text_begins, text_ends, text_starved_here, text_refused, text_starved, entry_shorter, text_more}
 
 -- what a call says where it was not refused
 pub unless_err : {X E P : Type 0} (r : Result X E) → is_err r ≡ false → OnOk r P → P
@@ -40,46 +46,80 @@ pub where_err : {X E P : Type 0} (r : Result X E) → is_err r ≡ true → OnEr
 where_err (Ok x) e h = absurd (true≢false (sym e))
 where_err (Err y) e h = h
 
+-- nothing of the rest of a state changed, or twice nothing
+pub rest_stays : {T A U : Type 0} (s : State T A U) → KeepsRest s s
+rest_stays s = record { src = refl; aux_data = refl }
+
+pub rest_joins : {T A U : Type 0} {old mid new : State T A U} → KeepsRest old mid → KeepsRest mid new → KeepsRest old new
+rest_joins a b = record { src = b.src ∙ a.src; aux_data = b.aux_data ∙ a.aux_data }
+
+-- one entry comes to none
+notes_one : {A : Type 0} (e : ReadEntry A) → Notes nothing e (one_noted e)
+notes_one (read.OfItem i e) = (refl, λ _. refl, refl)
+notes_one (read.OfOnce i a) = (refl, refl, refl)
+
+-- what one entry comes to, where there was none, is that entry alone
+pub noted_first : {A : Type 0} (old new : Noted A) (e : ReadEntry A) → old ≡ nothing → Notes old e new → new ≡ one_noted e
+noted_first {A} old new e none n = go e (subst (λ z. Notes z e new) none n)
+  where
+    three : (items : List (ItemEntry A)) (seen : List (ℕ × Unit {0})) (once : List (ℕ × AttrObj A)) → new.items ≡ items → new.seen ≡ seen → new.once ≡ once → new ≡ record { items = items; seen = seen; once = once }
+    three items seen once i s o =
+        ap (λ z. record { items = z; seen = new.seen; once = new.once }) i
+        ∙ (ap (λ z. record { items = items; seen = z; once = new.once }) s ∙ ap (λ z. record { items = items; seen = seen; once = z }) o)
+
+    go : (e : ReadEntry A) → Notes nothing e new → new ≡ one_noted e
+    go (read.OfItem i e) n = three (e ∷ []) ((i, tt) ∷ []) [] n.0 (n.1 refl) n.2
+    go (read.OfOnce i a) n = three [] [] ((i, a) ∷ []) n.0 n.1 n.2
+
+module _ {A : Type 0} (attr : Text → Outcome (AttrView A)) where
+  -- less is left behind an entry and its white space
+  pub entries_shorter : {E : Type 0} {Means : ReadEntry A → Entry ℕ A (Written A) → Type 0} (test : ℕ → Bool) (rules : ℕ → Rule A) {now mid new : StreamView} {e : ReadEntry A} → MustMean {A = E} itself replaced Means (entry_at attr test rules) now (Ok e) mid
+      → Takes itself replaced (front is_whitespace mid.rest) (after is_whitespace mid.rest) mid new → length new.rest < length now.rest
+  entries_shorter test rules k left = entry_shorter attr [] rules test k.read left
+
 module _ {T A U : Type 0} (attr : Text → Outcome (AttrView A)) where
   -- all entries of a text, behind a root of the marks of a state
   abbrev pub all_of : StateStream T A U → Text → Outcome (List (Entry ℕ A (Written A)))
   all_of s t = entries_after attr (indices_of (marks_of s.state)) (rules_of (marks_of s.state)) (length t) [] t
 
   -- no entry was read yet
-  pub so_far_none : (s : StateStream T A U) (entries : Entries A) → s.stream.failed ≡ false → entries.items.items ≡ [] → entries.seen ≡ [] → entries.once.entries ≡ [] → EntriesSoFar attr s s entries
-  so_far_none s entries fine items seen once = record {
+  pub so_far_none : (s : StateStream T A U) → s.stream.failed ≡ false → EntriesSoFar attr s s nothing
+  so_far_none s fine = record {
     rest = record { src = refl; aux_data = refl };
     marks = refl;
     adds = adds_none s.state.ctx.now;
     found = [];
-    are = record {
-      are = record {
-        items = items;
-        seen = subst (λ z. AreSeen {A = A} {X = Written A} z []) (sym seen) (λ i. refl);
-        once = subst (λ z. AreOnce {A = A} {X = Written A} z []) (sym once) (λ i. refl);
-      };
-      kept = refl;
-    };
+    are = record { are = record { items = refl; once = λ i. refl }; seen = λ i. refl; kept = refl };
     so_far = text_begins attr (indices_of (marks_of s.state)) (rules_of (marks_of s.state)) s.stream fine;
   }
 
-  module _ (old now : StateStream T A U) (entries : Entries A) (h : EntriesSoFar attr old now entries) where
+  module _ (old now : StateStream T A U) (entries : Noted A) (h : EntriesSoFar attr old now entries) where
     abbrev marks : List (ℕ × Item)
     marks = marks_of old.state
 
     same_test : (j : ℕ) → may_follow marks entries.seen j ≡ may_have (indices_of marks) h.found j
-    same_test = test_same entries.seen h.found h.are.are.seen marks
+    same_test = test_same entries.seen h.found h.are.seen marks
 
     same_whole : whole now.stream ≡ whole old.stream
     same_whole = takes_whole alone old.stream now.stream h.so_far.moves.taken now.stream.rest h.so_far.moves.takes
 
+    -- memory was refused behind them
+    pub starved_so_far : {E : Type 0} {Means : Entries A → List (Entry ℕ A (Written A)) → Type 0} {new : StreamView} {fault : ParseFault E} → StarvesHere itself replaced now.stream fault new → MustMean itself replaced Means (all_of old) old.stream (Err fault) new
+    starved_so_far s = must_refuse alone (text_starved_here attr (indices_of marks) (rules_of marks) h.so_far (λ _. []) s)
+
     -- these are all
-    pub all_entries : {E : Type 0} → begins (the 33) now.stream.rest ≡ false
-        → MustMean {A = E} itself replaced (AreEntriesOver marks old.state.ctx.now.paths now.state.ctx.now.paths (whole old.stream)) (all_of old) old.stream (Ok entries) now.stream
-    all_entries stop = record {
+    pub all_entries : {E : Type 0} (all : Entries A) → items_of all ≡ entries.items → once_of all ≡ entries.once → begins (the 33) now.stream.rest ≡ false
+        → MustMean {A = E} itself replaced (AreEntriesOver marks old.state.ctx.now.paths now.state.ctx.now.paths (whole old.stream)) (all_of old) old.stream (Ok all) now.stream
+    all_entries all items once stop = record {
       meant = λ _. h.found;
-      means = h.are;
-      read = text_ends attr (indices_of marks) (rules_of marks) h.so_far (λ _. h.found) entries refl stop;
+      means = record {
+        are = record {
+          items = subst (λ z. AreItems marks now.state.ctx.now.paths (whole old.stream) z h.found) (sym items) h.are.are.items;
+          once = subst (λ z. AreOnce z h.found) (sym once) h.are.are.once;
+        };
+        kept = h.are.kept;
+      };
+      read = text_ends attr (indices_of marks) (rules_of marks) h.so_far (λ _. h.found) all refl stop;
     }
 
     abbrev by_now : Text → Outcome (Entry ℕ A (Written A))
@@ -111,12 +151,8 @@ module _ {T A U : Type 0} (attr : Text → Outcome (AttrView A)) where
         entries_starved s = must_refuse alone (text_starved attr (indices_of marks) (rules_of marks) h.so_far go (may_follow marks entries.seen) same_test read_there.read (λ _. []) s)
 
         module _ (new : StreamView) (left : Takes itself replaced (front is_whitespace mid.stream.rest) (after is_whitespace mid.stream.rest) mid.stream new) where
-          -- less is left behind it and its white space
-          pub entries_shorter : length new.rest < length now.stream.rest
-          entries_shorter = text_shorter attr (indices_of marks) (rules_of marks) h.so_far go (may_follow marks entries.seen) same_test read_there.read left
-
           -- it was read, and noted behind the others
-          pub entries_more : (next : Entries A) → KeepsRest now.state mid.state → marks_of mid.state ≡ marks_of now.state → AddsPaths now.state.ctx.now mid.state.ctx.now
+          pub entries_more : (next : Noted A) → KeepsRest now.state mid.state → marks_of mid.state ≡ marks_of now.state → AddsPaths now.state.ctx.now mid.state.ctx.now
               → mid.state.ctx.now.paths ≡ entry_kept now.state.ctx.now.paths mid.state.ctx.now.paths e → Notes entries e next → EntriesSoFar attr old (record mid { stream = new }) next
           entries_more next rest same adds kept noted =
               let x = read_there.meant e in
@@ -130,3 +166,17 @@ module _ {T A U : Type 0} (attr : Text → Outcome (AttrView A)) where
                     (entry_fresh attr (rules_of marks) marks entries.seen x now.stream.rest a.taken mid.stream.rest a.is) read_there.means kept noted;
                 so_far = text_more attr (indices_of marks) (rules_of marks) h.so_far go (may_follow marks entries.seen) same_test read_there.read left;
               }
+
+  -- a first entry was read, and alone is noted
+  pub first_so_far : (begin mid : StateStream T A U) {E : Type 0} (e : ReadEntry A) (new : StreamView) → begin.stream.failed ≡ false → begins (the 33) begin.stream.rest ≡ true
+      → MustMean {A = E} itself replaced (IsEntry (marks_of begin.state) mid.state.ctx.now.paths (whole begin.stream)) (entry_at attr (may_follow {Y = Unit {0}} (marks_of begin.state) []) (rules_of (marks_of begin.state))) begin.stream (Ok e) mid.stream
+      → Takes itself replaced (front is_whitespace mid.stream.rest) (after is_whitespace mid.stream.rest) mid.stream new
+      → KeepsRest begin.state mid.state → marks_of mid.state ≡ marks_of begin.state → AddsPaths begin.state.ctx.now mid.state.ctx.now
+      → mid.state.ctx.now.paths ≡ entry_kept begin.state.ctx.now.paths mid.state.ctx.now.paths e → EntriesSoFar attr begin (record mid { stream = new }) (one_noted e)
+  first_so_far begin mid e new fine go k left rest same adds kept =
+      entries_more begin begin nothing (so_far_none begin fine) go mid e k new left (one_noted e) rest same adds kept (notes_one e)
+
+  -- it is the only one
+  pub only_entry : {E : Type 0} (old now : StateStream T A U) (e : ReadEntry A) (i : ℕ) (entry : ItemEntry A) → e ≡ read.OfItem i entry → EntriesSoFar attr old now (one_noted e) → begins (the 33) now.stream.rest ≡ false
+      → MustMean {A = E} itself replaced (AreEntriesOver (marks_of old.state) old.state.ctx.now.paths now.state.ctx.now.paths (whole old.stream)) (all_of old) old.stream (Ok (said.Only entry)) now.stream
+  only_entry old now e i entry is h stop = all_entries old now (one_noted (read.OfItem i entry)) (subst (λ e. EntriesSoFar attr old now (one_noted e)) is h) (said.Only entry) refl refl stop

@@ -46,6 +46,15 @@ module _ {A : Type 0} (attr : Text → Outcome (AttrView A)) (marks : List ℕ) 
   entries_go_on : (n : ℕ) (found : List (Entry ℕ A (Written A))) (text : Text) → begins (the 33) text ≡ true → entries_after attr marks rules (suc n) found text ≡ followed (entry_at attr (may_have marks found) rules text) (behind_entry n found)
   entries_go_on n found text e = rw e refl
 
+  -- behind an entry and its white space less is left
+  pub entry_shorter : {Y E : Type 0} (test : ℕ → Bool) {see : Y → Entry ℕ A (Written A)} {now mid new : StreamView} {y : Y} → MustRead {A = E} itself replaced see (entry_at attr test rules) now (Ok y) mid
+      → Takes itself replaced (front is_whitespace mid.rest) (after is_whitespace mid.rest) mid new → length new.rest < length now.rest
+  entry_shorter test {see} {now} {mid} {new} {y} k s =
+      let a = answered k in
+      let less = less_left (entry_at attr test rules now.rest) (see y) a.taken mid.rest now.rest (grows_entry attr test rules now.rest) a.is a.takes.same in
+      let left : new.rest ≡ after is_whitespace mid.rest = ap (λ v. v.rest) s.is in
+      omega (arith, less, ap length left, ap length s.same, length-append (front is_whitespace mid.rest) (after is_whitespace mid.rest))
+
   -- no entry was read yet
   pub text_begins : (old : StreamView) → old.failed ≡ false → TextSoFar attr marks rules old old []
   text_begins old fine =
@@ -59,6 +68,10 @@ module _ {A : Type 0} (attr : Text → Outcome (AttrView A)) (marks : List ℕ) 
     -- where no `!` follows, these are all
     pub text_ends : {Y E : Type 0} (sees : Y → List (Entry ℕ A (Written A))) (y : Y) → sees y ≡ found → begins (the 33) now.rest ≡ false → MustRead {A = E} itself replaced sees all_at old (Ok y) now
     text_ends sees y e stop = ends alone sees y (turned alone (λ t. Read (sees y) [] t) (entries_end h.room found now.rest stop ∙ ap (λ z. Read z [] now.rest) (sym e)) so_far)
+
+    -- memory was refused behind them
+    pub text_starved_here : {X F : Type 0} {new : StreamView} {fault : ParseFault F} (sees : X → List (Entry ℕ A (Written A))) → StarvesHere itself replaced now fault new → MustRead itself replaced sees all_at old (Err fault) new
+    text_starved_here sees s = starved alone {sees = sees} so_far s
 
     module _ (go : begins (the 33) now.rest ≡ true) (test : ℕ → Bool) (same : (j : ℕ) → test j ≡ may_have marks found j) where
       room_left : (k : ℕ) × (h.room ≡ suc k)
@@ -84,16 +97,8 @@ module _ {A : Type 0} (attr : Text → Outcome (AttrView A)) (marks : List ℕ) 
         text_starved sees s = starved alone {sees = sees} to_space s
 
         module _ {new : StreamView} (s : Takes itself replaced (front is_whitespace mid.rest) (after is_whitespace mid.rest) mid new) where
-          -- less is left
-          pub text_shorter : length new.rest < length now.rest
-          text_shorter =
-              let a = answered k in
-              let less = less_left (entry_at attr test rules now.rest) (see y) a.taken mid.rest now.rest (grows_entry attr test rules now.rest) a.is a.takes.same in
-              let left : new.rest ≡ after is_whitespace mid.rest = ap (λ v. v.rest) s.is in
-              omega (arith, less, ap length left, ap length s.same, length-append (front is_whitespace mid.rest) (after is_whitespace mid.rest))
-
           -- it was read, and the white space behind it passed
           pub text_more : TextSoFar attr marks rules old new (found ++ see y ∷ [])
           text_more =
               let p = spaced alone (behind_space room_left.0 found (see y)) to_space s in
-              record { fine = h.fine; moves = record { taken = p.taken; takes = p.takes }; room = room_left.0; enough = omega (arith, text_shorter, h.enough, room_left.1); completes = p.so_far }
+              record { fine = h.fine; moves = record { taken = p.taken; takes = p.takes }; room = room_left.0; enough = omega (arith, entry_shorter test k s, h.enough, room_left.1); completes = p.so_far }

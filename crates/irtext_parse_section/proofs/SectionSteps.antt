@@ -22,7 +22,7 @@ use Rattle.irtext_outcomes.proofs.Readers.NewPaths.{adds_kept}
 use Rattle.irtext_parse_heads.specs.Named.{whole, MustMean}
 use Rattle.irtext_section.specs.Readers.{section_at}
 use Rattle.irtext_parse_section.specs.Applied.{GivesAll, ItemsAreNewer, AreNewer}
-use Rattle.irtext_parse_section.specs.Entries.{AreEntriesOver}
+use Rattle.irtext_parse_section.specs.Entries.{AreEntriesOver, items_of, once_of}
 use Rattle.irtext_parse_section.specs.Said.{rules_of}
 use Rattle.irtext_parse_section.specs.Section.{ReadsSection}
 use Rattle.irtext_parse_section.specs.declared.said.Entries.{Entries}
@@ -54,14 +54,14 @@ module _ {T A U : Type 0} (E : Type 0) (attr : Text → Outcome (AttrView A)) (o
   found = k.meant entries
 
   -- what is older than a mark is kept, where the items that carry marks are newer
-  pub given_kept : (new : ContextView T A) (mark : ℕ) → AreNewer mark old.state.ctx.now (marks_of old.state) → (ItemsAreNewer mark mid.state.ctx.now entries.items.items → KeepsOlder mark mid.state.ctx.now new) → KeepsOlder mark old.state.ctx.now new
+  pub given_kept : (new : ContextView T A) (mark : ℕ) → AreNewer mark old.state.ctx.now (marks_of old.state) → (ItemsAreNewer mark mid.state.ctx.now (items_of entries) → KeepsOlder mark mid.state.ctx.now new) → KeepsOlder mark old.state.ctx.now new
   given_kept new mark n h =
       let kept = adds_kept mark a in
       let newer = still_newer mark old.state.ctx.now mid.state.ctx.now kept (marks_of old.state) n in
-      kept_trans kept (h (entries_newer mark mid.state.ctx.now (whole old.stream) (marks_of old.state) mid.state.ctx.now.paths entries.items.items found k.means.are.items newer))
+      kept_trans kept (h (entries_newer mark mid.state.ctx.now (whole old.stream) (marks_of old.state) mid.state.ctx.now.paths (items_of entries) found k.means.are.items newer))
 
   -- the section was read and given
-  pub reads_section : (new : StateStream T A U) → GivesAll entries.once.entries entries.items.items mid.state.ctx.now new.state.ctx.now → new.stream ≡ mid.stream → marks_of new.state ≡ [] → ReadsSection attr old new
+  pub reads_section : (new : StateStream T A U) → GivesAll (once_of entries) (items_of entries) mid.state.ctx.now new.state.ctx.now → new.stream ≡ mid.stream → marks_of new.state ≡ [] → ReadsSection attr old new
   reads_section new gives stream fresh =
       let r = answered k.read in
       let moves : Moves old.stream mid.stream = record { taken = r.taken; takes = r.takes } in
@@ -73,6 +73,6 @@ module _ {T A U : Type 0} (E : Type 0) (attr : Text → Outcome (AttrView A)) (o
         middle = mid.state.ctx.now;
         adds = a;
         paths = k.means.kept;
-        applied = applies_all (whole old.stream) entries.once.entries found k.means.are.once (marks_of old.state) mid.state.ctx.now.paths entries.items.items found k.means.are.items mid.state.ctx.now new.state.ctx.now gives;
+        applied = applies_all (whole old.stream) (once_of entries) found k.means.are.once (marks_of old.state) mid.state.ctx.now.paths (items_of entries) found k.means.are.items mid.state.ctx.now new.state.ctx.now gives;
         fresh = fresh;
       }

@@ -1,5 +1,5 @@
 -- Between functions: what entries that were read stand for, over the paths that the context keeps, and what all of them are.
-use Rattle.std.specs.Prelude.{◌≡◌, ◌≤◌, ℕ, Bool, true, false, cond, not, ◌&&◌, is_some, List, [], ◌∷◌, ◌++◌, length, Option, Some, None, Vec, nat_eq, codes, ⊤}
+use Rattle.std.specs.Prelude.{◌≡◌, ◌≤◌, ℕ, Bool, true, false, cond, not, ◌&&◌, is_some, List, [], ◌∷◌, ◌++◌, length, Option, Some, None, Result, Vec, nat_eq, codes, ⊤}
 use Rattle.std.specs.Global.{Global}
 use Rattle.std.specs.Map.{lookup}
 use Rattle.std.specs.Option.{option_map}
@@ -11,6 +11,7 @@ use Rattle.irtext_base.specs.Locations.{AttrView}
 use Rattle.irtext_base.specs.Paths.{Written}
 use Rattle.irtext_base.specs.declared.base.attributes.AttrObj.{AttrObj}
 use Rattle.irtext_base.specs.declared.location.Location.{Location}
+use Rattle.irtext_base.specs.declared.parsable.fault.ParseFault.{ParseFault}
 use Rattle.irtext_context.specs.declared.base.item.Item.{Item}
 use Rattle.irtext_read.specs.Demanded.{spaced_at}
 use Rattle.irtext_read.specs.Infix.{Reader, ◌▷◌}
@@ -26,9 +27,9 @@ use Rattle.irtext_grammar.specs.Names.Resolves.{indices}
 use Rattle.irtext_grammar.specs.Names.Scopes.{is_among}
 use Rattle.irtext_outcomes.specs.Promises.Section.{known_given, given_over, given_kept, indices_of, Moves}
 use Rattle.irtext_outcomes.specs.Readers.NewPaths.{AddsPaths}
-use Rattle.irtext_outcomes.specs.Readers.Streams.{KeepsRest}
+use Rattle.irtext_outcomes.specs.Readers.Streams.{itself, replaced, KeepsRest}
 use Rattle.irtext_parse_heads.specs.Marks.{IsMark}
-use Rattle.irtext_parse_heads.specs.Named.{whole}
+use Rattle.irtext_parse_heads.specs.Named.{whole, MustMean}
 use Rattle.irtext_parse_heads.specs.declared.entries.Key.{Key}
 use Rattle.irtext_section.specs.Readers.{begins_given, entries_after}
 use Rattle.irtext_parse_section.specs.Said.{ArePairs, rules_of}
@@ -38,6 +39,13 @@ use Rattle.irtext_parse_section.specs.declared.said.ItemEntry.{ItemEntry}
 use Rattle.irtext_parse_section.specs.declared.said.ReadEntry.{ReadEntry}
 use Rattle.irtext_parse_section.specs.declared.said.ReadEntry.TheVariants as read
 use Rattle.irtext_parse_section.specs.declared.said.Entries.{Entries}
+use Rattle.irtext_parse_section.specs.declared.said.Entries.TheVariants as said
+use Rattle.irtext_parse_section.specs.declared.said.NotedEntries.{NotedEntries}
+
+-- the indices of earlier entries, where there are any
+abbrev pub earlier_indices : {X : Type 0} → Option (List (ℕ × X)) → List (ℕ × X)
+earlier_indices None = []
+earlier_indices (Some seen) = seen
 
 -- ---- one entry
 -- what stands behind an entry's location
@@ -98,6 +106,18 @@ module _ {A : Type 0} where
   all_entries_kept paths (of_once m a ∷ es) = all_entries_kept paths es
 
   -- ---- all entries
+  -- the entries of items, in the order of writing
+  abbrev pub items_of : Entries A → List (ItemEntry A)
+  items_of said.Nothing = []
+  items_of (said.Only e) = e ∷ []
+  items_of (said.All es) = es.value.items.items
+
+  -- the attributes that are written once
+  abbrev pub once_of : Entries A → List (ℕ × AttrObj A)
+  once_of said.Nothing = []
+  once_of (said.Only e) = []
+  once_of (said.All es) = es.value.once.entries
+
   -- the attributes that are written once are those of these entries, the last under each index
   abbrev pub AreOnce : {X : Type 0} → List (ℕ × AttrObj A) → List (Entry ℕ A X) → Type 0
   AreOnce once es = (i : ℕ) → option_map attribute_of (lookup (nat_eq i) once) ≡ shared_attribute i es
@@ -106,21 +126,46 @@ module _ {A : Type 0} where
   abbrev pub AreSeen : {X : Type 0} → List (ℕ × ⊤) → List (Entry ℕ A X) → Type 0
   AreSeen seen es = (i : ℕ) → is_some (lookup (same_index i) seen) ≡ is_among i (indices es)
 
-  -- all that were read stand for these entries
-  pub record AreEntries (marks : List (ℕ × Item)) (paths : List (List ℕ)) (text : Text) (entries : Entries A) (es : List (Entry ℕ A (Written A))) : Type 0 where
-    pub items : AreItems marks paths text entries.items.items es
-    pub seen : AreSeen entries.seen es
-    pub once : AreOnce entries.once.entries es
+  -- the entries of items that were read stand for those among these entries, and so do the attributes that are written once
+  pub record AreEntries (marks : List (ℕ × Item)) (paths : List (List ℕ)) (text : Text) (of_items : List (ItemEntry A)) (of_once : List (ℕ × AttrObj A)) (es : List (Entry ℕ A (Written A))) : Type 0 where
+    pub items : AreItems marks paths text of_items es
+    pub once : AreOnce of_once es
 
-  -- the same, and the context came from the one paths to the other by them
+  -- all that were read stand for these, and the context came from the one paths to the other by them
   pub record AreEntriesOver (marks : List (ℕ × Item)) (old paths : List (List ℕ)) (text : Text) (entries : Entries A) (es : List (Entry ℕ A (Written A))) : Type 0 where
-    pub are : AreEntries marks paths text entries es
+    pub are : AreEntries marks paths text (items_of entries) (once_of entries) es
+    pub kept : paths ≡ all_entries_kept old es
+
+-- entries while more are read: those of items, their indices, and the attributes that are written once
+pub record Noted (A : Type 0) : Type 0 where
+  pub items : List (ItemEntry A)
+  pub seen : List (ℕ × ⊤)
+  pub once : List (ℕ × AttrObj A)
+
+module _ {A : Type 0} where
+  -- those that are noted in vectors and maps
+  abbrev pub noted : NotedEntries A → Noted A
+  noted es = record { items = es.items.items; seen = es.seen; once = es.once.entries }
+
+  -- none
+  abbrev pub nothing : Noted A
+  nothing = record { items = []; seen = []; once = [] }
+
+  -- one
+  abbrev pub one_noted : ReadEntry A → Noted A
+  one_noted (read.OfItem i e) = record { items = e ∷ []; seen = (i, tt) ∷ []; once = [] }
+  one_noted (read.OfOnce i a) = record { items = []; seen = []; once = (i, a) ∷ [] }
+
+  -- they stand for these, and the context came from the one paths to the other by them
+  pub record AreNoted (marks : List (ℕ × Item)) (old paths : List (List ℕ)) (text : Text) (entries : Noted A) (es : List (Entry ℕ A (Written A))) : Type 0 where
+    pub are : AreEntries marks paths text entries.items entries.once es
+    pub seen : AreSeen entries.seen es
     pub kept : paths ≡ all_entries_kept old es
 
   -- an entry came to the others: an item's behind them, one that is written once in place of the one of its index, or else last
-  abbrev pub Notes : Entries A → ReadEntry A → Entries A → Type 0
-  Notes old (read.OfItem i e) new = (new.items.items ≡ old.items.items ++ e ∷ []) × (lookup (same_index i) old.seen ≡ None → new.seen ≡ old.seen ++ (i, tt) ∷ []) × (new.once.entries ≡ old.once.entries)
-  Notes old (read.OfOnce i a) new = (new.items.items ≡ old.items.items) × (new.seen ≡ old.seen) × (new.once.entries ≡ insert_entry nat_eq old.once.entries i a)
+  abbrev pub Notes : Noted A → ReadEntry A → Noted A → Type 0
+  Notes old (read.OfItem i e) new = (new.items ≡ old.items ++ e ∷ []) × (lookup (same_index i) old.seen ≡ None → new.seen ≡ old.seen ++ (i, tt) ∷ []) × (new.once ≡ old.once)
+  Notes old (read.OfOnce i a) new = (new.items ≡ old.items) × (new.seen ≡ old.seen) × (new.once ≡ insert_entry nat_eq old.once i a)
 
 -- ---- how far their reading has come
 -- Behind the section's first word these entries were read, in front of where the stream stands; what stands there completes what the
@@ -134,10 +179,16 @@ pub record TextSoFar {A : Type 0} (attr : Text → Outcome (AttrView A)) (marks 
 
 -- The entries that were read so far stand for these of the text, and the context came to its paths by them. Nothing else of the state
 -- changed.
-pub record EntriesSoFar {T A U : Type 0} (attr : Text → Outcome (AttrView A)) (old now : StateStream T A U) (entries : Entries A) : Type 0 where
+pub record EntriesSoFar {T A U : Type 0} (attr : Text → Outcome (AttrView A)) (old now : StateStream T A U) (entries : Noted A) : Type 0 where
   pub rest : KeepsRest old.state now.state
   pub marks : marks_of now.state ≡ marks_of old.state
   pub adds : AddsPaths old.state.ctx.now now.state.ctx.now
   pub found : List (Entry ℕ A (Written A))
-  pub are : AreEntriesOver (marks_of old.state) old.state.ctx.now.paths now.state.ctx.now.paths (whole old.stream) entries found
+  pub are : AreNoted (marks_of old.state) old.state.ctx.now.paths now.state.ctx.now.paths (whole old.stream) entries found
   pub so_far : TextSoFar attr (indices_of (marks_of old.state)) (rules_of (marks_of old.state)) old.stream now.stream found
+
+-- Behind what was read so far, the answer is all entries of the whole, or their fault.
+abbrev pub MustGoOn : {T A U E : Type 0} → (Text → Outcome (AttrView A)) → Noted A → StateStream T A U → Result (Entries A) (ParseFault E) → StateStream T A U → Type 0
+MustGoOn {T} {A} {U} attr entries now result new = (old : StateStream T A U) → EntriesSoFar attr old now entries
+    → MustMean itself replaced (AreEntriesOver (marks_of old.state) old.state.ctx.now.paths new.state.ctx.now.paths (whole old.stream))
+    (λ t. entries_after attr (indices_of (marks_of old.state)) (rules_of (marks_of old.state)) (length t) [] t) old.stream result new.stream

@@ -168,6 +168,7 @@ fn operation_stored<T: IrText<A>, A: AttrText>(
 }
 
 /// Gives an operation, where it stands, a location and what pairs give.
+#[inline(always)]
 fn operation_given<T: IrText<A>, A: AttrText>(
     ctx: &mut Context<T, A>,
     once: &Once<A>,
@@ -234,6 +235,7 @@ pub(crate) fn block_labelled<T: IrText<A>, A: AttrText>(
 }
 
 /// Gives a block, where it stands, a location, and what pairs give: attributes, and its label.
+#[inline(always)]
 fn block_given<T: IrText<A>, A: AttrText>(
     ctx: &mut Context<T, A>,
     once: &Once<A>,
@@ -255,7 +257,8 @@ fn block_given<T: IrText<A>, A: AttrText>(
 }
 
 /// Gives an item, where it stands, what its entry gives.
-fn item_given<T: IrText<A>, A: AttrText>(
+#[inline(always)]
+pub(crate) fn item_given<T: IrText<A>, A: AttrText>(
     ctx: &mut Context<T, A>,
     once: &Once<A>,
     entry: ItemEntry<A>,

@@ -29,6 +29,7 @@ fn reserved<A>(stream: &mut TextStream, key: &Key) -> ParseFault<A>
 }
 
 /// Refuses a reference that names no attribute, at its `!`, or one to an attribute that may not stand under the key, at the key.
+#[inline(always)]
 fn pair_checked<A: Drop>(
     stream: &mut TextStream,
     once: &Once<A>,
@@ -50,7 +51,8 @@ fn pair_checked<A: Drop>(
 }
 
 /// Refuses the first of the references of one entry that is wrong.
-fn pairs_checked<A: Drop>(
+#[inline(always)]
+pub(crate) fn pairs_checked<A: Drop>(
     stream: &mut TextStream,
     once: &Once<A>,
     of_block: bool,

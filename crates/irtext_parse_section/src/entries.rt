@@ -1,5 +1,5 @@
 //! Reading of all entries of a section.
-ghost use Rattle.std.specs.Prelude.{◌≡◌, false, OnOk, length, []};
+ghost use Rattle.std.specs.Prelude.{◌≡◌, false, IfOk, OnOk, length, []};
 ghost use Rattle.irtext_read.specs.AttrTexts.{attr_at};
 ghost use Rattle.irtext_state.specs.States.{marks_of};
 ghost use Rattle.irtext_outcomes.specs.Promises.Section.{indices_of};
@@ -8,10 +8,10 @@ ghost use Rattle.irtext_outcomes.specs.Readers.Streams.{itself, replaced, KeepsR
 ghost use Rattle.irtext_parse_heads.specs.Named.{MustMean, whole};
 ghost use Rattle.irtext_section.specs.Readers.{entries_after};
 ghost use Rattle.irtext_parse_section.specs.Said.{rules_of};
-ghost use Rattle.irtext_parse_section.specs.Entries.{AreEntriesOver, Notes};
+ghost use Rattle.irtext_parse_section.specs.Entries.{AreEntriesOver, Notes, noted, nothing, one_noted, MustGoOn};
 
 use crate::entry::entry_parse;
-use crate::said::{Entries, ReadEntry};
+use crate::said::{Entries, NotedEntries, ReadEntry};
 use indexmap::IndexMap;
 use irtext_base::parsable::{CharStream, ParseResult};
 use irtext_base::text::{AttrText, IrText};
@@ -19,11 +19,26 @@ use irtext_read::irfmt::faults::{next_is, out_of_memory};
 use irtext_read::irfmt::parsers::skip_white_space;
 use irtext_state::parsable::StateStream;
 use irtext_state::parsable::numbered::Numbered;
-use std::alloc::AllocError;
+use std::alloc::{AllocError, Global};
+
+/// No entries. They take no memory yet.
+fn none_noted<A>(alloc: Global) -> NotedEntries<A>
+    ensures { noted result ≡ nothing }
+{
+    NotedEntries {
+        items: Vec::new(alloc),
+        seen: Numbered::new(alloc),
+        once: IndexMap::new(alloc),
+    }
+}
 
 /// Notes an entry behind the others.
-fn entry_noted<A: Drop>(entries: &mut Entries<A>, entry: ReadEntry<A>) -> Result<(), AllocError>
-    ensures { OnOk result (Notes entries.old entry entries.new) }
+#[inline(always)]
+fn entry_noted<A: Drop>(
+    entries: &mut NotedEntries<A>,
+    entry: ReadEntry<A>,
+) -> Result<(), AllocError>
+    ensures { OnOk result (Notes (noted entries.old) entry (noted entries.new)) }
 {
     match entry {
         ReadEntry::OfItem(index, entry) => {
@@ -35,6 +50,58 @@ fn entry_noted<A: Drop>(entries: &mut Entries<A>, entry: ReadEntry<A>) -> Result
         }
     }
     Ok(())
+}
+
+/// A first entry, noted.
+fn first_noted<A: Drop>(alloc: Global, first: ReadEntry<A>) -> Result<NotedEntries<A>, AllocError>
+    ensures { IfOk result (λ entries. noted entries ≡ one_noted first) }
+{
+    let mut entries = none_noted(alloc);
+    entry_noted(&mut entries, first)?;
+    Ok(entries)
+}
+
+/// More entries behind those that are noted, as long as `!` follows, with white space behind each. A fault is committed.
+fn more_parse<T: IrText<A>, A: AttrText, U>(
+    s: &mut StateStream<'_, T, A, U>,
+    entries: NotedEntries<A>,
+) -> ParseResult<Entries<A>, A>
+    ensures lent { s.new.state.ctx.ghost_name ≡ s.old.state.ctx.ghost_name }
+    ensures rest { KeepsRest s.old.state s.new.state }
+    ensures marks { marks_of s.new.state ≡ marks_of s.old.state }
+    ensures adds { AddsPaths s.old.state.ctx.now s.new.state.ctx.now }
+    ensures read { MustGoOn (attr_at A.IrText.reading) (noted entries) s.old result s.new }
+{
+    let mut entries = entries;
+    while next_is(&s.stream, '!') {
+        let entry = entry_parse(s, Some(&entries.seen))?;
+        if entry_noted(&mut entries, entry).is_err() {
+            return Err(out_of_memory(&mut s.stream));
+        }
+        skip_white_space(&mut s.stream);
+    }
+    match Box::new(s.stream.allocator(), entries) {
+        Ok(all) => Ok(Entries::All(all)),
+        Err(_) => Err(out_of_memory(&mut s.stream)),
+    }
+}
+
+/// A first entry, and more behind it, as long as `!` follows.
+#[inline(never)]
+fn first_and_more<T: IrText<A>, A: AttrText, U>(
+    s: &mut StateStream<'_, T, A, U>,
+    first: ReadEntry<A>,
+) -> ParseResult<Entries<A>, A>
+    ensures lent { s.new.state.ctx.ghost_name ≡ s.old.state.ctx.ghost_name }
+    ensures rest { KeepsRest s.old.state s.new.state }
+    ensures marks { marks_of s.new.state ≡ marks_of s.old.state }
+    ensures adds { AddsPaths s.old.state.ctx.now s.new.state.ctx.now }
+    ensures read { MustGoOn (attr_at A.IrText.reading) (one_noted first) s.old result s.new }
+{
+    match first_noted(s.stream.allocator(), first) {
+        Ok(entries) => more_parse(s, entries),
+        Err(AllocError) => Err(out_of_memory(&mut s.stream)),
+    }
 }
 
 /// Entries as long as `!` follows, with white space behind each. A fault is committed.
@@ -52,18 +119,16 @@ pub(crate) fn entries_parse<T: IrText<A>, A: AttrText, U>(
         (λ t. entries_after (attr_at A.IrText.reading) (indices_of (marks_of s.old.state)) (rules_of (marks_of s.old.state)) (length t) [] t)
         s.old.stream result s.new.stream }
 {
-    let alloc = s.stream.allocator();
-    let mut entries = Entries {
-        items: Vec::new(alloc),
-        seen: Numbered::new(alloc),
-        once: IndexMap::new(alloc),
-    };
-    while next_is(&s.stream, '!') {
-        let entry = entry_parse(s, &entries.seen)?;
-        if entry_noted(&mut entries, entry).is_err() {
-            return Err(out_of_memory(&mut s.stream));
-        }
-        skip_white_space(&mut s.stream);
+    if !next_is(&s.stream, '!') {
+        return Ok(Entries::Nothing);
     }
-    Ok(entries)
+    let first = entry_parse(s, None)?;
+    skip_white_space(&mut s.stream);
+    if next_is(&s.stream, '!') {
+        return first_and_more(s, first);
+    }
+    match first {
+        ReadEntry::OfItem(_, entry) => Ok(Entries::Only(entry)),
+        ReadEntry::OfOnce(index, attr) => first_and_more(s, ReadEntry::OfOnce(index, attr)),
+    }
 }

@@ -1,10 +1,11 @@
 //! Reading of one entry: of an item, or of an attribute that is written once.
-ghost use Rattle.std.specs.Prelude.{◌≡◌, IfOk, is_some, codes};
+ghost use Rattle.std.specs.Prelude.{◌≡◌, IfOk, is_some, codes, option_copied};
+ghost use Rattle.std.specs.Map.{lookup};
 ghost use Rattle.irtext_read.specs.AttrTexts.{attr_at};
 ghost use Rattle.irtext_read.specs.Demanded.{spaced_at, index_at};
 ghost use Rattle.irtext_read.specs.MustRead.{MustRead};
 ghost use Rattle.irtext_stream.specs.Places.{StandsBehind};
-ghost use Rattle.irtext_state.specs.States.{marks_of};
+ghost use Rattle.irtext_state.specs.States.{same_index, marks_of};
 ghost use Rattle.irtext_outcomes.specs.Readers.Marks.{may_follow};
 ghost use Rattle.irtext_outcomes.specs.Readers.NewPaths.{AddsPaths};
 ghost use Rattle.irtext_outcomes.specs.Readers.Streams.{itself, replaced, KeepsRest};
@@ -13,7 +14,7 @@ ghost use Rattle.irtext_parse_heads.specs.Named.{MustMean, whole};
 ghost use Rattle.irtext_parse_locations.specs.Plain.{Looks, Sees, Gets};
 ghost use Rattle.irtext_section.specs.Readers.{begins_given, tested, entry_head_at, entry_at};
 ghost use Rattle.irtext_parse_section.specs.Said.{rules_of};
-ghost use Rattle.irtext_parse_section.specs.Entries.{IsHead, GoesOn, IsEntry, entry_kept, next_item};
+ghost use Rattle.irtext_parse_section.specs.Entries.{IsHead, GoesOn, IsEntry, entry_kept, next_item, earlier_indices};
 
 use crate::given::given_parse;
 use crate::rules::is_block;
@@ -39,6 +40,7 @@ pub(crate) struct EntryHead {
 }
 
 /// Whether an item's entry goes on here, and no attribute that is written once.
+#[inline(always)]
 fn begins_given(stream: &TextStream) -> bool
     ensures { result ≡ begins_given stream.now.rest }
 {
@@ -122,6 +124,7 @@ fn equals_read<A>(stream: &mut TextStream) -> ParseResult<(), A>
 }
 
 /// An index, and `=` with white space round it. A fault is committed.
+#[inline(always)]
 fn index_parse<A>(stream: &mut TextStream) -> ParseResult<ReadMark, A>
     ensures read { MustMean itself replaced (IsMark (whole stream.old)) entry_head_at stream.old result stream.new }
     ensures at { IfOk result (λ mark. StandsBehind mark.at stream.old.passed) }
@@ -132,15 +135,27 @@ fn index_parse<A>(stream: &mut TextStream) -> ParseResult<ReadMark, A>
     Ok(ReadMark { index, at })
 }
 
+/// Whether an earlier entry has this index.
+#[inline(always)]
+fn is_seen(seen: Option<&Numbered<()>>, index: usize) -> bool
+    ensures { result ≡ is_some (lookup (same_index index) (earlier_indices (option_copied seen.entry))) }
+{
+    match seen {
+        Some(seen) => seen.contains(index),
+        None => false,
+    }
+}
+
 /// The item that carries a mark of this index, unless an earlier entry has the index.
+#[inline(always)]
 fn next_item<T: IrText<A>, A: AttrText, U>(
     s: &StateStream<'_, T, A, U>,
-    seen: &Numbered<()>,
+    seen: Option<&Numbered<()>>,
     index: usize,
 ) -> Option<Item>
-    ensures { result ≡ next_item (marks_of s.now.state) seen.now index }
+    ensures { result ≡ next_item (marks_of s.now.state) (earlier_indices (option_copied seen.entry)) index }
 {
-    if seen.contains(index) {
+    if is_seen(seen, index) {
         return None;
     }
     s.state.marked(index)
@@ -148,13 +163,15 @@ fn next_item<T: IrText<A>, A: AttrText, U>(
 
 /// The head of an entry. Where it goes on as an item's, but no item carries its mark, or an earlier entry has it, it is refused at its
 /// `!`. A fault is committed.
+#[inline(always)]
 fn head_parse<T: IrText<A>, A: AttrText, U>(
     s: &mut StateStream<'_, T, A, U>,
-    seen: &Numbered<()>,
+    seen: Option<&Numbered<()>>,
 ) -> ParseResult<EntryHead, A>
     ensures state { s.new.state ≡ s.old.state }
     ensures read { MustMean itself replaced (IsHead (whole s.old.stream))
-        (λ t. tested (may_follow (marks_of s.old.state) seen.now) (entry_head_at t)) s.old.stream result s.new.stream }
+        (λ t. tested (may_follow (marks_of s.old.state) (earlier_indices (option_copied seen.entry))) (entry_head_at t))
+        s.old.stream result s.new.stream }
     ensures on { IfOk result (GoesOn (marks_of s.old.state) s.new.stream.rest) }
 {
     let mark = index_parse(&mut s.stream)?;
@@ -171,16 +188,18 @@ fn head_parse<T: IrText<A>, A: AttrText, U>(
 }
 
 /// An entry, behind those of these indices. A fault is committed.
+#[inline(always)]
 pub(crate) fn entry_parse<T: IrText<A>, A: AttrText, U>(
     s: &mut StateStream<'_, T, A, U>,
-    seen: &Numbered<()>,
+    seen: Option<&Numbered<()>>,
 ) -> ParseResult<ReadEntry<A>, A>
     ensures lent { s.new.state.ctx.ghost_name ≡ s.old.state.ctx.ghost_name }
     ensures rest { KeepsRest s.old.state s.new.state }
     ensures marks { marks_of s.new.state ≡ marks_of s.old.state }
     ensures adds { AddsPaths s.old.state.ctx.now s.new.state.ctx.now }
     ensures read { MustMean itself replaced (IsEntry (marks_of s.old.state) s.new.state.ctx.now.paths (whole s.old.stream))
-        (entry_at (attr_at A.IrText.reading) (may_follow (marks_of s.old.state) seen.now) (rules_of (marks_of s.old.state)))
+        (entry_at (attr_at A.IrText.reading) (may_follow (marks_of s.old.state) (earlier_indices (option_copied seen.entry)))
+        (rules_of (marks_of s.old.state)))
         s.old.stream result s.new.stream }
     ensures paths { IfOk result (λ e. s.new.state.ctx.now.paths ≡ entry_kept s.old.state.ctx.now.paths s.new.state.ctx.now.paths e) }
 {

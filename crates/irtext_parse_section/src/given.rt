@@ -54,6 +54,7 @@ fn location_ended<A>(stream: &mut TextStream) -> ParseResult<(), A>
 }
 
 /// The location of an entry, where it gives one.
+#[inline(always)]
 fn entry_location<T: IrText<A>, A: AttrText>(
     stream: &mut TextStream,
     ctx: &mut Context<T, A>,
@@ -77,6 +78,7 @@ fn entry_location<T: IrText<A>, A: AttrText>(
 }
 
 /// What the entry of a block, or of an operation, gives. A fault is committed.
+#[inline(always)]
 pub(crate) fn given_parse<T: IrText<A>, A: AttrText>(
     stream: &mut TextStream,
     ctx: &mut Context<T, A>,

@@ -12,3 +12,4 @@ mod rules;
 pub mod said;
 pub mod section;
 mod together;
+mod whole;

@@ -36,10 +36,19 @@ pub enum ReadEntry<A> {
 /// Attributes that are written once, under their indices.
 pub type Once<A> = IndexMap<usize, AttrObj<A>>;
 
-/// All entries that were read: those of items, in the order of writing, the indices of these, and the attributes that are written once.
+/// The entries that were read, where there may be any: those of items, in the order of writing, the indices of these, and the attributes
+/// that are written once.
 #[derive(Drop)]
-pub struct Entries<A> {
+pub struct NotedEntries<A> {
     pub items: Vec<ItemEntry<A>>,
     pub seen: Numbered<()>,
     pub once: Once<A>,
+}
+
+/// All entries of a section: none, that of one item, which takes no memory of its own, or any.
+#[derive(Drop)]
+pub enum Entries<A> {
+    Nothing,
+    Only(ItemEntry<A>),
+    All(Box<NotedEntries<A>>),
 }

@@ -12,15 +12,13 @@ ghost use Rattle.irtext_outcomes.specs.Readers.Streams.{itself, replaced, KeepsR
 ghost use Rattle.irtext_parse_heads.specs.Named.{MustMean, whole};
 ghost use Rattle.irtext_section.specs.Readers.{entries_at, section_at};
 ghost use Rattle.irtext_parse_section.specs.Applied.{GivesAll, ItemsAreNewer, AreNewer};
-ghost use Rattle.irtext_parse_section.specs.Entries.{AreEntriesOver};
+ghost use Rattle.irtext_parse_section.specs.Entries.{AreEntriesOver, items_of, once_of};
 ghost use Rattle.irtext_parse_section.specs.Said.{rules_of};
 ghost use Rattle.irtext_parse_section.specs.Section.{ReadsSection};
 
-use crate::applied::items_given;
-use crate::checked::items_checked;
 use crate::entries::entries_parse;
 use crate::said::Entries;
-use crate::together::items_given_together;
+use crate::whole::{all_given, entries_checked};
 use irtext_base::parsable::{CharStream, ParseResult};
 use irtext_base::text::{AttrText, IrText};
 use irtext_read::irfmt::demanded::spaced_text_demanded;
@@ -60,7 +58,7 @@ fn right_parse<T: IrText<A>, A: AttrText, U>(
         s.old.stream result s.new.stream }
 {
     let entries = all_parse(s)?;
-    items_checked(&mut s.stream, &entries.once, entries.items.as_slice())?;
+    entries_checked(&mut s.stream, &entries)?;
     Ok(entries)
 }
 
@@ -74,21 +72,13 @@ fn entries_given<T: IrText<A>, A: AttrText, U>(
     ensures rest { KeepsRest s.old.state s.new.state }
     ensures marks { marks_of s.new.state ≡ marks_of s.old.state }
     ensures stream { s.new.stream ≡ s.old.stream }
-    ensures gives { OnOk result (GivesAll entries.once.entries entries.items.items s.old.state.ctx.now s.new.state.ctx.now) }
-    ensures kept { (mark : ℕ) → ItemsAreNewer mark s.old.state.ctx.now entries.items.items → KeepsOlder mark s.old.state.ctx.now s.new.state.ctx.now }
+    ensures gives { OnOk result (GivesAll (once_of entries) (items_of entries) s.old.state.ctx.now s.new.state.ctx.now) }
+    ensures kept { (mark : ℕ) → ItemsAreNewer mark s.old.state.ctx.now (items_of entries) → KeepsOlder mark s.old.state.ctx.now s.new.state.ctx.now }
     ensures closed { (mark : ℕ) → IsClosedBelow mark s.old.state.ctx.now.graph → IsClosedBelow mark s.new.state.ctx.now.graph }
     ensures unchanged { (mark : ℕ) → earlier ≡ true → OnErr result (KeepsOlder mark s.old.state.ctx.now s.new.state.ctx.now) }
 {
     let ctx = &mut *s.state.ctx;
-    let Entries {
-        items,
-        seen: _,
-        once,
-    } = entries;
-    if earlier {
-        return items_given_together(ctx, &once, items);
-    }
-    items_given(ctx, &once, items)
+    all_given(ctx, entries, earlier)
 }
 
 /// The section, which must stand there: it is read and checked as a whole; then each item that carries a mark gets what its entry gives,

@@ -329,6 +329,21 @@ fn block_finished<T: IrText<A>, A: AttrText>(
     block_labelled(ctx, at, label);
 }
 
+/// Gives an item, where it stands, a location, where one is given. It takes no memory.
+#[inline(always)]
+pub(crate) fn item_located<T: IrText<A>, A: AttrText>(
+    ctx: &mut Context<T, A>,
+    item: Item,
+    location: Option<Location<A>>,
+)
+    ensures { Finishes item location None ctx.old ctx.new }
+{
+    match item {
+        Item::Operation(op) => operation_finished(ctx, op, location),
+        Item::Block(at) => block_finished(ctx, at, location, None),
+    }
+}
+
 /// Gives an item, where it stands, the location and the label that it is still to get. It takes no memory.
 fn step_finished<T: IrText<A>, A: AttrText>(ctx: &mut Context<T, A>, step: Step<A>)
     ensures { Finishes step.item step.location step.label ctx.old ctx.new }

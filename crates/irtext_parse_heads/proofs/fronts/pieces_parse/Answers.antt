@@ -1,4 +1,4 @@
-use Rattle.std.proofs.Common.{◌≡◌, ◌∙◌, Some, None, [], ◌∷◌, ◌++◌, slice_get, drop, length, suc, ap, sym, subst}
+use Rattle.std.proofs.Common.{◌≡◌, ◌∙◌, ◌+◌, ◌<◌, ◌^◌, Some, None, slice_get, drop, length, suc, ap, sym, subst}
 use Rattle.irtext_formats.specs.Directives.{format_of}
 use Rattle.irtext_read.specs.AttrTexts.{attr_at}
 use Rattle.irtext_read.proofs.Exits.{handed_on}
@@ -22,16 +22,24 @@ loop-step-init g c =
     let names = c.args.names.now.names in
     let steps = steps_of (format_of c.args.format.now) in (
       names_none c.args.names.now,
-      subst (λ z. Counts (length z) steps (drop (length z) steps)) (sym (c.none-found.ensures)) (count_none steps),
-      λ fine. subst (λ z. Fronting l g.T.IrText.reading (attr_at g.A.IrText.reading) c.args.inside names steps (drop (length z) steps) old old z) (sym (c.none-found.ensures)) (front_begins l g.T.IrText.reading (attr_at g.A.IrText.reading) c.args.inside names steps old fine),
+      subst (λ z. Counts (length z) steps (drop (length z) steps)) (sym c.in-Ok.ensures) (count_none steps),
+      λ fine. subst (λ z. Fronting l g.T.IrText.reading (attr_at g.A.IrText.reading) c.args.inside names steps (drop (length z) steps) old old z) (sym c.in-Ok.ensures) (front_begins l g.T.IrText.reading (attr_at g.A.IrText.reading) c.args.inside names steps old fine),
     )
+
+pub returns-in-Err-clause-read : goal.returns-in-Err-clause-read
+returns-in-Err-clause-read g c = λ fine.
+    let l = stream g in
+    front_starved l g.T.IrText.reading (attr_at g.A.IrText.reading) c.args.inside (front_begins l g.T.IrText.reading (attr_at g.A.IrText.reading) c.args.inside c.args.names.now.names (steps_of (format_of c.args.format.now)) c.args.stream.now fine) c.out_of_memory.ensures
+
+pub returns-in-Err-clause-names : goal.returns-in-Err-clause-names
+returns-in-Err-clause-names g c = names_none c.args.names.now
 
 pub returns-then-not-reads_piece-clause-read : goal.returns-then-not-reads_piece-clause-read
 returns-then-not-reads_piece-clause-read g c = λ fine.
     let steps = steps_of (format_of c.args.format.now) in
     let step = seen_step c.in-Some.step in
     let n = length c.loop-step.found in
-    let there : slice_get steps n ≡ Some step = sym (c.in-Some.ensures ∙ ap (slice_get steps) c.len.ensures) in
+    let there : slice_get steps n ≡ Some step = sym (c.in-Some.ensures.step ∙ ap (slice_get steps) c.len.ensures) in
     let over = front_ended (drop n steps) (drop (suc n) steps) step (next_left steps n step there) (sym c.reads_piece.ensures ∙ c.if-not-reads_piece.true) in
     front_ends (stream g) g.T.IrText.reading (attr_at g.A.IrText.reading) c.args.inside over (c.loop-step.invariant.2 fine)
 
@@ -40,21 +48,24 @@ returns-then-not-reads_piece-clause-count g c =
     let steps = steps_of (format_of c.args.format.now) in
     let step = seen_step c.in-Some.step in
     let n = length c.loop-step.found in
-    let there : slice_get steps n ≡ Some step = sym (c.in-Some.ensures ∙ ap (slice_get steps) c.len.ensures) in
+    let there : slice_get steps n ≡ Some step = sym (c.in-Some.ensures.step ∙ ap (slice_get steps) c.len.ensures) in
     let over = front_ended (drop n steps) (drop (suc n) steps) step (next_left steps n step there) (sym c.reads_piece.ensures ∙ c.if-not-reads_piece.true) in
     count_all steps (drop n steps) n over c.loop-step.invariant.1
 
-pub returns-in_err-piece-clause-read : goal.returns-in_err-piece-clause-read
-returns-in_err-piece-clause-read g c = λ fine.
+pub step_found-requires : goal.step_found-requires
+step_found-requires g c = subst (λ n. n + 1 < 2 ^ 64) c.len.ensures c.in-Some.ensures.fits
+
+pub returns-in_err-step_found-clause-read : goal.returns-in_err-step_found-clause-read
+returns-in_err-step_found-clause-read g c = λ fine.
     let steps = steps_of (format_of c.args.format.now) in
     let step = seen_step c.in-Some.step in
     let n = length c.loop-step.found in
-    let there : slice_get steps n ≡ Some step = sym (c.in-Some.ensures ∙ ap (slice_get steps) c.len.ensures) in
+    let there : slice_get steps n ≡ Some step = sym (c.in-Some.ensures.step ∙ ap (slice_get steps) c.len.ensures) in
     rw (handed_on c.from_residual.result c.from_residual.ensures.1)
-    (front_refused (stream g) g.T.IrText.reading (attr_at g.A.IrText.reading) c.args.inside (drop (suc n) steps) step (next_left steps n step there) (sym c.reads_piece.ensures ∙ c.if-not-reads_piece.false) (c.loop-step.invariant.2 fine) c.skip_white_space.ensures c.in_err-piece.ensures.read)
+    (front_refused (stream g) g.T.IrText.reading (attr_at g.A.IrText.reading) c.args.inside (drop (suc n) steps) step (next_left steps n step there) (sym c.reads_piece.ensures ∙ c.if-not-reads_piece.false) (c.loop-step.invariant.2 fine) c.skip_white_space.ensures c.in_err-step_found.ensures.read)
 
-pub returns-in_err-piece-clause-names : goal.returns-in_err-piece-clause-names
-returns-in_err-piece-clause-names g c = names_more _ _ _ c.loop-step.invariant.0 c.in_err-piece.ensures.names
+pub returns-in_err-step_found-clause-names : goal.returns-in_err-step_found-clause-names
+returns-in_err-step_found-clause-names g c = names_more _ _ _ c.loop-step.invariant.0 c.in_err-step_found.ensures.names
 
 pub loop-step-preserved : goal.loop-step-preserved
 loop-step-preserved g c =
@@ -62,48 +73,38 @@ loop-step-preserved g c =
     let steps = steps_of (format_of c.args.format.now) in
     let step = seen_step c.in-Some.step in
     let found = c.loop-step.found in
-    let y = c.in_ok-piece.piece in
+    let new = c.step_found.new in
+    let read = c.in_ok-step_found.ensures.read in
     let n = length found in
-    let names = c.step_parse.new.names.names in
-    let there : slice_get steps n ≡ Some step = sym (c.in-Some.ensures ∙ ap (slice_get steps) c.len.ensures) in
+    let names = new.names.names in
+    let there : slice_get steps n ≡ Some step = sym (c.in-Some.ensures.step ∙ ap (slice_get steps) c.len.ensures) in
     let flat = sym c.reads_piece.ensures ∙ c.if-not-reads_piece.false in (
-      names_more _ _ _ c.loop-step.invariant.0 c.in_ok-piece.ensures.names,
-      subst (λ z. Counts (length z) steps (drop (length z) steps)) (sym c.in-Ok.ensures) (count_more steps found y step there flat c.loop-step.invariant.1),
-      λ fine. subst (λ z. Fronting l g.T.IrText.reading (attr_at g.A.IrText.reading) c.args.inside names steps (drop (length z) steps) c.args.stream.now c.step_parse.new.stream z) (sym c.in-Ok.ensures)
-          (subst (λ left. Fronting l g.T.IrText.reading (attr_at g.A.IrText.reading) c.args.inside names steps left c.args.stream.now c.step_parse.new.stream (found ++ (y ∷ []))) (left_more steps found y)
-          (front_more l g.T.IrText.reading (attr_at g.A.IrText.reading) c.args.inside (drop (suc n) steps) step names (next_left steps n step there) flat (c.loop-step.invariant.2 fine) c.skip_white_space.ensures c.in_ok-piece.ensures.names.kept c.in_ok-piece.ensures.read)),
+      names_more _ _ _ c.loop-step.invariant.0 c.in_ok-step_found.ensures.names,
+      subst (λ z. Counts (length z) steps (drop (length z) steps)) (sym read.means.1) (count_more steps found read.means.0 step there flat c.loop-step.invariant.1),
+      λ fine.
+          subst (λ left. Fronting l g.T.IrText.reading (attr_at g.A.IrText.reading) c.args.inside names steps left c.args.stream.now new.stream new.found)
+          (left_more steps found read.means.0 ∙ ap (λ z. drop (length z) steps) (sym read.means.1))
+          (front_more l g.T.IrText.reading (attr_at g.A.IrText.reading) c.args.inside (drop (suc n) steps) step names (next_left steps n step there) flat (c.loop-step.invariant.2 fine) c.skip_white_space.ensures c.in_ok-step_found.ensures.names.kept read),
     )
 
 pub loop-step-smaller : goal.loop-step-smaller
 loop-step-smaller g c =
     let steps = steps_of (format_of c.args.format.now) in
     let step = seen_step c.in-Some.step in
-    let there : slice_get steps (length c.loop-step.found) ≡ Some step = sym (c.in-Some.ensures ∙ ap (slice_get steps) c.len.ensures) in
-    fewer_left steps c.loop-step.found c.in_ok-piece.piece step there _ c.in-Ok.ensures
-
-pub returns-in-Err-clause-read : goal.returns-in-Err-clause-read
-returns-in-Err-clause-read g c = λ fine.
-    let l = stream g in
-    let steps = steps_of (format_of c.args.format.now) in
-    let step = seen_step c.in-Some.step in
-    let n = length c.loop-step.found in
-    let there : slice_get steps n ≡ Some step = sym (c.in-Some.ensures ∙ ap (slice_get steps) c.len.ensures) in
-    front_starved l g.T.IrText.reading (attr_at g.A.IrText.reading) c.args.inside
-    (front_more l g.T.IrText.reading (attr_at g.A.IrText.reading) c.args.inside (drop (suc n) steps) step c.step_parse.new.names.names (next_left steps n step there) (sym c.reads_piece.ensures ∙ c.if-not-reads_piece.false) (c.loop-step.invariant.2 fine) c.skip_white_space.ensures c.in_ok-piece.ensures.names.kept c.in_ok-piece.ensures.read) c.out_of_memory.ensures
-
-pub returns-in-Err-clause-names : goal.returns-in-Err-clause-names
-returns-in-Err-clause-names g c = names_more _ _ _ c.loop-step.invariant.0 c.in_ok-piece.ensures.names
+    let there : slice_get steps (length c.loop-step.found) ≡ Some step = sym (c.in-Some.ensures.step ∙ ap (slice_get steps) c.len.ensures) in
+    let read = c.in_ok-step_found.ensures.read in
+    fewer_left steps c.loop-step.found read.means.0 step there _ read.means.1
 
 pub returns-clause-read : goal.returns-clause-read
 returns-clause-read g c = λ fine.
     let steps = steps_of (format_of c.args.format.now) in
     let n = length c.loop-step.found in
-    let none : slice_get steps n ≡ None = sym (c.in_default.ensures ∙ ap (slice_get steps) c.len.ensures) in
+    let none : slice_get steps n ≡ None = sym (c.in_default.ensures.step ∙ ap (slice_get steps) c.len.ensures) in
     front_ends (stream g) g.T.IrText.reading (attr_at g.A.IrText.reading) c.args.inside (front_over (drop n steps) (none_left steps n none)) (c.loop-step.invariant.2 fine)
 
 pub returns-clause-count : goal.returns-clause-count
 returns-clause-count g c =
     let steps = steps_of (format_of c.args.format.now) in
     let n = length c.loop-step.found in
-    let none : slice_get steps n ≡ None = sym (c.in_default.ensures ∙ ap (slice_get steps) c.len.ensures) in
+    let none : slice_get steps n ≡ None = sym (c.in_default.ensures.step ∙ ap (slice_get steps) c.len.ensures) in
     count_all steps (drop n steps) n (front_over (drop n steps) (none_left steps n none)) c.loop-step.invariant.1

@@ -15,11 +15,11 @@ invariant-loop-next g l = record {
   lent : l.s.state.ctx.ghost_name ≡ l.fn.s.state.ctx.ghost_name;
   carries : Carries l.fn.names l.fn.s l.names l.s;
   arrives : (base : Base) (v k : ℕ) (ls : List (Level g.row.T.Denot g.row.A.Denot)) → IsHere base v k ls l.fn.names (whole l.fn.s.stream) l.fn.s.state.ctx.now (Some l.fn.first) []
-      → Arrives g.T.IrText.reading (attr_at g.A.IrText.reading) base v k ls l.fn.names l.fn.s l.names l.s l.next l.frames.items;
+      → Arrives g.T.IrText.reading (attr_at g.A.IrText.reading) base v k ls l.fn.names l.fn.s l.names l.s l.next l.frames;
   kept : (m : ℕ) → m ≤ l.fn.s.state.ctx.now.graph.made → IsClosedBelow m l.fn.s.state.ctx.now.graph → IsSound m l.fn.names l.fn.s.state
       → AreAllNew m l.fn.s.state.ctx.now.graph (Some l.fn.first) [] → KeepsOlder m l.fn.s.state.ctx.now l.s.state.ctx.now;
-  fresh : (m : ℕ) → m ≤ l.fn.s.state.ctx.now.graph.made → AreAllNew m l.fn.s.state.ctx.now.graph (Some l.fn.first) [] → AreAllNew m l.s.state.ctx.now.graph l.next l.frames.items;
+  fresh : (m : ℕ) → m ≤ l.fn.s.state.ctx.now.graph.made → AreAllNew m l.fn.s.state.ctx.now.graph (Some l.fn.first) [] → AreAllNew m l.s.state.ctx.now.graph l.next l.frames;
 }
 
 abbrev pub decreases-loop-next : goal.decreases-loop-next
-decreases-loop-next g l = left_to_do g.row.T.Denot g.row.A.Denot l.fn.s.state.ctx.now.dialects l.next l.frames.items l.s.stream.rest
+decreases-loop-next g l = left_to_do g.row.T.Denot g.row.A.Denot l.fn.s.state.ctx.now.dialects l.next l.frames l.s.stream.rest

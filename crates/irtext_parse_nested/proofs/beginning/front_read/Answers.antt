@@ -1,7 +1,7 @@
-use Rattle.std.proofs.Common.{sym, ◌∙◌, true≢false}
+use Rattle.std.proofs.Common.{sym, ap, ◌∙◌, length, true≢false}
 use Rattle.irtext_read.proofs.Exits.{handed_on}
 use Rattle.irtext_parse_heads.proofs.Meanings.{names_more}
-use Rattle.irtext_parse_nested.proofs.FrontRead.{lead_lacks, lead_unread, piece_lacks, piece_commits, front_stands}
+use Rattle.irtext_parse_nested.proofs.FrontRead.{lead_lacks, lead_unread, piece_lacks, piece_commits, front_stands, steps_are}
 use Rattle.irtext_parse_nested.proofs.beginning.front_read.Goals as goal
 
 pub returns-in-Err-clause-lacks : goal.returns-in-Err-clause-lacks
@@ -30,6 +30,10 @@ pub returns-clause-stands : goal.returns-clause-stands
 returns-clause-stands g c =
     front_stands g.T.IrText.reading g.A.IrText.reading c.args.ctx.now.dialects c.args.stream.now c.requires.fine c.in-Ok.led c.in-Ok.led.2.now c.in-Ok.ensures.read c.in-Ok.ensures.known c.front_parse.new.names.names
     c.front_parse.ensures.names.kept c.in_ok-pieces.pieces c.front_parse.new.stream c.in_ok-pieces.ensures.read c.in_ok-pieces.ensures.count
+
+pub returns-clause-counted : goal.returns-clause-counted
+returns-clause-counted g c =
+    c.step_count.ensures ∙ ap length (sym (steps_are g.T.IrText.reading g.A.IrText.reading c.args.ctx.now.dialects c.args.stream.now c.requires.fine c.in-Ok.led c.in-Ok.led.2.now c.in-Ok.ensures.read c.in-Ok.ensures.known))
 
 pub returns-clause-names : goal.returns-clause-names
 returns-clause-names g c = names_more c.args.names.now c.led_parse.new.names c.front_parse.new.names c.led_parse.ensures.names c.front_parse.ensures.names

@@ -10,7 +10,7 @@ use Rattle.irtext_parse_section.specs.Checked.{items_wrong}
 use Rattle.irtext_parse_section.specs.Said.{rules_of}
 use Rattle.irtext_parse_heads.specs.Named.{whole, Each, MustMean}
 use Rattle.irtext_section.specs.Readers.{wrong_references, section_at}
-use Rattle.irtext_parse_section.specs.Entries.{AreEntriesOver}
+use Rattle.irtext_parse_section.specs.Entries.{AreEntriesOver, items_of, once_of}
 use Rattle.irtext_parse_section.proofs.References.{IsWrong, references_same, references_near, section_unread, section_right, section_wrong}
 use Rattle.irtext_parse_section.proofs.section.right_parse.Goals as goal
 
@@ -19,18 +19,18 @@ returns-in_err-entries-clause-read g c =
     let marks = marks_of c.args.s.now.state in
     rw (handed_on c.from_residual.result c.from_residual.ensures.1) (section_unread (attr_at g.A.IrText.reading) (indices_of marks) (rules_of marks) c.in_err-entries.ensures.read)
 
-pub returns-in_err-items_checked-clause-read : goal.returns-in_err-items_checked-clause-read
-returns-in_err-items_checked-clause-read g c =
+pub returns-in_err-entries_checked-clause-read : goal.returns-in_err-entries_checked-clause-read
+returns-in_err-entries_checked-clause-read g c =
     let old = c.args.s.now in
     let marks = marks_of old.state in
     let entries = c.in_ok-entries.entries in
     let k = c.in_ok-entries.ensures.read in
     let es = k.meant entries in
-    let once = entries.once.entries in
+    let once = once_of entries in
     let a = answered k.read in
     let near = references_near (texts_of g.T.IrText.reading g.T.IrText.written) g.A.IrText.reading g.A.IrText.written g.met.A.IrText.sincere g.met.A.IrText.lawful (indices_of marks) (rules_of marks) old.stream.rest es a.taken _ a.is in
-    let same = references_same (whole old.stream) once es k.means.are.once marks c.all_parse.new.s.state.ctx.now.paths entries.items.items k.means.are.items in
-    rw (handed_on c.from_residual-in_err-items_checked.result c.from_residual-in_err-items_checked.ensures.1) (section_wrong (attr_at g.A.IrText.reading) (indices_of marks) (rules_of marks) k (items_wrong once entries.items.items) near same (rw c.as_slice.ensures.value at c.in_err-items_checked.ensures))
+    let same = references_same (whole old.stream) once es k.means.are.once marks c.all_parse.new.s.state.ctx.now.paths (items_of entries) k.means.are.items in
+    rw (handed_on c.from_residual-in_err-entries_checked.result c.from_residual-in_err-entries_checked.ensures.1) (section_wrong (attr_at g.A.IrText.reading) (indices_of marks) (rules_of marks) k (items_wrong once (items_of entries)) near same c.in_err-entries_checked.ensures)
 
 pub returns-clause-read : goal.returns-clause-read
 returns-clause-read g c =
@@ -39,10 +39,10 @@ returns-clause-read g c =
     let entries = c.in_ok-entries.entries in
     let k = c.in_ok-entries.ensures.read in
     let es = k.meant entries in
-    let once = entries.once.entries in
+    let once = once_of entries in
     let attr = attr_at g.A.IrText.reading in
     let paths = c.all_parse.new.s.state.ctx.now.paths in
-    let same = references_same (whole old.stream) once es k.means.are.once marks paths entries.items.items k.means.are.items in
-    let fine = rw c.as_slice.ensures.value at c.in_ok-items_checked.ensures in
+    let same = references_same (whole old.stream) once es k.means.are.once marks paths (items_of entries) k.means.are.items in
+    let fine = c.in_ok-entries_checked.ensures in
     subst (λ v. MustMean {A = g.row.A.Denot} itself replaced (AreEntriesOver marks old.state.ctx.now.paths paths (whole old.stream)) (section_at attr (indices_of marks) (rules_of marks)) old.stream (Ok entries) v) (sym fine.1)
     (section_right attr (indices_of marks) (rules_of marks) k (subst (λ ws. Each (IsWrong (whole old.stream)) ws (wrong_references (rules_of marks) es)) fine.0 same))
