@@ -1,5 +1,5 @@
 -- Lists that are gathered item by item.
-use Rattle.std.proofs.Common.{◌≡◌, ◌<◌, ◌+◌, ◌++◌, ◌∷◌, ◌∙◌, ◌⊎◌, ℕ, zero, suc, refl, sym, ap, subst, inl, inr, arith, Result, Ok, Err, IfOk, List, [], Some, map, map-id, length, slice_get}
+use Rattle.std.proofs.Common.{◌≡◌, ◌<◌, ◌++◌, ◌∷◌, ◌∙◌, ◌⊎◌, ℕ, zero, suc, refl, sym, ap, subst, inl, inr, arith, Result, Ok, Err, IfOk, List, [], Some, map, map-id, length, slice_get}
 use Rattle.std.proofs.lemmas.List.{length-append}
 use Rattle.std.proofs.lemmas.Option.{slice_get_within}
 use Rattle.std.proofs.Math.Nat.{eq-or-lt_of_le}
@@ -42,8 +42,6 @@ module _ {X : Type 0} where
   -- no item was pushed
   pub none_gathered : {Allows : ℕ → X → Type 0} (xs : List X) → xs ≡ [] → AreGathered Allows 0 xs
   none_gathered xs none = rw none (record { count = refl; each = λ i x e. absurd (cc) })
-
-  })
 
 -- what is seen of the items is a list, where what is seen of each stands there at its index
 all_seen : {X Y : Type 0} (see : X → Y) (xs : List X) (ys : List Y) → length xs ≡ length ys → ((i : ℕ) (x : X) → slice_get xs i ≡ Some x → slice_get ys i ≡ Some (see x)) → map see xs ≡ ys
