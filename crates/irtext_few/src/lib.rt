@@ -1,4 +1,5 @@
-//! Lists that are mostly short: up to two items stand in place, and more in a vector.
+//! Lists that are mostly short: `Few` holds up to two items in place and `Lone` one, and more in a vector; `Growing` is a list that
+//! items are put into, with its first item in place.
 #![tactic(auto)]
 
 pub mod growing;

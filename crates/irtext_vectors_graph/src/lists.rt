@@ -29,7 +29,7 @@ fn grows(alloc: Global) -> Result<bool, AllocError> {
     Ok(empty && three && two && digits(&list) == 24)
 }
 
-/// The only item, and one of two, of lists that are made of short ones.
+/// The only item, and one of two, of lists that are made of short ones, and lists that are made of their items.
 fn alone(alloc: Global) -> Result<bool, AllocError> {
     let mut one = Lone::from_few(alloc, Few::one(5))?;
     one[0] = 6;
@@ -37,7 +37,13 @@ fn alone(alloc: Global) -> Result<bool, AllocError> {
     two[1] = 9;
     let items = one.len() == 1 && one[0] == 6 && two.len() == 2 && two[0] == 7 && two[1] == 9;
     two.clear();
-    Ok(items && two.len() == 0)
+    let none: Lone<u8> = Lone::none();
+    let mut many = Vec::new(alloc);
+    many.push(1)?;
+    many.push(2)?;
+    let many = Lone::many(many);
+    let made = none.len() == 0 && Lone::one(3)[0] == 3 && many.len() == 2 && many[1] == 2;
+    Ok(items && made && two.len() == 0)
 }
 
 #[test]
