@@ -1,5 +1,5 @@
 -- Tests that decide whether two values look alike, and what they decide of the values' parts.
-use Rattle.std.proofs.Common.{◌≡◌, ◌∙◌, ◌==◌, ◌&&◌, ap, ap₂, refl, sym, ℕ, Bool, false, true≢false, Option, Some, None, List, String, Global, string_bytes}
+use Rattle.std.proofs.Common.{◌≡◌, ◌∙◌, ◌==◌, ◌&&◌, ap, ap₂, refl, sym, ℕ, Bool, false, true≢false, Option, Some, None, List}
 use Rattle.std.proofs.lemmas.Bool.Decides.{Decides-and, Decides-at, Decides-like, Decides-eqb, Decides-int_eq}
 use Rattle.std.proofs.lemmas.Slice.Eq.{bytes_eq-Decides, slice_eq-Decides}
 use Rattle.std.specs.Bool.{Decides}
@@ -38,9 +38,6 @@ module _ {X Y : Type 0} (E : X → X → Bool) (see : X → Y) (decides : (x y :
 
 pub options_decide : {X : Type 0} (E : X → X → Bool) → ((x y : X) → Decides (E x y) (x ≡ y)) → (a b : Option X) → Decides (option_eq E a b) (a ≡ b)
 options_decide E decides = option_decides E (λ x. x) decides (λ o. o) refl (λ x. refl)
-
-pub string_decides : (a b : String Global) → Decides (bytes_eq (string_bytes a) (string_bytes b)) (string_bytes a ≡ string_bytes b)
-string_decides a b = bytes_eq-Decides (string_bytes a) (string_bytes b)
 
 abbrev index_of : Source → ℕ
 index_of (File key) = key.index

@@ -87,9 +87,6 @@ append-none (x ∷ xs) = ap (λ ys. x ∷ ys) (append-none xs)
 pub keeps_none : (paths : List (List ℕ)) → KeepsMore paths paths
 keeps_none paths = record { more = []; with_more = sym (append-none paths) }
 
-pub keeps_same : {old new : List (List ℕ)} → new ≡ old → KeepsMore old new
-keeps_same {old} e = rw e (keeps_none old)
-
 -- the path of one source came, if it has one that is new
 pub keeps_path : {old new : List (List ℕ)} (o : Option (List ℕ)) → new ≡ path_kept old o → KeepsMore old new
 keeps_path {old} None e = rw e (keeps_none old)

@@ -29,10 +29,6 @@ mutual
   same_row_taken w no_location = refl
   same_row_taken w (location l ls) = ap (λ t. joined location t (λ u. row_taken same_sources u ls)) (same_taken w l) ∙ ap (made (location l)) (same_row_taken w ls)
 
--- no source came
-pub reached_none : {W : Type 0} (r : Rule W) (w : W) → Reached r w w
-reached_none r w = record { sources = []; by_sources = refl }
-
 -- one source came
 pub reached_one : {W : Type 0} (r : Rule W) (s : Source) (old new : W) → new ≡ r.after old s → Reached r old new
 reached_one r s old new e = record { sources = s ∷ []; by_sources = e }

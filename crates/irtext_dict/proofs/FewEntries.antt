@@ -1,5 +1,5 @@
 -- Entries that are searched one after the other: look-up, insertion and removal at a place, and keys that differ.
-use Rattle.std.specs.Prelude.{◌≡◌, ℕ, zero, suc, ◌+◌, ◌<◌, ◌≤◌, Bool, true, false, cond, if◌then◌else◌, not, ◌&&◌, ◌||◌, List, [], ◌∷◌, ◌++◌, length, Some, None, Result, Ok, Err, OnOk, OnErr, slice_index_or, slice_set, position, remove, refl}
+use Rattle.std.specs.Prelude.{◌≡◌, ℕ, zero, suc, ◌+◌, ◌≤◌, Bool, true, false, cond, if◌then◌else◌, not, ◌&&◌, ◌||◌, List, [], ◌∷◌, ◌++◌, length, Some, None, Result, Ok, Err, OnOk, OnErr, slice_index_or, slice_set, position, remove, refl}
 use Rattle.std.specs.Map.{lookup, remove_entry, keys_of}
 use Rattle.std.specs.Str.{bytes_eq}
 use Rattle.std.specs.Cmp.Lexicographic.{nat_list_eq_equiv}
@@ -16,12 +16,6 @@ module _ {K V : Type 0} (t : K → Bool) where
   -- no key passes where none has a place
   pub absent_from_place : (es : List (K × V)) → position t (keys_of es) ≡ None → IsAbsent t es
   absent_from_place es e = absent_from_none t es (Missing-position t es e).value
-
-  -- the first entry that passes is one of them
-  pub first-within : (es : List (K × V)) (i : ℕ) → IsFirstAt t es i → i < length es
-  first-within [] i h = absurd h
-  first-within (x ∷ xs) zero h = omega arith
-  first-within (x ∷ xs) (suc i) h = omega (arith, first-within xs i h.1)
 
   -- it is what a look-up finds
   pub lookup-first : (es : List (K × V)) (i : ℕ) (d : K × V) → IsFirstAt t es i → lookup t es ≡ Some (slice_index_or es i d).1

@@ -1,7 +1,7 @@
 -- What every dictionary keeps: no key stands twice, and under the reserved one stand given names.
 use Rattle.std.proofs.Common.{◌≡◌, Bool, true, false, not, ◌&&◌, ◌||◌, ℕ, zero, suc, List, [], ◌∷◌, Option, Some, None, refl, sym, ap, ap₂, ◌∙◌, subst}
 use Rattle.std.specs.Cmp.Lexicographic.{nat_list_eq_equiv}
-use Rattle.std.specs.List.{list_all, IsDistinct, AllByRecursion}
+use Rattle.std.specs.List.{list_all, AllByRecursion}
 use Rattle.std.specs.Map.{keys_of}
 use Rattle.std.specs.Str.{bytes_eq}
 use Rattle.irtext_base.proofs.Characters.{and_right}
@@ -14,12 +14,6 @@ use Rattle.irtext_dict.specs.declared.base.attributes.Given.{Given}
 none_has : (k : Text) (ks : List Text) → AllByRecursion (λ y. bytes_eq k y ≡ false) ks → has bytes_eq k ks ≡ false
 none_has k [] h = refl
 none_has k (x ∷ xs) h = ap (λ b. b || has bytes_eq k xs) h.0 ∙ none_has k xs h.1
-
--- keys of which none is equal to a later one differ
-pub distinct_keys : (ks : List Text) → IsDistinct bytes_eq ks → distinct bytes_eq ks ≡ true
-unfolding IsDistinct
-distinct_keys [] d = refl
-distinct_keys (k ∷ ks) d = ap₂ (λ h b. not h && b) (none_has k ks d.0) (distinct_keys ks d.1)
 
 never : (b : Bool) → not (b && false) ≡ true
 never true = refl

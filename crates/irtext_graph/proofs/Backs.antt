@@ -42,7 +42,7 @@ use Rattle.irtext_graph.proofs.Erased.{up_lives}
 use Rattle.irtext_graph.proofs.Kept.{datum_there}
 use Rattle.irtext_graph.proofs.Linked.{site_tells, defined_tells}
 use Rattle.irtext_graph.proofs.Logs.{age_what}
-use Rattle.irtext_graph.proofs.Nests.{told, some_eq, climb-none}
+use Rattle.irtext_graph.proofs.Nests.{some_eq, climb-none}
 use Rattle.irtext_graph.proofs.Nests as nests
 use Rattle.irtext_graph.proofs.Places.{kids_live}
 use Rattle.irtext_graph.proofs.Sheds.{shed_all, shed_object, older_shed}

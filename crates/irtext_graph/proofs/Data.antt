@@ -5,7 +5,7 @@ use Rattle.std.proofs.lemmas.Bool.{eqb-true, eq-eqb, ne_eqb}
 use Rattle.std.proofs.lemmas.List.{map-set, length-set}
 use Rattle.irtext_graph.specs.declared.graph.Counters.{Counters}
 use Rattle.irtext_graph.specs.Arena as arena
-use Rattle.irtext_graph.specs.Arena.{HasFew, KeepsPlaces, born_in, filled, older}
+use Rattle.irtext_graph.specs.Arena.{KeepsPlaces, born_in, filled, older}
 use Rattle.irtext_graph.specs.declared.arena.Arena.{Arena}
 use Rattle.irtext_graph.specs.declared.arena.Entry.{Entry}
 use Rattle.irtext_graph.specs.declared.arena.Ptr.{Ptr}

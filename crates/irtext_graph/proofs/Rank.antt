@@ -24,11 +24,6 @@ module _ {O : Type 0} where
   depth-done up (suc n) None e = refl
   depth-done up (suc n) (Some x) e = ap suc (depth-done up n (up x) e)
 
-  pub depth-same : (up up' : O → Option O) → ((x : O) → up' x ≡ up x) → (n : ℕ) (o : Option O) → depth up' n o ≡ depth up n o
-  depth-same up up' same zero o = refl
-  depth-same up up' same (suc n) None = refl
-  depth-same up up' same (suc n) (Some x) = ap suc (ap (depth up' n) (same x) ∙ depth-same up up' same n (up x))
-
   -- nothing stands in itself
   pub no_cycle : (up : O → Option O) (x : O) (k : ℕ) → climb up (suc k) (Some x) ≡ Some x → (fuel n : ℕ) → n ≤ fuel → climb up n (Some x) ≡ None → ⊥
   no_cycle up x k round fuel zero low e = cc

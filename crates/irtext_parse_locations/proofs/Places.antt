@@ -1,11 +1,10 @@
 -- Places of sources, of which those in memory are seen at once.
-use Rattle.std.proofs.Common.{◌≡◌, ℕ, zero, suc, ◌≤◌, true, false, Option, Some, None, List, Result, Ok, Err, [], ◌∷◌, ◌++◌, codes, length, refl, sym, ◌∙◌, ap, subst, arith}
-use Rattle.std.specs.Prelude.{IfOk, IsTrue}
+use Rattle.std.proofs.Common.{◌≡◌, ℕ, zero, suc, ◌≤◌, true, false, Option, None, List, Result, Ok, [], ◌∷◌, codes, length, refl, sym, subst, arith}
 use Rattle.irtext_base.specs.Text.{Text, begins}
 use Rattle.std.specs.Str.{chars}
 use Rattle.irtext_base.specs.Stream.{StreamView}
 use Rattle.irtext_stream.specs.Stream.{Comes}
-use Rattle.irtext_base.specs.Answers.{Outcome, Read, Gives, followed, mapped}
+use Rattle.irtext_base.specs.Answers.{Outcome, Gives, followed, mapped}
 use Rattle.irtext_base.specs.Locations.{AttrView, src_pos}
 use Rattle.irtext_base.specs.Paths.{Written, path_of}
 use Rattle.irtext_base.specs.declared.location.Location.{Location}
@@ -13,19 +12,14 @@ use Rattle.irtext_base.specs.declared.location.Source.TheVariants.{InMemory}
 use Rattle.irtext_base.specs.declared.parsable.fault.ParseFault.{ParseFault}
 use Rattle.irtext_grammar.specs.Contexts.Held.{location_over}
 use Rattle.irtext_read.specs.MustRead.{MustRead}
-use Rattle.irtext_read.proofs.Grammar.{text_at-literal}
 use Rattle.irtext_read.proofs.Steps.{Passed, alone, first, turned, mapped_followed}
 use Rattle.irtext_outcomes.specs.Readers.Locations.{begins_source, source_at, place_at, location_within, more_within}
 use Rattle.irtext_outcomes.specs.Readers.NewPaths.{MustReadOver, MustReadWithin, known_location}
 use Rattle.irtext_outcomes.specs.Readers.Positions.{spaced_at, position_at}
 use Rattle.irtext_outcomes.specs.Readers.Streams.{itself, replaced}
 use Rattle.irtext_outcomes.proofs.Locations.Begins.{is_place}
-use Rattle.irtext_parse_locations.specs.Plain.{Gets, behind_source_at}
+use Rattle.irtext_parse_locations.specs.Plain.{behind_source_at}
 use Rattle.irtext_parse_locations.proofs.Plain.{gets_must}
-
--- the source in memory
-memory_read : (rest : Text) → source_at (codes "<in-memory>" ++ rest) ≡ Read None (codes "<in-memory>") rest
-memory_read rest = refl
 
 chars_memory : chars (codes "<in-memory>") ≡ codes "<in-memory>"
 unfolding chars

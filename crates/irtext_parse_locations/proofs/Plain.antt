@@ -1,5 +1,5 @@
 -- Numbers, lines and columns as they are mostly written are those that the readers of their parts read.
-use Rattle.std.proofs.Common.{◌≡◌, ℕ, ℤ, pos, ◌≤◌, Bool, true, false, cond, nat_lt, Option, Some, None, Ok, [], ◌∷◌, ◌++◌, codes, length, refl, sym, ◌∙◌, ap, subst, arith}
+use Rattle.std.proofs.Common.{◌≡◌, ℕ, ℤ, pos, true, false, cond, nat_lt, Option, Some, None, Ok, [], ◌∷◌, ◌++◌, codes, refl, sym, ◌∙◌, ap, subst, arith}
 use Rattle.std.proofs.lemmas.Bool.Decides.{nat_tests}
 use Rattle.std.specs.Str.{chars}
 use Rattle.std.specs.Option.{option_map}
@@ -11,7 +11,7 @@ use Rattle.irtext_base.specs.Stream.{StreamView, behind}
 use Rattle.irtext_stream.specs.Stream.{Comes}
 use Rattle.irtext_base.specs.Answers.{Outcome, Read, Missing, Bad, Takes, Gives, Stands, demanded, followed, mapped, prefixed, unless_failed}
 use Rattle.irtext_base.proofs.Characters.{word_no_space}
-use Rattle.irtext_base.proofs.Compose.{seen_after, takes_more, takes_stands, stands_after}
+use Rattle.irtext_base.proofs.Compose.{takes_more, takes_stands, stands_after}
 use Rattle.irtext_base.proofs.Numbers.{digit_in_word}
 use Rattle.irtext_read.specs.Infix.{Reader}
 use Rattle.irtext_read.specs.Integers.{signed_below, within}
@@ -19,7 +19,7 @@ use Rattle.irtext_read.specs.MustRead.{MustRead}
 use Rattle.irtext_read.specs.Tokens.{is_sign, sign_of, after_sign, value_of, number_at, integer_of, integer_at}
 use Rattle.irtext_read.proofs.Steps.{alone, mapped_followed}
 use Rattle.irtext_read.proofs.Spelling.{prefixed-prefixed}
-use Rattle.irtext_outcomes.specs.Readers.Positions.{spaced_at, labelled_at, position_at}
+use Rattle.irtext_outcomes.specs.Readers.Positions.{spaced_at, labelled_at}
 use Rattle.irtext_outcomes.specs.Readers.Streams.{itself, replaced}
 use Rattle.irtext_stream.specs.declared.position.SourcePosition.{SourcePosition}
 use Rattle.irtext_parse_locations.specs.Plain.{TakesDigits, TakesNumber, Looks, Gets, GetsInteger, line_at, column_at, behind_source_at}
@@ -195,12 +195,3 @@ line_looks old mid new r h s = labelled_looks line_at (codes ": line: ") line_ta
 
 pub column_looks : (old mid new : StreamView) (r : Option ℤ) → Comes (chars (codes ", column: ")) old (λ v. mid ≡ v) → Looks (λ z. TakesNumber integer_at mid z new × FitsSigned w32 z) mid r new → Looks (GetsInteger column_at old new) old r new
 column_looks old mid new r h s = labelled_looks column_at (codes ", column: ") column_taken old mid new r (subst (λ t. Comes t old (λ v. mid ≡ v)) chars_column h) s
-
-stands_behind : {X : Type 0} (o : Outcome X) (old mid new : StreamView) (x : X) → Gives itself replaced o old x mid → Stands itself replaced mid.failed mid new → Stands itself replaced old.failed old new
-stands_behind (Read y t r) old mid new x g s = further t r g.1 s
-stands_behind (Missing cause) old mid new x g s = absurd g
-stands_behind (Bad cause upto) old mid new x g s = absurd g
-
--- what was read was taken of the text
-pub gets_further : {X : Type 0} (reader : Reader X) (old mid new : StreamView) (x : X) → Gets reader old mid x → Stands itself replaced mid.failed mid new → Stands itself replaced old.failed old new
-gets_further reader old mid new x g s = stands_behind (reader old.rest) old mid new x g s

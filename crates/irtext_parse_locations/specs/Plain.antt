@@ -4,7 +4,7 @@ use Rattle.std.specs.Int.{w32}
 use Rattle.std.specs.Char.{is_ascii_digit}
 use Rattle.irtext_base.specs.Text.{begins, front, after}
 use Rattle.irtext_base.specs.Stream.{StreamView}
-use Rattle.irtext_base.specs.Answers.{Outcome, Read, Takes, Gives, Stands}
+use Rattle.irtext_base.specs.Answers.{Read, Takes, Gives, Stands}
 use Rattle.irtext_read.specs.Infix.{Reader, ◌▷◌}
 use Rattle.irtext_read.specs.Tokens.{value_of}
 use Rattle.irtext_outcomes.specs.Readers.Positions.{spaced_at, labelled_at, position_at}

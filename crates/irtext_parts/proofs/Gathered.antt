@@ -6,13 +6,6 @@ use Rattle.std.proofs.Math.Nat.{eq-or-lt_of_le}
 use Rattle.irtext_parts.specs.Lists.{AreGathered, each}
 
 module _ {X : Type 0} where
-  -- what stands at an index of a list with one more item
-  at_pushed : (xs : List X) (x : X) (i : ℕ) (y : X) → slice_get (xs ++ x ∷ []) i ≡ Some y → (slice_get xs i ≡ Some y) ⊎ ((i ≡ length xs) × (x ≡ y))
-  at_pushed [] x zero y e = inr (refl, cc)
-  at_pushed [] x (suc i) y e = absurd (cc)
-  at_pushed (z ∷ xs) x zero y e = inl e
-  at_pushed (z ∷ xs) x (suc i) y e = elim (at_pushed xs x i y e) [ inl there ↦ inl there | inr last ↦ inr (ap suc last.0, last.1) ]
-
   -- the item that was pushed stands last
   at_last : (xs : List X) (x : X) → slice_get (xs ++ x ∷ []) (length xs) ≡ Some x
   at_last [] x = refl

@@ -10,7 +10,7 @@ use Rattle.std.specs.Str.{encode_utf8_all, chars, IsUtf8}
 use Rattle.memchr.specs.Find.{IsFirstByte, is_byte}
 use Rattle.std.specs.Char.{encode_utf8}
 use Rattle.irtext_stream.specs.Text.{Text, is_newline, line_behind, column_behind}
-use Rattle.irtext_stream.specs.Index.{BeginsLine, AreStarts, AreBlocks, AreLines, BeginUpTo, begins_character, entry_before}
+use Rattle.irtext_stream.specs.Index.{BeginsLine, AreStarts, AreBlocks, begins_character, entry_before}
 use Rattle.irtext_stream.proofs.Encoded.{Split, encode_some, characters_begin, split_newline, no_newlines}
 
 -- ---- tests of bytes
@@ -148,16 +148,6 @@ entries_more P xs x a p k h =
     (λ (l : k < length xs). subst (λ y. P y k) (sym (get_or_append_left xs (x ∷ []) 0 k l)) (a k l))
     (eq-or-lt_of_le (le_of_suc-le-suc (omega (arith, h, length-append xs (x ∷ [])))))
 
--- as many lines begin up to what is behind an offset
-pub up_to_more : (starts : List ℕ) (line o p : ℕ) → BeginUpTo starts line o → o ≤ p → BeginUpTo starts line p
-up_to_more starts line o p b l = record { within = b.within; before = λ h. omega (arith, b.before h, l) }
-
--- up to an offset begin as many lines as up to its stride
-pub stride_before : (starts lines : List ℕ) (size o least : ℕ) → AreLines starts size lines → o ≤ size → least ≡ get_or lines (o / 128) 0 → BeginUpTo starts least o
-stride_before starts lines size o least a l e =
-    let b = a.each (o / 128) (omega (arith, l, a.all)) in
-    up_to_more starts least (128 * (o / 128)) o (subst (λ z. BeginUpTo starts z (128 * (o / 128))) (sym e) b) (omega arith)
-
 -- the bytes behind the beginning of a line
 pub record Coming (bs : List ℕ) (o : ℕ) (behind : Text) : Type 0 where
   pub within : o ≤ length bs
@@ -239,13 +229,6 @@ position_is bs passed rest starts offset line u a e o w b f =
     let y : count_by begins_character (take (entry_before starts line) bs) ≡ length l.before = ap (λ k. count_by begins_character (take k bs)) l.begins ∙ front_begins bs l.before (l.between ++ rest) u split in
     let z : length passed ≡ length l.before + length l.between = ap length l.same ∙ length-append l.before l.between in
     (l.is_line, omega (arith, l.is_column, x, y, z))
-
--- a line begins at or before each of its places
-pub start_within : (bs starts : List ℕ) (offset line : ℕ) → (0 < line → get_or starts (line - 1) 0 ≤ offset) → entry_before starts line ≤ offset
-start_within bs starts offset zero b = omega arith
-start_within bs starts offset (suc k) b =
-    let h : get_or starts (suc k - 1) 0 ≡ get_or starts k 0 = ap (λ j. get_or starts j 0) (omega arith) in
-    omega (arith, h, b (omega arith))
 
 -- fewer characters begin before an earlier offset
 pub counted_less : (bs : List ℕ) (m n : ℕ) → m ≤ n → count_by begins_character (take m bs) ≤ count_by begins_character (take n bs)

@@ -3,7 +3,7 @@ use Rattle.std.proofs.Common.{codes}
 use Rattle.irtext_base.specs.Text.{Text}
 use Rattle.irtext_base.specs.Own.{Sincere}
 use Rattle.irtext_base.proofs.Sincere.{Of, of_followed, of_mapped, sincere_of}
-use Rattle.irtext_read.specs.Integers.{signed_below, int_at}
+use Rattle.irtext_read.specs.Integers.{signed_below}
 use Rattle.irtext_read.specs.Infix.{◌▷◌}
 use Rattle.irtext_read.specs.Tokens.{space_at, text_at}
 use Rattle.irtext_read.proofs.SincereTokens.{of_text, of_int, of_quoted, of_space, of_spaced}

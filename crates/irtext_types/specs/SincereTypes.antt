@@ -4,7 +4,6 @@ use Rattle.std.specs.Char.{is_ascii_digit}
 use Rattle.irtext_base.specs.Text.{Text, begins, begins_word, front, after}
 use Rattle.irtext_base.specs.Reading.{the}
 use Rattle.irtext_base.specs.Faults.{Demand}
-use Rattle.irtext_base.specs.Answers.{Outcome}
 use Rattle.irtext_base.specs.Own.{Sincere}
 use Rattle.irtext_base.proofs.Along.{front_after}
 use Rattle.irtext_base.proofs.Sincere.{Of, of_read, of_missing, of_here, of_either, of_followed, of_mapped, sincere_of}
@@ -14,7 +13,6 @@ use Rattle.irtext_types.specs.Words.{in_dotted, chosen, dotted_at}
 use Rattle.irtext_types.specs.Types.{type_word, type_behind, type_at}
 use Rattle.irtext_types.specs.TypeLists.{types_at}
 use Rattle.irtext_types.specs.IntegerTypes.{signedness_at, width_at, width_if, integer_type_at}
-use Rattle.irtext_types.specs.declared.types.DemoType.{DemoType}
 use Rattle.irtext_types.specs.declared.types.DemoType.TheVariants.{Integer}
 use Rattle.irtext_types.specs.declared.types.TypeWord.{TypeWord}
 use Rattle.irtext_types.specs.declared.types.TypeWord.TheVariants as word

@@ -1,5 +1,5 @@
 -- For callers: what is written of a type is read again.
-use Rattle.std.proofs.Common.{◌≡◌, ℕ, ◌<◌, ◌^◌, Bool, true, false, cond, Some, [], ◌∷◌, ◌++◌, length, refl, ◌∙◌, ap, ap₂, arith, inl, inr, codes, nat_lt, decimal}
+use Rattle.std.proofs.Common.{◌≡◌, ℕ, ◌<◌, ◌^◌, Bool, true, false, cond, [], ◌∷◌, ◌++◌, length, refl, ◌∙◌, ap, ap₂, arith, inl, inr, codes, decimal}
 use Rattle.std.proofs.lemmas.Bool.Decides.{nat_tests}
 use Rattle.std.proofs.lemmas.Fmt.{decimal_is_IsNumeral}
 use Rattle.std.specs.Char.{is_ascii_digit, is_whitespace}

@@ -3,7 +3,7 @@ use Rattle.std.specs.Prelude.{◌≡◌, ℕ, Bool, true, false, cond, not, ◌&
 use Rattle.std.specs.List.{list_all}
 use Rattle.std.proofs.Common.{inl, inr, sym, ◌∙◌, ap, subst, true≢false}
 use Rattle.irtext_base.specs.Format as format
-use Rattle.irtext_base.specs.Format.{Directive, has, kind, continuings, beginnings, followers, disjoint, is_list, is_any_region, none_behind, c7, c8}
+use Rattle.irtext_base.specs.Format.{Directive, has, continuings, beginnings, followers, disjoint, is_list, is_any_region, c7, c8}
 use Rattle.irtext_grammar.specs.Grammar.Forest.{Regions, no_regions, region, Blocks}
 use Rattle.irtext_grammar.specs.Grammar.Tree as tree
 use Rattle.irtext_grammar.specs.Grammar.Tree.{Piece, Part, directive, directive_of_piece}

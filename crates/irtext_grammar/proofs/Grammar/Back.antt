@@ -8,7 +8,7 @@ use Rattle.irtext_base.specs.Reading.{Reading, ◌▹◌, ◌▸◌, white, the,
 use Rattle.irtext_grammar.specs.Grammar.Forest.{Regions, no_regions, region}
 use Rattle.irtext_base.specs.Format.{has, kind}
 use Rattle.irtext_grammar.specs.Grammar.Tree as tree
-use Rattle.irtext_grammar.specs.Grammar.Tree.{Name, Mark, Attribute, given_names, ident, own, Piece, Part, Op, Head, Brace, shown, elided, Tree, directive, directive_of_piece}
+use Rattle.irtext_grammar.specs.Grammar.Tree.{Name, Attribute, given_names, ident, own, Piece, Part, Op, Head, Brace, shown, elided, directive_of_piece}
 use Rattle.irtext_base.specs.Own.{Language, found, missing, Lawful, Unreserved, Ends, can_follow}
 use Rattle.irtext_grammar.specs.Spelling.Spellable.{Each, IsIdentifier, IsName, IsGiven, IsSpellableAttribute, IsSpellableEntry, IsSpellable, AreSpellable, Enough}
 use Rattle.irtext_grammar.specs.Grammar.Reads as reads

@@ -6,7 +6,7 @@ use Rattle.irtext_base.specs.Text.{Text, begins, after_space, begins_word, after
 use Rattle.irtext_base.specs.Reading.{Reading, ◌▹◌, ◌▸◌, white, ends, the, literal, keyword, identifier, digits, number, separated, more, repeated}
 use Rattle.irtext_grammar.specs.Grammar.Forest.{Regions, no_regions, region, Blocks, no_blocks, block, Operations, no_operations, operation}
 use Rattle.irtext_base.specs.Format as format
-use Rattle.irtext_base.specs.Format.{Format, Id}
+use Rattle.irtext_base.specs.Format.{Format}
 use Rattle.irtext_grammar.specs.Grammar.Tree as tree
 use Rattle.irtext_grammar.specs.Grammar.Tree.{Name, Mark, Attribute, given_names, ident, own, Piece, Part, Op, Head, Brace, shown, elided, Tree, IsOf, parts_of, directive, directive_of_piece}
 use Rattle.irtext_base.specs.Own.{Language, found, missing, Lawful}

@@ -8,7 +8,7 @@ use Rattle.irtext_grammar.specs.Grammar.Tree.{Name, Op, Head, Brace, Tree, opera
 use Rattle.irtext_grammar.specs.Grammar.Bare.{bare_name, bare_argument, bare_op, bare_head, bare_regions, bare_blocks, bare_operations, bare}
 use Rattle.irtext_grammar.specs.Names.Script.{Path}
 use Rattle.irtext_grammar.specs.Names.Scopes as scopes
-use Rattle.irtext_grammar.specs.Names.Scopes.{Fact, Facts, facts}
+use Rattle.irtext_grammar.specs.Names.Scopes.{Fact, facts}
 use Rattle.irtext_grammar.specs.Grammar.Section.{Entry}
 use Rattle.irtext_grammar.specs.Names.Acts.{blocks_script}
 use Rattle.irtext_grammar.specs.Graphs.Build.{built_op, built_head, built_regions, built_blocks, built_operations, build}

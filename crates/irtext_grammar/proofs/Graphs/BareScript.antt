@@ -7,7 +7,7 @@ use Rattle.irtext_grammar.specs.Grammar.Forest.{Regions, no_regions, region, Blo
 use Rattle.irtext_grammar.specs.Grammar.Tree as tree
 use Rattle.irtext_grammar.specs.Grammar.Tree.{Name, Mark, Attribute, Piece, Part, Body, custom, canonical, Op, Head, Brace, shown, elided, Tree, parts_of, views, at_place, in_order_from, in_order, operand_names, successor_labels}
 use Rattle.irtext_grammar.specs.Grammar.Bare.{bare_name, bare_mark_if, bare_entry, bare_piece, bare_argument, bare_part, bare_body, bare_op, bare_head, bare_brace, bare_regions, bare_blocks, bare_operations, bare}
-use Rattle.irtext_grammar.specs.Names.Script.{Path, Failure, Act, Script, done, does, within, does_all, act_as, script_as, failure_as}
+use Rattle.irtext_grammar.specs.Names.Script.{Path, Act, Script, done, does, within, does_all, act_as, script_as, failure_as}
 use Rattle.irtext_grammar.specs.Names.Script as script
 use Rattle.irtext_grammar.specs.Names.Scopes.{Fact, uses, defines, no_scope, failures}
 use Rattle.irtext_grammar.specs.Names.Acts.{value_uses, label_uses, result_definitions, argument_definitions, mark_acts, key_act, entries_if, result_types, singles, single_labels, piece_acts, all_of, parts_script, closing_acts, header_acts, operation_script, region_script, region_scripts, blocks_script, operations_script, tree_script, Rule, may_hold, block_may_hold}

@@ -5,7 +5,7 @@ use Rattle.std.proofs.lemmas.Bool.Decides.{nat_tests}
 use Rattle.irtext_base.specs.Text.{Text}
 use Rattle.irtext_base.specs.Format as format
 use Rattle.irtext_base.specs.Format.{Format, Directive, Accepted, same_text, has, keys, given_names_key, block_label_key, Id}
-use Rattle.irtext_grammar.specs.Grammar.Tree.{Name, Attribute, ident, given_names, own, Piece, Part, Body, Op, Head, Brace, shown, elided, Tree, IsOf, directive, parts_of, views, in_order, operand_names, successor_labels}
+use Rattle.irtext_grammar.specs.Grammar.Tree.{Name, Attribute, own, Piece, Part, Body, Op, Head, Brace, shown, elided, Tree, IsOf, directive, parts_of, views, in_order, operand_names, successor_labels}
 use Rattle.irtext_grammar.specs.Spelling.Spellable.{Each}
 use Rattle.irtext_grammar.specs.Grammar.Forest.{Regions, no_regions, region, Blocks, no_blocks, block, Operations, no_operations, operation, MatchRegions, MatchBlocks, MatchOperations, AllRegions, AllBlocks, AllOperations}
 use Rattle.irtext_grammar.specs.Grammar.Tree as tree

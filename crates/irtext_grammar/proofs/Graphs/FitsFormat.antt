@@ -5,7 +5,7 @@ use Rattle.std.proofs.lemmas.Bool.Decides.{nat_tests}
 use Rattle.std.proofs.lemmas.Option.{slice_get-get_or}
 use Rattle.std.specs.List.{list_all}
 use Rattle.irtext_base.specs.Format as format
-use Rattle.irtext_base.specs.Format.{Format, Directive, count, keys, operand_places, successor_places, type_places, region_places, is_header, sym_name_key, are_places, distinct, c1, c2, c3, c4, c5, c6, c7, c8, is_operands, is_successors, is_regions, first_fault, Id}
+use Rattle.irtext_base.specs.Format.{Directive, count, keys, operand_places, successor_places, type_places, is_header, sym_name_key, are_places, distinct, c1, c2, c3, c4, c5, c6, c7, c8, is_operands, is_successors, first_fault, Id}
 use Rattle.irtext_grammar.specs.Grammar.Tree as tree
 use Rattle.irtext_grammar.specs.Grammar.Tree.{Attribute, given_names, ident, own, Part, directive}
 use Rattle.irtext_grammar.specs.Graphs.Graph.{Printing, GraphOp, part_of, lookup}

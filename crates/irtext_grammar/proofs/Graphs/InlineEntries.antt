@@ -7,7 +7,7 @@ use Rattle.irtext_base.specs.Format as format
 use Rattle.irtext_base.specs.Format.{Format, Directive, same_text, has, count, keys, is_header, is_dictionary, sym_name_key, Id}
 use Rattle.irtext_grammar.specs.Spelling.Spellable.{Each}
 use Rattle.irtext_grammar.specs.Grammar.Tree as tree
-use Rattle.irtext_grammar.specs.Grammar.Tree.{Name, Attribute, given_names, ident, own, Piece, Part, views, parts_of}
+use Rattle.irtext_grammar.specs.Grammar.Tree.{Attribute, given_names, ident, own, Piece, Part, views, parts_of}
 use Rattle.irtext_grammar.specs.Graphs.Graph.{Printing, GraphOp, value, target, inline, entries, written_keys, part_of, body_of, outlined, lookup}
 use Rattle.irtext_grammar.specs.Graphs.Build.{stored, plain_entry}
 use Rattle.irtext_grammar.specs.Graphs.Closed.{FitsCustom, FitsFormat}

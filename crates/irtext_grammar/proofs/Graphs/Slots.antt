@@ -6,8 +6,8 @@ use Rattle.irtext_base.specs.Text.{Text}
 use Rattle.irtext_base.specs.Format.{same_text}
 use Rattle.irtext_grammar.specs.Grammar.Forest.{Regions, no_regions, region, Blocks, no_blocks, block, Operations, no_operations, operation}
 use Rattle.irtext_grammar.specs.Grammar.Tree as tree
-use Rattle.irtext_grammar.specs.Grammar.Tree.{Name, Mark, Attribute, Piece, Part, Op, Head, Brace, shown, elided, Tree, parts_of, views, in_order, operand_names, successor_labels}
-use Rattle.irtext_grammar.specs.Names.Script.{Path, Place, User, operand, successor, Act, does_all}
+use Rattle.irtext_grammar.specs.Grammar.Tree.{Name, Mark, Attribute, Piece, Part, Op, Head, parts_of, views, in_order, operand_names, successor_labels}
+use Rattle.irtext_grammar.specs.Names.Script.{Path, Place, User, operand, successor, Act}
 use Rattle.irtext_grammar.specs.Names.Script as script
 use Rattle.irtext_grammar.specs.Names.Scopes.{Fact, lookup}
 use Rattle.irtext_grammar.specs.Names.Acts.{value_uses, label_uses, result_definitions, argument_definitions, mark_acts, key_act, entries_if, singles, single_labels, piece_acts, closing_acts, header_acts, Rule, may_hold, block_may_hold}

@@ -5,9 +5,9 @@ use Rattle.std.specs.List.{cons_option}
 use Rattle.std.proofs.lemmas.Bool.Decides.{nat_tests}
 use Rattle.std.proofs.lemmas.List.{take-append-drop}
 use Rattle.irtext_base.specs.Format as format
-use Rattle.irtext_base.specs.Format.{Format, Directive, count, operand_places, successor_places, type_places, sym_name_key, are_places, is_operands, is_successors, distinct, Id}
+use Rattle.irtext_base.specs.Format.{Format, Directive, count, operand_places, successor_places, type_places, sym_name_key, are_places, is_operands, is_successors, Id}
 use Rattle.irtext_grammar.specs.Grammar.Tree as tree
-use Rattle.irtext_grammar.specs.Grammar.Tree.{Name, Attribute, given_names, ident, own, Piece, Part, views, in_order, parts_of, operand_names, successor_labels}
+use Rattle.irtext_grammar.specs.Grammar.Tree.{Name, Attribute, given_names, ident, own, Piece, Part, views, in_order, operand_names, successor_labels}
 use Rattle.irtext_grammar.specs.Graphs.Graph.{Printing, GraphOp, value, target, part_of, body_of, tree_op, outlined, lookup}
 use Rattle.irtext_grammar.specs.Names.Acts.{result_types}
 use Rattle.irtext_grammar.specs.Graphs.Closed.{FitsCustom, FitsFormat}

@@ -6,10 +6,10 @@ use Rattle.std.specs.Char.{is_ascii_digit, is_ascii_graphic}
 use Rattle.std.proofs.lemmas.Bool.Decides.{nat_tests}
 use Rattle.irtext_base.specs.Text.{Text, begins, begins_word, in_word, is_identifier}
 use Rattle.irtext_base.specs.Format as format
-use Rattle.irtext_base.specs.Format.{Format, Directive, same_text, has, word_prints, count, operand_places, successor_places, region_places, is_regions, none_behind, ascend, sym_name_key, Id}
+use Rattle.irtext_base.specs.Format.{Format, Directive, same_text, word_prints, count, operand_places, successor_places, region_places, is_regions, none_behind, ascend, sym_name_key, Id}
 use Rattle.irtext_grammar.specs.Grammar.Forest.{Regions, no_regions, region, Blocks, no_blocks, block, Operations, no_operations, operation, regions_list, AllRegions, AllBlocks, AllOperations}
 use Rattle.irtext_grammar.specs.Grammar.Tree as tree
-use Rattle.irtext_grammar.specs.Grammar.Tree.{Name, Mark, Attribute, given_names, ident, own, Piece, Part, shown, elided}
+use Rattle.irtext_grammar.specs.Grammar.Tree.{Name, Attribute, given_names, ident, own, Piece, Part, shown, elided}
 use Rattle.irtext_grammar.specs.Spelling.PrintedNames.{value_name, block_name}
 use Rattle.irtext_grammar.specs.Graphs.Graph.{Graph, Limit, inside, is_elided, GraphOp, GraphBlock, Printing, value, target, inline, entries, is_marked, mark_at, own_marks, part_of, body_of, tree_op, tree_head, tree_regions, tree_blocks, tree_operations, marks_in_regions, marks_in_blocks, marks_in_operations, written, outlined, lookup, op_outlined, block_outlined}
 use Rattle.irtext_grammar.specs.Spelling.Spellable.{Each, IsIdentifier, IsName, IsSpellableAttribute, IsSpellableEntry, IsSpellable, AreSpellable, Enough, IsSpellableMark}

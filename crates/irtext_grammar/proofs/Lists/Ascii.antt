@@ -1,19 +1,14 @@
 -- ASCII texts: their bytes are their characters.
-use Rattle.std.proofs.Common.{◌≡◌, ◌<◌, ◌++◌, ◌^◌, ℕ, List, [], ◌∷◌, true, refl, zero, suc, IsTrue, codes, arith}
+use Rattle.std.proofs.Common.{◌≡◌, ◌<◌, ℕ, List, [], ◌∷◌, true, zero, suc, IsTrue, arith}
 use Rattle.std.proofs.lemmas.Bool.Decides.{nat_tests}
 use Rattle.irtext_base.proofs.Characters.{and_left, and_right}
-use Rattle.std.proofs.lemmas.Str.{IsAscii-append, encodes-IsAscii}
+use Rattle.std.proofs.lemmas.Str.{encodes-IsAscii}
 use Rattle.std.proofs.lemmas.Str.Ascii.{IsAscii-nil}
-use Rattle.std.specs.Int.Signed.{mag}
-use Rattle.std.proofs.lemmas.Fmt.{IsAscii-signed}
 use Rattle.std.specs.Char.{is_ascii}
-use Rattle.std.specs.Fmt.{signed_decimal}
 use Rattle.std.specs.List.{list_all}
 use Rattle.std.specs.Str.{IsAscii, encode_utf8_all}
 use Rattle.irtext_base.proofs.Characters.{in_word_small}
 use Rattle.irtext_base.specs.Text.{is_identifier, in_word, begins_word}
-use Rattle.irtext_base.specs.Causes.{position_text}
-use Rattle.irtext_stream.specs.declared.position.SourcePosition.{SourcePosition}
 
 -- the bytes of an ASCII text
 pub encodes-ascii : (text : List ℕ) → IsAscii text → encode_utf8_all text ≡ text
@@ -44,9 +39,3 @@ ascii-word (c ∷ text) e = ascii-cons c text (in_word_small c (and_left (in_wor
 pub ascii-identifier : (text : List ℕ) → IsTrue (is_identifier text) → IsAscii text
 ascii-identifier [] e = IsAscii-nil
 ascii-identifier (c ∷ text) e = ascii-cons c text (begins_word-small c (and_left (begins_word c) (list_all in_word text) e)) (ascii-word text (and_right (begins_word c) (list_all in_word text) e))
-
--- the text of a position
-pub ascii-position : (pos : SourcePosition) → mag pos.line < 2 ^ 63 → mag pos.column < 2 ^ 63 → IsAscii (position_text pos)
-ascii-position pos l c = IsAscii-append (codes "line: ") (signed_decimal pos.line ++ (codes ", column: " ++ signed_decimal pos.column)) (ascii-from (codes "line: ") refl)
-    (IsAscii-append (signed_decimal pos.line) (codes ", column: " ++ signed_decimal pos.column) (IsAscii-signed pos.line l)
-    (IsAscii-append (codes ", column: ") (signed_decimal pos.column) (ascii-from (codes ", column: ") refl) (IsAscii-signed pos.column c)))

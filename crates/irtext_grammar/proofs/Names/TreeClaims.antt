@@ -6,7 +6,7 @@ use Rattle.irtext_base.specs.Format.{Id}
 use Rattle.irtext_grammar.specs.Spelling.Spellable.{Each}
 use Rattle.irtext_grammar.specs.Grammar.Forest.{Regions, no_regions, region, Blocks, no_blocks, block, Operations, no_operations, operation, AllRegions, AllBlocks, AllOperations}
 use Rattle.irtext_grammar.specs.Grammar.Tree as tree
-use Rattle.irtext_grammar.specs.Grammar.Tree.{Name, Attribute, Piece, Part, Op, Head, Brace, Tree, parts_of, views}
+use Rattle.irtext_grammar.specs.Grammar.Tree.{Piece, Part, Op, Head, Brace, Tree, parts_of, views}
 use Rattle.irtext_grammar.specs.Names.Script.{Path, Act, entry, claim, Script, done, within, does_all}
 use Rattle.irtext_grammar.specs.Names.Acts.{piece_acts, closing_acts, header_acts, blocks_script, tree_script, may_hold}
 use Rattle.irtext_grammar.specs.Names.Resolves.{KeysKept, CountsAgree, OpKeysKept, HeadKeysKept}
@@ -14,7 +14,7 @@ use Rattle.irtext_grammar.specs.Spelling.Writable.{has_region}
 use Rattle.irtext_grammar.proofs.Names.ResolvedScript.{Claims, Entryless, OuterIsolated}
 use Rattle.irtext_grammar.proofs.Names.ActsOfTrees.{entries_in, Holds, NoEntry, piece_holds, holds_piece, piece_no_entry, closing_holds, closing_no_entry, header_holds, holds_header, header_no_entry}
 use Rattle.irtext_grammar.proofs.Names.InScripts as scripts
-use Rattle.irtext_grammar.proofs.Names.InScripts.{Both, both_then, WholeRegions, WholeBlocks, WholeOperations}
+use Rattle.irtext_grammar.proofs.Names.InScripts.{Both, WholeBlocks, WholeOperations}
 use Rattle.irtext_grammar.proofs.Lists.Each.{each_both, each_left, each_right}
 
 -- ---- acts

@@ -12,7 +12,7 @@ use Rattle.irtext_grammar.specs.Names.Resolves.{texts, all_in_regions, all_in_bl
 use Rattle.irtext_grammar.proofs.Names.ResolvedScript.{defined, used, defined_both}
 use Rattle.irtext_grammar.proofs.Names.ActsOfTrees.{act_of, values_in, labels_in, piece_gives, closing_gives, header_gives}
 use Rattle.irtext_grammar.proofs.Names.InScripts as scripts
-use Rattle.irtext_grammar.proofs.Names.InScripts.{Both, both_then, WholeRegions, WholeBlocks, WholeOperations}
+use Rattle.irtext_grammar.proofs.Names.InScripts.{WholeBlocks, WholeOperations}
 
 -- a list gathered item by item
 pub flat_one : {X : Type 0} (xs : List X) → flat_map (λ x. x ∷ []) xs ≡ xs

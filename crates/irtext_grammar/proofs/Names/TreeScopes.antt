@@ -6,15 +6,15 @@ use Rattle.irtext_base.specs.Format.{Id, same_text, has, distinct}
 use Rattle.irtext_grammar.specs.Spelling.Spellable.{Each}
 use Rattle.irtext_grammar.specs.Grammar.Forest.{Regions, no_regions, region, Blocks, no_blocks, block, Operations, no_operations, operation}
 use Rattle.irtext_grammar.specs.Grammar.Tree as tree
-use Rattle.irtext_grammar.specs.Grammar.Tree.{Name, Attribute, Piece, Part, Op, Head, Brace, Tree, parts_of, views}
+use Rattle.irtext_grammar.specs.Grammar.Tree.{Part, Op, Head, Brace, Tree, parts_of}
 use Rattle.irtext_grammar.specs.Names.Script.{Path, Act, Script, done, within, does_all}
 use Rattle.irtext_grammar.specs.Names.Scopes.{Fact, facts}
 use Rattle.irtext_grammar.specs.Names.Acts.{piece_acts, closing_acts, header_acts, blocks_script, tree_script}
 use Rattle.irtext_grammar.specs.Names.Resolves.{Scope, DefinesOnce, DefinesUsed, values_of, labels_of, scopes_in_regions, scopes_in_blocks, scopes_in_operations}
 use Rattle.irtext_grammar.proofs.Names.ResolvedScript as script
-use Rattle.irtext_grammar.proofs.Names.ResolvedScript.{defined, used, scopes, Claims, Entryless, OuterIsolated}
+use Rattle.irtext_grammar.proofs.Names.ResolvedScript.{defined, used, scopes}
 use Rattle.irtext_grammar.proofs.Names.InScripts as scripts
-use Rattle.irtext_grammar.proofs.Names.InScripts.{Both, both_then, WholeRegions, WholeBlocks, WholeOperations}
+use Rattle.irtext_grammar.proofs.Names.InScripts.{Both, WholeBlocks, WholeOperations}
 use Rattle.irtext_grammar.proofs.Names.TreeLists as lists
 use Rattle.irtext_grammar.proofs.Names.TreeUses as uses
 use Rattle.irtext_grammar.proofs.Lists.Each.{each_both, each_left, each_right}

@@ -14,7 +14,7 @@ use Rattle.irtext_grammar.specs.Names.Resolves.{texts, all_in_regions, all_in_bl
 use Rattle.irtext_grammar.proofs.Names.ResolvedScript.{used}
 use Rattle.irtext_grammar.proofs.Names.ActsOfTrees.{act_of, values_in, labels_in, piece_gives, closing_gives, header_gives}
 use Rattle.irtext_grammar.proofs.Names.InScripts as scripts
-use Rattle.irtext_grammar.proofs.Names.InScripts.{Both, both_then, WholeRegions, WholeBlocks, WholeOperations}
+use Rattle.irtext_grammar.proofs.Names.InScripts.{Both, both_then, WholeBlocks, WholeOperations}
 use Rattle.irtext_grammar.proofs.Names.TreeLists.{flat_one, flat_none, used_both, none, one, acts_add}
 use Rattle.irtext_grammar.proofs.Lists.Each.{each_both, each_left, each_right}
 

@@ -13,7 +13,7 @@ use Rattle.irtext_grammar.specs.Spelling.Spell.{spelled}
 use Rattle.irtext_grammar.specs.Graphs.Identifiers.{EntryHasIdentifiers, OpHasIdentifiers, BlockHasIdentifiers, HasIdentifiers}
 use Rattle.irtext_grammar.specs.Graphs.ReservedKeys.{GraphKeepsKeys}
 use Rattle.irtext_grammar.specs.Graphs.Graph as graph
-use Rattle.irtext_grammar.specs.Graphs.Graph.{Graph, Limit, GraphOp, GraphBlock, Printing, outlined, shared, place_in, is_marked, own_marks, marks_in_regions, written, own_entry, entries_of_regions, entries_of_blocks, entries_of_operations, entries_of, op_outlined, block_outlined, outlined_entries, label_entry}
+use Rattle.irtext_grammar.specs.Graphs.Graph.{Graph, Limit, GraphOp, GraphBlock, Printing, outlined, shared, is_marked, own_marks, marks_in_regions, written, own_entry, entries_of_regions, entries_of_blocks, entries_of_operations, entries_of, op_outlined, block_outlined, outlined_entries, label_entry}
 use Rattle.irtext_grammar.specs.Spelling.Section as section
 use Rattle.irtext_grammar.specs.Grammar.Section.{Entry}
 use Rattle.irtext_grammar.specs.Names.Script.{Script, done, does_all, follow}

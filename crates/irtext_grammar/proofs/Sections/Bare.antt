@@ -9,7 +9,7 @@ use Rattle.irtext_grammar.specs.Grammar.Bare.{bare_mark_if, bare_regions, bare_b
 use Rattle.irtext_grammar.specs.Grammar.Section.{Item, direct, reference, Entry, of_item, of_once}
 use Rattle.irtext_grammar.specs.Spelling.SectionEntries.{bare_pair, bare_section_entry, bare_section}
 use Rattle.irtext_grammar.specs.Names.Script as script
-use Rattle.irtext_grammar.specs.Names.Script.{Act, Script, done, does_all, act_as, failure_as}
+use Rattle.irtext_grammar.specs.Names.Script.{Act, done, does_all, act_as, failure_as}
 use Rattle.irtext_grammar.specs.Names.Scopes.{is_among, no_scope, failures}
 use Rattle.irtext_grammar.specs.Names.Acts.{item_acts, shared_attribute, keeps_if, entry_acts, reference_acts, late_acts, section_acts, tree_script, root_script, failures_of, Rule, marked_as, block_marks_in_regions, block_marks_in_blocks, block_marks_in_operations, rule_of, may_hold, keeps_label_key}
 use Rattle.irtext_grammar.specs.Graphs.Contents.{as_text}

@@ -9,10 +9,10 @@ use Rattle.irtext_grammar.specs.Grammar.Tree.{Attribute, given_names, ident, own
 use Rattle.irtext_grammar.specs.Spelling.Spellable.{Each}
 use Rattle.irtext_grammar.specs.Grammar.Bare.{bare_mark_if, bare_op, bare_head, bare_regions, bare_blocks, bare_operations, bare}
 use Rattle.irtext_grammar.specs.Graphs.Graph as graph
-use Rattle.irtext_grammar.specs.Graphs.Graph.{Graph, Limit, GraphOp, GraphBlock, Printing, outlined, shared, place_in, is_marked, mark_at, own_marks, marks_in_regions, marks_in_blocks, marks_in_operations, tree_regions, tree_blocks, tree_operations, written, own_entry, entries_of_regions, entries_of_blocks, entries_of_operations, entries_of, op_outlined, block_outlined}
+use Rattle.irtext_grammar.specs.Graphs.Graph.{Graph, Limit, GraphOp, GraphBlock, Printing, shared, place_in, is_marked, mark_at, own_marks, marks_in_regions, marks_in_blocks, marks_in_operations, tree_regions, tree_blocks, tree_operations, written, own_entry, entries_of_regions, entries_of_blocks, entries_of_operations, entries_of, op_outlined, block_outlined}
 use Rattle.irtext_grammar.specs.Grammar.Section.{Entry, direct, reference}
 use Rattle.irtext_grammar.specs.Graphs.Contents as contents
-use Rattle.irtext_grammar.specs.Graphs.Contents.{as_text, Contents}
+use Rattle.irtext_grammar.specs.Graphs.Contents.{Contents}
 use Rattle.irtext_grammar.specs.Graphs.Build.{resolved, content_in, content}
 use Rattle.irtext_grammar.specs.Spelling.SectionEntries.{bare_section, mark_of, written_pair, written_items, written_once, written_section, own_content}
 use Rattle.irtext_grammar.proofs.Sections.Bare.{content_bare}

@@ -3,7 +3,7 @@ use Rattle.std.proofs.Common.{◌≡◌, ℕ, zero, suc, ◌+◌, Bool, true, fa
 use Rattle.std.specs.Prelude.{⊤}
 use Rattle.irtext_base.specs.Text.{Text}
 use Rattle.irtext_base.specs.Format as format
-use Rattle.irtext_base.specs.Format.{Format, Directive, same_text, ascend, count, none_behind, region_places, is_regions, Id}
+use Rattle.irtext_base.specs.Format.{Format, same_text, ascend, count, region_places, is_regions, Id}
 use Rattle.irtext_grammar.specs.Grammar.Forest.{Regions, no_regions, region, Blocks, no_blocks, block, Operations, no_operations, operation, regions_list}
 use Rattle.irtext_grammar.specs.Grammar.Tree as tree
 use Rattle.irtext_grammar.specs.Grammar.Tree.{Name, Attribute, Piece, Part, Op, Head, Brace, parts_of}

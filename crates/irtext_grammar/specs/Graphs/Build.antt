@@ -4,7 +4,7 @@ use Rattle.irtext_base.specs.Text.{Text}
 use Rattle.irtext_base.specs.Format.{same_text, given_names_key, block_label_key, sym_name_key, Id}
 use Rattle.irtext_grammar.specs.Grammar.Forest.{Regions, no_regions, region, Blocks, no_blocks, block, Operations, no_operations, operation, Root}
 use Rattle.irtext_grammar.specs.Grammar.Tree as tree
-use Rattle.irtext_grammar.specs.Grammar.Tree.{Name, Mark, Attribute, given_names, ident, Piece, Part, Op, Head, Brace, Tree, parts_of, views, operand_names, successor_labels}
+use Rattle.irtext_grammar.specs.Grammar.Tree.{Name, Mark, Attribute, given_names, ident, Piece, Op, Head, Brace, Tree, parts_of, views, operand_names, successor_labels}
 use Rattle.irtext_grammar.specs.Grammar.Section.{Item, direct, reference, Entry, of_item, of_once}
 use Rattle.irtext_grammar.specs.Names.Script.{Path, Place}
 use Rattle.irtext_grammar.specs.Names.Scopes.{Fact, lookup, facts}

@@ -3,7 +3,7 @@ use Rattle.std.specs.Prelude.{◌≡◌, ℕ, suc, Bool, true, false, cond, not,
 use Rattle.std.specs.List.{list_all}
 use Rattle.irtext_base.specs.Text.{Text}
 use Rattle.irtext_base.specs.Format as format
-use Rattle.irtext_base.specs.Format.{Format, Directive, same_text, has, count, keys, operand_places, successor_places, type_places, region_places, is_operands, is_successors, is_regions, is_dictionary, is_header, given_names_key, sym_name_key, first_fault, Id}
+use Rattle.irtext_base.specs.Format.{Format, Directive, same_text, has, count, keys, operand_places, successor_places, type_places, region_places, is_operands, is_successors, is_regions, is_dictionary, is_header, sym_name_key, first_fault, Id}
 use Rattle.irtext_grammar.specs.Grammar.Forest.{Regions, no_regions, region, Blocks, no_blocks, block, Operations, no_operations, operation, regions_list}
 use Rattle.irtext_grammar.specs.Grammar.Tree.{Attribute, ident}
 use Rattle.irtext_grammar.specs.Graphs.Graph.{Graph, GraphOp, GraphBlock, Printing, lookup, outlined, written_keys}

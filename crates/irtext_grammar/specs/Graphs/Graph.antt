@@ -6,7 +6,7 @@ use Rattle.irtext_grammar.specs.Grammar.Forest.{Regions, no_regions, region, Blo
 use Rattle.irtext_base.specs.Format as format
 use Rattle.irtext_base.specs.Format.{Format, same_text, has, keys, operand_places, successor_places, is_header, block_label_key, sym_name_key, count, Id}
 use Rattle.irtext_grammar.specs.Grammar.Tree as tree
-use Rattle.irtext_grammar.specs.Grammar.Tree.{Name, Mark, Attribute, given_names, ident, own, Piece, Part, Body, Op, Head, Brace, shown, elided, Tree}
+use Rattle.irtext_grammar.specs.Grammar.Tree.{Name, Mark, Attribute, given_names, ident, own, Part, Body, Op, Head, Brace, shown, elided, Tree}
 use Rattle.irtext_grammar.specs.Spelling.PrintedNames.{value_name, block_name}
 
 -- a value is named by its number, a block by place and generation; a location is its text, where it is known

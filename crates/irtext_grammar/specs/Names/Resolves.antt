@@ -4,7 +4,7 @@ use Rattle.irtext_base.specs.Text.{Text}
 use Rattle.irtext_base.specs.Format.{Id, same_text, has, distinct}
 use Rattle.irtext_grammar.specs.Grammar.Forest.{Regions, no_regions, region, Blocks, no_blocks, block, Operations, no_operations, operation, AllRegions}
 use Rattle.irtext_grammar.specs.Grammar.Tree as tree
-use Rattle.irtext_grammar.specs.Grammar.Tree.{Name, Mark, Attribute, Op, Head, Brace, Tree, parts_of, views}
+use Rattle.irtext_grammar.specs.Grammar.Tree.{Name, Attribute, Op, Head, Brace, Tree, parts_of, views}
 use Rattle.irtext_grammar.specs.Grammar.Section.{Item, direct, reference, Entry, of_item, of_once}
 use Rattle.irtext_grammar.specs.Names.Acts.{Rule, shared_attribute, may_hold, block_may_hold, keeps_if, result_types, entries_if, marked_as, rule_of}
 use Rattle.irtext_grammar.specs.Spelling.Spellable.{Each}

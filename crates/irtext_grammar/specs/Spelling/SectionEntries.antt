@@ -4,7 +4,7 @@ use Rattle.irtext_base.specs.Text.{Text}
 use Rattle.irtext_grammar.specs.Grammar.Tree.{Name, Mark, Attribute, own}
 use Rattle.irtext_grammar.specs.Grammar.Section.{Item, direct, reference, Entry, of_item, of_once}
 use Rattle.irtext_grammar.specs.Graphs.Graph as graph
-use Rattle.irtext_grammar.specs.Graphs.Graph.{Graph, Printing, named, entries_of, shared, place_in, is_marked, outlined}
+use Rattle.irtext_grammar.specs.Graphs.Graph.{Graph, Printing, named, entries_of, shared, place_in, is_marked}
 use Rattle.irtext_grammar.specs.Grammar.Bare.{bare_name, bare_mark}
 
 -- an item of an entry without its place

@@ -1,4 +1,4 @@
-use Rattle.std.proofs.Common.{◌≡◌, ◌∙◌, ap, rules}
+use Rattle.std.proofs.Common.{◌≡◌, rules}
 use Rattle.std.proofs.lemmas.Result.{IfErr-weaker}
 use Rattle.irtext_context.specs.DialectTable.{dialect_or_new}
 use Rattle.irtext_types.specs.DemoDialects.{demo_op}

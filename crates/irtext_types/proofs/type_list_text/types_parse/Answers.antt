@@ -1,4 +1,4 @@
-use Rattle.std.proofs.Common.{List, refl, codes}
+use Rattle.std.proofs.Common.{List, codes}
 use Rattle.irtext_base.specs.Answers.{Outcome, mapped, followed}
 use Rattle.irtext_base.specs.Text.{Text}
 use Rattle.irtext_read.specs.ListOutcomes.{separated_at}
