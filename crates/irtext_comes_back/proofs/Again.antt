@@ -12,12 +12,12 @@ use Rattle.irtext_grammar.specs.Graphs.Closed.{Fit}
 use Rattle.irtext_grammar.specs.Graphs.Graph.{Graph, Printing}
 use Rattle.irtext_grammar.specs.Graphs.Regained.{Named}
 use Rattle.irtext_grammar.specs.Graphs.StandsFor.{Distinct}
-use Rattle.irtext_kept.specs.Kept.{KeepsAll}
+use Rattle.irtext_outcomes.specs.ContextParts.{KeepsAll}
 use Rattle.irtext_print_ir.specs.Printers.Printed.{block_round}
 use Rattle.irtext_promises.specs.OnlyNew.{OnlyNew}
 use Rattle.irtext_read.specs.AttrTexts.{attr_at}
-use Rattle.irtext_round_trip.specs.Back.{ClosedRoot}
-use Rattle.irtext_two_calls.proofs.ReadClosed.{read_closed}
+use Rattle.irtext_outcomes.specs.Back.{ClosedRoot}
+use Rattle.irtext_promises.proofs.ReadClosed.{read_closed}
 use Rattle.irtext_comes_back.specs.Calls.{ReadsText}
 use Rattle.irtext_comes_back.proofs.Nowhere.{root_nowhere}
 

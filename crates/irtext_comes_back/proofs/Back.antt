@@ -38,10 +38,10 @@ use Rattle.irtext_print_walk.specs.Walk.{or_nothing}
 use Rattle.irtext_promises.specs.Held.{held_root}
 use Rattle.irtext_promises.specs.OnlyNew.{OnlyNew}
 use Rattle.irtext_read.specs.AttrTexts.{attr_at}
-use Rattle.irtext_round_trip.specs.Back.{ClosedRoot, HeldBack, HeldWhole}
-use Rattle.irtext_round_trip.specs.Kept.{KeptRoot}
-use Rattle.irtext_two_calls.specs.PrintedRoot.{PrintedRoot}
-use Rattle.irtext_two_calls.proofs.PrintedBack.{stands_back, stands_whole, not_refused, none_read}
+use Rattle.irtext_outcomes.specs.Back.{ClosedRoot, HeldBack, HeldWhole}
+use Rattle.irtext_outcomes.specs.RootParts.{KeptRoot}
+use Rattle.irtext_promises.specs.PrintedRoot.{PrintedRoot}
+use Rattle.irtext_promises.proofs.PrintedBack.{stands_back, stands_whole, not_refused, none_read}
 use Rattle.irtext_comes_back.specs.Calls.{IsClosed, IsPrinted, ComesBack, ComesBackWhole, ReadsText, RefusesText, IsExcused}
 use Rattle.irtext_comes_back.proofs.Fitting.{fits_whole}
 

@@ -29,8 +29,8 @@ use Rattle.irtext_promises.specs.Held.{held_root}
 use Rattle.irtext_promises.specs.OnlyNew.{OnlyNew}
 use Rattle.irtext_promises.specs.Promises.{BuildsRoot, RefusesRoot}
 use Rattle.irtext_read.specs.AttrTexts.{attr_at}
-use Rattle.irtext_round_trip.specs.Back.{HeldBack, HeldWhole}
-use Rattle.irtext_round_trip.specs.Kept.{HoldsNoLabels}
+use Rattle.irtext_outcomes.specs.Back.{HeldBack, HeldWhole}
+use Rattle.irtext_outcomes.specs.RootParts.{HoldsNoLabels}
 use Rattle.irtext_state.specs.declared.parsable.state.StateStream.{StateStream}
 use Rattle.irtext_comes_back.specs.declared.calls.NotAgain.{NotAgain}
 use Rattle.irtext_comes_back.specs.declared.calls.NotAgain.TheVariants.{Refused, Lost}

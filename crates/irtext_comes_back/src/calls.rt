@@ -9,7 +9,7 @@ ghost use Rattle.irtext_grammar.specs.Grammar.Marked.{AllShown};
 ghost use Rattle.irtext_grammar.specs.Graphs.Closed.{Fit};
 ghost use Rattle.irtext_grammar.specs.Graphs.Graph.{Graph, written};
 ghost use Rattle.irtext_grammar.specs.Graphs.Regained.{Named};
-ghost use Rattle.irtext_kept.specs.Kept.{KeepsAll};
+ghost use Rattle.irtext_outcomes.specs.ContextParts.{KeepsAll};
 ghost use Rattle.irtext_outcomes.specs.Promises.Root.{IsFresh, UnlessMemory};
 ghost use Rattle.irtext_outcomes.specs.Promises.Section.{IsStarved};
 ghost use Rattle.irtext_print.specs.Printers.Appended.{fresh};
@@ -19,7 +19,7 @@ ghost use Rattle.irtext_print_walk.specs.Heads as heads;
 ghost use Rattle.irtext_promises.specs.OnlyNew.{OnlyNew};
 ghost use Rattle.irtext_promises.specs.Promises.{BuildsRoot, RefusesRoot};
 ghost use Rattle.irtext_read.specs.AttrTexts.{attr_at};
-ghost use Rattle.irtext_round_trip.specs.Back.{ClosedRoot};
+ghost use Rattle.irtext_outcomes.specs.Back.{ClosedRoot};
 ghost use Rattle.irtext_comes_back.specs.Calls.{IsClosed, IsPrinted, ComesBack, ComesBackWhole, ReadsText, RefusesText, IsExcused, IsAgain, IsExcusedAgain};
 
 use irtext_base::location::Source;
@@ -27,7 +27,7 @@ use irtext_base::parsable::{ParseFault, ParseResult, SourcePosition, TextStream}
 use irtext_base::result::Cause;
 use irtext_base::text::{AttrText, IrText};
 use irtext_context::base::{Context, Operation, Ptr};
-use irtext_kept::context::keeps_parts;
+use irtext_outcomes::context::keeps_parts;
 use irtext_parse_root::outermost::root_parse;
 use irtext_print::printable::{Refusal, State as PrintState};
 use irtext_print_ir::ir::print::print_root;

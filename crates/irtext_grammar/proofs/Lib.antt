@@ -1,6 +1,7 @@
-pub mod Lists
+pub mod AsciiNames
 pub mod Grammar
-pub mod Names
 pub mod Graphs
-pub mod Sections
+pub mod Lists
+pub mod Names
 pub mod RoundTrips
+pub mod Sections

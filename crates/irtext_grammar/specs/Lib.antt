@@ -1,15 +1,16 @@
 -- Texts and readings, then trees, names, graphs, what is written of them, and what a context holds, in reading order
-pub use Rattle.irtext_base.specs.Text
-pub use Rattle.irtext_base.specs.Reading
-pub use Rattle.irtext_base.specs.Format
+pub mod Contexts
+pub mod Grammar
+pub mod Graphs
+pub mod Names
+pub mod Spelling
+pub mod UniqueNames
+pub use Rattle.irtext_base.specs.Answers
 pub use Rattle.irtext_base.specs.Causes
 pub use Rattle.irtext_base.specs.Faults
-pub use Rattle.irtext_base.specs.Stream
-pub use Rattle.irtext_base.specs.Places
-pub use Rattle.irtext_base.specs.Answers
+pub use Rattle.irtext_base.specs.Format
 pub use Rattle.irtext_base.specs.Own
-pub mod Grammar
-pub mod Names
-pub mod Graphs
-pub mod Spelling
-pub mod Contexts
+pub use Rattle.irtext_base.specs.Places
+pub use Rattle.irtext_base.specs.Reading
+pub use Rattle.irtext_base.specs.Stream
+pub use Rattle.irtext_base.specs.Text

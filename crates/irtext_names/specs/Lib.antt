@@ -1,4 +1,5 @@
-pub mod Placeholders
-pub mod Tied
 pub mod Linked
 pub mod OfItems
+pub mod Placeholders
+pub mod Rows
+pub mod Tied

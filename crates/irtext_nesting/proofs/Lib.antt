@@ -1,4 +1,24 @@
+mod Rows
+pub mod Acts
+pub mod Beside
+pub mod Built
+pub mod Claims
+pub mod Edits
+pub mod Entries
 pub mod Exact
+pub mod Fine
+pub mod Given
+pub mod Grows
+pub mod Kept
 pub mod Knot
+pub mod Lawful
 pub mod Naming
+pub mod Noted
+pub mod Pairs
+pub mod Places
 pub mod Resume
+pub mod SectionWhole
+pub mod Seen
+pub mod Stops
+pub mod Tracked
+pub mod Whole

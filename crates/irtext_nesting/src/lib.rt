@@ -2,4 +2,6 @@
 //! theory, and the laws that it ends in.
 #![tactic(auto)]
 
+pub mod building_laws;
 pub mod laws;
+pub mod section_laws;

@@ -1,4 +1,16 @@
+pub mod AllKept
+pub mod Counted
+pub mod Distinct
 pub mod Joins
-pub mod Readers
+pub mod KeptLocations
+pub mod KeptParts
+pub mod Kin
+pub mod Lengths
+pub mod Limited
 pub mod Locations
+pub mod ReadRoot
+pub mod Readers
+pub mod Roots
 pub mod RoundTrips
+pub mod TextBack
+pub mod UsesSame

@@ -19,14 +19,14 @@ use Rattle.irtext_grammar.specs.Grammar.Tree as tree
 use Rattle.irtext_grammar.specs.Grammar.Tree.{Name, Mark, Piece, Part, Op, Head, Brace, shown}
 use Rattle.irtext_nesting.specs.Naming.{body_of, unmarked}
 use Rattle.irtext_nesting.specs.Reached.{Doing}
-use Rattle.irtext_building.specs.Building.{append_blocks, Unfinished, operation_so_far, region_so_far, but_its_mark, Building, building, whole_blocks}
-use Rattle.irtext_building.specs.Grows.{RegionCame, OperationGains, RegionGains, BlockGains, OperationCame, BlockCame, OwnBecame}
-use Rattle.irtext_building.specs.Stands.{OwnSoFar, own_of, OpenAt, operation_under, ended_under, region_under, HasOwn, HasUses, HoldsSoFar, RegionsHold, BlocksHold, RegionIsOpen, AreOpenAt, IsThere, IsAsItWas, Spares}
-use Rattle.irtext_building.specs.Tracks as tracks
-use Rattle.irtext_building.specs.Tracks.{Made, noted, HoldsMade}
-use Rattle.irtext_building.proofs.Acts.{block_ended}
-use Rattle.irtext_building.proofs.Tracked.{uses_in_block, enters_operation, heads_first, heads_next, late_operation, closes_operation, marks_root, marks_in_block, block_ends, leaves_empty, leaves_with_block}
-use Rattle.irtext_building.proofs.Kept.{region_kept}
+use Rattle.irtext_nesting.specs.Building.{append_blocks, Unfinished, operation_so_far, region_so_far, but_its_mark, Building, building, whole_blocks}
+use Rattle.irtext_nesting.specs.Grows.{RegionCame, OperationGains, RegionGains, BlockGains, OperationCame, BlockCame, OwnBecame}
+use Rattle.irtext_nesting.specs.Stands.{OwnSoFar, own_of, OpenAt, operation_under, ended_under, region_under, HasOwn, HasUses, HoldsSoFar, RegionsHold, BlocksHold, RegionIsOpen, AreOpenAt, IsThere, IsAsItWas, Spares}
+use Rattle.irtext_nesting.specs.Tracks as tracks
+use Rattle.irtext_nesting.specs.Tracks.{Made, noted, HoldsMade}
+use Rattle.irtext_nesting.proofs.Acts.{block_ended}
+use Rattle.irtext_nesting.proofs.Tracked.{uses_in_block, enters_operation, heads_first, heads_next, late_operation, closes_operation, marks_root, marks_in_block, block_ends, leaves_empty, leaves_with_block}
+use Rattle.irtext_nesting.proofs.Kept.{region_kept}
 use Rattle.irtext_parse_nested.specs.Ends.{noted_as}
 use Rattle.irtext_parse_items.specs.Built.{built, IsHeld, RegionTracks, HoldsRegion}
 use Rattle.irtext_parse_items.specs.Carried.{marks_in_blocks, marks_so_far, AreCarried}

@@ -33,7 +33,7 @@ use Rattle.irtext_nesting.proofs.Resume.Frames.{goes_trans, stuck_at}
 use Rattle.irtext_nesting.proofs.Resume.Front.{front_reads, front_lacks}
 use Rattle.irtext_nesting.proofs.Resume.Turns.{operation_begins, no_lead, no_front, piece_reads, no_piece, operation_ends, no_end, operation_closes, no_region, region_enters, another_enters, block_begins, no_block, region_ends, no_brace}
 use Rattle.irtext_nesting.proofs.Resume.Unbounded.{Unbounded}
-use Rattle.irtext_building.specs.Stands.{OwnSoFar}
+use Rattle.irtext_nesting.specs.Stands.{OwnSoFar}
 use Rattle.irtext_parse_nested.specs.declared.frame.BegunOperation.{BegunOperation}
 use Rattle.irtext_parse_nested.specs.declared.frame.BegunRegion.{BegunRegion}
 use Rattle.irtext_parse_nested.specs.declared.frame.BegunBlock.{BegunBlock}

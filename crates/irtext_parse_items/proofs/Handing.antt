@@ -26,8 +26,8 @@ use Rattle.irtext_outcomes.specs.Promises.Section.{Moves}
 use Rattle.irtext_outcomes.specs.Readers.Streams.{KeepsRest}
 use Rattle.irtext_nesting.specs.Heads.{head_at, mark_if_at}
 use Rattle.irtext_nesting.specs.Resume.{Begun}
-use Rattle.irtext_building.specs.Grows.{RegionCame, OperationGains, RegionGains, BlockCame}
-use Rattle.irtext_building.specs.Stands.{OwnSoFar, Spares}
+use Rattle.irtext_nesting.specs.Grows.{RegionCame, OperationGains, RegionGains, BlockCame}
+use Rattle.irtext_nesting.specs.Stands.{OwnSoFar, Spares}
 use Rattle.irtext_parse_nested.specs.declared.frame.BegunOperation.{BegunOperation}
 use Rattle.irtext_parse_nested.specs.declared.frame.BegunRegion.{BegunRegion}
 use Rattle.irtext_parse_nested.specs.declared.frame.BegunBlock.{BegunBlock}

@@ -36,10 +36,10 @@ use Rattle.irtext_nesting.proofs.Resume.Frames.{goes_trans, stuck_at}
 use Rattle.irtext_nesting.proofs.Resume.Front.{splits_piece, front_reads, front_lacks}
 use Rattle.irtext_nesting.proofs.Knot.Whole.{leaves_no_more}
 use Rattle.irtext_nesting.proofs.Resume.Turns.{operation_begins, no_lead, no_front}
-use Rattle.irtext_building.specs.Building.{Building, Unfinished, building, nothing_open, finished}
-use Rattle.irtext_building.specs.Stands.{OwnSoFar, operation_under, AreOpenAt, TreeHolds}
-use Rattle.irtext_building.specs.Tracks.{Made, noted, HoldsMade}
-use Rattle.irtext_building.proofs.Tracked.{holds_nothing, uses_at_root}
+use Rattle.irtext_nesting.specs.Building.{Building, Unfinished, building, nothing_open, finished}
+use Rattle.irtext_nesting.specs.Stands.{OwnSoFar, operation_under, AreOpenAt, TreeHolds}
+use Rattle.irtext_nesting.specs.Tracks.{Made, noted, HoldsMade}
+use Rattle.irtext_nesting.proofs.Tracked.{holds_nothing, uses_at_root}
 use Rattle.irtext_parse_nested.specs.declared.frame.BegunOperation.{BegunOperation}
 use Rattle.irtext_parse_nested.specs.Beginning.{HasBegun}
 use Rattle.irtext_parse_nested.specs.Begun.{IsBegun, pledge_of}

@@ -14,7 +14,7 @@ use Rattle.irtext_nesting.specs.Heads.{Step, one, all}
 use Rattle.irtext_nesting.specs.Naming.{body_of, unmarked}
 use Rattle.irtext_nesting.specs.Reached.{steps_in}
 use Rattle.irtext_nesting.specs.Resume.{Begun, with_steps, is_flat}
-use Rattle.irtext_building.specs.Stands.{OwnSoFar, own_of}
+use Rattle.irtext_nesting.specs.Stands.{OwnSoFar, own_of}
 use Rattle.irtext_parse_nested.specs.declared.frame.BegunOperation.{BegunOperation}
 use Rattle.irtext_parse_nested.specs.Beginning.{IsPartOf, ArePartsOf, HasBegun}
 use Rattle.irtext_parse_nested.specs.Begun.{HasNoType, ReadNeither, IsBegun}

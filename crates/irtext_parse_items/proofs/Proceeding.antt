@@ -31,7 +31,7 @@ use Rattle.irtext_nesting.specs.Resume.{Begun, with_steps, is_flat, Open, to_com
 use Rattle.irtext_nesting.proofs.Knot.Whole.{leaves_no_more}
 use Rattle.irtext_nesting.proofs.Resume.Front.{splits_piece}
 use Rattle.irtext_nesting.proofs.Resume.Unbounded.{Unbounded, unbounded}
-use Rattle.irtext_building.specs.Stands.{OwnSoFar}
+use Rattle.irtext_nesting.specs.Stands.{OwnSoFar}
 use Rattle.irtext_parse_nested.specs.declared.frame.BegunOperation.{BegunOperation}
 use Rattle.irtext_parse_nested.specs.declared.frame.BegunRegion.{BegunRegion}
 use Rattle.irtext_parse_nested.specs.declared.frame.BegunBlock.{BegunBlock}

@@ -11,8 +11,8 @@ use Rattle.irtext_graph.specs.declared.object.Object.TheVariants.{TheOperation, 
 use Rattle.irtext_graph.specs.Chained.{Among}
 use Rattle.irtext_graph.proofs.Nests.{told}
 use Rattle.irtext_graph.proofs.Same.{ptr_tells}
-use Rattle.irtext_building.specs.Grows.{with_last_block, RegionCame, RegionGains}
-use Rattle.irtext_building.specs.Stands.{IsThere, Spares}
+use Rattle.irtext_nesting.specs.Grows.{with_last_block, RegionCame, RegionGains}
+use Rattle.irtext_nesting.specs.Stands.{IsThere, Spares}
 use Rattle.irtext_parse_items.specs.Turned.{RegionsStay}
 
 module _ {T A : Type 0} where

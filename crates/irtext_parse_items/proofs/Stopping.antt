@@ -18,8 +18,8 @@ use Rattle.irtext_nesting.specs.Heads.{Step, one, all}
 use Rattle.irtext_nesting.specs.Reached.{begins_region, begins_block, steps_in}
 use Rattle.irtext_nesting.specs.Resume.{Begun}
 use Rattle.irtext_nesting.proofs.Resume.Front.{splits_piece}
-use Rattle.irtext_building.specs.Stands.{OwnSoFar}
-use Rattle.irtext_parse_acts.specs.Rows.{AreKnown}
+use Rattle.irtext_nesting.specs.Stands.{OwnSoFar}
+use Rattle.irtext_names.specs.Rows.{AreKnown}
 use Rattle.irtext_parse_heads.specs.declared.names.ReadName.{ReadName}
 use Rattle.irtext_parse_heads.specs.Named.{Leaves, StandsFor, Each}
 use Rattle.irtext_parse_nested.specs.declared.frame.BegunOperation.{BegunOperation}

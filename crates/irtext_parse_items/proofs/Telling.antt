@@ -7,8 +7,8 @@ use Rattle.irtext_base.specs.Locations.{AttrView}
 use Rattle.irtext_context.specs.Dialects.{Table}
 use Rattle.irtext_nesting.specs.Reached.{Came, Stuck, Doing, Reads}
 use Rattle.irtext_nesting.specs.Resume.{Open, Goes, StuckAt, whole}
-use Rattle.irtext_building.specs.Both.{seen_as}
-use Rattle.irtext_building.proofs.Seen.{Shows, seen_whole}
+use Rattle.irtext_nesting.specs.Both.{seen_as}
+use Rattle.irtext_nesting.proofs.Seen.{Shows, seen_whole}
 use Rattle.irtext_parse_items.specs.Told.{Did, did_use, did_late, did_enter, did_leave, did_close, did_mark, did_head, told, one_done, all_done}
 
 module _ {T A S : Type 0} (does : Doing T A S) where

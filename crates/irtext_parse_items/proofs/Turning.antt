@@ -34,8 +34,8 @@ use Rattle.irtext_nesting.proofs.Resume.Frames.{goes_trans}
 use Rattle.irtext_nesting.proofs.Resume.Front.{front_reads}
 use Rattle.irtext_nesting.proofs.Resume.Turns.{operation_begins, piece_reads, operation_ends, first_operation, no_operation, region_begins, no_more_regions, another_region, block_begins, region_ends, another_operation, no_more_operations}
 use Rattle.irtext_nesting.proofs.Resume.Unbounded.{Unbounded}
-use Rattle.irtext_building.specs.Grows.{RegionCame, OperationGains, RegionGains, BlockCame, OwnBecame}
-use Rattle.irtext_building.specs.Stands.{OwnSoFar, own_of, operation_under, region_under, HasOwn, HasUses, Spares}
+use Rattle.irtext_nesting.specs.Grows.{RegionCame, OperationGains, RegionGains, BlockCame, OwnBecame}
+use Rattle.irtext_nesting.specs.Stands.{OwnSoFar, own_of, operation_under, region_under, HasOwn, HasUses, Spares}
 use Rattle.irtext_parse_nested.specs.declared.frame.BegunOperation.{BegunOperation}
 use Rattle.irtext_parse_nested.specs.declared.frame.BegunRegion.{BegunRegion}
 use Rattle.irtext_parse_nested.specs.declared.frame.BegunBlock.{BegunBlock}

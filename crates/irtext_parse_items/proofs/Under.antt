@@ -50,11 +50,11 @@ use Rattle.irtext_nesting.proofs.Naming.Keeps.{failed_keeps}
 use Rattle.irtext_nesting.proofs.Naming.KeepsReading.{done_in, quiet_region_at}
 use Rattle.irtext_nesting.proofs.Resume.Frames.{tells_bad}
 use Rattle.irtext_nesting.proofs.Resume.Unbounded.{Unbounded}
-use Rattle.irtext_building.specs.Building.{Building}
-use Rattle.irtext_building.specs.Grows.{RegionCame}
-use Rattle.irtext_building.specs.Stands.{OpenAt, region_under, IsThere, Spares}
-use Rattle.irtext_building.specs.Tracks.{Made, HoldsMade, IsHeld as HeldBy}
-use Rattle.irtext_building.proofs.Kept.{there_still}
+use Rattle.irtext_nesting.specs.Building.{Building}
+use Rattle.irtext_nesting.specs.Grows.{RegionCame}
+use Rattle.irtext_nesting.specs.Stands.{OpenAt, region_under, IsThere, Spares}
+use Rattle.irtext_nesting.specs.Tracks.{Made, HoldsMade, IsHeld as HeldBy}
+use Rattle.irtext_nesting.proofs.Kept.{there_still}
 use Rattle.irtext_parse_nested.specs.declared.frame.BegunRegion.{BegunRegion}
 use Rattle.irtext_parse_nested.specs.Items.{Names, StandsAs, IsFailure, IsTextFault, IsSound, doing}
 use Rattle.irtext_parse_nested.specs.Begun.{IsRegion}

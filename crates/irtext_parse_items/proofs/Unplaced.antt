@@ -23,9 +23,9 @@ use Rattle.irtext_graph.specs.Objects.{is_older}
 use Rattle.irtext_graph.specs.Parts.{operation_at, operands_of, successors_of, results_of, arguments_of}
 use Rattle.irtext_graph.specs.Store.{Cell, Store, drawn, object_in, get, Inserts}
 use Rattle.irtext_graph.specs.declared.arena.Entry.{Entry}
-use Rattle.irtext_building.specs.Grows.{RegionCame}
-use Rattle.irtext_building.specs.Stands.{IsAsItWas, Spares}
-use Rattle.irtext_building.proofs.Edits.{spares_by, kept_as_many}
+use Rattle.irtext_nesting.specs.Grows.{RegionCame}
+use Rattle.irtext_nesting.specs.Stands.{IsAsItWas, Spares}
+use Rattle.irtext_nesting.proofs.Edits.{spares_by, kept_as_many}
 use Rattle.irtext_context.specs.declared.base.block.BlockData.{BlockData}
 use Rattle.irtext_context.specs.declared.base.operation.OperationData.{OperationData}
 use Rattle.irtext_state.specs.States.{marks_of}

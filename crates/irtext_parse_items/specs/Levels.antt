@@ -9,7 +9,7 @@ use Rattle.irtext_graph.specs.declared.object.Object.TheVariants.{TheOperation, 
 use Rattle.irtext_graph.specs.Graph.{GraphView, IsNew}
 use Rattle.irtext_nesting.specs.Reached.{steps_in}
 use Rattle.irtext_nesting.specs.Resume.{Begun, Open, an_operation, a_region, a_block, work, by_character}
-use Rattle.irtext_building.specs.Stands.{OwnSoFar, OpenAt, operation_under, region_under}
+use Rattle.irtext_nesting.specs.Stands.{OwnSoFar, OpenAt, operation_under, region_under}
 use Rattle.irtext_parse_nested.specs.declared.frame.BegunOperation.{BegunOperation}
 use Rattle.irtext_parse_nested.specs.declared.frame.BegunRegion.{BegunRegion}
 use Rattle.irtext_parse_nested.specs.declared.frame.BegunBlock.{BegunBlock}

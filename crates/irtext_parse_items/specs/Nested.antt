@@ -23,8 +23,8 @@ use Rattle.irtext_outcomes.specs.Promises.Supported.{is_committed}
 use Rattle.irtext_nesting.specs.Heads.{led_at}
 use Rattle.irtext_nesting.specs.Reached.{Came, Stuck, operation_at}
 use Rattle.irtext_nesting.specs.Resume.{EndsIn}
-use Rattle.irtext_building.specs.Building.{building, nothing_open, finished}
-use Rattle.irtext_building.specs.Tracks.{HoldsMade}
+use Rattle.irtext_nesting.specs.Building.{building, nothing_open, finished}
+use Rattle.irtext_nesting.specs.Tracks.{HoldsMade}
 use Rattle.irtext_parse_nested.specs.Items.{Names, Made, StandsAs, IsFailure, IsTextFault, doing}
 use Rattle.irtext_parse_nested.specs.Located.{IsLocated}
 use Rattle.irtext_parse_items.specs.Carried.{marks_in, AreCarried, Falls}

@@ -27,8 +27,8 @@ use Rattle.irtext_grammar.specs.Graphs.Build.{put_all, stored, read_names}
 use Rattle.irtext_nesting.specs.Heads.{Step, one, all, mark_if_at}
 use Rattle.irtext_nesting.specs.Reached.{steps_in}
 use Rattle.irtext_nesting.specs.Resume.{Begun, with_steps, is_flat}
-use Rattle.irtext_building.specs.Grows.{RegionCame, OperationGains, RegionGains, BlockCame, OwnBecame}
-use Rattle.irtext_building.specs.Stands.{OwnSoFar, HasOwn, HasUses, Spares}
+use Rattle.irtext_nesting.specs.Grows.{RegionCame, OperationGains, RegionGains, BlockCame, OwnBecame}
+use Rattle.irtext_nesting.specs.Stands.{OwnSoFar, HasOwn, HasUses, Spares}
 use Rattle.irtext_parse_nested.specs.declared.frame.BegunOperation.{BegunOperation}
 use Rattle.irtext_parse_nested.specs.declared.frame.BegunRegion.{BegunRegion}
 use Rattle.irtext_parse_nested.specs.declared.frame.BegunBlock.{BegunBlock}

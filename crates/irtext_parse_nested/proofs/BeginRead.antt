@@ -12,7 +12,7 @@ use Rattle.irtext_graph.specs.declared.object.BasicBlock.{BasicBlock}
 use Rattle.irtext_graph.specs.declared.object.Operation.{Operation}
 use Rattle.irtext_graph.specs.declared.object.Object.TheVariants.{TheBlock, TheOperation}
 use Rattle.irtext_graph.specs.declared.object.Value.{Value}
-use Rattle.irtext_building.specs.Stands.{IsThere}
+use Rattle.irtext_nesting.specs.Stands.{IsThere}
 use Rattle.irtext_parse_nested.specs.Gathered.{IsSteady}
 use Rattle.irtext_parse_nested.specs.Items.{Names, Lasts}
 use Rattle.irtext_parse_nested.proofs.Lasting.{block_stands}

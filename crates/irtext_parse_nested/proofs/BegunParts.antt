@@ -17,7 +17,7 @@ use Rattle.irtext_grammar.proofs.Graphs.FitsFormat.{and_left, and_right}
 use Rattle.irtext_nesting.specs.Exact.{IsOfStep}
 use Rattle.irtext_nesting.specs.Heads.{Step, flat, types, one, all, step_of, steps_of, canonical_steps, front_steps, region_steps}
 use Rattle.irtext_nesting.specs.Naming.{body_of, canonical_of, single_operands, single_successors}
-use Rattle.irtext_parse_acts.specs.Rows.{AreKnown}
+use Rattle.irtext_names.specs.Rows.{AreKnown}
 use Rattle.irtext_parse_heads.specs.declared.entries.Key.{Key}
 use Rattle.irtext_parse_heads.specs.declared.names.ReadName.{ReadName}
 use Rattle.irtext_parse_heads.specs.declared.pieces.ReadPiece.{ReadPiece}

@@ -8,7 +8,7 @@ use Rattle.irtext_grammar.specs.Names.Acts.{result_types}
 use Rattle.irtext_nesting.specs.Heads.{Step}
 use Rattle.irtext_nesting.specs.Naming.{body_of, unmarked}
 use Rattle.irtext_nesting.specs.Resume.{Begun, with_steps}
-use Rattle.irtext_building.specs.Stands.{OwnSoFar}
+use Rattle.irtext_nesting.specs.Stands.{OwnSoFar}
 use Rattle.irtext_parse_nested.specs.Beginning.{HasBegun, IsPartOf, ArePartsOf}
 use Rattle.irtext_parse_nested.proofs.BegunParts.{views_both}
 

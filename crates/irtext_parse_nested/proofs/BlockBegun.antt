@@ -27,9 +27,9 @@ use Rattle.irtext_grammar.specs.Contexts.Held.{attribute_of, entries_of}
 use Rattle.irtext_grammar.specs.Grammar.Tree.{Name, Attribute, Head}
 use Rattle.irtext_grammar.specs.Graphs.Build.{put_all, read_names, plain_entry}
 use Rattle.irtext_grammar.specs.Names.Acts.{entries_if}
-use Rattle.irtext_building.specs.Grows.{with_last_block, BlockCame, RegionGains}
-use Rattle.irtext_building.specs.Stands.{HasHead, IsThere, Spares}
-use Rattle.irtext_building.proofs.Edits.{spares_then, spares_fewer, made_head, block_was_new, block_came, block_came_last, block_came_spares}
+use Rattle.irtext_nesting.specs.Grows.{with_last_block, BlockCame, RegionGains}
+use Rattle.irtext_nesting.specs.Stands.{HasHead, IsThere, Spares}
+use Rattle.irtext_nesting.proofs.Edits.{spares_then, spares_fewer, made_head, block_was_new, block_came, block_came_last, block_came_spares}
 use Rattle.irtext_context.specs.Made.{made_block}
 use Rattle.irtext_parse_heads.specs.declared.entries.Key.{Key}
 use Rattle.irtext_parse_heads.specs.declared.headers.BlockHead.{BlockHead}

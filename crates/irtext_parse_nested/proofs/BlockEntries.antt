@@ -9,7 +9,7 @@ use Rattle.irtext_grammar.specs.Grammar.Tree.{Name, Attribute}
 use Rattle.irtext_grammar.specs.Graphs.Build.{put, put_all, read_names}
 use Rattle.irtext_grammar.specs.Names.Acts.{Rule, may_hold, block_may_hold}
 use Rattle.irtext_grammar.proofs.Lists.SameText.{same_text-bytes_eq}
-use Rattle.irtext_parse_acts.specs.Rows.{AreNamed}
+use Rattle.irtext_names.specs.Rows.{AreNamed}
 use Rattle.irtext_parse_nested.proofs.Stores.{same_text_sym}
 use Rattle.irtext_parse_heads.specs.declared.entries.Key.{Key}
 use Rattle.irtext_parse_heads.specs.declared.names.ReadName.{ReadName}

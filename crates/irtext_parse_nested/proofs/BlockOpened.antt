@@ -27,9 +27,9 @@ use Rattle.irtext_names.specs.Tied.{AreTied, AreWaiting}
 use Rattle.irtext_outcomes.specs.Promises.Root.{UnlessMemory}
 use Rattle.irtext_outcomes.specs.Readers.Streams.{itself, replaced}
 use Rattle.irtext_nesting.specs.Heads.{head_at}
-use Rattle.irtext_building.specs.Grows.{BlockCame, RegionGains}
-use Rattle.irtext_building.specs.Stands.{Spares}
-use Rattle.irtext_parse_acts.specs.Rows.{AreKnown}
+use Rattle.irtext_nesting.specs.Grows.{BlockCame, RegionGains}
+use Rattle.irtext_nesting.specs.Stands.{Spares}
+use Rattle.irtext_names.specs.Rows.{AreKnown}
 use Rattle.irtext_parse_heads.specs.declared.headers.BlockHead.{BlockHead}
 use Rattle.irtext_parse_heads.specs.declared.names.ReadName.{ReadName}
 use Rattle.irtext_parse_heads.specs.Headers.{MustHead}

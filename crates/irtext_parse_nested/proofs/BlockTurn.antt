@@ -35,7 +35,7 @@ use Rattle.irtext_outcomes.specs.Readers.Directives.{attribute_at}
 use Rattle.irtext_outcomes.proofs.Readers.Answered.{Answered, answered}
 use Rattle.irtext_outcomes.proofs.Readers.Honest.{honest_nothing}
 use Rattle.irtext_nesting.specs.Heads.{name_at, name_of, label_at, mark_at, mark_if_at, pair_at, dictionary_at, dictionary_if_at, argument_at, head_at}
-use Rattle.irtext_building.specs.Grows.{BlockCame}
+use Rattle.irtext_nesting.specs.Grows.{BlockCame}
 use Rattle.irtext_parse_heads.specs.declared.headers.BlockHead.{BlockHead}
 use Rattle.irtext_parse_heads.specs.Headers.{IsHead, MustHead}
 use Rattle.irtext_parse_heads.specs.Named.{NamesRead}

@@ -27,8 +27,8 @@ use Rattle.irtext_outcomes.specs.Promises.Section.{indices_of}
 use Rattle.irtext_scopes.specs.Scopes.{is_open}
 use Rattle.irtext_nesting.specs.Naming.{body_of}
 use Rattle.irtext_nesting.specs.Resume.{Begun}
-use Rattle.irtext_parse_acts.specs.Rows.{AreNamed}
-use Rattle.irtext_parse_acts.proofs.Rows.{rest_fails}
+use Rattle.irtext_names.specs.Rows.{AreNamed}
+use Rattle.irtext_names.proofs.Rows.{rest_fails}
 use Rattle.irtext_parse_heads.specs.declared.names.ReadName.{ReadName}
 use Rattle.irtext_parse_heads.specs.Named.{StandsFor}
 use Rattle.irtext_parse_nested.specs.declared.frame.BegunOperation.{BegunOperation}

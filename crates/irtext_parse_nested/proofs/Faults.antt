@@ -16,7 +16,7 @@ use Rattle.irtext_grammar.specs.Contexts.Held.{whole, StandsAt}
 use Rattle.irtext_grammar.specs.Grammar.Tree.{Name}
 use Rattle.irtext_grammar.specs.Names.Script.{Cause}
 use Rattle.irtext_outcomes.specs.Promises.Root.{UnlessMemory}
-use Rattle.irtext_parse_acts.specs.Rows.{AreNamed}
+use Rattle.irtext_names.specs.Rows.{AreNamed}
 use Rattle.irtext_parse_heads.specs.declared.names.ReadName.{ReadName}
 use Rattle.irtext_parse_heads.specs.Named.{Leaves, StandsFor, Each}
 use Rattle.irtext_parse_nested.specs.Definitions.{IsFaultOf}

@@ -17,8 +17,8 @@ use Rattle.irtext_grammar.specs.Names.Script.{Path, User, operand, successor, Ca
 use Rattle.irtext_grammar.specs.Names.TextScopes.{Act, Failure}
 use Rattle.irtext_names.specs.Linked.{StandsAt}
 use Rattle.irtext_names.proofs.Linked.Moving.{among_split}
-use Rattle.irtext_parse_acts.specs.Rows.{TakesUses}
-use Rattle.irtext_parse_acts.proofs.Rows.{rest_fails}
+use Rattle.irtext_names.specs.Rows.{TakesUses}
+use Rattle.irtext_names.proofs.Rows.{rest_fails}
 use Rattle.irtext_parse_heads.specs.declared.pieces.ReadPiece.{ReadPiece}
 use Rattle.irtext_parse_heads.specs.declared.pieces.ReadPiece.TheVariants as read
 use Rattle.irtext_parse_heads.specs.Fronts.{IsPart}

@@ -34,8 +34,8 @@ use Rattle.irtext_grammar.specs.Names.TextScopes.{Act, Failure}
 use Rattle.irtext_names.specs.Linked.{Known, StandsAt}
 use Rattle.irtext_names.proofs.Linked.Interned.{interned}
 use Rattle.irtext_outcomes.specs.Promises.Section.{indices_of}
-use Rattle.irtext_parse_acts.specs.Rows.{AreNamed}
-use Rattle.irtext_parse_acts.proofs.Rows.{rest_fails}
+use Rattle.irtext_names.specs.Rows.{AreNamed}
+use Rattle.irtext_names.proofs.Rows.{rest_fails}
 use Rattle.irtext_parse_heads.specs.declared.headers.BlockHead.{BlockHead}
 use Rattle.irtext_parse_heads.specs.declared.marks.ReadMark.{ReadMark}
 use Rattle.irtext_parse_heads.specs.declared.names.ReadName.{ReadName}

@@ -32,8 +32,8 @@ use Rattle.irtext_grammar.specs.Names.TextScopes.{Act, Failure, Word}
 use Rattle.irtext_names.specs.Linked.{Known, StandsAt}
 use Rattle.irtext_names.proofs.Linked.Interned.{interned}
 use Rattle.irtext_outcomes.specs.Promises.Section.{indices_of}
-use Rattle.irtext_parse_acts.specs.Rows.{AreNamed, AreKnown}
-use Rattle.irtext_parse_acts.proofs.Rows.{rest_fails, map-through}
+use Rattle.irtext_names.specs.Rows.{AreNamed, AreKnown}
+use Rattle.irtext_names.proofs.Rows.{rest_fails, map-through}
 use Rattle.irtext_parse_heads.specs.declared.entries.Key.{Key}
 use Rattle.irtext_parse_heads.specs.declared.headers.BlockHead.{BlockHead}
 use Rattle.irtext_parse_heads.specs.declared.marks.ReadMark.{ReadMark}

@@ -32,7 +32,7 @@ use Rattle.irtext_grammar.specs.Names.Script.{Path, ReservedKey}
 use Rattle.irtext_outcomes.proofs.Joins.Answers.{followed_read}
 use Rattle.irtext_nesting.specs.Exact.{IsOfStep}
 use Rattle.irtext_nesting.specs.Heads.{Step, flat, types, one, all, steps_of, directive_at, piece_at}
-use Rattle.irtext_parse_acts.specs.Rows.{TakesUses}
+use Rattle.irtext_names.specs.Rows.{TakesUses}
 use Rattle.irtext_parse_heads.specs.declared.entries.Key.{Key}
 use Rattle.irtext_parse_heads.specs.declared.names.ReadName.{ReadName}
 use Rattle.irtext_parse_heads.specs.declared.pieces.ReadPiece.{ReadPiece}

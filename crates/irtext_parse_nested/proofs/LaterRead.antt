@@ -38,9 +38,9 @@ use Rattle.irtext_outcomes.specs.Promises.Root.{UnlessMemory}
 use Rattle.irtext_outcomes.specs.Promises.Section.{Moves}
 use Rattle.irtext_outcomes.specs.Readers.Streams.{itself, replaced}
 use Rattle.irtext_outcomes.proofs.Readers.Answered.{Answered, answered}
-use Rattle.irtext_building.specs.Grows.{OwnBecame}
-use Rattle.irtext_building.specs.Stands.{OwnSoFar, HasOwn, HasUses, Spares}
-use Rattle.irtext_building.proofs.Edits.{attributes_written, attributes_written_spares}
+use Rattle.irtext_nesting.specs.Grows.{OwnBecame}
+use Rattle.irtext_nesting.specs.Stands.{OwnSoFar, HasOwn, HasUses, Spares}
+use Rattle.irtext_nesting.proofs.Edits.{attributes_written, attributes_written_spares}
 use Rattle.irtext_nesting.specs.Exact.{IsOfStep}
 use Rattle.irtext_nesting.specs.Heads.{Step, piece_at}
 use Rattle.irtext_nesting.specs.Naming.{body_of, single_operands, single_successors}

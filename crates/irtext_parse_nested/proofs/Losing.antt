@@ -20,8 +20,8 @@ use Rattle.irtext_graph.specs.Store.{get}
 use Rattle.irtext_graph.specs.Used.{IsDefined}
 use Rattle.irtext_graph.proofs.Nests.{told, some_eq}
 use Rattle.irtext_graph.proofs.Same.{object_tells}
-use Rattle.irtext_building.specs.Stands.{UsesAsMany}
-use Rattle.irtext_building.proofs.Edits.{replaced_as_many, erased_as_many, as_many_then}
+use Rattle.irtext_nesting.specs.Stands.{UsesAsMany}
+use Rattle.irtext_nesting.proofs.Edits.{replaced_as_many, erased_as_many, as_many_then}
 use Rattle.irtext_scopes.specs.Scopes.{Scope, find, innermost, placeholder_of}
 use Rattle.irtext_names.specs.Placeholders.{IsPlaceholder, SettlesIfAny, Defines}
 use Rattle.irtext_names.specs.Tied.{Tied}

@@ -1,6 +1,6 @@
 -- The numbers of a row's names, by their index.
 use Rattle.std.proofs.Common.{◌≡◌, ◌<◌, ◌≤◌, ◌+◌, ℕ, zero, suc, List, [], ◌∷◌, ◌++◌, length, take, drop, Some, refl, sym, ap, subst, arith, slice_get, slice_index_or}
-use Rattle.irtext_parse_acts.specs.Rows.{AreKnown}
+use Rattle.irtext_names.specs.Rows.{AreKnown}
 use Rattle.irtext_parse_nested.specs.Ends.{numbers_of}
 use Rattle.irtext_parse_heads.specs.declared.names.ReadName.{ReadName}
 

@@ -14,7 +14,7 @@ use Rattle.irtext_names.proofs.Linked.Moving.{among_split}
 use Rattle.irtext_grammar.specs.Names.Script.{Path, Place, result, argument, block_at, User, operand, successor}
 use Rattle.irtext_names.specs.Linked.{Known, nothing_made}
 use Rattle.irtext_names.specs.OfItems.{IsValueOf, IsBlockOf, IsSiteOf, AreOf}
-use Rattle.irtext_parse_acts.specs.Rows.{made_results, sites_from, with_operation}
+use Rattle.irtext_names.specs.Rows.{made_results, sites_from, with_operation}
 
 -- nothing that was made is of no items
 pub nothing_of : (path : ℕ → Path) → AreOf path [] nothing_made

@@ -50,10 +50,10 @@ use Rattle.irtext_nesting.specs.Heads.{Step, steps_of, front_steps, region_steps
 use Rattle.irtext_nesting.specs.Naming.{body_of, unmarked, single_operands, single_successors}
 use Rattle.irtext_nesting.specs.Reached.{steps_in}
 use Rattle.irtext_nesting.specs.Resume.{Begun, begun, front_at}
-use Rattle.irtext_parse_acts.specs.Rows.{made_results, with_operation}
-use Rattle.irtext_parse_acts.proofs.Made.{made_stands}
-use Rattle.irtext_building.specs.Stands.{OwnSoFar, HasOwn, IsThere}
-use Rattle.irtext_building.proofs.Edits.{made_own}
+use Rattle.irtext_names.specs.Rows.{made_results, with_operation}
+use Rattle.irtext_names.proofs.Made.{made_stands}
+use Rattle.irtext_nesting.specs.Stands.{OwnSoFar, HasOwn, IsThere}
+use Rattle.irtext_nesting.proofs.Edits.{made_own}
 use Rattle.irtext_parse_heads.specs.declared.names.ReadName.{ReadName}
 use Rattle.irtext_parse_heads.specs.declared.pieces.ReadPiece.{ReadPiece}
 use Rattle.irtext_parse_heads.specs.Fronts.{IsPart}

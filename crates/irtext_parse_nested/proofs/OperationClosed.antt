@@ -16,10 +16,10 @@ use Rattle.irtext_state.specs.declared.parsable.state.State as code
 use Rattle.irtext_grammar.specs.Contexts.Held.{entries_of}
 use Rattle.irtext_grammar.specs.Grammar.Tree.{Name, Mark}
 use Rattle.irtext_grammar.specs.Graphs.Build.{put_all, read_names}
-use Rattle.irtext_building.specs.Grows.{OwnBecame}
-use Rattle.irtext_building.specs.Stands.{OwnSoFar, HasOwn, HasUses, Spares}
-use Rattle.irtext_building.proofs.Edits.{spares_then, spares_fewer, attributes_written, attributes_written_spares}
-use Rattle.irtext_building.proofs.Kept.{uses_kept}
+use Rattle.irtext_nesting.specs.Grows.{OwnBecame}
+use Rattle.irtext_nesting.specs.Stands.{OwnSoFar, HasOwn, HasUses, Spares}
+use Rattle.irtext_nesting.proofs.Edits.{spares_then, spares_fewer, attributes_written, attributes_written_spares}
+use Rattle.irtext_nesting.proofs.Kept.{uses_kept}
 use Rattle.irtext_names.specs.Tied.{AreTied}
 use Rattle.irtext_nesting.specs.Resume.{Begun}
 use Rattle.irtext_parse_heads.specs.declared.marks.ReadMark.{ReadMark}

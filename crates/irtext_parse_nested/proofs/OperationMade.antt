@@ -28,10 +28,10 @@ use Rattle.irtext_grammar.specs.Grammar.Tree.{in_order}
 use Rattle.irtext_names.specs.Tied.{AreTied, AreWaiting}
 use Rattle.irtext_names.proofs.Added.{added_ties, operation_waits}
 use Rattle.irtext_names.proofs.Gained.{operation_added}
-use Rattle.irtext_building.specs.Grows.{with_last_operation, BlockGains, OperationCame}
-use Rattle.irtext_building.specs.Stands.{OwnSoFar, HasOwn, HasUses, IsThere, Spares}
-use Rattle.irtext_building.proofs.Edits.{operation_made, operation_made_spares, operation_came, operation_came_last, operation_came_spares, operation_placed_spares, made_own, spares_then, spares_wider}
-use Rattle.irtext_building.proofs.Kept.{there_still}
+use Rattle.irtext_nesting.specs.Grows.{with_last_operation, BlockGains, OperationCame}
+use Rattle.irtext_nesting.specs.Stands.{OwnSoFar, HasOwn, HasUses, IsThere, Spares}
+use Rattle.irtext_nesting.proofs.Edits.{operation_made, operation_made_spares, operation_came, operation_came_last, operation_came_spares, operation_placed_spares, made_own, spares_then, spares_wider}
+use Rattle.irtext_nesting.proofs.Kept.{there_still}
 use Rattle.irtext_state.specs.declared.parsable.state.State as code
 use Rattle.irtext_parse_nested.specs.declared.beginning.ReadFront.{ReadFront}
 use Rattle.irtext_parse_nested.specs.declared.frame.BegunOperation.{BegunOperation}

@@ -27,7 +27,7 @@ use Rattle.irtext_names.specs.Linked.{StandsAt, FailsBy}
 use Rattle.irtext_names.proofs.Linked.Outside.{value_use_outside, label_use_outside}
 use Rattle.irtext_scopes.specs.Scopes.{is_open}
 use Rattle.irtext_names.proofs.Linked.Moving.{among_split, onto_nothing}
-use Rattle.irtext_parse_acts.specs.Rows.{AreNamed, uses_from, in_hand_from, TakesUses, UsesRow}
+use Rattle.irtext_names.specs.Rows.{AreNamed, uses_from, in_hand_from, TakesUses, UsesRow}
 use Rattle.irtext_parse_heads.specs.declared.entries.Key.{Key}
 use Rattle.irtext_parse_heads.specs.declared.names.ReadName.{ReadName}
 use Rattle.irtext_parse_heads.specs.declared.names.Symbol.{Symbol}

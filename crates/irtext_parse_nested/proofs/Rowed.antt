@@ -24,8 +24,8 @@ use Rattle.irtext_names.proofs.Named.{one_value, no_block}
 use Rattle.irtext_names.proofs.Pairs.{lost}
 use Rattle.irtext_names.proofs.Ties.{waited}
 use Rattle.irtext_names.proofs.Linked.Kept.{made_defined}
-use Rattle.irtext_parse_acts.specs.Rows.{AreNamed}
-use Rattle.irtext_parse_acts.proofs.Rows.{run_through, map-through, split, none_behind, rest_fails}
+use Rattle.irtext_names.specs.Rows.{AreNamed}
+use Rattle.irtext_names.proofs.Rows.{run_through, map-through, split, none_behind, rest_fails}
 use Rattle.irtext_parse_nested.specs.Definitions.{definitions_from, AreMadeAs, DefinesRow, FailsRow}
 
 -- the definitions of a row's names, of one of them, and of those behind it

@@ -13,9 +13,9 @@ use Rattle.irtext_graph.specs.declared.object.Object.TheVariants.{TheOperation, 
 use Rattle.irtext_graph.specs.Content.{Node, Content, Content.{ARegion}, RegionContent}
 use Rattle.irtext_graph.specs.Graph.{GraphView, content_of, Stands}
 use Rattle.irtext_graph.specs.Store.{get}
-use Rattle.irtext_building.specs.Stands.{IsThere, Spares}
-use Rattle.irtext_building.proofs.Edits as edits
-use Rattle.irtext_building.proofs.Edits.{alike_as}
+use Rattle.irtext_nesting.specs.Stands.{IsThere, Spares}
+use Rattle.irtext_nesting.proofs.Edits as edits
+use Rattle.irtext_nesting.proofs.Edits.{alike_as}
 use Rattle.irtext_parse_nested.specs.Definitions.{IsPlaced, HasAsMany, LosesPlaceholders}
 use Rattle.irtext_parse_nested.proofs.Lasting.{data_there, there_data, block_stands, stands_block}
 

@@ -24,9 +24,9 @@ use Rattle.irtext_grammar.specs.Names.TextScopes.{Word}
 use Rattle.irtext_names.specs.Linked.{TakesUse}
 use Rattle.irtext_names.specs.Placeholders.{Uses, MakesValue, MakesLabel, StandsAsBefore}
 use Rattle.irtext_names.specs.Tied.{AreTied}
-use Rattle.irtext_parse_acts.specs.Rows.{AreKnown}
-use Rattle.irtext_parse_acts.proofs.Lists.{older_itself}
-use Rattle.irtext_parse_acts.proofs.Rows.{use_there, value_there, label_there}
+use Rattle.irtext_names.specs.Rows.{AreKnown}
+use Rattle.irtext_names.proofs.Lists.{older_itself}
+use Rattle.irtext_names.proofs.Rows.{use_there, value_there, label_there}
 use Rattle.irtext_parse_nested.specs.Items.{Names}
 use Rattle.irtext_parse_nested.specs.Definitions.{BlanksHaveResults}
 use Rattle.irtext_parse_nested.specs.Gathered.{BringsNone, IsSteady, TakesName}

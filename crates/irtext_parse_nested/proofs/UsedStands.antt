@@ -30,8 +30,8 @@ use Rattle.irtext_graph.proofs.Nests.{told}
 use Rattle.irtext_graph.proofs.Same.{ptr_tells}
 use Rattle.irtext_names.proofs.Gained.{fresh_place}
 use Rattle.irtext_names.proofs.SameBut.{data_in, data_is}
-use Rattle.irtext_building.specs.Stands.{IsThere, IsAsItWas, Spares}
-use Rattle.irtext_building.proofs.Edits.{kept_as_many}
+use Rattle.irtext_nesting.specs.Stands.{IsThere, IsAsItWas, Spares}
+use Rattle.irtext_nesting.proofs.Edits.{kept_as_many}
 use Rattle.irtext_parse_nested.specs.Gathered.{BringsNone}
 use Rattle.irtext_parse_nested.specs.Items.{Lasts}
 use Rattle.irtext_parse_nested.proofs.Steady.{seen_region}

@@ -35,8 +35,8 @@ use Rattle.irtext_nesting.specs.Heads.{Step, one, all, front_steps, led_at}
 use Rattle.irtext_nesting.specs.Naming.{body_of, unmarked}
 use Rattle.irtext_nesting.specs.Reached.{steps_in}
 use Rattle.irtext_nesting.specs.Resume.{Begun, front_at}
-use Rattle.irtext_building.specs.Grows.{BlockGains, OperationCame}
-use Rattle.irtext_building.specs.Stands.{OwnSoFar, Spares}
+use Rattle.irtext_nesting.specs.Grows.{BlockGains, OperationCame}
+use Rattle.irtext_nesting.specs.Stands.{OwnSoFar, Spares}
 use Rattle.irtext_parse_heads.specs.declared.names.ReadName.{ReadName}
 use Rattle.irtext_parse_heads.specs.declared.pieces.ReadPiece.{ReadPiece}
 use Rattle.irtext_parse_heads.specs.Fronts.{IsPart}

@@ -28,7 +28,7 @@ use Rattle.irtext_grammar.specs.Names.Acts.{Rule, block_may_hold}
 use Rattle.irtext_grammar.specs.Names.Script.{Place, define_label}
 use Rattle.irtext_grammar.specs.Names.TextScopes.{Word}
 use Rattle.irtext_names.specs.Linked.{TakesDefinition}
-use Rattle.irtext_parse_acts.specs.Rows.{AreNamed}
+use Rattle.irtext_names.specs.Rows.{AreNamed}
 use Rattle.irtext_parse_heads.specs.declared.entries.Key.{Key}
 use Rattle.irtext_parse_heads.specs.declared.marks.ReadMark.{ReadMark}
 use Rattle.irtext_parse_heads.specs.declared.names.ReadName.{ReadName}

@@ -20,7 +20,7 @@ use Rattle.irtext_graph.specs.Erasing.{without_uses}
 use Rattle.irtext_graph.specs.Graph.{GraphView, Stands, IsNew, content, parent, children}
 use Rattle.irtext_graph.specs.Parts.{operation_at, results}
 use Rattle.irtext_graph.specs.Used.{IsDefined}
-use Rattle.irtext_building.specs.Stands.{UsesAsMany}
+use Rattle.irtext_nesting.specs.Stands.{UsesAsMany}
 use Rattle.irtext_scopes.specs.declared.tracker.NameTracker.{NameTracker}
 use Rattle.irtext_scopes.specs.Scopes.{Scope}
 use Rattle.irtext_grammar.specs.Grammar.Tree.{Name}
@@ -30,7 +30,7 @@ use Rattle.irtext_grammar.specs.Names.TextScopes.{Act}
 use Rattle.irtext_grammar.specs.Names.History.{act, State, going, failed, run}
 use Rattle.irtext_names.specs.Linked.{Known, StandsAt}
 use Rattle.irtext_names.specs.Tied.{IsNoPlaceholder}
-use Rattle.irtext_parse_acts.specs.Rows.{AreNamed}
+use Rattle.irtext_names.specs.Rows.{AreNamed}
 use Rattle.irtext_parse_heads.specs.declared.names.ReadName.{ReadName}
 use Rattle.irtext_parse_nested.specs.declared.rows.Row.{Row}
 use Rattle.irtext_parse_nested.specs.declared.rows.Row.TheVariants.{Results, Arguments}

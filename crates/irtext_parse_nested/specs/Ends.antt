@@ -11,7 +11,7 @@ use Rattle.irtext_graph.specs.declared.object.Value.TheVariants.{Result}
 use Rattle.irtext_graph.specs.Graph.{GraphView}
 use Rattle.irtext_scopes.specs.Scopes.{is_open}
 use Rattle.irtext_scopes.specs.declared.scopes.DefineFault.{DefineFault}
-use Rattle.irtext_parse_acts.specs.declared.definitions.UndefinedName.{UndefinedName}
+use Rattle.irtext_names.specs.declared.definitions.UndefinedName.{UndefinedName}
 use Rattle.irtext_state.specs.States.{same_index, Notes}
 use Rattle.irtext_parse_heads.specs.declared.marks.ReadMark.{ReadMark}
 use Rattle.irtext_parse_heads.specs.declared.names.ReadName.{ReadName}
@@ -23,9 +23,9 @@ use Rattle.irtext_grammar.specs.Names.Script.{Path}
 use Rattle.irtext_grammar.specs.Contexts.Held.{entries_of}
 use Rattle.irtext_grammar.specs.Grammar.Tree.{Name, Mark}
 use Rattle.irtext_grammar.specs.Graphs.Build.{put_all, read_names}
-use Rattle.irtext_building.specs.Grows.{OwnBecame}
-use Rattle.irtext_building.specs.Stands.{OwnSoFar, HasOwn, HasUses}
-use Rattle.irtext_parse_acts.specs.Rows.{AreNamed}
+use Rattle.irtext_nesting.specs.Grows.{OwnBecame}
+use Rattle.irtext_nesting.specs.Stands.{OwnSoFar, HasOwn, HasUses}
+use Rattle.irtext_names.specs.Rows.{AreNamed}
 use Rattle.irtext_parse_heads.specs.Named.{StandsFor, Each}
 use Rattle.irtext_context.specs.Context.{ContextView, OperationView, operation, EditsOperation, with_attributes}
 use Rattle.irtext_graph.specs.declared.arena.Ptr.{Ptr}

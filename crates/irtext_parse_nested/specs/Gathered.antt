@@ -31,7 +31,7 @@ use Rattle.irtext_grammar.specs.Names.Script.{Path, User, operand, successor, Ca
 use Rattle.irtext_grammar.specs.Names.TextScopes.{Act, Word, Failure}
 use Rattle.irtext_names.specs.Linked.{Known, StandsAt, TakesUse}
 use Rattle.irtext_names.specs.Tied.{AreTied, AreWaiting}
-use Rattle.irtext_parse_acts.specs.Rows.{AreKnown, TakesUses}
+use Rattle.irtext_names.specs.Rows.{AreKnown, TakesUses}
 use Rattle.irtext_parse_heads.specs.declared.entries.Key.{Key}
 use Rattle.irtext_parse_heads.specs.declared.names.ReadName.{ReadName}
 use Rattle.irtext_parse_heads.specs.declared.pieces.ReadPiece.{ReadPiece}

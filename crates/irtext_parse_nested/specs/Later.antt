@@ -16,8 +16,8 @@ use Rattle.irtext_grammar.specs.Grammar.Tree.{Attribute}
 use Rattle.irtext_grammar.specs.Graphs.Build.{put_all, stored}
 use Rattle.irtext_nesting.specs.Heads.{Step}
 use Rattle.irtext_nesting.specs.Resume.{Begun, is_flat, with_steps}
-use Rattle.irtext_building.specs.Grows.{OwnBecame}
-use Rattle.irtext_building.specs.Stands.{OwnSoFar, HasOwn, HasUses}
+use Rattle.irtext_nesting.specs.Grows.{OwnBecame}
+use Rattle.irtext_nesting.specs.Stands.{OwnSoFar, HasOwn, HasUses}
 use Rattle.irtext_parse_heads.specs.declared.pieces.ReadPiece.{ReadPiece}
 use Rattle.irtext_parse_heads.specs.declared.pieces.ReadPiece.TheVariants as read
 use Rattle.irtext_parse_nested.specs.declared.frame.BegunOperation.{BegunOperation}

@@ -19,7 +19,7 @@ ghost use Rattle.irtext_names.specs.Tied.{AreTied};
 ghost use Rattle.irtext_outcomes.specs.Readers.Streams.{itself, replaced, KeepsRest};
 ghost use Rattle.irtext_outcomes.specs.Promises.Root.{UnlessMemory};
 ghost use Rattle.irtext_outcomes.specs.Promises.Section.{IsStarved};
-ghost use Rattle.irtext_building.specs.Stands.{OwnSoFar};
+ghost use Rattle.irtext_nesting.specs.Stands.{OwnSoFar};
 ghost use Rattle.irtext_parse_heads.specs.Fronts.{IsPart};
 ghost use Rattle.irtext_parse_heads.specs.Named.{Each, NamesRead};
 ghost use Rattle.irtext_parse_nested.specs.Beginning.{FrontStands, LacksFront, IsKnownIn, SaysGather, NotGatheredAs, types_made, PlacedIn, MakesOf, HasBegun, ComesInto};

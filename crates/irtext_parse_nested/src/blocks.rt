@@ -27,9 +27,9 @@ ghost use Rattle.irtext_outcomes.specs.Readers.Streams.{itself, replaced, KeepsR
 ghost use Rattle.irtext_outcomes.specs.Promises.Root.{UnlessMemory};
 ghost use Rattle.irtext_outcomes.specs.Promises.Section.{IsStarved};
 ghost use Rattle.irtext_nesting.specs.Heads.{head_at};
-ghost use Rattle.irtext_building.specs.Grows.{BlockCame, RegionGains};
-ghost use Rattle.irtext_building.specs.Stands.{Spares};
-ghost use Rattle.irtext_parse_acts.specs.Rows.{AreKnown};
+ghost use Rattle.irtext_nesting.specs.Grows.{BlockCame, RegionGains};
+ghost use Rattle.irtext_nesting.specs.Stands.{Spares};
+ghost use Rattle.irtext_names.specs.Rows.{AreKnown};
 ghost use Rattle.irtext_parse_heads.specs.Headers.{MustHead};
 ghost use Rattle.irtext_parse_heads.specs.Named.{AreWords, NamesRead};
 ghost use Rattle.irtext_parse_nested.specs.Blocks.{entries_in, PlacesLabelled, IsOfEntries, IsRefusalFault, RefusesKeys, MakesHead, RefusesArguments, DefinesArguments, NamesHead, RefusesHead};

@@ -6,7 +6,7 @@ ghost use Rattle.irtext_grammar.specs.Contexts.Held.{entries_of};
 ghost use Rattle.irtext_grammar.specs.Graphs.Build.{put_all, read_names};
 ghost use Rattle.irtext_grammar.specs.Grammar.Tree.{Name};
 ghost use Rattle.irtext_grammar.specs.Names.Acts.{block_may_hold};
-ghost use Rattle.irtext_parse_acts.specs.Rows.{AreKnown, AreNamed};
+ghost use Rattle.irtext_names.specs.Rows.{AreKnown, AreNamed};
 ghost use Rattle.irtext_parse_nested.specs.Blocks.{entries_in, AreAllowed, Forbids};
 ghost use Rattle.irtext_parse_nested.specs.Ends.{numbers_of};
 ghost use Rattle.irtext_parse_nested.specs.Gathered.{entry_read};

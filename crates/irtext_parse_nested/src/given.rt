@@ -3,7 +3,7 @@ ghost use Rattle.std.specs.Prelude.{◌≡◌, ℕ, List, length, map, slice_get
 ghost use Rattle.irtext_grammar.specs.Contexts.Held.{entries_of};
 ghost use Rattle.irtext_grammar.specs.Graphs.Build.{put_all, read_names};
 ghost use Rattle.irtext_grammar.specs.Grammar.Tree.{Name};
-ghost use Rattle.irtext_parse_acts.specs.Rows.{AreKnown, AreNamed};
+ghost use Rattle.irtext_names.specs.Rows.{AreKnown, AreNamed};
 ghost use Rattle.irtext_parse_nested.specs.Ends.{numbers_of};
 
 use crate::frame::Names;

@@ -18,7 +18,7 @@ ghost use Rattle.irtext_names.specs.Tied.{AreTied};
 ghost use Rattle.irtext_outcomes.specs.Promises.Root.{UnlessMemory};
 ghost use Rattle.irtext_outcomes.specs.Promises.Section.{Moves};
 ghost use Rattle.irtext_outcomes.specs.Readers.Streams.{itself, replaced, KeepsRest};
-ghost use Rattle.irtext_building.specs.Stands.{Spares};
+ghost use Rattle.irtext_nesting.specs.Stands.{Spares};
 ghost use Rattle.irtext_nesting.specs.Heads.{Step, steps_of, piece_at};
 ghost use Rattle.irtext_nesting.specs.Reached.{steps_in};
 ghost use Rattle.irtext_nesting.specs.Resume.{Begun};

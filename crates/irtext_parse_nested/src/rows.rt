@@ -10,7 +10,7 @@ ghost use Rattle.irtext_base.specs.Faults.{MultipleDefinitions};
 ghost use Rattle.irtext_grammar.specs.Contexts.Held.{whole};
 ghost use Rattle.irtext_outcomes.specs.Promises.Root.{UnlessMemory};
 ghost use Rattle.irtext_names.specs.Tied.{AreTied, AreWaiting};
-ghost use Rattle.irtext_parse_acts.specs.Rows.{AreKnown};
+ghost use Rattle.irtext_names.specs.Rows.{AreKnown};
 ghost use Rattle.irtext_parse_nested.specs.Definitions.{row_value, ValuesReady, DefinesRow, FailsRow, LosesPlaceholders};
 ghost use Rattle.irtext_parse_nested.specs.Ends.{numbers_of, RefusesTwice};
 
@@ -22,7 +22,7 @@ use irtext_graph::arena::Ptr;
 use irtext_graph::graph::Graph;
 use irtext_graph::object::{BasicBlock, Operation, Value};
 use irtext_names::values::ssa_def;
-use irtext_parse_acts::definitions::UndefinedName;
+use irtext_names::definitions::UndefinedName;
 use irtext_parse_heads::names::ReadName;
 use irtext_read::irfmt::faults::out_of_memory;
 use irtext_scopes::scopes::DefineFault;

@@ -7,7 +7,7 @@ ghost use Rattle.irtext_graph.specs.declared.object.Defined.TheVariants.{OfValue
 ghost use Rattle.irtext_grammar.specs.Names.Script.{use_value, use_label};
 ghost use Rattle.irtext_scopes.specs.Scopes.{is_open};
 ghost use Rattle.irtext_names.specs.Tied.{AreTied};
-ghost use Rattle.irtext_parse_acts.specs.Rows.{AreKnown, UsesRow};
+ghost use Rattle.irtext_names.specs.Rows.{AreKnown, UsesRow};
 ghost use Rattle.irtext_parse_nested.specs.Gathered.{IsSteady, TakesName};
 
 use crate::frame::Names;

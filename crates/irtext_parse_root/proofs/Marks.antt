@@ -19,7 +19,7 @@ use Rattle.irtext_grammar.specs.Names.Script.{Path}
 use Rattle.irtext_names.proofs.Linked.Moving.{among_split}
 use Rattle.irtext_nesting.specs.Naming.{paths_in_regions, paths_in_blocks, paths_in_operations, paths_in}
 use Rattle.irtext_nesting.proofs.Naming.Places as places
-use Rattle.irtext_building.specs.Tracks.{Made}
+use Rattle.irtext_nesting.specs.Tracks.{Made}
 use Rattle.irtext_parse_nested.specs.Ends.{noted_as}
 use Rattle.irtext_parse_items.specs.Carried.{marks_in_regions, marks_in_blocks, marks_in_operations, marks_in, object_of, AreCarried, Falls}
 use Rattle.irtext_parse_items.proofs.Carrying.{carried_by}

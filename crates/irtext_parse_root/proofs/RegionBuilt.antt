@@ -35,9 +35,9 @@ use Rattle.irtext_grammar.specs.Spelling.Spellable.{Each}
 use Rattle.irtext_grammar.proofs.Grammar.PartsOfFormats.{FormedRegions, FormedBlocks, FormedOperations}
 use Rattle.irtext_scopes.specs.declared.tracker.NameTracker.{NameTracker}
 use Rattle.irtext_nesting.specs.Naming.{paths_in_blocks}
-use Rattle.irtext_building.specs.Stands.{RegionsHold, IsThere}
-use Rattle.irtext_building.specs.Tracks.{Made, noted, HasChild}
-use Rattle.irtext_building.proofs.Whole.{WholeRegions, WholeBlocks, WholeOperations}
+use Rattle.irtext_nesting.specs.Stands.{RegionsHold, IsThere}
+use Rattle.irtext_nesting.specs.Tracks.{Made, noted, HasChild}
+use Rattle.irtext_nesting.proofs.Whole.{WholeRegions, WholeBlocks, WholeOperations}
 use Rattle.irtext_names.specs.Linked.{Known, StandsAt}
 use Rattle.irtext_names.specs.OfItems.{AreOf}
 use Rattle.irtext_names.specs.Tied.{NoneIsLeft}

@@ -36,17 +36,17 @@ use Rattle.irtext_nesting.specs.Naming.{naming, paths_in_blocks}
 use Rattle.irtext_nesting.specs.Reached.{Came, region_at, do_blocks}
 use Rattle.irtext_nesting.proofs.Knot.Whole as knot
 use Rattle.irtext_nesting.proofs.Naming.Shorter.{Shortens}
-use Rattle.irtext_building.specs.Building.{Unfinished, region_so_far, Building, whole_blocks, nothing_open, building}
-use Rattle.irtext_building.proofs.Built.{blocks_after, last_after, whole_after, in_region, blocks_build}
-use Rattle.irtext_building.proofs.Seen.{shows_blocks}
-use Rattle.irtext_building.proofs.Whole.{WholeRegions, WholeBlocks, WholeOperations, blocks_read}
+use Rattle.irtext_nesting.specs.Building.{Unfinished, region_so_far, Building, whole_blocks, nothing_open, building}
+use Rattle.irtext_nesting.proofs.Built.{blocks_after, last_after, whole_after, in_region, blocks_build}
+use Rattle.irtext_nesting.proofs.Seen.{shows_blocks}
+use Rattle.irtext_nesting.proofs.Whole.{WholeRegions, WholeBlocks, WholeOperations, blocks_read}
 use Rattle.irtext_names.proofs.Linked.Passes.{ran_through}
 use Rattle.irtext_promises.specs.Alone.{region_alone}
 use Rattle.irtext_parse_nested.specs.Items.{Names, StandsAs, doing}
 use Rattle.irtext_parse_items.specs.Carried.{marks_in_blocks, AreCarried}
 use Rattle.irtext_parse_items.specs.Told.{Did, did_enter, did_leave, told, all_done}
 use Rattle.irtext_parse_items.specs.Under.{ReadsUnder}
-use Rattle.irtext_building.specs.Tracks.{Made}
+use Rattle.irtext_nesting.specs.Tracks.{Made}
 use Rattle.irtext_parse_items.proofs.Carrying.{marks_are}
 use Rattle.irtext_parse_items.proofs.Telling.{tells_does, done_both}
 use Rattle.irtext_parse_root.proofs.Fresh.{fresh_stands}

@@ -12,8 +12,8 @@ use Rattle.irtext_grammar.specs.Names.Script.{Cause, Failure}
 use Rattle.irtext_outcomes.specs.Promises.Root.{IsPlace}
 use Rattle.irtext_outcomes.specs.Promises.Supported.{RefusedAs}
 use Rattle.irtext_promises.specs.Promises.{IsCause, IsOf, IsFirst}
-use Rattle.irtext_section.specs.Agrees.{StopsAt, ReadOrStops}
-use Rattle.irtext_section.specs.Readers.{fault_for}
+use Rattle.irtext_nesting.specs.Agrees.{StopsAt, ReadOrStops}
+use Rattle.irtext_nesting.specs.Readers.{fault_for}
 
 -- a failure's own fault
 is_own : (c : Cause Text) → IsCause c (fault_for c)

@@ -29,13 +29,13 @@ use Rattle.irtext_grammar.specs.Grammar.Tree.{Op, Head}
 use Rattle.irtext_grammar.specs.Graphs.Build.{content, located, labelled, but_label, with_content}
 use Rattle.irtext_grammar.specs.Names.Acts.{Rule}
 use Rattle.irtext_outcomes.specs.Promises.Section.{indices_of}
-use Rattle.irtext_building.specs.Stands.{own_of, head_entries, HasUses}
-use Rattle.irtext_building.specs.Tracks.{Made}
+use Rattle.irtext_nesting.specs.Stands.{own_of, head_entries, HasUses}
+use Rattle.irtext_nesting.specs.Tracks.{Made}
 use Rattle.irtext_promises.specs.Given.{OperationHas, BlockHas}
 use Rattle.irtext_promises.specs.Placed.{OperationAt, BlockAt}
 use Rattle.irtext_promises.specs.WithSection.{SameShape}
 use Rattle.irtext_promises.proofs.Shapes.{shape_self, shape_then, operation_shape, block_shape}
-use Rattle.irtext_section.specs.Agrees.{refused}
+use Rattle.irtext_nesting.specs.Agrees.{refused}
 use Rattle.irtext_parse_section.specs.Items.{CarriesOnly}
 use Rattle.irtext_parse_section.specs.Section.{ReadsSection}
 use Rattle.irtext_parse_section.proofs.Frames.{applied}

@@ -64,9 +64,9 @@ use Rattle.irtext_promises.proofs.Root as root
 use Rattle.irtext_promises.proofs.WithSection.{pointers_same, builds_given, only_still}
 use Rattle.irtext_promises.proofs.Wholes.{root_whole}
 use Rattle.irtext_promises.proofs.Given.{root_has}
-use Rattle.irtext_section.specs.Agrees.{refused, ReadOrStops}
-use Rattle.irtext_section.specs.Readers.{section_at}
-use Rattle.irtext_section.proofs.Lawful.{section_read, section_found}
+use Rattle.irtext_nesting.specs.Agrees.{refused, ReadOrStops}
+use Rattle.irtext_nesting.specs.Readers.{section_at}
+use Rattle.irtext_nesting.proofs.Lawful.{section_read, section_found}
 use Rattle.irtext_parse_items.specs.Carried.{marks_in, object_of}
 use Rattle.irtext_parse_items.proofs.Carrying.{marks_are}
 use Rattle.irtext_parse_heads.proofs.Meanings.{takes_whole}

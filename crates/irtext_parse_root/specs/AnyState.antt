@@ -32,8 +32,8 @@ use Rattle.irtext_nesting.specs.Heads.{led_at}
 use Rattle.irtext_nesting.specs.Naming.{naming}
 use Rattle.irtext_nesting.specs.Reached.{Came, Stuck, operation_at}
 use Rattle.irtext_nesting.specs.Resume.{EndsIn}
-use Rattle.irtext_building.specs.Building.{building, nothing_open, finished}
-use Rattle.irtext_building.specs.Tracks.{Made, HoldsMade}
+use Rattle.irtext_nesting.specs.Building.{building, nothing_open, finished}
+use Rattle.irtext_nesting.specs.Tracks.{Made, HoldsMade}
 use Rattle.irtext_names.specs.Linked as linked
 use Rattle.irtext_names.specs.Linked.{Known}
 use Rattle.irtext_names.specs.OfItems.{AreOf}
@@ -41,7 +41,7 @@ use Rattle.irtext_promises.specs.Held.{held_root}
 use Rattle.irtext_promises.specs.Leaves.{LeavesClosed}
 use Rattle.irtext_promises.specs.OnlyNew.{OnlyNew}
 use Rattle.irtext_promises.specs.Promises.{IsOf, tree_marks}
-use Rattle.irtext_section.specs.Readers.{section_at}
+use Rattle.irtext_nesting.specs.Readers.{section_at}
 use Rattle.irtext_parse_items.specs.Carried.{marks_in, AreCarried, Falls}
 use Rattle.irtext_parse_nested.specs.Located.{IsLocated}
 use Rattle.irtext_parse_section.specs.Said.{rules_of}

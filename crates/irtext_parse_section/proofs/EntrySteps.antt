@@ -25,7 +25,7 @@ use Rattle.irtext_parse_heads.specs.Named.{whole, MustMean}
 use Rattle.irtext_parse_heads.specs.declared.entries.Key.{Key}
 use Rattle.irtext_parse_heads.proofs.EntrySteps.{first_refused}
 use Rattle.irtext_parse_heads.proofs.Meanings.{must_refuse, must_whole}
-use Rattle.irtext_section.specs.Readers.{begins_given, tested, entry_head_at, given_at, entry_at}
+use Rattle.irtext_nesting.specs.Readers.{begins_given, tested, entry_head_at, given_at, entry_at}
 use Rattle.irtext_parse_section.specs.Said.{rule_for, rules_of, rule_of_item, is_block, ArePairs}
 use Rattle.irtext_parse_section.specs.Entries.{IsHead, IsGivenOver, IsEntry}
 use Rattle.irtext_parse_section.specs.declared.entry.EntryHead.{EntryHead}

@@ -30,9 +30,9 @@ use Rattle.irtext_grammar.specs.Names.Acts.{Rule}
 use Rattle.irtext_grammar.specs.Names.Script.{Failure, UnknownIndex}
 use Rattle.irtext_grammar.specs.Names.Scopes.{is_among}
 use Rattle.irtext_outcomes.specs.Promises.Section.{indices_of, given_over}
-use Rattle.irtext_section.specs.Agrees.{refused}
-use Rattle.irtext_section.specs.Readers.{wrong_references}
-use Rattle.irtext_section.proofs.Claims.{wrong_index, wrong_pairs, wrong_entries, refused_parts}
+use Rattle.irtext_nesting.specs.Agrees.{refused}
+use Rattle.irtext_nesting.specs.Readers.{wrong_references}
+use Rattle.irtext_nesting.proofs.Claims.{wrong_index, wrong_pairs, wrong_entries, refused_parts}
 use Rattle.irtext_parse_section.specs.Applied.{no_label, label_by, label_in, LocatesOperation, StoresOperation, LocatesBlock, StoresBlock, LabelsBlock, Gives, AppliesAll}
 use Rattle.irtext_parse_section.specs.Items.{CarriesOnly, OperationGiven, BlockGiven}
 use Rattle.irtext_parse_section.specs.Section.{ReadsSection}

@@ -15,8 +15,8 @@ use Rattle.irtext_grammar.specs.Grammar.Section.{Entry}
 use Rattle.irtext_grammar.specs.Names.Acts.{Rule}
 use Rattle.irtext_outcomes.specs.Readers.Streams.{itself, replaced}
 use Rattle.irtext_outcomes.proofs.Readers.Answered.{answered}
-use Rattle.irtext_section.specs.Readers.{entry_at, may_have, entries_after}
-use Rattle.irtext_section.proofs.Grows.{grows_entry, less_left}
+use Rattle.irtext_nesting.specs.Readers.{entry_at, may_have, entries_after}
+use Rattle.irtext_nesting.proofs.Grows.{grows_entry, less_left}
 use Rattle.irtext_parse_section.specs.Entries.{TextSoFar}
 
 some_left : (n : ℕ) (text : Text) → begins (the 33) text ≡ true → length text ≤ n → (k : ℕ) × (n ≡ suc k)

@@ -29,7 +29,7 @@ use Rattle.irtext_parse_heads.specs.declared.entries.Key.{Key}
 use Rattle.irtext_parse_heads.specs.declared.marks.ReadMark.{ReadMark}
 use Rattle.irtext_parse_heads.proofs.Listings.{list_some}
 use Rattle.irtext_parse_heads.proofs.Meanings.{takes_whole, may_whole}
-use Rattle.irtext_section.specs.Readers.{item_at, pair_at, may_stand, kept}
+use Rattle.irtext_nesting.specs.Readers.{item_at, pair_at, may_stand, kept}
 use Rattle.irtext_parse_section.proofs.HeadSteps.{refused_there}
 use Rattle.irtext_parse_section.specs.Said.{stands_under, IsGiven, IsPair, Allows, MustPairs, PairsBehind}
 use Rattle.irtext_parse_section.specs.declared.said.GivenAttr.{GivenAttr}

@@ -42,12 +42,12 @@ use Rattle.irtext_parse_heads.specs.Marks.{IsMark}
 use Rattle.irtext_parse_heads.specs.Named.{whole, Leaves, Each, MustMean}
 use Rattle.irtext_parse_heads.specs.declared.entries.Key.{Key}
 use Rattle.irtext_parse_heads.proofs.Meanings.{must_refuse}
-use Rattle.irtext_section.specs.Readers.{fault_for, upto, wrong_references, unless_wrong, referred, entries_after, entries_at, section_at}
-use Rattle.irtext_section.proofs.Claims.{wrong, wrongs, references_fail}
-use Rattle.irtext_section.proofs.Entries.{entries_read}
-use Rattle.irtext_section.proofs.Given.{splits_spaced}
-use Rattle.irtext_section.proofs.Lawful.{splits_attr}
-use Rattle.irtext_section.proofs.Places.{EntryNear, StandsNear, late_near, entries_near}
+use Rattle.irtext_nesting.specs.Readers.{fault_for, upto, wrong_references, unless_wrong, referred, entries_after, entries_at, section_at}
+use Rattle.irtext_nesting.proofs.Claims.{wrong, wrongs, references_fail}
+use Rattle.irtext_nesting.proofs.Entries.{entries_read}
+use Rattle.irtext_nesting.proofs.Given.{splits_spaced}
+use Rattle.irtext_nesting.proofs.Lawful.{splits_attr}
+use Rattle.irtext_nesting.proofs.Places.{EntryNear, StandsNear, late_near, entries_near}
 use Rattle.irtext_parse_section.specs.Checked.{Wrong, reference_wrong, pair_wrong, pairs_wrong, items_wrong, RefusesFirst}
 use Rattle.irtext_parse_section.specs.Entries.{AreItems, AreOnce}
 use Rattle.irtext_parse_section.specs.Said.{rule_for, rule_of_item, rules_of, is_block, IsPair}

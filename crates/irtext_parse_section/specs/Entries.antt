@@ -31,7 +31,7 @@ use Rattle.irtext_outcomes.specs.Readers.Streams.{itself, replaced, KeepsRest}
 use Rattle.irtext_parse_heads.specs.Marks.{IsMark}
 use Rattle.irtext_parse_heads.specs.Named.{whole, MustMean}
 use Rattle.irtext_parse_heads.specs.declared.entries.Key.{Key}
-use Rattle.irtext_section.specs.Readers.{begins_given, entries_after}
+use Rattle.irtext_nesting.specs.Readers.{begins_given, entries_after}
 use Rattle.irtext_parse_section.specs.Said.{ArePairs, rules_of}
 use Rattle.irtext_parse_section.specs.declared.entry.EntryHead.{EntryHead}
 use Rattle.irtext_parse_section.specs.declared.said.GivenAttr.{GivenAttr}

@@ -10,7 +10,7 @@ use Rattle.irtext_state.specs.declared.parsable.state.StateStream.{StateStream}
 use Rattle.irtext_grammar.specs.Grammar.Section.{Entry}
 use Rattle.irtext_outcomes.specs.Promises.Section.{indices_of, Moves}
 use Rattle.irtext_outcomes.specs.Readers.NewPaths.{AddsPaths}
-use Rattle.irtext_section.specs.Readers.{section_at}
+use Rattle.irtext_nesting.specs.Readers.{section_at}
 use Rattle.irtext_parse_section.specs.Applied.{AppliesAll}
 use Rattle.irtext_parse_section.specs.Entries.{all_entries_kept}
 use Rattle.irtext_parse_section.specs.Said.{rules_of}

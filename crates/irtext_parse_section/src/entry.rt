@@ -12,7 +12,7 @@ ghost use Rattle.irtext_outcomes.specs.Readers.Streams.{itself, replaced, KeepsR
 ghost use Rattle.irtext_parse_heads.specs.Marks.{IsMark};
 ghost use Rattle.irtext_parse_heads.specs.Named.{MustMean, whole};
 ghost use Rattle.irtext_parse_locations.specs.Plain.{Looks, Sees, Gets};
-ghost use Rattle.irtext_section.specs.Readers.{begins_given, tested, entry_head_at, entry_at};
+ghost use Rattle.irtext_nesting.specs.Readers.{begins_given, tested, entry_head_at, entry_at};
 ghost use Rattle.irtext_parse_section.specs.Said.{rules_of};
 ghost use Rattle.irtext_parse_section.specs.Entries.{IsHead, GoesOn, IsEntry, entry_kept, next_item, earlier_indices};
 

@@ -7,7 +7,7 @@ ghost use Rattle.irtext_outcomes.specs.Readers.NewPaths.{AddsPaths, MustReadOver
 ghost use Rattle.irtext_outcomes.specs.Readers.Section.{entry_location_at};
 ghost use Rattle.irtext_outcomes.specs.Readers.Streams.{itself, replaced};
 ghost use Rattle.irtext_parse_heads.specs.Named.{MustMean, whole};
-ghost use Rattle.irtext_section.specs.Readers.{given_at};
+ghost use Rattle.irtext_nesting.specs.Readers.{given_at};
 ghost use Rattle.irtext_parse_section.specs.Said.{rule_for};
 ghost use Rattle.irtext_parse_section.specs.Entries.{IsGivenOver, location_end_at};
 

@@ -4,7 +4,7 @@ ghost use Rattle.irtext_read.specs.AttrTexts.{attr_at};
 ghost use Rattle.irtext_read.specs.ListOutcomes.{separated_at};
 ghost use Rattle.irtext_outcomes.specs.Readers.Streams.{itself, replaced};
 ghost use Rattle.irtext_parse_heads.specs.Named.{MayMean, MustMean, whole};
-ghost use Rattle.irtext_section.specs.Readers.{item_at, pair_at, kept, pairs_at};
+ghost use Rattle.irtext_nesting.specs.Readers.{item_at, pair_at, kept, pairs_at};
 ghost use Rattle.irtext_parse_section.specs.Said.{rule_for, IsGiven, IsPair, Allows, MustPairs, PairsBehind};
 
 use crate::rules::stands_under;

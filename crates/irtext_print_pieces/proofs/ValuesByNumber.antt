@@ -21,8 +21,8 @@ use Rattle.irtext_context.specs.declared.base.block.BlockData.{BlockData}
 use Rattle.irtext_context.specs.declared.base.operation.OperationData.{OperationData}
 use Rattle.irtext_context.proofs.Contexts.{OperationEntry, BlockEntry}
 use Rattle.irtext_grammar.specs.Contexts.Nested.{NamedValue, given_at, attributes_in, named_from, standing, numbered_as, named_results, named_arguments, values_of, given_to, type_of}
-use Rattle.irtext_unique.specs.UniqueNames as unique
-use Rattle.irtext_unique.specs.UniqueNames.{given_name}
+use Rattle.irtext_grammar.specs.UniqueNames as unique
+use Rattle.irtext_grammar.specs.UniqueNames.{given_name}
 
 -- x is one of these
 abbrev Among : {X : Type 0} → X → List X → Type 0

@@ -6,14 +6,14 @@ ghost use Rattle.irtext_grammar.specs.Contexts.Nested.{given_to, type_of};
 ghost use Rattle.irtext_grammar.specs.Spelling.PrintedNames as printed;
 ghost use Rattle.irtext_print.specs.Printers.Appended.{AppendsText};
 ghost use Rattle.irtext_print_pieces.specs.Names.{or_nothing, operand_text, label_text};
-ghost use Rattle.irtext_unique.specs.UniqueNames.{given_name};
+ghost use Rattle.irtext_grammar.specs.UniqueNames.{given_name};
 
 use irtext_base::base::Identifier;
 use irtext_base::text::{AttrText, IrText};
 use irtext_context::base::{BasicBlock, BlockAccess, Context, Ptr, Value};
 use irtext_graph::held::HasGraph;
 use irtext_print::printable::numbers::fmt_number;
-use irtext_unique::name::given_name;
+use irtext_grammar::name::given_name;
 use std::fmt;
 
 /// What printing finds in a context by a value's number is that value's, as this contract says of a call that does nothing: the name

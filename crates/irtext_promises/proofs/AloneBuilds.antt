@@ -41,8 +41,8 @@ use Rattle.irtext_grammar.proofs.Lists.Sets.{in_right}
 use Rattle.irtext_grammar.proofs.Names.Building.{bound_same}
 use Rattle.irtext_scopes.specs.declared.tracker.NameTracker.{NameTracker}
 use Rattle.irtext_nesting.specs.Naming.{paths_in_blocks}
-use Rattle.irtext_building.specs.Stands.{RegionsHold}
-use Rattle.irtext_building.specs.Tracks.{Made, noted, HasChild}
+use Rattle.irtext_nesting.specs.Stands.{RegionsHold}
+use Rattle.irtext_nesting.specs.Tracks.{Made, noted, HasChild}
 use Rattle.irtext_names.specs.Linked.{Known, StandsAt}
 use Rattle.irtext_names.specs.OfItems.{AreOf}
 use Rattle.irtext_names.proofs.Linked.Passes.{ran_through}

@@ -32,8 +32,8 @@ use Rattle.irtext_grammar.proofs.Graphs.Links.{bound_linked, all_there}
 use Rattle.irtext_grammar.proofs.Names.Building.{bound_same}
 use Rattle.irtext_scopes.specs.declared.tracker.NameTracker.{NameTracker}
 use Rattle.irtext_nesting.specs.Naming.{Names}
-use Rattle.irtext_building.specs.Building.{finished}
-use Rattle.irtext_building.specs.Tracks.{Made, HoldsMade}
+use Rattle.irtext_nesting.specs.Building.{finished}
+use Rattle.irtext_nesting.specs.Tracks.{Made, HoldsMade}
 use Rattle.irtext_names.specs.Linked.{Known, StandsAt}
 use Rattle.irtext_names.specs.OfItems.{AreOf}
 use Rattle.irtext_names.proofs.Linked.Passes.{ran_through}

@@ -36,8 +36,8 @@ use Rattle.irtext_grammar.specs.Names.Scopes.{link, facts, lookup}
 use Rattle.irtext_grammar.specs.Names.Script.{Path, Place, User, operand, successor}
 use Rattle.irtext_grammar.specs.Names.TextScopes.{Fact}
 use Rattle.irtext_grammar.proofs.Lists.Sets.{in_left, in_right}
-use Rattle.irtext_building.specs.Stands.{own_of, head_entries}
-use Rattle.irtext_building.specs.Tracks.{Made}
+use Rattle.irtext_nesting.specs.Stands.{own_of, head_entries}
+use Rattle.irtext_nesting.specs.Tracks.{Made}
 use Rattle.irtext_promises.specs.Held.{PtrRegions, PtrBlocks, PtrOperations, placed_regions, placed_blocks, placed_operations, placed_under, value_place, block_place, defined_place, held_op, held_head, held_regions, held_blocks, held_operations}
 use Rattle.irtext_promises.specs.Given.{OperationHas, BlockHas, RegionsHave, BlocksHave, OperationsHave, RootHas}
 

@@ -34,9 +34,9 @@ use Rattle.irtext_nesting.proofs.Knot.Whole as knot
 use Rattle.irtext_nesting.proofs.Naming.Places.{names_exist}
 use Rattle.irtext_nesting.proofs.Naming.Scripts.{read_runs}
 use Rattle.irtext_nesting.proofs.Naming.Shorter.{Shortens}
-use Rattle.irtext_building.specs.Building.{Building, building, nothing_open, finished}
-use Rattle.irtext_building.proofs.Built.{tree_finished}
-use Rattle.irtext_building.proofs.Whole.{whole_read}
+use Rattle.irtext_nesting.specs.Building.{Building, building, nothing_open, finished}
+use Rattle.irtext_nesting.proofs.Built.{tree_finished}
+use Rattle.irtext_nesting.proofs.Whole.{whole_read}
 use Rattle.irtext_names.proofs.Linked.Passes.{ran_through}
 use Rattle.irtext_promises.specs.Held.{held_root}
 use Rattle.irtext_promises.specs.Leaves.{StandsBehind, LeavesTree, LeavesClosed}

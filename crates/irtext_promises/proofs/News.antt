@@ -46,9 +46,9 @@ use Rattle.irtext_nesting.specs.Naming.{Names}
 use Rattle.irtext_names.specs.Placeholders.{IsBlank}
 use Rattle.irtext_names.specs.Tied.{NoneIsLeft}
 use Rattle.irtext_names.proofs.Linked.Moving.{among_split}
-use Rattle.irtext_building.specs.Building.{finished}
-use Rattle.irtext_building.specs.Stands.{IsThere, HoldsSoFar}
-use Rattle.irtext_building.specs.Tracks.{Made, HasChild, Tracks, HoldsMade}
+use Rattle.irtext_nesting.specs.Building.{finished}
+use Rattle.irtext_nesting.specs.Stands.{IsThere, HoldsSoFar}
+use Rattle.irtext_nesting.specs.Tracks.{Made, HasChild, Tracks, HoldsMade}
 use Rattle.irtext_promises.specs.Alone.{pointers_in, held_region}
 use Rattle.irtext_promises.specs.Held.{PtrRegions, PtrBlocks, PtrOperations, placed_regions, placed_blocks, placed_operations, placed_under, path_of, value_place, block_place, held_op, held_head, held_regions, held_blocks, held_operations, held_root}
 use Rattle.irtext_promises.specs.OnlyNew.{OnlyNew, BlanksDefine}

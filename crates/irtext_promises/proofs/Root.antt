@@ -30,9 +30,9 @@ use Rattle.irtext_nesting.specs.Exact.{NeedsWord}
 use Rattle.irtext_nesting.specs.Reached.{Came, operation_at}
 use Rattle.irtext_nesting.proofs.Knot.Whole as knot
 use Rattle.irtext_nesting.proofs.Naming.Shorter.{Shortens}
-use Rattle.irtext_building.specs.Building.{Building, building, nothing_open, finished}
-use Rattle.irtext_building.proofs.Built.{tree_finished}
-use Rattle.irtext_building.proofs.Whole.{whole_read}
+use Rattle.irtext_nesting.specs.Building.{Building, building, nothing_open, finished}
+use Rattle.irtext_nesting.proofs.Built.{tree_finished}
+use Rattle.irtext_nesting.proofs.Whole.{whole_read}
 use Rattle.irtext_promises.specs.Leaves.{StandsBehind, LeavesTree}
 use Rattle.irtext_promises.specs.OnlyNew.{OnlyNew}
 use Rattle.irtext_promises.specs.Promises.{IsFirst, HasFault, RefusesRoot, tree_marks}

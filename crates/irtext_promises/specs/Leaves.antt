@@ -22,8 +22,8 @@ use Rattle.irtext_grammar.specs.Names.History.{going, start}
 use Rattle.irtext_grammar.specs.Names.Script.{Path}
 use Rattle.irtext_nesting.specs.Naming.{naming}
 use Rattle.irtext_nesting.specs.Reached.{Came, operation_at}
-use Rattle.irtext_building.specs.Building.{building, nothing_open, finished}
-use Rattle.irtext_building.specs.Tracks.{Made, HoldsMade}
+use Rattle.irtext_nesting.specs.Building.{building, nothing_open, finished}
+use Rattle.irtext_nesting.specs.Tracks.{Made, HoldsMade}
 use Rattle.irtext_names.specs.Linked.{Known, StandsAt}
 use Rattle.irtext_names.specs.OfItems.{AreOf}
 use Rattle.irtext_names.specs.Tied.{NoneIsLeft}

@@ -1,8 +1,9 @@
-pub mod Held
-pub mod Placed
-pub mod OnlyNew
-pub mod Promises
-pub mod Leaves
-pub mod Given
-pub mod WithSection
 pub mod Alone
+pub mod Given
+pub mod Held
+pub mod Leaves
+pub mod OnlyNew
+pub mod Placed
+pub mod PrintedRoot
+pub mod Promises
+pub mod WithSection

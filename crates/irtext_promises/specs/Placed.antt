@@ -13,8 +13,8 @@ use Rattle.irtext_graph.specs.Chained.{Among}
 use Rattle.irtext_grammar.specs.Grammar.Forest as forest
 use Rattle.irtext_grammar.specs.Grammar.Forest.{Regions, no_regions, Blocks, no_blocks, Operations, no_operations, Root}
 use Rattle.irtext_grammar.specs.Grammar.Tree.{Op, Head, Brace, Tree}
-use Rattle.irtext_building.specs.Stands.{own_of, HasOwn, HasHead, HasUses}
-use Rattle.irtext_building.specs.Tracks.{Made}
+use Rattle.irtext_nesting.specs.Stands.{own_of, HasOwn, HasHead, HasUses}
+use Rattle.irtext_nesting.specs.Tracks.{Made}
 use Rattle.irtext_promises.specs.Held.{PtrRegions, PtrBlocks, PtrOperations}
 
 -- the regions of a forest, its blocks and its operations, without what stands in them

@@ -8,9 +8,9 @@ use irtext_graph::arena::Ptr;
 use irtext_graph::graph::Graph;
 use irtext_graph::object::{BasicBlock, Operation, Value};
 use irtext_names::regions::{enter_region, no_names};
-use irtext_parse_acts::definitions::process_parsed_ssa_defs;
-use irtext_parse_acts::named::Named;
-use irtext_parse_acts::uses::ssa_opds;
+use irtext_names::definitions::process_parsed_ssa_defs;
+use irtext_names::named::Named;
+use irtext_names::uses::ssa_opds;
 use std::alloc::{AllocError, Global};
 use std::test::Fail;
 

@@ -3,7 +3,7 @@ pub use Rattle.irtext_outcomes.specs.Promises.Supported
 pub use Rattle.irtext_outcomes.specs.Promises.Section
 pub use Rattle.irtext_outcomes.specs.Promises.Root
 pub use Rattle.irtext_outcomes.specs.Promises.KeptRoot
-pub use Rattle.irtext_kept.specs.Kept
+pub use Rattle.irtext_outcomes.specs.ContextParts
 pub use Rattle.irtext_outcomes.specs.Promises.PrintedBack
 pub use Rattle.irtext_outcomes.specs.Promises.LocationsBack
 pub use Rattle.irtext_promises.specs.Promises
@@ -12,5 +12,5 @@ pub use Rattle.irtext_promises.specs.OnlyNew
 pub use Rattle.irtext_promises.specs.Alone
 pub use Rattle.irtext_parse_root.specs.Whole
 pub use Rattle.irtext_parse_root.specs.AnyState
-pub use Rattle.irtext_two_calls.specs.PrintedRoot
+pub use Rattle.irtext_promises.specs.PrintedRoot
 pub use Rattle.irtext_comes_back.specs.Calls

@@ -12,4 +12,4 @@ pub use irtext_parts::block::BlockParts;
 pub use irtext_parts::operation::OperationParts;
 pub use irtext_parts::region::RegionParts;
 pub use irtext_parts::value::{UseSite, ValueUses};
-pub use irtext_unique::UniqueName;
+pub use irtext_grammar::UniqueName;

@@ -8,7 +8,7 @@ use irtext_few::Few;
 use irtext_graph::held::HasGraph;
 use irtext_graph::object::Value;
 use irtext_types::{DemoAttr, DemoType};
-use irtext_unique::UniqueName;
+use irtext_grammar::UniqueName;
 use irtext_vectors_common::contexts::{Ctx, named, with_context, with_counters};
 use std::alloc::Global;
 use std::test::Fail;

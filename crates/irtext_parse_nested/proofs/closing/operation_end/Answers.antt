@@ -5,7 +5,7 @@ use Rattle.irtext_context.specs.declared.base.item.Item.TheVariants as item
 use Rattle.irtext_state.specs.States.{marks_of}
 use Rattle.irtext_grammar.specs.Contexts.Held.{whole}
 use Rattle.irtext_graph.specs.declared.object.Object.TheVariants.{TheOperation}
-use Rattle.irtext_building.specs.Stands.{Spares}
+use Rattle.irtext_nesting.specs.Stands.{Spares}
 use Rattle.irtext_parse_nested.specs.Ends.{BecomesNamed}
 use Rattle.irtext_parse_nested.specs.Items.{Lasts}
 use Rattle.irtext_parse_nested.specs.Located.{IsLocated}

@@ -2,7 +2,7 @@ use Rattle.std.proofs.Common.{◌∙◌, [], refl, sym, subst, IsSome}
 use Rattle.std.proofs.lemmas.Result.{err_from_is_err_and}
 use Rattle.irtext_context.specs.Context.{operation, AddsRegion}
 use Rattle.irtext_read.specs.AttrTexts.{attr_at}
-use Rattle.irtext_building.proofs.Edits.{region_added_came, region_added_gains, region_added_spares}
+use Rattle.irtext_nesting.proofs.Edits.{region_added_came, region_added_gains, region_added_spares}
 use Rattle.irtext_parse_nested.specs.Items.{Lasts}
 use Rattle.irtext_parse_nested.proofs.Entering.{unentered, unbraced, braced}
 use Rattle.irtext_parse_nested.proofs.RegionBegun.{region_lasts, region_sound}

@@ -1,8 +1,8 @@
 use Rattle.std.proofs.Common.{◌<◌, ◌∙◌, ◌++◌, ◌∷◌, [], length, map, take, sym, ap, subst, arith, append-nil, append_assoc}
 use Rattle.irtext_graph.specs.declared.object.Defined.TheVariants.{OfBlock}
 use Rattle.irtext_grammar.specs.Names.Script.{use_label}
-use Rattle.irtext_parse_acts.specs.Rows.{UsesRow}
-use Rattle.irtext_parse_acts.proofs.Rows.{no_uses, use_more}
+use Rattle.irtext_names.specs.Rows.{UsesRow}
+use Rattle.irtext_names.proofs.Rows.{no_uses, use_more}
 use Rattle.irtext_parse_nested.proofs.Steady.{open_by_depth, steady_itself, steady_both, take_next, known_here, take_whole, length_names}
 use Rattle.irtext_parse_nested.proofs.uses.blocks_used.Goals as goal
 

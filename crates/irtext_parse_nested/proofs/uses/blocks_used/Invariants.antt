@@ -3,7 +3,7 @@ use Rattle.irtext_graph.specs.declared.arena.Ptr.{Ptr}
 use Rattle.irtext_graph.specs.declared.object.BasicBlock.{BasicBlock}
 use Rattle.irtext_graph.specs.declared.object.Defined.TheVariants.{OfBlock}
 use Rattle.irtext_grammar.specs.Names.Script.{use_label}
-use Rattle.irtext_parse_acts.specs.Rows.{UsesRow}
+use Rattle.irtext_names.specs.Rows.{UsesRow}
 use Rattle.irtext_parse_nested.specs.Gathered.{IsSteady}
 use Rattle.irtext_parse_nested.proofs.uses.blocks_used.Given as goal
 

@@ -2,7 +2,7 @@ use Rattle.std.proofs.Common.{◌≡◌, ◌++◌, List, map, take}
 use Rattle.irtext_graph.specs.declared.object.Value.{Value}
 use Rattle.irtext_graph.specs.declared.object.Defined.TheVariants.{OfValue}
 use Rattle.irtext_grammar.specs.Names.Script.{use_value}
-use Rattle.irtext_parse_acts.specs.Rows.{UsesRow}
+use Rattle.irtext_names.specs.Rows.{UsesRow}
 use Rattle.irtext_parse_nested.specs.Gathered.{IsSteady}
 use Rattle.irtext_parse_nested.proofs.uses.values_used.Given as goal
 

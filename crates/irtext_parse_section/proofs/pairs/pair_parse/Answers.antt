@@ -9,7 +9,7 @@ use Rattle.irtext_read.proofs.Steps.{alone, begins_with, begins_refused, begun_b
 use Rattle.irtext_grammar.specs.Grammar.Section.{Item, direct}
 use Rattle.irtext_grammar.specs.Grammar.Tree.{Name, ident}
 use Rattle.irtext_parse_heads.proofs.Meanings.{may_refuse, may_unread, passed_whole}
-use Rattle.irtext_section.specs.Readers.{item_at}
+use Rattle.irtext_nesting.specs.Readers.{item_at}
 use Rattle.irtext_parse_section.specs.Said.{IsGiven}
 use Rattle.irtext_parse_section.proofs.pairs.pair_parse.Goals as goal
 

@@ -12,7 +12,7 @@ use Rattle.irtext_grammar.specs.Names.Acts.{Rule}
 use Rattle.irtext_outcomes.specs.Promises.Section.{indices_of}
 use Rattle.irtext_parse_heads.proofs.EntrySteps.{first_refused}
 use Rattle.irtext_parse_heads.proofs.Meanings.{must_refuse, must_whole}
-use Rattle.irtext_section.specs.Readers.{entries_after}
+use Rattle.irtext_nesting.specs.Readers.{entries_after}
 use Rattle.irtext_parse_section.specs.Entries.{AreEntriesOver}
 use Rattle.irtext_parse_section.specs.Said.{rules_of}
 use Rattle.irtext_parse_section.proofs.section.all_parse.Goals as goal

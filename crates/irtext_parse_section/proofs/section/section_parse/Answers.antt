@@ -7,7 +7,7 @@ use Rattle.irtext_outcomes.specs.Promises.Section.{indices_of}
 use Rattle.irtext_outcomes.proofs.Readers.Answered.{not_answered}
 use Rattle.irtext_outcomes.proofs.Readers.EntryIndices.{demands}
 use Rattle.irtext_outcomes.proofs.Readers.NewPaths.{adds_kept}
-use Rattle.irtext_section.proofs.Fine.{fine_section}
+use Rattle.irtext_nesting.proofs.Fine.{fine_section}
 use Rattle.irtext_parse_section.specs.Said.{rules_of}
 use Rattle.irtext_parse_section.proofs.SectionSteps.{either_way, adds_closed, starved_refusal, starved_there, given_kept, reads_section}
 use Rattle.irtext_parse_section.proofs.LoopSteps.{unless_err, where_err}

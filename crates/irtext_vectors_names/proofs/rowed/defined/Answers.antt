@@ -1,7 +1,7 @@
 use Rattle.std.proofs.Common.{◌<◌, [], length, subst, sym}
 use Rattle.irtext_names.proofs.Added.{added_ties}
 use Rattle.irtext_names.proofs.Gained.{operation_added}
-use Rattle.irtext_parse_acts.proofs.Made.{made_ready}
+use Rattle.irtext_names.proofs.Made.{made_ready}
 use Rattle.irtext_vectors_names.proofs.rowed.defined.Goals as goal
 
 pub process_parsed_ssa_defs-requires-clause-tied : goal.process_parsed_ssa_defs-requires-clause-tied

@@ -1,0 +1,147 @@
+//! The names of values and blocks.
+ghost use Rattle.std.specs.Prelude.{◌≡◌, ◌+◌, ℕ, Some, IsSome, IfOk, string_bytes, option_copied, option_and_then};
+ghost use Rattle.std.specs.Str.{chars};
+ghost use Rattle.irtext_graph.specs.Parts.{ValueStands};
+ghost use Rattle.irtext_context.specs.Context.{block, operation};
+ghost use Rattle.irtext_grammar.specs.Spelling.PrintedNames as printed;
+ghost use Rattle.irtext_grammar.specs.UniqueNames.{given_at, given_name, value_name, block_name};
+
+use irtext_base::base::{AttrObj, GIVEN_NAMES_KEY, Identifier};
+use irtext_base::text::{AttrText, IrText};
+use irtext_context::base::{BasicBlock, BlockAccess, Context, Operation, OperationAccess, Ptr};
+use irtext_dict::base::AttributeDict;
+use irtext_graph::held::HasGraph;
+use irtext_graph::object::Value;
+use std::alloc::{AllocError, Global};
+
+/// The name that attributes give to the value of an index, where they do.
+fn given_at<A: Drop>(attributes: &AttributeDict<A>, index: usize) -> Option<&Identifier>
+    ensures { option_copied result ≡ given_at index attributes.now }
+{
+    match attributes.get_str(GIVEN_NAMES_KEY)? {
+        AttrObj::GivenNames(names) => match names.get(index)? {
+            Some(name) => Some(name),
+            None => None,
+        },
+        AttrObj::Ident(_) | AttrObj::Own(_) => None,
+    }
+}
+
+/// The name that is given to a result of an operation, where one is: a placeholder gives none.
+fn given_to_result<'c, T: IrText<A>, A: AttrText>(
+    ctx: &'c Context<T, A>,
+    op: Ptr<Operation>,
+    index: usize,
+) -> Option<&'c Identifier>
+    ensures { option_copied result ≡ option_and_then (λ op. given_at index op.attributes) (operation ctx.now op) }
+{
+    if !ctx.contains_operation(op) {
+        return None;
+    }
+    given_at(op.attributes(ctx), index)
+}
+
+/// The name that is given to an argument of a block, where one is.
+fn given_to_argument<'c, T: IrText<A>, A: AttrText>(
+    ctx: &'c Context<T, A>,
+    p: Ptr<BasicBlock>,
+    index: usize,
+) -> Option<&'c Identifier>
+    requires { IsSome (block ctx.now p) }
+    ensures { option_copied result ≡ option_and_then (λ b. given_at index b.attributes) (block ctx.now p) }
+{
+    given_at(p.attributes(ctx), index)
+}
+
+/// The name that is given to a value, where one is.
+pub fn given_name<T: IrText<A>, A: AttrText>(ctx: &Context<T, A>, v: Value) -> Option<&Identifier>
+    requires { ValueStands ctx.now.graph v }
+    ensures { option_copied result ≡ given_name ctx.now v }
+{
+    match v {
+        Value::Result(op, index) => given_to_result(ctx, op, index),
+        Value::Argument(block, index) => given_to_argument(ctx, block, index),
+    }
+}
+
+/// The name of a value with this given name or none, and this number.
+fn value_text(alloc: Global, given: Option<&Identifier>, number: u64) -> Result<String, AllocError>
+    ensures { IfOk result (λ s. chars (string_bytes s) ≡ printed.value_name (option_copied given.entry) number) }
+{
+    match given {
+        Some(name) => {
+            let name = name.as_str();
+            format!(in alloc; "{name}_v{number}")
+        }
+        None => format!(in alloc; "v{number}"),
+    }
+}
+
+/// The name of a block with this label or none, and this place and generation.
+fn block_text(
+    alloc: Global,
+    label: Option<&Identifier>,
+    place: u64,
+    generation: u32,
+) -> Result<String, AllocError>
+    ensures { IfOk result (λ s. chars (string_bytes s) ≡ printed.block_name (option_copied label.entry) (place, generation)) }
+{
+    match label {
+        Some(label) => {
+            let label = label.as_str();
+            format!(in alloc; "{label}_block{place}v{generation}")
+        }
+        None => format!(in alloc; "block{place}v{generation}"),
+    }
+}
+
+/// What is printed by a name that nothing else of its context has: values and blocks.
+pub trait UniqueName: Sized {
+    ghost use Rattle.std.specs.Prelude.{Option};
+    ghost use Rattle.irtext_base.specs.Text.{Text};
+    ghost use Rattle.irtext_context.specs.Context.{ContextView};
+
+    // it is there
+    ghost stands: { (T A : Type 0) → ContextView T A → Self → Type 0 };
+
+    // its name, where it is there
+    ghost name: { (T A : Type 0) → ContextView T A → Self → Option Text };
+
+    /// The name under which it is printed: of a value `v` and its number, behind its given name and `_` where it has one; of a block
+    /// `block`, its place, `v` and its generation, behind its label and `_` where it has one. Given names are those that the
+    /// attributes of its operation or its block hold under the key `builtin_given_names`. It is refused only for want of memory.
+    fn unique_name<T: IrText<A>, A: AttrText>(
+        self,
+        ctx: &Context<T, A>,
+    ) -> Result<String, AllocError>
+        requires { stands T A ctx.now self }
+        ensures { IfOk result (λ s. Some (chars (string_bytes s)) ≡ name T A ctx.now self) };
+}
+
+impl UniqueName for Value {
+    ghost stands = { λ T A ctx v. ValueStands ctx.graph v };
+
+    ghost name = { λ T A. value_name };
+
+    fn unique_name<T: IrText<A>, A: AttrText>(
+        self,
+        ctx: &Context<T, A>,
+    ) -> Result<String, AllocError> {
+        let number = ctx.graph().number_of(self);
+        value_text(ctx.allocator(), given_name(ctx, self), number)
+    }
+}
+
+impl UniqueName for Ptr<BasicBlock> {
+    ghost stands = { λ T A ctx p. IsSome (block ctx p) };
+
+    ghost name = { λ T A. block_name };
+
+    fn unique_name<T: IrText<A>, A: AttrText>(
+        self,
+        ctx: &Context<T, A>,
+    ) -> Result<String, AllocError> {
+        let place = ctx.graph().number_of_place(self);
+        block_text(ctx.allocator(), self.label(ctx), place, self.generation())
+    }
+}

@@ -1,0 +1,57 @@
+//! Names that are defined one after another: the results of an operation.
+ghost use Rattle.std.specs.Prelude.{◌≡◌, ◌<◌, ℕ, List, length, map, true, OnOk, OnErr, IfErr, Err};
+ghost use Rattle.irtext_graph.specs.Back.{IsClosedBelow};
+ghost use Rattle.irtext_graph.specs.Graph.{KeepsOlder};
+ghost use Rattle.irtext_graph.specs.declared.arena.Ptr.{Ptr};
+ghost use Rattle.irtext_graph.specs.declared.object.BasicBlock.{BasicBlock};
+ghost use Rattle.irtext_scopes.specs.Scopes.{is_open};
+ghost use Rattle.irtext_scopes.specs.declared.scopes.DefineFault.{DefineFault};
+ghost use Rattle.irtext_names.specs.Tied.{AreTied, AreWaiting};
+ghost use Rattle.irtext_names.specs.Rows.{AreKnown, AreReady, DefinesResults, FailsResults};
+
+use crate::named::Named;
+use irtext_graph::arena::Ptr;
+use irtext_graph::graph::Graph;
+use irtext_graph::object::{BasicBlock, Operation, Value};
+use crate::values::ssa_def;
+use irtext_scopes::scopes::DefineFault;
+use irtext_scopes::tracker::NameTracker;
+
+/// Why names were not defined, and which of them was the first that was not: how many stand before it.
+#[derive(Clone, Copy, Debug)]
+pub struct UndefinedName {
+    pub fault: DefineFault,
+    pub index: usize,
+}
+
+/// Defines names as the results of an operation, one after another, from the first result on, a scope of values being open. The first
+/// name that its scope defines already is refused, and memory may be refused; those before it are defined then.
+pub fn process_parsed_ssa_defs<N: Named, O: Drop, B: Drop, T: Drop>(
+    names: &mut NameTracker<Value, Ptr<BasicBlock>>,
+    graph: &mut Graph<Option<O>, B, Option<T>>,
+    defined: &[N],
+    op: Ptr<Operation>,
+) -> Result<(), UndefinedName>
+    requires open { is_open names.old.values ≡ true }
+    requires known { AreKnown (length names.old.names) (map N.numbered defined.now) }
+    requires tied { AreTied names.old.values names.old.labels graph.old }
+    requires ready { AreReady op (length defined.now) names.old.values graph.old }
+    ensures defines { OnOk result (DefinesResults op (map N.numbered defined.now) names.old names.new graph.old graph.new) }
+    ensures fails { IfErr result (λ undefined. undefined.fault ≡ DefineFault.MultipleDefinitions
+        → FailsResults op (map N.numbered defined.now) undefined.index names.old graph.old) }
+    ensures within { IfErr result (λ undefined. undefined.index < length defined.now) }
+    ensures open { is_open names.new.values ≡ true }
+    ensures rest { (names.new.names ≡ names.old.names) × (names.new.labels ≡ names.old.labels) }
+    ensures tied { AreTied names.new.values names.new.labels graph.new }
+    ensures waiting { (m : ℕ) (own : List (Ptr BasicBlock))
+        → AreWaiting m own names.old.values names.old.labels graph.old → AreWaiting m own names.new.values names.new.labels graph.new }
+    ensures kept { (m : ℕ) (own : List (Ptr BasicBlock)) → IsClosedBelow m graph.old
+        → AreWaiting m own names.old.values names.old.labels graph.old → KeepsOlder m graph.old graph.new }
+{
+    for (index, name) in defined.iter().enumerate() {
+        if let Err(fault) = ssa_def(names, graph, name.number(), Value::Result(op, index)) {
+            return Err(UndefinedName { fault, index });
+        }
+    }
+    Ok(())
+}

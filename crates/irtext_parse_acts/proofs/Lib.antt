@@ -1,4 +1,0 @@
-pub mod Rows
-pub mod Results
-pub mod Made
-pub mod Lists

@@ -1,0 +1,40 @@
+-- For callers: a root of a context of which a text was printed, and what is promised of what is read of it.
+use Rattle.std.specs.Prelude.{◌≡◌, ◌<◌, ◌^◌, ℕ, List, length, None, Some}
+use Rattle.std.specs.Str.{IsUtf8, encode_utf8_all}
+use Rattle.irtext_base.specs.Answers.{Outcome}
+use Rattle.irtext_base.specs.Locations.{AttrView}
+use Rattle.irtext_base.specs.Own.{Texts, unplaced}
+use Rattle.irtext_base.specs.Text.{Text}
+use Rattle.irtext_context.specs.Context.{ContextView}
+use Rattle.irtext_context.specs.Dialects.{Table}
+use Rattle.irtext_graph.specs.declared.arena.Ptr.{Ptr}
+use Rattle.irtext_graph.specs.declared.object.Operation.{Operation}
+use Rattle.irtext_grammar.specs.Contexts.Formats.{format_of, isolated}
+use Rattle.irtext_grammar.specs.Contexts.Nested.{seen_root}
+use Rattle.irtext_grammar.specs.Graphs.Closed.{Fit}
+use Rattle.irtext_grammar.specs.Graphs.Graph.{Graph, Limit, Printing}
+use Rattle.irtext_grammar.specs.Spelling.Section.{text}
+use Rattle.irtext_state.specs.declared.parsable.state.StateStream.{StateStream}
+use Rattle.irtext_promises.specs.Held.{held_root}
+use Rattle.irtext_outcomes.specs.Back.{HeldBack, HeldWhole}
+use Rattle.irtext_outcomes.specs.RootParts.{KeptRoot}
+
+module _ {T A : Type 0} (types : Texts T) (owns : Texts A) (attr : Text → Outcome (AttrView A)) (C : Printing T A) where
+  -- The graph is what printing sees under the pointer. It keeps what its parts' types keep, and its operations fit their formats; the bytes
+  -- are those of a text in memory, and encode what is printed of it under this limit.
+  pub record PrintedRoot (ctx : ContextView T A) (p : Ptr Operation) (g : Graph T A) (width indentation : ℕ) (limit : Limit) (bytes : List ℕ) : Type 0 where
+    pub sees : seen_root owns.written ctx p ≡ Some g
+    pub kept : KeptRoot attr owns.written C (isolated ctx.dialects) g
+    pub fits : Fit C (isolated ctx.dialects) g
+    pub utf8 : IsUtf8 bytes
+    pub few : length bytes < 2 ^ 64
+    pub printed : bytes ≡ encode_utf8_all (text (unplaced types owns C.format_of) C g indentation width limit)
+
+  module _ {U : Type 0} (dialects : List (Text × Table)) (g : Graph T A) (q : Ptr Operation) (new : StateStream T A U) where
+    -- what stands under the answer, however deep, is equal to the graph up to fillings, uses inside too, and only white space is left
+    abbrev pub StandsBack : Type 0
+    StandsBack = HeldBack types owns attr C (isolated dialects) g new.stream.rest (held_root new.state.ctx.now q)
+
+    -- the same with nothing filled in but positions
+    abbrev pub StandsWhole : Type 0
+    StandsWhole = HeldWhole types owns attr C (isolated dialects) g new.stream.rest (held_root new.state.ctx.now q)

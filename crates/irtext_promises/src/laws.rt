@@ -1,0 +1,114 @@
+//! The law of the two calls: what is read of the printed text of a closed root is equal to it.
+ghost use Rattle.std.specs.Prelude.{◌≡◌, ℕ, List, None, Option, Some};
+ghost use Rattle.std.specs.Str.{chars};
+ghost use Rattle.irtext_base.specs.Answers.{Outcome};
+ghost use Rattle.irtext_base.specs.Own.{texts_of};
+ghost use Rattle.irtext_base.specs.Paths.{Written};
+ghost use Rattle.irtext_base.specs.declared.parsable.fault.ParseFault.{ParseFault};
+ghost use Rattle.irtext_context.specs.Context.{ContextView};
+ghost use Rattle.irtext_graph.specs.declared.arena.Ptr.{Ptr};
+ghost use Rattle.irtext_graph.specs.declared.object.BasicBlock.{BasicBlock};
+ghost use Rattle.irtext_graph.specs.declared.object.Operation.{Operation};
+ghost use Rattle.irtext_graph.specs.declared.object.Value.{Value};
+ghost use Rattle.irtext_grammar.specs.Contexts.Formats.{isolated};
+ghost use Rattle.irtext_grammar.specs.Contexts.Nested.{printing_over};
+ghost use Rattle.irtext_grammar.specs.Grammar.Marked.{AllShown};
+ghost use Rattle.irtext_grammar.specs.Graphs.Build.{Built};
+ghost use Rattle.irtext_grammar.specs.Graphs.Graph.{Graph, Limit, written};
+ghost use Rattle.irtext_grammar.specs.Graphs.Regained.{Named};
+ghost use Rattle.irtext_grammar.specs.Graphs.Same.{stood};
+ghost use Rattle.irtext_grammar.specs.Graphs.StandsFor.{StandsFor};
+ghost use Rattle.irtext_outcomes.specs.ContextParts.{KeepsCounters};
+ghost use Rattle.irtext_promises.specs.Held.{held_root};
+ghost use Rattle.irtext_promises.specs.Promises.{BuildsRoot, RefusesRoot};
+ghost use Rattle.irtext_read.specs.AttrTexts.{attr_at};
+ghost use Rattle.irtext_outcomes.specs.Back.{ClosedRoot};
+ghost use Rattle.irtext_state.specs.declared.parsable.state.StateStream.{StateStream};
+ghost use Rattle.irtext_promises.specs.PrintedRoot.{PrintedRoot, StandsBack, StandsWhole};
+ghost use Rattle.irtext_grammar.specs.UniqueNames.{value_name, block_name};
+
+use irtext_base::text::{AttrText, IrText};
+use irtext_context::base::Context;
+use irtext_outcomes::context::keeps_parts;
+
+/// What is printed of a closed root of a context, its section too, without a limit that leaves regions out, is read back from its bytes in
+/// any context with the same dialects: each root that is answered is equal to it up to fillings, uses inside too, and all was read but
+/// white space; where each block has a label and all that has results or arguments holds given names, nothing is filled in but positions;
+/// and it is no text that is refused. That a root keeps what is asked of it is what `keeps_parts` ensures, and that it fits its formats is
+/// what printing does.
+pub fn printed_root_comes_back<T: IrText<A>, A: AttrText, U>()
+    ensures builds { (ctx : ContextView T A) (p : Ptr Operation) (g : Graph T A) (width n : ℕ) (bytes : List ℕ) →
+        let types = texts_of T.reading T.written in
+        let owns = texts_of A.reading A.written in
+        let C = printing_over ctx A.outlined A.print_once A.eq in
+        PrintedRoot types owns (attr_at A.reading) C ctx p g width n None bytes → ClosedRoot C (isolated ctx.dialects) g →
+        (q : Ptr Operation) (old new : StateStream T A U) → old.stream.rest ≡ chars bytes → old.state.ctx.now.dialects ≡ ctx.dialects →
+        BuildsRoot types owns (attr_at A.reading) q old new → StandsBack types owns (attr_at A.reading) C ctx.dialects g q new }
+    ensures whole { (ctx : ContextView T A) (p : Ptr Operation) (g : Graph T A) (width n : ℕ) (bytes : List ℕ) →
+        let types = texts_of T.reading T.written in
+        let owns = texts_of A.reading A.written in
+        let C = printing_over ctx A.outlined A.print_once A.eq in
+        PrintedRoot types owns (attr_at A.reading) C ctx p g width n None bytes → ClosedRoot C (isolated ctx.dialects) g → Named C g →
+        (q : Ptr Operation) (old new : StateStream T A U) → old.stream.rest ≡ chars bytes → old.state.ctx.now.dialects ≡ ctx.dialects →
+        BuildsRoot types owns (attr_at A.reading) q old new → StandsWhole types owns (attr_at A.reading) C ctx.dialects g q new }
+    ensures never_refused { (ctx : ContextView T A) (p : Ptr Operation) (g : Graph T A) (width n : ℕ) (bytes : List ℕ) →
+        let types = texts_of T.reading T.written in
+        let owns = texts_of A.reading A.written in
+        let C = printing_over ctx A.outlined A.print_once A.eq in
+        PrintedRoot types owns (attr_at A.reading) C ctx p g width n None bytes → ClosedRoot C (isolated ctx.dialects) g →
+        (types_at : List ℕ → Outcome T) (old : StateStream T A U) (fault : ParseFault A) → old.stream.rest ≡ chars bytes →
+        old.state.ctx.now.dialects ≡ ctx.dialects →
+        RefusesRoot types owns types_at (attr_at A.reading) old.state.ctx.now.dialects old.stream fault → ⊥ }
+{}
+
+/// A root that was read, and is printed in the context that holds it, is a closed root with a label at each block and given names where
+/// there are results or arguments; what printing sees of it stands for what is held, each number for the place of what it means. So it comes
+/// back whole: with a position where its location was unknown, and with nothing else filled in.
+pub fn read_root_comes_back<T: IrText<A>, A: AttrText, U, V>()
+    ensures closed { (p : Ptr Operation) (before after : StateStream T A U) (g : Graph T A) (width n : ℕ) (limit : Limit) (bytes : List ℕ) →
+        let types = texts_of T.reading T.written in
+        let owns = texts_of A.reading A.written in
+        let ctx = after.state.ctx.now in
+        let C = printing_over ctx A.outlined A.print_once A.eq in
+        BuildsRoot types owns (attr_at A.reading) p before after → KeepsCounters ctx.graph →
+        PrintedRoot types owns (attr_at A.reading) C ctx p g width n limit bytes →
+        ClosedRoot C (isolated ctx.dialects) g × Named C g }
+    ensures stands { (p : Ptr Operation) (before after : StateStream T A U) (g : Graph T A) (width n : ℕ) (limit : Limit) (bytes : List ℕ) →
+        let types = texts_of T.reading T.written in
+        let owns = texts_of A.reading A.written in
+        let ctx = after.state.ctx.now in
+        let C = printing_over ctx A.outlined A.print_once A.eq in
+        BuildsRoot types owns (attr_at A.reading) p before after → KeepsCounters ctx.graph →
+        PrintedRoot types owns (attr_at A.reading) C ctx p g width n limit bytes →
+        (b : Built T A (Written A)) × (held_root ctx p ≡ Some b) × StandsFor (stood C (isolated ctx.dialects) g) b }
+    ensures whole { (p : Ptr Operation) (before after : StateStream T A U) (g : Graph T A) (width n : ℕ) (bytes : List ℕ) →
+        let types = texts_of T.reading T.written in
+        let owns = texts_of A.reading A.written in
+        let ctx = after.state.ctx.now in
+        let C = printing_over ctx A.outlined A.print_once A.eq in
+        BuildsRoot types owns (attr_at A.reading) p before after → KeepsCounters ctx.graph →
+        PrintedRoot types owns (attr_at A.reading) C ctx p g width n None bytes →
+        (q : Ptr Operation) (old new : StateStream T A V) → old.stream.rest ≡ chars bytes → old.state.ctx.now.dialects ≡ ctx.dialects →
+        BuildsRoot types owns (attr_at A.reading) q old new → StandsWhole types owns (attr_at A.reading) C ctx.dialects g q new }
+{}
+
+/// What is printed of a root under a limit by which a region was left out is no root to the reader: nothing is read of it.
+pub fn limited_root_is_refused<T: IrText<A>, A: AttrText, U>()
+    ensures { (ctx : ContextView T A) (p : Ptr Operation) (g : Graph T A) (width n : ℕ) (limit : Limit) (bytes : List ℕ) →
+        let types = texts_of T.reading T.written in
+        let owns = texts_of A.reading A.written in
+        let C = printing_over ctx A.outlined A.print_once A.eq in
+        PrintedRoot types owns (attr_at A.reading) C ctx p g width n limit bytes → (AllShown (written C limit g) → ⊥) →
+        (q : Ptr Operation) (old new : StateStream T A U) → old.stream.rest ≡ chars bytes → old.state.ctx.now.dialects ≡ ctx.dialects →
+        BuildsRoot types owns (attr_at A.reading) q old new → ⊥ }
+{}
+
+/// The names under which the values and the blocks of a context are printed are all different: what has one name is one value, or one
+/// block, and no value has a block's.
+pub fn printed_names_differ<T: IrText<A>, A: AttrText>(ctx: &Context<T, A>)
+    ensures values { (v w : Value) (name : List ℕ) → value_name ctx.now v ≡ Some name → value_name ctx.now w ≡ Some name → v ≡ w }
+    ensures blocks { (b c : Ptr BasicBlock) (name : List ℕ) → block_name ctx.now b ≡ Some name → block_name ctx.now c ≡ Some name → b ≡ c }
+    ensures between { (v : Value) (b : Ptr BasicBlock) (name : List ℕ) → value_name ctx.now v ≡ Some name → block_name ctx.now b ≡ Some name → ⊥ }
+{
+    keeps_parts(ctx);
+}

@@ -1,9 +1,0 @@
-pub mod PrintedBack
-pub mod OnePlace
-pub mod Spots
-pub mod Shown
-pub mod TrueFacts
-pub mod StandsHeld
-pub mod Accepts
-pub mod ReadClosed
-pub mod NamesDiffer
