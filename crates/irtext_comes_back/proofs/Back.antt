@@ -32,9 +32,9 @@ use Rattle.irtext_print.specs.Printers.Shown.{Shown}
 use Rattle.irtext_print.specs.declared.printable.refusal.Refusal.TheVariants.{Misfit}
 use Rattle.irtext_print_ir.specs.Printers.Printed.{block_round}
 use Rattle.irtext_print_ops.proofs.Depths.{inside_is}
-use Rattle.irtext_print_walk.specs.Faults.{OperationFault, RegionsFault}
-use Rattle.irtext_print_walk.specs.Heads as heads
-use Rattle.irtext_print_walk.specs.Walk.{or_nothing}
+use Rattle.irtext_print_ops.specs.Faults.{OperationFault, RegionsFault}
+use Rattle.irtext_print_ops.specs.Heads as heads
+use Rattle.irtext_print_ops.specs.Walk.{or_nothing}
 use Rattle.irtext_promises.specs.Held.{held_root}
 use Rattle.irtext_promises.specs.OnlyNew.{OnlyNew}
 use Rattle.irtext_read.specs.AttrTexts.{attr_at}

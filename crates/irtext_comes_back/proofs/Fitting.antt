@@ -7,7 +7,7 @@ use Rattle.irtext_grammar.specs.Grammar.Forest.{Regions, no_regions, region, Blo
 use Rattle.irtext_grammar.specs.Graphs.Closed.{FitsCustom, FitsFormat, FitsOp, FitRegions, FitBlocks, FitOperations, Fit}
 use Rattle.irtext_grammar.specs.Graphs.Graph.{Graph, GraphOp, GraphBlock, Printing}
 use Rattle.irtext_print.specs.declared.printable.refusal.Refusal.TheVariants.{Misfit}
-use Rattle.irtext_print_walk.specs.Faults.{OperationFault, RegionsFault, BlocksFault, OperationsFault}
+use Rattle.irtext_print_ops.specs.Faults.{OperationFault, RegionsFault, BlocksFault, OperationsFault}
 
 sure_bool : (b : Bool) → ((b ≡ true → ⊥) → ⊥) → b ≡ true
 sure_bool true h = refl

@@ -24,7 +24,7 @@ use Rattle.irtext_outcomes.specs.Promises.Root.{UnlessMemory}
 use Rattle.irtext_print.specs.Printers.PrintedOperation.{levels}
 use Rattle.irtext_print.specs.Printers.Shown.{Shown}
 use Rattle.irtext_print_ir.specs.Printers.Printed.{block_round}
-use Rattle.irtext_print_walk.specs.Heads as heads
+use Rattle.irtext_print_ops.specs.Heads as heads
 use Rattle.irtext_promises.specs.Held.{held_root}
 use Rattle.irtext_promises.specs.OnlyNew.{OnlyNew}
 use Rattle.irtext_promises.specs.Promises.{BuildsRoot, RefusesRoot}

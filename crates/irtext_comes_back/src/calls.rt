@@ -15,7 +15,7 @@ ghost use Rattle.irtext_outcomes.specs.Promises.Section.{IsStarved};
 ghost use Rattle.irtext_print.specs.Printers.Appended.{fresh};
 ghost use Rattle.irtext_print.specs.Printers.PrintedOperation.{levels};
 ghost use Rattle.irtext_print_ir.specs.Printers.Printed.{block_round};
-ghost use Rattle.irtext_print_walk.specs.Heads as heads;
+ghost use Rattle.irtext_print_ops.specs.Heads as heads;
 ghost use Rattle.irtext_promises.specs.OnlyNew.{OnlyNew};
 ghost use Rattle.irtext_promises.specs.Promises.{BuildsRoot, RefusesRoot};
 ghost use Rattle.irtext_read.specs.AttrTexts.{attr_at};

@@ -1,13 +1,17 @@
 -- Steps of the readers of names.
-pub mod Meanings
+pub mod EntrySteps
+pub mod FormatSteps
+pub mod Founds
+pub mod FrameOutcomes
+pub mod FrameSteps
+pub mod FrontSteps
 pub mod Interned
-pub mod NameSteps
+pub mod Leads
 pub mod Listings
 pub mod Looks
-pub mod Leads
 pub mod MarkSteps
-pub mod EntrySteps
+pub mod Meanings
+pub mod NameSteps
 pub mod PieceSteps
-pub mod FormatSteps
-pub mod FrontSteps
-pub mod Founds
+pub mod Places
+pub mod Plain

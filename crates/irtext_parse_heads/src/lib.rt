@@ -9,6 +9,7 @@ pub mod fronts;
 pub mod headers;
 pub mod ids;
 pub mod lists;
+pub mod location;
 pub mod marks;
 pub mod names;
 pub mod pieces;

@@ -61,15 +61,15 @@ use Rattle.irtext_promises.proofs.Kept.{finished_same}
 use Rattle.irtext_promises.proofs.News.{only_new}
 use Rattle.irtext_parse_nested.specs.Items.{Names, StandsAs, IsSound}
 use Rattle.irtext_parse_nested.specs.Located.{IsLocated}
-use Rattle.irtext_parse_items.specs.Carried.{marks_in}
-use Rattle.irtext_parse_items.specs.Nested.{ReadsNested}
-use Rattle.irtext_parse_items.specs.Turned.{Carries}
-use Rattle.irtext_parse_items.proofs.Carrying.{marks_are}
+use Rattle.irtext_parse_root.specs.Carried.{marks_in}
+use Rattle.irtext_parse_root.specs.Nested.{ReadsNested}
+use Rattle.irtext_parse_root.specs.Turned.{Carries}
+use Rattle.irtext_parse_root.proofs.Carrying.{marks_are}
 use Rattle.irtext_parse_root.specs.AnyState.{start_with, ReadsTree}
 use Rattle.irtext_parse_root.proofs.FewerMarks.{ran_without}
 use Rattle.irtext_parse_root.proofs.Fresh.{fresh_sound}
 use Rattle.irtext_parse_root.proofs.Marks.{indices_carried}
-use Rattle.irtext_parse_root.proofs.Nested.{at_end, leaves_tree}
+use Rattle.irtext_parse_root.proofs.NestedWhole.{at_end, leaves_tree}
 
 pub came_to : {X S : Type 0} (x y : X) (s t : S) (a b : Text) → Came x s a ≡ Came y t b → s ≡ t
 came_to x y s t a b e = cc

@@ -15,7 +15,7 @@ use Rattle.irtext_names.proofs.Added.{no_ties, no_waits}
 use Rattle.irtext_names.proofs.Linked.Kept.{stands_by}
 use Rattle.irtext_parse_nested.specs.Items.{Names, StandsAs, BlanksDefine, IsSound}
 use Rattle.irtext_parse_nested.proofs.OfItems.{nothing_of}
-use Rattle.irtext_parse_items.specs.Turned.{IsSoundOnce}
+use Rattle.irtext_parse_root.specs.Turned.{IsSoundOnce}
 
 -- no name stands under two numbers
 pub none_twice : AreDistinct []

@@ -21,8 +21,8 @@ use Rattle.irtext_nesting.specs.Naming.{paths_in_regions, paths_in_blocks, paths
 use Rattle.irtext_nesting.proofs.Naming.Places as places
 use Rattle.irtext_nesting.specs.Tracks.{Made}
 use Rattle.irtext_parse_nested.specs.Ends.{noted_as}
-use Rattle.irtext_parse_items.specs.Carried.{marks_in_regions, marks_in_blocks, marks_in_operations, marks_in, object_of, AreCarried, Falls}
-use Rattle.irtext_parse_items.proofs.Carrying.{carried_by}
+use Rattle.irtext_parse_root.specs.Carried.{marks_in_regions, marks_in_blocks, marks_in_operations, marks_in, object_of, AreCarried, Falls}
+use Rattle.irtext_parse_root.proofs.Carrying.{carried_by}
 
 -- the item carries this mark alone, or none
 abbrev pub CarriesOnly : List (ℕ × Item) → Item → Option (Mark ℕ) → Type 0

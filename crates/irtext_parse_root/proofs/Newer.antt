@@ -24,7 +24,7 @@ use Rattle.irtext_grammar.specs.Grammar.Tree.{Tree}
 use Rattle.irtext_nesting.specs.Building.{finished}
 use Rattle.irtext_nesting.specs.Stands.{IsThere}
 use Rattle.irtext_nesting.specs.Tracks.{Made, HoldsMade}
-use Rattle.irtext_parse_items.specs.Carried.{marks_in, object_of, AreCarried}
+use Rattle.irtext_parse_root.specs.Carried.{marks_in, object_of, AreCarried}
 use Rattle.irtext_parse_section.specs.Applied.{IsNewer, AreNewer}
 use Rattle.irtext_parse_root.proofs.Marks.{carried_back}
 

@@ -22,7 +22,7 @@ use Rattle.irtext_nesting.specs.Resume.{EndsIn}
 use Rattle.irtext_promises.specs.Leaves.{LeavesTree}
 use Rattle.irtext_promises.specs.Promises as alone
 use Rattle.irtext_promises.specs.Promises.{HasFault}
-use Rattle.irtext_parse_items.specs.Carried.{marks_in, AreCarried}
+use Rattle.irtext_parse_root.specs.Carried.{marks_in, AreCarried}
 use Rattle.irtext_parse_root.specs.AnyState as any
 use Rattle.irtext_parse_root.specs.AnyState.{start_with, LeavesFrom, HasFaultFrom, ReadsTree}
 use Rattle.irtext_parse_root.specs.Marked.{LeavesMarked}

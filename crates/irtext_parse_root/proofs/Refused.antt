@@ -21,8 +21,8 @@ use Rattle.irtext_names.proofs.Added.{no_ties}
 use Rattle.irtext_names.proofs.Linked.Kept.{stands_by}
 use Rattle.irtext_parse_nested.specs.Items.{Names, StandsAs, IsNameCause, doing}
 use Rattle.irtext_parse_nested.proofs.OfItems.{nothing_of}
-use Rattle.irtext_parse_items.specs.Nested as nested
-use Rattle.irtext_parse_items.specs.Nested.{RefusesNested}
+use Rattle.irtext_parse_root.specs.Nested as nested
+use Rattle.irtext_parse_root.specs.Nested.{RefusesNested}
 use Rattle.irtext_parse_root.specs.AnyState.{start_with}
 use Rattle.irtext_parse_root.proofs.Failing.{operation_never_failed, operation_first}
 use Rattle.irtext_parse_root.proofs.Fresh.{none_twice}

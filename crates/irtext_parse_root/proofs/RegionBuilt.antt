@@ -45,7 +45,7 @@ use Rattle.irtext_promises.specs.Alone.{OnlyNewIn, held_region}
 use Rattle.irtext_promises.specs.OnlyNew.{BlanksDefine}
 use Rattle.irtext_promises.proofs.AloneBuilds as builds
 use Rattle.irtext_promises.proofs.News as news
-use Rattle.irtext_parse_items.specs.Built.{RegionTracks}
+use Rattle.irtext_parse_root.specs.Built.{RegionTracks}
 use Rattle.irtext_parse_root.specs.Region.{GainsRegion}
 use Rattle.irtext_parse_root.proofs.RegionMoved as moved
 

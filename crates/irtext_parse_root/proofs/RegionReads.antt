@@ -43,12 +43,12 @@ use Rattle.irtext_nesting.proofs.Whole.{WholeRegions, WholeBlocks, WholeOperatio
 use Rattle.irtext_names.proofs.Linked.Passes.{ran_through}
 use Rattle.irtext_promises.specs.Alone.{region_alone}
 use Rattle.irtext_parse_nested.specs.Items.{Names, StandsAs, doing}
-use Rattle.irtext_parse_items.specs.Carried.{marks_in_blocks, AreCarried}
-use Rattle.irtext_parse_items.specs.Told.{Did, did_enter, did_leave, told, all_done}
-use Rattle.irtext_parse_items.specs.Under.{ReadsUnder}
+use Rattle.irtext_parse_root.specs.Carried.{marks_in_blocks, AreCarried}
+use Rattle.irtext_parse_root.specs.Told.{Did, did_enter, did_leave, told, all_done}
+use Rattle.irtext_parse_root.specs.Under.{ReadsUnder}
 use Rattle.irtext_nesting.specs.Tracks.{Made}
-use Rattle.irtext_parse_items.proofs.Carrying.{marks_are}
-use Rattle.irtext_parse_items.proofs.Telling.{tells_does, done_both}
+use Rattle.irtext_parse_root.proofs.Carrying.{marks_are}
+use Rattle.irtext_parse_root.proofs.Telling.{tells_does, done_both}
 use Rattle.irtext_parse_root.proofs.Fresh.{fresh_stands}
 use Rattle.irtext_context.specs.Context as context
 use Rattle.irtext_context.specs.Context.{KeepsOlder}

@@ -44,8 +44,8 @@ use Rattle.irtext_promises.specs.Alone as alone
 use Rattle.irtext_promises.specs.Alone.{region_alone, RefusesRegion, first}
 use Rattle.irtext_promises.specs.Promises.{IsCause, IsOf, IsFirst}
 use Rattle.irtext_parse_nested.specs.Items.{Names, IsNameCause, doing}
-use Rattle.irtext_parse_items.specs.Under as under
-use Rattle.irtext_parse_items.specs.Under.{IsolatedAs, RefusesUnder}
+use Rattle.irtext_parse_root.specs.Under as under
+use Rattle.irtext_parse_root.specs.Under.{IsolatedAs, RefusesUnder}
 use Rattle.irtext_parse_root.specs.Region.{unisolated, IsReportedAt}
 use Rattle.irtext_parse_root.proofs.Failing.{region_never_failed}
 use Rattle.irtext_parse_root.proofs.Fresh.{fresh_stands}

@@ -21,7 +21,7 @@ use Rattle.irtext_nesting.specs.Tracks.{Made}
 use Rattle.irtext_promises.specs.Given.{OperationHas, BlockHas, RegionsHave, BlocksHave, OperationsHave, RootHas}
 use Rattle.irtext_promises.specs.Held.{PtrRegions, PtrBlocks, PtrOperations}
 use Rattle.irtext_promises.specs.Placed.{OperationAt, BlockAt, RegionsAre, BlocksAre, OperationsAre, RootIs}
-use Rattle.irtext_parse_items.specs.Carried.{object_of}
+use Rattle.irtext_parse_root.specs.Carried.{object_of}
 use Rattle.irtext_parse_root.proofs.Marks.{CarriesOnly, marked_regions, marked_blocks, marked_operations, marked_items}
 
 module _ {T A : Type 0} (L : ℕ → Location A → Type 0) (c : ContextView T A) (items : Made) (marks : List (ℕ × Item)) (d : ContextView T A) (first : ℕ → Written A) (es : List (Entry ℕ A (Written A))) where

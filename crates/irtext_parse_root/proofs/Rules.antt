@@ -27,8 +27,8 @@ use Rattle.irtext_nesting.specs.Tracks.{Made}
 use Rattle.irtext_promises.specs.Held.{PtrRegions, PtrBlocks, PtrOperations}
 use Rattle.irtext_promises.specs.Placed.{RegionsAre, BlocksAre, OperationsAre, RootIs}
 use Rattle.irtext_parse_nested.specs.Ends.{noted_as}
-use Rattle.irtext_parse_items.specs.Carried.{marks_in_regions, marks_in_blocks, marks_in_operations, marks_in, object_of, AreCarried, Falls}
-use Rattle.irtext_parse_items.proofs.Carrying.{one_object, carried_by}
+use Rattle.irtext_parse_root.specs.Carried.{marks_in_regions, marks_in_blocks, marks_in_operations, marks_in, object_of, AreCarried, Falls}
+use Rattle.irtext_parse_root.proofs.Carrying.{one_object, carried_by}
 use Rattle.irtext_parse_section.specs.Said.{rules_of, rule_of_item}
 use Rattle.irtext_parse_root.proofs.Marks.{map_both, found_there, carried_back, indices_carried, lookup_among}
 

@@ -42,7 +42,7 @@ use Rattle.irtext_promises.specs.Leaves.{LeavesClosed}
 use Rattle.irtext_promises.specs.OnlyNew.{OnlyNew}
 use Rattle.irtext_promises.specs.Promises.{IsOf, tree_marks}
 use Rattle.irtext_nesting.specs.Readers.{section_at}
-use Rattle.irtext_parse_items.specs.Carried.{marks_in, AreCarried, Falls}
+use Rattle.irtext_parse_root.specs.Carried.{marks_in, AreCarried, Falls}
 use Rattle.irtext_parse_nested.specs.Located.{IsLocated}
 use Rattle.irtext_parse_section.specs.Said.{rules_of}
 use Rattle.irtext_parse_section.specs.Section.{ReadsSection}

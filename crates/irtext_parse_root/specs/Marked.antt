@@ -10,7 +10,7 @@ use Rattle.irtext_state.specs.declared.parsable.state.StateStream.{StateStream}
 use Rattle.irtext_grammar.specs.Contexts.Held.{whole}
 use Rattle.irtext_outcomes.specs.Promises.Section.{indices_of}
 use Rattle.irtext_promises.specs.Leaves.{LeavesTree, LeavesClosed}
-use Rattle.irtext_parse_items.specs.Carried.{marks_in, AreCarried, Falls}
+use Rattle.irtext_parse_root.specs.Carried.{marks_in, AreCarried, Falls}
 use Rattle.irtext_parse_nested.specs.Located.{IsLocated}
 
 -- A tree was built of the text and stands under the pointer, nothing is open and no placeholder is left; the marks that are noted are the

@@ -27,7 +27,7 @@ use irtext_base::text::{AttrText, IrText};
 use irtext_context::base::context::making::Making;
 use irtext_context::base::operation::OperationAccess;
 use irtext_context::base::{Context, Operation, Ptr, Region};
-use irtext_parse_items::region as items;
+use crate::one_region as items;
 use irtext_scopes::tracker::NameTracker;
 use irtext_state::parsable::state::Noting;
 use irtext_state::parsable::{State, StateStream};

@@ -24,7 +24,7 @@ use irtext_base::text::{AttrText, IrText};
 use irtext_context::base::context::making::Making;
 use irtext_context::base::{Operation, Ptr};
 use irtext_graph::held::HasGraph;
-use irtext_parse_items::nested::nested_parse;
+use crate::nested::nested_parse;
 use irtext_scopes::tracker::NameTracker;
 use irtext_state::parsable::{State, StateStream};
 

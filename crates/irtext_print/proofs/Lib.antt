@@ -1,1 +1,7 @@
+pub mod Givens
+pub mod Lone
+pub mod Noted
 pub mod Printers
+pub mod Sections
+pub mod Texts
+pub mod Written

@@ -1,3 +1,7 @@
 -- What printers append, and what locations are printed as
-pub mod Printers
+pub mod Entries
 pub mod Errors
+pub mod Given
+pub mod Items
+pub mod Mentions
+pub mod Printers

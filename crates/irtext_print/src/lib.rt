@@ -2,6 +2,11 @@
 //! write of an operation's attributes.
 #![tactic(auto)]
 
+mod entries;
+pub mod given;
 pub mod ir;
+pub mod laws;
 pub mod location;
+mod mentions;
 pub mod printable;
+pub mod section;

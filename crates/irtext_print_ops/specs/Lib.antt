@@ -1,1 +1,10 @@
+pub mod Faults
+pub mod Fits
+pub mod Heads
+pub mod Inline
+pub mod Listed
+pub mod Names
 pub mod Opened
+pub mod Steps
+pub mod Walk
+pub mod Written

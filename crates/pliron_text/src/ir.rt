@@ -9,5 +9,5 @@ pub use irtext_print_ir::ir::print::debug::{OpDbg, print_dbg};
 pub use irtext_print_ir::ir::print::parts::{print_block, print_region};
 pub use irtext_print_ir::ir::print::print_root;
 pub use irtext_print_ir::ir::verify::{BasicBlockVerifyErr, DefUseVerifyErr};
-pub use irtext_print_pieces::fits::{FitFault, check_fits};
+pub use irtext_print_ops::fits::{FitFault, check_fits};
 pub use text::OperationText;

@@ -24,11 +24,11 @@ use Rattle.irtext_print.specs.Printers.Printing.{gathered_of, with_gathered}
 use Rattle.irtext_print.specs.Printers.Shown.{Shown}
 use Rattle.irtext_print_ir.specs.Printers.Printed.{Printed, block_round, gathers, root_text, root_left, root_items, end_text}
 use Rattle.irtext_print_ir.proofs.Printers.Roots.{regions_given}
-use Rattle.irtext_print_section.proofs.Lone.{zero_written}
-use Rattle.irtext_print_section.specs.Given.{operation_entry, given_at}
-use Rattle.irtext_print_section.specs.Items.{section_of, section_at, alone_of, alone_at}
-use Rattle.irtext_print_walk.specs.Heads as heads
-use Rattle.irtext_print_walk.specs.Walk.{or_nothing, regions_left, items_in_regions}
+use Rattle.irtext_print.proofs.Lone.{zero_written}
+use Rattle.irtext_print.specs.Given.{operation_entry, given_at}
+use Rattle.irtext_print.specs.Items.{section_of, section_at, alone_of, alone_at}
+use Rattle.irtext_print_ops.specs.Heads as heads
+use Rattle.irtext_print_ops.specs.Walk.{or_nothing, regions_left, items_in_regions}
 
 -- what is known anyway is known of a success
 pub at_success : {X E P : Type 0} (r : Result X E) → P → OnOk r P

@@ -24,8 +24,8 @@ use Rattle.irtext_print.specs.Printers.Shown.{Shown}
 use Rattle.irtext_print_ir.proofs.Printers.Roots.{text_is}
 use Rattle.irtext_print_ops.proofs.Depths.{inside_is}
 use Rattle.irtext_print_ir.specs.Printers.Printed.{Printed, block_round, gathers, root_items, root_text, root_left}
-use Rattle.irtext_print_section.specs.Items.{section_at}
-use Rattle.irtext_print_walk.specs.Heads as heads
+use Rattle.irtext_print.specs.Items.{section_at}
+use Rattle.irtext_print_ops.specs.Heads as heads
 
 -- blocks are the same where they are the same objects
 pub same_block : (x y : Option (Ptr BasicBlock)) → option_map TheBlock x ≡ option_map TheBlock y → x ≡ y

@@ -17,10 +17,10 @@ use Rattle.irtext_grammar.specs.Grammar.Forest.{Regions, no_regions, Blocks, no_
 use Rattle.irtext_grammar.specs.Graphs.Graph.{Graph, GraphOp, GraphBlock, Printing, Limit, Entry, is_elided, inside, is_marked, own_entry, op_outlined, block_outlined, mark_at, tree_op, tree_regions, marks_in_regions, entries_of, entries_of_regions, entries_of_blocks, entries_of_operations, written}
 use Rattle.irtext_grammar.specs.Spelling.Section.{text, section}
 use Rattle.irtext_grammar.specs.Spelling.Spell.{concrete, mark_if, region_texts, spelled}
-use Rattle.irtext_print_section.specs.Given.{entry_at, operation_entry, block_entry}
-use Rattle.irtext_print_section.specs.Items.{section_of}
-use Rattle.irtext_print_section.proofs.Sections.{section_whole}
-use Rattle.irtext_print_walk.specs.Walk.{or_nothing, regions_left, items_in_regions, items_in_blocks, items_in_operations, marked_operation, marked_block}
+use Rattle.irtext_print.specs.Given.{entry_at, operation_entry, block_entry}
+use Rattle.irtext_print.specs.Items.{section_of}
+use Rattle.irtext_print.proofs.Sections.{section_whole}
+use Rattle.irtext_print_ops.specs.Walk.{or_nothing, regions_left, items_in_regions, items_in_blocks, items_in_operations, marked_operation, marked_block}
 
 module _ {T A : Type 0} (C : Printing T A) (L : Language ⊤ T A) (ctx : ContextView T A) where
   -- what the section gives of an item

@@ -21,7 +21,7 @@ use Rattle.irtext_grammar.specs.Contexts.Held.{entries_of}
 use Rattle.irtext_print.specs.declared.printable.refusal.Refusal.{Refusal}
 use Rattle.irtext_print.specs.declared.printable.refusal.Refusal.TheVariants.{Memory, Depth, Misfit}
 use Rattle.irtext_print_ir.specs.Printers.Printed.{PrintsRegion, region_gives}
-use Rattle.irtext_print_walk.specs.Heads as heads
+use Rattle.irtext_print_ops.specs.Heads as heads
 
 module _ {T A : Type 0} where
   -- an operation's id, and `@` with its symbol's name, where it has one

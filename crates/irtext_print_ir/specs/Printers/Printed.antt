@@ -25,8 +25,8 @@ use Rattle.irtext_print.specs.Printers.Printing.{with_gathered}
 use Rattle.irtext_print.specs.Printers.Shown.{Shown}
 use Rattle.irtext_print.specs.declared.printable.refusal.Refusal.TheVariants.{Misfit}
 use Rattle.irtext_print.specs.declared.printable.state.RegionPrintDepthLimit.TheVariants.{Max}
-use Rattle.irtext_print_section.specs.Items.{section_at}
-use Rattle.irtext_print_walk.specs.Heads as heads
+use Rattle.irtext_print.specs.Items.{section_at}
+use Rattle.irtext_print_ops.specs.Heads as heads
 
 -- the block that an operation stands in, if it stands in one
 abbrev pub block_round : {T A : Type 0} → ContextView T A → Ptr Operation → Option (Ptr BasicBlock)

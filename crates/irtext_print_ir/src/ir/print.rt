@@ -5,8 +5,8 @@ ghost use Rattle.irtext_print.specs.Printers.Appended.{AppendsText};
 ghost use Rattle.irtext_print.specs.Printers.Printing.{gathered_of, with_gathered};
 ghost use Rattle.irtext_print.specs.declared.printable.refusal.Refusal.TheVariants as refusal;
 ghost use Rattle.irtext_print_ir.specs.Printers.Printed as printed;
-ghost use Rattle.irtext_print_section.specs.Items.{section_at};
-ghost use Rattle.irtext_print_walk.specs.Heads as heads;
+ghost use Rattle.irtext_print.specs.Items.{section_at};
+ghost use Rattle.irtext_print_ops.specs.Heads as heads;
 
 use crate::ir::print::gathering::{gather_mark, gather_operation};
 use crate::printable::{Printable, Refusal, State};
@@ -14,7 +14,7 @@ use irtext_base::text::{AttrText, IrText};
 use irtext_context::base::{Context, Item, Operation, Ptr};
 use irtext_graph::held::HasGraph;
 use irtext_print::printable::gathered::{has_gathered, take_gathered};
-use irtext_print_section::section::{print_alone, print_section};
+use irtext_print::section::{print_alone, print_section};
 use std::fmt;
 
 pub mod concrete;

@@ -4,7 +4,7 @@ use irtext_base::location::Location;
 use irtext_context::base::context::making::Making;
 use irtext_context::base::{BasicBlock, Operation, Ptr, Value};
 use irtext_dict::base::AttributeDict;
-use irtext_print_pieces::fits::{FitFault, check_fits};
+use irtext_print_ops::fits::{FitFault, check_fits};
 use irtext_vectors_common::contexts::{Ctx, with_context};
 use std::alloc::Global;
 use std::test::Fail;

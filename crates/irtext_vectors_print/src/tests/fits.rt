@@ -8,7 +8,7 @@ use irtext_context::base::operation::add_regions;
 use irtext_context::base::{Operation, Ptr};
 use irtext_context::dialect::{Dialect, DialectName};
 use irtext_dict::base::AttributeDict;
-use irtext_print_pieces::fits::check_fits;
+use irtext_print_ops::fits::check_fits;
 use irtext_types::{Characters, DemoAttr};
 use irtext_vectors_common::contexts::{Ctx, named, with_context};
 use irtext_vectors_common::formats::format_of;

@@ -1,8 +1,8 @@
 //! The sections of items, and of which items a mark is written.
 use crate::tests::building::{Step, built};
 use irtext_context::base::Item;
-use irtext_print_section::given::is_marked;
-use irtext_print_section::section::print_section;
+use irtext_print::given::is_marked;
+use irtext_print::section::print_section;
 use irtext_vectors_common::contexts::{Ctx, with_demo};
 use std::alloc::Global;
 use std::test::Fail;

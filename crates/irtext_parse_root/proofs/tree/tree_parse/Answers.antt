@@ -8,7 +8,7 @@ use Rattle.irtext_state.specs.States.{marks_of}
 use Rattle.irtext_parse_root.proofs.Laws.{short}
 use Rattle.irtext_parse_root.proofs.Closed.{reads_tree}
 use Rattle.irtext_parse_root.proofs.Fresh.{fresh_sound, fresh_once}
-use Rattle.irtext_parse_root.proofs.Nested.{has_fault}
+use Rattle.irtext_parse_root.proofs.NestedWhole.{has_fault}
 use Rattle.irtext_parse_root.proofs.NoMarks.{marked_alone, fault_alone}
 use Rattle.irtext_parse_root.proofs.Refused.{says_text, refusal_by}
 use Rattle.irtext_parse_root.proofs.tree.tree_parse.Goals as goal

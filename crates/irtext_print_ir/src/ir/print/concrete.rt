@@ -3,7 +3,7 @@ ghost use Rattle.std.specs.Prelude.{◌≡◌, OnOk, IfErr, IsSome};
 ghost use Rattle.irtext_context.specs.Context.{operation};
 ghost use Rattle.irtext_print.specs.Printers.Printing.{gathered_of, with_gathered};
 ghost use Rattle.irtext_print_ir.specs.Printers.Printed as printed;
-ghost use Rattle.irtext_print_walk.specs.Heads as heads;
+ghost use Rattle.irtext_print_ops.specs.Heads as heads;
 
 use crate::ir::print::gathering::gather_operation;
 use crate::printable::{Printable, Refusal, State};

@@ -2,7 +2,7 @@
 ghost use Rattle.std.specs.Prelude.{OnOk, IfErr, IsSome};
 ghost use Rattle.irtext_context.specs.Context.{operation};
 ghost use Rattle.irtext_print_ir.specs.Printers.Printed as printed;
-ghost use Rattle.irtext_print_walk.specs.Heads as heads;
+ghost use Rattle.irtext_print_ops.specs.Heads as heads;
 
 use crate::ir::print::concrete::print_concrete;
 use crate::printable::{Refusal, RegionPrintDepthLimit, State};

@@ -8,13 +8,13 @@ ghost use Rattle.irtext_print.specs.Printers.Appended.{AppendsText};
 ghost use Rattle.irtext_print.specs.Printers.Printing.{gathered_of, with_gathered};
 ghost use Rattle.irtext_print.specs.declared.printable.refusal.Refusal.TheVariants as refusal;
 ghost use Rattle.irtext_print_ir.specs.Printers.Printed as printed;
-ghost use Rattle.irtext_print_walk.specs.Heads as heads;
+ghost use Rattle.irtext_print_ops.specs.Heads as heads;
 
 use crate::printable::{Refusal, State};
 use irtext_base::text::{AttrText, IrText};
 use irtext_context::base::{BasicBlock, Context, Operation, Ptr, Region};
 use irtext_print::printable::gathered::{put_gathered, take_gathered};
-use irtext_print_nested::nested::{
+use irtext_print_ops::nested::{
     print_nested, print_nested_block, print_nested_mark, print_nested_region,
 };
 

@@ -6,8 +6,8 @@ use Rattle.irtext_print.specs.Printers.Printing.{gathered_of, with_gathered}
 use Rattle.irtext_print_ir.specs.Printers.Printed.{end_text}
 use Rattle.irtext_print_ir.proofs.Printers.Ends.{alone_ends, none_gathered, at_success}
 use Rattle.irtext_print_ir.proofs.Printers.Gathered.{rests}
-use Rattle.irtext_print_section.specs.Items.{section_at}
-use Rattle.irtext_print_walk.specs.Heads as heads
+use Rattle.irtext_print.specs.Items.{section_at}
+use Rattle.irtext_print_ops.specs.Heads as heads
 use Rattle.irtext_print_ir.proofs.ir.print.fmt_end.Goals as goal
 
 pub returns-then-not-has_gathered-clause-text : goal.returns-then-not-has_gathered-clause-text

@@ -4,8 +4,8 @@ use Rattle.irtext_graph.specs.Graph.{children, parent}
 use Rattle.irtext_graph.specs.Nested.{Nested}
 use Rattle.irtext_graph.specs.Parts.{regions}
 use Rattle.irtext_print.proofs.Printers.Appended.{then-err}
-use Rattle.irtext_print_walk.proofs.Turned.{region_stands}
-use Rattle.irtext_print_walk.specs.Heads as heads
+use Rattle.irtext_print_ops.proofs.Turned.{region_stands}
+use Rattle.irtext_print_ops.specs.Heads as heads
 use Rattle.irtext_print_ir.proofs.Printers.Gathered.{together}
 use Rattle.irtext_print_ir.proofs.Printers.OpPrinters.{sole_at, sole_none}
 use Rattle.irtext_print_ir.proofs.irfmt.printers.op.print_region.Goals as goal

@@ -1,4 +1,0 @@
-pub mod FrameOutcomes
-pub mod FrameSteps
-pub mod Plain
-pub mod Places

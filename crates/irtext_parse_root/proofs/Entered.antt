@@ -1,0 +1,79 @@
+-- A region that is entered and stands nowhere: what it does with names, and how its brace is refused.
+use Rattle.std.proofs.Common.{◌≡◌, ◌∙◌, ◌⊎◌, inl, inr, Bool, true, false, [], codes, length, None, IsSome, Ok, Err, refl, sym, ap, subst}
+use Rattle.irtext_base.specs.Faults as fault
+use Rattle.irtext_base.specs.Faults.{fault_of}
+use Rattle.irtext_base.specs.Locations.{AttrView}
+use Rattle.irtext_base.specs.Stream.{StreamView, IsAt}
+use Rattle.irtext_base.specs.declared.parsable.fault.ParseFault.{ParseFault}
+use Rattle.irtext_context.specs.Context.{with_graph}
+use Rattle.irtext_graph.specs.Graph.{MakesRegion}
+use Rattle.irtext_graph.specs.declared.arena.Ptr.{Ptr}
+use Rattle.irtext_graph.specs.declared.object.Region.{Region}
+use Rattle.irtext_read.specs.Infix.{Reader, ◌▷◌}
+use Rattle.irtext_read.specs.MustRead.{MustRead}
+use Rattle.irtext_read.specs.Tokens.{space_at, word}
+use Rattle.irtext_read.proofs.Honest.{◌then◌, honest_word, honest_space}
+use Rattle.irtext_read.proofs.Steps.{alone}
+use Rattle.irtext_state.specs.States.{marks_of}
+use Rattle.irtext_state.specs.declared.parsable.state.StateStream.{StateStream}
+use Rattle.irtext_grammar.specs.Contexts.Held.{whole}
+use Rattle.irtext_grammar.specs.Names.History as history
+use Rattle.irtext_grammar.specs.Names.History.{State, enter}
+use Rattle.irtext_grammar.specs.Names.Script.{NotIsolated}
+use Rattle.irtext_names.specs.Linked.{Takes, FailsBy}
+use Rattle.irtext_names.specs.Tied.{AreTied}
+use Rattle.irtext_outcomes.specs.Promises.Root.{UnlessMemory}
+use Rattle.irtext_outcomes.specs.Promises.Section.{IsStarved}
+use Rattle.irtext_outcomes.specs.Readers.Streams.{itself, replaced}
+use Rattle.irtext_outcomes.proofs.Readers.Answered.{answered}
+use Rattle.irtext_parse_heads.specs.Named.{Leaves}
+use Rattle.irtext_parse_nested.specs.Items.{Names, Acts}
+use Rattle.irtext_parse_nested.specs.Read.{enters_of, Demands, BeginsRegion, RefusesRegion, not_isolated, no_brace}
+use Rattle.irtext_parse_nested.specs.declared.frame.BegunRegion.{BegunRegion}
+use Rattle.irtext_parse_nested.proofs.Ended.{within_honest}
+use Rattle.irtext_parse_nested.proofs.Faults.{must_demand}
+use Rattle.irtext_parse_root.proofs.Unplaced.{alone_stands, alone_there}
+use Rattle.irtext_parse_nested.proofs.Standing.{stands_on}
+
+-- the first brace, with white space behind it
+abbrev brace_at : Reader (Unit {0})
+brace_at = word (codes "{") ▷ space_at
+
+marks_same : (iso : Bool) (st : State) → (history.entered iso st).marks ≡ st.marks
+marks_same true st = refl
+marks_same false st = refl
+
+module _ {T A U : Type 0} (types_at : Reader T) (attr : Reader (AttrView A)) (iso : Bool) (before : Names) (old : StateStream T A U) where
+  module _ (names : Names) (mid : StateStream T A U) (r : Ptr Region) (takes : Takes (enter iso) (history.entered iso) before names old.state.ctx.now.graph)
+      (makes : MakesRegion old.state.ctx.now.graph mid.state.ctx.now.graph r) (with_it : mid.state.ctx.now ≡ with_graph old.state.ctx.now mid.state.ctx.now.graph) (tied : AreTied names.values names.labels old.state.ctx.now.graph)
+      (marks : marks_of mid.state ≡ marks_of old.state) (same : mid.stream ≡ old.stream) where
+    -- it is entered, and made
+    acts_entered : Acts (enters_of types_at attr iso old) before old.state [] names mid.state []
+    acts_entered = record {
+      so = λ path items more o h. alone_stands old.state.ctx.now mid.state.ctx.now r makes with_it names old.state mid.state refl refl marks tied
+          (stands_on before names old.state old.state (enter iso) (history.entered iso) takes (marks_same iso) refl refl h);
+    }
+
+    -- no brace stands there
+    pub alone_unbraced : (f : ParseFault A) (v : StreamView) → old.stream.failed ≡ false → MustRead {Y = Unit {0}} itself replaced (λ u. u) brace_at mid.stream (Err f) v → UnlessMemory (RefusesRegion types_at attr iso before old) f
+    alone_unbraced f v fine h = elim (must_demand alone brace_at (within_honest (◌then◌ (honest_word (codes "{")) honest_space)) (ap (λ s. s.failed) same ∙ fine) h) [
+      | inl s ↦ inl s
+      | inr d ↦ inr (no_brace names mid acts_entered (subst (λ s. Demands (whole s) (brace_at s.rest) s.rest f) same d))
+    ]
+
+    -- its brace was read
+    pub alone_braced : (b : BegunRegion) (new : StateStream T A U) → new.state ≡ mid.state → MustRead {A = A} itself replaced (λ u. u) brace_at mid.stream (Ok tt) new.stream → b.region ≡ r → b.isolated ≡ iso → Leaves (whole old.stream) b.at (length old.stream.rest)
+        → BeginsRegion types_at attr iso b before old names new
+    alone_braced b new state h region isolated placed =
+        let a = answered (subst (λ s. MustRead {A = A} itself replaced (λ u. u) brace_at s (Ok tt) new.stream) same h) in
+        record {
+          taken = a.taken;
+          read = a.is;
+          moves = record { taken = a.taken; takes = a.takes };
+          region = record {
+            is_isolated = isolated;
+            placed = placed;
+            stands = rw (state, region) (alone_there old.state.ctx.now mid.state.ctx.now r makes with_it);
+          };
+          acts = subst (λ z. Acts (enters_of types_at attr iso old) before old.state [] names z []) (sym state) acts_entered;
+        }

@@ -1,0 +1,71 @@
+-- What is told of items is what they do, in each way of doing; and what was told before stays behind what is told.
+use Rattle.std.proofs.Common.{◌≡◌, ◌∙◌, ℕ, List, [], ◌∷◌, ◌++◌, Option, refl, sym, ap}
+use Rattle.irtext_base.specs.Text.{Text}
+use Rattle.irtext_base.specs.Faults.{Fault}
+use Rattle.irtext_base.specs.Answers.{Outcome}
+use Rattle.irtext_base.specs.Locations.{AttrView}
+use Rattle.irtext_context.specs.Dialects.{Table}
+use Rattle.irtext_nesting.specs.Reached.{Came, Stuck, Doing, Reads}
+use Rattle.irtext_nesting.specs.Resume.{Open, Goes, StuckAt, whole}
+use Rattle.irtext_nesting.specs.Both.{seen_as}
+use Rattle.irtext_nesting.proofs.Seen.{Shows, seen_whole}
+use Rattle.irtext_parse_root.specs.Told.{Did, did_use, did_late, did_enter, did_leave, did_close, did_mark, did_head, told, one_done, all_done}
+
+module _ {T A S : Type 0} (does : Doing T A S) where
+  -- what is told is done
+  pub tells_does : (s : S) → Shows (λ ds. all_done does ds s) told does
+  tells_does s = record {
+    uses = λ place id parts ds. refl;
+    late = λ place id piece ds. refl;
+    enters = λ iso ds. refl;
+    leaves = λ iso place ds. refl;
+    closes = λ place names id parts ds. refl;
+    marks = λ mark ds. refl;
+    heads = λ head ds. refl;
+  }
+
+  -- one thing after another
+  pub done_both : (ds es : List (Did T A)) (s : S) → all_done does (ds ++ es) s ≡ all_done does ds (all_done does es s)
+  done_both [] es s = refl
+  done_both (d ∷ ds) es s = ap (one_done does d) (done_both ds es s)
+
+-- what was told stays behind
+pub tells_behind : {T A : Type 0} (es : List (Did T A)) → Shows {T = T} {A = A} (λ ds. ds ++ es) told told
+tells_behind es = record {
+  uses = λ place id parts ds. refl;
+  late = λ place id piece ds. refl;
+  enters = λ iso ds. refl;
+  leaves = λ iso place ds. refl;
+  closes = λ place names id parts ds. refl;
+  marks = λ mark ds. refl;
+  heads = λ head ds. refl;
+}
+
+module _ {T A : Type 0} {dialects : List (Text × Table)} {types_at : Text → Outcome T} {attr : Text → Outcome (AttrView A)} {next : Option (Open T A)} {frames : List (Open T A)} {text : Text} where
+  -- where what is told leads, each way of doing leads
+  pub goes_told : {S : Type 0} (does : Doing T A S) {next' : Option (Open T A)} {frames' : List (Open T A)} {text' : Text} {did : List (Did T A)}
+      → Goes dialects types_at attr told next frames [] text next' frames' did text' → (s : S) → Goes dialects types_at attr does next frames s text next' frames' (all_done does did s) text'
+  goes_told does {next'} {frames'} {text'} {did} g s = record {
+    so = sym (seen_whole dialects types_at attr (λ ds. all_done does ds s) told does (tells_does does s) next frames [] text)
+        ∙ (ap (seen_as (λ ds. all_done does ds s)) g.so ∙ seen_whole dialects types_at attr (λ ds. all_done does ds s) told does (tells_does does s) next' frames' did text');
+  }
+
+  pub stuck_told : {S : Type 0} (does : Doing T A S) {did : List (Did T A)} {cause : Fault} {place : ℕ}
+      → StuckAt dialects types_at attr told next frames [] text did cause place → (s : S) → StuckAt dialects types_at attr does next frames s text (all_done does did s) cause place
+  stuck_told does g s = record {
+    so = sym (seen_whole dialects types_at attr (λ ds. all_done does ds s) told does (tells_does does s) next frames [] text) ∙ ap (seen_as (λ ds. all_done does ds s)) g.so;
+  }
+
+  -- the same with what was told before
+  pub goes_behind : {next' : Option (Open T A)} {frames' : List (Open T A)} {text' : Text} {did : List (Did T A)}
+      → Goes dialects types_at attr told next frames [] text next' frames' did text' → (es : List (Did T A)) → Goes dialects types_at attr told next frames es text next' frames' (did ++ es) text'
+  goes_behind {next'} {frames'} {text'} {did} g es = record {
+    so = sym (seen_whole dialects types_at attr (λ ds. ds ++ es) told told (tells_behind es) next frames [] text)
+        ∙ (ap (seen_as (λ ds. ds ++ es)) g.so ∙ seen_whole dialects types_at attr (λ ds. ds ++ es) told told (tells_behind es) next' frames' did text');
+  }
+
+  pub stuck_behind : {did : List (Did T A)} {cause : Fault} {place : ℕ}
+      → StuckAt dialects types_at attr told next frames [] text did cause place → (es : List (Did T A)) → StuckAt dialects types_at attr told next frames es text (did ++ es) cause place
+  stuck_behind g es = record {
+    so = sym (seen_whole dialects types_at attr (λ ds. ds ++ es) told told (tells_behind es) next frames [] text) ∙ ap (seen_as (λ ds. ds ++ es)) g.so;
+  }

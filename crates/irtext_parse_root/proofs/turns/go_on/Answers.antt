@@ -1,0 +1,33 @@
+use Rattle.std.proofs.Common.{◌≡◌, true, Option, Some, None, slice_get}
+use Rattle.irtext_base.specs.Faults.{id_of}
+use Rattle.irtext_read.specs.AttrTexts.{attr_at}
+use Rattle.irtext_nesting.specs.Heads.{Step}
+use Rattle.irtext_nesting.specs.Reached.{steps_in}
+use Rattle.irtext_parse_nested.specs.Later.{IsFlatNext}
+use Rattle.irtext_parse_root.specs.Turns.{IsStep}
+use Rattle.irtext_parse_root.specs.declared.coming.Coming.TheVariants as comes
+use Rattle.irtext_parse_root.proofs.Handing.{goes_given, remains_same}
+use Rattle.irtext_parse_root.proofs.turns.go_on.Goals as goal
+
+flat_here : (o : Option Step) → IsStep comes.Piece o → IsFlatNext o
+flat_here None h = absurd h
+flat_here (Some step) h = h
+
+pub operation_piece-requires-clause-tied : goal.operation_piece-requires-clause-tied
+operation_piece-requires-clause-tied g c = c.requires.sound.sound.tied
+
+pub operation_piece-requires-clause-step : goal.operation_piece-requires-clause-step
+operation_piece-requires-clause-step g c = flat_here (slice_get (steps_in c.args.s.now.state.ctx.now.dialects (id_of c.args.begun.now.id)) c.args.begun.now.step) c.requires.step
+
+pub returns-clause-goes_on : goal.returns-clause-goes_on
+returns-clause-goes_on g c =
+    let e = c.operation_piece.ensures in
+    goes_given g.T.IrText.reading (attr_at g.A.IrText.reading) c.args.names.now c.args.s.now c.operation_piece.new.names c.operation_piece.new.s e.rest c.args.begun.now c.operation_piece.new.begun c.operation_piece.result e.names e.values e.labels e.marks e.moves e.goes_on e.spares e.lasts e.sound
+
+pub returns-clause-remains : goal.returns-clause-remains
+returns-clause-remains g c =
+    let e = c.operation_piece.ensures in
+    remains_same g.T.IrText.reading (attr_at g.A.IrText.reading) c.args.names.now c.args.s.now c.operation_piece.new.names c.operation_piece.new.s e.rest c.operation_piece.result e.marks
+
+pub returns-clause-kept : goal.returns-clause-kept
+returns-clause-kept g c m le closed sound new = c.operation_piece.ensures.kept m le new

@@ -1,0 +1,75 @@
+-- Between functions: that what is open in code is what is open in theory, each thing in what holds it.
+use Rattle.std.specs.Prelude.{◌≡◌, ◌+◌, ◌<◌, ℕ, Bool, List, [], ◌∷◌, length, Option, Some, None, ⊤}
+use Rattle.irtext_base.specs.Text.{Text}
+use Rattle.irtext_context.specs.Context.{ContextView}
+use Rattle.irtext_graph.specs.declared.arena.Ptr.{Ptr}
+use Rattle.irtext_graph.specs.declared.object.Operation.{Operation}
+use Rattle.irtext_graph.specs.declared.object.Region.{Region}
+use Rattle.irtext_graph.specs.declared.object.BasicBlock.{BasicBlock}
+use Rattle.irtext_context.specs.Dialects.{Table}
+use Rattle.irtext_grammar.specs.Contexts.Formats.{format_of, isolated}
+use Rattle.irtext_parse_nested.specs.Beginning.{HasBegun}
+use Rattle.irtext_parse_nested.specs.Begun.{IsBegun, IsRegion, IsBlock}
+use Rattle.irtext_parse_nested.specs.Items.{Names}
+use Rattle.irtext_parse_root.specs.declared.frames.Frame.{Frame}
+use Rattle.irtext_parse_root.specs.Levels.{Level, at_operation, at_region, at_block, first_frame, WaitIn, isolated_in, regions_in}
+
+-- What is read: an operation that stands outside of each region, which came under this pointer; or the region under this one.
+pub data Base : Type 0 where
+  outermost : Ptr Operation → Base
+  within : Ptr Region → Base
+
+module _ {T A : Type 0} (names : List Text) (text : Text) (ctx : ContextView T A) where
+  -- one thing that is open is, in code, what it is in theory
+  abbrev pub IsLevel : Level T A → Type 0
+  IsLevel (at_operation b o own) = IsBegun names text ctx b o × HasBegun (format_of ctx.dialects) o own
+  IsLevel (at_region r iso place last) = IsRegion names text ctx r iso place
+  IsLevel (at_block b) = IsBlock names text ctx b b.first
+
+  -- so is each of them
+  abbrev pub AreLevels : List (Level T A) → Type 0
+  AreLevels [] = ⊤
+  AreLevels (l ∷ ls) = IsLevel l × AreLevels ls
+
+module _ {T A : Type 0} (base : Base) where
+  -- an operation stands in the block that is open, or is what is read
+  abbrev pub StandsInBlock : Ptr Operation → List (Level T A) → Type 0
+  StandsInBlock p [] = base ≡ outermost p
+  StandsInBlock p (at_block k ∷ ls) = ⊤
+  StandsInBlock p (_ ∷ ls) = ⊥
+
+  -- a region stands in the operation that is open, which is isolated or not, or is what is read
+  abbrev pub StandsInOperation : List (Text × Table) → Ptr Region → Bool → List (Level T A) → Type 0
+  StandsInOperation dialects r iso [] = base ≡ within r
+  StandsInOperation dialects r iso (at_operation b o own ∷ ls) = iso ≡ isolated dialects o.id
+  StandsInOperation dialects r iso (_ ∷ ls) = ⊥
+
+  -- a block is the last of the region that is open
+  abbrev pub StandsInRegion : Ptr BasicBlock → List (Level T A) → Type 0
+  StandsInRegion k (at_region r iso place last ∷ ls) = last ≡ Some k
+  StandsInRegion k _ = ⊥
+
+  -- each thing that is open stands in the next one, and a scope of values is open in each region, where so many were open outside
+  abbrev pub Nest : List (Text × Table) → ℕ → List (Level T A) → Type 0
+  Nest dialects v [] = ⊤
+  Nest dialects v (at_operation b o own ∷ ls) = StandsInBlock b.op ls × Nest dialects v ls
+  Nest dialects v (at_region r iso place last ∷ ls) = StandsInOperation dialects r.region iso ls × (0 < isolated_in (at_region r iso place last ∷ ls) + v) × Nest dialects v ls
+  Nest dialects v (at_block b ∷ ls) = StandsInRegion b.block ls × Nest dialects v ls
+
+  -- The frame that is next and those that wait are what is open, the innermost first, where so many scopes of values and of labels were
+  -- open outside.
+  pub record IsHere (v l : ℕ) (ls : List (Level T A)) (names : Names) (text : Text) (ctx : ContextView T A) (next : Option Frame) (frames : List Frame) : Type 0 where
+    pub next_is : next ≡ first_frame ls
+    pub others : WaitIn frames ls
+    pub levels : AreLevels names.names text ctx ls
+    pub nest : Nest ctx.dialects v ls
+    pub values : length names.values ≡ isolated_in ls + v
+    pub labels : length names.labels ≡ regions_in ls + l
+
+-- The frames are what is open somewhere.
+pub record AreHere (T A : Type 0) (text : Text) (ctx : ContextView T A) (names : Names) (next : Option Frame) (frames : List Frame) : Type 0 where
+  pub base : Base
+  pub v : ℕ
+  pub l : ℕ
+  pub ls : List (Level T A)
+  pub here : IsHere base v l ls names text ctx next frames

@@ -1,0 +1,58 @@
+-- What the reading of an operation with all that nests in it promises: the tree that was built, what names came to, and what the context holds;
+-- or the first fault in the order of reading.
+use Rattle.std.specs.Prelude.{◌≡◌, ℕ, true, List, [], ◌++◌, length, Some}
+use Rattle.irtext_base.specs.Text.{Text}
+use Rattle.irtext_base.specs.Faults.{Fault}
+use Rattle.irtext_base.specs.Locations.{AttrView}
+use Rattle.irtext_base.specs.declared.parsable.fault.ParseFault.{ParseFault}
+use Rattle.irtext_context.specs.declared.base.item.Item.{Item}
+use Rattle.irtext_graph.specs.declared.arena.Ptr.{Ptr}
+use Rattle.irtext_graph.specs.declared.object.Operation.{Operation}
+use Rattle.irtext_graph.specs.declared.object.Object.{Object}
+use Rattle.irtext_read.specs.Infix.{Reader}
+use Rattle.irtext_state.specs.States.{marks_of}
+use Rattle.irtext_state.specs.declared.parsable.state.StateStream.{StateStream}
+use Rattle.irtext_grammar.specs.Contexts.Formats.{format_of}
+use Rattle.irtext_grammar.specs.Contexts.Held.{whole}
+use Rattle.irtext_grammar.specs.Grammar.Tree.{Tree}
+use Rattle.irtext_grammar.specs.Names.History.{Outcome, State, going, failed}
+use Rattle.irtext_grammar.specs.Names.Script.{Path}
+use Rattle.irtext_grammar.specs.Names.TextScopes.{Failure}
+use Rattle.irtext_outcomes.specs.Promises.Section.{Moves}
+use Rattle.irtext_outcomes.specs.Promises.Supported.{is_committed}
+use Rattle.irtext_nesting.specs.Heads.{led_at}
+use Rattle.irtext_nesting.specs.Reached.{Came, Stuck, operation_at}
+use Rattle.irtext_nesting.specs.Resume.{EndsIn}
+use Rattle.irtext_nesting.specs.Building.{building, nothing_open, finished}
+use Rattle.irtext_nesting.specs.Tracks.{HoldsMade}
+use Rattle.irtext_parse_nested.specs.Items.{Names, Made, StandsAs, IsFailure, IsTextFault, doing}
+use Rattle.irtext_parse_nested.specs.Located.{IsLocated}
+use Rattle.irtext_parse_root.specs.Carried.{marks_in, AreCarried, Falls}
+
+module _ {T A U : Type 0} (types_at : Reader T) (attr : Reader (AttrView A)) where
+  -- An operation was read with all that nests in it, up to where the stream stands now: this tree was built of it, names came to where the
+  -- machine stands that does what is read, the context holds the tree under the pointer, and the marks that were noted are those of the
+  -- tree, each with the item that was made for its place, one item a place.
+  pub record ReadsNested (before : Names) (old : StateStream T A U) (p : Ptr Operation) (names : Names) (new : StateStream T A U) : Type 0 where
+    pub tree : Tree ℕ T A
+    pub moves : Moves old.stream new.stream
+    pub builds : operation_at old.state.ctx.now.dialects types_at attr (building (format_of old.state.ctx.now.dialects)) true old.stream.rest nothing_open ≡ Came tt (finished tree) new.stream.rest
+    pub made : Made
+    pub runs : (path : ℕ → Path) (items : Made) (o : Outcome) → StandsAs path items [] before old.state o
+        → (z : Outcome) × StandsAs path (made ++ items) [] names new.state z × (operation_at old.state.ctx.now.dialects types_at attr (doing old.state.ctx.now.dialects path) true old.stream.rest o ≡ Came tt z new.stream.rest)
+    pub objects : List Object
+    pub holds : HoldsMade (IsLocated old.state.src (whole old.stream)) old.state.ctx.now new.state.ctx.now made objects [] (Some p) (finished tree)
+    pub falls : Falls (length old.stream.rest) made (length new.stream.rest)
+    pub marks : List (ℕ × Item)
+    pub noted : marks_of new.state ≡ marks_of old.state ++ marks
+    pub carried : AreCarried made (marks_in tree) marks
+
+  -- The fault is the first in the order of reading: the text is at fault, where all that names had come to had not failed; or what they come
+  -- to fails so. It is committed, unless it is of the text and no operation begins there.
+  pub data RefusesNested (before : Names) (old : StateStream T A U) (fault : ParseFault A) : Type 0 where
+    at_text : (cause : Fault) (place : ℕ) → IsTextFault (whole old.stream) cause place fault → fault.committed ≡ is_committed (led_at old.state.ctx.now.dialects old.stream.rest)
+        → ((path : ℕ → Path) (items : Made) (o : Outcome) → StandsAs path items [] before old.state o
+        → (st : State) × (operation_at old.state.ctx.now.dialects types_at attr (doing old.state.ctx.now.dialects path) true old.stream.rest o ≡ Stuck (going st) cause place)) → RefusesNested before old fault
+    by_names : (failure : Failure) → IsFailure (whole old.stream) failure fault
+        → ((path : ℕ → Path) (items : Made) (o : Outcome) → StandsAs path items [] before old.state o
+        → EndsIn (failed failure) (operation_at old.state.ctx.now.dialects types_at attr (doing old.state.ctx.now.dialects path) true old.stream.rest o)) → RefusesNested before old fault

@@ -1,0 +1,136 @@
+-- Between functions: what each turn gives the loop: what was read, what names came to, and what came to the context.
+use Rattle.std.specs.Prelude.{◌≡◌, ◌≤◌, ◌⊎◌, ℕ, Bool, true, List, [], ◌∷◌, ◌++◌, length, map, Option, Some, None, slice_get, ⊤}
+use Rattle.irtext_base.specs.Text.{Text}
+use Rattle.irtext_base.specs.Answers.{Read}
+use Rattle.irtext_base.specs.Faults.{id_of}
+use Rattle.irtext_base.specs.Locations.{AttrView}
+use Rattle.irtext_context.specs.Context.{ContextView, OperationView, operation}
+use Rattle.irtext_context.specs.Dialects.{Table}
+use Rattle.irtext_context.specs.declared.base.item.Item.TheVariants as item
+use Rattle.irtext_graph.specs.declared.arena.Ptr.{Ptr}
+use Rattle.irtext_graph.specs.declared.object.BasicBlock.{BasicBlock}
+use Rattle.irtext_graph.specs.declared.object.Operation.{Operation}
+use Rattle.irtext_graph.specs.declared.object.Region.{Region}
+use Rattle.irtext_graph.specs.declared.object.Object.TheVariants.{TheOperation, TheBlock, TheRegion}
+use Rattle.irtext_graph.specs.Graph.{IsNew}
+use Rattle.irtext_read.specs.Infix.{Reader, ◌▷◌}
+use Rattle.irtext_scopes.specs.Tracker.{entered, left}
+use Rattle.irtext_scopes.specs.Scopes.{is_open, outer}
+use Rattle.irtext_read.specs.Tokens.{space_at}
+use Rattle.irtext_state.specs.States.{marks_of}
+use Rattle.irtext_state.specs.declared.parsable.state.StateStream.{StateStream}
+use Rattle.irtext_grammar.specs.Contexts.Formats.{format_of, isolated}
+use Rattle.irtext_grammar.specs.Contexts.Held.{whole}
+use Rattle.irtext_grammar.specs.Grammar.Tree as tree
+use Rattle.irtext_grammar.specs.Grammar.Tree.{Mark, Piece}
+use Rattle.irtext_grammar.specs.Graphs.Build.{put_all, stored, read_names}
+use Rattle.irtext_nesting.specs.Heads.{Step, one, all, mark_if_at}
+use Rattle.irtext_nesting.specs.Reached.{steps_in}
+use Rattle.irtext_nesting.specs.Resume.{Begun, with_steps, is_flat}
+use Rattle.irtext_nesting.specs.Grows.{RegionCame, OperationGains, RegionGains, BlockCame, OwnBecame}
+use Rattle.irtext_nesting.specs.Stands.{OwnSoFar, HasOwn, HasUses, Spares}
+use Rattle.irtext_parse_nested.specs.declared.frame.BegunOperation.{BegunOperation}
+use Rattle.irtext_parse_nested.specs.declared.frame.BegunRegion.{BegunRegion}
+use Rattle.irtext_parse_nested.specs.declared.frame.BegunBlock.{BegunBlock}
+use Rattle.irtext_parse_nested.specs.Beginning.{HasBegun, ComesInto}
+use Rattle.irtext_parse_nested.specs.Begun.{IsBegun, IsRegion}
+use Rattle.irtext_parse_nested.specs.Ends.{noted_as}
+use Rattle.irtext_parse_nested.specs.Items.{Names}
+use Rattle.irtext_parse_nested.specs.Located.{IsLocated}
+use Rattle.irtext_parse_nested.specs.Read.{begun_by, BeginsOperation, ReadsPiece, EndsOperation, BeginsRegion, EndsRegion, BeginsBlock}
+use Rattle.irtext_parse_root.specs.Turned.{Carries}
+use Rattle.irtext_parse_root.specs.declared.coming.Coming.{Coming}
+use Rattle.irtext_parse_root.specs.declared.coming.Coming.TheVariants as comes
+
+-- ---- which turn it is
+-- the step that comes is of this kind
+abbrev pub IsStep : Coming → Option Step → Type 0
+IsStep comes.Piece (Some step) = is_flat step ≡ true
+IsStep comes.Region (Some step) = (i : ℕ) × (step ≡ one i)
+IsStep comes.Regions (Some step) = step ≡ all
+IsStep comes.End None = ⊤
+IsStep _ _ = ⊥
+
+-- the step that comes next in an operation that is open is of this kind
+abbrev pub IsNext : List (Text × Table) → BegunOperation → Coming → Type 0
+IsNext dialects b c = IsStep c (slice_get (steps_in dialects (id_of b.id)) b.step)
+
+-- ---- what the turns give
+-- as many scopes are open
+pub record SameDepth (before names : Names) : Type 0 where
+  pub values : length names.values ≡ length before.values
+  pub labels : length names.labels ≡ length before.labels
+
+module _ {T A U : Type 0} where
+  module _ (types_at : Reader T) (attr : Reader (AttrView A)) (before : Names) (old : StateStream T A U) where
+    -- an operation was begun, outside of each region or in a block
+    pub record Begins (block : Option (Ptr BasicBlock)) (b : BegunOperation) (names : Names) (new : StateStream T A U) : Type 0 where
+      pub begins : BeginsOperation types_at attr true before old b names new
+      pub own : OwnSoFar T A
+      pub has : HasBegun (format_of old.state.ctx.now.dialects) (begun_by types_at attr true old new.stream.rest begins.read) own
+      pub comes : ComesInto (IsLocated old.state.src (whole old.stream)) old.state.ctx.now new.state.ctx.now b.op own block
+      pub marks : marks_of new.state ≡ marks_of old.state
+      pub carries : Carries before old names new
+      pub depth : SameDepth before names
+      pub fresh : (m : ℕ) → m ≤ old.state.ctx.now.graph.made → IsNew m new.state.ctx.now.graph (TheOperation b.op)
+
+    -- a piece behind a region was read, by the next step of an operation that is open
+    pub record Continues (b : BegunOperation) (next : BegunOperation) (names : Names) (new : StateStream T A U) : Type 0 where
+      pub op : next.op ≡ b.op
+      pub results : next.results ≡ b.results
+      pub inside : next.inside ≡ b.inside
+      pub reads : (o : Begun T A) (step : Step) (ss : List Step) → IsBegun before.names (whole old.stream) old.state.ctx.now b o → o.steps ≡ step ∷ ss
+          → (r : ReadsPiece types_at attr o step b before old names new)
+          × IsBegun names.names (whole old.stream) new.state.ctx.now next (with_steps o ss (o.parts ++ tree.piece r.piece ∷ []))
+          × ((own : OwnSoFar T A) → HasBegun (format_of old.state.ctx.now.dialects) o own
+          → HasBegun (format_of old.state.ctx.now.dialects) (with_steps o ss (o.parts ++ tree.piece r.piece ∷ [])) (record own { entries = put_all own.entries (stored r.piece) })
+          × ((view : OperationView T A) → operation old.state.ctx.now b.op ≡ Some view → HasOwn (IsLocated old.state.src (whole old.stream)) view own → HasUses old.state.ctx.now b.op own
+          → OwnBecame old.state.ctx.now new.state.ctx.now (IsLocated old.state.src (whole old.stream)) b.op (record own { entries = put_all own.entries (stored r.piece) })))
+      pub spares : Spares (TheOperation b.op ∷ []) old.state.ctx.now new.state.ctx.now
+      pub marks : marks_of new.state ≡ marks_of old.state
+      pub carries : Carries before old names new
+      pub depth : SameDepth before names
+
+    -- an operation was ended
+    pub record Ends (b : BegunOperation) (names : Names) (new : StateStream T A U) : Type 0 where
+      pub ends : (o : Begun T A) → IsBegun before.names (whole old.stream) old.state.ctx.now b o
+          → EndsOperation types_at attr o b before old names new
+          × ((own : OwnSoFar T A) (view : OperationView T A) → operation old.state.ctx.now b.op ≡ Some view → HasOwn (IsLocated old.state.src (whole old.stream)) view own → HasUses old.state.ctx.now b.op own
+          → OwnBecame old.state.ctx.now new.state.ctx.now (IsLocated old.state.src (whole old.stream)) b.op (record own { entries = put_all own.entries (read_names (map (λ n. n.text) o.names)) }))
+      pub spares : Spares (TheOperation b.op ∷ []) old.state.ctx.now new.state.ctx.now
+      pub noted : (mark : Option (Mark ℕ)) (taken : Text) → (space_at ▷ mark_if_at) old.stream.rest ≡ Read mark taken new.stream.rest
+          → marks_of new.state ≡ marks_of old.state ++ noted_as mark (item.Operation b.op)
+      pub carries : Carries before old names new
+      pub depth : SameDepth before names
+
+    -- a region was begun in an operation
+    pub record Enters (op : Ptr Operation) (iso : Bool) (r : BegunRegion) (names : Names) (new : StateStream T A U) : Type 0 where
+      pub begins : BeginsRegion types_at attr iso r before old names new
+      pub came : RegionCame old.state.ctx.now new.state.ctx.now r.region
+      pub gains : OperationGains old.state.ctx.now new.state.ctx.now op r.region
+      pub spares : Spares (TheRegion r.region ∷ TheOperation op ∷ []) old.state.ctx.now new.state.ctx.now
+      pub marks : marks_of new.state ≡ marks_of old.state
+      pub carries : Carries before old names new
+      pub values : names.values ≡ entered iso before.values
+      pub labels : names.labels ≡ [] ∷ before.labels
+      pub is_in : is_open names.values ≡ true
+      pub fresh : (m : ℕ) → m ≤ old.state.ctx.now.graph.made → IsNew m new.state.ctx.now.graph (TheRegion r.region)
+
+    -- a region was ended
+    pub record Leaves (r : BegunRegion) (names : Names) (new : StateStream T A U) : Type 0 where
+      pub ends : (place : ℕ) → IsRegion before.names (whole old.stream) old.state.ctx.now r r.isolated place → EndsRegion types_at attr r.isolated place before old names new
+      pub state : new.state ≡ old.state
+      pub carries : Carries before old names new
+      pub values : names.values ≡ left r.isolated before.values
+      pub labels : names.labels ≡ outer before.labels
+
+    -- a block was begun in a region
+    pub record Heads (region : Ptr Region) (b : BegunBlock) (names : Names) (new : StateStream T A U) : Type 0 where
+      pub begins : BeginsBlock types_at attr b before old names new
+      pub came : BlockCame old.state.ctx.now new.state.ctx.now (IsLocated old.state.src (whole old.stream)) b.block begins.head
+      pub gains : RegionGains old.state.ctx.now new.state.ctx.now region b.block
+      pub spares : Spares (TheBlock b.block ∷ TheRegion region ∷ []) old.state.ctx.now new.state.ctx.now
+      pub noted : marks_of new.state ≡ marks_of old.state ++ noted_as begins.head.mark (item.Block b.block)
+      pub carries : Carries before old names new
+      pub depth : SameDepth before names
+      pub fresh : (m : ℕ) → m ≤ old.state.ctx.now.graph.made → IsNew m new.state.ctx.now.graph (TheBlock b.block)

@@ -1,0 +1,84 @@
+-- What the reading of one region under an operation that stands promises: what was done as its text was read, what names came to, and what
+-- the context holds of it; or why it was refused.
+use Rattle.std.specs.Prelude.{◌≡◌, ◌≤◌, ℕ, Bool, true, false, List, [], ◌∷◌, ◌++◌, length, Some, codes}
+use Rattle.irtext_base.specs.Text.{Text}
+use Rattle.irtext_base.specs.Faults.{Fault, Unexpected, Word, fault_of, id_of}
+use Rattle.irtext_base.specs.Faults as causes
+use Rattle.irtext_base.specs.Stream.{IsAt, first_of}
+use Rattle.irtext_base.specs.Locations.{AttrView}
+use Rattle.irtext_base.specs.declared.location.Location.{Location, SrcPos}
+use Rattle.irtext_base.specs.declared.parsable.fault.ParseFault.{ParseFault}
+use Rattle.irtext_stream.specs.declared.position.SourcePosition.{SourcePosition}
+use Rattle.irtext_context.specs.Context.{ContextView, OperationView, operation, with_graph, KeepsOlder}
+use Rattle.irtext_context.specs.declared.base.item.Item.{Item}
+use Rattle.irtext_graph.specs.Back.{IsClosedBelow}
+use Rattle.irtext_graph.specs.Graph.{Appends}
+use Rattle.irtext_graph.specs.declared.arena.Ptr.{Ptr}
+use Rattle.irtext_graph.specs.declared.object.Operation.{Operation}
+use Rattle.irtext_graph.specs.declared.object.Region.{Region}
+use Rattle.irtext_graph.specs.declared.object.Object.TheVariants.{TheOperation, TheRegion}
+use Rattle.irtext_read.specs.Infix.{Reader}
+use Rattle.irtext_scopes.specs.Scopes.{is_open}
+use Rattle.irtext_state.specs.States.{marks_of}
+use Rattle.irtext_state.specs.declared.parsable.state.StateStream.{StateStream}
+use Rattle.irtext_grammar.specs.Contexts.Formats.{format_of, isolated}
+use Rattle.irtext_grammar.specs.Contexts.Held.{whole}
+use Rattle.irtext_grammar.specs.Names.History.{Outcome, State, going, failed}
+use Rattle.irtext_grammar.specs.Names.Script.{Path}
+use Rattle.irtext_grammar.specs.Names.TextScopes.{Failure}
+use Rattle.irtext_outcomes.specs.Promises.Section.{Moves}
+use Rattle.irtext_nesting.specs.Reached.{Came, Stuck, begins_region, region_at}
+use Rattle.irtext_nesting.specs.Resume.{EndsIn}
+use Rattle.irtext_parse_nested.specs.Items.{Names, Made, StandsAs, IsFailure, IsTextFault, IsSound, doing}
+use Rattle.irtext_parse_nested.specs.Located.{IsLocated}
+use Rattle.irtext_parse_root.specs.Built.{HoldsRegion}
+use Rattle.irtext_parse_root.specs.Carried.{Falls}
+use Rattle.irtext_parse_root.specs.Here.{within}
+use Rattle.irtext_parse_root.specs.Told.{Did, did_enter, told}
+
+-- the operation is isolated from above, or not
+abbrev pub IsolatedAs : {T A : Type 0} → ContextView T A → Ptr Operation → Bool → Type 0
+IsolatedAs {T} {A} c op iso = (view : OperationView T A) → operation c op ≡ Some view → iso ≡ isolated c.dialects (id_of view.id)
+
+-- the position is that of the location, where it is a place of a source, or else the beginning of the text
+abbrev pub IsPositionOf : {A : Type 0} → Location A → SourcePosition → Type 0
+IsPositionOf (SrcPos source position) at = at ≡ position
+IsPositionOf _ at = IsAt at.line at.column []
+
+module _ {T A U : Type 0} (types_at : Reader T) (attr : Reader (AttrView A)) where
+  -- A region was read up to where the stream stands now, and came last into the operation: this was done as it was read, names came to
+  -- where the machine stands that does it, and before the region came there, the context held it whole, with its marks, and all that was
+  -- older stood as it did; and names wait with placeholders alone.
+  pub record ReadsUnder (op : Ptr Operation) (before : Names) (old : StateStream T A U) (r : Ptr Region) (names : Names) (new : StateStream T A U) : Type 0 where
+    pub iso : Bool
+    pub isolation : IsolatedAs old.state.ctx.now op iso
+    pub moves : Moves old.stream new.stream
+    pub did : List (Did T A)
+    pub tells : region_at old.state.ctx.now.dialects types_at attr told iso old.stream.rest [] ≡ Came tt (did ++ did_enter iso ∷ []) new.stream.rest
+    pub made : Made
+    pub mid : StateStream T A U
+    pub runs : (path : ℕ → Path) (items : Made) (o : Outcome) → StandsAs path items [] before old.state o
+        → (z : Outcome) × StandsAs path (made ++ items) [] names mid.state z × (region_at old.state.ctx.now.dialects types_at attr (doing old.state.ctx.now.dialects path) iso old.stream.rest o ≡ Came tt z new.stream.rest)
+    pub falls : Falls (length old.stream.rest) made (length new.stream.rest)
+    pub marks : List (ℕ × Item)
+    pub noted : marks_of new.state ≡ marks_of old.state ++ marks
+    pub holds : HoldsRegion (format_of old.state.ctx.now.dialects) (IsLocated old.state.src (whole old.stream)) (within r) old.state.ctx.now mid.state.ctx.now made marks r did
+    pub sound : (m : ℕ) → m ≤ old.state.ctx.now.graph.made → IsSound m before old.state → IsSound m names mid.state
+    pub older : (m : ℕ) → m ≤ old.state.ctx.now.graph.made → IsClosedBelow m old.state.ctx.now.graph → IsSound m before old.state → KeepsOlder m old.state.ctx.now mid.state.ctx.now
+    pub places : Appends mid.state.ctx.now.graph new.state.ctx.now.graph (TheOperation op) (TheRegion r)
+    pub with_it : new.state.ctx.now ≡ with_graph mid.state.ctx.now new.state.ctx.now.graph
+
+  -- The operation is not isolated, and no scope of values is open; or no region begins there, and nothing was read; or the fault is the
+  -- first in the order of reading, and committed: the text is at fault, where all that names had come to had not failed, or what they come
+  -- to fails so.
+  pub data RefusesUnder (op : Ptr Operation) (before : Names) (old : StateStream T A U) (fault : ParseFault A) : Type 0 where
+    not_isolated : IsolatedAs old.state.ctx.now op false → is_open before.values ≡ false → fault_of fault.cause ≡ causes.NotIsolated → fault.committed ≡ true
+        → ((view : OperationView T A) → operation old.state.ctx.now op ≡ Some view → IsPositionOf view.loc fault.pos) → RefusesUnder op before old fault
+    no_region : begins_region old.stream.rest ≡ false → fault_of fault.cause ≡ Unexpected (first_of old.stream.rest) (Word (codes "{")) → fault.committed ≡ false → IsAt fault.pos.line fault.pos.column old.stream.passed
+        → RefusesUnder op before old fault
+    at_text : (iso : Bool) (cause : Fault) (place : ℕ) → IsolatedAs old.state.ctx.now op iso → IsTextFault (whole old.stream) cause place fault → fault.committed ≡ true
+        → ((path : ℕ → Path) (items : Made) (o : Outcome) → StandsAs path items [] before old.state o
+        → (st : State) × (region_at old.state.ctx.now.dialects types_at attr (doing old.state.ctx.now.dialects path) iso old.stream.rest o ≡ Stuck (going st) cause place)) → RefusesUnder op before old fault
+    by_names : (iso : Bool) (failure : Failure) → IsolatedAs old.state.ctx.now op iso → IsFailure (whole old.stream) failure fault
+        → ((path : ℕ → Path) (items : Made) (o : Outcome) → StandsAs path items [] before old.state o
+        → EndsIn (failed failure) (region_at old.state.ctx.now.dialects types_at attr (doing old.state.ctx.now.dialects path) iso old.stream.rest o)) → RefusesUnder op before old fault

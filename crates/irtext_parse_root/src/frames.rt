@@ -1,0 +1,66 @@
+//! What is open while nested text is read, from the outermost to the innermost, and what of it waits.
+ghost use Rattle.std.specs.Prelude.{◌≡◌, ◌++◌, ◌∷◌, [], OnOk};
+ghost use Rattle.irtext_parse_root.specs.Turned.{TakesLast};
+
+use irtext_parse_nested::frame::{BegunBlock, BegunOperation, BegunRegion};
+use std::alloc::{AllocError, Global};
+use std::marker::Model;
+
+/// One thing that is open.
+#[derive(Drop)]
+pub enum Frame {
+    Operation(BegunOperation),
+    Region(BegunRegion),
+    Block(BegunBlock),
+}
+
+/// The frames that wait for the innermost one, the outermost first. The outermost stands in place, so one frame takes no memory of its own.
+#[derive(Drop)]
+pub(crate) struct Waiting {
+    outermost: Option<Frame>,
+    // those inside the outermost one
+    inner: Vec<Frame>,
+}
+
+impl Model for Waiting {
+    ghost use Rattle.std.specs.Prelude.{List, ◌++◌, option_to_list};
+    ghost use Rattle.irtext_parse_root.specs.declared.frames.Frame.{Frame};
+
+    ghost Value = { List Frame };
+
+    ghost view = { λ w. option_to_list w.outermost ++ w.inner.items };
+}
+
+impl Waiting {
+    /// No frame waits.
+    pub(crate) fn new(alloc: Global) -> Waiting
+        ensures { result ≡ [] }
+    {
+        Waiting {
+            outermost: None,
+            inner: Vec::new(alloc),
+        }
+    }
+
+    /// Puts a frame behind those that wait. Only a frame inside another takes memory.
+    pub(crate) fn push(&mut self, frame: Frame) -> Result<(), AllocError>
+        ensures { OnOk result (self.new ≡ self.old ++ frame ∷ []) }
+    {
+        if self.outermost.is_none() && self.inner.is_empty() {
+            self.outermost = Some(frame);
+            return Ok(());
+        }
+        self.inner.push(frame)?;
+        Ok(())
+    }
+
+    /// Takes the last of the frames that wait, which is next then.
+    pub(crate) fn pop(&mut self) -> Option<Frame>
+        ensures { TakesLast self.old result self.new }
+    {
+        if let Some(frame) = self.inner.pop() {
+            return Some(frame);
+        }
+        self.outermost.take()
+    }
+}

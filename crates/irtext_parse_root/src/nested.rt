@@ -1,0 +1,50 @@
+//! An operation with all that nests in it.
+ghost use Rattle.std.specs.Prelude.{◌≡◌, ◌≤◌, ℕ, false, IfOk, IfErr, OnOk, OnErr};
+ghost use Rattle.irtext_context.specs.Context.{KeepsOlder};
+ghost use Rattle.irtext_graph.specs.Back.{IsClosedBelow};
+ghost use Rattle.irtext_graph.specs.Graph.{IsNew};
+ghost use Rattle.irtext_graph.specs.declared.object.Object.TheVariants.{TheOperation};
+ghost use Rattle.irtext_read.specs.AttrTexts.{attr_at};
+ghost use Rattle.irtext_scopes.specs.Names.{KeepsNames};
+ghost use Rattle.irtext_outcomes.specs.Promises.Root.{UnlessMemory};
+ghost use Rattle.irtext_outcomes.specs.Readers.Streams.{KeepsRest};
+ghost use Rattle.irtext_parse_nested.specs.Ends.{GainsMarks};
+ghost use Rattle.irtext_state.specs.States.{marks_of};
+ghost use Rattle.irtext_parse_nested.specs.Items.{IsSound};
+ghost use Rattle.irtext_parse_root.specs.Nested.{ReadsNested, RefusesNested};
+ghost use Rattle.irtext_parse_root.specs.Turned.{Carries, IsSoundOnce};
+
+use crate::frames::Frame;
+use crate::items::items_parse;
+use crate::turns::begin;
+use irtext_base::parsable::ParseResult;
+use irtext_base::text::{AttrText, IrText};
+use irtext_context::base::{Operation, Ptr};
+use irtext_parse_nested::frame::Names;
+use irtext_state::parsable::StateStream;
+
+/// Reads an operation that stands outside of each region, with all that nests in it. The fault is the first in the order of reading; it is
+/// committed, unless no operation begins there, where nothing was read. What was made stays where it is refused, and scopes of names stay open.
+pub fn nested_parse<T: IrText<A>, A: AttrText, U>(
+    s: &mut StateStream<'_, T, A, U>,
+    names: &mut Names,
+) -> ParseResult<Ptr<Operation>, A>
+    requires fine { s.old.stream.failed ≡ false }
+    requires sound { IsSoundOnce names.old s.old.state }
+    ensures lent { s.new.state.ctx.ghost_name ≡ s.old.state.ctx.ghost_name }
+    ensures read { IfOk result (λ p. ReadsNested T.IrText.reading (attr_at A.IrText.reading) names.old s.old p names.new s.new) }
+    ensures carries { OnOk result (Carries names.old s.old names.new s.new) }
+    ensures refused { IfErr result (UnlessMemory (RefusesNested T.IrText.reading (attr_at A.IrText.reading) names.old s.old)) }
+    ensures unread { IfErr result (λ fault. fault.committed ≡ false → s.new.stream ≡ s.old.stream) }
+    ensures new { IfOk result (λ p. (m : ℕ) → m ≤ s.old.state.ctx.now.graph.made → IsNew m s.new.state.ctx.now.graph (TheOperation p)) }
+    ensures rest { KeepsRest s.old.state s.new.state }
+    ensures unnoted { OnErr result (GainsMarks (marks_of s.old.state) (marks_of s.new.state)) }
+    ensures names { KeepsNames names.old.names names.new.names }
+    ensures kept { (m : ℕ) → m ≤ s.old.state.ctx.now.graph.made → IsClosedBelow m s.old.state.ctx.now.graph → IsSound m names.old s.old.state
+        → KeepsOlder m s.old.state.ctx.now s.new.state.ctx.now }
+{
+    let begun = begin(s, names, None)?;
+    let op = begun.op;
+    items_parse(s, names, Frame::Operation(begun))?;
+    Ok(op)
+}

@@ -1,0 +1,149 @@
+//! One region of an operation that stands, with all that nests in it.
+ghost use Rattle.std.specs.Prelude.{◌≡◌, ◌≤◌, ℕ, true, false, Some, IfOk, IfErr, OnErr, IsSome};
+ghost use Rattle.irtext_base.specs.Faults as fault;
+ghost use Rattle.irtext_base.specs.Faults.{fault_of, id_of};
+ghost use Rattle.irtext_context.specs.Context.{OperationView, operation, KeepsOlder};
+ghost use Rattle.irtext_graph.specs.Back.{IsClosedBelow};
+ghost use Rattle.irtext_read.specs.AttrTexts.{attr_at};
+ghost use Rattle.irtext_scopes.specs.Names.{KeepsNames};
+ghost use Rattle.irtext_state.specs.States.{marks_of};
+ghost use Rattle.irtext_grammar.specs.Contexts.Formats.{isolated};
+ghost use Rattle.irtext_outcomes.specs.Promises.Root.{UnlessMemory};
+ghost use Rattle.irtext_outcomes.specs.Readers.Streams.{KeepsRest};
+ghost use Rattle.irtext_parse_nested.specs.Ends.{GainsMarks};
+ghost use Rattle.irtext_parse_nested.specs.Items.{IsSound};
+ghost use Rattle.irtext_parse_root.specs.Under.{IsolatedAs, IsPositionOf, ReadsUnder, RefusesUnder};
+
+use crate::alone::{region_alone, region_placed};
+use crate::frames::Frame;
+use crate::items::items_parse;
+use irtext_base::base::OpId;
+use irtext_base::location::Location;
+use irtext_base::parsable::{
+    CharStream, ParseFault, ParseResult, ParserNameTrackerError, SourcePosition, TextStream,
+};
+use irtext_base::result::{Cause, Expected};
+use irtext_base::text::{AttrText, IrText};
+use irtext_context::base::context::making::Making;
+use irtext_context::base::operation::OperationAccess;
+use irtext_context::base::{Context, Operation, Ptr, Region};
+use irtext_parse_nested::frame::Names;
+use irtext_read::irfmt::faults::{next_is, unexpected};
+use irtext_state::parsable::StateStream;
+use irtext_state::parsable::state::State;
+
+/// Whether operations of this id are isolated from above.
+fn isolated_by<T: IrText<A>, A: AttrText>(ctx: &Context<T, A>, id: &OpId) -> bool
+    ensures { result ≡ isolated ctx.now.dialects (id_of id.now) }
+{
+    match ctx.op_info(id) {
+        Some(info) => info.isolated,
+        None => false,
+    }
+}
+
+/// Whether an operation is isolated from above.
+fn is_isolated<T: IrText<A>, A: AttrText>(ctx: &Context<T, A>, op: Ptr<Operation>) -> bool
+    requires { IsSome (operation ctx.now op) }
+    ensures { IsolatedAs ctx.now op result }
+{
+    isolated_by(ctx, op.get_opid(ctx))
+}
+
+/// Whether an operation of the context of a reading is isolated from above.
+fn isolated_here<T: IrText<A>, A: AttrText, U>(
+    state: &State<'_, T, A, U>,
+    op: Ptr<Operation>,
+) -> bool
+    requires { IsSome (operation state.now.ctx.now op) }
+    ensures { IsolatedAs state.now.ctx.now op result }
+{
+    is_isolated(state.ctx, op)
+}
+
+/// The position of a location that is a place of a source, or else that of a text's beginning.
+fn position_of<A>(loc: &Location<A>) -> SourcePosition
+    ensures { IsPositionOf loc.now result }
+{
+    match loc {
+        Location::SrcPos { src: _, pos } => *pos,
+        Location::Fused { .. } => SourcePosition::default(),
+        Location::Named { .. } => SourcePosition::default(),
+        Location::CallSite { .. } => SourcePosition::default(),
+        Location::Unknown => SourcePosition::default(),
+    }
+}
+
+/// The position of the location of an operation.
+fn position_in<T: IrText<A>, A: AttrText>(ctx: &Context<T, A>, op: Ptr<Operation>) -> SourcePosition
+    requires { IsSome (operation ctx.now op) }
+    ensures { (view : OperationView T A) → operation ctx.now op ≡ Some view → IsPositionOf view.loc result }
+{
+    position_of(op.loc(ctx))
+}
+
+/// The position of the location of an operation of the context of a reading.
+fn position_here<T: IrText<A>, A: AttrText, U>(
+    state: &State<'_, T, A, U>,
+    op: Ptr<Operation>,
+) -> SourcePosition
+    requires { IsSome (operation state.now.ctx.now op) }
+    ensures { (view : OperationView T A) → operation state.now.ctx.now op ≡ Some view → IsPositionOf view.loc result }
+{
+    position_in(state.ctx, op)
+}
+
+/// The fault of a region whose operation is not isolated where no scope of values is open, at a position. The stream has failed.
+#[cold]
+fn not_isolated<A>(stream: &mut TextStream, pos: SourcePosition) -> ParseFault<A>
+    ensures cause { fault_of result.cause ≡ fault.NotIsolated }
+    ensures committed { result.committed ≡ true }
+    ensures place { result.pos ≡ pos }
+{
+    stream.fail();
+    ParseFault {
+        pos,
+        cause: Cause::ParserNameTrackerError(
+            ParserNameTrackerError::TopLevelOpRegionNotIsolatedFromAbove,
+        ),
+        committed: true,
+    }
+}
+
+/// Reads a region with all that nests in it, and puts it last into an operation that stands. An operation that is not isolated from above is
+/// refused where no scope of values is open, at its own place; all other faults are the first in the order of reading. A fault is committed,
+/// unless no region begins there, where nothing was read. Where it is refused, the operation is as it was; what was made stays, and
+/// scopes of names stay open.
+pub fn region_parse<T: IrText<A>, A: AttrText, U>(
+    s: &mut StateStream<'_, T, A, U>,
+    names: &mut Names,
+    op: Ptr<Operation>,
+) -> ParseResult<Ptr<Region>, A>
+    requires fine { s.old.stream.failed ≡ false }
+    requires sound { IsSound s.old.state.ctx.now.graph.made names.old s.old.state }
+    requires stands { IsSome (operation s.old.state.ctx.now op) }
+    ensures lent { s.new.state.ctx.ghost_name ≡ s.old.state.ctx.ghost_name }
+    ensures read { IfOk result (λ r. ReadsUnder T.IrText.reading (attr_at A.IrText.reading) op names.old s.old r names.new s.new) }
+    ensures refused { IfErr result (UnlessMemory (RefusesUnder T.IrText.reading (attr_at A.IrText.reading) op names.old s.old)) }
+    ensures unread { IfErr result (λ fault. fault.committed ≡ false → s.new.stream ≡ s.old.stream) }
+    ensures rest { KeepsRest s.old.state s.new.state }
+    ensures unnoted { OnErr result (GainsMarks (marks_of s.old.state) (marks_of s.new.state)) }
+    ensures names { KeepsNames names.old.names names.new.names }
+    ensures kept { OnErr result ((m : ℕ) → m ≤ s.old.state.ctx.now.graph.made → IsClosedBelow m s.old.state.ctx.now.graph → IsSound m names.old s.old.state
+        → KeepsOlder m s.old.state.ctx.now s.new.state.ctx.now) }
+{
+    let ctx = &mut *s.state.ctx;
+    ctx.made();
+    let closed = isolated_here(&s.state, op);
+    if !closed && !names.has_value_scope() {
+        let at = position_here(&s.state, op);
+        return Err(not_isolated(&mut s.stream, at));
+    }
+    if !next_is(&s.stream, '{') {
+        return Err(unexpected(&s.stream, Expected::Char('{')));
+    }
+    let begun = region_alone(s, names, closed)?;
+    items_parse(s, names, Frame::Region(begun))?;
+    region_placed(s, op, begun.region)?;
+    Ok(begun.region)
+}

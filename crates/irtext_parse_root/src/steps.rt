@@ -1,0 +1,300 @@
+//! One step of the loop: the turn of what is innermost, which begins something in it, goes on, or ends it.
+ghost use Rattle.std.specs.Prelude.{◌≡◌, ◌≢◌, ◌≤◌, ◌+◌, ◌++◌, ◌∷◌, [], ℕ, false, length, IfOk, IfErr, OnOk, OnErr, Some};
+ghost use Rattle.irtext_base.specs.Faults.{id_of};
+ghost use Rattle.irtext_context.specs.Context.{KeepsOlder};
+ghost use Rattle.irtext_graph.specs.Back.{IsClosedBelow};
+ghost use Rattle.irtext_read.specs.AttrTexts.{attr_at};
+ghost use Rattle.irtext_scopes.specs.Names.{KeepsNames};
+ghost use Rattle.irtext_grammar.specs.Contexts.Formats as formats;
+ghost use Rattle.irtext_grammar.specs.Contexts.Held.{whole};
+ghost use Rattle.irtext_nesting.specs.Reached.{steps_in};
+ghost use Rattle.irtext_parse_nested.specs.Items.{IsSound};
+ghost use Rattle.irtext_parse_root.specs.Here.{AreHere};
+ghost use Rattle.irtext_parse_root.specs.Levels.{AreAllNew};
+ghost use Rattle.irtext_parse_root.specs.Turned.{IsSoundOnce, Remains, Proceeds, Stops};
+ghost use Rattle.irtext_parse_root.specs.Turns.{IsNext};
+ghost use Rattle.irtext_parse_root.specs.declared.coming.Coming.TheVariants as comes;
+ghost use Rattle.irtext_parse_root.specs.declared.frames.Frame.TheVariants as framed;
+
+use crate::coming::{Coming, Next, next_turn};
+use crate::frames::{Frame, Waiting};
+use crate::passing::{another_stands, space_parse};
+use crate::turns::{begin, end, enter, go_on, head, leave};
+use irtext_base::parsable::ParseResult;
+use irtext_base::text::{AttrText, IrText};
+use irtext_parse_nested::frame::{BegunBlock, BegunOperation, BegunRegion, Names};
+use irtext_read::irfmt::faults::{next_is, out_of_memory};
+use irtext_state::parsable::StateStream;
+use irtext_state::parsable::state::State;
+
+/// What comes next in an operation that is open.
+fn coming_here<T: IrText<A>, A: AttrText, U>(
+    state: &State<'_, T, A, U>,
+    begun: &BegunOperation,
+) -> Next
+    requires counted { begun.now.steps ≡ length (steps_in state.now.ctx.now.dialects (id_of begun.now.id)) }
+    ensures next { IsNext state.now.ctx.now.dialects begun.now result.coming }
+    ensures isolated { result.coming ≢ comes.End → result.isolated ≡ formats.isolated state.now.ctx.now.dialects (id_of begun.now.id) }
+    ensures behind { result.coming ≢ comes.End → result.behind ≡ begun.now.step + 1 }
+{
+    next_turn(state.ctx, begun)
+}
+
+/// An operation at another step.
+fn at_step(begun: BegunOperation, step: usize) -> BegunOperation
+    ensures { result ≡ record begun { step = step } }
+{
+    let mut begun = begun;
+    begun.step = step;
+    begun
+}
+
+/// Reads a piece of an operation, behind a region.
+fn piece_step<T: IrText<A>, A: AttrText, U>(
+    s: &mut StateStream<'_, T, A, U>,
+    names: &mut Names,
+    frames: &mut Waiting,
+    begun: BegunOperation,
+) -> ParseResult<Option<Frame>, A>
+    requires fine { s.old.stream.failed ≡ false }
+    requires sound { IsSoundOnce names.old s.old.state }
+    requires here { AreHere T A (whole s.old.stream) s.old.state.ctx.now names.old (Some (framed.Operation begun)) frames.old }
+    requires next { IsNext s.old.state.ctx.now.dialects begun comes.Piece }
+    ensures lent { s.new.state.ctx.ghost_name ≡ s.old.state.ctx.ghost_name }
+    ensures proceeds { IfOk result (λ next. Proceeds T.IrText.reading (attr_at A.IrText.reading) (framed.Operation begun)
+        frames.old names.old s.old names.new s.new next frames.new) }
+    ensures stops { IfErr result (Stops T.IrText.reading (attr_at A.IrText.reading) (framed.Operation begun) frames.old
+        names.old s.old) }
+    ensures remains { OnErr result (Remains s.old.state s.new.state) }
+    ensures names { KeepsNames names.old.names names.new.names }
+    ensures kept { (m : ℕ) → m ≤ s.old.state.ctx.now.graph.made → IsClosedBelow m s.old.state.ctx.now.graph →
+        IsSound m names.old s.old.state
+        → AreAllNew m s.old.state.ctx.now.graph (Some (framed.Operation begun)) frames.old → KeepsOlder m s.old.state.ctx.now s.new.state.ctx.now }
+{
+    let mut begun = begun;
+    go_on(s, names, &mut begun)?;
+    Ok(Some(Frame::Operation(begun)))
+}
+
+/// Begins the region of an operation that comes next.
+fn region_step<T: IrText<A>, A: AttrText, U>(
+    s: &mut StateStream<'_, T, A, U>,
+    names: &mut Names,
+    frames: &mut Waiting,
+    begun: BegunOperation,
+    isolated: bool,
+    behind: usize,
+) -> ParseResult<Option<Frame>, A>
+    requires fine { s.old.stream.failed ≡ false }
+    requires sound { IsSoundOnce names.old s.old.state }
+    requires here { AreHere T A (whole s.old.stream) s.old.state.ctx.now names.old (Some (framed.Operation begun)) frames.old }
+    requires next { IsNext s.old.state.ctx.now.dialects begun comes.Region }
+    requires isolated { isolated ≡ formats.isolated s.old.state.ctx.now.dialects (id_of begun.id) }
+    requires behind { behind ≡ begun.step + 1 }
+    ensures lent { s.new.state.ctx.ghost_name ≡ s.old.state.ctx.ghost_name }
+    ensures proceeds { IfOk result (λ next. Proceeds T.IrText.reading (attr_at A.IrText.reading) (framed.Operation begun)
+        frames.old names.old s.old names.new s.new next frames.new) }
+    ensures stops { IfErr result (Stops T.IrText.reading (attr_at A.IrText.reading) (framed.Operation begun) frames.old
+        names.old s.old) }
+    ensures remains { OnErr result (Remains s.old.state s.new.state) }
+    ensures names { KeepsNames names.old.names names.new.names }
+    ensures kept { (m : ℕ) → m ≤ s.old.state.ctx.now.graph.made → IsClosedBelow m s.old.state.ctx.now.graph →
+        IsSound m names.old s.old.state
+        → AreAllNew m s.old.state.ctx.now.graph (Some (framed.Operation begun)) frames.old → KeepsOlder m s.old.state.ctx.now s.new.state.ctx.now }
+{
+    let op = begun.op;
+    space_parse(&mut s.stream);
+    let region = enter(s, names, op, isolated)?;
+    let waits = at_step(begun, behind);
+    let Ok(()) = frames.push(Frame::Operation(waits)) else {
+        return Err(out_of_memory(&mut s.stream));
+    };
+    Ok(Some(Frame::Region(region)))
+}
+
+/// Begins one more region of an operation, or goes on behind the last.
+fn regions_step<T: IrText<A>, A: AttrText, U>(
+    s: &mut StateStream<'_, T, A, U>,
+    names: &mut Names,
+    frames: &mut Waiting,
+    begun: BegunOperation,
+    isolated: bool,
+    behind: usize,
+) -> ParseResult<Option<Frame>, A>
+    requires fine { s.old.stream.failed ≡ false }
+    requires sound { IsSoundOnce names.old s.old.state }
+    requires here { AreHere T A (whole s.old.stream) s.old.state.ctx.now names.old (Some (framed.Operation begun)) frames.old }
+    requires next { IsNext s.old.state.ctx.now.dialects begun comes.Regions }
+    requires isolated { isolated ≡ formats.isolated s.old.state.ctx.now.dialects (id_of begun.id) }
+    requires behind { behind ≡ begun.step + 1 }
+    ensures lent { s.new.state.ctx.ghost_name ≡ s.old.state.ctx.ghost_name }
+    ensures proceeds { IfOk result (λ next. Proceeds T.IrText.reading (attr_at A.IrText.reading) (framed.Operation begun)
+        frames.old names.old s.old names.new s.new next frames.new) }
+    ensures stops { IfErr result (Stops T.IrText.reading (attr_at A.IrText.reading) (framed.Operation begun) frames.old
+        names.old s.old) }
+    ensures remains { OnErr result (Remains s.old.state s.new.state) }
+    ensures names { KeepsNames names.old.names names.new.names }
+    ensures kept { (m : ℕ) → m ≤ s.old.state.ctx.now.graph.made → IsClosedBelow m s.old.state.ctx.now.graph →
+        IsSound m names.old s.old.state
+        → AreAllNew m s.old.state.ctx.now.graph (Some (framed.Operation begun)) frames.old → KeepsOlder m s.old.state.ctx.now s.new.state.ctx.now }
+{
+    space_parse(&mut s.stream);
+    if !next_is(&s.stream, '{') {
+        return Ok(Some(Frame::Operation(at_step(begun, behind))));
+    }
+    let region = enter(s, names, begun.op, isolated)?;
+    let Ok(()) = frames.push(Frame::Operation(begun)) else {
+        return Err(out_of_memory(&mut s.stream));
+    };
+    Ok(Some(Frame::Region(region)))
+}
+
+/// Ends an operation.
+fn end_step<T: IrText<A>, A: AttrText, U>(
+    s: &mut StateStream<'_, T, A, U>,
+    names: &mut Names,
+    frames: &mut Waiting,
+    begun: BegunOperation,
+) -> ParseResult<Option<Frame>, A>
+    requires fine { s.old.stream.failed ≡ false }
+    requires sound { IsSoundOnce names.old s.old.state }
+    requires here { AreHere T A (whole s.old.stream) s.old.state.ctx.now names.old (Some (framed.Operation begun)) frames.old }
+    requires next { IsNext s.old.state.ctx.now.dialects begun comes.End }
+    ensures lent { s.new.state.ctx.ghost_name ≡ s.old.state.ctx.ghost_name }
+    ensures proceeds { IfOk result (λ next. Proceeds T.IrText.reading (attr_at A.IrText.reading) (framed.Operation begun)
+        frames.old names.old s.old names.new s.new next frames.new) }
+    ensures stops { IfErr result (Stops T.IrText.reading (attr_at A.IrText.reading) (framed.Operation begun) frames.old
+        names.old s.old) }
+    ensures remains { OnErr result (Remains s.old.state s.new.state) }
+    ensures names { KeepsNames names.old.names names.new.names }
+    ensures kept { (m : ℕ) → m ≤ s.old.state.ctx.now.graph.made → IsClosedBelow m s.old.state.ctx.now.graph →
+        IsSound m names.old s.old.state
+        → AreAllNew m s.old.state.ctx.now.graph (Some (framed.Operation begun)) frames.old → KeepsOlder m s.old.state.ctx.now s.new.state.ctx.now }
+{
+    end(s, names, &begun)?;
+    Ok(frames.pop())
+}
+
+/// Goes on with an operation, by the step of its format that comes next.
+fn operation_step<T: IrText<A>, A: AttrText, U>(
+    s: &mut StateStream<'_, T, A, U>,
+    names: &mut Names,
+    frames: &mut Waiting,
+    begun: BegunOperation,
+) -> ParseResult<Option<Frame>, A>
+    requires fine { s.old.stream.failed ≡ false }
+    requires sound { IsSoundOnce names.old s.old.state }
+    requires here { AreHere T A (whole s.old.stream) s.old.state.ctx.now names.old (Some (framed.Operation begun)) frames.old }
+    ensures lent { s.new.state.ctx.ghost_name ≡ s.old.state.ctx.ghost_name }
+    ensures proceeds { IfOk result (λ next. Proceeds T.IrText.reading (attr_at A.IrText.reading) (framed.Operation begun)
+        frames.old names.old s.old names.new s.new next frames.new) }
+    ensures stops { IfErr result (Stops T.IrText.reading (attr_at A.IrText.reading) (framed.Operation begun) frames.old
+        names.old s.old) }
+    ensures remains { OnErr result (Remains s.old.state s.new.state) }
+    ensures names { KeepsNames names.old.names names.new.names }
+    ensures kept { (m : ℕ) → m ≤ s.old.state.ctx.now.graph.made → IsClosedBelow m s.old.state.ctx.now.graph →
+        IsSound m names.old s.old.state
+        → AreAllNew m s.old.state.ctx.now.graph (Some (framed.Operation begun)) frames.old → KeepsOlder m s.old.state.ctx.now s.new.state.ctx.now }
+{
+    let next = coming_here(&s.state, &begun);
+    match next.coming {
+        Coming::Piece => piece_step(s, names, frames, begun),
+        Coming::Region => region_step(s, names, frames, begun, next.isolated, next.behind),
+        Coming::Regions => regions_step(s, names, frames, begun, next.isolated, next.behind),
+        Coming::End => end_step(s, names, frames, begun),
+    }
+}
+
+/// Begins a block of a region, or ends the region where none stands.
+fn blocks_step<T: IrText<A>, A: AttrText, U>(
+    s: &mut StateStream<'_, T, A, U>,
+    names: &mut Names,
+    frames: &mut Waiting,
+    region: BegunRegion,
+) -> ParseResult<Option<Frame>, A>
+    requires fine { s.old.stream.failed ≡ false }
+    requires sound { IsSoundOnce names.old s.old.state }
+    requires here { AreHere T A (whole s.old.stream) s.old.state.ctx.now names.old (Some (framed.Region region)) frames.old }
+    ensures lent { s.new.state.ctx.ghost_name ≡ s.old.state.ctx.ghost_name }
+    ensures proceeds { IfOk result (λ next. Proceeds T.IrText.reading (attr_at A.IrText.reading) (framed.Region region)
+        frames.old names.old s.old names.new s.new next frames.new) }
+    ensures stops { IfErr result (Stops T.IrText.reading (attr_at A.IrText.reading) (framed.Region region) frames.old
+        names.old s.old) }
+    ensures remains { OnErr result (Remains s.old.state s.new.state) }
+    ensures names { KeepsNames names.old.names names.new.names }
+    ensures kept { (m : ℕ) → m ≤ s.old.state.ctx.now.graph.made → IsClosedBelow m s.old.state.ctx.now.graph →
+        IsSound m names.old s.old.state
+        → AreAllNew m s.old.state.ctx.now.graph (Some (framed.Region region)) frames.old → KeepsOlder m s.old.state.ctx.now s.new.state.ctx.now }
+{
+    space_parse(&mut s.stream);
+    if !next_is(&s.stream, '^') {
+        leave(s, names, region)?;
+        return Ok(frames.pop());
+    }
+    let block = head(s, names, region.region)?;
+    let Ok(()) = frames.push(Frame::Region(region)) else {
+        return Err(out_of_memory(&mut s.stream));
+    };
+    Ok(Some(Frame::Block(block)))
+}
+
+/// Begins an operation of a block, or leaves the block where none stands.
+fn block_step<T: IrText<A>, A: AttrText, U>(
+    s: &mut StateStream<'_, T, A, U>,
+    names: &mut Names,
+    frames: &mut Waiting,
+    block: BegunBlock,
+) -> ParseResult<Option<Frame>, A>
+    requires fine { s.old.stream.failed ≡ false }
+    requires sound { IsSoundOnce names.old s.old.state }
+    requires here { AreHere T A (whole s.old.stream) s.old.state.ctx.now names.old (Some (framed.Block block)) frames.old }
+    ensures lent { s.new.state.ctx.ghost_name ≡ s.old.state.ctx.ghost_name }
+    ensures proceeds { IfOk result (λ next. Proceeds T.IrText.reading (attr_at A.IrText.reading) (framed.Block block)
+        frames.old names.old s.old names.new s.new next frames.new) }
+    ensures stops { IfErr result (Stops T.IrText.reading (attr_at A.IrText.reading) (framed.Block block) frames.old names.old s.old) }
+    ensures remains { OnErr result (Remains s.old.state s.new.state) }
+    ensures names { KeepsNames names.old.names names.new.names }
+    ensures kept { (m : ℕ) → m ≤ s.old.state.ctx.now.graph.made → IsClosedBelow m s.old.state.ctx.now.graph →
+        IsSound m names.old s.old.state
+        → AreAllNew m s.old.state.ctx.now.graph (Some (framed.Block block)) frames.old → KeepsOlder m s.old.state.ctx.now s.new.state.ctx.now }
+{
+    if !another_stands(&mut s.stream, block.first) {
+        return Ok(frames.pop());
+    }
+    let begun = begin(s, names, Some(block.block))?;
+    let waits = BegunBlock {
+        block: block.block,
+        first: false,
+    };
+    let Ok(()) = frames.push(Frame::Block(waits)) else {
+        return Err(out_of_memory(&mut s.stream));
+    };
+    Ok(Some(Frame::Operation(begun)))
+}
+
+/// Makes the turn of what is innermost, and answers what is next then.
+pub(crate) fn step<T: IrText<A>, A: AttrText, U>(
+    s: &mut StateStream<'_, T, A, U>,
+    names: &mut Names,
+    frames: &mut Waiting,
+    frame: Frame,
+) -> ParseResult<Option<Frame>, A>
+    requires fine { s.old.stream.failed ≡ false }
+    requires sound { IsSoundOnce names.old s.old.state }
+    requires here { AreHere T A (whole s.old.stream) s.old.state.ctx.now names.old (Some frame) frames.old }
+    ensures lent { s.new.state.ctx.ghost_name ≡ s.old.state.ctx.ghost_name }
+    ensures proceeds { IfOk result (λ next. Proceeds T.IrText.reading (attr_at A.IrText.reading) frame frames.old names.old
+        s.old names.new s.new next frames.new) }
+    ensures stops { IfErr result (Stops T.IrText.reading (attr_at A.IrText.reading) frame frames.old names.old s.old) }
+    ensures remains { OnErr result (Remains s.old.state s.new.state) }
+    ensures names { KeepsNames names.old.names names.new.names }
+    ensures kept { (m : ℕ) → m ≤ s.old.state.ctx.now.graph.made → IsClosedBelow m s.old.state.ctx.now.graph →
+        IsSound m names.old s.old.state
+        → AreAllNew m s.old.state.ctx.now.graph (Some frame) frames.old → KeepsOlder m s.old.state.ctx.now s.new.state.ctx.now }
+{
+    match frame {
+        Frame::Operation(begun) => operation_step(s, names, frames, begun),
+        Frame::Region(region) => blocks_step(s, names, frames, region),
+        Frame::Block(block) => block_step(s, names, frames, block),
+    }
+}

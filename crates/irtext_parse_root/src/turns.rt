@@ -1,0 +1,182 @@
+//! The turns that the loop makes, with all that each gives it.
+ghost use Rattle.std.specs.Prelude.{◌≡◌, ◌≤◌, ◌∷◌, ℕ, List, false, true, length, is_some, IfOk, IfErr, IfSome, IsSome, OnOk, OnErr};
+ghost use Rattle.irtext_context.specs.Context.{operation, KeepsOlder};
+ghost use Rattle.irtext_graph.specs.Back.{IsClosedBelow};
+ghost use Rattle.irtext_graph.specs.Graph.{IsNew, Stands};
+ghost use Rattle.irtext_graph.specs.Parts.{results};
+ghost use Rattle.irtext_graph.specs.declared.object.Object.TheVariants.{TheOperation, TheBlock, TheRegion};
+ghost use Rattle.irtext_read.specs.AttrTexts.{attr_at};
+ghost use Rattle.irtext_scopes.specs.Names.{KeepsNames};
+ghost use Rattle.irtext_scopes.specs.Scopes.{is_open};
+ghost use Rattle.irtext_grammar.specs.Contexts.Held.{whole};
+ghost use Rattle.irtext_outcomes.specs.Promises.Root.{UnlessMemory};
+ghost use Rattle.irtext_nesting.specs.Heads.{Step};
+ghost use Rattle.irtext_nesting.specs.Resume.{Begun};
+ghost use Rattle.irtext_nesting.specs.Stands.{IsThere};
+ghost use Rattle.irtext_names.specs.Rows.{AreKnown};
+ghost use Rattle.irtext_parse_nested.specs.Begun.{IsBegun, IsRegion};
+ghost use Rattle.irtext_parse_nested.specs.Ends.{numbers_of};
+ghost use Rattle.irtext_parse_nested.specs.Items.{IsSound};
+ghost use Rattle.irtext_parse_nested.specs.Read.{RefusesOperation, RefusesPiece, RefusesEnd, RefusesRegion, RefusesRegionEnd, RefusesBlock};
+ghost use Rattle.irtext_parse_root.specs.Turned.{IsSoundOnce, Remains};
+ghost use Rattle.irtext_parse_root.specs.Turns.{IsNext, Begins, Continues, Ends, Enters, Leaves, Heads};
+ghost use Rattle.irtext_parse_root.specs.declared.coming.Coming.TheVariants as comes;
+
+use irtext_base::parsable::ParseResult;
+use irtext_base::text::{AttrText, IrText};
+use irtext_context::base::{BasicBlock, Operation, Ptr, Region};
+use irtext_parse_nested::beginning::operation_begin;
+use irtext_parse_nested::blocks::block_begin;
+use irtext_parse_nested::closing::operation_end;
+use irtext_parse_nested::frame::{BegunBlock, BegunOperation, BegunRegion, Names};
+use irtext_parse_nested::later::operation_piece;
+use irtext_parse_nested::regions::{region_begin, region_end};
+use irtext_state::parsable::StateStream;
+
+/// Begins an operation, the last of a block or outside of each region.
+pub(crate) fn begin<T: IrText<A>, A: AttrText, U>(
+    s: &mut StateStream<'_, T, A, U>,
+    names: &mut Names,
+    block: Option<Ptr<BasicBlock>>,
+) -> ParseResult<BegunOperation, A>
+    requires fine { s.old.stream.failed ≡ false }
+    requires sound { IsSoundOnce names.old s.old.state }
+    requires place { IfSome block (λ b. IsThere s.old.state.ctx.now (TheBlock b)) }
+    ensures lent { s.new.state.ctx.ghost_name ≡ s.old.state.ctx.ghost_name }
+    ensures begins { IfOk result (λ b. Begins T.IrText.reading (attr_at A.IrText.reading) names.old s.old block b names.new s.new) }
+    ensures refused { IfErr result (UnlessMemory (RefusesOperation T.IrText.reading (attr_at A.IrText.reading) true (is_some block)
+        names.old s.old)) }
+    ensures unread { IfErr result (λ fault. fault.committed ≡ false → s.new.stream ≡ s.old.stream) }
+    ensures remains { OnErr result (Remains s.old.state s.new.state) }
+    ensures names { KeepsNames names.old.names names.new.names }
+    ensures kept { (m : ℕ) → m ≤ s.old.state.ctx.now.graph.made → IsClosedBelow m s.old.state.ctx.now.graph →
+        IsSound m names.old s.old.state
+        → IfSome block (λ b. IsNew m s.old.state.ctx.now.graph (TheBlock b)) → KeepsOlder m s.old.state.ctx.now s.new.state.ctx.now }
+{
+    operation_begin(s, names, block)
+}
+
+/// Reads a piece behind a region, by the next step of an operation that is open.
+pub(crate) fn go_on<T: IrText<A>, A: AttrText, U>(
+    s: &mut StateStream<'_, T, A, U>,
+    names: &mut Names,
+    begun: &mut BegunOperation,
+) -> ParseResult<(), A>
+    requires fine { s.old.stream.failed ≡ false }
+    requires sound { IsSoundOnce names.old s.old.state }
+    requires stands { IsSome (operation s.old.state.ctx.now begun.old.op) }
+    requires step { IsNext s.old.state.ctx.now.dialects begun.old comes.Piece }
+    requires begun { (o : Begun T A) × (step : Step) × (ss : List Step) × IsBegun names.old.names (whole s.old.stream)
+        s.old.state.ctx.now begun.old o × (o.steps ≡ step ∷ ss) }
+    ensures lent { s.new.state.ctx.ghost_name ≡ s.old.state.ctx.ghost_name }
+    ensures goes_on { OnOk result (Continues T.IrText.reading (attr_at A.IrText.reading) names.old s.old begun.old begun.new
+        names.new s.new) }
+    ensures refused { IfErr result (λ fault. (o : Begun T A) (step : Step) (ss : List Step) →
+        IsBegun names.old.names (whole s.old.stream) s.old.state.ctx.now begun.old o → o.steps ≡ step ∷ ss
+        → UnlessMemory (RefusesPiece T.IrText.reading (attr_at A.IrText.reading) o step names.old s.old) fault) }
+    ensures committed { IfErr result (λ fault. fault.committed ≡ true) }
+    ensures remains { OnErr result (Remains s.old.state s.new.state) }
+    ensures names { KeepsNames names.old.names names.new.names }
+    ensures kept { (m : ℕ) → m ≤ s.old.state.ctx.now.graph.made → IsClosedBelow m s.old.state.ctx.now.graph →
+        IsSound m names.old s.old.state
+        → IsNew m s.old.state.ctx.now.graph (TheOperation begun.old.op) → KeepsOlder m s.old.state.ctx.now s.new.state.ctx.now }
+{
+    operation_piece(s, names, begun)
+}
+
+/// Ends an operation.
+pub(crate) fn end<T: IrText<A>, A: AttrText, U>(
+    s: &mut StateStream<'_, T, A, U>,
+    names: &mut Names,
+    begun: &BegunOperation,
+) -> ParseResult<(), A>
+    requires fine { s.old.stream.failed ≡ false }
+    requires sound { IsSoundOnce names.old s.old.state }
+    requires stands { IsSome (operation s.old.state.ctx.now begun.now.op) }
+    requires counts { length (results s.old.state.ctx.now.graph begun.now.op) ≡ begun.now.results }
+    requires known { AreKnown (length names.old.names) (numbers_of begun.now.names) }
+    requires begun { (o : Begun T A) × IsBegun names.old.names (whole s.old.stream) s.old.state.ctx.now begun.now o }
+    ensures lent { s.new.state.ctx.ghost_name ≡ s.old.state.ctx.ghost_name }
+    ensures ends { OnOk result (Ends T.IrText.reading (attr_at A.IrText.reading) names.old s.old begun.now names.new s.new) }
+    ensures refused { IfErr result (λ fault. (o : Begun T A) → IsBegun names.old.names (whole s.old.stream) s.old.state.ctx.now begun.now o
+        → UnlessMemory (RefusesEnd T.IrText.reading (attr_at A.IrText.reading) o begun.now names.old s.old) fault) }
+    ensures committed { IfErr result (λ fault. fault.committed ≡ true) }
+    ensures remains { OnErr result (Remains s.old.state s.new.state) }
+    ensures names { KeepsNames names.old.names names.new.names }
+    ensures kept { (m : ℕ) → m ≤ s.old.state.ctx.now.graph.made → IsClosedBelow m s.old.state.ctx.now.graph →
+        IsSound m names.old s.old.state
+        → IsNew m s.old.state.ctx.now.graph (TheOperation begun.now.op) → KeepsOlder m s.old.state.ctx.now s.new.state.ctx.now }
+{
+    operation_end(s, names, begun)
+}
+
+/// Begins a region, the last of an operation, which is isolated from above or not.
+pub(crate) fn enter<T: IrText<A>, A: AttrText, U>(
+    s: &mut StateStream<'_, T, A, U>,
+    names: &mut Names,
+    op: Ptr<Operation>,
+    isolated: bool,
+) -> ParseResult<BegunRegion, A>
+    requires fine { s.old.stream.failed ≡ false }
+    requires sound { IsSoundOnce names.old s.old.state }
+    requires stands { IsSome (operation s.old.state.ctx.now op) }
+    ensures lent { s.new.state.ctx.ghost_name ≡ s.old.state.ctx.ghost_name }
+    ensures enters { IfOk result (λ r. Enters T.IrText.reading (attr_at A.IrText.reading) names.old s.old op isolated r names.new s.new) }
+    ensures refused { IfErr result (UnlessMemory (RefusesRegion T.IrText.reading (attr_at A.IrText.reading) isolated names.old s.old)) }
+    ensures committed { IfErr result (λ fault. fault.committed ≡ true) }
+    ensures remains { OnErr result (Remains s.old.state s.new.state) }
+    ensures names { KeepsNames names.old.names names.new.names }
+    ensures kept { (m : ℕ) → m ≤ s.old.state.ctx.now.graph.made → IsClosedBelow m s.old.state.ctx.now.graph →
+        IsSound m names.old s.old.state
+        → IsNew m s.old.state.ctx.now.graph (TheOperation op) → KeepsOlder m s.old.state.ctx.now s.new.state.ctx.now }
+{
+    region_begin(s, names, op, isolated)
+}
+
+/// Ends a region.
+pub(crate) fn leave<T: IrText<A>, A: AttrText, U>(
+    s: &mut StateStream<'_, T, A, U>,
+    names: &mut Names,
+    region: BegunRegion,
+) -> ParseResult<(), A>
+    requires fine { s.old.stream.failed ≡ false }
+    requires sound { IsSoundOnce names.old s.old.state }
+    requires begun { (place : ℕ) × IsRegion names.old.names (whole s.old.stream) s.old.state.ctx.now region region.isolated place }
+    ensures lent { s.new.state.ctx.ghost_name ≡ s.old.state.ctx.ghost_name }
+    ensures leaves { OnOk result (Leaves T.IrText.reading (attr_at A.IrText.reading) names.old s.old region names.new s.new) }
+    ensures refused { IfErr result (λ fault. (place : ℕ) → IsRegion names.old.names (whole s.old.stream) s.old.state.ctx.now region
+        region.isolated place
+        → UnlessMemory (RefusesRegionEnd T.IrText.reading (attr_at A.IrText.reading) region.isolated place names.old s.old) fault) }
+    ensures committed { IfErr result (λ fault. fault.committed ≡ true) }
+    ensures remains { OnErr result (Remains s.old.state s.new.state) }
+    ensures names { KeepsNames names.old.names names.new.names }
+    ensures kept { (m : ℕ) → m ≤ s.old.state.ctx.now.graph.made → IsClosedBelow m s.old.state.ctx.now.graph →
+        IsSound m names.old s.old.state
+        → IsNew m s.old.state.ctx.now.graph (TheRegion region.region) → KeepsOlder m s.old.state.ctx.now s.new.state.ctx.now }
+{
+    region_end(s, names, region)
+}
+
+/// Begins a block, the last of a region.
+pub(crate) fn head<T: IrText<A>, A: AttrText, U>(
+    s: &mut StateStream<'_, T, A, U>,
+    names: &mut Names,
+    region: Ptr<Region>,
+) -> ParseResult<BegunBlock, A>
+    requires fine { s.old.stream.failed ≡ false }
+    requires sound { IsSoundOnce names.old s.old.state }
+    requires region { Stands s.old.state.ctx.now.graph (TheRegion region) }
+    requires open { (is_open names.old.values ≡ true) × (is_open names.old.labels ≡ true) }
+    ensures lent { s.new.state.ctx.ghost_name ≡ s.old.state.ctx.ghost_name }
+    ensures first { IfOk result (λ b. b.first ≡ true) }
+    ensures heads { IfOk result (λ b. Heads T.IrText.reading (attr_at A.IrText.reading) names.old s.old region b names.new s.new) }
+    ensures refused { IfErr result (UnlessMemory (RefusesBlock T.IrText.reading (attr_at A.IrText.reading) names.old s.old)) }
+    ensures committed { IfErr result (λ fault. fault.committed ≡ true) }
+    ensures remains { OnErr result (Remains s.old.state s.new.state) }
+    ensures names { KeepsNames names.old.names names.new.names }
+    ensures kept { (m : ℕ) → m ≤ s.old.state.ctx.now.graph.made → IsClosedBelow m s.old.state.ctx.now.graph →
+        IsSound m names.old s.old.state
+        → IsNew m s.old.state.ctx.now.graph (TheRegion region) → KeepsOlder m s.old.state.ctx.now s.new.state.ctx.now }
+{
+    block_begin(s, names, region)
+}

@@ -1,0 +1,106 @@
+-- What was appended piece by piece, as the text of entries.
+use Rattle.std.proofs.Common.{◌≡◌, ℕ, Bool, true, false, ◌+◌, ◌<◌, ◌≤◌, ◌^◌, cond, List, [], ◌∷◌, ◌++◌, map, codes, Option, Some, None, length, get_or, drop, suc, arith, refl, sym, ap, ◌∙◌}
+use Rattle.std.proofs.lemmas.List.{append_assoc, append-nil, drop_all}
+use Rattle.std.proofs.Math.Seq.{drop-cons}
+use Rattle.std.specs.Borrow.{Bor}
+use Rattle.std.specs.Fmt.{decimal}
+use Rattle.std.specs.Prelude.{⊤}
+use Rattle.std.specs.Str.{encode_utf8_all}
+use Rattle.irtext_base.specs.Own.{Language}
+use Rattle.irtext_base.specs.Text.{Text}
+use Rattle.irtext_grammar.specs.Grammar.Tree.{Attribute}
+use Rattle.irtext_grammar.specs.Graphs.Graph.{Printing, place_in}
+use Rattle.irtext_grammar.specs.Spelling.Section.{item, located, once_texts}
+use Rattle.irtext_grammar.specs.Spelling.Spell.{joined, joined_from, comma}
+use Rattle.irtext_print.proofs.Printers.Locations.{more, worded, ending, framed_bytes, left_text, item_written}
+use Rattle.irtext_print.specs.Errors.Located.{between, framed}
+use Rattle.irtext_print.specs.Entries.{reference_text, pair_text, pairs_text, entry_with, once_text}
+
+-- a reference is written
+pub reference_appended : (index wanted : ℕ) (f0 f1 f2 : List ℕ) → index ≡ wanted → f1 ≡ f0 ++ codes "!" → f2 ≡ f1 ++ encode_utf8_all (decimal index) → f2 ≡ f0 ++ encode_utf8_all (codes "!" ++ decimal wanted)
+reference_appended index wanted f0 f1 f2 same p q = worded f0 f1 f2 (codes "!") (decimal index) refl p q ∙ ap (λ n. f0 ++ encode_utf8_all (codes "!" ++ decimal n)) same
+
+-- an entry's head, and behind it the rest
+pub head_appended : (n : ℕ) (rest : Text) (f0 f1 f2 f3 f4 : List ℕ) → f1 ≡ f0 ++ codes "!" → f2 ≡ f1 ++ encode_utf8_all (decimal n) → f3 ≡ f2 ++ codes " = " → f4 ≡ f3 ++ encode_utf8_all rest
+    → f4 ≡ f0 ++ encode_utf8_all (codes "!" ++ (decimal n ++ (codes " = " ++ rest)))
+head_appended n rest f0 f1 f2 f3 f4 p q r s =
+    worded f0 f1 f4 (codes "!") (decimal n ++ (codes " = " ++ rest)) refl p (more f1 f2 f4 (decimal n) (codes " = " ++ rest) q (worded f2 f3 f4 (codes " = ") rest refl r s))
+
+-- an attribute that is written once is written
+pub once_appended : {A : Type 0} (written : A → Text) (n : ℕ) (a : A) (f0 f1 f2 f3 f4 f5 : List ℕ) → f1 ≡ f0 ++ codes "!" → f2 ≡ f1 ++ encode_utf8_all (decimal n) → f3 ≡ f2 ++ codes " = "
+    → f4 ≡ f3 ++ encode_utf8_all (written a) → f5 ≡ f4 ++ codes "\n" → f5 ≡ f0 ++ encode_utf8_all (once_text written n a)
+once_appended written n a f0 f1 f2 f3 f4 f5 p q r s t = head_appended n (written a ++ codes "\n") f0 f1 f2 f3 f5 p q r (ending f3 f4 f5 (written a) (codes "\n") refl s t)
+
+module _ {T A : Type 0} (L : Language ⊤ T A) (C : Printing T A) where
+  -- a known location is written between its brackets
+  located_between : (l : Option Text) → between (codes "@[") (codes "], ") l ≡ located L C l
+  located_between None = refl
+  located_between (Some t) = refl
+
+  -- an entry is written: its head, its location, and its attributes between brackets
+  pub entry_appended : (items : ℕ) (once : List A) (n : ℕ) (l : Option Text) (es : List (Text × Attribute A)) (f0 f1 f2 f3 f4 f5 f6 f7 : List ℕ)
+      → f1 ≡ f0 ++ codes "!"
+      → f2 ≡ f1 ++ encode_utf8_all (decimal n)
+      → f3 ≡ f2 ++ codes " = "
+      → f4 ≡ f3 ++ framed (codes "@[") (codes "], ") l
+      → f5 ≡ f4 ++ codes "["
+      → f6 ≡ f5 ++ encode_utf8_all (pairs_text C items once L es)
+      → f7 ≡ f6 ++ codes "]\n"
+      → f7 ≡ f0 ++ encode_utf8_all (entry_with C items once L n l es)
+  entry_appended items once n l es f0 f1 f2 f3 f4 f5 f6 f7 a b c q r s t =
+      let pairs = pairs_text C items once L es in
+      let inside : f7 ≡ f4 ++ encode_utf8_all (codes "[" ++ (pairs ++ codes "]\n")) = worded f4 f5 f7 (codes "[") (pairs ++ codes "]\n") refl r (ending f5 f6 f7 pairs (codes "]\n") refl s t) in
+      let place : f4 ≡ f3 ++ encode_utf8_all (located L C l) = q ∙ ap (λ z. f3 ++ z) (framed_bytes (codes "@[") (codes "], ") refl refl l) ∙ ap (λ z. f3 ++ encode_utf8_all z) (located_between l) in
+      head_appended n (located L C l ++ (codes "[" ++ (pairs ++ codes "]\n"))) f0 f1 f2 f3 f7 a b c (more f3 f4 f7 (located L C l) (codes "[" ++ (pairs ++ codes "]\n")) place inside)
+
+  -- a key, ` = ` and what stands under it
+  pub pair_appended : (items : ℕ) (once : List A) (e : Text × Attribute A) (f0 f1 f2 f3 : List ℕ) → f1 ≡ f0 ++ encode_utf8_all e.0 → f2 ≡ f1 ++ codes " = " → f3 ≡ f2 ++ encode_utf8_all (item L C items once e.1)
+      → f3 ≡ f0 ++ encode_utf8_all (pair_text C items once L e)
+  pair_appended items once e f0 f1 f2 f3 p q r = more f0 f1 f3 e.0 (codes " = " ++ item L C items once e.1) p (worded f1 f2 f3 (codes " = ") (item L C items once e.1) refl q r)
+
+  -- one attribute more of an item is written
+  pub pair_more : (items : ℕ) (once : List A) (first : Bool) (left rest : List (Text × Attribute A)) (e : Text × Attribute A) (now between next all : List ℕ) → left ≡ e ∷ rest
+      → between ≡ now ++ cond first [] comma → next ≡ between ++ encode_utf8_all (pair_text C items once L e)
+      → now ++ encode_utf8_all (left_text first (map (pair_text C items once L) left)) ≡ all → next ++ encode_utf8_all (left_text false (map (pair_text C items once L) rest)) ≡ all
+  pair_more items once first left rest e now between next all is p q h =
+      item_written first (pair_text C items once L e) (map (pair_text C items once L) rest) now between next all p q (ap (λ z. now ++ encode_utf8_all (left_text first (map (pair_text C items once L) z))) (sym is) ∙ h)
+
+  -- all are written
+  pub pairs_end : (items : ℕ) (once : List A) (first : Bool) (left : List (Text × Attribute A)) (now all : List ℕ) → left ≡ []
+      → now ++ encode_utf8_all (left_text first (map (pair_text C items once L) left)) ≡ all → now ≡ all
+  pairs_end items once first left now all is h = go first (ap (λ z. now ++ encode_utf8_all (left_text first (map (pair_text C items once L) z))) (sym is) ∙ h)
+    where
+      go : (first : Bool) → now ++ encode_utf8_all (left_text first []) ≡ all → now ≡ all
+      go true h = sym (append-nil now) ∙ h
+      go false h = sym (append-nil now) ∙ h
+
+-- what references stand for
+abbrev pub referred : {X : Type 0} → List (Bor X) → List X
+referred rs = map (λ r. r.now) rs
+
+module _ {T A : Type 0} (L : Language ⊤ T A) (C : Printing T A) where
+  once_joins : (n : ℕ) (a : A) (rest : List A) → once_texts L C n (a ∷ rest) ≡ once_text L.owns.written n a ++ once_texts L C (suc n) rest
+  once_joins n a rest = let ts = once_texts L C (suc n) rest in simp append_assoc
+
+  -- one attribute more that is written once
+  pub once_more : (count place : ℕ) (rs : List (Bor A)) (d : Bor A) (old now all : List ℕ) → place < length rs
+      → now ≡ old ++ encode_utf8_all (once_text L.owns.written (count + place) (get_or rs place d).now)
+      → old ++ encode_utf8_all (once_texts L C (count + place) (referred (drop place rs))) ≡ all
+      → now ++ encode_utf8_all (once_texts L C (count + (place + 1)) (referred (drop (place + 1) rs))) ≡ all
+  once_more count place rs d old now all below p h =
+      let next : count + (place + 1) ≡ suc (count + place) = omega arith in
+      let one : suc place ≡ place + 1 = omega arith in
+      let rest = once_texts L C (suc (count + place)) (referred (drop (place + 1) rs)) in
+      let split : referred (drop place rs) ≡ (get_or rs place d).now ∷ referred (drop (place + 1) rs) = ap referred (drop-cons rs place d below ∙ ap (λ n. get_or rs place d ∷ drop n rs) one) in
+      ap (λ n. now ++ encode_utf8_all (once_texts L C n (referred (drop (place + 1) rs)))) next
+      ∙ more old now (now ++ encode_utf8_all rest) (once_text L.owns.written (count + place) (get_or rs place d).now) rest p refl
+      ∙ ap (λ z. old ++ encode_utf8_all z) (sym (once_joins (count + place) (get_or rs place d).now (referred (drop (place + 1) rs))))
+      ∙ ap (λ z. old ++ encode_utf8_all (once_texts L C (count + place) z)) (sym split) ∙ h
+
+  -- nothing of them is written so far
+  pub once_none : (count : ℕ) (rs : List (Bor A)) (old : List ℕ) → old ++ encode_utf8_all (once_texts L C (count + 0) (referred (drop 0 rs))) ≡ old ++ encode_utf8_all (once_texts L C count (referred rs))
+  once_none count rs old = let same : count + 0 ≡ count = omega arith in ap (λ n. old ++ encode_utf8_all (once_texts L C n (referred rs))) same
+
+  -- all are written
+  pub once_end : (count place : ℕ) (rs : List (Bor A)) (now all : List ℕ) → length rs ≤ place → now ++ encode_utf8_all (once_texts L C (count + place) (referred (drop place rs))) ≡ all → now ≡ all
+  once_end count place rs now all h e = sym (append-nil now) ∙ ap (λ z. now ++ encode_utf8_all (once_texts L C (count + place) (referred z))) (sym (drop_all place rs h)) ∙ e

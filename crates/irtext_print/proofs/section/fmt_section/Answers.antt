@@ -1,0 +1,20 @@
+use Rattle.std.proofs.Common.{◌<◌, ◌∙◌, ap, length, map, string_bytes}
+use Rattle.irtext_print.proofs.Printers.Appended.{then}
+use Rattle.irtext_print.specs.Given.{printing_of, given_at}
+use Rattle.irtext_print.specs.Items.{language_of}
+use Rattle.irtext_print.specs.Mentions as mentions
+use Rattle.irtext_print.proofs.Written.{not_empty, section_written}
+use Rattle.irtext_print.proofs.section.fmt_section.Goals as goal
+
+pub returns : goal.returns
+returns g c =
+    let C = printing_of g.T.IrText g.A.IrText g.A.AttrText g.A.PartialEq.eq c.args.ctx.now in
+    let L = language_of g.T.IrText g.A.IrText g.A.AttrText g.A.PartialEq.eq c.args.ctx.now in
+    let gives = given_at g.T.IrText g.A.IrText g.A.AttrText g.A.PartialEq.eq c.args.ctx.now in
+    let some : 0 < length c.args.items.now = not_empty (length c.args.items.now) c.if-is_empty.ensures in
+    then c.fmt_all_once.result
+    (λ r. section_written L C gives c.args.items.now (mentions.known_in c.fmt_items.new.known) (string_bytes c.args.f.now) (string_bytes c.push_str.new.self) (string_bytes c.fmt_items.new.f) (string_bytes c.fmt_all_once.new.f)
+    some c.in_ok-push_str.ensures.bytes
+    (c.in_ok-fmt_items.ensures.known ∙ ap (λ ks. mentions.items_noted C (map (λ r. r.now) ks) (map gives c.args.items.now)) c.new-known.ensures.empty)
+    c.in_ok-fmt_items.ensures.text r)
+    c.fmt_all_once.ensures

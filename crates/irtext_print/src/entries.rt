@@ -1,0 +1,175 @@
+//! The entries of a section, piece by piece. Each of these calls fails only where memory is refused; what was written until then stays.
+ghost use Rattle.std.specs.Prelude.{◌≡◌, ◌++◌, ◌<◌, ◌^◌, List, [], OnOk, cond, string_bytes};
+ghost use Rattle.irtext_grammar.specs.Contexts.Held.{attribute_of};
+ghost use Rattle.irtext_grammar.specs.Grammar.Tree as tree;
+ghost use Rattle.irtext_grammar.specs.Spelling.Locations.{known_text};
+ghost use Rattle.irtext_grammar.specs.Spelling.Section.{item};
+ghost use Rattle.irtext_grammar.specs.Spelling.Spell.{comma};
+ghost use Rattle.irtext_print.specs.Printers.Appended.{AppendsText};
+ghost use Rattle.irtext_print.specs.Printers.PieceText.{words};
+ghost use Rattle.irtext_print.specs.Entries as texts;
+ghost use Rattle.irtext_print.specs.Given.{given_pair, attributes_of};
+ghost use Rattle.irtext_print.specs.Mentions as mentions;
+
+use crate::given::{Given, GivenAttribute};
+use crate::mentions::{Mentions, note};
+use irtext_base::base::{AttrObj, Identifier};
+use irtext_base::text::{AttrText, IrText};
+use irtext_context::base::Context;
+use crate::location::print::fmt_known;
+use crate::printable::attributes::fmt_attr;
+use crate::printable::numbers::fmt_number;
+use std::fmt;
+
+/// Appends the reference to an attribute that is written once, which is known from then on: its index behind all items.
+fn fmt_reference<'c, A: AttrText>(
+    attr: &'c A,
+    items: usize,
+    known: &mut Mentions<'c, A>,
+    f: &mut String,
+) -> fmt::Result
+    requires { items < 2 ^ 63 }
+    ensures known { OnOk result (mentions.known_in known.new ≡
+        mentions.with_mention (mentions.asking A.print_once A.eq) (mentions.known_in known.old) attr.now) }
+    ensures text { OnOk result ((more : List A) →
+        AppendsText f.old (texts.reference_text (mentions.asking A.print_once A.eq) items (mentions.known_in known.new ++ more) attr.now)
+        f.new) }
+{
+    let place = note(known, attr)?;
+    let index = items + place;
+    f.push_str("!")?;
+    fmt_number(index as u64, f)
+}
+
+/// Appends an attribute of the caller's, or the reference to one that is written once.
+fn fmt_own<'c, A: AttrText>(
+    attr: &'c A,
+    items: usize,
+    known: &mut Mentions<'c, A>,
+    f: &mut String,
+) -> fmt::Result
+    requires { items < 2 ^ 63 }
+    ensures known { OnOk result (mentions.known_in known.new ≡
+        mentions.noted (mentions.asking A.print_once A.eq) (mentions.known_in known.old) (tree.own attr.now)) }
+    ensures text { OnOk result ((more : List A) →
+        AppendsText f.old (item (words A.IrText.written) (mentions.asking A.print_once A.eq) items (mentions.known_in known.new ++ more)
+        (tree.own attr.now)) f.new) }
+{
+    if attr.is_print_once() {
+        return fmt_reference(attr, items, known, f);
+    }
+    attr.write_text(f)
+}
+
+/// Appends an attribute, or the reference to one that is written once.
+fn fmt_attribute<'c, A: AttrText>(
+    attr: &'c AttrObj<A>,
+    items: usize,
+    known: &mut Mentions<'c, A>,
+    f: &mut String,
+) -> fmt::Result
+    requires { items < 2 ^ 63 }
+    ensures known { OnOk result (mentions.known_in known.new ≡
+        mentions.noted (mentions.asking A.print_once A.eq) (mentions.known_in known.old) (attribute_of attr.now)) }
+    ensures text { OnOk result ((more : List A) →
+        AppendsText f.old (item (words A.IrText.written) (mentions.asking A.print_once A.eq) items (mentions.known_in known.new ++ more)
+        (attribute_of attr.now)) f.new) }
+{
+    match attr {
+        AttrObj::Own(own) => fmt_own(own, items, known, f),
+        _ => fmt_attr(attr, f),
+    }
+}
+
+/// Appends a label under the key of labels.
+fn fmt_label(label: &Identifier, f: &mut String) -> fmt::Result
+    ensures { OnOk result (AppendsText f.old (texts.label_text label.now) f.new) }
+{
+    f.push_str("builtin_block_label = builtin.identifier ")?;
+    f.push_str(label.as_str())?;
+    Ok(())
+}
+
+/// Appends what the section gives of an item under one key.
+fn fmt_pair<'c, A: AttrText>(
+    pair: GivenAttribute<'c, A>,
+    items: usize,
+    known: &mut Mentions<'c, A>,
+    f: &mut String,
+) -> fmt::Result
+    requires { items < 2 ^ 63 }
+    ensures known { OnOk result (mentions.known_in known.new ≡
+        mentions.noted (mentions.asking A.print_once A.eq) (mentions.known_in known.old) (given_pair pair.entry).1) }
+    ensures text { OnOk result ((more : List A) →
+        AppendsText f.old (texts.pair_text (mentions.asking A.print_once A.eq) items (mentions.known_in known.new ++ more)
+        (words A.IrText.written) (given_pair pair.entry)) f.new) }
+{
+    match pair {
+        GivenAttribute::Label(label) => fmt_label(label, f),
+        GivenAttribute::Outlined(key, attr) => {
+            f.push_str(key.as_str())?;
+            f.push_str(" = ")?;
+            fmt_attribute(attr, items, known, f)
+        }
+    }
+}
+
+/// Appends `, `, but not in front of the first attribute.
+fn fmt_comma(first: bool, f: &mut String) -> fmt::Result
+    ensures { OnOk result (string_bytes f.new ≡ string_bytes f.old ++ cond first [] comma) }
+{
+    if !first {
+        f.push_str(", ")?;
+    }
+    Ok(())
+}
+
+/// Appends what the section gives of an item beside its location, with `, ` between.
+fn fmt_pairs<'c, A: AttrText>(
+    given: &Given<'c, A>,
+    items: usize,
+    known: &mut Mentions<'c, A>,
+    f: &mut String,
+) -> fmt::Result
+    requires { items < 2 ^ 63 }
+    ensures known { OnOk result (mentions.known_in known.new ≡
+        mentions.all_noted (mentions.asking A.print_once A.eq) (mentions.known_in known.old) (attributes_of A.outlined given.now)) }
+    ensures text { OnOk result ((more : List A) →
+        AppendsText f.old (texts.pairs_text (mentions.asking A.print_once A.eq) items (mentions.known_in known.new ++ more)
+        (words A.IrText.written) (attributes_of A.outlined given.now)) f.new) }
+{
+    let mut first = true;
+    for pair in given.attributes() {
+        fmt_comma(first, f)?;
+        fmt_pair(pair, items, known, f)?;
+        first = false;
+    }
+    Ok(())
+}
+
+/// Appends the entry of an item of which the section gives this.
+pub(crate) fn fmt_entry<'c, T: IrText<A>, A: AttrText>(
+    ctx: &Context<T, A>,
+    index: usize,
+    given: &Given<'c, A>,
+    items: usize,
+    known: &mut Mentions<'c, A>,
+    f: &mut String,
+) -> fmt::Result
+    requires { items < 2 ^ 63 }
+    ensures known { OnOk result (mentions.known_in known.new ≡
+        mentions.all_noted (mentions.asking A.print_once A.eq) (mentions.known_in known.old) (attributes_of A.outlined given.now)) }
+    ensures text { OnOk result ((more : List A) →
+        AppendsText f.old (texts.entry_with (mentions.asking A.print_once A.eq) items (mentions.known_in known.new ++ more)
+        (words A.IrText.written) index
+        (known_text A.written ctx.now.paths given.now.location.now) (attributes_of A.outlined given.now)) f.new) }
+{
+    f.push_str("!")?;
+    fmt_number(index as u64, f)?;
+    f.push_str(" = ")?;
+    fmt_known(given.location, "@[", "], ", ctx, f)?;
+    f.push_str("[")?;
+    fmt_pairs(given, items, known, f)?;
+    f.push_str("]\n")?;
+    Ok(())
+}

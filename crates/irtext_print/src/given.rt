@@ -1,0 +1,161 @@
+//! What the section gives of an operation or a block: its location, where that is known, its label, if it is a block that has one, and its
+//! outlined attributes. Marks and entries are made of this alone.
+ghost use Rattle.std.specs.Prelude.{◌≡◌, ◌++◌, [], option_copied};
+ghost use Rattle.std.specs.Iterator.{YieldsFirstBy, item_count};
+ghost use Rattle.irtext_base.specs.declared.location.Location.TheVariants.{Unknown};
+ghost use Rattle.irtext_print.specs.Given as gives;
+
+use irtext_base::base::{AttrObj, Identifier};
+use irtext_base::location::Location;
+use irtext_base::text::{AttrText, IrText};
+use irtext_context::base::{
+    BasicBlock, BlockAccess, Context, Item, Operation, OperationAccess, Ptr,
+};
+use irtext_dict::base::AttributeDict;
+use irtext_dict::base::attributes::Iter;
+use crate::ir::print::pieces::is_outlined;
+
+/// What the section gives of an item.
+#[derive_where(Clone, Copy)]
+pub struct Given<'c, A> {
+    pub location: &'c Location<A>,
+    pub label: Option<&'c Identifier>,
+    pub attributes: &'c AttributeDict<A>,
+}
+
+/// One of the attributes that the section gives of an item.
+#[derive_where(Clone, Copy)]
+pub enum GivenAttribute<'c, A> {
+    /// A block's label, which stands there as an identifier.
+    Label(&'c Identifier),
+    /// An attribute of the item's own, under its key.
+    Outlined(&'c Identifier, &'c AttrObj<A>),
+}
+
+/// The attributes that the section gives of an item: a block's label first, and then those that are outlined, in the dictionary's order.
+#[derive(Drop)]
+pub struct GivenAttributes<'c, A> {
+    pub(crate) label: Option<&'c Identifier>,
+    pub(crate) entries: Iter<'c, A>,
+}
+
+/// The next of these entries whose attribute is outlined.
+fn next_outlined<'c, A: AttrText>(entries: &mut Iter<'c, A>) -> Option<GivenAttribute<'c, A>>
+    ensures { YieldsFirstBy gives.given_pair (gives.outlined_left A.outlined) entries.old result entries.new }
+{
+    while let Some((key, attr)) = entries.next() {
+        if is_outlined(attr) {
+            return Some(GivenAttribute::Outlined(key, attr));
+        }
+    }
+    None
+}
+
+impl<'c, A: AttrText> Iterator for GivenAttributes<'c, A> {
+    type Item = GivenAttribute<'c, A>;
+
+    ghost next_gives = { YieldsFirstBy gives.given_pair (gives.attributes_left A.outlined) };
+
+    ghost remaining = { item_count (gives.attributes_left A.outlined) };
+
+    fn next(&mut self) -> Option<GivenAttribute<'c, A>> {
+        if let Some(label) = self.label.take() {
+            return Some(GivenAttribute::Label(label));
+        }
+        next_outlined(&mut self.entries)
+    }
+}
+
+/// Whether a location is known.
+fn is_located<A>(location: &Location<A>) -> bool
+    ensures { result ≡ gives.marks_given location.now [] }
+{
+    if let Location::Unknown = location {
+        return false;
+    }
+    true
+}
+
+impl<'c, A: AttrText> Given<'c, A> {
+    /// What the section gives of the item beside its location.
+    pub fn attributes(&self) -> GivenAttributes<'c, A>
+        ensures { gives.attributes_left A.outlined result ≡ gives.attributes_of A.outlined self.now }
+    {
+        GivenAttributes {
+            label: self.label,
+            entries: self.attributes.iter(),
+        }
+    }
+
+    /// Whether the section gives something of the item beside its location.
+    pub fn has_attributes(&self) -> bool
+        ensures { result ≡ gives.marks_given Unknown (gives.attributes_of A.outlined self.now) }
+    {
+        let mut attributes = self.attributes();
+        attributes.next().is_some()
+    }
+
+    /// Whether a mark is written of the item: the section gives something of it.
+    pub fn is_marked(&self) -> bool
+        ensures { result ≡ gives.marks_given self.now.location.now (gives.attributes_of A.outlined self.now) }
+    {
+        is_located(self.location) || self.has_attributes()
+    }
+}
+
+/// What the section gives of an operation; nothing of one that isn't there.
+fn operation_given<'c, T: IrText<A>, A: AttrText>(
+    ctx: &'c Context<T, A>,
+    op: Ptr<Operation>,
+) -> Option<Given<'c, A>>
+    ensures { gives.GivesOperation T.IrText.own A.IrText.own A.AttrText.own A.eq ctx.now op result }
+{
+    if !ctx.contains_operation(op) {
+        return None;
+    }
+    Some(Given {
+        location: op.loc(ctx),
+        label: None,
+        attributes: op.attributes(ctx),
+    })
+}
+
+/// What the section gives of a block; nothing of one that isn't there.
+fn block_given<'c, T: IrText<A>, A: AttrText>(
+    ctx: &'c Context<T, A>,
+    block: Ptr<BasicBlock>,
+) -> Option<Given<'c, A>>
+    ensures { gives.GivesBlock T.IrText.own A.IrText.own A.AttrText.own A.eq ctx.now block result }
+{
+    if !ctx.contains_block(block) {
+        return None;
+    }
+    Some(Given {
+        location: block.loc(ctx),
+        label: block.label(ctx),
+        attributes: block.attributes(ctx),
+    })
+}
+
+/// What the section gives of an item; nothing of one that was erased. It takes no memory.
+pub fn given_of<'c, T: IrText<A>, A: AttrText>(
+    ctx: &'c Context<T, A>,
+    item: Item,
+) -> Option<Given<'c, A>>
+    ensures { gives.Gives T.IrText.own A.IrText.own A.AttrText.own A.eq ctx.now item result }
+{
+    match item {
+        Item::Operation(op) => operation_given(ctx, op),
+        Item::Block(block) => block_given(ctx, block),
+    }
+}
+
+/// Whether a mark is written of an item: the section gives something of it. None is written of one that was erased.
+pub fn is_marked<T: IrText<A>, A: AttrText>(ctx: &Context<T, A>, item: Item) -> bool
+    ensures { result ≡ gives.is_marked_at T.IrText.own A.IrText.own A.AttrText.own A.eq ctx.now item }
+{
+    match given_of(ctx, item) {
+        Some(given) => given.is_marked(),
+        None => false,
+    }
+}

@@ -1,0 +1,32 @@
+//! The attributes that a section writes once: each is known from its first mention on, by a reference, and none is copied.
+ghost use Rattle.std.specs.Prelude.{◌≡◌, ◌<◌, ◌^◌, ◌++◌, List, OnOk, IfOk};
+ghost use Rattle.irtext_grammar.specs.Graphs.Graph.{place_in};
+ghost use Rattle.irtext_print.specs.Mentions as mentions;
+
+use indexmap::IndexSet;
+use irtext_base::text::AttrText;
+use std::fmt;
+
+/// The attributes that are written once, in the order of their first mention.
+pub(crate) type Mentions<'c, A> = IndexSet<&'c A>;
+
+/// Notes an attribute that is written once, and answers its place among those that are known, which stays as more are noted. It takes memory where the
+/// attribute is new.
+pub(crate) fn note<'c, A: AttrText>(
+    known: &mut Mentions<'c, A>,
+    attr: &'c A,
+) -> Result<usize, fmt::Error>
+    ensures known { OnOk result (mentions.known_in known.new ≡
+        mentions.with_mention (mentions.asking A.print_once A.eq) (mentions.known_in known.old) attr.now) }
+    ensures place { IfOk result (λ place. (more : List A) → place ≡
+        place_in (mentions.asking A.print_once A.eq) (mentions.known_in known.new ++ more) attr.now) }
+    ensures small { IfOk result (λ place. place < 2 ^ 63) }
+{
+    match known.insert_full(attr) {
+        Ok((place, _)) => {
+            let _count = known.len();
+            Ok(place)
+        }
+        Err(_) => Err(fmt::Error),
+    }
+}

@@ -1,0 +1,192 @@
+//! The section behind a root.
+ghost use Rattle.std.specs.Prelude.{◌≡◌, ◌++◌, ◌<◌, ◌^◌, List, [], OnOk, IfErr, codes, length, string_bytes, true, false};
+ghost use Rattle.irtext_base.specs.declared.location.Source.TheVariants as source;
+ghost use Rattle.irtext_grammar.specs.Spelling.Locations.{known_text};
+ghost use Rattle.irtext_grammar.specs.Spelling.Section.{once_texts};
+ghost use Rattle.irtext_print.specs.Errors.Located.{framed};
+ghost use Rattle.irtext_print.specs.Printers.Appended.{AppendsText};
+ghost use Rattle.irtext_print.specs.Printers.PieceText.{words};
+ghost use Rattle.irtext_print.specs.declared.printable.refusal.Refusal.TheVariants as refusal;
+ghost use Rattle.irtext_print.specs.Entries as texts;
+ghost use Rattle.irtext_print.specs.Items as section;
+ghost use Rattle.irtext_print.specs.Mentions as mentions;
+
+use crate::entries::fmt_entry;
+use crate::given::given_of;
+use crate::mentions::Mentions;
+use indexmap::IndexSet;
+use irtext_base::location::{Location, Source};
+use irtext_base::text::{AttrText, IrText};
+use irtext_context::base::{Context, Item};
+use crate::location::print::{fmt_known, fmt_numbers};
+use crate::printable::Refusal;
+use crate::printable::numbers::fmt_number;
+use crate::printable::refusal::memory_alone;
+use std::fmt;
+
+/// Appends the entry of an item; one that was erased has none.
+fn fmt_item<'c, T: IrText<A>, A: AttrText>(
+    ctx: &'c Context<T, A>,
+    index: usize,
+    item: Item,
+    count: usize,
+    known: &mut Mentions<'c, A>,
+    f: &mut String,
+) -> fmt::Result
+    requires { count < 2 ^ 63 }
+    ensures known { OnOk result (mentions.known_in known.new ≡
+        section.item_known T.IrText.own A.IrText.own A.AttrText.own A.eq ctx.now (mentions.known_in known.old) item) }
+    ensures text { OnOk result ((more : List A) →
+        AppendsText f.old (section.item_entry T.IrText.own A.IrText.own A.AttrText.own A.eq ctx.now count
+        (mentions.known_in known.new ++ more) index item) f.new) }
+{
+    match given_of(ctx, item) {
+        Some(given) => fmt_entry(ctx, index, &given, count, known, f),
+        None => Ok(()),
+    }
+}
+
+/// Appends the entries of items.
+fn fmt_items<'c, T: IrText<A>, A: AttrText>(
+    ctx: &'c Context<T, A>,
+    items: &[Item],
+    known: &mut Mentions<'c, A>,
+    f: &mut String,
+) -> fmt::Result
+    ensures known { OnOk result (mentions.known_in known.new ≡
+        section.all_known T.IrText.own A.IrText.own A.AttrText.own A.eq ctx.now (mentions.known_in known.old) items.now) }
+    ensures text { OnOk result ((more : List A) →
+        AppendsText f.old (section.all_entries T.IrText.own A.IrText.own A.AttrText.own A.eq ctx.now (length items.now)
+        (mentions.known_in known.new ++ more) 0 items.now) f.new) }
+{
+    for (index, item) in items.iter().enumerate() {
+        fmt_item(ctx, index, *item, items.len(), known, f)?;
+    }
+    Ok(())
+}
+
+/// Appends an attribute that is written once, behind its index.
+fn fmt_once<A: AttrText>(index: usize, attr: &A, f: &mut String) -> fmt::Result
+    ensures { OnOk result (AppendsText f.old (texts.once_text A.IrText.written index attr.now) f.new) }
+{
+    f.push_str("!")?;
+    fmt_number(index as u64, f)?;
+    f.push_str(" = ")?;
+    attr.write_text(f)?;
+    f.push_str("\n")?;
+    Ok(())
+}
+
+/// Appends the attributes that are written once, numbered on behind all items.
+fn fmt_all_once<A: AttrText>(count: usize, known: &Mentions<'_, A>, f: &mut String) -> fmt::Result
+    requires { count < 2 ^ 63 }
+    ensures { OnOk result (AppendsText f.old (once_texts (words A.IrText.written) (mentions.asking A.print_once A.eq) count
+        (mentions.known_in known.now)) f.new) }
+{
+    let attrs = known.as_slice();
+    for (place, attr) in attrs.iter().enumerate() {
+        fmt_once(count + place, *attr, f)?;
+    }
+    Ok(())
+}
+
+/// Appends the section of items, if there are any.
+fn fmt_section<T: IrText<A>, A: AttrText>(
+    ctx: &Context<T, A>,
+    items: &[Item],
+    f: &mut String,
+) -> fmt::Result
+    ensures { OnOk result (AppendsText f.old (section.section_at T.IrText.own A.IrText.own A.AttrText.own A.eq ctx.now items.now) f.new) }
+{
+    if items.is_empty() {
+        return Ok(());
+    }
+    f.push_str("\n\noutlined_attributes:\n")?;
+    let mut known = IndexSet::new(ctx.allocator());
+    fmt_items(ctx, items, &mut known, f)?;
+    fmt_all_once(items.len(), &known, f)
+}
+
+/// Appends the section of items: the index of each is its place among them, and one that was erased has no entry and keeps its index.
+/// Behind them stands each attribute that is written once, numbered on. Nothing is written where there are no items.
+///
+/// It takes memory for the attributes that are written once alone, a reference for each, and is refused only where memory is; what was
+/// written until then stays.
+pub fn print_section<T: IrText<A>, A: AttrText>(
+    ctx: &Context<T, A>,
+    items: &[Item],
+    f: &mut String,
+) -> Result<(), Refusal>
+    ensures text { OnOk result (AppendsText f.old
+        (section.section_at T.IrText.own A.IrText.own A.AttrText.own A.eq ctx.now items.now) f.new) }
+    ensures refused { IfErr result (λ e. e ≡ refusal.Memory) }
+{
+    memory_alone(fmt_section(ctx, items, f))
+}
+
+/// Whether a source is in memory, and so has no path.
+fn is_in_memory(src: Source) -> bool
+    ensures { result ≡ elim src [ source.InMemory ↦ true | _ ↦ false ] }
+{
+    matches!(src, Source::InMemory)
+}
+
+/// Appends the mark and the section of an item of which the section gives this location alone, where that is known. What stands in front of
+/// the line of a place in memory is appended at once.
+fn fmt_located<T: IrText<A>, A: AttrText>(
+    location: &Location<A>,
+    ctx: &Context<T, A>,
+    f: &mut String,
+) -> fmt::Result
+    ensures { OnOk result (string_bytes f.new ≡ string_bytes f.old
+        ++ framed (codes " !0\n\noutlined_attributes:\n!0 = @[") (codes "], []\n") (known_text A.written ctx.now.paths location.now)) }
+{
+    if let Location::SrcPos { src, pos } = location {
+        if is_in_memory(*src) {
+            f.push_str(" !0\n\noutlined_attributes:\n!0 = @[<in-memory>: line: ")?;
+            fmt_numbers(pos, f)?;
+            f.push_str("], []\n")?;
+            return Ok(());
+        }
+    }
+    fmt_known(
+        location,
+        " !0\n\noutlined_attributes:\n!0 = @[",
+        "], []\n",
+        ctx,
+        f,
+    )
+}
+
+/// Appends the mark and the section of an item, as [`print_alone`] does.
+fn fmt_alone<T: IrText<A>, A: AttrText>(
+    ctx: &Context<T, A>,
+    item: Item,
+    f: &mut String,
+) -> fmt::Result
+    ensures { OnOk result (AppendsText f.old (section.alone_at T.IrText.own A.IrText.own A.AttrText.own A.eq ctx.now item) f.new) }
+{
+    let Some(given) = given_of(ctx, item) else {
+        return Ok(());
+    };
+    if given.has_attributes() {
+        f.push_str(" !0")?;
+        return fmt_section(ctx, &[item], f);
+    }
+    fmt_located(given.location, ctx, f)
+}
+
+/// Appends the mark of an item and a section that has its entry alone, where a mark is written of it: so the section's words and the entry
+/// are appended together, and no list of items is asked for.
+///
+/// It takes memory as [`print_section`] does, and is refused only where memory is; what was written until then stays.
+pub fn print_alone<T: IrText<A>, A: AttrText>(
+    ctx: &Context<T, A>,
+    item: Item,
+    f: &mut String,
+) -> Result<(), Refusal>
+    ensures text { OnOk result (AppendsText f.old (section.alone_at T.IrText.own A.IrText.own A.AttrText.own A.eq ctx.now item) f.new) }
+    ensures refused { IfErr result (λ e. e ≡ refusal.Memory) }
+{
+    memory_alone(fmt_alone(ctx, item, f))
+}

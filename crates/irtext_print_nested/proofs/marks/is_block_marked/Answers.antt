@@ -1,9 +1,0 @@
-use Rattle.std.proofs.Common.{◌∙◌}
-use Rattle.irtext_print_walk.specs.Heads as heads
-use Rattle.irtext_print_nested.proofs.Marked.{block_marked}
-use Rattle.irtext_print_nested.proofs.marks.is_block_marked.Goals as goal
-
-pub returns : goal.returns
-returns g c =
-    c.is_marked.ensures
-    ∙ block_marked (heads.printing_of g.T.IrText g.A.IrText g.A.AttrText g.A.PartialEq.eq c.args.ctx.now) g.A.IrText.written c.args.ctx.now c.args.block c.requires.live

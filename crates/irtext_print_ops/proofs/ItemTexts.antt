@@ -1,0 +1,105 @@
+-- The texts of single items: of values with their types, and of what a list has at an index.
+use Rattle.std.proofs.Common.{◌≡◌, ◌≤◌, ◌∙◌, ◌+◌, ◌++◌, ◌∷◌, ℕ, zero, suc, arith, drop, refl, sym, ap, subst, List, [], Option, Some, None, IsSome, IfSome, map, length, slice_get, codes}
+use Rattle.std.specs.Option.{option_map, option_and_then}
+use Rattle.std.specs.Str.{encode_utf8_all}
+use Rattle.std.proofs.lemmas.Option.{slice_get-map}
+use Rattle.std.proofs.lemmas.List.{append-nil}
+use Rattle.irtext_base.specs.Text.{Text}
+use Rattle.irtext_context.specs.Context.{ContextView}
+use Rattle.irtext_graph.specs.Content.{Typed}
+use Rattle.irtext_graph.specs.Parts.{value_at}
+use Rattle.irtext_graph.specs.declared.object.Value.{Value}
+use Rattle.irtext_grammar.specs.Contexts.Nested.{number_of}
+use Rattle.irtext_grammar.specs.Contexts.Held.{known_types}
+use Rattle.irtext_print.specs.Printers.PieceText.{spaced_if}
+use Rattle.irtext_print.proofs.Printers.Locations.{more, worded}
+use Rattle.irtext_print_ops.specs.Listed.{facet_text}
+use Rattle.irtext_print_ops.specs.Names.{name_of, operand_text, or_nothing}
+use Rattle.irtext_print_ops.specs.declared.lists.Facet.{Facet}
+use Rattle.irtext_print_ops.specs.declared.lists.Facet.TheVariants as facet
+
+module _ {T A : Type 0} (written : T → Text) (ctx : ContextView T A) (v : Value) where
+  -- a value that is there has a name
+  pub has_name : IsSome (value_at ctx.graph v) → IsSome (operand_text ctx v)
+  has_name h = go (value_at ctx.graph v) h
+    where
+      go : (o : Option (Typed (Option T))) → IsSome o → IsSome (option_map (name_of ctx) (option_map (λ (t : Typed (Option T)). t.number) o))
+      go None h = absurd (cc)
+      go (Some t) h = refl
+
+  -- both were written
+  pub both_written : (ty : T) (old first second new : List ℕ) → first ≡ old ++ encode_utf8_all (or_nothing (operand_text ctx v)) → second ≡ first ++ codes ": " → new ≡ second ++ encode_utf8_all (written ty)
+      → IfSome (number_of ctx v) (λ n. new ≡ old ++ encode_utf8_all (facet_text written ctx facet.Both (n, ty)))
+  both_written ty old first second new p q r = go (number_of ctx v) p
+    where
+      go : (o : Option ℕ) → first ≡ old ++ encode_utf8_all (or_nothing (option_map (name_of ctx) o)) → IfSome o (λ n. new ≡ old ++ encode_utf8_all (name_of ctx n ++ (codes ": " ++ written ty)))
+      go None p = tt
+      go (Some n) p = more old first new (name_of ctx n) (codes ": " ++ written ty) p (worded first second new (codes ": ") (written ty) refl q r)
+
+  -- the same of what is to be written
+  pub facet_written : (x : Facet) (ty : T) (old new : List ℕ) → x ≡ facet.Both → IfSome (number_of ctx v) (λ n. new ≡ old ++ encode_utf8_all (facet_text written ctx facet.Both (n, ty)))
+      → IfSome (number_of ctx v) (λ n. new ≡ old ++ encode_utf8_all (facet_text written ctx x (n, ty)))
+  facet_written x ty old new e h = subst (λ y. IfSome (number_of ctx v) (λ n. new ≡ old ++ encode_utf8_all (facet_text written ctx y (n, ty)))) (sym e) h
+
+-- what a list has at an index
+pub found_at : {X : Type 0} (f : X → Option Text) (xs : List X) (i : ℕ) → option_and_then f (slice_get xs i) ≡ option_and_then (λ t. t) (slice_get (map f xs) i)
+found_at {X = X} f xs i = go (slice_get xs i) ∙ ap (option_and_then (λ t. t)) (sym (slice_get-map f xs i))
+  where
+    go : (o : Option X) → option_and_then f o ≡ option_and_then (λ t. t) (option_map f o)
+    go None = refl
+    go (Some x) = refl
+
+-- what it has of an item that stands there
+pub found : {X : Type 0} (f : X → Option Text) (xs : List X) (i : ℕ) (x : X) → slice_get xs i ≡ Some x → f x ≡ option_and_then (λ t. t) (slice_get (map f xs) i)
+found f xs i x e = ap (option_and_then f) (sym e) ∙ found_at f xs i
+
+-- a text was written behind a space
+pub spaced_written : (o u : Option Text) → IsSome o → o ≡ u → (old mid new : List ℕ) → mid ≡ old ++ codes " " → new ≡ mid ++ encode_utf8_all (or_nothing o) → new ≡ old ++ encode_utf8_all (spaced_if u)
+spaced_written None u h e old mid new p q = absurd (cc)
+spaced_written (Some t) u h e old mid new p q = worded old mid new (codes " ") t refl p q ∙ ap (λ z. old ++ encode_utf8_all (spaced_if z)) e
+
+-- nothing is written where there is no text
+pub nothing_written : (u : Option Text) (old : List ℕ) → u ≡ None → old ≡ old ++ encode_utf8_all (spaced_if u)
+nothing_written u old e = sym (append-nil old) ∙ ap (λ z. old ++ encode_utf8_all (spaced_if z)) (sym e)
+
+-- ---- the text at an index among those that are there
+
+skip_step : (xs : List (Option Text)) (i left : ℕ) (r : Option Text) → option_and_then (λ t. t) (slice_get xs i) ≡ None → slice_get (known_types (drop i xs)) left ≡ r → slice_get (known_types (drop (suc i) xs)) left ≡ r
+skip_step [] zero left r e h = h
+skip_step [] (suc i) left r e h = h
+skip_step (None ∷ xs) zero left r e h = h
+skip_step (Some t ∷ xs) zero left r e h = absurd (cc)
+skip_step (x ∷ xs) (suc i) left r e h = skip_step xs i left r e h
+
+-- an item without a text is left out
+pub skipped : (xs : List (Option Text)) (i left : ℕ) (r : Option Text) → option_and_then (λ t. t) (slice_get xs i) ≡ None → slice_get (known_types (drop i xs)) left ≡ r → slice_get (known_types (drop (i + 1) xs)) left ≡ r
+skipped xs i left r e h = let after : i + 1 ≡ suc i = omega arith in ap (λ n. slice_get (known_types (drop n xs)) left) after ∙ skip_step xs i left r e h
+
+pass_step : (xs : List (Option Text)) (i left : ℕ) (t : Text) (r : Option Text) → option_and_then (λ t. t) (slice_get xs i) ≡ Some t → slice_get (known_types (drop i xs)) (suc left) ≡ r → slice_get (known_types (drop (suc i) xs)) left ≡ r
+pass_step [] i left t r e h = absurd (cc)
+pass_step (None ∷ xs) zero left t r e h = absurd (cc)
+pass_step (Some u ∷ xs) zero left t r e h = h
+pass_step (x ∷ xs) (suc i) left t r e h = pass_step xs i left t r e h
+
+-- an item that has one is passed
+pub passed : (xs : List (Option Text)) (i left next : ℕ) (t : Text) (r : Option Text) → option_and_then (λ t. t) (slice_get xs i) ≡ Some t → left ≡ suc next → slice_get (known_types (drop i xs)) left ≡ r → slice_get (known_types (drop (i + 1) xs)) next ≡ r
+passed xs i left next t r e l h =
+    let after : i + 1 ≡ suc i = omega arith in
+    ap (λ n. slice_get (known_types (drop n xs)) next) after ∙ pass_step xs i next t r e (ap (λ n. slice_get (known_types (drop i xs)) n) (sym l) ∙ h)
+
+-- it is the one
+pub reached : (xs : List (Option Text)) (i left : ℕ) (t : Text) (r : Option Text) → option_and_then (λ t. t) (slice_get xs i) ≡ Some t → left ≡ 0 → slice_get (known_types (drop i xs)) left ≡ r → Some t ≡ r
+reached xs i left t r e l h = at xs i e ∙ ap (λ n. slice_get (known_types (drop i xs)) n) (sym l) ∙ h
+  where
+    at : (xs : List (Option Text)) (i : ℕ) → option_and_then (λ t. t) (slice_get xs i) ≡ Some t → Some t ≡ slice_get (known_types (drop i xs)) 0
+    at [] i e = absurd (cc)
+    at (None ∷ xs) zero e = absurd (cc)
+    at (Some u ∷ xs) zero e = sym e
+    at (x ∷ xs) (suc i) e = at xs i e
+
+-- there is none
+pub missed : (xs : List (Option Text)) (i left : ℕ) (r : Option Text) → length xs ≤ i → slice_get (known_types (drop i xs)) left ≡ r → r ≡ None
+missed [] zero left r h e = sym e
+missed [] (suc i) left r h e = sym e
+missed (x ∷ xs) zero left r h e = absurd (omega (arith, h))
+missed (x ∷ xs) (suc i) left r h e = missed xs i left r (omega (arith, h)) e

@@ -1,0 +1,234 @@
+-- For callers: what a frame of the printing loop means: what it leaves open, which items are still marked in it, and how much is left of it.
+use Rattle.std.specs.Prelude.{◌≡◌, ◌<◌, ◌≤◌, ◌+◌, ◌*◌, ◌-◌, ◌||◌, ◌++◌, ◌∷◌, ℕ, suc, Bool, true, false, cond, List, [], length, map, drop, filter_map, Option, Some, None, IsSome, option_map, ⊤}
+use Rattle.std.specs.Borrow.{Bor}
+use Rattle.std.specs.Str.{encode_utf8_all}
+use Rattle.irtext_base.specs.Format as format
+use Rattle.irtext_base.specs.Format.{Format, Directive}
+use Rattle.irtext_base.specs.Own.{Language}
+use Rattle.irtext_base.specs.Text.{Text}
+use Rattle.irtext_base.specs.declared.format.Directive as code
+use Rattle.irtext_context.specs.Context.{ContextView, operation, block}
+use Rattle.irtext_formats.specs.Directives.{directives_of}
+use Rattle.irtext_graph.specs.declared.arena.Ptr.{Ptr}
+use Rattle.irtext_graph.specs.declared.object.BasicBlock.{BasicBlock}
+use Rattle.irtext_graph.specs.declared.object.Object.TheVariants.{TheBlock, TheRegion}
+use Rattle.irtext_graph.specs.declared.object.Operation.{Operation}
+use Rattle.irtext_graph.specs.declared.object.Region.{Region}
+use Rattle.irtext_graph.specs.Graph.{Stands}
+use Rattle.irtext_graph.specs.Parts.{regions, blocks, operations_in}
+use Rattle.irtext_grammar.specs.Contexts.Formats.{isolated}
+use Rattle.irtext_grammar.specs.Contexts.Nested.{operations_by, blocks_by, regions_by, within, seen_regions, seen_blocks, seen_operations, seen_operation, seen_block, seen_own}
+use Rattle.irtext_grammar.specs.Grammar.Forest as forest
+use Rattle.irtext_grammar.specs.Grammar.Forest.{Regions, no_regions, Blocks, no_blocks, Operations, no_operations}
+use Rattle.irtext_grammar.specs.Grammar.Tree as tree
+use Rattle.irtext_grammar.specs.Grammar.Tree.{Part}
+use Rattle.irtext_grammar.specs.Graphs.Graph.{GraphOp, GraphBlock, Printing, Limit, part_of, is_elided, inside, is_marked, op_outlined, block_outlined}
+use Rattle.irtext_grammar.specs.Spelling.Spell.{space, piece}
+use Rattle.irtext_print.specs.Printers.PrintedOperation.{levels}
+use Rattle.irtext_print.specs.declared.printable.refusal.Refusal.{Refusal}
+use Rattle.irtext_print.specs.declared.printable.refusal.Refusal.TheVariants.{Misfit}
+use Rattle.irtext_print_ops.specs.Opened.{Open, an_operation, a_region, a_block, covers, Turns}
+use Rattle.irtext_print_ops.specs.Faults.{OpenFault, AnyFault}
+use Rattle.irtext_print_ops.specs.Steps.{custom_directives}
+use Rattle.irtext_print_ops.specs.declared.frame.Frame.{Frame}
+use Rattle.irtext_print_ops.specs.declared.frame.Frame.TheVariants as frame
+use Rattle.irtext_context.specs.declared.base.item.Item.{Item}
+use Rattle.irtext_context.specs.declared.base.item.Item.TheVariants as item
+use Rattle.irtext_print_ops.specs.declared.step.Stop.{Stop}
+use Rattle.irtext_print_ops.specs.declared.step.Stop.TheVariants as stop
+
+-- the operation is written as any operation can be
+abbrev pub is_canonical : Option Format → Bool
+is_canonical (Some format.canonical) = true
+is_canonical _ = false
+
+-- the directives of a format that has some
+abbrev pub directives_in : Option Format → List Directive
+directives_in (Some (format.custom ds)) = ds
+directives_in _ = []
+
+-- what printing sees of an operation that isn't there
+abbrev pub nothing_seen : {T A : Type 0} → GraphOp T A
+nothing_seen = record { id = record { dialect = []; name = [] }; results = []; operands = []; successors = []; attributes = []; location = None }
+
+-- an operation as printing sees it, where it is there
+abbrev pub or_nothing : {T A : Type 0} → Option (GraphOp T A) → GraphOp T A
+or_nothing None = nothing_seen
+or_nothing (Some o) = o
+
+module _ {T A : Type 0} (L : Language ⊤ T A) where
+  -- what a part writes, where it is no region
+  abbrev pub part_text : Option (Part ⊤ T A) → Text
+  part_text (Some (tree.piece p)) = space L p ++ piece L p
+  part_text _ = []
+
+  -- what parts write in front of the first region
+  abbrev pub pieces_text : List (Part ⊤ T A) → Text
+  pieces_text [] = []
+  pieces_text (tree.piece p ∷ ps) = (space L p ++ piece L p) ++ pieces_text ps
+  pieces_text (tree.region i ∷ ps) = []
+  pieces_text (tree.regions ∷ ps) = []
+
+-- the parts from the first region on
+abbrev pub behind_pieces : {T A : Type 0} → List (Part ⊤ T A) → List (Part ⊤ T A)
+behind_pieces [] = []
+behind_pieces (tree.piece p ∷ ps) = behind_pieces ps
+behind_pieces (tree.region i ∷ ps) = tree.region i ∷ ps
+behind_pieces (tree.regions ∷ ps) = tree.regions ∷ ps
+
+module _ {T A : Type 0} (C : Printing T A) where
+  -- what is written of an operation where a directive of its format stands
+  abbrev pub part_at : GraphOp T A → Directive → Option (Part ⊤ T A)
+  part_at o d = part_of C (directives_in (C.format_of o.id)) o d
+
+  -- the parts of an operation from a directive on
+  abbrev pub parts_from : GraphOp T A → List Directive → List (Part ⊤ T A)
+  parts_from o ds = filter_map (part_at o) ds
+
+  -- the parts of an operation from the directive of an index on
+  abbrev pub parts_left : GraphOp T A → ℕ → List (Part ⊤ T A)
+  parts_left o k = parts_from o (drop k (directives_in (C.format_of o.id)))
+
+  -- what was found of an operation's format: its directives, where it has some
+  abbrev pub AreDirectives : GraphOp T A → Option (Bor (List code.Directive)) → Type 0
+  AreDirectives o found = option_map (λ ds. directives_of ds.now) found ≡ custom_directives (C.format_of o.id)
+
+  -- Where the pieces behind a directive end, and which parts are left then: none, or one region or all that are left, and those behind.
+  abbrev pub StopsBefore : GraphOp T A → ℕ → Stop → Type 0
+  StopsBefore o from stop.End = behind_pieces (parts_left o from) ≡ []
+  StopsBefore o from (stop.Region k) = ((i : ℕ) × (behind_pieces (parts_left o from) ≡ tree.region i ∷ parts_left o k)) × ((from < k) × (k ≤ length (directives_in (C.format_of o.id))))
+  StopsBefore o from (stop.Regions k) = (behind_pieces (parts_left o from) ≡ tree.regions ∷ parts_left o k) × ((from < k) × (k ≤ length (directives_in (C.format_of o.id))))
+
+  module _ (L : Language ⊤ T A) (ctx : ContextView T A) where
+    -- an operation as printing sees it
+    abbrev pub seen_at : Ptr Operation → GraphOp T A
+    seen_at p = or_nothing (seen_own L.owns.written ctx p)
+
+    -- an operation stands, and this was found of its format
+    abbrev pub IsBegun : Ptr Operation → Option (Bor (List code.Directive)) → Type 0
+    IsBegun p found = IsSome (operation ctx p) × AreDirectives (seen_at p) found
+
+    -- what stands in an operation, however deep
+    abbrev pub inside_of : Ptr Operation → Regions (Ptr Operation) (Ptr BasicBlock) (Ptr Region)
+    inside_of p = within ctx.graph (suc (length ctx.graph.operations.cells)) p
+
+    -- the regions of an operation from an index on
+    abbrev pub regions_left : Ptr Operation → ℕ → Regions (Ptr Operation) (Ptr BasicBlock) (Ptr Region)
+    regions_left p i = regions_by ctx.graph inside_of (drop i (regions ctx.graph p))
+
+    -- the blocks of a region from an index on
+    abbrev pub blocks_left : Ptr Region → ℕ → Blocks (Ptr Operation) (Ptr BasicBlock) (Ptr Region)
+    blocks_left r i = blocks_by ctx.graph inside_of (drop i (blocks ctx.graph r))
+
+    -- the operations of a block from an index on
+    abbrev pub operations_left : Ptr BasicBlock → ℕ → Operations (Ptr Operation) (Ptr BasicBlock) (Ptr Region)
+    operations_left b i = operations_by ctx.graph inside_of (drop i (operations_in ctx.graph b))
+
+    -- the operation's own, where its mark is still to be written
+    abbrev pub marked_own : Bool → Ptr Operation → Option (GraphOp T A)
+    marked_own marked p = cond marked (Some (seen_at p)) None
+
+    -- what a frame leaves open
+    abbrev pub open_of : Frame → Open T A
+    open_of (frame.Operation f) = an_operation f.indent (levels f.limit) (marked_own f.marked f.op) f.repeats (parts_left (seen_at f.op) f.directive) (seen_regions L.owns.written ctx (regions_left f.op f.region))
+    open_of (frame.Region f) = a_region f.indent (levels f.limit) f.first (seen_blocks L.owns.written ctx (blocks_left f.region f.block))
+    open_of (frame.Block f) = a_block f.indent (levels f.limit) f.first (seen_operations L.owns.written ctx (operations_left f.block f.operation))
+
+    -- What a frame is of stands in the context, and where the parts of an operation are still to be written, they write all its regions. The
+    -- frame of an operation has the directives of its format.
+    abbrev pub FrameFits : Frame → Type 0
+    FrameFits (frame.Operation f) = IsBegun f.op f.directives
+        × ((f.repeats || covers (parts_left (seen_at f.op) f.directive) (seen_regions L.owns.written ctx (regions_left f.op f.region))) ≡ true)
+    FrameFits (frame.Region f) = Stands ctx.graph (TheRegion f.region)
+    FrameFits (frame.Block f) = Stands ctx.graph (TheBlock f.block)
+
+    -- the same of all frames
+    abbrev pub AllFit : List Frame → Type 0
+    AllFit [] = ⊤
+    AllFit (f ∷ frames) = FrameFits f × AllFit frames
+
+    -- an operation, where it is marked
+    abbrev pub marked_operation : Ptr Operation → GraphOp T A → List Item
+    marked_operation p o = cond (is_marked C o.location (op_outlined C o)) (item.Operation p ∷ []) []
+
+    -- a block, where it is marked
+    abbrev pub marked_block : Ptr BasicBlock → GraphBlock T A → List Item
+    marked_block b h = cond (is_marked C h.location (block_outlined C h)) (item.Block b ∷ []) []
+
+    abbrev mutual
+      -- the marked items in regions, in the order of their marks
+      pub items_in_regions : Limit → Regions (Ptr Operation) (Ptr BasicBlock) (Ptr Region) → List Item
+      items_in_regions l no_regions = []
+      items_in_regions l (forest.region r bs rs) = cond (is_elided C l) [] (items_in_blocks (inside C l) bs) ++ items_in_regions l rs
+
+      -- the marked items in blocks: a block before its operations
+      pub items_in_blocks : Limit → Blocks (Ptr Operation) (Ptr BasicBlock) (Ptr Region) → List Item
+      items_in_blocks l no_blocks = []
+      items_in_blocks l (forest.block b os bs) = elim (block ctx b) [ Some view ↦ marked_block b (seen_block L.owns.written ctx b view) ++ (items_in_operations l os ++ items_in_blocks l bs) | None ↦ items_in_blocks l bs ]
+
+      -- the marked items among operations: an operation behind what stands in its regions
+      pub items_in_operations : Limit → Operations (Ptr Operation) (Ptr BasicBlock) (Ptr Region) → List Item
+      items_in_operations l no_operations = []
+      items_in_operations l (forest.operation p rs os) = elim (operation ctx p) [ Some op ↦ items_in_regions l rs ++ (marked_operation p (seen_operation L.owns.written ctx p op) ++ items_in_operations l os) | None ↦ items_in_operations l os ]
+
+    -- the items whose marks a frame still writes
+    abbrev pub items_of : Frame → List Item
+    items_of (frame.Operation f) = items_in_regions (levels f.limit) (regions_left f.op f.region) ++ cond f.marked (marked_operation f.op (seen_at f.op)) []
+    items_of (frame.Region f) = items_in_blocks (levels f.limit) (blocks_left f.region f.block)
+    items_of (frame.Block f) = items_in_operations (levels f.limit) (operations_left f.block f.operation)
+
+    -- the items whose marks are still to be written: the innermost frame comes first
+    abbrev pub items_left : List Frame → List Item
+    items_left [] = []
+    items_left (f ∷ frames) = items_left frames ++ items_of f
+
+    -- how many directives the format of an operation has
+    abbrev pub directive_count : Ptr Operation → ℕ
+    directive_count p = length (directives_in (C.format_of (seen_at p).id))
+
+    abbrev mutual
+      -- a bound on the turns that regions take
+      pub turns_of_regions : Regions (Ptr Operation) (Ptr BasicBlock) (Ptr Region) → ℕ
+      turns_of_regions no_regions = 0
+      turns_of_regions (forest.region r bs rs) = 2 + (turns_of_blocks bs + turns_of_regions rs)
+
+      -- a bound on the turns that blocks take
+      pub turns_of_blocks : Blocks (Ptr Operation) (Ptr BasicBlock) (Ptr Region) → ℕ
+      turns_of_blocks no_blocks = 0
+      turns_of_blocks (forest.block b os bs) = 2 + (turns_of_operations os + turns_of_blocks bs)
+
+      -- a bound on the turns that operations take
+      pub turns_of_operations : Operations (Ptr Operation) (Ptr BasicBlock) (Ptr Region) → ℕ
+      turns_of_operations no_operations = 0
+      turns_of_operations (forest.operation p rs os) = 3 + (2 * directive_count p + (turns_of_regions rs + turns_of_operations os))
+
+    -- a bound on the turns that a frame takes
+    abbrev pub turns_of : Frame → ℕ
+    turns_of (frame.Operation f) = 1 + (2 * (directive_count f.op - f.directive) + (cond f.repeats 1 0 + turns_of_regions (regions_left f.op f.region)))
+    turns_of (frame.Region f) = 1 + turns_of_blocks (blocks_left f.region f.block)
+    turns_of (frame.Block f) = 1 + turns_of_operations (operations_left f.block f.operation)
+
+    -- a bound on the turns that are left
+    abbrev pub turns_left : List Frame → ℕ
+    turns_left [] = 0
+    turns_left (f ∷ frames) = turns_of f + turns_left frames
+
+    -- What was open is replaced by frames: the text that was appended, with the marks of the items that were gathered, is what they leave
+    -- of its text; a reason to refuse them is one to refuse it, and what doesn't fit its format in it doesn't in them; and fewer turns are left.
+    pub record Replaces (width : ℕ) (before : Open T A) (waiting : List Item) (turns : ℕ) (items items' : List Item) (frames frames' : List Frame) (old new : List ℕ) : Type 0 where
+      pub pushed : List Frame
+      pub text : Text
+      pub gathered : List Item
+      pub stack : frames' ≡ frames ++ pushed
+      pub marks : items' ≡ items ++ gathered
+      pub written : new ≡ old ++ encode_utf8_all text
+      pub turned : Turns C L width before (length items) text (length gathered) (map open_of pushed)
+      pub left : waiting ≡ gathered ++ items_left pushed
+      pub fit : AllFit pushed
+      pub faults : (e : Refusal) → AnyFault C (isolated ctx.dialects) width e (map open_of pushed) → OpenFault C (isolated ctx.dialects) width e before
+      pub misfits : OpenFault C (isolated ctx.dialects) width Misfit before → AnyFault C (isolated ctx.dialects) width Misfit (map open_of pushed)
+      pub fewer : turns_left pushed < turns
+
+    -- a turn of a frame
+    abbrev pub Steps : ℕ → Frame → List Item → List Item → List Frame → List Frame → List ℕ → List ℕ → Type 0
+    Steps width f items items' frames frames' old new = Replaces width (open_of f) (items_of f) (turns_of f) items items' frames frames' old new

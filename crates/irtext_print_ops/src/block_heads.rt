@@ -1,0 +1,93 @@
+//! What stands in front of a block's operations: its label, its arguments and its dictionary.
+ghost use Rattle.std.specs.Prelude.{◌≡◌, ◌++◌, IsSome, IfSome, IfErr, OnOk, codes};
+ghost use Rattle.irtext_context.specs.Context as context;
+ghost use Rattle.irtext_graph.specs.Graph.{Stands};
+ghost use Rattle.irtext_graph.specs.declared.object.Object.TheVariants.{TheBlock};
+ghost use Rattle.irtext_grammar.specs.Contexts.Held.{entries_of};
+ghost use Rattle.irtext_grammar.specs.Contexts.Nested.{seen_head};
+ghost use Rattle.irtext_grammar.specs.Graphs.Graph.{tree_head};
+ghost use Rattle.irtext_print.specs.Printers.Appended.{AppendsText};
+ghost use Rattle.irtext_print.specs.Printers.PrintedOperation.{language_in};
+ghost use Rattle.irtext_print.specs.declared.printable.refusal.Refusal.TheVariants as refusal;
+ghost use Rattle.irtext_print_ops.specs.Opened.{block_head};
+ghost use Rattle.irtext_print_ops.specs.Inline.{has_inline, inline_text};
+ghost use Rattle.irtext_print_ops.specs.Listed.{list_text};
+ghost use Rattle.irtext_print_ops.specs.Names.{printing_by};
+ghost use Rattle.irtext_print_ops.specs.declared.lists.Listed.TheVariants.{Arguments};
+
+use crate::lists::{Listed, fmt_listed};
+use crate::names::fmt_block_label;
+use irtext_base::text::{AttrText, IrText};
+use irtext_context::base::{BasicBlock, BlockAccess, Context, Ptr};
+use irtext_dict::base::AttributeDict;
+use irtext_print::ir::print::pieces::{fmt_dictionary, is_outlined};
+use irtext_print::printable::Refusal;
+use irtext_print::printable::refusal::memory_alone;
+use std::fmt;
+
+/// Whether some attribute is written where it stands, and not in the section.
+fn has_inline<A: AttrText>(attributes: &AttributeDict<A>) -> bool
+    ensures { result ≡ has_inline A.outlined (entries_of attributes.now) }
+{
+    for (_key, attr) in attributes.iter() {
+        if !is_outlined(attr) {
+            return true;
+        }
+    }
+    false
+}
+
+/// Appends the dictionary of the attributes that are not outlined, behind a space, where there is one.
+fn fmt_inline<A: AttrText>(attributes: &AttributeDict<A>, f: &mut String) -> fmt::Result
+    ensures { OnOk result (AppendsText f.old (inline_text A.outlined A.IrText.written (entries_of attributes.now)) f.new) }
+{
+    if has_inline(attributes) {
+        fmt_dictionary(attributes, &[], f)?;
+    }
+    Ok(())
+}
+
+/// Appends the arguments with their types, between their brackets.
+fn fmt_arguments<T: IrText<A>, A: AttrText>(
+    ctx: &Context<T, A>,
+    block: Ptr<BasicBlock>,
+    f: &mut String,
+) -> fmt::Result
+    requires { Stands ctx.now.graph (TheBlock block) }
+    ensures { OnOk result (AppendsText f.old (codes "(" ++ (list_text T.IrText.written ctx.now (Arguments block) 0 ++ codes ")")) f.new) }
+{
+    f.push_str("(")?;
+    fmt_listed(ctx, Listed::Arguments(block), 0, f)?;
+    f.push_str(")")?;
+    Ok(())
+}
+
+/// Appends a block's label, its arguments and its dictionary, as [`fmt_block_head`] does.
+fn fmt_head<T: IrText<A>, A: AttrText>(
+    ctx: &Context<T, A>,
+    block: Ptr<BasicBlock>,
+    f: &mut String,
+) -> fmt::Result
+    requires live { IsSome (context.block ctx.now block) }
+    ensures { OnOk result (IfSome (seen_head A.IrText.written ctx.now block) (λ h. AppendsText f.old
+        (block_head (language_in T.IrText.own A.IrText.own ctx.now) (tree_head (printing_by A.AttrText.own A.eq ctx.now) 0 h)) f.new)) }
+{
+    fmt_block_label(ctx, block, f)?;
+    fmt_arguments(ctx, block, f)?;
+    fmt_inline(block.attributes(ctx), f)
+}
+
+/// Appends a block's label, its arguments with their types, of those whose types are known, and its dictionary, where some attribute is
+/// not outlined; not its mark. It fails only where memory is refused.
+pub fn fmt_block_head<T: IrText<A>, A: AttrText>(
+    ctx: &Context<T, A>,
+    block: Ptr<BasicBlock>,
+    f: &mut String,
+) -> Result<(), Refusal>
+    requires live { IsSome (context.block ctx.now block) }
+    ensures text { OnOk result (IfSome (seen_head A.IrText.written ctx.now block) (λ h. AppendsText f.old
+        (block_head (language_in T.IrText.own A.IrText.own ctx.now) (tree_head (printing_by A.AttrText.own A.eq ctx.now) 0 h)) f.new)) }
+    ensures refused { IfErr result (λ e. e ≡ refusal.Memory) }
+{
+    memory_alone(fmt_head(ctx, block, f))
+}

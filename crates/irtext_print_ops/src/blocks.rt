@@ -1,0 +1,95 @@
+//! Printing of a region, and of a block, with all that nests in it.
+ghost use Rattle.std.specs.Prelude.{◌≡◌, ◌++◌, OnOk, IfErr, IsSome, length};
+ghost use Rattle.irtext_context.specs.Context as context;
+ghost use Rattle.irtext_graph.specs.Graph.{Stands};
+ghost use Rattle.irtext_graph.specs.declared.object.Object.TheVariants.{TheRegion};
+ghost use Rattle.irtext_print.specs.Printers.Appended.{AppendsText};
+ghost use Rattle.irtext_print.specs.declared.printable.refusal.Refusal.TheVariants as refusal;
+ghost use Rattle.irtext_print_ops.specs.Heads as heads;
+ghost use Rattle.irtext_print_ops.specs.Steps.{begun_frames, listed};
+
+use crate::frame::{BlockFrame, Frame, RegionFrame};
+use crate::heads::WritesHeads;
+use crate::opening::{begin_region, deeper, fmt_colon};
+use crate::step::fmt_block_mark;
+use crate::walk::print_frames;
+use irtext_base::text::{AttrText, IrText};
+use irtext_context::base::{BasicBlock, Context, Item, Ptr, Region};
+use irtext_print::printable::{Refusal, State};
+
+/// The frame of a region that was begun, where it isn't elided.
+fn region_frame<'c>(begun: Option<RegionFrame>) -> Option<Frame<'c>>
+    ensures { listed result ≡ begun_frames begun }
+{
+    match begun {
+        Some(begun) => Some(Frame::Region(begun)),
+        None => None,
+    }
+}
+
+/// Appends the text of a region with all that nests in it, at the state's indentation and under its limit. What is marked is added to
+/// `items`, in the order of the marks, and a mark counts those before it. What was written and gathered until a refusal stays. It is
+/// refused as an operation with this region is.
+pub fn print_region_inside<H: WritesHeads<T, A>, T: IrText<A>, A: AttrText, U>(
+    ctx: &Context<T, A>,
+    region: Ptr<Region>,
+    state: &State<U>,
+    items: &mut Vec<Item>,
+    f: &mut String,
+) -> Result<(), Refusal>
+    requires live { Stands ctx.now.graph (TheRegion region) }
+    ensures text { OnOk result (AppendsText f.old (heads.region_text_under T.IrText.own A.IrText.own A.AttrText.own A.eq ctx.now region
+        state.now (length items.old.items)) f.new) }
+    ensures items { OnOk result (items.new.items ≡ items.old.items ++
+        heads.region_items_under T.IrText.own A.IrText.own A.AttrText.own A.eq ctx.now region state.now) }
+    ensures fits { OnOk result (heads.RegionFaultUnder T.IrText.own A.IrText.own A.AttrText.own A.eq ctx.now region state.now refusal.Misfit
+        → ⊥) }
+    ensures refused { IfErr result (heads.RefusesRegionUnder T.IrText.own A.IrText.own A.AttrText.own A.eq ctx.now region state.now) }
+{
+    let width = state.indent_width();
+    let indent = state.current_indent();
+    let limit = state.current_region_print_depth_limit();
+    let begun = begin_region(region, true, indent, width, limit, f)?;
+    let mut frames = Vec::new(ctx.allocator());
+    print_frames::<H, T, A>(ctx, width, region_frame(begun), &mut frames, items, f)
+}
+
+/// Appends the text of a block with all that nests in it, at the state's indentation and under its limit; its mark is written where it
+/// has one. What is marked is added to `items`, in the order of the marks, and a mark counts those before it. What was written and
+/// gathered until a refusal stays.
+///
+/// It is refused with `Depth` where the spaces in front of its operations, or of a line inside of a region that is shown, do not fit 16
+/// bits, with `Misfit` where an operation that is shown inside of it does not fit its format, and with `Memory` where memory is refused.
+pub fn print_block_inside<H: WritesHeads<T, A>, T: IrText<A>, A: AttrText, U>(
+    ctx: &Context<T, A>,
+    block: Ptr<BasicBlock>,
+    state: &State<U>,
+    items: &mut Vec<Item>,
+    f: &mut String,
+) -> Result<(), Refusal>
+    requires live { IsSome (context.block ctx.now block) }
+    ensures text { OnOk result (AppendsText f.old (heads.block_text_under T.IrText.own A.IrText.own A.AttrText.own A.eq ctx.now block
+        state.now (length items.old.items)) f.new) }
+    ensures items { OnOk result (items.new.items ≡ items.old.items ++
+        heads.block_items_under T.IrText.own A.IrText.own A.AttrText.own A.eq ctx.now block state.now) }
+    ensures fits { OnOk result (heads.BlockFaultUnder T.IrText.own A.IrText.own A.AttrText.own A.eq ctx.now block state.now refusal.Misfit →
+        ⊥) }
+    ensures refused { IfErr result (heads.RefusesBlockUnder T.IrText.own A.IrText.own A.AttrText.own A.eq ctx.now block state.now) }
+{
+    let width = state.indent_width();
+    let indent = state.current_indent();
+    let limit = state.current_region_print_depth_limit();
+    let inner = deeper(indent, width)?;
+    H::fmt_block_head(ctx, block, f)?;
+    fmt_block_mark::<H, T, A>(ctx, block, items, f)?;
+    fmt_colon(inner, f)?;
+    let first = Frame::Block(BlockFrame {
+        block,
+        operation: 0,
+        first: true,
+        indent,
+        limit,
+    });
+    let mut frames = Vec::new(ctx.allocator());
+    print_frames::<H, T, A>(ctx, width, Some(first), &mut frames, items, f)
+}

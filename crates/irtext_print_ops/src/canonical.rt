@@ -1,0 +1,91 @@
+//! The form that any operation has, but for its results, its id and its regions.
+ghost use Rattle.std.specs.Prelude.{◌≡◌, ◌++◌, Some, IsSome, IfSome, IfErr, OnOk, codes};
+ghost use Rattle.irtext_base.specs.Format as format;
+ghost use Rattle.irtext_context.specs.Context.{operation};
+ghost use Rattle.irtext_graph.specs.Graph.{Stands};
+ghost use Rattle.irtext_graph.specs.declared.object.Object.TheVariants.{TheOperation};
+ghost use Rattle.irtext_grammar.specs.Contexts.Nested.{seen_own};
+ghost use Rattle.irtext_grammar.specs.Graphs.Graph.{body_of};
+ghost use Rattle.irtext_print.specs.Printers.Appended.{AppendsText};
+ghost use Rattle.irtext_print.specs.Printers.PrintedOperation.{language_in};
+ghost use Rattle.irtext_print.specs.declared.printable.refusal.Refusal.TheVariants as refusal;
+ghost use Rattle.irtext_print_ops.specs.Opened.{body_front};
+ghost use Rattle.irtext_print_ops.specs.Listed.{list_text};
+ghost use Rattle.irtext_print_ops.specs.Names.{printing_by};
+ghost use Rattle.irtext_print_ops.specs.declared.lists.Listed.TheVariants.{Operands, Successors, OperandTypes, ResultTypes};
+
+use crate::lists::{Listed, fmt_listed};
+use irtext_base::text::{AttrText, IrText};
+use irtext_context::base::{Context, Operation, OperationAccess, Ptr};
+use irtext_print::ir::print::pieces::fmt_dictionary;
+use irtext_print::printable::Refusal;
+use irtext_print::printable::refusal::memory_alone;
+use std::fmt;
+
+/// Appends the names of the operands and the labels of the successors, between their brackets.
+fn fmt_uses<T: IrText<A>, A: AttrText>(
+    ctx: &Context<T, A>,
+    op: Ptr<Operation>,
+    f: &mut String,
+) -> fmt::Result
+    requires { Stands ctx.now.graph (TheOperation op) }
+    ensures { OnOk result (AppendsText f.old (codes " (" ++ (list_text T.IrText.written ctx.now (Operands op) 0
+        ++ (codes ") [" ++ (list_text T.IrText.written ctx.now (Successors op) 0 ++ codes "]")))) f.new) }
+{
+    f.push_str(" (")?;
+    fmt_listed(ctx, Listed::Operands(op), 0, f)?;
+    f.push_str(") [")?;
+    fmt_listed(ctx, Listed::Successors(op), 0, f)?;
+    f.push_str("]")?;
+    Ok(())
+}
+
+/// Appends the types of the operands and of the results, between their brackets.
+fn fmt_types<T: IrText<A>, A: AttrText>(
+    ctx: &Context<T, A>,
+    op: Ptr<Operation>,
+    f: &mut String,
+) -> fmt::Result
+    requires { Stands ctx.now.graph (TheOperation op) }
+    ensures { OnOk result (AppendsText f.old (codes ": <(" ++ (list_text T.IrText.written ctx.now (OperandTypes op) 0
+        ++ (codes ") -> (" ++ (list_text T.IrText.written ctx.now (ResultTypes op) 0 ++ codes ")>")))) f.new) }
+{
+    f.push_str(": <(")?;
+    fmt_listed(ctx, Listed::OperandTypes(op), 0, f)?;
+    f.push_str(") -> (")?;
+    fmt_listed(ctx, Listed::ResultTypes(op), 0, f)?;
+    f.push_str(")>")?;
+    Ok(())
+}
+
+/// Appends what stands behind the id in the form that any operation has, as [`fmt_canonical_front`] does.
+fn fmt_front<T: IrText<A>, A: AttrText>(
+    ctx: &Context<T, A>,
+    op: Ptr<Operation>,
+    f: &mut String,
+) -> fmt::Result
+    requires live { IsSome (operation ctx.now op) }
+    ensures { OnOk result (IfSome (seen_own A.IrText.written ctx.now op) (λ o. AppendsText f.old
+        (body_front (language_in T.IrText.own A.IrText.own ctx.now)
+        (body_of (printing_by A.AttrText.own A.eq ctx.now) o (Some format.canonical))) f.new)) }
+{
+    fmt_uses(ctx, op, f)?;
+    fmt_dictionary(op.attributes(ctx), &[], f)?;
+    fmt_types(ctx, op, f)
+}
+
+/// Appends what stands behind the id in the form that any operation has, in front of its regions: the names of the operands, the labels
+/// of the successors, the dictionary, and the types of operands and results. It fails only where memory is refused.
+pub fn fmt_canonical_front<T: IrText<A>, A: AttrText>(
+    ctx: &Context<T, A>,
+    op: Ptr<Operation>,
+    f: &mut String,
+) -> Result<(), Refusal>
+    requires live { IsSome (operation ctx.now op) }
+    ensures text { OnOk result (IfSome (seen_own A.IrText.written ctx.now op) (λ o. AppendsText f.old
+        (body_front (language_in T.IrText.own A.IrText.own ctx.now)
+        (body_of (printing_by A.AttrText.own A.eq ctx.now) o (Some format.canonical))) f.new)) }
+    ensures refused { IfErr result (λ e. e ≡ refusal.Memory) }
+{
+    memory_alone(fmt_front(ctx, op, f))
+}

@@ -1,0 +1,335 @@
+//! Whether an operation fits its format, and why not.
+ghost use Rattle.std.specs.Prelude.{◌≡◌, not, ◌||◌, ◌==◌, nat_lt, cond, length, option_copied, option_map, Some, None, IsSome, IfSome, IfOk, IfErr, OnOk};
+ghost use Rattle.irtext_context.specs.Context.{operation};
+ghost use Rattle.irtext_formats.specs.Directives.{directive_of, directives_of};
+ghost use Rattle.irtext_graph.specs.Graph.{Stands};
+ghost use Rattle.irtext_graph.specs.Parts.{regions};
+ghost use Rattle.irtext_graph.specs.declared.object.Object.TheVariants.{TheOperation};
+ghost use Rattle.irtext_grammar.specs.Contexts.Formats.{format_of, isolated};
+ghost use Rattle.irtext_grammar.specs.Contexts.Held.{attribute_of, entries_of, known_types};
+ghost use Rattle.irtext_grammar.specs.Contexts.Nested.{seen_own};
+ghost use Rattle.irtext_print.specs.Printers.FitFaults.{missing_key};
+ghost use Rattle.irtext_print.specs.Printers.PrintedOperation.{has_symbol};
+ghost use Rattle.irtext_print_ops.specs.Fits as fits;
+ghost use Rattle.irtext_print_ops.specs.Listed as texts;
+ghost use Rattle.irtext_print_ops.specs.Names.{printing_by};
+ghost use Rattle.irtext_print_ops.specs.declared.lists.Listed.TheVariants as listed;
+
+use crate::lists::{Listed, count};
+use crate::pieces::{keeps_operands, known_type};
+use irtext_base::base::{AttrObj, Identifier};
+use irtext_base::format::{Directive, OpFormat};
+use irtext_base::text::{AttrText, IrText};
+use irtext_context::base::{Context, Operation, OperationAccess, Ptr, Value};
+use irtext_dict::base::AttributeDict;
+use irtext_print::ir::print::fits::missing_key;
+use irtext_print::ir::print::pieces::{is_key_written, is_outlined, symbol_of};
+use std::fmt;
+use std::fmt::Display;
+
+/// Why an operation does not fit its format, in the order in which it is looked for. Keys are lent, so that it takes no memory.
+#[non_exhaustive]
+#[derive(Clone, Copy)]
+pub enum FitFault<'c> {
+    /// The operation is not registered with a dialect of the context.
+    NotRegistered,
+    /// The operation has so many operands, and the format writes another number.
+    OperandCount(usize),
+    /// The operation has so many successors, and the format writes another number.
+    SuccessorCount(usize),
+    /// The operation has so many results whose types are known, and the format writes another number of types.
+    ResultCount(usize),
+    /// The operation has so many regions, and the format writes another number.
+    RegionCount(usize),
+    /// A directive writes the attribute under this key, and the operation has none.
+    MissingAttribute(&'c Identifier),
+    /// A directive writes the symbol's name, and the operation has none.
+    NoSymbol,
+    /// Neither a directive nor the section writes the operation's attribute under this key.
+    UnwrittenAttribute(&'c Identifier),
+}
+
+impl Display for FitFault<'_> {
+    ghost output = { λ fault. Some (fits.fault_text fault) };
+
+    fn fmt<W: fmt::Write>(&self, f: &mut fmt::Formatter<W>) -> fmt::Result {
+        match self {
+            FitFault::NotRegistered => write!(f, "The operation is not registered"),
+            FitFault::OperandCount(count) => {
+                write!(f, "The format does not write {count} operands")
+            }
+            FitFault::SuccessorCount(count) => {
+                write!(f, "The format does not write {count} successors")
+            }
+            FitFault::ResultCount(count) => {
+                write!(f, "The format does not write {count} result types")
+            }
+            FitFault::RegionCount(count) => {
+                write!(f, "The format does not write {count} regions")
+            }
+            FitFault::MissingAttribute(key) => { write!(f, "The operation has no attribute {key}") }
+            FitFault::NoSymbol => write!(f, "The operation has no symbol"),
+            FitFault::UnwrittenAttribute(key) => {
+                write!(f, "The format does not write the attribute {key}")
+            }
+        }
+    }
+}
+
+/// How many operands, successors and regions an operation has, and results whose types are known.
+#[derive(Clone, Copy)]
+struct Counts {
+    operands: usize,
+    successors: usize,
+    results: usize,
+    regions: usize,
+}
+
+/// How many parts directives write one by one, and what else they write.
+#[derive(Clone, Copy)]
+struct Places {
+    operands: usize,
+    successors: usize,
+    types: usize,
+    regions: usize,
+    /// Whether a directive writes the operands that have no directive of their own.
+    all_operands: bool,
+    /// Whether a directive writes the successors that have no directive of their own.
+    all_successors: bool,
+    /// Whether a directive writes the regions that have no directive of their own.
+    all_regions: bool,
+    /// Whether a directive names a key.
+    keys: bool,
+    /// Whether a directive writes the symbol's name.
+    header: bool,
+    /// Whether a directive writes the dictionary.
+    dictionary: bool,
+}
+
+/// Counts one directive more.
+fn count_directive(places: &mut Places, directive: &Directive)
+    requires few { fits.AreFew places.old }
+    ensures { places.new ≡ fits.counted places.old (directive_of directive.now) }
+{
+    match directive {
+        Directive::Literal(_) => {}
+        Directive::Operand(_) => places.operands += 1,
+        Directive::Operands => places.all_operands = true,
+        Directive::Successor(_) => places.successors += 1,
+        Directive::Successors => places.all_successors = true,
+        Directive::Attr(_) => places.keys = true,
+        Directive::AttrDict => places.dictionary = true,
+        Directive::ResultType(_) => places.types += 1,
+        Directive::Region(_) => places.regions += 1,
+        Directive::Regions => places.all_regions = true,
+        Directive::SymbolHeader => places.header = true,
+    }
+}
+
+/// What directives write, in one pass over them.
+fn places_of(directives: &[Directive]) -> Places
+    ensures { result ≡ fits.places_of (directives_of directives.now) }
+{
+    let mut places = Places {
+        operands: 0,
+        successors: 0,
+        types: 0,
+        regions: 0,
+        all_operands: false,
+        all_successors: false,
+        all_regions: false,
+        keys: false,
+        header: false,
+        dictionary: false,
+    };
+    for directive in directives {
+        count_directive(&mut places, directive);
+    }
+    places
+}
+
+/// Whether directives with so many places, of which one writes all parts that have none if `all`, write so many parts.
+fn counts_fit(places: usize, all: bool, parts: usize) -> bool
+    ensures { result ≡ cond all (not (nat_lt parts places)) (parts == places) }
+{
+    if all {
+        parts >= places
+    } else {
+        parts == places
+    }
+}
+
+/// The first key that directives name and that no attribute has, where they name one at all.
+fn missing_named<'d, A: AttrText>(
+    names_keys: bool,
+    attributes: &AttributeDict<A>,
+    directives: &'d [Directive],
+) -> Option<&'d Identifier>
+    requires { names_keys ≡ (fits.places_of (directives_of directives.now)).keys }
+    ensures { option_copied result ≡ missing_key (entries_of attributes.now) (directives_of directives.now) }
+{
+    if !names_keys {
+        return None;
+    }
+    missing_key(attributes, directives)
+}
+
+/// Whether the symbol's name is there, where a directive writes it.
+fn symbol_fits<A: AttrText>(header: bool, attributes: &AttributeDict<A>) -> bool
+    ensures { result ≡ (not header || has_symbol (entries_of attributes.now)) }
+{
+    !header || symbol_of(attributes).is_some()
+}
+
+/// Whether an attribute is written by a directive that names its key, or in the section.
+fn is_covered<A: AttrText>(directives: &[Directive], key: &Identifier, attr: &AttrObj<A>) -> bool
+    ensures { result ≡ fits.is_covered A.outlined (directives_of directives.now) (key.now, attribute_of attr.now) }
+{
+    is_key_written(directives, key.as_str()) || is_outlined(attr)
+}
+
+/// The key of the first attribute that neither one of the directives nor the section writes.
+fn first_uncovered<'c, A: AttrText>(
+    attributes: &'c AttributeDict<A>,
+    directives: &[Directive],
+) -> Option<&'c Identifier>
+    ensures { option_copied result ≡ fits.first_uncovered A.outlined (directives_of directives.now) (entries_of attributes.now) }
+{
+    for (key, attr) in attributes.iter() {
+        if !is_covered(directives, key, attr) {
+            return Some(key);
+        }
+    }
+    None
+}
+
+/// The key of the first attribute that is not written at all.
+fn uncovered_key<'c, A: AttrText>(
+    dictionary: bool,
+    attributes: &'c AttributeDict<A>,
+    directives: &[Directive],
+) -> Option<&'c Identifier>
+    requires { dictionary ≡ (fits.places_of (directives_of directives.now)).dictionary }
+    ensures { option_copied result ≡ fits.uncovered_key A.outlined (directives_of directives.now) (entries_of attributes.now) }
+{
+    if dictionary {
+        return None;
+    }
+    first_uncovered(attributes, directives)
+}
+
+/// Whether directives write so many parts and all of these attributes, and nothing that is not there; else the first reason why not.
+fn check_parts<'c, A: AttrText>(
+    directives: &'c [Directive],
+    counts: Counts,
+    attributes: &'c AttributeDict<A>,
+) -> Result<(), FitFault<'c>>
+    ensures first { fits.refused_by result ≡ fits.first_failed 1
+        (fits.tests A.outlined (directives_of directives.now) counts (entries_of attributes.now)) }
+    ensures names { IfErr result (fits.Names A.outlined (directives_of directives.now) counts (entries_of attributes.now)) }
+{
+    let places = places_of(directives);
+    if !counts_fit(places.operands, places.all_operands, counts.operands) {
+        return Err(FitFault::OperandCount(counts.operands));
+    }
+    if !counts_fit(places.successors, places.all_successors, counts.successors) {
+        return Err(FitFault::SuccessorCount(counts.successors));
+    }
+    if !counts_fit(places.types, false, counts.results) {
+        return Err(FitFault::ResultCount(counts.results));
+    }
+    if !counts_fit(places.regions, places.all_regions, counts.regions) {
+        return Err(FitFault::RegionCount(counts.regions));
+    }
+    match missing_named(places.keys, attributes, directives) {
+        Some(key) => return Err(FitFault::MissingAttribute(key)),
+        None => {}
+    }
+    if !symbol_fits(places.header, attributes) {
+        return Err(FitFault::NoSymbol);
+    }
+    match uncovered_key(places.dictionary, attributes, directives) {
+        Some(key) => Err(FitFault::UnwrittenAttribute(key)),
+        None => Ok(()),
+    }
+}
+
+/// How many results of an operation have a type that is known.
+fn count_typed<T: IrText<A>, A: AttrText>(ctx: &Context<T, A>, op: Ptr<Operation>) -> usize
+    requires { Stands ctx.now.graph (TheOperation op) }
+    ensures { result ≡ length (known_types (texts.texts_of T.IrText.written ctx.now (listed.ResultTypes op))) }
+{
+    let mut typed = 0;
+    for place in 0..count(ctx, Listed::ResultTypes(op)) {
+        let Some(_of_type) = known_type(ctx, Value::Result(op, place)) else {
+            continue;
+        };
+        typed += 1;
+    }
+    typed
+}
+
+/// How many parts an operation has.
+fn count_parts<T: IrText<A>, A: AttrText>(ctx: &Context<T, A>, op: Ptr<Operation>) -> Counts
+    requires { IsSome (operation ctx.now op) }
+    ensures { IfSome (seen_own A.IrText.written ctx.now op) (λ o. result ≡ fits.counts_of o (length (regions ctx.now.graph op))) }
+{
+    keeps_operands(ctx, op);
+    Counts {
+        operands: count(ctx, Listed::Operands(op)),
+        successors: count(ctx, Listed::Successors(op)),
+        results: count_typed(ctx, op),
+        regions: op.num_regions(ctx),
+    }
+}
+
+/// The directives of an operation's format, or none where the operation is written as any operation can be; else the first reason why
+/// it does not fit its format, as [`check_fits`] says. It asks for the format once, and takes no memory.
+pub fn fitting_directives<'c, T: IrText<A>, A: AttrText>(
+    ctx: &'c Context<T, A>,
+    op: Ptr<Operation>,
+) -> Result<Option<&'c [Directive]>, FitFault<'c>>
+    requires live { IsSome (operation ctx.now op) }
+    ensures format { IfOk result (λ found. IfSome (seen_own A.IrText.written ctx.now op) (λ o.
+        format_of ctx.now.dialects o.id ≡ Some (fits.format_by (option_map (λ ds. directives_of ds.now) found)))) }
+    ensures fits { OnOk result (IfSome (seen_own A.IrText.written ctx.now op) (λ o.
+        fits.FitsOwn (printing_by A.AttrText.own A.eq ctx.now) (isolated ctx.now.dialects) o (length (regions ctx.now.graph op)))) }
+    ensures fault { IfErr result (λ reason. IfSome (seen_own A.IrText.written ctx.now op) (λ o.
+        fits.IsFirstReason (printing_by A.AttrText.own A.eq ctx.now) (isolated ctx.now.dialects) o
+        (length (regions ctx.now.graph op)) reason)) }
+{
+    let Some(info) = ctx.op_info(op.get_opid(ctx)) else {
+        return Err(FitFault::NotRegistered);
+    };
+    match &info.format {
+        OpFormat::Canonical => Ok(None),
+        OpFormat::Custom(directives) => {
+            let directives = directives.as_slice();
+            let counts = count_parts(ctx, op);
+            match check_parts(directives, counts, op.attributes(ctx)) {
+                Ok(()) => Ok(Some(directives)),
+                Err(fault) => Err(fault),
+            }
+        }
+    }
+}
+
+/// Whether an operation fits its format; else the first reason why not, in the order of [`FitFault`], and of several such attributes
+/// the first: a missing one as the directives name them, one that is not written as the operation has them. An operation that is
+/// written as any operation can be always fits. It takes no memory.
+pub fn check_fits<'c, T: IrText<A>, A: AttrText>(
+    ctx: &'c Context<T, A>,
+    op: Ptr<Operation>,
+) -> Result<(), FitFault<'c>>
+    requires live { IsSome (operation ctx.now op) }
+    ensures fits { OnOk result (IfSome (seen_own A.IrText.written ctx.now op) (λ o.
+        fits.FitsOwn (printing_by A.AttrText.own A.eq ctx.now) (isolated ctx.now.dialects) o (length (regions ctx.now.graph op)))) }
+    ensures fault { IfErr result (λ reason. IfSome (seen_own A.IrText.written ctx.now op) (λ o.
+        fits.IsFirstReason (printing_by A.AttrText.own A.eq ctx.now) (isolated ctx.now.dialects) o
+        (length (regions ctx.now.graph op)) reason)) }
+{
+    match fitting_directives(ctx, op) {
+        Ok(_directives) => Ok(()),
+        Err(fault) => Err(fault),
+    }
+}

@@ -1,0 +1,97 @@
+//! What is written of an operation's own by its format: what stands in front of its parts, and what a directive writes.
+ghost use Rattle.std.specs.Prelude.{◌≡◌, ◌≢◌, OnOk, IfOk, IfErr, IsSome, is_none};
+ghost use Rattle.irtext_context.specs.Context.{operation};
+ghost use Rattle.irtext_formats.specs.Directives.{directive_of, directives_of};
+ghost use Rattle.irtext_print.specs.Printers.Appended.{AppendsText};
+ghost use Rattle.irtext_print.specs.declared.printable.refusal.Refusal.TheVariants as refusal;
+ghost use Rattle.irtext_print_ops.specs.Heads as heads;
+
+use irtext_base::format::Directive;
+use irtext_base::text::{AttrText, IrText};
+use irtext_context::base::{Context, Operation, OperationAccess, Ptr};
+use irtext_print::ir::print::concrete::fmt_id;
+use irtext_print::printable::Refusal;
+use crate::canonical::fmt_canonical_front;
+use crate::fits::fitting_directives;
+use crate::pieces::fmt_piece;
+use crate::results::fmt_results;
+
+/// Appends the names of an operation's results and its id, and all that stands in front of its regions if it is written as any operation
+/// can be.
+fn fmt_front<T: IrText<A>, A: AttrText>(
+    ctx: &Context<T, A>,
+    op: Ptr<Operation>,
+    canonical: bool,
+    f: &mut String,
+) -> Result<(), Refusal>
+    requires live { IsSome (operation ctx.now op) }
+    requires form { canonical ≡ heads.is_canonical_at T.IrText.own A.IrText.own A.AttrText.own A.eq ctx.now op }
+    ensures text { OnOk result
+        (AppendsText f.old (heads.operation_front_at T.IrText.own A.IrText.own A.AttrText.own A.eq ctx.now op) f.new) }
+    ensures refused { IfErr result (λ e. e ≡ refusal.Memory) }
+{
+    fmt_results(ctx, op, f)?;
+    fmt_id(op.get_opid(ctx), f)?;
+    if !canonical {
+        return Ok(());
+    }
+    fmt_canonical_front(ctx, op, f)
+}
+
+/// The directives of an operation's format, or none where it is written as any operation can be. It is refused where the operation does
+/// not fit its format.
+fn find_directives<'c, T: IrText<A>, A: AttrText>(
+    ctx: &'c Context<T, A>,
+    op: Ptr<Operation>,
+) -> Result<Option<&'c [Directive]>, Refusal>
+    requires live { IsSome (operation ctx.now op) }
+    ensures found { IfOk result (λ found. heads.AreDirectivesAt T.IrText.own A.IrText.own A.AttrText.own A.eq ctx.now op found) }
+    ensures form { IfOk result (λ found. is_none found ≡ heads.is_canonical_at T.IrText.own A.IrText.own A.AttrText.own A.eq ctx.now op) }
+    ensures fits { OnOk result (heads.FitsAt T.IrText.own A.IrText.own A.AttrText.own A.eq ctx.now op) }
+    ensures refused { IfErr result (λ e.
+        (e ≡ refusal.Misfit) × (heads.FitsAt T.IrText.own A.IrText.own A.AttrText.own A.eq ctx.now op → ⊥)) }
+{
+    match fitting_directives(ctx, op) {
+        Ok(directives) => Ok(directives),
+        Err(_) => Err(Refusal::Misfit),
+    }
+}
+
+/// Checks that an operation fits its format, appends the names of its results and its id, and all that is in front of its regions where it
+/// is written as any operation can be, and answers the directives of its format, where that has some. It asks for the format once. It
+/// fails with `Misfit` where the operation does not fit its format, and else only out of memory; what was written until then stays.
+pub fn begin_front<'c, T: IrText<A>, A: AttrText>(
+    ctx: &'c Context<T, A>,
+    op: Ptr<Operation>,
+    f: &mut String,
+) -> Result<Option<&'c [Directive]>, Refusal>
+    requires live { IsSome (operation ctx.now op) }
+    ensures text { OnOk result
+        (AppendsText f.old (heads.operation_front_at T.IrText.own A.IrText.own A.AttrText.own A.eq ctx.now op) f.new) }
+    ensures found { IfOk result (λ found. heads.AreDirectivesAt T.IrText.own A.IrText.own A.AttrText.own A.eq ctx.now op found) }
+    ensures fits { OnOk result (heads.FitsAt T.IrText.own A.IrText.own A.AttrText.own A.eq ctx.now op) }
+    ensures refused { IfErr result (λ e. e ≢ refusal.Memory →
+        (e ≡ refusal.Misfit) × (heads.FitsAt T.IrText.own A.IrText.own A.AttrText.own A.eq ctx.now op → ⊥)) }
+{
+    let directives = find_directives(ctx, op)?;
+    fmt_front(ctx, op, directives.is_none(), f)?;
+    Ok(directives)
+}
+
+/// Appends what a directive of the operation's format, which has these directives, writes, with the space in front of it: nothing where it
+/// writes a region, and nothing where what it names is not there. It fails only out of memory; what was written until then stays.
+pub fn fmt_known_piece<T: IrText<A>, A: AttrText>(
+    ctx: &Context<T, A>,
+    op: Ptr<Operation>,
+    directives: &[Directive],
+    directive: &Directive,
+    f: &mut String,
+) -> Result<(), Refusal>
+    requires live { IsSome (operation ctx.now op) }
+    requires format { heads.directives_at T.IrText.own A.IrText.own A.AttrText.own A.eq ctx.now op ≡ directives_of directives.now }
+    ensures text { OnOk result
+        (AppendsText f.old (heads.piece_at T.IrText.own A.IrText.own A.AttrText.own A.eq ctx.now op (directive_of directive.now)) f.new) }
+    ensures refused { IfErr result (λ e. e ≡ refusal.Memory) }
+{
+    fmt_piece(ctx, op, directives, directive, f)
+}

@@ -1,0 +1,240 @@
+//! What operations and blocks list, as it is printed: with `, ` between the items, where what has no text is left out.
+ghost use Rattle.std.specs.Prelude.{◌≡◌, ◌<◌, ◌&&◌, not, [], cond, drop, is_some, length, slice_get, option_and_then, option_map, Some, IsSome, IfOk, IfSome, OnOk};
+ghost use Rattle.irtext_context.specs.Context.{block};
+ghost use Rattle.irtext_graph.specs.Graph.{Stands};
+ghost use Rattle.irtext_graph.specs.Parts.{operands, successors, value_at, ValueStands};
+ghost use Rattle.irtext_graph.specs.declared.object.Object.TheVariants.{TheOperation};
+ghost use Rattle.irtext_grammar.specs.Contexts.Held.{known_types};
+ghost use Rattle.irtext_grammar.specs.Contexts.Nested.{number_of};
+ghost use Rattle.irtext_grammar.specs.Spelling.Spell.{comma};
+ghost use Rattle.irtext_print.specs.Printers.Appended.{AppendsText};
+ghost use Rattle.irtext_print_ops.specs.Listed as texts;
+ghost use Rattle.irtext_print_ops.specs.Listed.{owner};
+ghost use Rattle.irtext_print_ops.specs.Names.{label_text, operand_text};
+ghost use Rattle.irtext_print_ops.specs.declared.lists.Facet.TheVariants as facet;
+
+use crate::names::{fmt_block_label, fmt_value_name, keeps_values};
+use irtext_base::text::{AttrText, IrText};
+use irtext_context::base::{BasicBlock, Context, Operation, Ptr, Value};
+use irtext_graph::held::HasGraph;
+use std::fmt;
+
+/// What an operation or a block lists.
+#[derive(Clone, Copy)]
+pub(crate) enum Listed {
+    /// The names of the values that an operation uses.
+    Operands(Ptr<Operation>),
+    /// The labels of the blocks that an operation uses.
+    Successors(Ptr<Operation>),
+    /// The names of the values that an operation defines, of those whose types are known.
+    Results(Ptr<Operation>),
+    /// The types of the values that an operation uses, where they are known.
+    OperandTypes(Ptr<Operation>),
+    /// The types of the values that an operation defines, where they are known.
+    ResultTypes(Ptr<Operation>),
+    /// The names and types of the values that a block defines, of those whose types are known.
+    Arguments(Ptr<BasicBlock>),
+}
+
+/// What is written of a value whose type is known.
+#[derive(Clone, Copy)]
+enum Facet {
+    Name,
+    Type,
+    Both,
+}
+
+/// Appends `, `, unless it stands in front of the first item.
+fn fmt_between(first: bool, f: &mut String) -> fmt::Result
+    ensures { OnOk result (AppendsText f.old (cond first [] comma) f.new) }
+{
+    if !first {
+        f.push_str(", ")?;
+    }
+    Ok(())
+}
+
+/// The value that an operation uses at an index, which is there.
+pub(crate) fn operand<T: IrText<A>, A: AttrText>(
+    ctx: &Context<T, A>,
+    op: Ptr<Operation>,
+    index: usize,
+) -> Value
+    requires stands { Stands ctx.now.graph (TheOperation op) }
+    requires within { index < length (operands ctx.now.graph op) }
+    ensures value { slice_get (operands ctx.now.graph op) index ≡ Some result }
+    ensures there { ValueStands ctx.now.graph result }
+{
+    let graph = ctx.graph();
+    graph.keeps_nesting();
+    graph.get_operand(op, index)
+}
+
+/// The block that an operation uses at an index, which is there.
+pub(crate) fn successor<T: IrText<A>, A: AttrText>(
+    ctx: &Context<T, A>,
+    op: Ptr<Operation>,
+    index: usize,
+) -> Ptr<BasicBlock>
+    requires stands { Stands ctx.now.graph (TheOperation op) }
+    requires within { index < length (successors ctx.now.graph op) }
+    ensures value { slice_get (successors ctx.now.graph op) index ≡ Some result }
+    ensures there { IsSome (block ctx.now result) }
+{
+    let graph = ctx.graph();
+    graph.keeps_nesting();
+    graph.get_successor(op, index)
+}
+
+/// Appends the name of a value, behind `, ` where it is not the first.
+fn fmt_operand<T: IrText<A>, A: AttrText>(
+    ctx: &Context<T, A>,
+    value: Value,
+    first: bool,
+    f: &mut String,
+) -> fmt::Result
+    requires { ValueStands ctx.now.graph value }
+    ensures { OnOk result (AppendsText f.old (texts.next_text first (operand_text ctx.now value)) f.new) }
+{
+    fmt_between(first, f)?;
+    fmt_value_name(ctx, value, f)
+}
+
+/// Appends the label of a block, behind `, ` where it is not the first.
+fn fmt_successor<T: IrText<A>, A: AttrText>(
+    ctx: &Context<T, A>,
+    p: Ptr<BasicBlock>,
+    first: bool,
+    f: &mut String,
+) -> fmt::Result
+    requires { IsSome (block ctx.now p) }
+    ensures { OnOk result (AppendsText f.old (texts.next_text first (Some (label_text ctx.now p))) f.new) }
+{
+    fmt_between(first, f)?;
+    fmt_block_label(ctx, p, f)
+}
+
+/// Appends what is to be written of a value of this type.
+fn fmt_facet<T: IrText<A>, A: AttrText>(
+    ctx: &Context<T, A>,
+    value: Value,
+    of_type: &T,
+    facet: Facet,
+    f: &mut String,
+) -> fmt::Result
+    requires { ValueStands ctx.now.graph value }
+    ensures { OnOk result (IfSome (number_of ctx.now value)
+        (λ n. AppendsText f.old (texts.facet_text T.IrText.written ctx.now facet (n, of_type.now)) f.new)) }
+{
+    match facet {
+        Facet::Name => fmt_value_name(ctx, value, f),
+        Facet::Type => of_type.write_text(f),
+        Facet::Both => {
+            fmt_value_name(ctx, value, f)?;
+            f.push_str(": ")?;
+            of_type.write_text(f)
+        }
+    }
+}
+
+/// Appends what is to be written of a value whose type is known, behind `, ` where it is not the first, and answers whether still
+/// nothing was written.
+fn fmt_typed<T: IrText<A>, A: AttrText>(
+    ctx: &Context<T, A>,
+    value: Value,
+    facet: Facet,
+    first: bool,
+    f: &mut String,
+) -> Result<bool, fmt::Error>
+    requires { ValueStands ctx.now.graph value }
+    ensures text { OnOk result (AppendsText f.old (texts.next_text first
+        (option_and_then (texts.typed_text T.IrText.written ctx.now facet) (value_at ctx.now.graph value))) f.new) }
+    ensures left { IfOk result (λ left. left ≡ (first && not
+        (is_some (option_and_then (texts.typed_text T.IrText.written ctx.now facet) (value_at ctx.now.graph value))))) }
+{
+    let Some(of_type) = ctx.graph().type_of(value) else {
+        return Ok(first);
+    };
+    fmt_between(first, f)?;
+    fmt_facet(ctx, value, of_type, facet, f)?;
+    Ok(false)
+}
+
+/// Appends the type of a value, where it is known, behind `, ` where it is not the first, and answers whether still nothing was written.
+fn fmt_operand_type<T: IrText<A>, A: AttrText>(
+    ctx: &Context<T, A>,
+    value: Value,
+    first: bool,
+    f: &mut String,
+) -> Result<bool, fmt::Error>
+    requires { ValueStands ctx.now.graph value }
+    ensures text { OnOk result (AppendsText f.old (texts.next_text first (texts.operand_type_text T.IrText.written ctx.now value)) f.new) }
+    ensures left { IfOk result (λ left. left ≡ (first && not (is_some (texts.operand_type_text T.IrText.written ctx.now value)))) }
+{
+    keeps_values(ctx, value);
+    fmt_typed(ctx, value, Facet::Type, first, f)
+}
+
+/// How many items there are.
+pub(crate) fn count<T: IrText<A>, A: AttrText>(ctx: &Context<T, A>, listed: Listed) -> usize
+    requires { Stands ctx.now.graph (owner listed) }
+    ensures { result ≡ length (texts.texts_of T.IrText.written ctx.now listed) }
+{
+    let graph = ctx.graph();
+    match listed {
+        Listed::Operands(op) | Listed::OperandTypes(op) => graph.num_operands(op),
+        Listed::Successors(op) => graph.num_successors(op),
+        Listed::Results(op) | Listed::ResultTypes(op) => graph.num_results(op),
+        Listed::Arguments(block) => graph.num_arguments(block),
+    }
+}
+
+/// Appends the item at an index, where it has a text, behind `, ` where it is not the first, and answers whether still nothing was
+/// written.
+fn fmt_item<T: IrText<A>, A: AttrText>(
+    ctx: &Context<T, A>,
+    listed: Listed,
+    index: usize,
+    first: bool,
+    f: &mut String,
+) -> Result<bool, fmt::Error>
+    requires stands { Stands ctx.now.graph (owner listed) }
+    requires within { index < length (texts.texts_of T.IrText.written ctx.now listed) }
+    ensures text { OnOk result (AppendsText f.old (texts.next_text first (texts.text_at T.IrText.written ctx.now listed index)) f.new) }
+    ensures left { IfOk result (λ left. left ≡ (first && not (is_some (texts.text_at T.IrText.written ctx.now listed index)))) }
+{
+    match listed {
+        Listed::Operands(op) => {
+            fmt_operand(ctx, operand(ctx, op, index), first, f)?;
+            Ok(false)
+        }
+        Listed::Successors(op) => {
+            fmt_successor(ctx, successor(ctx, op, index), first, f)?;
+            Ok(false)
+        }
+        Listed::OperandTypes(op) => fmt_operand_type(ctx, operand(ctx, op, index), first, f),
+        Listed::Results(op) => fmt_typed(ctx, Value::Result(op, index), Facet::Name, first, f),
+        Listed::ResultTypes(op) => fmt_typed(ctx, Value::Result(op, index), Facet::Type, first, f),
+        Listed::Arguments(block) => {
+            fmt_typed(ctx, Value::Argument(block, index), Facet::Both, first, f)
+        }
+    }
+}
+
+/// Appends the items from an index on, with `, ` between them, and answers whether there was none.
+pub(crate) fn fmt_listed<T: IrText<A>, A: AttrText>(
+    ctx: &Context<T, A>,
+    listed: Listed,
+    from: usize,
+    f: &mut String,
+) -> Result<bool, fmt::Error>
+    requires { Stands ctx.now.graph (owner listed) }
+    ensures text { OnOk result (AppendsText f.old (texts.list_text T.IrText.written ctx.now listed from) f.new) }
+    ensures none { IfOk result (λ none. none ≡ texts.are_none (known_types (drop from (texts.texts_of T.IrText.written ctx.now listed)))) }
+{
+    let mut first = true;
+    for index in from..count(ctx, listed) {
+        first = fmt_item(ctx, listed, index, first, f)?;
+    }
+    Ok(first)
+}

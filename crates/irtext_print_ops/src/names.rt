@@ -1,0 +1,102 @@
+//! The names of values and the labels of blocks, as they are printed.
+ghost use Rattle.std.specs.Prelude.{◌≡◌, ◌++◌, Some, IsSome, OnOk, IfSome, option_copied, codes};
+ghost use Rattle.irtext_graph.specs.Parts.{value_at, ValueStands};
+ghost use Rattle.irtext_context.specs.Context.{block};
+ghost use Rattle.irtext_grammar.specs.Contexts.Nested.{given_to, type_of};
+ghost use Rattle.irtext_grammar.specs.Spelling.PrintedNames as printed;
+ghost use Rattle.irtext_print.specs.Printers.Appended.{AppendsText};
+ghost use Rattle.irtext_print_ops.specs.Names.{or_nothing, operand_text, label_text};
+ghost use Rattle.irtext_grammar.specs.UniqueNames.{given_name};
+
+use irtext_base::base::Identifier;
+use irtext_base::text::{AttrText, IrText};
+use irtext_context::base::{BasicBlock, BlockAccess, Context, Ptr, Value};
+use irtext_graph::held::HasGraph;
+use irtext_print::printable::numbers::fmt_number;
+use irtext_grammar::name::given_name;
+use std::fmt;
+
+/// What printing finds in a context by a value's number is that value's, as this contract says of a call that does nothing: the name
+/// that is given to it, and its type.
+pub(crate) fn keeps_values<T: IrText<A>, A: AttrText>(ctx: &Context<T, A>, value: Value)
+    ensures given { IfSome (value_at ctx.now.graph value) (λ t. given_to ctx.now t.number ≡ given_name ctx.now value) }
+    ensures of_type { IfSome (value_at ctx.now.graph value) (λ t. type_of ctx.now t.number ≡ t.of_type) }
+{
+    ctx.graph().keeps_numbers();
+}
+
+/// Appends the name of a value with this given name or none, and this number.
+fn fmt_numbered(given: Option<&Identifier>, number: u64, f: &mut String) -> fmt::Result
+    ensures { OnOk result (AppendsText f.old (printed.value_name (option_copied given.entry) number) f.new) }
+{
+    match given {
+        Some(name) => {
+            f.push_str(name.as_str())?;
+            f.push_str("_v")?;
+            fmt_number(number, f)
+        }
+        None => {
+            f.push_str("v")?;
+            fmt_number(number, f)
+        }
+    }
+}
+
+/// Appends `^` and what stands in front of the place in the name of a block with this label or none.
+fn fmt_block_front(label: Option<&Identifier>, f: &mut String) -> fmt::Result
+    ensures { OnOk result (AppendsText f.old (codes "^" ++ printed.prefixed (option_copied label.entry) (codes "block")) f.new) }
+{
+    match label {
+        Some(label) => {
+            f.push_str("^")?;
+            f.push_str(label.as_str())?;
+            f.push_str("_block")?;
+            Ok(())
+        }
+        None => {
+            f.push_str("^block")?;
+            Ok(())
+        }
+    }
+}
+
+/// Appends `^` and the name of a block with this label or none, and this place and generation.
+fn fmt_placed(
+    label: Option<&Identifier>,
+    place: u64,
+    generation: u32,
+    f: &mut String,
+) -> fmt::Result
+    ensures { OnOk result (AppendsText f.old (codes "^" ++ printed.block_name (option_copied label.entry) (place, generation)) f.new) }
+{
+    fmt_block_front(label, f)?;
+    fmt_number(place, f)?;
+    f.push_str("v")?;
+    fmt_number(generation as u64, f)
+}
+
+/// Appends the name of a value. It fails only where memory is refused.
+pub fn fmt_value_name<T: IrText<A>, A: AttrText>(
+    ctx: &Context<T, A>,
+    value: Value,
+    f: &mut String,
+) -> fmt::Result
+    requires { ValueStands ctx.now.graph value }
+    ensures { OnOk result (AppendsText f.old (or_nothing (operand_text ctx.now value)) f.new) }
+{
+    keeps_values(ctx, value);
+    fmt_numbered(given_name(ctx, value), ctx.graph().number_of(value), f)
+}
+
+/// Appends `^` and the name of a block. It fails only where memory is refused.
+pub fn fmt_block_label<T: IrText<A>, A: AttrText>(
+    ctx: &Context<T, A>,
+    p: Ptr<BasicBlock>,
+    f: &mut String,
+) -> fmt::Result
+    requires { IsSome (block ctx.now p) }
+    ensures { OnOk result (AppendsText f.old (label_text ctx.now p) f.new) }
+{
+    let place = ctx.graph().number_of_place(p);
+    fmt_placed(p.label(ctx), place, p.generation(), f)
+}

@@ -1,0 +1,109 @@
+//! Printing of an operation, a block or a region with all that nests in it.
+ghost use Rattle.std.specs.Prelude.{◌≡◌, ◌++◌, OnOk, IfErr, IsSome, length, true};
+ghost use Rattle.irtext_context.specs.Context.{operation};
+ghost use Rattle.irtext_context.specs.Context as context;
+ghost use Rattle.irtext_graph.specs.Graph.{Stands};
+ghost use Rattle.irtext_graph.specs.declared.object.Object.TheVariants.{TheRegion};
+ghost use Rattle.irtext_print.specs.Printers.Appended.{AppendsText};
+ghost use Rattle.irtext_print.specs.declared.printable.refusal.Refusal.TheVariants as refusal;
+ghost use Rattle.irtext_print_ops.specs.Heads as heads;
+
+use crate::writers::Heads;
+use irtext_base::text::{AttrText, IrText};
+use irtext_context::base::{BasicBlock, Context, Item, Operation, Ptr, Region};
+use irtext_print::printable::{Refusal, State};
+use crate::blocks::{print_block_inside, print_region_inside};
+use crate::walk::{print_inside, print_mark};
+
+/// Appends the text of an operation with all that nests in it, at the state's indentation and under its limit; and behind it its mark,
+/// if `marked`. What is marked is added to `items`, in the order of the marks, and a mark counts those before it. What was written and
+/// gathered until a refusal stays. It doesn't recurse, so no text is too deep for it.
+///
+/// It is refused with `Depth` where the spaces in front of a line inside of a region that is shown do not fit 16 bits, with `Misfit` where
+/// the operation, or one that is shown inside of it, does not fit its format, and with `Memory` where memory is refused.
+pub fn print_nested<T: IrText<A>, A: AttrText, U>(
+    ctx: &Context<T, A>,
+    op: Ptr<Operation>,
+    marked: bool,
+    state: &State<U>,
+    items: &mut Vec<Item>,
+    f: &mut String,
+) -> Result<(), Refusal>
+    requires live { IsSome (operation ctx.now op) }
+    ensures text { OnOk result (AppendsText f.old (heads.text_under T.IrText.own A.IrText.own A.AttrText.own A.eq ctx.now op state.now
+        marked (length items.old.items)) f.new) }
+    ensures items { OnOk result (items.new.items ≡ items.old.items ++
+        heads.items_under T.IrText.own A.IrText.own A.AttrText.own A.eq ctx.now op state.now marked) }
+    ensures fits { OnOk result (heads.MisfitsUnder T.IrText.own A.IrText.own A.AttrText.own A.eq ctx.now op state.now → ⊥) }
+    ensures refused { IfErr result (heads.RefusesUnder T.IrText.own A.IrText.own A.AttrText.own A.eq ctx.now op state.now) }
+{
+    print_inside::<Heads, T, A, U>(ctx, op, marked, state, items, f)
+}
+
+/// Appends the text of a block with all that nests in it, at the state's indentation and under its limit, with its mark where it has one.
+/// What is marked is added to `items`, in the order of the marks, and a mark counts those before it. What was written and gathered until
+/// a refusal stays. It doesn't recurse, so no text is too deep for it.
+///
+/// It is refused with `Depth` where the spaces in front of its operations, or of a line inside of a region that is shown, do not fit 16
+/// bits, with `Misfit` where an operation that is shown inside of it does not fit its format, and with `Memory` where memory is refused.
+pub fn print_nested_block<T: IrText<A>, A: AttrText, U>(
+    ctx: &Context<T, A>,
+    block: Ptr<BasicBlock>,
+    state: &State<U>,
+    items: &mut Vec<Item>,
+    f: &mut String,
+) -> Result<(), Refusal>
+    requires live { IsSome (context.block ctx.now block) }
+    ensures text { OnOk result (AppendsText f.old (heads.block_text_under T.IrText.own A.IrText.own A.AttrText.own A.eq ctx.now block
+        state.now (length items.old.items)) f.new) }
+    ensures items { OnOk result (items.new.items ≡ items.old.items ++
+        heads.block_items_under T.IrText.own A.IrText.own A.AttrText.own A.eq ctx.now block state.now) }
+    ensures fits { OnOk result (
+        heads.BlockFaultUnder T.IrText.own A.IrText.own A.AttrText.own A.eq ctx.now block state.now refusal.Misfit → ⊥) }
+    ensures refused { IfErr result (heads.RefusesBlockUnder T.IrText.own A.IrText.own A.AttrText.own A.eq ctx.now block state.now) }
+{
+    print_block_inside::<Heads, T, A, U>(ctx, block, state, items, f)
+}
+
+/// Appends the text of a region with all that nests in it, at the state's indentation and under its limit. What is marked is added to
+/// `items`, in the order of the marks, and a mark counts those before it. What was written and gathered until a refusal stays. It doesn't
+/// recurse, so no text is too deep for it.
+///
+/// It is refused with `Depth` where it is shown and the spaces in front of a line inside of it do not fit 16 bits, with `Misfit` where an
+/// operation that is shown inside of it does not fit its format, and with `Memory` where memory is refused.
+pub fn print_nested_region<T: IrText<A>, A: AttrText, U>(
+    ctx: &Context<T, A>,
+    region: Ptr<Region>,
+    state: &State<U>,
+    items: &mut Vec<Item>,
+    f: &mut String,
+) -> Result<(), Refusal>
+    requires live { Stands ctx.now.graph (TheRegion region) }
+    ensures text { OnOk result (AppendsText f.old (heads.region_text_under T.IrText.own A.IrText.own A.AttrText.own A.eq ctx.now region
+        state.now (length items.old.items)) f.new) }
+    ensures items { OnOk result (items.new.items ≡ items.old.items ++
+        heads.region_items_under T.IrText.own A.IrText.own A.AttrText.own A.eq ctx.now region state.now) }
+    ensures fits { OnOk result (
+        heads.RegionFaultUnder T.IrText.own A.IrText.own A.AttrText.own A.eq ctx.now region state.now refusal.Misfit → ⊥) }
+    ensures refused { IfErr result (heads.RefusesRegionUnder T.IrText.own A.IrText.own A.AttrText.own A.eq ctx.now region state.now) }
+{
+    print_region_inside::<Heads, T, A, U>(ctx, region, state, items, f)
+}
+
+/// Appends the mark of an operation, where it has one, with the marks of `items` before it, and adds the operation to them. It is refused
+/// only where memory is.
+pub fn print_nested_mark<T: IrText<A>, A: AttrText>(
+    ctx: &Context<T, A>,
+    op: Ptr<Operation>,
+    items: &mut Vec<Item>,
+    f: &mut String,
+) -> Result<(), Refusal>
+    requires live { IsSome (operation ctx.now op) }
+    ensures text { OnOk result (AppendsText f.old (heads.own_mark_at T.IrText.own A.IrText.own A.AttrText.own A.eq ctx.now op true
+        (length items.old.items)) f.new) }
+    ensures items { OnOk result (items.new.items ≡ items.old.items ++
+        heads.own_items_at T.IrText.own A.IrText.own A.AttrText.own A.eq ctx.now op true) }
+    ensures refused { IfErr result (λ e. e ≡ refusal.Memory) }
+{
+    print_mark::<Heads, T, A>(ctx, op, items, f)
+}

@@ -1,0 +1,165 @@
+//! What stands in front of regions, blocks and operations, and behind them.
+ghost use Rattle.std.specs.Prelude.{◌≡◌, ◌≢◌, ◌+◌, ◌≤◌, ◌^◌, ◌++◌, [], OnOk, IfOk, IfErr, codes, cond, decimal};
+ghost use Rattle.irtext_grammar.specs.Spelling.Spell.{newline};
+ghost use Rattle.irtext_print.specs.Printers.Appended.{AppendsText};
+ghost use Rattle.irtext_print.specs.Printers.Printing.{lowered};
+ghost use Rattle.irtext_print.specs.declared.printable.refusal.Refusal.TheVariants as refusal;
+ghost use Rattle.irtext_print_ops.specs.Opened.{closing, between_blocks, between_operations, unless_first};
+ghost use Rattle.irtext_print_ops.specs.Steps.{IsTooDeep, begun_frames, region_front, region_frames};
+
+use crate::frame::RegionFrame;
+use irtext_context::base::{Ptr, Region};
+use irtext_print::printable::numbers::fmt_number;
+use irtext_print::printable::{Refusal, RegionPrintDepthLimit, fmt_newline, fmt_opening};
+
+/// One indentation more, where the spaces fit 16 bits.
+pub(crate) fn deeper(indent: u16, width: u16) -> Result<u16, Refusal>
+    ensures ok { IfOk result (λ inner. inner ≡ indent + width) }
+    ensures refused { IfErr result (λ e. (e ≡ refusal.Depth) × (2 ^ 16 ≤ indent + width)) }
+{
+    match indent.checked_add(width) {
+        Some(inner) => Ok(inner),
+        None => Err(Refusal::Depth),
+    }
+}
+
+/// The limit inside a region; none where the region is elided.
+pub(crate) fn inside(limit: RegionPrintDepthLimit) -> Option<RegionPrintDepthLimit>
+    ensures { result ≡ lowered limit }
+{
+    match limit {
+        RegionPrintDepthLimit::Unlimited => Some(RegionPrintDepthLimit::Unlimited),
+        RegionPrintDepthLimit::Max(levels) => {
+            if levels == 0 {
+                return None;
+            }
+            Some(RegionPrintDepthLimit::Max(levels - 1))
+        }
+    }
+}
+
+/// Appends a newline and so many spaces.
+fn fmt_line(indent: u16, f: &mut String) -> Result<(), Refusal>
+    ensures text { OnOk result (AppendsText f.old (newline indent) f.new) }
+    ensures refused { IfErr result (λ e. e ≡ refusal.Memory) }
+{
+    match fmt_newline(indent, f) {
+        Ok(()) => Ok(()),
+        Err(_) => Err(Refusal::Memory),
+    }
+}
+
+/// Appends what stands in front of the next operation of a block.
+pub(crate) fn fmt_between_operations(
+    first: bool,
+    indent: u16,
+    f: &mut String,
+) -> Result<(), Refusal>
+    ensures text { OnOk result (AppendsText f.old (unless_first first (between_operations indent)) f.new) }
+    ensures refused { IfErr result (λ e. e ≡ refusal.Memory) }
+{
+    if first {
+        return Ok(());
+    }
+    f.push_str(";")?;
+    fmt_line(indent, f)
+}
+
+/// Appends what stands in front of the next block of a region.
+pub(crate) fn fmt_between_blocks(first: bool, indent: u16, f: &mut String) -> Result<(), Refusal>
+    ensures text { OnOk result (AppendsText f.old (unless_first first (between_blocks indent)) f.new) }
+    ensures refused { IfErr result (λ e. e ≡ refusal.Memory) }
+{
+    if first {
+        return Ok(());
+    }
+    f.push_str("\n")?;
+    fmt_line(indent, f)
+}
+
+/// Appends what stands behind a block's mark.
+pub(crate) fn fmt_colon(indent: u16, f: &mut String) -> Result<(), Refusal>
+    ensures text { OnOk result (AppendsText f.old (codes ":" ++ newline indent) f.new) }
+    ensures refused { IfErr result (λ e. e ≡ refusal.Memory) }
+{
+    f.push_str(":")?;
+    fmt_line(indent, f)
+}
+
+/// Appends what stands behind a region's blocks.
+pub(crate) fn fmt_closing(indent: u16, f: &mut String) -> Result<(), Refusal>
+    ensures text { OnOk result (AppendsText f.old (closing indent) f.new) }
+    ensures refused { IfErr result (λ e. e ≡ refusal.Memory) }
+{
+    if indent == 0 {
+        f.push_str("\n}")?;
+        return Ok(());
+    }
+    fmt_line(indent, f)?;
+    f.push_str("}")?;
+    Ok(())
+}
+
+/// Appends a mark with this index.
+pub(crate) fn fmt_index(index: usize, f: &mut String) -> Result<(), Refusal>
+    ensures text { OnOk result (AppendsText f.old (codes " !" ++ decimal index) f.new) }
+    ensures refused { IfErr result (λ e. e ≡ refusal.Memory) }
+{
+    f.push_str(" !")?;
+    match fmt_number(index as u64, f) {
+        Ok(()) => Ok(()),
+        Err(_) => Err(Refusal::Memory),
+    }
+}
+
+/// Appends that a region is elided; behind a space, unless the region joins what stands before it.
+fn fmt_elided(joins: bool, f: &mut String) -> Result<(), Refusal>
+    ensures text { OnOk result (AppendsText f.old (cond joins [] (codes " ") ++ codes "{..}") f.new) }
+    ensures refused { IfErr result (λ e. e ≡ refusal.Memory) }
+{
+    if joins {
+        f.push_str("{..}")?;
+        return Ok(());
+    }
+    f.push_str(" {..}")?;
+    Ok(())
+}
+
+/// Appends what stands in front of a region's blocks; behind a space, unless the region joins what stands before it.
+fn fmt_begun(joins: bool, indent: u16, inner: u16, f: &mut String) -> Result<(), Refusal>
+    ensures text { OnOk result (AppendsText f.old (cond joins [] (codes " ") ++ (newline indent ++ (codes "{" ++ newline inner))) f.new) }
+    ensures refused { IfErr result (λ e. e ≡ refusal.Memory) }
+{
+    match fmt_opening(joins, indent, inner, f) {
+        Ok(()) => Ok(()),
+        Err(_) => Err(Refusal::Memory),
+    }
+}
+
+/// Begins a region, behind a space unless it stands behind another one: appends that it is elided, or what stands in front of its blocks.
+pub(crate) fn begin_region(
+    region: Ptr<Region>,
+    joins: bool,
+    indent: u16,
+    width: u16,
+    limit: RegionPrintDepthLimit,
+    f: &mut String,
+) -> Result<Option<RegionFrame>, Refusal>
+    ensures text { OnOk result (AppendsText f.old (cond joins [] (codes " ") ++ region_front width indent limit) f.new) }
+    ensures opens { IfOk result (λ begun. begun_frames begun ≡ region_frames region indent limit) }
+    ensures refused { IfErr result (λ e. e ≢ refusal.Memory → (e ≡ refusal.Depth) × IsTooDeep width indent limit) }
+{
+    let Some(limit) = inside(limit) else {
+        fmt_elided(joins, f)?;
+        return Ok(None);
+    };
+    let inner = deeper(indent, width)?;
+    fmt_begun(joins, indent, inner, f)?;
+    Ok(Some(RegionFrame {
+        region,
+        block: 0,
+        first: true,
+        indent,
+        limit,
+    }))
+}

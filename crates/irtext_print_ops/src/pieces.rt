@@ -1,0 +1,208 @@
+//! What a directive of a format writes of an operation, where it writes no region.
+ghost use Rattle.std.specs.Prelude.{◌≡◌, ℕ, is_some, option_map, option_and_then, length, slice_get, Some, None, IsSome, IfSome, IfErr, OnOk};
+ghost use Rattle.irtext_base.specs.Format as format;
+ghost use Rattle.irtext_base.specs.Format.{operand_places, successor_places};
+ghost use Rattle.irtext_context.specs.Context.{operation};
+ghost use Rattle.irtext_formats.specs.Directives.{directive_of, directives_of};
+ghost use Rattle.irtext_graph.specs.Graph.{Stands};
+ghost use Rattle.irtext_graph.specs.Parts.{operands, value_at, ValueStands};
+ghost use Rattle.irtext_graph.specs.declared.object.Value as code;
+ghost use Rattle.irtext_graph.specs.declared.object.Object.TheVariants.{TheOperation};
+ghost use Rattle.irtext_grammar.specs.Contexts.Held.{known_types};
+ghost use Rattle.irtext_grammar.specs.Contexts.Nested.{seen_own};
+ghost use Rattle.irtext_grammar.specs.Graphs.Graph.{part_of};
+ghost use Rattle.irtext_print.specs.Printers.Appended.{AppendsText};
+ghost use Rattle.irtext_print.specs.Printers.PieceText.{spaced, spaced_if};
+ghost use Rattle.irtext_print.specs.Printers.PrintedOperation.{language_in};
+ghost use Rattle.irtext_print.specs.declared.printable.refusal.Refusal.TheVariants as refusal;
+ghost use Rattle.irtext_print_ops.specs.Listed as texts;
+ghost use Rattle.irtext_print_ops.specs.Listed.{owner};
+ghost use Rattle.irtext_print_ops.specs.Names.{printing_by};
+ghost use Rattle.irtext_print_ops.specs.Written.{part_text};
+ghost use Rattle.irtext_print_ops.specs.declared.lists.Facet.TheVariants as facet;
+ghost use Rattle.irtext_print_ops.specs.declared.lists.Listed.TheVariants as listed;
+
+use crate::lists::{Listed, count, fmt_listed, operand, successor};
+use crate::names::{fmt_block_label, fmt_value_name};
+use irtext_base::format::Directive;
+use irtext_base::text::{AttrText, IrText};
+use irtext_context::base::{Context, Operation, OperationAccess, Ptr, Value};
+use irtext_graph::held::HasGraph;
+use irtext_print::ir::print::pieces::{fmt_dictionary, fmt_keyed, fmt_symbol, fmt_word};
+use irtext_print::printable::Refusal;
+use irtext_print::printable::refusal::memory_alone;
+use std::fmt;
+
+/// What an operation uses is there, as this contract says of a call that does nothing.
+pub(crate) fn keeps_operands<T: IrText<A>, A: AttrText>(ctx: &Context<T, A>, op: Ptr<Operation>)
+    ensures { (i : ℕ) (v : code.Value) → slice_get (operands ctx.now.graph op) i ≡ Some v → ValueStands ctx.now.graph v }
+{
+    ctx.graph().keeps_nesting();
+}
+
+/// Appends the name of the operand at an index, behind a space, where it is there.
+fn fmt_operand_at<T: IrText<A>, A: AttrText>(
+    ctx: &Context<T, A>,
+    op: Ptr<Operation>,
+    index: usize,
+    f: &mut String,
+) -> fmt::Result
+    requires { Stands ctx.now.graph (TheOperation op) }
+    ensures { OnOk result (AppendsText f.old (spaced_if (texts.text_at T.IrText.written ctx.now (listed.Operands op) index)) f.new) }
+{
+    if index >= ctx.graph().num_operands(op) {
+        return Ok(());
+    }
+    f.push_str(" ")?;
+    let value = operand(ctx, op, index);
+    fmt_value_name(ctx, value, f)
+}
+
+/// Appends the label of the successor at an index, behind a space, where it is there.
+fn fmt_successor_at<T: IrText<A>, A: AttrText>(
+    ctx: &Context<T, A>,
+    op: Ptr<Operation>,
+    index: usize,
+    f: &mut String,
+) -> fmt::Result
+    requires { Stands ctx.now.graph (TheOperation op) }
+    ensures { OnOk result (AppendsText f.old (spaced_if (texts.text_at T.IrText.written ctx.now (listed.Successors op) index)) f.new) }
+{
+    if index >= ctx.graph().num_successors(op) {
+        return Ok(());
+    }
+    f.push_str(" ")?;
+    let block = successor(ctx, op, index);
+    fmt_block_label(ctx, block, f)
+}
+
+/// The type of a value, where it is known.
+pub(crate) fn known_type<T: IrText<A>, A: AttrText>(ctx: &Context<T, A>, value: Value) -> Option<&T>
+    requires { ValueStands ctx.now.graph value }
+    ensures { option_map (λ t. T.IrText.written t.now) result ≡
+        option_and_then (texts.typed_text T.IrText.written ctx.now facet.Type) (value_at ctx.now.graph value) }
+{
+    match ctx.graph().type_of(value) {
+        Some(of_type) => Some(of_type),
+        None => None,
+    }
+}
+
+/// Appends the type at an index among those of the results whose types are known, behind a space, where it is there.
+fn fmt_result_type_at<T: IrText<A>, A: AttrText>(
+    ctx: &Context<T, A>,
+    op: Ptr<Operation>,
+    index: usize,
+    f: &mut String,
+) -> fmt::Result
+    requires { Stands ctx.now.graph (TheOperation op) }
+    ensures { OnOk result (AppendsText f.old (spaced_if
+        (slice_get (known_types (texts.texts_of T.IrText.written ctx.now (listed.ResultTypes op))) index)) f.new) }
+{
+    let mut left = index;
+    for place in 0..count(ctx, Listed::ResultTypes(op)) {
+        let Some(of_type) = known_type(ctx, Value::Result(op, place)) else {
+            continue;
+        };
+        if left == 0 {
+            f.push_str(" ")?;
+            return of_type.write_text(f);
+        }
+        left -= 1;
+    }
+    Ok(())
+}
+
+/// Appends the items of a list from an index on, behind a space.
+fn fmt_spaced<T: IrText<A>, A: AttrText>(
+    ctx: &Context<T, A>,
+    list: Listed,
+    from: usize,
+    f: &mut String,
+) -> fmt::Result
+    requires { Stands ctx.now.graph (owner list) }
+    ensures { OnOk result (AppendsText f.old (spaced (texts.list_text T.IrText.written ctx.now list from)) f.new) }
+{
+    f.push_str(" ")?;
+    fmt_listed(ctx, list, from, f)?;
+    Ok(())
+}
+
+fn writes_operand(directive: &Directive) -> bool
+    ensures { result ≡ is_some (elim (directive_of directive.now) [ format.operand i ↦ Some i | _ ↦ None ]) }
+{
+    matches!(directive, Directive::Operand(_))
+}
+
+fn writes_successor(directive: &Directive) -> bool
+    ensures { result ≡ is_some (elim (directive_of directive.now) [ format.successor i ↦ Some i | _ ↦ None ]) }
+{
+    matches!(directive, Directive::Successor(_))
+}
+
+/// How many operands have a directive of their own.
+pub(crate) fn count_operands(directives: &[Directive]) -> usize
+    ensures { result ≡ length (operand_places (directives_of directives.now)) }
+{
+    directives.iter().filter(|d| writes_operand(*d)).count()
+}
+
+/// How many successors have a directive of their own.
+pub(crate) fn count_successors(directives: &[Directive]) -> usize
+    ensures { result ≡ length (successor_places (directives_of directives.now)) }
+{
+    directives.iter().filter(|d| writes_successor(*d)).count()
+}
+
+/// Appends what one of a format's directives writes of an operation, as [`fmt_piece`] does.
+fn fmt_part<T: IrText<A>, A: AttrText>(
+    ctx: &Context<T, A>,
+    op: Ptr<Operation>,
+    directives: &[Directive],
+    directive: &Directive,
+    f: &mut String,
+) -> fmt::Result
+    requires live { IsSome (operation ctx.now op) }
+    ensures { OnOk result (IfSome (seen_own A.IrText.written ctx.now op) (λ o. AppendsText f.old
+        (part_text (language_in T.IrText.own A.IrText.own ctx.now)
+        (part_of (printing_by A.AttrText.own A.eq ctx.now) (directives_of directives.now) o (directive_of directive.now)))
+        f.new)) }
+{
+    keeps_operands(ctx, op);
+    match directive {
+        Directive::Literal(word) => fmt_word(word.as_str(), f),
+        Directive::Operand(index) => fmt_operand_at(ctx, op, *index, f),
+        Directive::Successor(index) => fmt_successor_at(ctx, op, *index, f),
+        Directive::ResultType(index) => fmt_result_type_at(ctx, op, *index, f),
+        Directive::Operands => {
+            fmt_spaced(ctx, Listed::Operands(op), count_operands(directives), f)
+        }
+        Directive::Successors => {
+            fmt_spaced(ctx, Listed::Successors(op), count_successors(directives), f)
+        }
+        Directive::Attr(key) => fmt_keyed(op.attributes(ctx), key, f),
+        Directive::AttrDict => fmt_dictionary(op.attributes(ctx), directives, f),
+        Directive::SymbolHeader => fmt_symbol(op.attributes(ctx), f),
+        Directive::Region(_) => Ok(()),
+        Directive::Regions => Ok(()),
+    }
+}
+
+/// Appends what one of a format's directives writes of an operation, with the space in front of it: nothing where it writes a region,
+/// and nothing where what it names is not there. It fails only where memory is refused.
+pub fn fmt_piece<T: IrText<A>, A: AttrText>(
+    ctx: &Context<T, A>,
+    op: Ptr<Operation>,
+    directives: &[Directive],
+    directive: &Directive,
+    f: &mut String,
+) -> Result<(), Refusal>
+    requires live { IsSome (operation ctx.now op) }
+    ensures text { OnOk result (IfSome (seen_own A.IrText.written ctx.now op) (λ o. AppendsText f.old
+        (part_text (language_in T.IrText.own A.IrText.own ctx.now)
+        (part_of (printing_by A.AttrText.own A.eq ctx.now) (directives_of directives.now) o (directive_of directive.now)))
+        f.new)) }
+    ensures refused { IfErr result (λ e. e ≡ refusal.Memory) }
+{
+    memory_alone(fmt_part(ctx, op, directives, directive, f))
+}

@@ -1,0 +1,55 @@
+//! The names of an operation's results, as they stand in front of its id.
+ghost use Rattle.std.specs.Prelude.{◌≡◌, map, IsSome, IfSome, IfErr, OnOk};
+ghost use Rattle.irtext_context.specs.Context.{operation};
+ghost use Rattle.irtext_graph.specs.Graph.{Stands};
+ghost use Rattle.irtext_graph.specs.declared.object.Object.TheVariants.{TheOperation};
+ghost use Rattle.irtext_grammar.specs.Contexts.Held.{known_types};
+ghost use Rattle.irtext_grammar.specs.Contexts.Nested.{seen_own};
+ghost use Rattle.irtext_grammar.specs.Graphs.Graph.{value};
+ghost use Rattle.irtext_grammar.specs.Spelling.Spell.{results};
+ghost use Rattle.irtext_print.specs.Printers.Appended.{AppendsText};
+ghost use Rattle.irtext_print.specs.Printers.PrintedOperation.{language_in};
+ghost use Rattle.irtext_print.specs.declared.printable.refusal.Refusal.TheVariants as refusal;
+ghost use Rattle.irtext_print_ops.specs.Listed.{defined_text, texts_of};
+ghost use Rattle.irtext_print_ops.specs.Names.{printing_by};
+ghost use Rattle.irtext_print_ops.specs.declared.lists.Listed.TheVariants.{Results};
+
+use crate::lists::{Listed, fmt_listed};
+use irtext_base::text::{AttrText, IrText};
+use irtext_context::base::{Context, Operation, Ptr};
+use irtext_print::printable::Refusal;
+use irtext_print::printable::refusal::memory_alone;
+use std::fmt;
+
+/// Appends the names of an operation's results and ` = `, or nothing where there is none.
+fn fmt_defined<T: IrText<A>, A: AttrText>(
+    ctx: &Context<T, A>,
+    op: Ptr<Operation>,
+    f: &mut String,
+) -> fmt::Result
+    requires { Stands ctx.now.graph (TheOperation op) }
+    ensures { OnOk result (AppendsText f.old (defined_text (known_types (texts_of T.IrText.written ctx.now (Results op)))) f.new) }
+{
+    let none = fmt_listed(ctx, Listed::Results(op), 0, f)?;
+    if none {
+        return Ok(());
+    }
+    f.push_str(" = ")?;
+    Ok(())
+}
+
+/// Appends the names of an operation's results with `, ` between them, and ` = `; nothing where there is none. It fails only where
+/// memory is refused.
+pub fn fmt_results<T: IrText<A>, A: AttrText>(
+    ctx: &Context<T, A>,
+    op: Ptr<Operation>,
+    f: &mut String,
+) -> Result<(), Refusal>
+    requires live { IsSome (operation ctx.now op) }
+    ensures text { OnOk result (IfSome (seen_own A.IrText.written ctx.now op) (λ o. AppendsText f.old
+        (results (language_in T.IrText.own A.IrText.own ctx.now) (map (λ r. value (printing_by A.AttrText.own A.eq ctx.now) r.0) o.results))
+        f.new)) }
+    ensures refused { IfErr result (λ e. e ≡ refusal.Memory) }
+{
+    memory_alone(fmt_defined(ctx, op, f))
+}

@@ -1,0 +1,382 @@
+//! The turns of the walk: what is written next of what is open innermost, and what is open then.
+ghost use Rattle.std.specs.Prelude.{◌≡◌, ◌≢◌, ◌++◌, ◌∷◌, [], OnOk, IfOk, IfErr, IsSome, length};
+ghost use Rattle.irtext_context.specs.Context.{operation};
+ghost use Rattle.irtext_context.specs.Context as context;
+ghost use Rattle.irtext_graph.specs.Graph.{Stands};
+ghost use Rattle.irtext_graph.specs.declared.object.Object.TheVariants.{TheBlock, TheRegion};
+ghost use Rattle.irtext_print.specs.Printers.Appended.{AppendsText};
+ghost use Rattle.irtext_print.specs.declared.printable.refusal.Refusal.TheVariants as refusal;
+ghost use Rattle.irtext_print_ops.specs.Heads as heads;
+ghost use Rattle.irtext_print_ops.specs.Steps as steps;
+ghost use Rattle.irtext_print_ops.specs.declared.frame.Frame.TheVariants as framed;
+
+use crate::frame::{BlockFrame, Frame, OperationFrame, RegionFrame, Turn, gather, open};
+use crate::heads::WritesHeads;
+use crate::opening::{
+    begin_region, deeper, fmt_between_blocks, fmt_between_operations, fmt_closing, fmt_colon,
+    fmt_index,
+};
+use irtext_base::format::Directive;
+use irtext_base::text::{AttrText, IrText};
+use irtext_context::base::{BasicBlock, Context, Item, Operation, OperationAccess, Ptr};
+use irtext_graph::held::HasGraph;
+use irtext_print::printable::{Refusal, RegionPrintDepthLimit};
+
+/// Where the pieces of an operation end.
+#[derive(Clone, Copy)]
+pub(crate) enum Stop {
+    /// Behind the last directive.
+    End,
+    /// At a region; the directive behind it has this index.
+    Region(usize),
+    /// At all regions that are left; the directive behind them has this index.
+    Regions(usize),
+}
+
+/// Appends what the directives that were found of an operation write from one of them on, in front of the first that writes a region.
+fn fmt_pieces<H: WritesHeads<T, A>, T: IrText<A>, A: AttrText>(
+    ctx: &Context<T, A>,
+    op: Ptr<Operation>,
+    found: Option<&[Directive]>,
+    from: usize,
+    f: &mut String,
+) -> Result<Stop, Refusal>
+    requires live { IsSome (operation ctx.now op) }
+    requires format { heads.AreDirectivesAt T.IrText.own A.IrText.own A.AttrText.own A.eq ctx.now op found }
+    ensures text { OnOk result (AppendsText f.old (heads.pieces_at T.IrText.own A.IrText.own A.AttrText.own A.eq ctx.now op from) f.new) }
+    ensures stop { IfOk result (λ stop. heads.StopsAt T.IrText.own A.IrText.own A.AttrText.own A.eq ctx.now op from stop) }
+    ensures refused { IfErr result (λ e. e ≡ refusal.Memory) }
+{
+    let Some(directives) = found else {
+        return Ok(Stop::End);
+    };
+    let mut at = from;
+    while at < directives.len() {
+        let directive = &directives[at];
+        at += 1;
+        match directive {
+            Directive::Region(_) => return Ok(Stop::Region(at)),
+            Directive::Regions => return Ok(Stop::Regions(at)),
+            _ => H::fmt_piece(ctx, op, directives, directive, f)?,
+        }
+    }
+    Ok(Stop::End)
+}
+
+/// Checks that an operation fits its format, and appends what stands in front of its parts, which are then open.
+pub(crate) fn begin_operation<'c, H: WritesHeads<T, A>, T: IrText<A>, A: AttrText>(
+    ctx: &'c Context<T, A>,
+    op: Ptr<Operation>,
+    marked: bool,
+    indent: u16,
+    limit: RegionPrintDepthLimit,
+    f: &mut String,
+) -> Result<OperationFrame<'c>, Refusal>
+    requires live { IsSome (operation ctx.now op) }
+    ensures text { OnOk result
+        (AppendsText f.old (heads.operation_front_at T.IrText.own A.IrText.own A.AttrText.own A.eq ctx.now op) f.new) }
+    ensures begun { IfOk result (λ begun. begun ≡
+        heads.begun_at T.IrText.own A.IrText.own A.AttrText.own A.eq ctx.now op begun.directives marked indent limit) }
+    ensures found { IfOk result (λ begun. heads.AreDirectivesAt T.IrText.own A.IrText.own A.AttrText.own A.eq ctx.now op begun.directives) }
+    ensures fits { OnOk result (heads.FitsAt T.IrText.own A.IrText.own A.AttrText.own A.eq ctx.now op) }
+    ensures refused { IfErr result (λ e. e ≢ refusal.Memory →
+        (e ≡ refusal.Misfit) × (heads.FitsAt T.IrText.own A.IrText.own A.AttrText.own A.eq ctx.now op → ⊥)) }
+{
+    let directives = H::begin(ctx, op, f)?;
+    Ok(OperationFrame {
+        op,
+        directives,
+        directive: 0,
+        region: 0,
+        repeats: directives.is_none(),
+        marked,
+        indent,
+        limit,
+    })
+}
+
+/// Begins the next region of an operation, where one is left: appends that it is elided, or what stands in front of its blocks.
+fn region_turn<'c, T: IrText<A>, A: AttrText>(
+    ctx: &'c Context<T, A>,
+    width: u16,
+    frame: &mut OperationFrame<'c>,
+    f: &mut String,
+) -> Result<Option<RegionFrame>, Refusal>
+    requires live { IsSome (operation ctx.now frame.old.op) }
+    ensures text { OnOk result (AppendsText f.old (steps.region_turn_text ctx.now width frame.old) f.new) }
+    ensures left { IfOk result (λ begun. framed.Operation frame.new ∷ steps.begun_frames begun ≡
+        steps.region_turn_frames ctx.now frame.old) }
+    ensures refused { IfErr result (λ e. e ≢ refusal.Memory → (e ≡ refusal.Depth) × steps.NextTooDeep ctx.now width frame.old) }
+{
+    if frame.region >= frame.op.num_regions(ctx) {
+        frame.repeats = false;
+        return Ok(None);
+    }
+    let region = frame.op.get_region(ctx, frame.region);
+    let begun = begin_region(region, frame.repeats, frame.indent, width, frame.limit, f)?;
+    frame.region += 1;
+    Ok(begun)
+}
+
+/// Ends a region that was begun, where it has no block, and says what is open then.
+fn entered<T: IrText<A>, A: AttrText>(
+    ctx: &Context<T, A>,
+    begun: Option<RegionFrame>,
+    f: &mut String,
+) -> Result<Turn, Refusal>
+    requires stand { heads.FramesFitAt T.IrText.own A.IrText.own A.AttrText.own A.eq ctx.now (steps.begun_frames begun) }
+    ensures text { OnOk result (AppendsText f.old (steps.ended_text ctx.now begun) f.new) }
+    ensures left { IfOk result (λ turn. turn ≡ steps.ended_turn ctx.now begun) }
+    ensures refused { IfErr result (λ e. e ≡ refusal.Memory) }
+{
+    let Some(inside) = begun else {
+        return Ok(Turn::Stays);
+    };
+    if inside.region.num_blocks(ctx) == 0 {
+        fmt_closing(inside.indent, f)?;
+        return Ok(Turn::Stays);
+    }
+    Ok(Turn::Enters(inside))
+}
+
+/// Appends the mark of an operation that was written, where it has one and it is to be written.
+pub(crate) fn end_operation<H: WritesHeads<T, A>, T: IrText<A>, A: AttrText>(
+    ctx: &Context<T, A>,
+    op: Ptr<Operation>,
+    marked: bool,
+    items: &mut Vec<Item>,
+    f: &mut String,
+) -> Result<(), Refusal>
+    requires live { IsSome (operation ctx.now op) }
+    ensures text { OnOk result (AppendsText f.old (heads.own_mark_at T.IrText.own A.IrText.own A.AttrText.own A.eq ctx.now op marked
+        (length items.old.items)) f.new) }
+    ensures items { OnOk result (items.new.items ≡ items.old.items ++
+        heads.own_items_at T.IrText.own A.IrText.own A.AttrText.own A.eq ctx.now op marked) }
+    ensures refused { IfErr result (λ e. e ≡ refusal.Memory) }
+{
+    if !marked {
+        return Ok(());
+    }
+    if !H::is_operation_marked(ctx, op) {
+        return Ok(());
+    }
+    let index = gather(items, Item::Operation(op))?;
+    fmt_index(index, f)
+}
+
+/// Appends the mark of a block, where it has one.
+pub(crate) fn fmt_block_mark<H: WritesHeads<T, A>, T: IrText<A>, A: AttrText>(
+    ctx: &Context<T, A>,
+    block: Ptr<BasicBlock>,
+    items: &mut Vec<Item>,
+    f: &mut String,
+) -> Result<(), Refusal>
+    requires live { IsSome (context.block ctx.now block) }
+    ensures text { OnOk result (AppendsText f.old (heads.block_mark_at T.IrText.own A.IrText.own A.AttrText.own A.eq ctx.now block
+        (length items.old.items)) f.new) }
+    ensures items { OnOk result (items.new.items ≡ items.old.items ++
+        heads.block_items_at T.IrText.own A.IrText.own A.AttrText.own A.eq ctx.now block) }
+    ensures refused { IfErr result (λ e. e ≡ refusal.Memory) }
+{
+    if !H::is_block_marked(ctx, block) {
+        return Ok(());
+    }
+    let index = gather(items, Item::Block(block))?;
+    fmt_index(index, f)
+}
+
+/// Writes what is next of an operation: its pieces up to a region, and that; or its mark behind the last.
+fn operation_turn<'c, H: WritesHeads<T, A>, T: IrText<A>, A: AttrText>(
+    ctx: &'c Context<T, A>,
+    width: u16,
+    frame: &mut OperationFrame<'c>,
+    items: &mut Vec<Item>,
+    f: &mut String,
+) -> Result<Turn, Refusal>
+    requires fits { heads.FrameFitsAt T.IrText.own A.IrText.own A.AttrText.own A.eq ctx.now (framed.Operation frame.old) }
+    ensures steps { IfOk result (λ turn.
+        heads.StepsAt T.IrText.own A.IrText.own A.AttrText.own A.eq ctx.now width (framed.Operation frame.old)
+        items.old.items items.new.items [] (steps.turn_frames frame.new turn) f.old f.new) }
+    ensures refused { IfErr result (heads.RefusesFrame T.IrText.own A.IrText.own A.AttrText.own A.eq ctx.now width
+        (framed.Operation frame.old)) }
+{
+    ctx.graph().keeps_nesting();
+    if frame.repeats {
+        let begun = region_turn(ctx, width, frame, f)?;
+        return entered(ctx, begun, f);
+    }
+    match fmt_pieces::<H, T, A>(ctx, frame.op, frame.directives, frame.directive, f)? {
+        Stop::End => {
+            end_operation::<H, T, A>(ctx, frame.op, frame.marked, items, f)?;
+            Ok(Turn::Ends)
+        }
+        Stop::Region(directive) => {
+            frame.directive = directive;
+            let begun = region_turn(ctx, width, frame, f)?;
+            entered(ctx, begun, f)
+        }
+        Stop::Regions(directive) => {
+            f.push_str(" ")?;
+            frame.directive = directive;
+            frame.repeats = true;
+            Ok(Turn::Stays)
+        }
+    }
+}
+
+/// Writes what is left of an operation, up to the first of its regions that has blocks: that one is begun.
+pub(crate) fn operation_turns<'c, H: WritesHeads<T, A>, T: IrText<A>, A: AttrText>(
+    ctx: &'c Context<T, A>,
+    width: u16,
+    frame: &mut OperationFrame<'c>,
+    items: &mut Vec<Item>,
+    f: &mut String,
+) -> Result<Option<RegionFrame>, Refusal>
+    requires fits { heads.FrameFitsAt T.IrText.own A.IrText.own A.AttrText.own A.eq ctx.now (framed.Operation frame.old) }
+    ensures steps { IfOk result (λ inside.
+        heads.StepsAt T.IrText.own A.IrText.own A.AttrText.own A.eq ctx.now width (framed.Operation frame.old)
+        items.old.items items.new.items [] (steps.left_frames frame.new inside) f.old f.new) }
+    ensures refused { IfErr result (heads.RefusesFrame T.IrText.own A.IrText.own A.AttrText.own A.eq ctx.now width
+        (framed.Operation frame.old)) }
+{
+    loop {
+        match operation_turn::<H, T, A>(ctx, width, frame, items, f)? {
+            Turn::Stays => {}
+            Turn::Enters(inside) => return Ok(Some(inside)),
+            Turn::Ends => return Ok(None),
+        }
+    }
+}
+
+/// Writes what is next of an operation.
+fn operation_step<'c, H: WritesHeads<T, A>, T: IrText<A>, A: AttrText>(
+    ctx: &'c Context<T, A>,
+    width: u16,
+    frame: OperationFrame<'c>,
+    frames: &mut Vec<Frame<'c>>,
+    items: &mut Vec<Item>,
+    f: &mut String,
+) -> Result<Option<Frame<'c>>, Refusal>
+    requires fits { heads.FrameFitsAt T.IrText.own A.IrText.own A.AttrText.own A.eq ctx.now (framed.Operation frame) }
+    ensures steps { IfOk result (λ inner.
+        heads.StepsAt T.IrText.own A.IrText.own A.AttrText.own A.eq ctx.now width (framed.Operation frame.entry)
+        items.old.items items.new.items frames.old.items (frames.new.items ++ steps.listed inner) f.old f.new) }
+    ensures refused { IfErr result (heads.RefusesFrame T.IrText.own A.IrText.own A.AttrText.own A.eq ctx.now width
+        (framed.Operation frame.entry)) }
+{
+    let mut left = frame;
+    let Some(inside) = operation_turns::<H, T, A>(ctx, width, &mut left, items, f)? else {
+        return Ok(None);
+    };
+    open(frames, Frame::Operation(left))?;
+    Ok(Some(Frame::Region(inside)))
+}
+
+/// Writes what is next of a region: its next block's head, or its last brace.
+fn region_step<'c, H: WritesHeads<T, A>, T: IrText<A>, A: AttrText>(
+    ctx: &'c Context<T, A>,
+    width: u16,
+    frame: RegionFrame,
+    frames: &mut Vec<Frame<'c>>,
+    items: &mut Vec<Item>,
+    f: &mut String,
+) -> Result<Option<Frame<'c>>, Refusal>
+    requires fits { heads.FrameFitsAt T.IrText.own A.IrText.own A.AttrText.own A.eq ctx.now (framed.Region frame) }
+    ensures steps { IfOk result (λ inner.
+        heads.StepsAt T.IrText.own A.IrText.own A.AttrText.own A.eq ctx.now width (framed.Region frame)
+        items.old.items items.new.items frames.old.items (frames.new.items ++ steps.listed inner) f.old f.new) }
+    ensures refused { IfErr result (heads.RefusesFrame T.IrText.own A.IrText.own A.AttrText.own A.eq ctx.now width (framed.Region frame)) }
+{
+    ctx.graph().keeps_nesting();
+    if frame.block >= frame.region.num_blocks(ctx) {
+        fmt_closing(frame.indent, f)?;
+        return Ok(None);
+    }
+    let block = frame.region.get_block(ctx, frame.block);
+    let indent = deeper(frame.indent, width)?;
+    let inner = deeper(indent, width)?;
+    fmt_between_blocks(frame.first, indent, f)?;
+    H::fmt_block_head(ctx, block, f)?;
+    fmt_block_mark::<H, T, A>(ctx, block, items, f)?;
+    fmt_colon(inner, f)?;
+    open(
+        frames,
+        Frame::Region(RegionFrame {
+            block: frame.block + 1,
+            first: false,
+            ..frame
+        }),
+    )?;
+    Ok(Some(Frame::Block(BlockFrame {
+        block,
+        operation: 0,
+        first: true,
+        indent,
+        limit: frame.limit,
+    })))
+}
+
+/// Writes what is next of a block: its next operation, up to the first region of that one that has blocks, or nothing behind the last. A
+/// placeholder is left out.
+fn block_step<'c, H: WritesHeads<T, A>, T: IrText<A>, A: AttrText>(
+    ctx: &'c Context<T, A>,
+    width: u16,
+    frame: BlockFrame,
+    frames: &mut Vec<Frame<'c>>,
+    items: &mut Vec<Item>,
+    f: &mut String,
+) -> Result<Option<Frame<'c>>, Refusal>
+    requires fits { heads.FrameFitsAt T.IrText.own A.IrText.own A.AttrText.own A.eq ctx.now (framed.Block frame) }
+    ensures steps { IfOk result (λ inner.
+        heads.StepsAt T.IrText.own A.IrText.own A.AttrText.own A.eq ctx.now width (framed.Block frame)
+        items.old.items items.new.items frames.old.items (frames.new.items ++ steps.listed inner) f.old f.new) }
+    ensures refused { IfErr result (heads.RefusesFrame T.IrText.own A.IrText.own A.AttrText.own A.eq ctx.now width (framed.Block frame)) }
+{
+    ctx.graph().keeps_nesting();
+    if frame.operation >= frame.block.num_operations(ctx) {
+        return Ok(None);
+    }
+    let op = frame.block.get_operation(ctx, frame.operation);
+    if !ctx.contains_operation(op) {
+        return Ok(Some(Frame::Block(BlockFrame {
+            operation: frame.operation + 1,
+            ..frame
+        })));
+    }
+    let indent = deeper(frame.indent, width)?;
+    fmt_between_operations(frame.first, indent, f)?;
+    let mut begun = begin_operation::<H, T, A>(ctx, op, true, indent, frame.limit, f)?;
+    let behind = Frame::Block(BlockFrame {
+        operation: frame.operation + 1,
+        first: false,
+        ..frame
+    });
+    let Some(inside) = operation_turns::<H, T, A>(ctx, width, &mut begun, items, f)? else {
+        return Ok(Some(behind));
+    };
+    open(frames, behind)?;
+    open(frames, Frame::Operation(begun))?;
+    Ok(Some(Frame::Region(inside)))
+}
+
+/// Writes what is next of what is open innermost.
+pub(crate) fn step<'c, H: WritesHeads<T, A>, T: IrText<A>, A: AttrText>(
+    ctx: &'c Context<T, A>,
+    width: u16,
+    frame: Frame<'c>,
+    frames: &mut Vec<Frame<'c>>,
+    items: &mut Vec<Item>,
+    f: &mut String,
+) -> Result<Option<Frame<'c>>, Refusal>
+    requires fits { heads.FrameFitsAt T.IrText.own A.IrText.own A.AttrText.own A.eq ctx.now frame }
+    ensures steps { IfOk result (λ inner.
+        heads.StepsAt T.IrText.own A.IrText.own A.AttrText.own A.eq ctx.now width frame.entry
+        items.old.items items.new.items frames.old.items (frames.new.items ++ steps.listed inner) f.old f.new) }
+    ensures refused { IfErr result (heads.RefusesFrame T.IrText.own A.IrText.own A.AttrText.own A.eq ctx.now width frame.entry) }
+{
+    match frame {
+        Frame::Operation(frame) => operation_step::<H, T, A>(ctx, width, frame, frames, items, f),
+        Frame::Region(frame) => region_step::<H, T, A>(ctx, width, frame, frames, items, f),
+        Frame::Block(frame) => block_step::<H, T, A>(ctx, width, frame, frames, items, f),
+    }
+}

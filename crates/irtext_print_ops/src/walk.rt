@@ -1,0 +1,141 @@
+//! Printing of an operation with all that nests in it.
+ghost use Rattle.std.specs.Prelude.{◌≡◌, ◌≢◌, ◌++◌, ◌∷◌, [], OnOk, IfErr, IfNone, IsSome, length, true};
+ghost use Rattle.irtext_context.specs.Context.{operation};
+ghost use Rattle.irtext_print.specs.Printers.Appended.{AppendsText};
+ghost use Rattle.irtext_print.specs.declared.printable.refusal.Refusal.TheVariants as refusal;
+ghost use Rattle.irtext_print_ops.specs.Heads as heads;
+ghost use Rattle.irtext_print_ops.specs.Steps.{listed};
+ghost use Rattle.irtext_print_ops.specs.declared.frame.Frame.TheVariants as framed;
+
+use crate::frame::{Frame, OperationFrame, open};
+use crate::heads::WritesHeads;
+use crate::step::{begin_operation, end_operation, operation_turns, step};
+use irtext_base::text::{AttrText, IrText};
+use irtext_context::base::{Context, Item, Operation, Ptr};
+use irtext_print::printable::{Refusal, State};
+
+/// What is open innermost, which is taken out of the frames where nothing was opened inside of them.
+fn innermost<'c>(inner: Option<Frame<'c>>, frames: &mut Vec<Frame<'c>>) -> Option<Frame<'c>>
+    ensures all { frames.new.items ++ listed result ≡ frames.old.items ++ listed inner.entry }
+    ensures none { IfNone result (frames.new.items ≡ []) }
+{
+    match inner {
+        Some(frame) => Some(frame),
+        None => frames.pop(),
+    }
+}
+
+/// Appends the text that is left of what is open, the innermost first, until nothing is open. What is marked in it is added to `items`, in
+/// the order of the marks, and a mark counts those before it. What was written and gathered until a refusal stays.
+pub(crate) fn print_frames<'c, H: WritesHeads<T, A>, T: IrText<A>, A: AttrText>(
+    ctx: &'c Context<T, A>,
+    width: u16,
+    first: Option<Frame<'c>>,
+    frames: &mut Vec<Frame<'c>>,
+    items: &mut Vec<Item>,
+    f: &mut String,
+) -> Result<(), Refusal>
+    requires some { IfNone first (frames.old.items ≡ []) }
+    requires fit { heads.FramesFitAt T.IrText.own A.IrText.own A.AttrText.own A.eq ctx.now (frames.old.items ++ listed first) }
+    ensures text { OnOk result (AppendsText f.old
+        (heads.frames_text_at T.IrText.own A.IrText.own A.AttrText.own A.eq ctx.now width
+        (frames.old.items ++ listed first.entry) (length items.old.items)) f.new) }
+    ensures items { OnOk result (items.new.items ≡ items.old.items ++
+        heads.frames_items_at T.IrText.own A.IrText.own A.AttrText.own A.eq ctx.now (frames.old.items ++ listed first.entry)) }
+    ensures fits { OnOk result (
+        heads.FramesFault T.IrText.own A.IrText.own A.AttrText.own A.eq ctx.now width
+        refusal.Misfit (frames.old.items ++ listed first.entry) → ⊥) }
+    ensures refused { IfErr result (λ e. e ≢ refusal.Memory →
+        heads.FramesFault T.IrText.own A.IrText.own A.AttrText.own A.eq ctx.now width e (frames.old.items ++ listed first.entry)) }
+{
+    let mut next = first;
+    while let Some(frame) = next {
+        let inner = step::<H, T, A>(ctx, width, frame, frames, items, f)?;
+        next = innermost(inner, frames);
+    }
+    Ok(())
+}
+
+/// Appends the text that is left of an operation. What is marked in it is added to `items`, in the order of the marks, and a mark counts
+/// those before it. What was written and gathered until a refusal stays. It takes no memory of its own where no region has blocks.
+fn print_operation<'c, H: WritesHeads<T, A>, T: IrText<A>, A: AttrText>(
+    ctx: &'c Context<T, A>,
+    width: u16,
+    frame: OperationFrame<'c>,
+    items: &mut Vec<Item>,
+    f: &mut String,
+) -> Result<(), Refusal>
+    requires fits { heads.FrameFitsAt T.IrText.own A.IrText.own A.AttrText.own A.eq ctx.now (framed.Operation frame) }
+    ensures text { OnOk result (AppendsText f.old
+        (heads.frames_text_at T.IrText.own A.IrText.own A.AttrText.own A.eq ctx.now width
+        (framed.Operation frame.entry ∷ []) (length items.old.items)) f.new) }
+    ensures items { OnOk result (items.new.items ≡ items.old.items ++
+        heads.frames_items_at T.IrText.own A.IrText.own A.AttrText.own A.eq ctx.now (framed.Operation frame.entry ∷ [])) }
+    ensures fits { OnOk result (
+        heads.FramesFault T.IrText.own A.IrText.own A.AttrText.own A.eq ctx.now width
+        refusal.Misfit (framed.Operation frame.entry ∷ []) → ⊥) }
+    ensures refused { IfErr result (λ e. e ≢ refusal.Memory →
+        heads.FramesFault T.IrText.own A.IrText.own A.AttrText.own A.eq ctx.now width e (framed.Operation frame.entry ∷ [])) }
+{
+    let mut left = frame;
+    let Some(inside) = operation_turns::<H, T, A>(ctx, width, &mut left, items, f)? else {
+        return Ok(());
+    };
+    let mut frames = Vec::new(ctx.allocator());
+    open(&mut frames, Frame::Operation(left))?;
+    print_frames::<H, T, A>(
+        ctx,
+        width,
+        Some(Frame::Region(inside)),
+        &mut frames,
+        items,
+        f,
+    )
+}
+
+/// Appends the text of an operation with all that nests in it, at the state's indentation and under its limit; and behind it its mark,
+/// if `marked`. What is marked is added to `items`, in the order of the marks, and a mark counts those before it. What was written and
+/// gathered until a refusal stays.
+///
+/// It is refused with `Depth` where the spaces in front of a line inside of a region that is shown do not fit 16 bits, with `Misfit` where
+/// the operation, or one that is shown inside of it, does not fit its format, and with `Memory` where memory is refused.
+pub fn print_inside<H: WritesHeads<T, A>, T: IrText<A>, A: AttrText, U>(
+    ctx: &Context<T, A>,
+    op: Ptr<Operation>,
+    marked: bool,
+    state: &State<U>,
+    items: &mut Vec<Item>,
+    f: &mut String,
+) -> Result<(), Refusal>
+    requires live { IsSome (operation ctx.now op) }
+    ensures text { OnOk result (AppendsText f.old (heads.text_under T.IrText.own A.IrText.own A.AttrText.own A.eq ctx.now op state.now
+        marked (length items.old.items)) f.new) }
+    ensures items { OnOk result (items.new.items ≡ items.old.items ++
+        heads.items_under T.IrText.own A.IrText.own A.AttrText.own A.eq ctx.now op state.now marked) }
+    ensures fits { OnOk result (heads.MisfitsUnder T.IrText.own A.IrText.own A.AttrText.own A.eq ctx.now op state.now → ⊥) }
+    ensures refused { IfErr result (heads.RefusesUnder T.IrText.own A.IrText.own A.AttrText.own A.eq ctx.now op state.now) }
+{
+    let width = state.indent_width();
+    let indent = state.current_indent();
+    let limit = state.current_region_print_depth_limit();
+    let begun = begin_operation::<H, T, A>(ctx, op, marked, indent, limit, f)?;
+    print_operation::<H, T, A>(ctx, width, begun, items, f)
+}
+
+/// Appends the mark of an operation, where it has one, with the marks of `items` before it, and adds the operation to them. It is refused
+/// only where memory is.
+pub fn print_mark<H: WritesHeads<T, A>, T: IrText<A>, A: AttrText>(
+    ctx: &Context<T, A>,
+    op: Ptr<Operation>,
+    items: &mut Vec<Item>,
+    f: &mut String,
+) -> Result<(), Refusal>
+    requires live { IsSome (operation ctx.now op) }
+    ensures text { OnOk result (AppendsText f.old (heads.own_mark_at T.IrText.own A.IrText.own A.AttrText.own A.eq ctx.now op true
+        (length items.old.items)) f.new) }
+    ensures items { OnOk result (items.new.items ≡ items.old.items ++
+        heads.own_items_at T.IrText.own A.IrText.own A.AttrText.own A.eq ctx.now op true) }
+    ensures refused { IfErr result (λ e. e ≡ refusal.Memory) }
+{
+    end_operation::<H, T, A>(ctx, op, true, items, f)
+}

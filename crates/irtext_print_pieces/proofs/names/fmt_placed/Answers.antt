@@ -1,9 +1,0 @@
-use Rattle.std.proofs.Common.{option_copied, string_bytes}
-use Rattle.irtext_print.proofs.Printers.Appended.{then}
-use Rattle.irtext_print_pieces.proofs.NamesWritten.{block_placed}
-use Rattle.irtext_print_pieces.proofs.names.fmt_placed.Goals as goal
-
-pub returns : goal.returns
-returns c =
-    then c.fmt_number-2.result (λ q. block_placed (option_copied c.args.label) c.args.place c.args.generation (string_bytes c.args.f.now) (string_bytes c.fmt_block_front.new.f) (string_bytes c.fmt_number.new.f) (string_bytes c.push_str.new.self)
-    (string_bytes c.fmt_number-2.new.f) c.in_ok-fmt_block_front.ensures c.in_ok-fmt_number.ensures c.in_ok-push_str.ensures.bytes q) c.fmt_number-2.ensures

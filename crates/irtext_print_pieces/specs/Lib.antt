@@ -1,5 +1,0 @@
-pub mod Names
-pub mod Listed
-pub mod Written
-pub mod Inline
-pub mod Fits

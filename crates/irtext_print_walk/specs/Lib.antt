@@ -1,4 +1,0 @@
-pub mod Faults
-pub mod Walk
-pub mod Steps
-pub mod Heads
