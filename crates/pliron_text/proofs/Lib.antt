@@ -1,1 +1,5 @@
+pub mod Again
+pub mod Back
+pub mod Fitting
+pub mod Nowhere
 pub mod RoundTrips

@@ -13,4 +13,4 @@ pub use Rattle.irtext_promises.specs.Alone
 pub use Rattle.irtext_parse_root.specs.Whole
 pub use Rattle.irtext_parse_root.specs.AnyState
 pub use Rattle.irtext_promises.specs.PrintedRoot
-pub use Rattle.irtext_comes_back.specs.Calls
+pub use Rattle.pliron_text.specs.Calls

@@ -1,6 +1,6 @@
 //! Readers of tokens, stored printers, and the section of marked items.
 
-pub use irtext_parse::irfmt::outlined;
+pub use irtext_parse_root::irfmt::outlined;
 pub use irtext_print_ir::irfmt::printers;
 /// Readers of tokens, lists, types and attributes. Each takes the stream first and answers what stands there, or a fault with its cause
 /// and place.

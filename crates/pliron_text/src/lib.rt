@@ -3,6 +3,7 @@
 #![tactic(auto)]
 
 pub mod base;
+pub mod calls;
 pub mod dialect;
 pub mod format;
 pub mod ir;
@@ -12,5 +13,5 @@ pub mod location;
 pub mod result;
 pub mod text;
 
-pub use irtext_parse::parsable;
+pub use irtext_parse_root::parsable;
 pub use irtext_print_ir::printable;

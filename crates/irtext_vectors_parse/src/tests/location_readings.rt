@@ -1,7 +1,7 @@
 //! Locations of each kind as they are read, and why others are refused.
 use irtext_base::location::{Location, Source};
 use irtext_base::result::{Error, Result as Answer};
-use irtext_parse::parsable::{Parsable, SourcePosition, parse_from_str};
+use irtext_parse_root::parsable::{Parsable, SourcePosition, parse_from_str};
 use irtext_print_ir::printable::Disp;
 use irtext_types::DemoAttr;
 use irtext_vectors_common::contexts::{Ctx, with_context};

@@ -1,6 +1,6 @@
 //! Items with white space round them, and the marker that may stand for one.
 use irtext_base::parsable::{ParseResult, TextStream};
-use irtext_parse::irfmt::outlined::outlined_marker_or;
+use irtext_parse_root::irfmt::outlined::outlined_marker_or;
 use irtext_read::irfmt::parsers::{bool_parse, int_parse, spaced};
 use irtext_types::DemoAttr;
 use irtext_vectors_common::answers::{behind, left};

@@ -1,6 +1,6 @@
 //! Numbers, truth values, identifiers and texts as they are read with a context.
 use irtext_base::base::Identifier;
-use irtext_parse::parsable::Parsable;
+use irtext_parse_root::parsable::Parsable;
 use irtext_types::{DemoAttr, DemoType};
 use irtext_vectors_common::answers::line;
 use irtext_vectors_common::contexts::{Stream, in_context};

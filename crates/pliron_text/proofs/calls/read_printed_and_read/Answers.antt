@@ -1,7 +1,7 @@
 use Rattle.std.proofs.Common.{◌∙◌, sym}
 use Rattle.irtext_base.specs.Own.{texts_of}
-use Rattle.irtext_comes_back.proofs.Again.{is_there, same_dialects}
-use Rattle.irtext_comes_back.proofs.calls.read_printed_and_read.Goals as goal
+use Rattle.pliron_text.proofs.Again.{is_there, same_dialects}
+use Rattle.pliron_text.proofs.calls.read_printed_and_read.Goals as goal
 
 pub there_and_back-requires-clause-live : goal.there_and_back-requires-clause-live
 there_and_back-requires-clause-live g c =

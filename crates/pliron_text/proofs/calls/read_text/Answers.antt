@@ -3,9 +3,9 @@ use Rattle.irtext_base.specs.Own.{texts_of}
 use Rattle.irtext_promises.specs.Promises.{RefusesRoot}
 use Rattle.irtext_read.specs.AttrTexts.{attr_at}
 use Rattle.irtext_state.specs.declared.parsable.state.StateStream.{StateStream}
-use Rattle.irtext_comes_back.specs.Calls.{RefusesText}
-use Rattle.irtext_comes_back.proofs.Back.{refused_as}
-use Rattle.irtext_comes_back.proofs.calls.read_text.Goals as goal
+use Rattle.pliron_text.specs.Calls.{RefusesText}
+use Rattle.pliron_text.proofs.Back.{refused_as}
+use Rattle.pliron_text.proofs.calls.read_text.Goals as goal
 
 pub returns-clause-refuses : goal.returns-clause-refuses
 returns-clause-refuses g c =

@@ -42,8 +42,8 @@ use Rattle.irtext_outcomes.specs.Back.{ClosedRoot, HeldBack, HeldWhole}
 use Rattle.irtext_outcomes.specs.RootParts.{KeptRoot}
 use Rattle.irtext_promises.specs.PrintedRoot.{PrintedRoot}
 use Rattle.irtext_promises.proofs.PrintedBack.{stands_back, stands_whole, not_refused, none_read}
-use Rattle.irtext_comes_back.specs.Calls.{IsClosed, IsPrinted, ComesBack, ComesBackWhole, ReadsText, RefusesText, IsExcused}
-use Rattle.irtext_comes_back.proofs.Fitting.{fits_whole}
+use Rattle.pliron_text.specs.Calls.{IsClosed, IsPrinted, ComesBack, ComesBackWhole, ReadsText, RefusesText, IsExcused}
+use Rattle.pliron_text.proofs.Fitting.{fits_whole}
 
 -- what is said of a refusal that was none for want of memory
 pub refused_as : {X A : Type 0} (P Q : ParseFault A → Type 0) → ((f : ParseFault A) → P f → Q f) → (r : Result X (ParseFault A)) → IfErr r (UnlessMemory P) → IfErr r (UnlessMemory Q)

@@ -14,7 +14,7 @@ use crate::parsable::Parsable;
 use irtext_base::parsable::ParseResult;
 use irtext_base::text::{AttrText, IrText};
 use irtext_context::base::{Operation, Ptr};
-use irtext_parse_root::outermost::outermost_parse;
+use crate::outermost::outermost_parse;
 use irtext_state::parsable::StateStream;
 
 /// How an operation is read.

@@ -1,4 +1,4 @@
-use Rattle.irtext_comes_back.proofs.calls.fresh_parse.Goals as goal
+use Rattle.pliron_text.proofs.calls.fresh_parse.Goals as goal
 
 pub returns-clause-builds : goal.returns-clause-builds
 returns-clause-builds g c = c.root_parse.ensures.builds c.requires.fresh

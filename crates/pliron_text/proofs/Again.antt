@@ -18,8 +18,8 @@ use Rattle.irtext_promises.specs.OnlyNew.{OnlyNew}
 use Rattle.irtext_read.specs.AttrTexts.{attr_at}
 use Rattle.irtext_outcomes.specs.Back.{ClosedRoot}
 use Rattle.irtext_promises.proofs.ReadClosed.{read_closed}
-use Rattle.irtext_comes_back.specs.Calls.{ReadsText}
-use Rattle.irtext_comes_back.proofs.Nowhere.{root_nowhere}
+use Rattle.pliron_text.specs.Calls.{ReadsText}
+use Rattle.pliron_text.proofs.Nowhere.{root_nowhere}
 
 module _ {T A : Type 0} (types : Texts T) (reading : Text → Outcome A) (text_of : A → Text) (outlined once : A → Bool) (eq : A → A → Bool) where
   -- a root that can be printed, and is closed where it fits

@@ -2,8 +2,8 @@ use Rattle.std.proofs.Common.{◌<◌, ◌^◌, refl, subst, length, string_byte
 use Rattle.std.proofs.lemmas.Str.{IsUtf8-string_bytes}
 use Rattle.irtext_grammar.proofs.Graphs.OwnEquality.{sound, reflexive}
 use Rattle.irtext_print.specs.Printers.Appended.{fresh}
-use Rattle.irtext_comes_back.proofs.Back.{reads_back, reads_whole, nothing_back, memory_alone}
-use Rattle.irtext_comes_back.proofs.calls.there_and_back.Goals as goal
+use Rattle.pliron_text.proofs.Back.{reads_back, reads_whole, nothing_back, memory_alone}
+use Rattle.pliron_text.proofs.calls.there_and_back.Goals as goal
 
 pub returns-in-Err-clause-refused : goal.returns-in-Err-clause-refused
 returns-in-Err-clause-refused g c = λ unlimited nowhere x sees closed. c.in-Err.ensures.refused

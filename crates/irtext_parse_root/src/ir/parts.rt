@@ -17,8 +17,8 @@ use crate::parsable::Parsable;
 use irtext_base::parsable::ParseResult;
 use irtext_base::text::{AttrText, IrText};
 use irtext_context::base::{BasicBlock, Operation, Ptr, Region};
-use irtext_parse_root::block::block_parse;
-use irtext_parse_root::region::region_parse;
+use crate::block::block_parse;
+use crate::region::region_parse;
 use irtext_state::parsable::StateStream;
 
 impl<T: IrText<A>, A: AttrText, U> Parsable<T, A, U> for Region {

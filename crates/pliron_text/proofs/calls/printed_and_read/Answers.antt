@@ -1,6 +1,6 @@
 use Rattle.irtext_grammar.specs.Contexts.Nested.{printing_over}
-use Rattle.irtext_comes_back.proofs.Back.{closed_where_fits}
-use Rattle.irtext_comes_back.proofs.calls.printed_and_read.Goals as goal
+use Rattle.pliron_text.proofs.Back.{closed_where_fits}
+use Rattle.pliron_text.proofs.calls.printed_and_read.Goals as goal
 
 pub returns-clause-back : goal.returns-clause-back
 returns-clause-back g c = λ unlimited x h. c.there_and_back.ensures.back unlimited h.nowhere x h.sees (closed_where_fits g.A.IrText.written (printing_over c.args.ctx.now g.A.AttrText.outlined g.A.AttrText.print_once g.A.PartialEq.eq) c.args.ctx.now c.args.op x h (c.keeps_parts.ensures.kept c.args.op x h.sees).distinct)

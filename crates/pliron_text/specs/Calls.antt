@@ -32,10 +32,10 @@ use Rattle.irtext_read.specs.AttrTexts.{attr_at}
 use Rattle.irtext_outcomes.specs.Back.{HeldBack, HeldWhole}
 use Rattle.irtext_outcomes.specs.RootParts.{HoldsNoLabels}
 use Rattle.irtext_state.specs.declared.parsable.state.StateStream.{StateStream}
-use Rattle.irtext_comes_back.specs.declared.calls.NotAgain.{NotAgain}
-use Rattle.irtext_comes_back.specs.declared.calls.NotAgain.TheVariants.{Refused, Lost}
-use Rattle.irtext_comes_back.specs.declared.calls.NotBack.{NotBack}
-use Rattle.irtext_comes_back.specs.declared.calls.NotBack.TheVariants.{Unprinted, Unread}
+use Rattle.pliron_text.specs.declared.calls.NotAgain.{NotAgain}
+use Rattle.pliron_text.specs.declared.calls.NotAgain.TheVariants.{Refused, Lost}
+use Rattle.pliron_text.specs.declared.calls.NotBack.{NotBack}
+use Rattle.pliron_text.specs.declared.calls.NotBack.TheVariants.{Unprinted, Unread}
 
 -- A closed root of a context, as printing sees it: it stands in no block, and has no result, operand or successor; it is isolated, or has
 -- no region; each operand inside is a value that its isolated scope defines, and each successor a block that its region defines; and no

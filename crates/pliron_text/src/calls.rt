@@ -20,7 +20,7 @@ ghost use Rattle.irtext_promises.specs.OnlyNew.{OnlyNew};
 ghost use Rattle.irtext_promises.specs.Promises.{BuildsRoot, RefusesRoot};
 ghost use Rattle.irtext_read.specs.AttrTexts.{attr_at};
 ghost use Rattle.irtext_outcomes.specs.Back.{ClosedRoot};
-ghost use Rattle.irtext_comes_back.specs.Calls.{IsClosed, IsPrinted, ComesBack, ComesBackWhole, ReadsText, RefusesText, IsExcused, IsAgain, IsExcusedAgain};
+ghost use Rattle.pliron_text.specs.Calls.{IsClosed, IsPrinted, ComesBack, ComesBackWhole, ReadsText, RefusesText, IsExcused, IsAgain, IsExcusedAgain};
 
 use irtext_base::location::Source;
 use irtext_base::parsable::{ParseFault, ParseResult, SourcePosition, TextStream};

@@ -1,4 +1,0 @@
-pub mod Fitting
-pub mod Nowhere
-pub mod Back
-pub mod Again
