@@ -3,6 +3,9 @@
 #![tactic(auto)]
 
 pub mod answers;
+pub mod calls;
 pub mod formats;
+pub mod mentioned;
 pub mod nesting;
+pub mod random;
 pub mod tables;

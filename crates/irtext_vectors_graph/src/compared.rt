@@ -7,7 +7,7 @@ use crate::nesting::stands_at;
 use crate::parts::{is_block, is_operation, is_value, uses};
 use irtext_graph::graph::Graph;
 use irtext_graph::object::{Defined, Object, Value};
-use irtext_vectors_scripts::random::Random;
+use irtext_vectors_answers::random::Random;
 use std::alloc::AllocError;
 
 /// The type of the value of a number.

@@ -2,7 +2,7 @@
 //! it, and there are no lists of uses.
 use irtext_graph::arena::Ptr;
 use irtext_graph::object::{BasicBlock, Defined, Object, Operation, Site, Value};
-use irtext_vectors_scripts::random::Random;
+use irtext_vectors_answers::random::Random;
 use std::alloc::{AllocError, Global};
 
 /// What an object is made of: its data, how many results or arguments it has, and what it uses. What its kind does not have is

@@ -10,7 +10,7 @@ use crate::nesting::put;
 use irtext_few::Few;
 use irtext_graph::graph::Graph;
 use irtext_graph::object::{Defined, Object};
-use irtext_vectors_scripts::random::Random;
+use irtext_vectors_answers::random::Random;
 use std::alloc::{AllocError, Global};
 use std::test::Fail;
 

@@ -3,3 +3,7 @@
 
 #[cfg(test)]
 mod tests;
+#[cfg(test)]
+mod dict;
+#[cfg(test)]
+mod read;

@@ -16,3 +16,5 @@ mod rows;
 mod script;
 #[cfg(test)]
 mod steps;
+#[cfg(test)]
+mod scopes;

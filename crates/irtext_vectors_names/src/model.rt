@@ -2,8 +2,8 @@
 //! has to hold.
 use crate::held::Held;
 use crate::steps::Answer;
-use irtext_vectors_scripts::calls::Call;
-use irtext_vectors_scripts::mentioned::Mentioned;
+use irtext_vectors_answers::calls::Call;
+use irtext_vectors_answers::mentioned::Mentioned;
 use std::alloc::{AllocError, Global};
 
 /// A name as a scope binds it, and the index of what it stands for.

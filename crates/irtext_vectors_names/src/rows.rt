@@ -8,8 +8,8 @@ use crate::steps::{Answer, Made, Names, Tested, step};
 use irtext_graph::graph::Graph;
 use irtext_graph::object::Defined;
 use irtext_names::regions::no_names;
-use irtext_vectors_scripts::calls::Call;
-use irtext_vectors_scripts::calls::Call::{
+use irtext_vectors_answers::calls::Call;
+use irtext_vectors_answers::calls::Call::{
     Define, DefineLabel, Enter, EnterIsolated, Exit, ExitIsolated, Use, UseLabel,
 };
 use std::alloc::{AllocError, Global};

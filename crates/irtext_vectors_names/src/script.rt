@@ -6,8 +6,8 @@ use crate::model::Model;
 use crate::steps::{Made, Names, Tested, step};
 use irtext_graph::graph::Graph;
 use irtext_names::regions::no_names;
-use irtext_vectors_scripts::calls::{Call, NAMES, next_call};
-use irtext_vectors_scripts::random::Random;
+use irtext_vectors_answers::calls::{Call, NAMES, next_call};
+use irtext_vectors_answers::random::Random;
 use std::alloc::{AllocError, Global};
 use std::test::Fail;
 

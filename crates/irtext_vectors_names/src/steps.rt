@@ -10,7 +10,7 @@ use irtext_names::regions::{enter_region, exit_region};
 use irtext_names::values::{ssa_def, ssa_opd};
 use irtext_scopes::scopes::DefineFault;
 use irtext_scopes::tracker::{EnterFault, NameTracker};
-use irtext_vectors_scripts::calls::Call;
+use irtext_vectors_answers::calls::Call;
 use std::alloc::{AllocError, Global};
 
 pub(crate) type Names = NameTracker<Value, Ptr<BasicBlock>>;

@@ -4,3 +4,7 @@
 
 #[cfg(test)]
 mod tests;
+#[cfg(test)]
+mod sections;
+#[cfg(test)]
+mod parse;

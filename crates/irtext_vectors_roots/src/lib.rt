@@ -5,3 +5,5 @@ pub mod reading;
 pub mod registering;
 #[cfg(test)]
 mod tests;
+#[cfg(test)]
+mod layer;

@@ -1,9 +1,9 @@
 //! A random script: a tracker and a plain model of it are asked the same.
-use crate::model::Model;
-use crate::steps::{Tracker, step};
+use crate::scopes::model::Model;
+use crate::scopes::steps::{Tracker, step};
 use irtext_scopes::tracker::NameTracker;
-use irtext_vectors_scripts::calls::{NAMES, next_call};
-use irtext_vectors_scripts::random::Random;
+use irtext_vectors_answers::calls::{NAMES, next_call};
+use irtext_vectors_answers::random::Random;
 use std::alloc::AllocError;
 use std::test::Fail;
 

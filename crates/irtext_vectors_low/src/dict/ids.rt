@@ -1,5 +1,5 @@
 //! Ids of operations made of texts.
-use crate::tests::pairs::value_or_cause;
+use crate::dict::pairs::value_or_cause;
 use irtext_base::base::OpId;
 use irtext_base::result::Result as Answer;
 use std::alloc::Global;

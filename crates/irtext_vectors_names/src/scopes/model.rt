@@ -1,7 +1,7 @@
 //! A plain model of a tracker: the scopes that are open as vectors of what they bind, which are searched.
-use crate::steps::Answer;
-use irtext_vectors_scripts::calls::Call;
-use irtext_vectors_scripts::mentioned::Mentioned;
+use crate::scopes::steps::Answer;
+use irtext_vectors_answers::calls::Call;
+use irtext_vectors_answers::mentioned::Mentioned;
 use std::alloc::{AllocError, Global};
 
 /// A name as a scope binds it: to a definition, or to the placeholder that waits for one.

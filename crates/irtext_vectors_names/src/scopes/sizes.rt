@@ -1,9 +1,9 @@
 //! Many names, many uses, and many scopes.
-use crate::steps::Answer::{Done, Holds};
-use crate::steps::{Answer, Tracker, step};
+use crate::scopes::steps::Answer::{Done, Holds};
+use crate::scopes::steps::{Answer, Tracker, step};
 use irtext_scopes::tracker::NameTracker;
-use irtext_vectors_scripts::calls::Call;
-use irtext_vectors_scripts::calls::Call::{
+use irtext_vectors_answers::calls::Call;
+use irtext_vectors_answers::calls::Call::{
     Define, DefineLabel, EnterIsolated, ExitIsolated, Use, UseLabel,
 };
 use std::alloc::{AllocError, Global};

@@ -3,7 +3,7 @@
 ghost use Rattle.std.specs.Prelude.{◌≡◌, [], IfOk, OnOk, codes};
 ghost use Rattle.irtext_base.specs.Format as format;
 ghost use Rattle.irtext_formats.specs.Directives.{directive_of, format_of};
-ghost use Rattle.irtext_vectors_layer.specs.Apart.{lab_dialects, lab_format, lab_id};
+ghost use Rattle.irtext_vectors_roots.specs.Apart.{lab_dialects, lab_format, lab_id};
 
 use irtext_types::DemoAttr;
 use irtext_vectors_common::contexts::{Ctx, named};

@@ -1,5 +1,5 @@
 //! The sections of items, and of which items a mark is written.
-use crate::tests::building::{Step, built};
+use crate::sections::building::{Step, built};
 use irtext_context::base::Item;
 use irtext_print::given::is_marked;
 use irtext_print::section::print_section;

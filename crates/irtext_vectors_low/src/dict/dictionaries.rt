@@ -1,6 +1,6 @@
 //! A dictionary of up to twenty keys and given names: they are put in, replaced and taken out, and stand in the order in which
 //! they came.
-use crate::tests::pairs::put;
+use crate::dict::pairs::put;
 use irtext_base::base::{AttrObj, GIVEN_NAMES_KEY, Identifier};
 use irtext_dict::base::AttributeDict;
 use irtext_vectors_answers::answers::named;

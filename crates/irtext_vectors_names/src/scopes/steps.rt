@@ -2,7 +2,7 @@
 ghost use Rattle.std.specs.Prelude.{◌<◌, length};
 
 use irtext_scopes::tracker::NameTracker;
-use irtext_vectors_scripts::calls::Call;
+use irtext_vectors_answers::calls::Call;
 use std::alloc::{AllocError, Global};
 
 pub(crate) type Tracker = NameTracker<u32, u32>;

@@ -1,8 +1,8 @@
 //! What names stand for in scopes that begin, hide one another and end.
-use crate::steps::Answer::{Done, Holds, Lacks, Refused};
-use crate::steps::{Row, Tracker, differing};
+use crate::scopes::steps::Answer::{Done, Holds, Lacks, Refused};
+use crate::scopes::steps::{Row, Tracker, differing};
 use irtext_scopes::tracker::NameTracker;
-use irtext_vectors_scripts::calls::Call::{
+use irtext_vectors_answers::calls::Call::{
     Define, DefineLabel, Enter, EnterIsolated, Exit, ExitIsolated, Use, UseLabel,
 };
 use std::test::Fail;
