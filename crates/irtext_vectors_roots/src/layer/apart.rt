@@ -7,8 +7,8 @@ ghost use Rattle.irtext_vectors_roots.specs.Apart.{lab_dialects, lab_format, lab
 
 use irtext_types::DemoAttr;
 use irtext_vectors_common::contexts::{Ctx, named};
-use irtext_vectors_roots::reading::concrete;
-use irtext_vectors_roots::registering::register_operation;
+use crate::reading::concrete;
+use crate::registering::register_operation;
 use pliron_text::base::{Context, NewBareOperation, OpId, Operation, Ptr};
 use pliron_text::dialect::DialectName;
 use pliron_text::format::{Directive, OpFormat};

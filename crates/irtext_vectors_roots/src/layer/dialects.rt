@@ -3,7 +3,7 @@ use irtext_types::{DemoAttr, DemoType};
 use irtext_vectors_common::answers::printed;
 use irtext_vectors_common::contexts::{Ctx, named};
 use irtext_vectors_common::tables::differing_alone;
-use irtext_vectors_roots::registering::register_operation;
+use crate::registering::register_operation;
 use pliron_text::base::{NewBareOperation, OpId, Operation, Ptr};
 use pliron_text::dialect::{Dialect, DialectName};
 use pliron_text::format::OpFormat;

@@ -3,8 +3,8 @@ use irtext_graph::held::HasGraph;
 use irtext_types::{Characters, DemoAttr, DemoType, IntegerType, Signedness, Width};
 use irtext_vectors_common::contexts::{Ctx, named, with_counters, with_demo};
 use irtext_vectors_common::tables::differing;
-use irtext_vectors_roots::reading::{concrete, whole};
-use irtext_vectors_roots::registering::register_operation;
+use crate::reading::{concrete, whole};
+use crate::registering::register_operation;
 use pliron_text::base::{
     AttrObj, BasicBlock, BlockAccess, Few, NewBlock, NewOperation, OpId, Operation,
     OperationAccess, Ptr, Value,
