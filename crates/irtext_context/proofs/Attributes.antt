@@ -9,15 +9,13 @@ use Rattle.irtext_base.specs.declared.base.attributes.AttrObj.{AttrObj}
 use Rattle.irtext_graph.specs.Data as edits
 use Rattle.irtext_graph.specs.Data.{with_object, with_data, with_block, with_operation_data, with_block_data}
 use Rattle.irtext_graph.specs.Parts.{operation_at, block_at}
-use Rattle.irtext_graph.specs.Store.{Store, get}
-use Rattle.irtext_graph.specs.Content.{Node, OperationContent, BlockContent}
+use Rattle.irtext_graph.specs.Store.{get}
 use Rattle.irtext_graph.specs.declared.arena.Ptr.{Ptr}
 use Rattle.irtext_graph.specs.declared.object.BasicBlock.{BasicBlock}
 use Rattle.irtext_graph.specs.declared.object.Operation.{Operation}
-use Rattle.irtext_graph.specs.declared.object.Region.{Region}
 use Rattle.irtext_graph.proofs.Data.{edited, unedited, edited_block, unedited_block}
 use Rattle.irtext_graph.proofs.Nests.{some_eq}
-use Rattle.irtext_context.specs.Context.{ContextView, OperationView, BlockView, operation, operation_of, view_of, block, block_of, with_attribute, with_attributes, with_block_attribute, with_block_attributes, with_changed_operation, with_changed_block, EditsOperation, EditsBlock}
+use Rattle.irtext_context.specs.Context.{ContextView, operation, operation_of, view_of, block, block_of, with_attribute, with_attributes, with_block_attribute, with_block_attributes, with_changed_operation, with_changed_block, EditsOperation, EditsBlock}
 use Rattle.irtext_context.specs.declared.base.block.BlockData.{BlockData}
 use Rattle.irtext_context.specs.declared.base.operation.OperationData.{OperationData}
 use Rattle.irtext_context.proofs.Contexts.{OperationEntry, BlockEntry}

@@ -1,5 +1,5 @@
 -- What the calls of a context do to what is seen of it, and that each keeps what is older.
-use Rattle.std.proofs.Common.{◌≡◌, ◌≢◌, ◌++◌, ◌+◌, ◌∷◌, ◌∙◌, ℕ, refl, ap, Option, None, Some, [], slice_get, map, List}
+use Rattle.std.proofs.Common.{◌≡◌, ◌++◌, ◌+◌, ◌∷◌, ◌∙◌, ℕ, refl, ap, Option, None, Some, [], slice_get, map, List}
 use Rattle.std.specs.Option.{option_map}
 use Rattle.std.specs.Prelude.{option_and_then}
 use Rattle.irtext_base.specs.Paths.{KeepsPaths}

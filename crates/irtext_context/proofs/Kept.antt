@@ -1,8 +1,7 @@
 -- What was made before a mark is kept, and comes back as what was made since is given back.
 use Rattle.std.proofs.Common.{◌≡◌, ℕ, ◌≤◌, List, Some, None, ◌∙◌}
-use Rattle.irtext_context.specs.Context.{ContextView, known, KeepsOlder, RollsBack, MakesOperation, MakesBlock}
+use Rattle.irtext_context.specs.Context.{ContextView, known, KeepsOlder, RollsBack, MakesOperation}
 use Rattle.irtext_context.specs.Made.{SameObjects}
-use Rattle.irtext_context.specs.declared.base.block.BlockData.{BlockData}
 use Rattle.irtext_context.specs.declared.base.operation.OperationData.{OperationData}
 use Rattle.irtext_graph.specs.Back.{AllOlder, IsClosedBelow}
 use Rattle.irtext_graph.specs.Store.{before}
@@ -11,7 +10,7 @@ use Rattle.irtext_graph.specs.declared.object.BasicBlock.{BasicBlock}
 use Rattle.irtext_graph.specs.declared.object.Operation.{Operation}
 use Rattle.irtext_graph.specs.declared.object.Value.{Value}
 use Rattle.irtext_graph.proofs.Closed.{older_on, closed_kept, back_to}
-use Rattle.irtext_graph.proofs.Marks.{operation_came, block_came}
+use Rattle.irtext_graph.proofs.Marks.{operation_came}
 use Rattle.irtext_context.proofs.Contexts.{same-paths}
 
 module _ {T A : Type 0} where

@@ -7,7 +7,7 @@ use Rattle.std.proofs.lemmas.Bool.{and_parts, and_from, or_cases, or_left, or_ri
 use Rattle.std.proofs.lemmas.Map.Steps.{length-le_from_distinct_below}
 use Rattle.irtext_base.specs.Text.{Text}
 use Rattle.irtext_base.specs.Format as format
-use Rattle.irtext_base.specs.Format.{Directive, has, distinct, same_text, are_places, ascend, count, none_behind, word_prints, keys, operand_places, successor_places, type_places, region_places, is_operands, is_successors, is_regions, is_dictionary, is_header, is_any_region, is_list, given_names_key, sym_name_key, kind, beginnings, continuings, followers, disjoint, c1, c2, c3, c4, c5, c6, c7, c8}
+use Rattle.irtext_base.specs.Format.{Directive, has, distinct, same_text, are_places, ascend, count, none_behind, word_prints, keys, region_places, is_operands, is_successors, is_regions, is_dictionary, is_header, is_any_region, given_names_key, sym_name_key, c1, c2, c3, c4, c5, c6, c7}
 use Rattle.irtext_formats.specs.Directives.{place_of, key_of, is_region, is_named}
 use Rattle.irtext_formats.specs.declared.format.parts.Part.TheVariants as part
 use Rattle.irtext_formats.specs.Conditions.{StandsAt, Stands, StandsOnceAtMost, NameAllBelow, C1, C2, C3, C4, C5, C6, C7, WritesRegions, WritesNamesOrType}

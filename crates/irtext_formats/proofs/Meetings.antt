@@ -4,7 +4,7 @@ use Rattle.std.specs.Prelude.{codes, ◌⊎◌}
 use Rattle.std.proofs.lemmas.Bool.{and_parts, and_from, or_cases, or_left, or_right, not_from_false, false_from_ne_true, eqb-true, eq-eqb}
 use Rattle.irtext_base.specs.Text.{begins_word}
 use Rattle.irtext_base.specs.Format as format
-use Rattle.irtext_base.specs.Format.{Directive, has, is_list, kind, first_kinds, beginnings, continuings, followers, disjoint, c8}
+use Rattle.irtext_base.specs.Format.{Directive, has, is_list, kind, beginnings, continuings, followers, disjoint, c8}
 use Rattle.irtext_formats.specs.Conditions.{C8, WritesList, Begins, GoesOn, StandsBehind, ListsAlone, CanFollow}
 use Rattle.irtext_formats.proofs.Conditions.{some_inside, nothing, not_both}
 

@@ -1,5 +1,5 @@
 -- The numbers of a row's names, one by one.
-use Rattle.std.proofs.Common.{◌≡◌, ◌<◌, ◌≤◌, ◌+◌, ◌∙◌, ℕ, zero, suc, List, [], ◌∷◌, ◌++◌, length, map, take, drop, get_or, refl, sym, ap, arith}
+use Rattle.std.proofs.Common.{◌≡◌, ◌<◌, ◌≤◌, ◌+◌, ◌∙◌, ℕ, zero, suc, List, [], ◌∷◌, ◌++◌, length, map, take, drop, get_or, refl, ap, arith}
 use Rattle.std.proofs.lemmas.List.{take_more}
 use Rattle.irtext_graph.specs.Graph.{GraphView, KeepsOlder}
 use Rattle.irtext_names.specs.Rows.{AreKnown}

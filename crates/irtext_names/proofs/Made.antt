@@ -1,5 +1,5 @@
 -- An operation that is made with what is in hand leaves the machine where it stands, with nothing in hand.
-use Rattle.std.proofs.Common.{◌≡◌, ◌<◌, ◌+◌, ◌∙◌, ◌⊎◌, inl, inr, ℕ, zero, suc, List, [], ◌∷◌, ◌++◌, length, map, Option, Some, None, IsSome, refl, sym, ap, subst, arith, slice_get}
+use Rattle.std.proofs.Common.{◌≡◌, ◌<◌, ◌+◌, ◌∙◌, inl, inr, ℕ, zero, suc, List, [], ◌∷◌, ◌++◌, length, Option, Some, IsSome, refl, sym, ap, subst, arith, slice_get}
 use Rattle.std.specs.Option.{option_map}
 use Rattle.irtext_graph.specs.declared.arena.Ptr.{Ptr}
 use Rattle.irtext_graph.specs.declared.object.BasicBlock.{BasicBlock}
@@ -12,16 +12,13 @@ use Rattle.irtext_graph.specs.declared.object.Defined.TheVariants.{OfValue, OfBl
 use Rattle.irtext_graph.specs.declared.object.Site.{Site}
 use Rattle.irtext_graph.specs.declared.object.Site.TheVariants.{AtOperand, AtSuccessor}
 use Rattle.irtext_graph.specs.Chained.{Among}
-use Rattle.irtext_graph.specs.Content.{Typed}
 use Rattle.irtext_graph.specs.Erasing.{owner}
 use Rattle.irtext_graph.specs.Graph.{GraphView, MakesOperation, numbered}
-use Rattle.irtext_graph.specs.Parts.{operands, successors, results_of}
-use Rattle.irtext_graph.specs.Store.{get}
 use Rattle.irtext_graph.specs.Used.{IsDefined, IsUse, user}
 use Rattle.irtext_graph.proofs.Preorders.{among_left, among_right}
 use Rattle.irtext_scopes.specs.declared.tracker.NameTracker.{NameTracker}
 use Rattle.irtext_scopes.specs.Scopes.{Scope}
-use Rattle.irtext_grammar.specs.Names.Script.{Path, Place, result, User, operand, successor}
+use Rattle.irtext_grammar.specs.Names.Script.{Path, Place, User, operand, successor}
 use Rattle.irtext_grammar.specs.Names.History.{State}
 use Rattle.irtext_names.specs.Linked.{Known, StandsAt}
 use Rattle.irtext_names.specs.Tied.{AreTied}

@@ -1,24 +1,22 @@
 -- One name more is defined behind those of a row.
-use Rattle.std.proofs.Common.{◌≡◌, ◌<◌, ◌+◌, ◌∙◌, inl, inr, ℕ, zero, suc, List, [], ◌∷◌, ◌++◌, length, map, Option, Some, None, refl, sym, ap, subst, arith, true, slice_get}
+use Rattle.std.proofs.Common.{◌≡◌, ◌+◌, ◌∙◌, inl, inr, ℕ, suc, List, [], ◌∷◌, ◌++◌, length, map, Option, Some, refl, sym, ap, subst, arith, true, slice_get}
 use Rattle.std.specs.Option.{option_map}
-use Rattle.irtext_base.specs.Text.{Text}
 use Rattle.irtext_graph.specs.declared.arena.Ptr.{Ptr}
 use Rattle.irtext_graph.specs.declared.object.BasicBlock.{BasicBlock}
 use Rattle.irtext_graph.specs.declared.object.Operation.{Operation}
 use Rattle.irtext_graph.specs.declared.object.Value.{Value}
 use Rattle.irtext_graph.specs.declared.object.Value.TheVariants.{Result}
-use Rattle.irtext_graph.specs.declared.object.Defined.{Defined}
 use Rattle.irtext_graph.specs.declared.object.Defined.TheVariants.{OfValue, OfBlock}
 use Rattle.irtext_graph.specs.Chained.{Among}
 use Rattle.irtext_graph.specs.Graph.{GraphView}
 use Rattle.irtext_graph.specs.Used.{IsDefined}
 use Rattle.irtext_scopes.specs.declared.tracker.NameTracker.{NameTracker}
-use Rattle.irtext_scopes.specs.Scopes.{Scope, find, innermost, in_innermost, is_open, placeholder_of, defined}
+use Rattle.irtext_scopes.specs.Scopes.{Scope, find, innermost, is_open, placeholder_of}
 use Rattle.irtext_grammar.specs.Grammar.Tree.{Name}
 use Rattle.irtext_grammar.specs.Names.Acts.{word_of, result_definitions}
 use Rattle.irtext_grammar.specs.Names.Script.{Path, Place, result, define_value, MultipleDefinitions}
-use Rattle.irtext_grammar.specs.Names.TextScopes.{Act, Word, Failure}
-use Rattle.irtext_grammar.specs.Names.History.{act, Event, State, Outcome, going, failed, next, run, after, step}
+use Rattle.irtext_grammar.specs.Names.TextScopes.{Word, Failure}
+use Rattle.irtext_grammar.specs.Names.History.{act, State, going, failed, next, run, after}
 use Rattle.irtext_grammar.specs.Names.Scopes.{fact_of}
 use Rattle.irtext_names.specs.Linked.{Known, StandsAt, TakesDefinition, FailsBy}
 use Rattle.irtext_names.specs.Placeholders.{Defines}
@@ -28,8 +26,8 @@ use Rattle.irtext_names.proofs.Named.{one_value, no_block}
 use Rattle.irtext_names.proofs.Pairs.{lost}
 use Rattle.irtext_names.proofs.Ties.{waited}
 use Rattle.irtext_names.proofs.Linked.Kept.{made_defined}
-use Rattle.irtext_names.specs.Rows.{AreNamed, AreKnown, AreMadeIn, made_results, AreReady, DefinesResults, FailsResults}
-use Rattle.irtext_names.proofs.Rows.{run_through, map-through, Split, split, none_behind, rest_fails}
+use Rattle.irtext_names.specs.Rows.{AreNamed, AreMadeIn, made_results, DefinesResults, FailsResults}
+use Rattle.irtext_names.proofs.Rows.{run_through, map-through, split, none_behind, rest_fails}
 
 -- the definitions of a row's names, of one of them, and of those behind it
 definitions_through : (p : Path) (i : ℕ) (ws : List (Name ℕ)) (w : Name ℕ) (xs : List (Name ℕ))

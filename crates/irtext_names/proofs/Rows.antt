@@ -1,11 +1,10 @@
 -- One name more is used behind those of a row.
-use Rattle.std.proofs.Common.{◌≡◌, ◌<◌, ◌+◌, ◌∙◌, ◌⊎◌, inl, inr, ℕ, zero, suc, List, [], ◌∷◌, ◌++◌, length, map, Option, Some, None, refl, sym, ap, subst, arith, true, append_assoc, append-nil, slice_get}
+use Rattle.std.proofs.Common.{◌≡◌, ◌+◌, ◌∙◌, ◌⊎◌, inl, inr, ℕ, suc, List, [], ◌∷◌, ◌++◌, length, map, Option, Some, None, refl, sym, ap, subst, arith, true, append_assoc, append-nil, slice_get}
 use Rattle.irtext_base.specs.Text.{Text}
 use Rattle.irtext_graph.specs.declared.arena.Ptr.{Ptr}
 use Rattle.irtext_graph.specs.declared.object.BasicBlock.{BasicBlock}
 use Rattle.irtext_graph.specs.declared.object.Value.{Value}
 use Rattle.irtext_graph.specs.declared.object.Defined.{Defined}
-use Rattle.irtext_graph.specs.declared.object.Defined.TheVariants.{OfValue, OfBlock}
 use Rattle.irtext_graph.specs.Chained.{Among}
 use Rattle.irtext_graph.specs.Graph.{GraphView}
 use Rattle.irtext_graph.specs.Used.{IsDefined}
@@ -16,13 +15,13 @@ use Rattle.irtext_grammar.specs.Grammar.Tree.{Name}
 use Rattle.irtext_grammar.specs.Names.Acts.{word_of}
 use Rattle.irtext_grammar.specs.Names.Script.{User}
 use Rattle.irtext_grammar.specs.Names.TextScopes.{Act, Word, Failure}
-use Rattle.irtext_grammar.specs.Names.History.{act, Event, State, Outcome, going, failed, next, run, after, step}
+use Rattle.irtext_grammar.specs.Names.History.{act, Event, Outcome, going, failed, next, run, after}
 use Rattle.irtext_grammar.specs.Names.Scopes.{fact_of}
-use Rattle.irtext_names.specs.Linked.{Known, StandsAt, TakesUse}
+use Rattle.irtext_names.specs.Linked.{StandsAt, TakesUse}
 use Rattle.irtext_names.specs.Placeholders.{Uses, MakesValue, MakesLabel}
 use Rattle.irtext_names.proofs.Gained.{operation_added, block_added}
 use Rattle.irtext_names.proofs.SameBut.{was_defined}
-use Rattle.irtext_names.specs.Rows.{AreNamed, AreKnown, uses_from, in_hand_from, TakesUses, AreThere, UsesRow}
+use Rattle.irtext_names.specs.Rows.{AreNamed, uses_from, in_hand_from, TakesUses, UsesRow}
 
 -- ---- lists
 -- the events before one, that one, and those behind it

@@ -10,10 +10,10 @@ ghost use Rattle.irtext_names.specs.Tied.{AreTied, AreWaiting};
 ghost use Rattle.irtext_names.specs.Rows.{AreKnown, AreReady, DefinesResults, FailsResults};
 
 use crate::named::Named;
+use crate::values::ssa_def;
 use irtext_graph::arena::Ptr;
 use irtext_graph::graph::Graph;
 use irtext_graph::object::{BasicBlock, Operation, Value};
-use crate::values::ssa_def;
 use irtext_scopes::scopes::DefineFault;
 use irtext_scopes::tracker::NameTracker;
 

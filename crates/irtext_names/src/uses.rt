@@ -10,13 +10,13 @@ ghost use Rattle.irtext_scopes.specs.Scopes.{is_open};
 ghost use Rattle.irtext_names.specs.Tied.{AreTied, AreWaiting};
 ghost use Rattle.irtext_names.specs.Rows.{AreKnown, UsesRow};
 
+use crate::labels::block_opd;
 use crate::named::Named;
+use crate::values::ssa_opd;
 use irtext_context::base::block::BlockData;
 use irtext_graph::arena::Ptr;
 use irtext_graph::graph::Graph;
 use irtext_graph::object::{BasicBlock, Value};
-use crate::labels::block_opd;
-use crate::values::ssa_opd;
 use irtext_scopes::tracker::NameTracker;
 use std::alloc::AllocError;
 

@@ -17,7 +17,7 @@ use Rattle.irtext_grammar.specs.Grammar.Tree.{Name, Mark, Piece, Part, Op, Head,
 use Rattle.irtext_nesting.specs.Naming.{body_of, unmarked}
 use Rattle.irtext_nesting.specs.Reached.{Doing}
 use Rattle.irtext_nesting.specs.Building.{append_regions, append_blocks, append_operations, Unfinished, operation_so_far, region_so_far, but_its_mark, Building, nothing_open, building, with_mark, whole_blocks, block_begun, region_ended, operation_closed, operation_marked}
-use Rattle.irtext_nesting.specs.Stands.{OwnSoFar, own_of, HasUses, UsesAsMany, RegionsHold, BlocksHold, OperationsHold, OpenAt, operation_under, ended_under, region_under, open_objects, OperationIsOpen, RegionIsOpen, BlockIsOpen, AreOpenAt, TreeHolds, IsThere, IsAsItWas, AreApart, HoldsSoFar, Spares}
+use Rattle.irtext_nesting.specs.Stands.{OwnSoFar, own_of, RegionsHold, BlocksHold, OperationsHold, OpenAt, operation_under, ended_under, region_under, open_objects, OperationIsOpen, RegionIsOpen, BlockIsOpen, AreOpenAt, TreeHolds, IsThere, IsAsItWas, AreApart, HoldsSoFar, Spares}
 use Rattle.irtext_nesting.specs.Grows.{with_last_region, with_last_block, with_last_operation, RegionCame, OperationGains, RegionGains, BlockGains, OperationCame, BlockCame, OwnBecame}
 use Rattle.irtext_nesting.proofs.Kept.{there_still, uses_kept, regions_kept, blocks_kept, operations_kept, tree_kept, operation_kept, region_kept, block_kept, all_kept}
 

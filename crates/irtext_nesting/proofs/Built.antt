@@ -4,7 +4,7 @@ use Rattle.std.specs.Prelude.{⊤}
 use Rattle.irtext_base.specs.Format.{Format, Id}
 use Rattle.irtext_grammar.specs.Grammar.Forest.{Regions, no_regions, region, Blocks, no_blocks, block, Operations, no_operations, operation}
 use Rattle.irtext_grammar.specs.Grammar.Tree as tree
-use Rattle.irtext_grammar.specs.Grammar.Tree.{Part, Body, Op, Head, Brace, shown, elided, Tree, parts_of}
+use Rattle.irtext_grammar.specs.Grammar.Tree.{Part, Op, Head, Brace, shown, elided, Tree, parts_of}
 use Rattle.irtext_grammar.specs.Spelling.Spellable.{Enough}
 use Rattle.irtext_nesting.specs.Naming.{body_of, unmarked}
 use Rattle.irtext_nesting.specs.Reached.{Doing, region_parts, each_of, do_parts, do_operation, do_region, do_regions, do_blocks, do_operations, do_tree}

@@ -1,16 +1,15 @@
 -- What is wrong with a section, entry by entry, and then reference by reference.
-use Rattle.std.proofs.Common.{◌≡◌, ◌∙◌, ℕ, Bool, true, false, cond, not, ◌&&◌, Option, Some, None, List, [], ◌∷◌, ◌++◌, refl, sym, ap, ap₂, append_assoc, append-nil}
+use Rattle.std.proofs.Common.{◌≡◌, ◌∙◌, ℕ, cond, not, ◌&&◌, Option, Some, None, List, [], ◌∷◌, ◌++◌, refl, sym, ap, append_assoc, append-nil}
 use Rattle.std.specs.Prelude.{flat_map, ⊤}
 use Rattle.irtext_base.specs.Text.{Text}
 use Rattle.irtext_base.specs.Format.{same_text}
 use Rattle.irtext_grammar.specs.Grammar.Tree.{Name, Mark}
 use Rattle.irtext_grammar.specs.Grammar.Section.{Item, direct, reference, Entry, of_item, of_once}
 use Rattle.irtext_grammar.specs.Names.Script.{Act, use_value, use_label, define_value, define_label, mark, entry, claim, Script, does_all, done, Failure, UnknownIndex}
-use Rattle.irtext_grammar.specs.Names.Scopes.{Fact, Scopes, ◌⊳◌, nothing, and_then, fact_of, is_among, no_scope, act_failures, failures}
-use Rattle.irtext_grammar.specs.Names.Acts.{Rule, item_acts, entry_acts, reference_acts, late_acts, section_acts}
+use Rattle.irtext_grammar.specs.Names.Scopes.{Fact, Scopes, ◌⊳◌, nothing, and_then, is_among, no_scope, failures}
+use Rattle.irtext_grammar.specs.Names.Acts.{Rule, item_acts, entry_acts, reference_acts, late_acts}
 use Rattle.irtext_grammar.specs.Names.Resolves.{indices}
 use Rattle.irtext_grammar.specs.Spelling.Spellable.{Each}
-use Rattle.irtext_grammar.proofs.Names.ResolvedSection.{flat_both}
 use Rattle.irtext_nesting.specs.Readers.{wrong_references}
 use Rattle.irtext_nesting.specs.Agrees.{behind_root, refused}
 

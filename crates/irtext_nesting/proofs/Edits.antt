@@ -7,7 +7,7 @@ use Rattle.irtext_base.specs.Text.{Text}
 use Rattle.irtext_base.specs.Faults.{id_of}
 use Rattle.irtext_base.specs.declared.base.attributes.AttrObj.{AttrObj}
 use Rattle.irtext_base.specs.declared.location.Location.{Location}
-use Rattle.irtext_context.specs.Context.{ContextView, OperationView, BlockView, RegionView, operation, operation_of, view_of, block, block_of, block_view, region, region_of, known, MakesOperation, MakesBlock, AddsRegion, EditsOperation, with_attributes}
+use Rattle.irtext_context.specs.Context.{ContextView, OperationView, BlockView, RegionView, operation, operation_of, view_of, block, block_of, block_view, region_of, known, MakesOperation, MakesBlock, AddsRegion, EditsOperation, with_attributes}
 use Rattle.irtext_context.specs.Made.{made_view, made_block}
 use Rattle.irtext_context.proofs.Contexts.{OperationEntry, BlockEntry, made_seen, made_block_seen, edited_seen, grown_seen, region_seen}
 use Rattle.irtext_context.specs.declared.base.block.BlockData.{BlockData}
@@ -25,7 +25,7 @@ use Rattle.irtext_graph.specs.Content.{Node, Typed, Content, Content.{AnOperatio
 use Rattle.irtext_graph.specs.Erasing.{without_uses, Erases}
 use Rattle.irtext_graph.specs.Graph.{GraphView, parent_of, children_of, content_of, parent, children, content, Appends, IsInside}
 use Rattle.irtext_graph.specs.Parts.{operands, successors, operands_of, successors_of}
-use Rattle.irtext_graph.specs.Used.{Replaces, replaced, used_at}
+use Rattle.irtext_graph.specs.Used.{Replaces, replaced}
 use Rattle.irtext_graph.specs.declared.object.Defined.TheVariants.{OfValue, OfBlock}
 use Rattle.irtext_graph.specs.declared.object.Defined.{Defined}
 use Rattle.irtext_graph.specs.declared.object.Site.TheVariants.{AtOperand, AtSuccessor}

@@ -14,13 +14,12 @@ use Rattle.irtext_base.specs.Paths.{Written}
 use Rattle.irtext_base.proofs.Along.{front_after}
 use Rattle.irtext_base.proofs.Characters.{after_twice}
 use Rattle.irtext_read.specs.AttrTexts.{attr_at}
-use Rattle.irtext_read.specs.Infix.{Reader}
 use Rattle.irtext_read.specs.Tokens.{space_at}
 use Rattle.irtext_read.specs.Demanded.{spaced_at}
 use Rattle.irtext_grammar.specs.Grammar.Reads as reads
 use Rattle.irtext_grammar.specs.Grammar.Section as section
 use Rattle.irtext_grammar.specs.Grammar.Section.{Item, Entry, of_item, of_once}
-use Rattle.irtext_grammar.specs.Grammar.Tree.{Name, Mark, Attribute}
+use Rattle.irtext_grammar.specs.Grammar.Tree.{Name, Mark}
 use Rattle.irtext_grammar.specs.Names.Acts.{Rule}
 use Rattle.irtext_grammar.specs.Names.Resolves.{indices}
 use Rattle.irtext_grammar.specs.Names.Script.{Failure, UnknownIndex}

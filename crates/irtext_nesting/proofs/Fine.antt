@@ -1,19 +1,16 @@
 -- No cause that the readers of a section answer says that the stream had failed.
-use Rattle.std.proofs.Common.{◌≡◌, ℕ, zero, suc, Bool, not, ◌&&◌, Some, None, List, [], ◌∷◌, ◌++◌, length, refl}
+use Rattle.std.proofs.Common.{ℕ, zero, suc, Bool, not, ◌&&◌, Some, None, List, [], ◌∷◌, ◌++◌, length}
 use Rattle.std.specs.Prelude.{codes}
 use Rattle.irtext_base.specs.Text.{Text, begins}
 use Rattle.irtext_base.specs.Reading.{the}
-use Rattle.irtext_base.specs.Faults.{Fault}
-use Rattle.irtext_base.specs.Answers.{Outcome, Read, Missing, Bad, mapped, followed}
+use Rattle.irtext_base.specs.Answers.{Outcome, Read, Missing, Bad}
 use Rattle.irtext_base.specs.Locations.{AttrView}
 use Rattle.irtext_base.specs.Own.{Sincere}
 use Rattle.irtext_base.specs.Paths.{Written}
 use Rattle.irtext_base.proofs.Sincere.{of_sincere}
 use Rattle.irtext_read.specs.AttrTexts.{attr_at}
-use Rattle.irtext_read.specs.Infix.{Reader, either, ◌▶◌, ◌⇒◌}
-use Rattle.irtext_read.specs.Tokens.{space_at}
-use Rattle.irtext_read.specs.Demanded.{spaced_at}
-use Rattle.irtext_read.proofs.Honest.{Honest, honest_word, honest_name, honest_space, honest_spaced, honest_index, honest_attr, seen}
+use Rattle.irtext_read.specs.Infix.{Reader}
+use Rattle.irtext_read.proofs.Honest.{Honest, honest_word, honest_name, honest_space, honest_spaced, honest_index, honest_attr}
 use Rattle.irtext_grammar.specs.Grammar.Section.{Item, Entry}
 use Rattle.irtext_grammar.specs.Grammar.Tree.{Name, Mark}
 use Rattle.irtext_grammar.specs.Names.Acts.{Rule}
@@ -23,7 +20,7 @@ use Rattle.irtext_outcomes.specs.Readers.Locations.{WrittenRow, behind_location,
 use Rattle.irtext_outcomes.specs.Readers.Directives.{attribute_at}
 use Rattle.irtext_outcomes.specs.Readers.Section.{entry_location_at}
 use Rattle.irtext_outcomes.proofs.Readers.Honest.{Keeps, keeps_within}
-use Rattle.irtext_outcomes.proofs.Readers.NeverFailed.{NotFailed, Fine, fine_honest, fine_read, fine_missing, fine_bad, fine_either, fine_prefixed, fine_followed, fine_mapped, fine_separated}
+use Rattle.irtext_outcomes.proofs.Readers.NeverFailed.{NotFailed, Fine, fine_honest, fine_read, fine_bad, fine_either, fine_prefixed, fine_followed, fine_mapped, fine_separated}
 use Rattle.irtext_nesting.specs.Heads.{name_at, mark_at}
 use Rattle.irtext_nesting.specs.Readers.{item_at, pair_at, may_stand, kept, begins_given, tested, entry_head_at, pairs_at, given_at, entry_at, may_have, fault_for, upto, wrong_references, unless_wrong, referred, entries_after, entries_at, section_at}
 

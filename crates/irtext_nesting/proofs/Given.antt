@@ -1,19 +1,17 @@
 -- The reader of what an item's entry gives answers what the grammar reads: its location, and its pairs.
-use Rattle.std.proofs.Common.{◌≡◌, ◌∙◌, inl, inr, ℕ, Bool, true, false, cond, Option, Some, None, List, [], ◌∷◌, ◌++◌, length, refl, sym, ap, ap₂, subst, append_assoc}
+use Rattle.std.proofs.Common.{◌≡◌, ◌∙◌, inl, inr, ℕ, Bool, true, false, cond, Option, Some, None, List, [], ◌++◌, length, refl, sym, ap, ap₂, subst, append_assoc}
 use Rattle.std.specs.Prelude.{codes}
 use Rattle.std.specs.Char.{is_whitespace}
 use Rattle.irtext_base.specs.Text.{Text, begins, front, after_space}
-use Rattle.irtext_base.specs.Reading.{Reading, ◌▹◌, the, literal}
+use Rattle.irtext_base.specs.Reading.{Reading, ◌▹◌, the}
 use Rattle.irtext_base.specs.Format.{Id, Format}
 use Rattle.irtext_base.specs.Answers.{Outcome, Read, Missing, Bad, mapped, followed}
 use Rattle.irtext_base.specs.Locations.{AttrView}
 use Rattle.irtext_base.specs.Own.{Texts, Language, Standing, language, texts_of, found, standing}
 use Rattle.irtext_base.specs.Paths.{Written}
-use Rattle.irtext_base.proofs.Along.{front_after}
-use Rattle.irtext_base.proofs.Characters.{after_twice}
 use Rattle.irtext_base.proofs.Sincere.{Of}
 use Rattle.irtext_read.specs.AttrTexts.{attr_at}
-use Rattle.irtext_read.specs.Infix.{Reader, either, ◌▶◌, ◌⇒◌}
+use Rattle.irtext_read.specs.Infix.{Reader, either}
 use Rattle.irtext_read.specs.Tokens.{space_at, text_at}
 use Rattle.irtext_read.specs.Demanded.{spaced_at}
 use Rattle.irtext_read.proofs.Honest.{Honest}
@@ -22,7 +20,7 @@ use Rattle.irtext_grammar.specs.Grammar.Section.{Item}
 use Rattle.irtext_grammar.specs.Grammar.Tree.{Name}
 use Rattle.irtext_grammar.specs.Names.Acts.{Rule}
 use Rattle.irtext_outcomes.specs.Promises.Supported.{location_standing}
-use Rattle.irtext_outcomes.specs.Readers.Locations.{WrittenRow, behind_location, row_of, row_at, location_within, location_at}
+use Rattle.irtext_outcomes.specs.Readers.Locations.{WrittenRow, behind_location, row_of, row_at, location_at}
 use Rattle.irtext_outcomes.specs.Readers.Section.{entry_location_at}
 use Rattle.irtext_outcomes.proofs.Joins.Answers.{Splits, followed_read, followed-read, mapped_read, splits_followed, splits_mapped}
 use Rattle.irtext_outcomes.proofs.Joins.Section.{spaced_read, spaced_found}
@@ -30,7 +28,7 @@ use Rattle.irtext_outcomes.proofs.Joins.Tokens.{text_read, text-literal, splits_
 use Rattle.irtext_outcomes.proofs.Readers.Honest.{Keeps, keeps_within}
 use Rattle.irtext_nesting.specs.Exact.{NeedsWord}
 use Rattle.irtext_nesting.specs.Readers.{given_at, pairs_at}
-use Rattle.irtext_nesting.specs.Agrees.{StopsAt, ReadOrStops}
+use Rattle.irtext_nesting.specs.Agrees.{ReadOrStops}
 use Rattle.irtext_nesting.proofs.Claims.{wrong_pairs}
 use Rattle.irtext_nesting.proofs.Pairs.{bracketed, pairs_read, pairs_found}
 use Rattle.irtext_nesting.proofs.Stops.{stops_seen, stops_second}

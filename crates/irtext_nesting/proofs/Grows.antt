@@ -1,9 +1,8 @@
 -- An entry that is read takes some character.
-use Rattle.std.proofs.Common.{◌≡◌, ℕ, ◌<◌, Bool, true, false, cond, ◌&&◌, not, List, Some, [], ◌∷◌, ◌++◌, length, length-append, refl, ap, arith}
+use Rattle.std.proofs.Common.{◌≡◌, ℕ, ◌<◌, Bool, true, false, cond, ◌&&◌, not, [], ◌∷◌, ◌++◌, length, length-append, refl, ap, arith}
 use Rattle.std.specs.Prelude.{codes}
 use Rattle.irtext_base.specs.Text.{Text}
 use Rattle.irtext_base.specs.Reading.{the}
-use Rattle.irtext_base.specs.Faults.{Unexpected, Word}
 use Rattle.irtext_base.specs.Faults as fault
 use Rattle.irtext_base.specs.Answers.{Outcome, Read, Missing, Bad, prefixed, mapped, followed}
 use Rattle.irtext_base.specs.Locations.{AttrView}

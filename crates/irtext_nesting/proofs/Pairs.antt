@@ -1,8 +1,8 @@
 -- The readers of what entries give under keys answer what the grammar reads, up to the first key whose attribute may not stand there.
-use Rattle.std.proofs.Common.{◌≡◌, ◌∙◌, ◌⊎◌, inl, inr, ℕ, Bool, true, false, cond, ◌&&◌, Option, Some, List, [], ◌∷◌, ◌++◌, map, length, refl, sym, ap, ap₂, subst, true≢false, arith}
+use Rattle.std.proofs.Common.{◌≡◌, ◌∙◌, inl, inr, ℕ, Bool, true, false, cond, Option, Some, List, [], ◌∷◌, ◌++◌, map, refl, sym, ap, subst, true≢false, arith}
 use Rattle.std.proofs.lemmas.Bool.Decides.{nat_tests}
 use Rattle.std.proofs.lemmas.List.{map-id}
-use Rattle.std.specs.Prelude.{codes, flat_map}
+use Rattle.std.specs.Prelude.{codes}
 use Rattle.std.specs.List.{list_all}
 use Rattle.std.specs.Char.{is_whitespace}
 use Rattle.irtext_base.specs.Text.{Text, begins, front, after_space, begins_word}
@@ -19,28 +19,28 @@ use Rattle.irtext_base.proofs.Characters.{and_left, and_right}
 use Rattle.irtext_read.specs.AttrTexts.{attr_at}
 use Rattle.irtext_read.specs.Infix.{Reader}
 use Rattle.irtext_read.specs.ListOutcomes.{separated_at}
-use Rattle.irtext_read.specs.Tokens.{space_at, word, text_at}
+use Rattle.irtext_read.specs.Tokens.{space_at, text_at}
 use Rattle.irtext_grammar.specs.Grammar.Reads as reads
 use Rattle.irtext_grammar.specs.Grammar.Section as section
 use Rattle.irtext_grammar.specs.Grammar.Section.{Item, direct, reference}
 use Rattle.irtext_grammar.specs.Grammar.Tree as tree
-use Rattle.irtext_grammar.specs.Grammar.Tree.{Name, Mark, Attribute}
-use Rattle.irtext_grammar.specs.Names.Acts.{Rule, item_acts}
-use Rattle.irtext_grammar.specs.Names.Script.{Failure, ReservedKey}
+use Rattle.irtext_grammar.specs.Grammar.Tree.{Name, Attribute}
+use Rattle.irtext_grammar.specs.Names.Acts.{Rule}
+use Rattle.irtext_grammar.specs.Names.Script.{ReservedKey}
 use Rattle.irtext_outcomes.specs.Promises.Supported.{location_standing}
 use Rattle.irtext_outcomes.specs.Readers.Directives.{attribute_at}
 use Rattle.irtext_outcomes.proofs.Joins.Answers.{Splits, followed_read, followed-read, mapped_read, splits_followed, splits_mapped}
 use Rattle.irtext_outcomes.proofs.Joins.Lists.{Items, list_read, list_tight, list_found, ListFound, all_fine, one_stops, Stop, splits_separated}
 use Rattle.irtext_outcomes.proofs.Joins.Tokens.{text_read, text-literal, splits_text, splits_space}
 use Rattle.irtext_nesting.specs.Exact.{Exact, NeedsWord}
-use Rattle.irtext_nesting.specs.Heads.{name_at, mark_at}
+use Rattle.irtext_nesting.specs.Heads.{mark_at}
 use Rattle.irtext_nesting.proofs.Exact.Attributes.{exact_attribute}
-use Rattle.irtext_nesting.proofs.Exact.Combined.{exact_as, exact_so, exact_seen, exact_behind, split_behind}
+use Rattle.irtext_nesting.proofs.Exact.Combined.{exact_as, exact_so, exact_seen, exact_behind}
 use Rattle.irtext_nesting.proofs.Exact.Listed.{Starts, starts_so}
 use Rattle.irtext_nesting.proofs.Exact.Names.{exact_name, exact_mark, starts_name}
 use Rattle.irtext_nesting.specs.Readers.{item_at, pair_at, may_stand, kept, pairs_at}
 use Rattle.irtext_nesting.specs.Agrees.{StopsAt, ReadOrStops}
-use Rattle.irtext_nesting.proofs.Claims.{wrong, wrongs, wrong_pairs}
+use Rattle.irtext_nesting.proofs.Claims.{wrong, wrong_pairs}
 use Rattle.irtext_nesting.proofs.Stops.{stops_first, stops_second}
 
 -- where `!` stands no word begins

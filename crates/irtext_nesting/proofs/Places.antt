@@ -1,11 +1,11 @@
 -- The references of entries and their keys stand in the text that the entries were read of.
-use Rattle.std.proofs.Common.{◌≡◌, ◌∙◌, ℕ, ◌≤◌, ◌<◌, Bool, true, false, cond, Option, Some, None, List, [], ◌∷◌, ◌++◌, map, length, length-append, refl, sym, ap, subst, arith}
-use Rattle.std.specs.Prelude.{codes, flat_map, is_some, ⊤}
+use Rattle.std.proofs.Common.{◌≡◌, ℕ, ◌≤◌, Bool, true, false, cond, Option, Some, List, [], ◌∷◌, ◌++◌, map, length, length-append, refl, sym, ap, subst, arith}
+use Rattle.std.specs.Prelude.{flat_map, is_some, ⊤}
 use Rattle.std.specs.Char.{is_whitespace}
-use Rattle.irtext_base.specs.Text.{Text, begins, front, after, after_space, in_word}
-use Rattle.irtext_base.specs.Reading.{◌▹◌, the, literal, more, separated, repeated}
+use Rattle.irtext_base.specs.Text.{Text, front, after, after_space, in_word}
+use Rattle.irtext_base.specs.Reading.{the, more, separated, repeated}
 use Rattle.irtext_base.specs.Format.{Id, Format}
-use Rattle.irtext_base.specs.Answers.{Outcome, Read}
+use Rattle.irtext_base.specs.Answers.{Outcome}
 use Rattle.irtext_base.specs.Locations.{AttrView}
 use Rattle.irtext_base.specs.Own.{Texts, Language, Standing, language, texts_of}
 use Rattle.irtext_base.specs.Paths.{Written}
@@ -17,12 +17,11 @@ use Rattle.irtext_grammar.proofs.Names.ResolvedSection.{flat_both}
 use Rattle.irtext_grammar.specs.Grammar.Reads as reads
 use Rattle.irtext_grammar.specs.Grammar.Section as section
 use Rattle.irtext_grammar.specs.Grammar.Section.{Item, direct, reference, Entry, of_item, of_once}
-use Rattle.irtext_grammar.specs.Grammar.Tree.{Name, Mark}
+use Rattle.irtext_grammar.specs.Grammar.Tree.{Name}
 use Rattle.irtext_grammar.specs.Names.Acts.{Rule, keeps_if, shared_attribute, reference_acts, late_acts}
 use Rattle.irtext_grammar.specs.Names.Script.{Failure}
 use Rattle.irtext_grammar.specs.Spelling.Spellable.{Each}
 use Rattle.irtext_outcomes.specs.Promises.Supported.{location_standing}
-use Rattle.irtext_outcomes.specs.Readers.Section.{entry_location_at}
 use Rattle.irtext_outcomes.proofs.Joins.Answers.{Splits}
 use Rattle.irtext_nesting.specs.Exact.{NeedsWord}
 use Rattle.irtext_nesting.proofs.Exact.Attributes.{exact_attribute}

@@ -17,7 +17,7 @@ use Rattle.irtext_graph.specs.declared.object.Object.TheVariants.{TheOperation, 
 use Rattle.irtext_grammar.specs.Contexts.Formats.{op_id}
 use Rattle.irtext_grammar.specs.Grammar.Forest.{no_regions, region, no_blocks, block, no_operations, operation}
 use Rattle.irtext_grammar.specs.Grammar.Tree as tree
-use Rattle.irtext_grammar.specs.Grammar.Tree.{Name, Op, Head, Brace, shown, Tree}
+use Rattle.irtext_grammar.specs.Grammar.Tree.{Op, Head, shown, Tree}
 use Rattle.irtext_nesting.specs.Reached.{do_tree}
 use Rattle.irtext_nesting.specs.Building.{operation_so_far, region_so_far, but_its_mark, building, nothing_open, finished}
 use Rattle.irtext_nesting.specs.Stands.{OpenAt, operation_under, ended_under, region_under, AreOpenAt, TreeHolds}

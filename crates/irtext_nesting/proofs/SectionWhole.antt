@@ -1,21 +1,19 @@
 -- The reader of a section answers what the grammar reads, and refuses it first where the grammar does.
-use Rattle.std.proofs.Common.{◌≡◌, ◌∙◌, ◌≤◌, inl, inr, ℕ, Bool, Option, Some, None, List, [], ◌∷◌, ◌++◌, map, length, length-append, refl, sym, ap, ap₂, subst, arith}
+use Rattle.std.proofs.Common.{◌≡◌, ◌∙◌, inl, inr, ℕ, Option, Some, List, [], ◌∷◌, ◌++◌, map, length, length-append, refl, sym, ap, ap₂, subst, arith}
 use Rattle.std.proofs.lemmas.List.{take-append-drop, length-drop}
-use Rattle.std.specs.Prelude.{codes, ◌-◌, take, drop, flat_map}
-use Rattle.std.specs.Char.{is_whitespace}
+use Rattle.std.specs.Prelude.{codes, ◌-◌, take, drop}
 use Rattle.irtext_base.specs.Text.{Text, front, after_space}
-use Rattle.irtext_base.specs.Reading.{the, literal, repeated}
+use Rattle.irtext_base.specs.Reading.{the, repeated}
 use Rattle.irtext_base.specs.Format.{Id, Format}
-use Rattle.irtext_base.specs.Answers.{Outcome, Read, Missing, Bad, followed}
+use Rattle.irtext_base.specs.Answers.{Outcome, Read, Missing, Bad}
 use Rattle.irtext_base.specs.Locations.{AttrView}
 use Rattle.irtext_base.specs.Own.{Texts, Language, Standing, language, texts_of}
 use Rattle.irtext_base.specs.Paths.{Written}
-use Rattle.irtext_base.proofs.Along.{front_after}
 use Rattle.irtext_read.specs.AttrTexts.{attr_at}
 use Rattle.irtext_read.specs.Demanded.{spaced_at}
 use Rattle.irtext_grammar.specs.Grammar.Section as section
 use Rattle.irtext_grammar.specs.Grammar.Section.{Entry}
-use Rattle.irtext_grammar.specs.Names.Acts.{Rule, late_acts}
+use Rattle.irtext_grammar.specs.Names.Acts.{Rule}
 use Rattle.irtext_grammar.specs.Names.Script.{Failure}
 use Rattle.irtext_grammar.specs.Spelling.Spellable.{Each}
 use Rattle.irtext_outcomes.specs.Promises.Supported.{location_standing}
@@ -25,8 +23,8 @@ use Rattle.irtext_nesting.specs.Exact.{NeedsWord}
 use Rattle.irtext_nesting.proofs.Exact.Combined.{split_behind}
 use Rattle.irtext_nesting.specs.Readers.{fault_for, upto, wrong_references, unless_wrong, referred, entries_after, entries_at, section_at}
 use Rattle.irtext_nesting.specs.Agrees.{StopsAt, ReadOrStops, refused}
-use Rattle.irtext_nesting.proofs.Claims.{wrongs, wrong_entries, references_fail, refused_parts}
-use Rattle.irtext_nesting.proofs.Entries.{EntriesRead, entries_read, entries_found}
+use Rattle.irtext_nesting.proofs.Claims.{wrong_entries, references_fail, refused_parts}
+use Rattle.irtext_nesting.proofs.Entries.{entries_read, entries_found}
 use Rattle.irtext_nesting.proofs.Given.{splits_spaced}
 use Rattle.irtext_nesting.proofs.Places.{EntryNear, StandsNear, late_near, entries_near}
 use Rattle.irtext_nesting.proofs.Stops.{stops_before, stops_as, stops_behind, stops_second}

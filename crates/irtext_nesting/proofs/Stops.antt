@@ -1,8 +1,8 @@
 -- A text that is bad at the first thing that is wrong, with more in front of it, or more that is wrong behind it.
-use Rattle.std.proofs.Common.{◌≡◌, ◌∙◌, ℕ, List, Option, Some, [], ◌∷◌, ◌++◌, length, refl, sym, ap, append_assoc}
+use Rattle.std.proofs.Common.{◌≡◌, ◌∙◌, ℕ, List, [], ◌++◌, refl, ap, append_assoc}
 use Rattle.irtext_base.specs.Text.{Text}
 use Rattle.irtext_base.specs.Faults.{Fault}
-use Rattle.irtext_base.specs.Answers.{Outcome, Read, Missing, Bad, prefixed, mapped, followed}
+use Rattle.irtext_base.specs.Answers.{Outcome, Read, Bad, prefixed, mapped, followed}
 use Rattle.irtext_grammar.specs.Names.Script.{Failure}
 use Rattle.irtext_nesting.specs.Readers.{fault_for}
 use Rattle.irtext_nesting.specs.Agrees.{StopsAt}

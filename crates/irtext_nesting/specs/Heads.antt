@@ -15,7 +15,7 @@ use Rattle.irtext_read.specs.ListOutcomes.{separated_at}
 use Rattle.irtext_read.specs.Tokens.{space_at, word, identifier_at, id_at}
 use Rattle.irtext_read.specs.Demanded.{spaced_at, index_at}
 use Rattle.irtext_grammar.specs.Grammar.Tree as tree
-use Rattle.irtext_grammar.specs.Grammar.Tree.{Name, Mark, Attribute, Piece, Part, Body, Head}
+use Rattle.irtext_grammar.specs.Grammar.Tree.{Name, Mark, Attribute, Piece, Head}
 use Rattle.irtext_outcomes.specs.Readers.Directives.{attribute_at}
 use Rattle.irtext_outcomes.specs.Readers.Marker.{marker, starts_with}
 use Rattle.irtext_outcomes.specs.Readers.Operations.{registered_behind}

@@ -1,6 +1,6 @@
 -- For callers: what a text reads as, where the section behind a root stands, with each fault's cause and place. A place is the number of
 -- characters from it to the end of the text.
-use Rattle.std.specs.Prelude.{ℕ, zero, suc, ◌-◌, Bool, true, cond, not, ◌&&◌, ◌||◌, ◌==◌, Option, Some, None, List, [], ◌∷◌, ◌++◌, length, take, flat_map, codes}
+use Rattle.std.specs.Prelude.{ℕ, zero, suc, ◌-◌, Bool, true, cond, not, ◌&&◌, ◌||◌, Option, Some, None, List, [], ◌∷◌, ◌++◌, length, take, flat_map, codes}
 use Rattle.irtext_base.specs.Text.{Text, begins}
 use Rattle.irtext_base.specs.Reading.{the}
 use Rattle.irtext_base.specs.Format.{same_text}
@@ -13,7 +13,7 @@ use Rattle.irtext_read.specs.Infix.{Reader, nothing, either, ◌▷◌, ◌◁�
 use Rattle.irtext_read.specs.ListOutcomes.{separated_at}
 use Rattle.irtext_read.specs.Tokens.{space_at, word}
 use Rattle.irtext_read.specs.Demanded.{spaced_at}
-use Rattle.irtext_grammar.specs.Grammar.Tree.{Name, Mark, Attribute}
+use Rattle.irtext_grammar.specs.Grammar.Tree.{Name, Mark}
 use Rattle.irtext_grammar.specs.Grammar.Section.{Item, direct, reference, Entry, of_item, of_once}
 use Rattle.irtext_grammar.specs.Names.Acts.{Rule, late_acts}
 use Rattle.irtext_grammar.specs.Names.Resolves.{indices}

@@ -12,7 +12,7 @@ use Rattle.irtext_read.specs.Infix.{Reader, nothing, ◌▷◌, ◌▶◌}
 use Rattle.irtext_read.specs.Tokens.{space_at, word}
 use Rattle.irtext_grammar.specs.Contexts.Formats.{isolated}
 use Rattle.irtext_grammar.specs.Grammar.Tree as tree
-use Rattle.irtext_grammar.specs.Grammar.Tree.{Name, Mark, Piece, Part, Head}
+use Rattle.irtext_grammar.specs.Grammar.Tree.{Name, Part}
 use Rattle.irtext_nesting.specs.Heads.{Step, flat, types, steps_of, region_steps, piece_at}
 use Rattle.irtext_nesting.specs.Reached.{Reached, Came, Stuck, came, tells, Doing, Reads, steps_in, more_by, operations_by, blocks_by, steps_by, end_by, block_by, region_at, operation_at}
 

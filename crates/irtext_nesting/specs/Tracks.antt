@@ -1,6 +1,6 @@
 -- Between functions: which items were made while nested text was read, each with its place in the text, and that nothing else came: what
 -- is whole or open is all that is there besides what was there at the start, and what is whole stands in it.
-use Rattle.std.specs.Prelude.{◌≡◌, ◌⊎◌, ℕ, List, [], ◌∷◌, Option, Some, None, option_map}
+use Rattle.std.specs.Prelude.{◌≡◌, ◌⊎◌, ℕ, List, [], Option, Some, None, option_map}
 use Rattle.irtext_base.specs.declared.location.Location.{Location}
 use Rattle.irtext_context.specs.Context.{ContextView, BlockView, RegionView, operation, block, region, regions_in}
 use Rattle.irtext_graph.specs.declared.arena.Ptr.{Ptr}

@@ -5,7 +5,7 @@ use Rattle.std.specs.List.{cons_option}
 use Rattle.std.specs.Option.{option_map}
 use Rattle.irtext_base.specs.Text.{Text}
 use Rattle.irtext_base.specs.Format as format
-use Rattle.irtext_base.specs.Format.{Format, Directive, Id, distinct, operand_places, successor_places}
+use Rattle.irtext_base.specs.Format.{Format, Directive, Id, operand_places, successor_places}
 use Rattle.irtext_context.specs.Context.{ContextView, OperationView, BlockView, operation, block}
 use Rattle.irtext_graph.specs.declared.arena.Ptr.{Ptr}
 use Rattle.irtext_graph.specs.declared.object.BasicBlock.{BasicBlock}
@@ -24,7 +24,7 @@ use Rattle.irtext_graph.specs.Parts.{results, arguments, regions, blocks, operat
 use Rattle.irtext_graph.proofs.Inside.{within_self, within_up, within_on}
 use Rattle.irtext_graph.proofs.Same.{ptr_same}
 use Rattle.irtext_grammar.specs.Contexts.Nested.{typed_number, place_of, seen_operation, seen_block, seen_regions, seen_blocks, seen_operations, seen_root, operations_by, blocks_by, regions_by, within}
-use Rattle.irtext_grammar.specs.Grammar.Forest.{Regions, no_regions, region, Blocks, no_blocks, Operations, no_operations}
+use Rattle.irtext_grammar.specs.Grammar.Forest.{Regions, region, Blocks, Operations}
 use Rattle.irtext_grammar.specs.Grammar.Forest as forest
 use Rattle.irtext_grammar.specs.Graphs.Closed.{Thing, a_value, a_block, same_thing, uses_of_values, uses_of_blocks, use_if, use_block_if, defined_results, defined_arguments, directives_script, body_script, op_script, graph_regions, graph_blocks, graph_operations, graph_script}
 use Rattle.irtext_grammar.specs.Graphs.Graph.{Graph, GraphOp, GraphBlock, Printing}

@@ -11,7 +11,7 @@ use Rattle.irtext_grammar.specs.Grammar.Reads.{reads}
 use Rattle.irtext_grammar.specs.Grammar.Section.{Entry}
 use Rattle.irtext_grammar.specs.Grammar.Tree.{Op, Head, Brace, Tree, Attribute}
 use Rattle.irtext_grammar.specs.Graphs.Build.{built_regions, built_blocks, built_operations, build}
-use Rattle.irtext_grammar.specs.Graphs.Closed.{Closed, FitsFormat, FitRegions, FitBlocks, FitOperations, Fit}
+use Rattle.irtext_grammar.specs.Graphs.Closed.{FitsFormat, FitRegions, FitBlocks, FitOperations, Fit}
 use Rattle.irtext_grammar.specs.Graphs.Graph.{Graph, GraphOp, GraphBlock, Printing}
 use Rattle.irtext_grammar.specs.Graphs.Regained.{Named}
 use Rattle.irtext_grammar.specs.Graphs.ReservedKeys.{KeepsRule, OpKeepsKeys, BlockKeepsKeys}

@@ -15,6 +15,7 @@ ghost use Rattle.irtext_promises.specs.Alone.{IsOutermost, BuildsRegion, Refuses
 ghost use Rattle.irtext_parse_nested.specs.Ends.{GainsMarks};
 ghost use Rattle.irtext_parse_root.specs.Region.{unisolated, IsReportedAt};
 
+use crate::one_region as items;
 use crate::outermost::{failed_fault, made_in};
 use crate::tree::{context_keeps, failed_by};
 use irtext_base::base::OpId;
@@ -27,7 +28,6 @@ use irtext_base::text::{AttrText, IrText};
 use irtext_context::base::context::making::Making;
 use irtext_context::base::operation::OperationAccess;
 use irtext_context::base::{Context, Operation, Ptr, Region};
-use crate::one_region as items;
 use irtext_scopes::tracker::NameTracker;
 use irtext_state::parsable::state::Noting;
 use irtext_state::parsable::{State, StateStream};

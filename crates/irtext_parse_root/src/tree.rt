@@ -19,12 +19,12 @@ ghost use Rattle.irtext_promises.specs.Promises.{HasFault};
 ghost use Rattle.irtext_parse_root.specs.AnyState.{HasFaultFrom, ReadsTree};
 ghost use Rattle.irtext_parse_root.specs.Marked.{LeavesMarked};
 
+use crate::nested::nested_parse;
 use irtext_base::parsable::{CharStream, ParseFault, ParseResult, TextStream};
 use irtext_base::text::{AttrText, IrText};
 use irtext_context::base::context::making::Making;
 use irtext_context::base::{Operation, Ptr};
 use irtext_graph::held::HasGraph;
-use crate::nested::nested_parse;
 use irtext_scopes::tracker::NameTracker;
 use irtext_state::parsable::{State, StateStream};
 

@@ -1,5 +1,5 @@
 -- Steps of what is put where it belongs.
-use Rattle.std.proofs.Common.{◌≡◌, ◌∙◌, ℕ, Bool, true, false, not, ◌==◌, List, [], ◌∷◌, ◌++◌, length, Option, refl, sym, ap, arith}
+use Rattle.std.proofs.Common.{◌≡◌, ℕ, Bool, true, false, ◌==◌, List, [], ◌∷◌, ◌++◌, length, Option, refl, sym, ap, arith}
 use Rattle.std.proofs.lemmas.Bool.Decides.{nat_tests}
 use Rattle.std.specs.Str.{bytes_eq}
 use Rattle.indexmap.specs.IndexMap.{insert_entry}
@@ -10,7 +10,7 @@ use Rattle.irtext_grammar.specs.Contexts.Held.{attribute_of, entries_of}
 use Rattle.irtext_grammar.specs.Graphs.Build.{put, put_all}
 use Rattle.irtext_grammar.specs.Grammar.Tree.{Attribute}
 use Rattle.irtext_parse_heads.specs.declared.entries.Key.{Key}
-use Rattle.irtext_parse_section.specs.Applied.{all_stored, no_label, label_by, label_in}
+use Rattle.irtext_parse_section.specs.Applied.{all_stored, no_label, label_in}
 use Rattle.irtext_parse_section.specs.declared.said.GivenAttr.{GivenAttr}
 use Rattle.irtext_grammar.proofs.Lists.SameText.{same_text-bytes_eq, same_text_true}
 

@@ -1,13 +1,8 @@
 -- Steps of the check of references.
-use Rattle.std.proofs.Common.{◌≡◌, ◌∙◌, ℕ, Bool, List, [], ◌∷◌, ◌++◌, Result, Ok, Err, refl, sym, ap, subst}
+use Rattle.std.proofs.Common.{◌≡◌, ◌∙◌, ℕ, List, [], ◌∷◌, ◌++◌, sym, ap, subst}
 use Rattle.irtext_base.specs.Stream.{StreamView}
-use Rattle.irtext_base.specs.declared.base.attributes.AttrObj.{AttrObj}
 use Rattle.irtext_base.specs.declared.parsable.fault.ParseFault.{ParseFault}
-use Rattle.irtext_parse_heads.specs.declared.entries.Key.{Key}
-use Rattle.irtext_parse_section.specs.Checked.{Wrong, RefusesFirst, pair_wrong, pairs_wrong, items_wrong}
-use Rattle.irtext_parse_section.specs.Said.{is_block}
-use Rattle.irtext_parse_section.specs.declared.said.GivenAttr.{GivenAttr}
-use Rattle.irtext_parse_section.specs.declared.said.ItemEntry.{ItemEntry}
+use Rattle.irtext_parse_section.specs.Checked.{Wrong, RefusesFirst}
 
 -- nothing is wrong with the first of those that are left
 pub none_wrong : (all left ws vs : List Wrong) → all ≡ left → left ≡ ws ++ vs → ws ≡ [] → all ≡ vs

@@ -27,7 +27,6 @@ use Rattle.irtext_outcomes.specs.Readers.Directives.{attribute_at}
 use Rattle.irtext_outcomes.specs.Readers.Marks.{may_follow}
 use Rattle.irtext_outcomes.proofs.Joins.Answers.{followed_read, mapped_read}
 use Rattle.irtext_nesting.specs.Readers.{begins_given, tested, entry_head_at, given_at, entry_at, may_have}
-use Rattle.irtext_parse_section.specs.Said.{rules_of}
 use Rattle.irtext_parse_section.specs.Entries.{IsItemEntry, IsEntry, AreItems, AreSeen, AreOnce, Noted, AreNoted, entry_kept, all_entries_kept, Notes}
 use Rattle.irtext_parse_section.specs.declared.said.ItemEntry.{ItemEntry}
 use Rattle.irtext_parse_section.specs.declared.said.ReadEntry.{ReadEntry}

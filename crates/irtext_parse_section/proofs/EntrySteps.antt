@@ -1,5 +1,5 @@
 -- Steps of the reader of an entry.
-use Rattle.std.proofs.Common.{◌≡◌, ◌∙◌, ℕ, Bool, true, false, List, [], Result, Ok, Err, refl, sym, ap, subst, Option, Some}
+use Rattle.std.proofs.Common.{◌≡◌, ℕ, Bool, true, false, List, [], Ok, Err, refl, sym, ap, subst, Option, Some}
 use Rattle.std.specs.Map.{lookup}
 use Rattle.std.specs.Prelude.{Vec, cond}
 use Rattle.std.specs.Global.{Global}
@@ -30,7 +30,6 @@ use Rattle.irtext_parse_section.specs.Said.{rule_for, rules_of, rule_of_item, is
 use Rattle.irtext_parse_section.specs.Entries.{IsHead, IsGivenOver, IsEntry}
 use Rattle.irtext_parse_section.specs.declared.entry.EntryHead.{EntryHead}
 use Rattle.irtext_parse_section.specs.declared.said.GivenAttr.{GivenAttr}
-use Rattle.irtext_parse_section.specs.declared.said.ItemEntry.{ItemEntry}
 use Rattle.irtext_parse_section.specs.declared.said.ReadEntry.{ReadEntry}
 use Rattle.irtext_parse_section.specs.declared.said.ReadEntry.TheVariants as read
 use Rattle.irtext_parse_section.proofs.HeadSteps.{a_mark}

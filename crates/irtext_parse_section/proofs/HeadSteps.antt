@@ -1,5 +1,5 @@
 -- Steps of the readers of an entry's head.
-use Rattle.std.proofs.Common.{◌≡◌, ◌∙◌, ℕ, Bool, true, false, cond, not, ◌&&◌, is_some, Result, Ok, Err, List, [], ◌++◌, length, refl, sym, ap, ap₂, subst, append-nil, ◌⊎◌, inl, inr, Option, Some, None}
+use Rattle.std.proofs.Common.{◌≡◌, ℕ, Bool, true, false, cond, not, ◌&&◌, is_some, Ok, Err, List, [], ◌++◌, length, refl, sym, ap, ap₂, subst, append-nil, ◌⊎◌, inl, inr, Option, Some, None}
 use Rattle.std.specs.Map.{lookup}
 use Rattle.irtext_base.specs.Text.{Text}
 use Rattle.irtext_base.specs.Stream.{StreamView}

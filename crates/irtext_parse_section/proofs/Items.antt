@@ -1,5 +1,5 @@
 -- What one item has once a section was applied: what the entry of its mark gives it, over what it had.
-use Rattle.std.proofs.Common.{◌≡◌, ◌∙◌, ℕ, ◌==◌, nat_eq, Bool, true, false, cond, not, ◌&&◌, is_some, List, [], ◌∷◌, ◌++◌, Option, Some, None, refl, sym, ap, ap₂, subst, append-nil, true≢false, arith}
+use Rattle.std.proofs.Common.{◌≡◌, ◌∙◌, ℕ, ◌==◌, nat_eq, Bool, true, false, cond, not, ◌&&◌, is_some, List, [], ◌∷◌, ◌++◌, Option, Some, None, refl, sym, ap, subst, true≢false, arith}
 use Rattle.std.proofs.lemmas.Bool.Decides.{nat_tests}
 use Rattle.std.specs.Prelude.{flat_map, option_and_then, unwrap_or}
 use Rattle.std.specs.Map.{lookup}
@@ -9,9 +9,8 @@ use Rattle.irtext_base.specs.Format.{same_text, block_label_key}
 use Rattle.irtext_base.specs.Locations.{AttrView}
 use Rattle.irtext_base.specs.Answers.{Outcome}
 use Rattle.irtext_base.specs.Paths.{Written}
-use Rattle.irtext_base.specs.declared.base.attributes.AttrObj.{AttrObj}
 use Rattle.irtext_base.specs.declared.location.Location.{Location}
-use Rattle.irtext_context.specs.Context.{ContextView, OperationView, BlockView, operation_of, block_of, operation, block, EditsOperation, EditsBlock, with_loc, with_attributes, with_block_loc, with_block_attributes, with_label}
+use Rattle.irtext_context.specs.Context.{ContextView, OperationView, BlockView, operation_of, block_of, operation, block, with_loc, with_attributes, with_block_loc, with_block_attributes, with_label}
 use Rattle.irtext_context.specs.declared.base.item.Item.{Item}
 use Rattle.irtext_context.specs.declared.base.item.Item.TheVariants as item
 use Rattle.irtext_context.proofs.Contexts.{edited_seen, edited_block_seen}
@@ -24,8 +23,8 @@ use Rattle.irtext_state.specs.declared.parsable.state.StateStream.{StateStream}
 use Rattle.irtext_grammar.specs.Contexts.Held.{entries_of, location_over}
 use Rattle.irtext_grammar.specs.Grammar.Section as section
 use Rattle.irtext_grammar.specs.Grammar.Section.{Entry, of_item, of_once}
-use Rattle.irtext_grammar.specs.Grammar.Tree.{Name, Mark, Attribute, given_names, ident, own}
-use Rattle.irtext_grammar.specs.Graphs.Build.{content_in, content, located, label_among, labelled, but_label, with_content, put_all, resolved}
+use Rattle.irtext_grammar.specs.Grammar.Tree.{Mark, Attribute, given_names, ident, own}
+use Rattle.irtext_grammar.specs.Graphs.Build.{content_in, content, located, label_among, labelled, but_label, with_content, resolved}
 use Rattle.irtext_grammar.specs.Names.Acts.{Rule}
 use Rattle.irtext_grammar.specs.Names.Script.{Failure, UnknownIndex}
 use Rattle.irtext_grammar.specs.Names.Scopes.{is_among}

@@ -17,7 +17,7 @@ use Rattle.irtext_state.specs.declared.parsable.state.State.{State}
 use Rattle.irtext_state.specs.declared.parsable.state.StateStream.{StateStream}
 use Rattle.irtext_grammar.specs.Grammar.Section.{Entry}
 use Rattle.irtext_grammar.specs.Names.Acts.{Rule}
-use Rattle.irtext_outcomes.specs.Promises.Section.{indices_of, Moves}
+use Rattle.irtext_outcomes.specs.Promises.Section.{indices_of}
 use Rattle.irtext_outcomes.specs.Readers.Marks.{may_follow}
 use Rattle.irtext_outcomes.specs.Readers.NewPaths.{AddsPaths}
 use Rattle.irtext_outcomes.specs.Readers.Streams.{itself, replaced, KeepsRest}

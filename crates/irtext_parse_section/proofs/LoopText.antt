@@ -1,5 +1,5 @@
 -- How far the text of entries was read: one entry more, or none, or a refusal.
-use Rattle.std.proofs.Common.{◌≡◌, ◌∙◌, ◌<◌, ◌≤◌, ℕ, zero, suc, Bool, true, false, Result, Ok, Err, List, [], ◌∷◌, ◌++◌, length, length-append, refl, sym, ap, arith, true≢false}
+use Rattle.std.proofs.Common.{◌≡◌, ◌∙◌, ◌<◌, ◌≤◌, ℕ, zero, suc, Bool, true, false, Ok, Err, List, [], ◌∷◌, ◌++◌, length, length-append, refl, sym, ap, arith, true≢false}
 use Rattle.std.specs.Char.{is_whitespace}
 use Rattle.irtext_base.specs.Text.{Text, begins, front, after}
 use Rattle.irtext_base.specs.Reading.{the}

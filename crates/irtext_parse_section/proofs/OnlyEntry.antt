@@ -4,7 +4,6 @@ use Rattle.std.specs.Option.{option_map}
 use Rattle.std.specs.Prelude.{option_and_then}
 use Rattle.irtext_base.specs.Text.{Text}
 use Rattle.irtext_base.specs.declared.base.attributes.AttrObj.{AttrObj}
-use Rattle.irtext_base.specs.declared.location.Location.{Location}
 use Rattle.irtext_context.specs.Context.{ContextView, OperationView, BlockView, operation, operation_of, block, block_of, view_of, with_attributes, with_block_attributes}
 use Rattle.irtext_context.specs.declared.base.item.Item.{Item}
 use Rattle.irtext_context.specs.declared.base.item.Item.TheVariants as item
@@ -12,8 +11,6 @@ use Rattle.irtext_context.specs.declared.base.operation.OperationData.{Operation
 use Rattle.irtext_context.proofs.Contexts.{OperationEntry, BlockEntry}
 use Rattle.irtext_graph.specs.Data.{with_data, with_block}
 use Rattle.irtext_graph.specs.Store.{get, object_of}
-use Rattle.irtext_graph.specs.declared.arena.Ptr.{Ptr}
-use Rattle.irtext_graph.specs.declared.object.BasicBlock.{BasicBlock}
 use Rattle.irtext_graph.specs.declared.object.Operation.{Operation}
 use Rattle.irtext_grammar.specs.Contexts.Held.{entries_of}
 use Rattle.irtext_parse_section.specs.Applied.{all_stored, StoresOperation, StoresBlock, Gives, GivesAll}

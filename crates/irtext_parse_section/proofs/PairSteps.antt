@@ -1,5 +1,5 @@
 -- Steps of the readers of pairs.
-use Rattle.std.proofs.Common.{◌≡◌, ◌∙◌, ℕ, Bool, true, false, cond, Result, Ok, Err, List, [], ◌∷◌, ◌++◌, length, refl, sym, ap, ap₂, subst, ◌⊎◌, inl, inr}
+use Rattle.std.proofs.Common.{◌≡◌, ◌∙◌, ℕ, Bool, true, false, Result, Ok, Err, [], ◌∷◌, length, refl, sym, ap, ap₂, subst, ◌⊎◌, inl, inr}
 use Rattle.std.specs.Prelude.{IfOk}
 use Rattle.std.specs.Char.{is_whitespace}
 use Rattle.irtext_base.specs.Text.{Text, begins, front, after}
@@ -22,7 +22,6 @@ use Rattle.irtext_grammar.specs.Grammar.Section.{Item, direct, reference}
 use Rattle.irtext_grammar.specs.Grammar.Tree.{Name}
 use Rattle.irtext_grammar.specs.Names.Acts.{Rule}
 use Rattle.irtext_outcomes.specs.Readers.Directives.{attribute_at}
-use Rattle.irtext_outcomes.specs.Readers.Operations.{RefusesAt}
 use Rattle.irtext_outcomes.specs.Readers.Streams.{itself, replaced}
 use Rattle.irtext_parse_heads.specs.Named.{whole, Each, MayMean, MustMean}
 use Rattle.irtext_parse_heads.specs.declared.entries.Key.{Key}

@@ -1,5 +1,5 @@
 -- Steps of a section whose entries were read: its references are right, or the first that is wrong is refused.
-use Rattle.std.proofs.Common.{◌≡◌, ◌∙◌, ◌≤◌, ◌⊎◌, inl, inr, ℕ, Bool, true, false, cond, nat_eq, is_some, List, [], ◌∷◌, ◌++◌, length, length-append, Option, Some, None, Result, Ok, Err, refl, sym, ap, ap₂, subst, append_assoc, arith}
+use Rattle.std.proofs.Common.{◌≡◌, ◌∙◌, ◌≤◌, ◌⊎◌, inl, inr, ℕ, Bool, true, false, cond, nat_eq, is_some, List, [], ◌∷◌, ◌++◌, length, length-append, Option, Some, None, Ok, Err, refl, sym, ap, ap₂, subst, append_assoc, arith}
 use Rattle.std.proofs.lemmas.List.{take-append-drop, length-drop}
 use Rattle.std.specs.Prelude.{codes, ◌-◌, take, drop, flat_map}
 use Rattle.std.specs.Map.{lookup}
@@ -8,7 +8,7 @@ use Rattle.irtext_base.specs.Text.{Text}
 use Rattle.irtext_base.specs.Format.{Id, Format}
 use Rattle.irtext_base.specs.Faults.{Fault}
 use Rattle.irtext_base.specs.Stream.{StreamView}
-use Rattle.irtext_base.specs.Answers.{Outcome, Read, Missing, Bad, Takes, Starves, Commits, Refuses, Gives, demanded, unless_failed, followed}
+use Rattle.irtext_base.specs.Answers.{Outcome, Read, Missing, Bad, Takes, Starves, Commits, Refuses, Gives, demanded, unless_failed}
 use Rattle.irtext_base.specs.Locations.{AttrView}
 use Rattle.irtext_base.specs.Own.{Texts, Lawful, Sincere, texts_of}
 use Rattle.irtext_base.specs.Paths.{Written}
@@ -18,10 +18,8 @@ use Rattle.irtext_base.proofs.Compose.{takes_stands, stands_failed, starves_behi
 use Rattle.irtext_stream.specs.Places.{StandsBehind}
 use Rattle.irtext_stream.specs.declared.position.Place.{Place}
 use Rattle.irtext_context.specs.declared.base.item.Item.{Item}
-use Rattle.irtext_state.specs.States.{same_index}
 use Rattle.irtext_read.specs.AttrTexts.{attr_at}
 use Rattle.irtext_read.specs.Demanded.{spaced_at}
-use Rattle.irtext_read.specs.MustRead.{MustRead}
 use Rattle.irtext_read.proofs.SetBack.{set_within}
 use Rattle.irtext_read.proofs.Steps.{alone}
 use Rattle.irtext_grammar.specs.Contexts.Held.{attribute_of}
@@ -38,7 +36,6 @@ use Rattle.irtext_outcomes.proofs.Joins.Answers.{followed_read}
 use Rattle.irtext_outcomes.proofs.Readers.Answered.{Answered, answered}
 use Rattle.irtext_nesting.proofs.Exact.Attributes.{lawful_needs_word}
 use Rattle.irtext_parse_heads.specs.Entries.{IsKey}
-use Rattle.irtext_parse_heads.specs.Marks.{IsMark}
 use Rattle.irtext_parse_heads.specs.Named.{whole, Leaves, Each, MustMean}
 use Rattle.irtext_parse_heads.specs.declared.entries.Key.{Key}
 use Rattle.irtext_parse_heads.proofs.Meanings.{must_refuse}

@@ -1,5 +1,5 @@
 -- Steps of the reading of a whole section.
-use Rattle.std.proofs.Common.{◌≡◌, ◌∙◌, ℕ, Bool, true, false, List, [], Result, Ok, Err, refl, sym, ap, subst}
+use Rattle.std.proofs.Common.{◌≡◌, ℕ, Bool, true, false, List, [], Ok, refl, sym, ap, subst}
 use Rattle.irtext_base.specs.Text.{Text}
 use Rattle.irtext_base.specs.Stream.{StreamView}
 use Rattle.irtext_base.specs.Answers.{Outcome, Read, StarvesHere}
@@ -7,7 +7,6 @@ use Rattle.irtext_base.specs.Locations.{AttrView}
 use Rattle.irtext_base.specs.Paths.{Written}
 use Rattle.irtext_base.specs.declared.parsable.fault.ParseFault.{ParseFault}
 use Rattle.irtext_context.specs.Context.{ContextView, KeepsOlder}
-use Rattle.irtext_context.specs.declared.base.item.Item.{Item}
 use Rattle.irtext_context.proofs.Kept.{kept_trans}
 use Rattle.irtext_graph.specs.Back.{IsClosedBelow}
 use Rattle.irtext_state.specs.States.{marks_of}

@@ -1,5 +1,5 @@
 -- For callers: what items have once the entries of a section were applied: a location, attributes, and a block its label.
-use Rattle.std.specs.Prelude.{◌≡◌, ℕ, Bool, cond, not, is_some, List, [], ◌∷◌, Option, Some, None, flat_map, filter, nat_eq, ⊤}
+use Rattle.std.specs.Prelude.{◌≡◌, ℕ, cond, not, is_some, List, [], ◌∷◌, Option, Some, None, flat_map, filter, nat_eq, ⊤}
 use Rattle.std.specs.Map.{lookup}
 use Rattle.std.specs.Option.{option_map}
 use Rattle.irtext_base.specs.Text.{Text}
@@ -17,7 +17,7 @@ use Rattle.irtext_graph.specs.declared.object.Operation.{Operation}
 use Rattle.irtext_state.specs.States.{same_index}
 use Rattle.irtext_grammar.specs.Contexts.Held.{attribute_of, entries_of}
 use Rattle.irtext_grammar.specs.Grammar.Section.{Entry, of_item, of_once}
-use Rattle.irtext_grammar.specs.Grammar.Tree.{Attribute, Mark, Name, ident}
+use Rattle.irtext_grammar.specs.Grammar.Tree.{Attribute, ident}
 use Rattle.irtext_grammar.specs.Graphs.Build.{put_all, resolved}
 use Rattle.irtext_outcomes.specs.Promises.Section.{given_over}
 use Rattle.irtext_parse_heads.specs.declared.entries.Key.{Key}

@@ -1,15 +1,11 @@
 -- Between functions: what entries that were read stand for.
-use Rattle.std.specs.Prelude.{◌≡◌, ℕ, Bool, true, false, cond, List, [], ◌∷◌, length, Option, Some, None, Result, Ok, Err, Vec, is_some}
+use Rattle.std.specs.Prelude.{◌≡◌, ℕ, Bool, true, false, cond, List, [], ◌∷◌, length, Option, Some, None, Result, Ok, Err, Vec}
 use Rattle.std.specs.Global.{Global}
 use Rattle.std.specs.Map.{lookup}
-use Rattle.std.specs.Option.{option_map}
 use Rattle.irtext_base.specs.Text.{Text}
 use Rattle.irtext_base.specs.Stream.{StreamView}
 use Rattle.irtext_base.specs.Answers.{Outcome}
 use Rattle.irtext_base.specs.Faults.{ReservedKey}
-use Rattle.irtext_base.specs.Paths.{Written}
-use Rattle.irtext_base.specs.declared.base.attributes.AttrObj.{AttrObj}
-use Rattle.irtext_base.specs.declared.location.Location.{Location}
 use Rattle.irtext_base.specs.declared.parsable.fault.ParseFault.{ParseFault}
 use Rattle.irtext_stream.specs.declared.position.Place.{Place}
 use Rattle.irtext_context.specs.declared.base.item.Item.{Item}
@@ -17,18 +13,16 @@ use Rattle.irtext_context.specs.declared.base.item.Item.TheVariants as item
 use Rattle.irtext_state.specs.States.{same_index}
 use Rattle.irtext_read.specs.ListOutcomes.{items_after}
 use Rattle.irtext_grammar.specs.Contexts.Held.{attribute_of}
-use Rattle.irtext_grammar.specs.Grammar.Tree.{Name, Mark}
+use Rattle.irtext_grammar.specs.Grammar.Tree.{Name}
 use Rattle.irtext_grammar.specs.Grammar.Section as section
 use Rattle.irtext_grammar.specs.Grammar.Section.{direct, reference}
 use Rattle.irtext_grammar.specs.Names.Acts.{Rule, may_hold, keeps_label_key}
-use Rattle.irtext_outcomes.specs.Promises.Section.{known_given, given_over}
 use Rattle.irtext_outcomes.specs.Readers.Operations.{RefusesAt}
 use Rattle.irtext_outcomes.specs.Readers.Streams.{itself, replaced}
 use Rattle.irtext_parse_heads.specs.Entries.{IsKey}
 use Rattle.irtext_parse_heads.specs.Marks.{IsMark}
 use Rattle.irtext_parse_heads.specs.Named.{whole, Each, MustMean}
 use Rattle.irtext_parse_heads.specs.declared.entries.Key.{Key}
-use Rattle.irtext_parse_heads.specs.declared.marks.ReadMark.{ReadMark}
 use Rattle.irtext_parse_section.specs.declared.said.GivenAttr.{GivenAttr}
 use Rattle.irtext_parse_section.specs.declared.said.GivenAttr.TheVariants as given
 

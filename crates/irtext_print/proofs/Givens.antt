@@ -1,9 +1,8 @@
 -- What the section gives of an item, entry by entry of its dictionary.
-use Rattle.std.proofs.Common.{◌≡◌, ◌∙◌, Bool, true, false, cond, not, List, [], ◌∷◌, ◌++◌, refl, sym, ap, Option, Some, None}
+use Rattle.std.proofs.Common.{◌≡◌, ◌∙◌, Bool, true, false, cond, List, ◌∷◌, ap}
 use Rattle.irtext_base.specs.Text.{Text}
 use Rattle.irtext_base.specs.declared.base.attributes.AttrObj.{AttrObj}
 use Rattle.irtext_grammar.specs.Contexts.Held.{attribute_of, entries_of}
-use Rattle.irtext_grammar.specs.Grammar.Tree.{Attribute}
 use Rattle.irtext_grammar.specs.Graphs.Graph.{outlined, outlined_entries}
 use Rattle.irtext_print.specs.Printers.PieceText.{outlining}
 

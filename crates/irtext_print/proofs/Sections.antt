@@ -2,7 +2,7 @@
 -- indices ascend.
 use Rattle.std.proofs.Common.{◌≡◌, ℕ, suc, ◌+◌, Bool, true, false, cond, List, [], ◌∷◌, ◌++◌, map, flat_map, length, codes, decimal, Option, Some, None, arith, refl, sym, ap, ap₂, ◌∙◌}
 use Rattle.std.specs.Prelude.{⊤}
-use Rattle.std.proofs.lemmas.List.{append_assoc, append-nil}
+use Rattle.std.proofs.lemmas.List.{append_assoc}
 use Rattle.irtext_base.specs.Own.{Language}
 use Rattle.irtext_base.specs.Text.{Text}
 use Rattle.irtext_grammar.specs.Grammar.Section as tree
@@ -12,7 +12,7 @@ use Rattle.irtext_grammar.specs.Spelling.Section.{item, located, entry_text, ent
 use Rattle.irtext_grammar.specs.Spelling.SectionEntries.{index_of, numbers, mark_of, written_item, written_pair, written_once}
 use Rattle.irtext_grammar.specs.Spelling.Spell.{joined, comma}
 use Rattle.irtext_grammar.proofs.Lists.Numbers.{numbers_both}
-use Rattle.irtext_print.specs.Items.{there, shared_by, given_items, given_section, places_there, item_spelled, entry_spelled, given_text, given_texts, section_of}
+use Rattle.irtext_print.specs.Items.{there, shared_by, given_items, given_section, places_there, item_spelled, entry_spelled, given_texts, section_of}
 
 length_some : {X : Type 0} (xs : List X) → length (map (λ x. Some x) xs) ≡ length xs
 length_some [] = refl

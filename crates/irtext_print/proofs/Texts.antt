@@ -1,5 +1,5 @@
 -- What was appended piece by piece, as the text of entries.
-use Rattle.std.proofs.Common.{◌≡◌, ℕ, Bool, true, false, ◌+◌, ◌<◌, ◌≤◌, ◌^◌, cond, List, [], ◌∷◌, ◌++◌, map, codes, Option, Some, None, length, get_or, drop, suc, arith, refl, sym, ap, ◌∙◌}
+use Rattle.std.proofs.Common.{◌≡◌, ℕ, Bool, true, false, ◌+◌, ◌<◌, ◌≤◌, cond, List, [], ◌∷◌, ◌++◌, map, codes, Option, Some, None, length, get_or, drop, suc, arith, refl, sym, ap, ◌∙◌}
 use Rattle.std.proofs.lemmas.List.{append_assoc, append-nil, drop_all}
 use Rattle.std.proofs.Math.Seq.{drop-cons}
 use Rattle.std.specs.Borrow.{Bor}
@@ -9,12 +9,12 @@ use Rattle.std.specs.Str.{encode_utf8_all}
 use Rattle.irtext_base.specs.Own.{Language}
 use Rattle.irtext_base.specs.Text.{Text}
 use Rattle.irtext_grammar.specs.Grammar.Tree.{Attribute}
-use Rattle.irtext_grammar.specs.Graphs.Graph.{Printing, place_in}
+use Rattle.irtext_grammar.specs.Graphs.Graph.{Printing}
 use Rattle.irtext_grammar.specs.Spelling.Section.{item, located, once_texts}
-use Rattle.irtext_grammar.specs.Spelling.Spell.{joined, joined_from, comma}
+use Rattle.irtext_grammar.specs.Spelling.Spell.{comma}
 use Rattle.irtext_print.proofs.Printers.Locations.{more, worded, ending, framed_bytes, left_text, item_written}
 use Rattle.irtext_print.specs.Errors.Located.{between, framed}
-use Rattle.irtext_print.specs.Entries.{reference_text, pair_text, pairs_text, entry_with, once_text}
+use Rattle.irtext_print.specs.Entries.{pair_text, pairs_text, entry_with, once_text}
 
 -- a reference is written
 pub reference_appended : (index wanted : ℕ) (f0 f1 f2 : List ℕ) → index ≡ wanted → f1 ≡ f0 ++ codes "!" → f2 ≡ f1 ++ encode_utf8_all (decimal index) → f2 ≡ f0 ++ encode_utf8_all (codes "!" ++ decimal wanted)

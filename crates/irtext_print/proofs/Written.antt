@@ -1,14 +1,14 @@
 -- What is written of an item's attributes, and of items, step by step, while the attributes that are written once are noted.
 use Rattle.std.proofs.Common.{◌≡◌, ℕ, Bool, true, false, true≢false, ◌+◌, ◌<◌, ◌==◌, cond, zero, suc, List, [], ◌∷◌, ◌++◌, map, drop, length, get_or, codes, arith, ◌≤◌, Option, Some, None, refl, sym, ap, ap₂, ◌∙◌}
 use Rattle.std.proofs.Math.Seq.{drop-cons}
-use Rattle.std.proofs.lemmas.List.{append_assoc, append-nil, drop_all, length-map}
+use Rattle.std.proofs.lemmas.List.{append-nil, drop_all, length-map}
 use Rattle.std.specs.Fmt.{decimal}
 use Rattle.std.specs.Prelude.{⊤}
 use Rattle.std.specs.Str.{encode_utf8_all}
 use Rattle.irtext_base.specs.Own.{Language}
 use Rattle.irtext_base.specs.Text.{Text}
 use Rattle.irtext_grammar.specs.Grammar.Tree.{Attribute, given_names, ident, own}
-use Rattle.irtext_grammar.specs.Graphs.Graph.{Printing, Entry, shared, place_in}
+use Rattle.irtext_grammar.specs.Graphs.Graph.{Printing, Entry, place_in}
 use Rattle.irtext_grammar.specs.Spelling.Section.{item, located, entry_text, once_texts}
 use Rattle.irtext_grammar.specs.Spelling.Spell.{joined, comma}
 use Rattle.irtext_print.proofs.Printers.Locations.{more, worded, left_text}
@@ -16,7 +16,7 @@ use Rattle.irtext_print.specs.Printers.PieceText.{words}
 use Rattle.irtext_print.proofs.Noted.{GoesOn, on_with, all_on, items_on, noted_shared}
 use Rattle.irtext_print.proofs.Texts.{pair_more, pairs_end}
 use Rattle.irtext_print.specs.Entries.{pair_text, pairs_text, entry_with}
-use Rattle.irtext_print.specs.Items.{there, shared_by, given_text, given_texts, section_of}
+use Rattle.irtext_print.specs.Items.{shared_by, given_text, given_texts, section_of}
 use Rattle.irtext_print.specs.Mentions.{asking, noted, all_noted, one_noted, items_noted}
 
 -- a count that is not 0

@@ -1,9 +1,8 @@
 -- For callers: what the section gives of an operation or a block, of which its mark and its entry are made.
-use Rattle.std.specs.Prelude.{◌≡◌, Bool, true, false, List, [], ◌∷◌, ◌++◌, Option, Some, None, option_copied}
+use Rattle.std.specs.Prelude.{◌≡◌, Bool, true, false, List, [], ◌++◌, Option, Some, None, option_copied}
 use Rattle.std.specs.Option.{option_map}
 use Rattle.irtext_base.specs.Text.{Text}
 use Rattle.irtext_base.specs.Format.{block_label_key}
-use Rattle.irtext_base.specs.Own.{Language}
 use Rattle.irtext_base.specs.declared.base.attributes.AttrObj.{AttrObj}
 use Rattle.irtext_base.specs.declared.location.Location.{Location, Unknown}
 use Rattle.irtext_base.specs.declared.text.AttrText as attr_text
@@ -20,7 +19,6 @@ use Rattle.irtext_grammar.specs.Grammar.Tree.{Attribute, ident}
 use Rattle.irtext_grammar.specs.Graphs.Graph.{GraphOp, GraphBlock, Printing, Entry, label_entry, outlined_entries, op_outlined, block_outlined, is_marked}
 use Rattle.irtext_grammar.specs.Spelling.Locations.{known_text}
 use Rattle.irtext_print.specs.Printers.PieceText.{outlining}
-use Rattle.irtext_print.specs.Printers.PrintedOperation.{language_in}
 use Rattle.irtext_print.specs.declared.given.Given.{Given}
 use Rattle.irtext_print.specs.declared.given.GivenAttribute.{GivenAttribute}
 use Rattle.irtext_print.specs.declared.given.GivenAttribute.TheVariants.{Label, Outlined}

@@ -4,7 +4,7 @@ use Rattle.std.specs.HashSet.{HashSet}
 use Rattle.std.specs.Borrow.{Bor}
 use Rattle.irtext_base.specs.Text.{Text}
 use Rattle.irtext_base.specs.Format.{has}
-use Rattle.irtext_grammar.specs.Grammar.Tree.{Attribute, given_names, ident, own}
+use Rattle.irtext_grammar.specs.Grammar.Tree.{Attribute, own}
 use Rattle.irtext_grammar.specs.Graphs.Graph.{Printing, Entry}
 
 -- what printing asks of the caller's attributes alone

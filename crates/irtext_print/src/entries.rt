@@ -12,13 +12,13 @@ ghost use Rattle.irtext_print.specs.Given.{given_pair, attributes_of};
 ghost use Rattle.irtext_print.specs.Mentions as mentions;
 
 use crate::given::{Given, GivenAttribute};
+use crate::location::print::fmt_known;
 use crate::mentions::{Mentions, note};
+use crate::printable::attributes::fmt_attr;
+use crate::printable::numbers::fmt_number;
 use irtext_base::base::{AttrObj, Identifier};
 use irtext_base::text::{AttrText, IrText};
 use irtext_context::base::Context;
-use crate::location::print::fmt_known;
-use crate::printable::attributes::fmt_attr;
-use crate::printable::numbers::fmt_number;
 use std::fmt;
 
 /// Appends the reference to an attribute that is written once, which is known from then on: its index behind all items.

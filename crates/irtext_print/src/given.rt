@@ -5,6 +5,7 @@ ghost use Rattle.std.specs.Iterator.{YieldsFirstBy, item_count};
 ghost use Rattle.irtext_base.specs.declared.location.Location.TheVariants.{Unknown};
 ghost use Rattle.irtext_print.specs.Given as gives;
 
+use crate::ir::print::pieces::is_outlined;
 use irtext_base::base::{AttrObj, Identifier};
 use irtext_base::location::Location;
 use irtext_base::text::{AttrText, IrText};
@@ -13,7 +14,6 @@ use irtext_context::base::{
 };
 use irtext_dict::base::AttributeDict;
 use irtext_dict::base::attributes::Iter;
-use crate::ir::print::pieces::is_outlined;
 
 /// What the section gives of an item.
 #[derive_where(Clone, Copy)]

@@ -13,15 +13,15 @@ ghost use Rattle.irtext_print.specs.Mentions as mentions;
 
 use crate::entries::fmt_entry;
 use crate::given::given_of;
+use crate::location::print::{fmt_known, fmt_numbers};
 use crate::mentions::Mentions;
+use crate::printable::Refusal;
+use crate::printable::numbers::fmt_number;
+use crate::printable::refusal::memory_alone;
 use indexmap::IndexSet;
 use irtext_base::location::{Location, Source};
 use irtext_base::text::{AttrText, IrText};
 use irtext_context::base::{Context, Item};
-use crate::location::print::{fmt_known, fmt_numbers};
-use crate::printable::Refusal;
-use crate::printable::numbers::fmt_number;
-use crate::printable::refusal::memory_alone;
 use std::fmt;
 
 /// Appends the entry of an item; one that was erased has none.

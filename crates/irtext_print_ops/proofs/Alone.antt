@@ -1,5 +1,5 @@
 -- A region and a block that are printed alone: what was written in front of what is open, and what is left then, are their texts.
-use Rattle.std.proofs.Common.{◌≡◌, ◌+◌, ◌∙◌, ◌⊎◌, inl, inr, ℕ, zero, suc, List, [], ◌∷◌, ◌++◌, length, map, Bool, true, false, true≢false, Option, Some, None, option_map, refl, sym, ap, subst, append_assoc, append-nil, length-append}
+use Rattle.std.proofs.Common.{◌≡◌, ◌+◌, ◌∙◌, ◌⊎◌, inl, inr, ℕ, zero, suc, List, [], ◌∷◌, ◌++◌, length, map, true, false, true≢false, Option, Some, None, option_map, refl, sym, ap, subst, append_assoc, length-append}
 use Rattle.std.specs.Prelude.{⊤, cond, codes, ◌≤◌, ◌^◌, ◌≢◌, IsSome}
 use Rattle.std.specs.Str.{encode_utf8_all}
 use Rattle.irtext_base.specs.Own.{Language}
@@ -17,7 +17,7 @@ use Rattle.irtext_context.specs.declared.base.item.Item.{Item}
 use Rattle.irtext_context.specs.declared.base.item.Item.TheVariants as item
 use Rattle.irtext_graph.specs.declared.arena.Ptr.{Ptr}
 use Rattle.irtext_graph.specs.declared.object.BasicBlock.{BasicBlock}
-use Rattle.irtext_graph.specs.declared.object.Object.TheVariants.{TheBlock, TheRegion}
+use Rattle.irtext_graph.specs.declared.object.Object.TheVariants.{TheRegion}
 use Rattle.irtext_graph.specs.declared.object.Region.{Region}
 use Rattle.irtext_graph.specs.Graph.{Stands}
 use Rattle.irtext_grammar.specs.Contexts.Nested.{seen_blocks, seen_operations, seen_head}
@@ -27,15 +27,14 @@ use Rattle.irtext_grammar.specs.Graphs.Graph.{GraphOp, GraphBlock, Printing, is_
 use Rattle.irtext_grammar.specs.Spelling.Spell.{newline, joined, comma, label, argument, dictionary_if, mark_if, region_text, block_texts, block_text, operation_texts}
 use Rattle.irtext_print.proofs.Printers.Locations.{more}
 use Rattle.irtext_print.specs.Printers.PrintedOperation.{levels}
-use Rattle.irtext_print.specs.Printers.Printing.{lowered}
 use Rattle.irtext_print.specs.declared.printable.refusal.Refusal.{Refusal}
 use Rattle.irtext_print.specs.declared.printable.refusal.Refusal.TheVariants.{Memory, Depth, Misfit}
 use Rattle.irtext_print.specs.declared.printable.state.RegionPrintDepthLimit.{RegionPrintDepthLimit}
 use Rattle.irtext_print.specs.declared.printable.state.RegionPrintDepthLimit.TheVariants.{Unlimited, Max}
 use Rattle.irtext_print_ops.proofs.Opens.{alone}
-use Rattle.irtext_print_ops.specs.Opened.{Open, a_region, a_block, open_rest, rest, opening, closing, between_blocks, between_operations, joined_on, block_head}
+use Rattle.irtext_print_ops.specs.Opened.{Open, a_region, open_rest, opening, between_operations, block_head}
 use Rattle.irtext_print_ops.proofs.Turned.{one_marked}
-use Rattle.irtext_print_ops.specs.Faults.{RegionsFault, BlocksFault, OperationsFault, OpenFault, AnyFault, IndentFault}
+use Rattle.irtext_print_ops.specs.Faults.{RegionsFault, OperationsFault, AnyFault, IndentFault}
 use Rattle.irtext_print_ops.specs.Heads.{or_no_block}
 use Rattle.irtext_print_ops.specs.Steps.{IsTooDeep, region_front, region_frames}
 use Rattle.irtext_print_ops.specs.Walk.{open_of, AllFit, blocks_left, operations_left, items_left, items_in_blocks, items_in_operations, marked_block}

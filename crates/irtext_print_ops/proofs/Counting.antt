@@ -1,5 +1,5 @@
 -- What is counted of directives in one pass, and the tests of it.
-use Rattle.std.proofs.Common.{◌≡◌, ◌<◌, ◌≤◌, ◌∙◌, ◌+◌, ◌||◌, ◌==◌, ◌^◌, nat_lt, ℕ, zero, suc, arith, drop, not, Bool, true, false, cond, List, [], ◌∷◌, refl, sym, ap, subst, Option, Some, None, is_some, length, filter_map, true≢false}
+use Rattle.std.proofs.Common.{◌≡◌, ◌<◌, ◌≤◌, ◌∙◌, ◌+◌, ◌||◌, ◌==◌, ◌^◌, nat_lt, ℕ, suc, arith, not, Bool, true, false, cond, List, [], ◌∷◌, refl, sym, ap, subst, Option, Some, None, is_some, length, filter_map, true≢false}
 use Rattle.std.specs.List.{cons_option, find, list_any}
 use Rattle.irtext_base.specs.Format as format
 use Rattle.irtext_base.specs.Format.{Directive, count, keys, operand_places, successor_places, type_places, region_places, is_operands, is_successors, is_regions, is_dictionary, is_header}

@@ -1,5 +1,5 @@
 -- As many operations stand in one another as there are places for them, at most: so one level more shows nothing more of what stands in an operation.
-use Rattle.std.proofs.Common.{◌≡◌, ◌<◌, ◌≤◌, ◌+◌, ◌⊎◌, ◌==◌, ℕ, zero, suc, Option, Some, None, refl, sym, ap, subst, ◌∙◌, inl, inr, arith, Bool, true, false, cond, List, [], ◌∷◌, length, map, slice_get, eqb, ◌||◌}
+use Rattle.std.proofs.Common.{◌≡◌, ◌<◌, ◌≤◌, ◌+◌, ◌==◌, ℕ, zero, suc, Option, Some, None, refl, sym, ap, ◌∙◌, inl, inr, arith, Bool, true, false, cond, List, [], ◌∷◌, length, map, slice_get, eqb, ◌||◌}
 use Rattle.std.specs.Bool.{⊤}
 use Rattle.std.specs.List.{IsDistinct, AllByRecursion, list_any}
 use Rattle.std.specs.Option.{option_map}
@@ -12,17 +12,16 @@ use Rattle.irtext_graph.specs.declared.arena.Ptr.{Ptr}
 use Rattle.irtext_graph.specs.declared.object.Operation.{Operation}
 use Rattle.irtext_graph.specs.declared.object.BasicBlock.{BasicBlock}
 use Rattle.irtext_graph.specs.declared.object.Region.{Region}
-use Rattle.irtext_graph.specs.declared.object.Object.{Object}
 use Rattle.irtext_graph.specs.declared.object.Object.TheVariants.{TheOperation, TheBlock, TheRegion}
 use Rattle.irtext_graph.specs.Graph.{GraphView, parent, children, children_of}
 use Rattle.irtext_graph.specs.Nested.{climb, Nested}
 use Rattle.irtext_graph.specs.Parts.{regions, blocks, operations_in}
 use Rattle.irtext_graph.specs.Store.{Cell, Store, get, object_in}
-use Rattle.irtext_graph.proofs.Nests.{seen, some_eq, climb-none, climb-add}
+use Rattle.irtext_graph.proofs.Nests.{seen, some_eq, climb-add}
 use Rattle.irtext_graph.proofs.Pointers.{ptr_same}
 use Rattle.irtext_graph.proofs.Rank.{no_cycle}
 use Rattle.irtext_grammar.specs.Grammar.Forest as forest
-use Rattle.irtext_grammar.specs.Grammar.Forest.{Regions, no_regions, region, Blocks, no_blocks, Operations, no_operations}
+use Rattle.irtext_grammar.specs.Grammar.Forest.{Regions, no_regions, region}
 use Rattle.irtext_grammar.specs.Contexts.Nested.{operations_by, blocks_by, regions_by, within}
 
 -- what stands under a pointer

@@ -1,14 +1,11 @@
 -- Each turn of the loop that prints is one equation of what is left to be written.
-use Rattle.std.proofs.Common.{◌≡◌, ℕ, zero, suc, ◌+◌, List, [], ◌∷◌, ◌++◌, Option, Some, None, Bool, true, false, arith, refl, ap, sym, subst, ◌∙◌, append_assoc, append-nil}
-use Rattle.std.specs.Prelude.{cond, ⊤, codes}
+use Rattle.std.proofs.Common.{◌≡◌, ℕ, ◌+◌, List, [], ◌∷◌, ◌++◌, arith, ap, ◌∙◌, append_assoc}
+use Rattle.std.specs.Prelude.{⊤}
 use Rattle.irtext_base.specs.Text.{Text}
 use Rattle.irtext_base.specs.Own.{Language}
-use Rattle.irtext_grammar.specs.Grammar.Forest.{Regions, no_regions, region, Blocks, no_blocks, block, Operations, no_operations, operation}
 use Rattle.irtext_grammar.specs.Grammar.Tree as tree
-use Rattle.irtext_grammar.specs.Grammar.Tree.{Part, shown, elided}
-use Rattle.irtext_grammar.specs.Graphs.Graph.{GraphOp, GraphBlock, Printing, Limit, is_elided, inside, op_outlined, block_outlined, own_marks, mark_at, marks_in_regions, marks_in_blocks, marks_in_operations, tree_regions, tree_blocks, tree_operations, tree_head, tree_op}
-use Rattle.irtext_grammar.specs.Spelling.Spell.{newline, joined, joined_from, parts, mark_if, region_texts, block_texts, operation_texts, block_text, operation_text, region_text, space, piece}
-use Rattle.irtext_print_ops.specs.Opened.{Open, an_operation, a_region, a_block, joined_on, covers, mark_count, marks, open_marks, mark_text, rest, open_rest, Turns}
+use Rattle.irtext_grammar.specs.Graphs.Graph.{Printing}
+use Rattle.irtext_print_ops.specs.Opened.{Open, marks, open_marks, rest, open_rest, Turns}
 
 module _ {T A : Type 0} (C : Printing T A) (L : Language ⊤ T A) (width : ℕ) where
   marks_pushed : (gs : List (Open T A)) (f : Open T A) → open_marks C (gs ++ f ∷ []) ≡ open_marks C gs + marks C f

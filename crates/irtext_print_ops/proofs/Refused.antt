@@ -18,7 +18,7 @@ use Rattle.irtext_graph.specs.Parts.{regions, blocks, operations_in}
 use Rattle.irtext_grammar.specs.Contexts.Formats.{isolated}
 use Rattle.irtext_grammar.specs.Contexts.Nested.{operations_by, blocks_by, regions_by, seen_regions, seen_blocks, seen_operations, seen_operation, seen_block}
 use Rattle.irtext_grammar.specs.Grammar.Forest as forest
-use Rattle.irtext_grammar.specs.Grammar.Forest.{Regions, regions_list}
+use Rattle.irtext_grammar.specs.Grammar.Forest.{regions_list}
 use Rattle.irtext_grammar.specs.Graphs.Closed.{FitsFormat, FitsOp}
 use Rattle.irtext_grammar.specs.Graphs.Graph.{Printing, is_elided}
 use Rattle.irtext_print.specs.Printers.PrintedOperation.{levels}

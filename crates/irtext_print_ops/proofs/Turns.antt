@@ -1,15 +1,15 @@
 -- What each turn writes: of an operation a piece, a region or its mark; of a region a block's head or the brace behind the last; of a block an
 -- operation's results and id.
-use Rattle.std.proofs.Common.{◌≡◌, ℕ, zero, suc, ◌+◌, List, [], ◌∷◌, ◌++◌, Option, Some, None, Bool, true, false, arith, refl, ap, sym, subst, ◌∙◌, append_assoc, append-nil}
+use Rattle.std.proofs.Common.{◌≡◌, ℕ, ◌+◌, List, [], ◌∷◌, ◌++◌, Option, Some, None, Bool, true, false, arith, refl, ap, sym, ◌∙◌, append_assoc, append-nil}
 use Rattle.std.specs.Prelude.{cond, ⊤, codes, map}
 use Rattle.irtext_base.specs.Text.{Text}
 use Rattle.irtext_base.specs.Own.{Language}
 use Rattle.irtext_grammar.specs.Grammar.Forest.{Regions, no_regions, region, Blocks, no_blocks, block, Operations, no_operations, operation}
 use Rattle.irtext_grammar.specs.Grammar.Tree as tree
 use Rattle.irtext_grammar.specs.Grammar.Tree.{Part, Piece, Body, Op, shown, elided}
-use Rattle.irtext_grammar.specs.Graphs.Graph.{GraphOp, GraphBlock, Printing, Limit, is_elided, inside, op_outlined, block_outlined, own_marks, mark_at, marks_in_regions, marks_in_blocks, marks_in_operations, tree_regions, tree_blocks, tree_operations, tree_head, tree_op, body_of}
+use Rattle.irtext_grammar.specs.Graphs.Graph.{GraphOp, GraphBlock, Printing, Limit, is_elided, inside, op_outlined, block_outlined, own_marks, marks_in_regions, marks_in_blocks, marks_in_operations, tree_regions, tree_blocks, tree_operations, tree_head, tree_op, body_of}
 use Rattle.irtext_grammar.specs.Spelling.Spell.{newline, joined, joined_from, comma, label, argument, dictionary, dictionary_if, results, id, body, concrete, parts, mark_if, region_texts, block_texts, operation_texts, block_text, operation_text, region_text, space, piece}
-use Rattle.irtext_print_ops.specs.Opened.{Open, an_operation, a_region, a_block, joined_on, covers, mark_count, marks, open_marks, mark_text, rest, open_rest, Turns, opening, closing, between_blocks, between_operations, unless_first, block_front, body_front, operation_front, opened}
+use Rattle.irtext_print_ops.specs.Opened.{Open, an_operation, a_region, a_block, joined_on, covers, mark_count, marks, mark_text, rest, open_rest, Turns, opening, closing, between_blocks, between_operations, unless_first, block_front, body_front, operation_front, opened}
 use Rattle.irtext_print_ops.proofs.Opens.{alone}
 
 module _ {T A : Type 0} (C : Printing T A) (L : Language ⊤ T A) (width : ℕ) where

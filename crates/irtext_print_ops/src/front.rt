@@ -6,15 +6,15 @@ ghost use Rattle.irtext_print.specs.Printers.Appended.{AppendsText};
 ghost use Rattle.irtext_print.specs.declared.printable.refusal.Refusal.TheVariants as refusal;
 ghost use Rattle.irtext_print_ops.specs.Heads as heads;
 
+use crate::canonical::fmt_canonical_front;
+use crate::fits::fitting_directives;
+use crate::pieces::fmt_piece;
+use crate::results::fmt_results;
 use irtext_base::format::Directive;
 use irtext_base::text::{AttrText, IrText};
 use irtext_context::base::{Context, Operation, OperationAccess, Ptr};
 use irtext_print::ir::print::concrete::fmt_id;
 use irtext_print::printable::Refusal;
-use crate::canonical::fmt_canonical_front;
-use crate::fits::fitting_directives;
-use crate::pieces::fmt_piece;
-use crate::results::fmt_results;
 
 /// Appends the names of an operation's results and its id, and all that stands in front of its regions if it is written as any operation
 /// can be.

@@ -11,9 +11,9 @@ ghost use Rattle.irtext_grammar.specs.UniqueNames.{given_name};
 use irtext_base::base::Identifier;
 use irtext_base::text::{AttrText, IrText};
 use irtext_context::base::{BasicBlock, BlockAccess, Context, Ptr, Value};
+use irtext_grammar::name::given_name;
 use irtext_graph::held::HasGraph;
 use irtext_print::printable::numbers::fmt_number;
-use irtext_grammar::name::given_name;
 use std::fmt;
 
 /// What printing finds in a context by a value's number is that value's, as this contract says of a call that does nothing: the name

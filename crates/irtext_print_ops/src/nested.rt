@@ -8,12 +8,12 @@ ghost use Rattle.irtext_print.specs.Printers.Appended.{AppendsText};
 ghost use Rattle.irtext_print.specs.declared.printable.refusal.Refusal.TheVariants as refusal;
 ghost use Rattle.irtext_print_ops.specs.Heads as heads;
 
+use crate::blocks::{print_block_inside, print_region_inside};
+use crate::walk::{print_inside, print_mark};
 use crate::writers::Heads;
 use irtext_base::text::{AttrText, IrText};
 use irtext_context::base::{BasicBlock, Context, Item, Operation, Ptr, Region};
 use irtext_print::printable::{Refusal, State};
-use crate::blocks::{print_block_inside, print_region_inside};
-use crate::walk::{print_inside, print_mark};
 
 /// Appends the text of an operation with all that nests in it, at the state's indentation and under its limit; and behind it its mark,
 /// if `marked`. What is marked is added to `items`, in the order of the marks, and a mark counts those before it. What was written and

@@ -1,12 +1,12 @@
 //! Who writes an operation's own and a block's head for the walk.
+use crate::block_heads::fmt_block_head;
 use crate::front::{begin_front, fmt_known_piece};
+use crate::heads::WritesHeads;
 use crate::marks::{is_block_marked, is_operation_marked};
 use irtext_base::format::Directive;
 use irtext_base::text::{AttrText, IrText};
 use irtext_context::base::{BasicBlock, Context, Operation, Ptr};
 use irtext_print::printable::Refusal;
-use crate::block_heads::fmt_block_head;
-use crate::heads::WritesHeads;
 
 /// What writes the heads of all operations and blocks, by the formats of their context.
 pub struct Heads;

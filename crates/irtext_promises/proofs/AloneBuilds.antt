@@ -1,9 +1,9 @@
 -- What stands in a region that was read alone is what its blocks build: names, graph and structure stand where the machine of names and the
 -- reading came to, and nothing is open any more.
-use Rattle.std.proofs.Common.{◌≡◌, ◌∙◌, ◌⊎◌, ℕ, Bool, true, List, [], ◌∷◌, ◌++◌, Option, Some, None, append-nil, refl, sym, ap, subst, inl, inr}
+use Rattle.std.proofs.Common.{◌≡◌, ◌∙◌, ◌⊎◌, ℕ, Bool, true, List, [], ◌∷◌, Option, Some, None, append-nil, refl, sym, ap, subst, inl, inr}
 use Rattle.std.specs.Prelude.{⊤}
 use Rattle.irtext_base.specs.Format as format
-use Rattle.irtext_base.specs.Format.{same_text, Id}
+use Rattle.irtext_base.specs.Format.{Id}
 use Rattle.irtext_base.specs.Paths.{Written}
 use Rattle.irtext_base.specs.declared.location.Location.{Location}
 use Rattle.irtext_context.specs.Context.{ContextView}
@@ -24,8 +24,8 @@ use Rattle.irtext_grammar.specs.Grammar.Forest as forest
 use Rattle.irtext_grammar.specs.Grammar.Forest.{Regions, no_regions, Blocks, AllRegions}
 use Rattle.irtext_grammar.specs.Grammar.Tree as tree
 use Rattle.irtext_grammar.specs.Grammar.Tree.{Op, Head, Brace, Tree, custom, shown}
-use Rattle.irtext_grammar.specs.Graphs.Build.{BuiltOp, build, built_regions}
-use Rattle.irtext_grammar.specs.Graphs.Links.{OpLinked, Linked, op_links, region_links, links}
+use Rattle.irtext_grammar.specs.Graphs.Build.{build, built_regions}
+use Rattle.irtext_grammar.specs.Graphs.Links.{OpLinked, Linked, op_links, region_links}
 use Rattle.irtext_grammar.specs.Names.Acts.{tree_script, blocks_script}
 use Rattle.irtext_grammar.specs.Names.History as history
 use Rattle.irtext_grammar.specs.Names.History.{State, going, run, events}
@@ -47,7 +47,7 @@ use Rattle.irtext_names.specs.Linked.{Known, StandsAt}
 use Rattle.irtext_names.specs.OfItems.{AreOf}
 use Rattle.irtext_names.proofs.Linked.Passes.{ran_through}
 use Rattle.irtext_promises.specs.Alone.{pointers_in, held_region}
-use Rattle.irtext_promises.specs.Held.{placed_regions, held_regions}
+use Rattle.irtext_promises.specs.Held.{placed_regions}
 use Rattle.irtext_promises.specs.Placed.{RegionsAre}
 use Rattle.irtext_promises.proofs.Depths.{region_is}
 use Rattle.irtext_promises.proofs.Equal.{Keeps, regions_same}

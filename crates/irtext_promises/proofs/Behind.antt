@@ -1,18 +1,16 @@
 -- Behind a tree that was read no scope is open, so no placeholder is left; and a location that is a place of the text is told over any
 -- paths.
-use Rattle.std.proofs.Common.{◌≡◌, ◌∙◌, ◌-◌, ℕ, zero, suc, List, [], ◌∷◌, length, take, Option, Some, None, refl, sym, ap, subst}
+use Rattle.std.proofs.Common.{◌≡◌, ◌∙◌, ◌-◌, ℕ, zero, suc, List, [], ◌∷◌, length, take, Option, Some, refl, ap, subst}
 use Rattle.irtext_base.specs.Text.{Text}
-use Rattle.irtext_base.specs.Paths.{Written, written_with}
+use Rattle.irtext_base.specs.Paths.{written_with}
 use Rattle.irtext_base.specs.declared.location.Location.{Location, SrcPos}
 use Rattle.irtext_base.specs.declared.location.Source.{Source}
 use Rattle.irtext_base.proofs.LocationViews.{seen-src_pos}
-use Rattle.irtext_context.specs.Context.{ContextView}
 use Rattle.irtext_graph.specs.declared.arena.Ptr.{Ptr}
 use Rattle.irtext_graph.specs.declared.object.BasicBlock.{BasicBlock}
 use Rattle.irtext_graph.specs.declared.object.Defined.{Defined}
 use Rattle.irtext_graph.specs.declared.object.Defined.TheVariants.{OfValue, OfBlock}
 use Rattle.irtext_graph.specs.declared.object.Value.{Value}
-use Rattle.irtext_graph.specs.Chained.{Among}
 use Rattle.irtext_graph.specs.Graph.{GraphView}
 use Rattle.irtext_grammar.specs.Contexts.Held.{location_over}
 use Rattle.irtext_grammar.specs.Names.History.{State}

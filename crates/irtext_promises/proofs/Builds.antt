@@ -1,15 +1,14 @@
 -- What stands under the pointer of a tree that was read is what the tree builds, with no section: names, graph and structure stand where
 -- the machine of names and the reading came to, and nothing is open any more.
-use Rattle.std.proofs.Common.{◌≡◌, ◌∙◌, ◌⊎◌, ℕ, Bool, List, [], ◌∷◌, ◌++◌, Option, Some, None, option_map, refl, sym, ap, subst, inl, inr}
-use Rattle.irtext_base.specs.Format.{same_text, Id}
+use Rattle.std.proofs.Common.{◌≡◌, ℕ, Bool, List, [], ◌∷◌, Some, sym, subst, inl, inr}
+use Rattle.irtext_base.specs.Format.{Id}
 use Rattle.irtext_base.specs.Paths.{Written}
 use Rattle.irtext_base.specs.declared.location.Location.{Location}
-use Rattle.irtext_context.specs.Context.{ContextView, operation}
+use Rattle.irtext_context.specs.Context.{ContextView}
 use Rattle.irtext_graph.specs.declared.arena.Ptr.{Ptr}
 use Rattle.irtext_graph.specs.declared.object.Operation.{Operation}
 use Rattle.irtext_graph.specs.declared.object.BasicBlock.{BasicBlock}
 use Rattle.irtext_graph.specs.declared.object.Object.{Object}
-use Rattle.irtext_graph.specs.declared.object.Object.TheVariants.{TheOperation}
 use Rattle.irtext_graph.specs.declared.object.Value.{Value}
 use Rattle.irtext_graph.specs.Chained.{Among}
 use Rattle.irtext_graph.specs.Nested.{Nested}
@@ -20,9 +19,9 @@ use Rattle.irtext_grammar.specs.Grammar.Section.{Entry}
 use Rattle.irtext_grammar.specs.Grammar.Tree.{Tree}
 use Rattle.irtext_grammar.specs.Graphs.Build.{build}
 use Rattle.irtext_grammar.specs.Graphs.Links.{Linked, links}
-use Rattle.irtext_grammar.specs.Names.Acts.{tree_script, root_script}
+use Rattle.irtext_grammar.specs.Names.Acts.{tree_script}
 use Rattle.irtext_grammar.specs.Names.History as history
-use Rattle.irtext_grammar.specs.Names.History.{State, going, run, events, after}
+use Rattle.irtext_grammar.specs.Names.History.{State, going, run, events}
 use Rattle.irtext_grammar.specs.Names.Placeholders.{In}
 use Rattle.irtext_grammar.specs.Names.Scopes.{no_scope, bound}
 use Rattle.irtext_grammar.specs.Names.Script.{Path, Place, User, operand, successor, done}

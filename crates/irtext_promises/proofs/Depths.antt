@@ -5,8 +5,7 @@ use Rattle.std.specs.Prelude.{option_and_then, ⊤}
 use Rattle.std.specs.List.{IsDistinct, list_any, AllByRecursion}
 use Rattle.std.proofs.lemmas.Map.Steps.{length-le_from_distinct_below}
 use Rattle.irtext_base.specs.declared.location.Location.{Location}
-use Rattle.irtext_context.specs.Context.{ContextView, OperationView, BlockView, RegionView, operation, operation_of, view_of, block, block_of, block_view, region, region_of}
-use Rattle.irtext_context.specs.declared.base.block.BlockData.{BlockData}
+use Rattle.irtext_context.specs.Context.{ContextView, OperationView, BlockView, RegionView, operation, operation_of, view_of, block, block_of, region, region_of}
 use Rattle.irtext_context.specs.declared.base.operation.OperationData.{OperationData}
 use Rattle.irtext_context.proofs.Contexts.{OperationEntry, BlockEntry}
 use Rattle.irtext_graph.specs.declared.arena.Entry.{Entry}
@@ -15,10 +14,10 @@ use Rattle.irtext_graph.specs.declared.object.Operation.{Operation}
 use Rattle.irtext_graph.specs.declared.object.BasicBlock.{BasicBlock}
 use Rattle.irtext_graph.specs.declared.object.Region.{Region}
 use Rattle.irtext_graph.specs.declared.object.Object.{Object}
-use Rattle.irtext_graph.specs.declared.object.Object.TheVariants.{TheOperation, TheBlock, TheRegion}
+use Rattle.irtext_graph.specs.declared.object.Object.TheVariants.{TheOperation, TheBlock}
 use Rattle.irtext_graph.specs.Chained.{Among}
 use Rattle.irtext_graph.specs.Content.{Node, Typed, RegionContent}
-use Rattle.irtext_graph.specs.Graph.{GraphView, children_of}
+use Rattle.irtext_graph.specs.Graph.{children_of}
 use Rattle.irtext_graph.specs.Parts.{regions, blocks, operations_in}
 use Rattle.irtext_graph.specs.Store.{Store, Cell, object_in, get}
 use Rattle.irtext_graph.proofs.Nests.{some_eq}
@@ -34,8 +33,8 @@ use Rattle.irtext_nesting.specs.Naming.{paths_in_regions, paths_in_blocks, paths
 use Rattle.irtext_nesting.specs.Stands.{own_of, HasOwn, HasHead, RegionsHold, BlocksHold, OperationsHold}
 use Rattle.irtext_nesting.specs.Tracks.{Made, noted}
 use Rattle.irtext_promises.specs.Alone.{pointers_in}
-use Rattle.irtext_promises.specs.Held.{PtrRegions, PtrBlocks, PtrOperations}
-use Rattle.irtext_promises.specs.Placed.{region_ptrs, block_ptrs, operation_ptrs, OperationAt, BlockAt, RegionAt, RegionsAre, BlocksAre, OperationsAre, RootIs}
+use Rattle.irtext_promises.specs.Held.{PtrRegions}
+use Rattle.irtext_promises.specs.Placed.{region_ptrs, block_ptrs, operation_ptrs, RegionsAre, BlocksAre, OperationsAre, RootIs}
 
 -- ---- pointers that find something have places of their own
 there_low : {X : Type 0} (xs : List X) (i : ℕ) → IsSome (slice_get xs i) → i < length xs

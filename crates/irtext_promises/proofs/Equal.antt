@@ -1,20 +1,17 @@
 -- Where a forest of pointers is that of a tree, and each use of the tree's links is what its place in the graph names, what is held there
 -- is what the tree builds with the entries of its section.
-use Rattle.std.proofs.Common.{◌≡◌, ◌∙◌, ◌+◌, ℕ, zero, suc, Bool, true, false, cond, ◌&&◌, List, [], ◌∷◌, ◌++◌, length, map, Option, Some, None, option_map, is_some, slice_get, refl, sym, ap, ap₂, subst, inl, inr, arith}
-use Rattle.std.specs.Prelude.{⊤, unwrap_or, option_and_then}
+use Rattle.std.proofs.Common.{◌≡◌, ◌∙◌, ◌+◌, ℕ, zero, suc, Bool, true, cond, List, [], ◌∷◌, ◌++◌, length, map, Option, Some, None, option_map, is_some, slice_get, refl, sym, ap, ap₂, subst, inl, inr, arith}
+use Rattle.std.specs.Prelude.{⊤}
 use Rattle.std.specs.List.{list_all}
-use Rattle.irtext_base.specs.Text.{Text}
 use Rattle.irtext_base.specs.Format.{same_text, Id}
-use Rattle.irtext_base.specs.Faults.{id_of}
 use Rattle.irtext_base.specs.Paths.{Written}
-use Rattle.irtext_base.specs.declared.location.Location.{Location}
-use Rattle.irtext_context.specs.Context.{ContextView, OperationView, BlockView, known, operation, block}
+use Rattle.irtext_context.specs.Context.{ContextView, known, operation, block}
 use Rattle.irtext_graph.specs.declared.arena.Ptr.{Ptr}
 use Rattle.irtext_graph.specs.declared.object.Operation.{Operation}
 use Rattle.irtext_graph.specs.declared.object.BasicBlock.{BasicBlock}
 use Rattle.irtext_graph.specs.declared.object.Region.{Region}
 use Rattle.irtext_graph.specs.declared.object.Object.{Object}
-use Rattle.irtext_graph.specs.declared.object.Object.TheVariants.{TheOperation, TheBlock, TheRegion}
+use Rattle.irtext_graph.specs.declared.object.Object.TheVariants.{TheOperation}
 use Rattle.irtext_graph.specs.declared.object.Value.{Value}
 use Rattle.irtext_graph.specs.declared.object.Defined.{Defined}
 use Rattle.irtext_graph.specs.declared.object.Defined.TheVariants.{OfValue, OfBlock}
@@ -23,12 +20,12 @@ use Rattle.irtext_graph.specs.Chained.{Among}
 use Rattle.irtext_graph.specs.Parts.{operands, successors}
 use Rattle.irtext_graph.specs.Used.{used_at}
 use Rattle.irtext_graph.proofs.Preorders.{among_left, among_right}
-use Rattle.irtext_grammar.specs.Contexts.Held.{location_over, entries_of, known_types}
+use Rattle.irtext_grammar.specs.Contexts.Held.{known_types}
 use Rattle.irtext_grammar.specs.Grammar.Forest as forest
 use Rattle.irtext_grammar.specs.Grammar.Forest.{Regions, no_regions, Blocks, no_blocks, Operations, no_operations, Root, AllRegions, AllBlocks, AllOperations}
-use Rattle.irtext_grammar.specs.Grammar.Tree.{Attribute, Mark, Op, Head, Brace, Tree, operand_names, successor_labels}
+use Rattle.irtext_grammar.specs.Grammar.Tree.{Op, Head, Brace, Tree, operand_names, successor_labels}
 use Rattle.irtext_grammar.specs.Grammar.Section.{Entry}
-use Rattle.irtext_grammar.specs.Graphs.Build.{Built, BuiltOp, BuiltBlock, content, content_in, located, labelled, but_label, with_content, put_all, built_op, built_head, built_regions, built_blocks, built_operations, build}
+use Rattle.irtext_grammar.specs.Graphs.Build.{built_op, built_head, built_regions, built_blocks, built_operations, build}
 use Rattle.irtext_grammar.specs.Graphs.Links.{OpLinked, Linked, links_from, op_links, region_links, block_links, operation_links, links}
 use Rattle.irtext_grammar.specs.Names.Acts.{blocks_script}
 use Rattle.irtext_grammar.specs.Names.Placeholders.{In}
@@ -36,8 +33,7 @@ use Rattle.irtext_grammar.specs.Names.Scopes.{link, facts, lookup}
 use Rattle.irtext_grammar.specs.Names.Script.{Path, Place, User, operand, successor}
 use Rattle.irtext_grammar.specs.Names.TextScopes.{Fact}
 use Rattle.irtext_grammar.proofs.Lists.Sets.{in_left, in_right}
-use Rattle.irtext_nesting.specs.Stands.{own_of, head_entries}
-use Rattle.irtext_nesting.specs.Tracks.{Made}
+use Rattle.irtext_nesting.specs.Stands.{own_of}
 use Rattle.irtext_promises.specs.Held.{PtrRegions, PtrBlocks, PtrOperations, placed_regions, placed_blocks, placed_operations, placed_under, value_place, block_place, defined_place, held_op, held_head, held_regions, held_blocks, held_operations}
 use Rattle.irtext_promises.specs.Given.{OperationHas, BlockHas, RegionsHave, BlocksHave, OperationsHave, RootHas}
 

@@ -1,22 +1,22 @@
 -- A forest of pointers that is that of a tree has what the tree gives its items, with no section; and with one, where each item came to
 -- have what the entry of its mark gives it.
-use Rattle.std.proofs.Common.{◌≡◌, ◌∙◌, ℕ, List, [], ◌∷◌, Option, Some, None, refl, sym, ap, subst}
+use Rattle.std.proofs.Common.{◌≡◌, ◌∙◌, ℕ, List, [], Option, Some, None, refl, sym, ap}
 use Rattle.std.specs.Prelude.{is_some, unwrap_or}
 use Rattle.irtext_base.specs.Text.{Text}
 use Rattle.irtext_base.specs.Paths.{Written}
 use Rattle.irtext_base.specs.declared.location.Location.{Location}
-use Rattle.irtext_context.specs.Context.{ContextView, OperationView, BlockView, operation, block}
+use Rattle.irtext_context.specs.Context.{ContextView, operation, block}
 use Rattle.irtext_graph.specs.declared.arena.Ptr.{Ptr}
 use Rattle.irtext_graph.specs.declared.object.Operation.{Operation}
 use Rattle.irtext_graph.specs.declared.object.BasicBlock.{BasicBlock}
 use Rattle.irtext_graph.specs.declared.object.Region.{Region}
-use Rattle.irtext_grammar.specs.Contexts.Held.{location_over, entries_of}
+use Rattle.irtext_grammar.specs.Contexts.Held.{location_over}
 use Rattle.irtext_grammar.specs.Grammar.Forest as forest
 use Rattle.irtext_grammar.specs.Grammar.Forest.{Regions, no_regions, Blocks, no_blocks, Operations, no_operations, Root}
 use Rattle.irtext_grammar.specs.Grammar.Section.{Entry}
 use Rattle.irtext_grammar.specs.Grammar.Tree.{Mark, Op, Head, Brace, Tree}
 use Rattle.irtext_grammar.specs.Graphs.Build.{content, located, labelled, but_label, with_content}
-use Rattle.irtext_nesting.specs.Stands.{own_of, head_entries, HasUses}
+use Rattle.irtext_nesting.specs.Stands.{own_of, head_entries}
 use Rattle.irtext_nesting.specs.Tracks.{Made}
 use Rattle.irtext_promises.specs.Given.{OperationHas, BlockHas, RegionsHave, BlocksHave, OperationsHave, RootHas}
 use Rattle.irtext_promises.specs.Held.{PtrRegions, PtrBlocks, PtrOperations}

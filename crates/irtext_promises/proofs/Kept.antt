@@ -1,5 +1,5 @@
 -- The promise of an operation that was read with all that nests in it, with no section, from what its reader leaves.
-use Rattle.std.proofs.Common.{◌≡◌, ◌∙◌, ℕ, true, List, [], Option, Some, None, refl, sym, ap, subst}
+use Rattle.std.proofs.Common.{◌≡◌, ◌∙◌, ℕ, List, [], Option, Some, None, sym, ap, subst}
 use Rattle.std.specs.Prelude.{IfSome}
 use Rattle.irtext_base.specs.Text.{Text}
 use Rattle.irtext_base.specs.Format.{Format, Id, Accepted}
@@ -29,7 +29,7 @@ use Rattle.irtext_outcomes.specs.Promises.Section.{Moves, indices_of}
 use Rattle.irtext_outcomes.proofs.Joins.Answers.{Splits}
 use Rattle.irtext_nesting.specs.Exact.{NeedsWord}
 use Rattle.irtext_nesting.specs.Naming.{naming, Names}
-use Rattle.irtext_nesting.specs.Reached.{Reached, Came, operation_at}
+use Rattle.irtext_nesting.specs.Reached.{Came}
 use Rattle.irtext_nesting.proofs.Knot.Whole as knot
 use Rattle.irtext_nesting.proofs.Naming.Places.{names_exist}
 use Rattle.irtext_nesting.proofs.Naming.Scripts.{read_runs}

@@ -1,6 +1,6 @@
 -- Where a forest of pointers is that of a tree, each item stands at its path, and what a reading has made stands for the places that
 -- pointers show.
-use Rattle.std.proofs.Common.{◌≡◌, ◌∙◌, ◌⊎◌, ℕ, suc, List, [], ◌∷◌, ◌++◌, Option, Some, None, option_map, refl, sym, ap, subst, inl, inr}
+use Rattle.std.proofs.Common.{◌≡◌, ◌∙◌, ℕ, suc, List, [], ◌∷◌, ◌++◌, Option, Some, option_map, sym, ap, subst, inl, inr}
 use Rattle.std.specs.Prelude.{⊤}
 use Rattle.irtext_base.specs.declared.location.Location.{Location}
 use Rattle.irtext_context.specs.Context.{ContextView}
@@ -30,7 +30,7 @@ use Rattle.irtext_scopes.specs.declared.tracker.NameTracker.{NameTracker}
 use Rattle.irtext_nesting.specs.Naming.{paths_in_regions, paths_in_blocks, paths_in_operations, Names}
 use Rattle.irtext_nesting.specs.Tracks.{Made}
 use Rattle.irtext_names.specs.Linked.{Known, StandsAt, Became, Holds}
-use Rattle.irtext_names.specs.OfItems.{IsValueOf, IsBlockOf, IsSiteOf, AreOf}
+use Rattle.irtext_names.specs.OfItems.{IsSiteOf, AreOf}
 use Rattle.irtext_names.proofs.Linked.Moving.{among_split}
 use Rattle.irtext_promises.specs.Held.{PtrRegions, PtrBlocks, PtrOperations, placed_regions, placed_blocks, placed_operations, placed_under, path_of, value_place, block_place, defined_place}
 use Rattle.irtext_promises.specs.Placed.{RegionsAre, BlocksAre, OperationsAre, RootIs}

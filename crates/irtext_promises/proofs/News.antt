@@ -2,7 +2,7 @@
 use Rattle.std.proofs.Common.{◌≡◌, ◌∙◌, ◌⊎◌, ℕ, zero, suc, Bool, true, false, cond, ◌&&◌, List, [], ◌∷◌, ◌++◌, map, Option, Some, None, IsSome, option_map, is_some, slice_get, refl, sym, ap, subst, inl, inr}
 use Rattle.std.specs.Prelude.{option_and_then, ⊤}
 use Rattle.std.specs.List.{list_all}
-use Rattle.irtext_base.specs.Paths.{Written, KeepsPaths}
+use Rattle.irtext_base.specs.Paths.{Written}
 use Rattle.irtext_base.specs.declared.location.Location.{Location}
 use Rattle.irtext_context.specs.Context.{ContextView, OperationView, operation, operation_of, view_of, block, block_of, region, region_of, KeepsOlder}
 use Rattle.irtext_context.specs.declared.base.operation.OperationData.{OperationData}
@@ -25,10 +25,10 @@ use Rattle.irtext_graph.specs.Chained.{Among}
 use Rattle.irtext_graph.specs.Content.{Node, OperationContent}
 use Rattle.irtext_graph.specs.declared.arena.Entry.{Entry}
 use Rattle.irtext_graph.specs.Erasing.{owner}
-use Rattle.irtext_graph.specs.Graph.{GraphView, children, parent, parent_of, content_of, Appends, Stands, IsInside, IsNew}
+use Rattle.irtext_graph.specs.Graph.{children, parent, parent_of, content_of, Appends, Stands, IsInside, IsNew}
 use Rattle.irtext_graph.specs.Nested.{climb, Nested}
 use Rattle.irtext_graph.specs.Objects.{eq_object}
-use Rattle.irtext_graph.specs.Parts.{operands, successors, operands_of, successors_of, results_of, arguments_of, operation_at, block_at, ValueStands}
+use Rattle.irtext_graph.specs.Parts.{operands, successors, operands_of, successors_of, results_of, arguments_of, operation_at, block_at}
 use Rattle.irtext_graph.specs.Store.{get}
 use Rattle.irtext_graph.specs.Used.{IsDefined, IsUse, used_at, user}
 use Rattle.irtext_graph.proofs.Frames.{operation_content_same}
@@ -36,19 +36,18 @@ use Rattle.irtext_graph.proofs.Nests.{some_eq, told}
 use Rattle.irtext_graph.proofs.Same.{object_tells}
 use Rattle.irtext_grammar.specs.Contexts.Nested.{pointers}
 use Rattle.irtext_grammar.specs.Grammar.Forest as forest
-use Rattle.irtext_grammar.specs.Grammar.Forest.{Regions, no_regions, Blocks, no_blocks, Operations, no_operations, Root, AllRegions, AllBlocks, AllOperations}
+use Rattle.irtext_grammar.specs.Grammar.Forest.{Regions, no_regions, Blocks, no_blocks, Operations, no_operations, AllRegions, AllBlocks, AllOperations}
 use Rattle.irtext_grammar.specs.Grammar.Tree.{Op, Head, Brace, Tree}
-use Rattle.irtext_grammar.specs.Graphs.Build.{Built, build}
+use Rattle.irtext_grammar.specs.Graphs.Build.{Built}
 use Rattle.irtext_grammar.specs.Graphs.Links.{OpLinked, Linked}
-use Rattle.irtext_grammar.specs.Names.Script.{Path, Place, result, argument}
+use Rattle.irtext_grammar.specs.Names.Script.{Path, result, argument}
 use Rattle.irtext_grammar.specs.Names.Script.{block_at as block_at_path}
 use Rattle.irtext_nesting.specs.Naming.{Names}
-use Rattle.irtext_names.specs.Placeholders.{IsBlank}
 use Rattle.irtext_names.specs.Tied.{NoneIsLeft}
 use Rattle.irtext_names.proofs.Linked.Moving.{among_split}
 use Rattle.irtext_nesting.specs.Building.{finished}
-use Rattle.irtext_nesting.specs.Stands.{IsThere, HoldsSoFar}
-use Rattle.irtext_nesting.specs.Tracks.{Made, HasChild, Tracks, HoldsMade}
+use Rattle.irtext_nesting.specs.Stands.{IsThere}
+use Rattle.irtext_nesting.specs.Tracks.{Made, HasChild, HoldsMade}
 use Rattle.irtext_promises.specs.Alone.{pointers_in, held_region}
 use Rattle.irtext_promises.specs.Held.{PtrRegions, PtrBlocks, PtrOperations, placed_regions, placed_blocks, placed_operations, placed_under, path_of, value_place, block_place, held_op, held_head, held_regions, held_blocks, held_operations, held_root}
 use Rattle.irtext_promises.specs.OnlyNew.{OnlyNew, BlanksDefine}

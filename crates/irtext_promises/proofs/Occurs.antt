@@ -1,5 +1,5 @@
 -- Whatever is whole stands under the root, where nothing is open any more: its way upwards ends, and leads through what is whole.
-use Rattle.std.proofs.Common.{◌≡◌, ◌∙◌, ◌⊎◌, ℕ, zero, suc, List, [], ◌∷◌, ◌++◌, map, Option, Some, None, option_map, slice_get, refl, sym, ap, subst, inl, inr}
+use Rattle.std.proofs.Common.{◌≡◌, ◌⊎◌, ℕ, zero, suc, List, [], ◌∷◌, ◌++◌, map, Option, Some, None, slice_get, refl, sym, ap, subst, inl, inr}
 use Rattle.irtext_base.specs.declared.location.Location.{Location}
 use Rattle.irtext_context.specs.Context.{ContextView, OperationView, BlockView, RegionView, operation, block, region, regions_in}
 use Rattle.irtext_graph.specs.declared.arena.Ptr.{Ptr}
@@ -20,7 +20,7 @@ use Rattle.irtext_grammar.specs.Grammar.Forest.{Regions, no_regions, Blocks, no_
 use Rattle.irtext_grammar.specs.Grammar.Tree.{Op, Head, Brace, Tree}
 use Rattle.irtext_grammar.specs.Names.Script.{Path}
 use Rattle.irtext_nesting.specs.Tracks as tracks
-use Rattle.irtext_nesting.specs.Tracks.{Made, blocks_in, HasChild, IsHeld, Tracks}
+use Rattle.irtext_nesting.specs.Tracks.{Made, blocks_in, HasChild, Tracks}
 use Rattle.irtext_names.proofs.Linked.Moving.{among_split}
 use Rattle.irtext_promises.specs.Alone.{pointers_in}
 use Rattle.irtext_promises.specs.Held.{PtrRegions, PtrBlocks, PtrOperations, placed_regions, placed_blocks, placed_operations, placed_under}

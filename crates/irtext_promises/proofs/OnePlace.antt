@@ -1,5 +1,5 @@
 -- Each object under an operation of a context stands there at one place, and what defines a value at a place is one.
-use Rattle.std.proofs.Common.{◌≡◌, ◌∙◌, ◌⊎◌, ◌+◌, ℕ, zero, suc, Bool, true, false, cond, List, [], ◌∷◌, ◌++◌, map, length, Option, Some, None, option_map, slice_get, refl, sym, ap, ap₂, subst, inl, inr, arith}
+use Rattle.std.proofs.Common.{◌≡◌, ◌∙◌, ◌⊎◌, ◌+◌, ℕ, zero, suc, Bool, true, false, cond, List, [], ◌∷◌, ◌++◌, length, Option, Some, None, option_map, slice_get, refl, sym, ap, ap₂, subst, inl, inr, arith}
 use Rattle.irtext_graph.specs.declared.arena.Ptr.{Ptr}
 use Rattle.irtext_graph.specs.declared.object.Operation.{Operation}
 use Rattle.irtext_graph.specs.declared.object.BasicBlock.{BasicBlock}
@@ -17,13 +17,12 @@ use Rattle.irtext_graph.proofs.Nests.{some_eq}
 use Rattle.irtext_graph.proofs.Preorders.{among_left, among_right}
 use Rattle.irtext_graph.proofs.Same.{object_tells}
 use Rattle.irtext_grammar.specs.Contexts.Nested.{operations_by, blocks_by, regions_by, within, pointers}
-use Rattle.irtext_grammar.specs.Grammar.Forest.{Root}
 use Rattle.irtext_grammar.specs.Names.Script.{Path, Place, result, argument, block_at}
 use Rattle.irtext_outcomes.proofs.Kin.{not_above}
 use Rattle.irtext_names.proofs.Linked.Moving.{among_split}
 use Rattle.irtext_promises.specs.Held.{PtrRegions, placed_regions, placed_blocks, placed_operations, placed_under, path_of, value_place, block_place}
 use Rattle.irtext_promises.proofs.Equal.{get_map}
-use Rattle.irtext_promises.proofs.Paths.{Once, once_under, path_found}
+use Rattle.irtext_promises.proofs.Paths.{once_under, path_found}
 
 head_same : (j k : ℕ) (p q : Path) → ◌≡◌ {A = Path} (j ∷ p) (k ∷ q) → j ≡ k
 head_same j k p q e = cc

@@ -1,13 +1,11 @@
 -- The promises of the two calls, put together.
-use Rattle.std.proofs.Common.{◌≡◌, ◌∙◌, ◌<◌, ℕ, Bool, true, refl, sym, ap, subst, arith, List, [], length, Some, None}
+use Rattle.std.proofs.Common.{◌≡◌, ◌∙◌, ℕ, Bool, true, refl, sym, ap, subst, arith, List, [], length, Some, None}
 use Rattle.std.proofs.lemmas.Str.{chars_from_encodes, length-le-encodes}
 use Rattle.std.specs.Str.{chars}
 use Rattle.irtext_base.specs.Answers.{Outcome}
 use Rattle.irtext_base.specs.Locations.{AttrView}
 use Rattle.irtext_base.specs.Own.{Texts, texts_of, Lawful, Unreserved, unplaced}
-use Rattle.irtext_base.specs.Paths.{Written}
 use Rattle.irtext_base.specs.Text.{Text}
-use Rattle.irtext_base.specs.declared.location.Source.{Source}
 use Rattle.irtext_base.specs.declared.parsable.fault.ParseFault.{ParseFault}
 use Rattle.irtext_context.specs.Context.{ContextView}
 use Rattle.irtext_graph.specs.declared.arena.Ptr.{Ptr}

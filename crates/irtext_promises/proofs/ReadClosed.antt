@@ -1,5 +1,5 @@
 -- A root that was read is closed where its operations fit their formats, and all that can have a name has one.
-use Rattle.std.proofs.Common.{◌≡◌, ◌∙◌, ℕ, Bool, List, [], Some, refl, sym, ap, subst}
+use Rattle.std.proofs.Common.{◌≡◌, ℕ, Bool, [], Some, refl, sym, subst}
 use Rattle.irtext_base.specs.Answers.{Outcome}
 use Rattle.irtext_base.specs.Format.{Id}
 use Rattle.irtext_base.specs.Own.{Language, Texts, texts_of, language}

@@ -1,6 +1,6 @@
 -- Where the readers refuse a text for a failure of names, it is the first failure of every tree that the text reads as, whatever section
 -- stands behind it; and where they are stuck at the text, no tree reads.
-use Rattle.std.proofs.Common.{◌≡◌, ◌∙◌, ℕ, true, List, [], ◌∷◌, Option, Some, None, refl, sym, ap, subst}
+use Rattle.std.proofs.Common.{◌≡◌, ◌∙◌, ℕ, List, [], ◌∷◌, refl, sym, ap, subst}
 use Rattle.irtext_base.specs.Text.{Text}
 use Rattle.irtext_base.specs.Answers.{Outcome}
 use Rattle.irtext_base.specs.Own.{texts_of}
@@ -18,12 +18,12 @@ use Rattle.irtext_grammar.specs.Names.Acts.{tree_script, section_acts, rule_of, 
 use Rattle.irtext_grammar.specs.Names.History as history
 use Rattle.irtext_grammar.specs.Names.History.{going, failed, start, run, events}
 use Rattle.irtext_grammar.specs.Names.Scopes.{no_scope}
-use Rattle.irtext_grammar.specs.Names.Script.{Failure, Path, does_all, done}
+use Rattle.irtext_grammar.specs.Names.Script.{Failure, does_all, done}
 use Rattle.irtext_grammar.specs.Names.TextScopes.{Script, failures}
 use Rattle.irtext_outcomes.proofs.Joins.Answers.{Splits}
 use Rattle.irtext_nesting.specs.Exact.{NeedsWord}
-use Rattle.irtext_nesting.specs.Naming.{naming, Names}
-use Rattle.irtext_nesting.specs.Reached.{Reached, Came, Stuck, operation_at, do_tree}
+use Rattle.irtext_nesting.specs.Naming.{naming}
+use Rattle.irtext_nesting.specs.Reached.{do_tree}
 use Rattle.irtext_nesting.specs.Resume.{EndsIn}
 use Rattle.irtext_nesting.proofs.Knot.Whole as knot
 use Rattle.irtext_nesting.proofs.Naming.Places.{names_exist}

@@ -1,5 +1,5 @@
 -- What is wrong with a root and its section, from what the readers of the operation and of the section leave or refuse.
-use Rattle.std.proofs.Common.{◌≡◌, ◌∙◌, ℕ, Bool, true, false, List, ◌∷◌, Option, None, refl, sym, ap, subst}
+use Rattle.std.proofs.Common.{◌≡◌, ◌∙◌, ℕ, List, sym, ap, subst}
 use Rattle.irtext_base.specs.Text.{Text}
 use Rattle.irtext_base.specs.Format.{Id}
 use Rattle.irtext_base.specs.Own.{texts_of}
@@ -20,22 +20,19 @@ use Rattle.irtext_grammar.specs.Grammar.Reads as grammar
 use Rattle.irtext_grammar.specs.Grammar.Section.{Entry}
 use Rattle.irtext_grammar.specs.Grammar.Tree.{Tree}
 use Rattle.irtext_grammar.specs.Names.Acts.{rule_of, failures_of}
-use Rattle.irtext_grammar.specs.Names.Scopes.{no_scope}
-use Rattle.irtext_grammar.specs.Names.Script.{Failure}
 use Rattle.irtext_grammar.proofs.Grammar.WholeTree as trees
 use Rattle.irtext_outcomes.specs.Promises.Section.{is_noted}
 use Rattle.irtext_outcomes.specs.Promises.Supported.{location_standing}
 use Rattle.irtext_outcomes.proofs.Joins.Answers.{Splits}
 use Rattle.irtext_nesting.specs.Exact.{NeedsWord}
-use Rattle.irtext_nesting.specs.Reached.{Came, operation_at}
+use Rattle.irtext_nesting.specs.Reached.{Came}
 use Rattle.irtext_nesting.proofs.Knot.Whole as knot
 use Rattle.irtext_nesting.proofs.Naming.Shorter.{Shortens}
-use Rattle.irtext_nesting.specs.Building.{Building, building, nothing_open, finished}
+use Rattle.irtext_nesting.specs.Building.{building, nothing_open, finished}
 use Rattle.irtext_nesting.proofs.Built.{tree_finished}
 use Rattle.irtext_nesting.proofs.Whole.{whole_read}
-use Rattle.irtext_promises.specs.Leaves.{StandsBehind, LeavesTree}
-use Rattle.irtext_promises.specs.OnlyNew.{OnlyNew}
-use Rattle.irtext_promises.specs.Promises.{IsFirst, HasFault, RefusesRoot, tree_marks}
+use Rattle.irtext_promises.specs.Leaves.{LeavesTree}
+use Rattle.irtext_promises.specs.Promises.{IsFirst, HasFault, RefusesRoot}
 use Rattle.irtext_promises.specs.WithSection.{refused}
 use Rattle.irtext_promises.proofs.Kept as kept
 use Rattle.irtext_promises.proofs.Refuses.{refuses_root}

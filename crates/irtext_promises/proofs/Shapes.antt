@@ -1,5 +1,5 @@
 -- Where the data of one operation or of one block changed, nothing else did; so it is of one change behind another.
-use Rattle.std.proofs.Common.{◌≡◌, ◌∙◌, ◌⊎◌, ℕ, List, Option, Some, None, IsSome, is_some, option_map, slice_get, length, refl, sym, ap, subst, inl, inr}
+use Rattle.std.proofs.Common.{◌≡◌, ◌∙◌, ℕ, Option, Some, None, IsSome, is_some, option_map, slice_get, length, refl, sym, ap, subst, inl, inr}
 use Rattle.irtext_graph.specs.declared.arena.Entry.{Entry}
 use Rattle.irtext_graph.specs.declared.arena.Ptr.{Ptr}
 use Rattle.irtext_graph.specs.declared.object.Operation.{Operation}
@@ -12,8 +12,8 @@ use Rattle.irtext_graph.specs.declared.object.Site.{Site}
 use Rattle.irtext_graph.specs.declared.object.Site.TheVariants.{AtOperand, AtSuccessor}
 use Rattle.irtext_graph.specs.Content.{Node, OperationContent, BlockContent}
 use Rattle.irtext_graph.specs.Data.{with_data, with_block, EditsOperation, EditsBlock}
-use Rattle.irtext_graph.specs.Graph.{GraphView, parent, parent_of, children_of, Stands}
-use Rattle.irtext_graph.specs.Parts.{regions, blocks, operations_in, operands_of, successors_of}
+use Rattle.irtext_graph.specs.Graph.{GraphView, parent, parent_of, children_of}
+use Rattle.irtext_graph.specs.Parts.{regions, blocks, operands_of, successors_of}
 use Rattle.irtext_graph.specs.Store.{get, object_of}
 use Rattle.irtext_graph.specs.Used.{used_at}
 use Rattle.irtext_graph.proofs.Nests.{told}

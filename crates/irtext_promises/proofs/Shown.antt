@@ -1,6 +1,6 @@
 -- What printing sees of pointers under which all is there, and what is held there: item by item, with the types of all values.
-use Rattle.std.proofs.Common.{◌≡◌, ◌∙◌, ℕ, suc, List, [], ◌∷◌, map, filter_map, slice_get, Option, Some, None, option_map, refl, sym, ap, subst}
-use Rattle.std.specs.Prelude.{⊤, true, is_some, option_and_then}
+use Rattle.std.proofs.Common.{◌≡◌, ◌∙◌, ℕ, List, [], ◌∷◌, map, filter_map, Option, Some, None, option_map, refl, sym, ap, subst}
+use Rattle.std.specs.Prelude.{⊤, option_and_then}
 use Rattle.std.specs.List.{cons_option}
 use Rattle.irtext_base.specs.Paths.{Written}
 use Rattle.irtext_context.specs.Context.{ContextView, OperationView, BlockView, known, operation, operation_of, view_of, block, block_of}

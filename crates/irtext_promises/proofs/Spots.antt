@@ -3,19 +3,18 @@ use Rattle.std.proofs.Common.{◌≡◌, ◌∙◌, ℕ, suc, Bool, true, false,
 use Rattle.std.specs.Prelude.{⊤, nat_lt}
 use Rattle.irtext_base.specs.Text.{Text}
 use Rattle.irtext_base.specs.Format as format
-use Rattle.irtext_base.specs.Format.{Format, Directive, Id, same_text, ascend, count, is_regions, operand_places, successor_places, region_places, first_fault}
+use Rattle.irtext_base.specs.Format.{Format, Directive, Id, same_text, ascend, count, is_regions, operand_places, successor_places, region_places}
 use Rattle.irtext_grammar.specs.Grammar.Forest.{Regions, no_regions, region, Blocks, no_blocks, block, Operations, no_operations, operation, MatchRegions, MatchBlocks, MatchOperations, regions_list}
 use Rattle.irtext_grammar.specs.Grammar.Tree as tree
 use Rattle.irtext_grammar.specs.Grammar.Tree.{Name, Mark, Attribute, Piece, Part, Op, Head, Brace, shown, elided, parts_of}
-use Rattle.irtext_grammar.specs.Graphs.Closed.{Thing, same_thing, uses_of_values, uses_of_blocks, defined_results, defined_arguments, use_if, use_block_if, directives_script, body_script, graph_regions, graph_blocks, graph_operations, FitsCustom, FitsFormat, FitRegions, FitBlocks, FitOperations}
+use Rattle.irtext_grammar.specs.Graphs.Closed.{Thing, same_thing, uses_of_values, uses_of_blocks, defined_results, defined_arguments, use_if, use_block_if, directives_script, body_script, graph_regions, graph_blocks, graph_operations, FitsFormat, FitRegions, FitBlocks, FitOperations}
 use Rattle.irtext_grammar.specs.Graphs.Graph.{GraphOp, GraphBlock, Printing}
 use Rattle.irtext_grammar.specs.Names.Acts.{Rule, may_hold, block_may_hold, key_act, entries_if, value_uses, label_uses, result_definitions, argument_definitions, mark_acts, piece_acts, parts_script, closing_acts, header_acts, region_scripts, blocks_script, operations_script, singles, single_labels, all_of}
 use Rattle.irtext_grammar.specs.Names.Scopes.{Fact, uses, defines, facts}
-use Rattle.irtext_grammar.specs.Names.Script.{Path, Place, result, argument, block_at, Act, use_value, use_label, define_value, define_label, mark, entry, claim, Script, done, does, within, does_all}
+use Rattle.irtext_grammar.specs.Names.Script.{Path, Place, result, argument, block_at, Act, use_value, use_label, define_value, define_label, mark, entry, claim, Script, does, within, does_all}
 use Rattle.irtext_grammar.specs.Spelling.Spellable.{Each, Enough}
 use Rattle.irtext_grammar.proofs.Graphs.FitsFormat.{meets, and_left, and_right}
 use Rattle.irtext_grammar.proofs.Graphs.WrittenSpellable.{Room, room}
-use Rattle.irtext_grammar.proofs.Lists.Each.{each_both}
 use Rattle.irtext_grammar.proofs.Names.InScripts.{WholeRegions, WholeBlocks, WholeOperations}
 
 -- where the names among the facts are defined, in their order

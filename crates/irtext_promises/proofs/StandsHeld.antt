@@ -1,12 +1,12 @@
 -- What printing sees of a root that was read stands for what the tree built: each number that is used means what the name meant.
-use Rattle.std.proofs.Common.{◌≡◌, ◌∙◌, ◌+◌, ◌-◌, ◌==◌, ◌&&◌, ℕ, suc, Bool, true, false, cond, List, [], ◌∷◌, map, filter_map, length, Option, Some, None, is_some, option_map, eqb-true, eq-eqb, refl, sym, ap, ap₂, subst, inl, inr, true≢false, arith}
+use Rattle.std.proofs.Common.{◌≡◌, ◌∙◌, ◌+◌, ◌-◌, ◌&&◌, ℕ, suc, Bool, true, false, cond, List, [], ◌∷◌, map, filter_map, length, Option, Some, None, is_some, option_map, eqb-true, eq-eqb, refl, sym, ap, ap₂, subst, inl, inr, true≢false, arith}
 use Rattle.std.specs.Prelude.{⊤, unwrap_or, option_and_then}
 use Rattle.std.specs.List.{list_all, cons_option}
 use Rattle.irtext_base.specs.Text.{Text}
 use Rattle.irtext_base.specs.Format.{Id, same_text}
 use Rattle.irtext_base.specs.Paths.{Written}
 use Rattle.irtext_base.proofs.Characters.{and_left, and_right}
-use Rattle.irtext_context.specs.Context.{ContextView, OperationView, BlockView, known, operation, block}
+use Rattle.irtext_context.specs.Context.{ContextView, BlockView, operation, block}
 use Rattle.irtext_graph.specs.declared.arena.Ptr.{Ptr}
 use Rattle.irtext_graph.specs.declared.object.Operation.{Operation}
 use Rattle.irtext_graph.specs.declared.object.BasicBlock.{BasicBlock}
@@ -28,7 +28,7 @@ use Rattle.irtext_grammar.specs.Graphs.Build.{Built, BuiltOp, BuiltBlock, built_
 use Rattle.irtext_grammar.specs.Graphs.Closed.{Thing, a_value, a_block, same_thing, graph_blocks, FitRegions, FitBlocks, FitOperations, Fit}
 use Rattle.irtext_grammar.specs.Graphs.Graph.{Graph, GraphOp, GraphBlock, Printing}
 use Rattle.irtext_grammar.specs.Graphs.Links.{OpLinked, Linked}
-use Rattle.irtext_grammar.specs.Graphs.Same.{SameShape, SameBlockShape, stood_op, stood_block, stood_regions, stood_blocks, stood_operations, stood}
+use Rattle.irtext_grammar.specs.Graphs.Same.{stood_op, stood_block, stood_regions, stood_blocks, stood_operations, stood}
 use Rattle.irtext_grammar.specs.Graphs.StandsFor.{StandsForOp, StandsForBlock, StandsFor}
 use Rattle.irtext_grammar.specs.Names.Acts.{result_types, blocks_script}
 use Rattle.irtext_grammar.specs.Names.Resolves.{CountsAgree}
@@ -38,11 +38,11 @@ use Rattle.irtext_grammar.specs.Spelling.Spellable.{Each}
 use Rattle.irtext_grammar.proofs.Names.InScripts.{WholeRegions, WholeBlocks, WholeOperations}
 use Rattle.irtext_outcomes.specs.ContextParts.{KeepsCounters}
 use Rattle.irtext_outcomes.proofs.Counted.{thing_same}
-use Rattle.irtext_promises.specs.Held.{PtrRegions, PtrBlocks, PtrOperations, placed_regions, placed_blocks, placed_operations, placed_under, path_of, value_place, block_place, held_op, held_head, held_regions, held_root, OperationWhole, BlockWhole, IsWhole}
+use Rattle.irtext_promises.specs.Held.{PtrRegions, PtrBlocks, PtrOperations, placed_regions, placed_blocks, placed_operations, placed_under, path_of, value_place, block_place, held_op, held_head, held_regions, held_root, IsWhole}
 use Rattle.irtext_promises.proofs.OnePlace.{path_is, one_value, one_block}
 use Rattle.irtext_promises.proofs.Shown.{SeenOp, SeenBlock, HeldOp, HeldBlock, SeenRegions, SeenBlocks, SeenOperations, HeldRegions, HeldBlocks, HeldOperations, typed_seen, known_again, results_seen, arguments_seen, regions_shown, regions_kept}
 use Rattle.irtext_promises.proofs.Spots.{spots, AsManyOp, AsManyBlock, blocks_say, tree_blocks_say}
-use Rattle.irtext_promises.proofs.TrueFacts.{TrueValue, TrueLabel, Trues, blocks_true}
+use Rattle.irtext_promises.proofs.TrueFacts.{TrueValue, TrueLabel, blocks_true}
 
 thing_itself : (x : Thing) → same_thing x x ≡ true
 thing_itself (a_value v) = eq-eqb v v refl

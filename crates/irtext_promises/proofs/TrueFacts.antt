@@ -1,6 +1,6 @@
 -- What the script of a graph that printing sees says of values and blocks is true of the context: each place that it says is that of what
 -- stands there.
-use Rattle.std.proofs.Common.{◌≡◌, ◌∙◌, ◌+◌, ℕ, suc, Bool, true, false, cond, List, [], ◌∷◌, ◌++◌, map, filter_map, drop, length, slice_get, Option, Some, None, option_map, refl, sym, ap, subst, inl, inr, arith}
+use Rattle.std.proofs.Common.{◌≡◌, ◌∙◌, ◌+◌, ℕ, suc, Bool, true, false, List, [], ◌∷◌, map, filter_map, drop, length, slice_get, Option, Some, None, option_map, refl, sym, ap, subst, inl, inr, arith}
 use Rattle.std.specs.Prelude.{⊤}
 use Rattle.std.specs.List.{cons_option}
 use Rattle.irtext_base.specs.Format as format
@@ -8,10 +8,9 @@ use Rattle.irtext_base.specs.Format.{Format, Directive, Id, operand_places, succ
 use Rattle.irtext_base.specs.Text.{Text}
 use Rattle.irtext_context.specs.Context.{ContextView, known}
 use Rattle.irtext_graph.specs.declared.arena.Ptr.{Ptr}
-use Rattle.irtext_graph.specs.declared.object.Operation.{Operation}
 use Rattle.irtext_graph.specs.declared.object.BasicBlock.{BasicBlock}
 use Rattle.irtext_graph.specs.declared.object.Object.{Object}
-use Rattle.irtext_graph.specs.declared.object.Object.TheVariants.{TheOperation, TheBlock, TheRegion}
+use Rattle.irtext_graph.specs.declared.object.Object.TheVariants.{TheOperation, TheBlock}
 use Rattle.irtext_graph.specs.declared.object.Value.{Value}
 use Rattle.irtext_graph.specs.declared.object.Value.TheVariants.{Result, Argument}
 use Rattle.irtext_graph.specs.Chained.{Among}
@@ -25,11 +24,11 @@ use Rattle.irtext_grammar.specs.Graphs.Closed.{Thing, a_value, a_block, same_thi
 use Rattle.irtext_grammar.specs.Graphs.Graph.{GraphOp, GraphBlock, Printing}
 use Rattle.irtext_grammar.specs.Names.Acts.{all_of}
 use Rattle.irtext_grammar.specs.Names.Scopes.{Fact, uses, defines, facts}
-use Rattle.irtext_grammar.specs.Names.Script.{Path, Place, result, argument, block_at, define_label, Script, done, does, within, does_all}
+use Rattle.irtext_grammar.specs.Names.Script.{Path, result, argument, block_at, define_label, Script, does, within, does_all}
 use Rattle.irtext_grammar.specs.Spelling.Spellable.{Each}
 use Rattle.irtext_grammar.proofs.Lists.Each.{each_both}
 use Rattle.irtext_promises.specs.Held.{PtrRegions, PtrBlocks, PtrOperations, placed_regions, placed_blocks, placed_operations, path_of, value_place, block_place}
-use Rattle.irtext_promises.proofs.Shown.{SeenOp, SeenBlock, SeenRegions, SeenBlocks, SeenOperations, results_seen, arguments_seen}
+use Rattle.irtext_promises.proofs.Shown.{SeenRegions, SeenBlocks, SeenOperations, results_seen, arguments_seen}
 
 unlike : {X : Type 0} (x : X) (xs : List X) → x ∷ xs ≡ [] → ⊥
 unlike x xs e = cc

@@ -1,28 +1,23 @@
 -- A root with its section: what is wrong in both is what is wrong in the tree, and then what is wrong in the section; and what the section
 -- gives the items of the tree that stands is what both build.
-use Rattle.std.proofs.Common.{◌≡◌, ◌∙◌, ◌⊎◌, ◌≤◌, ℕ, zero, suc, Bool, true, false, ◌||◌, List, [], ◌∷◌, ◌++◌, length, Option, Some, None, IsSome, option_map, is_some, refl, sym, ap, ap₂, subst, inl, inr, arith}
+use Rattle.std.proofs.Common.{◌≡◌, ◌∙◌, ℕ, zero, suc, Bool, true, false, ◌||◌, List, [], ◌∷◌, ◌++◌, length, Option, Some, None, IsSome, option_map, is_some, refl, sym, ap, ap₂, inl, inr}
 use Rattle.irtext_base.specs.Text.{Text}
 use Rattle.irtext_base.specs.Format.{same_text, Id}
-use Rattle.irtext_base.specs.Own.{Language}
 use Rattle.irtext_base.specs.Paths.{Written, KeepsPaths}
-use Rattle.irtext_base.specs.declared.location.Location.{Location}
 use Rattle.irtext_context.specs.Context.{ContextView, operation}
 use Rattle.irtext_graph.specs.declared.arena.Ptr.{Ptr}
 use Rattle.irtext_graph.specs.declared.object.Operation.{Operation}
 use Rattle.irtext_graph.specs.declared.object.BasicBlock.{BasicBlock}
 use Rattle.irtext_graph.specs.declared.object.Region.{Region}
 use Rattle.irtext_graph.specs.declared.object.Object.{Object}
-use Rattle.irtext_graph.specs.declared.object.Object.TheVariants.{TheOperation}
-use Rattle.irtext_graph.specs.declared.object.Site.{Site}
 use Rattle.irtext_graph.specs.declared.object.Site.TheVariants.{AtOperand, AtSuccessor}
-use Rattle.irtext_graph.specs.Graph.{GraphView, parent, Stands, IsInside}
+use Rattle.irtext_graph.specs.Graph.{GraphView, parent}
 use Rattle.irtext_graph.specs.Nested.{climb}
 use Rattle.irtext_graph.specs.Parts.{regions, blocks, operations_in}
 use Rattle.irtext_graph.specs.Store.{get}
-use Rattle.irtext_graph.specs.Used.{IsUse, used_at}
 use Rattle.irtext_grammar.specs.Contexts.Nested.{operations_by, blocks_by, regions_by, within, pointers}
 use Rattle.irtext_grammar.specs.Grammar.Forest as forest
-use Rattle.irtext_grammar.specs.Grammar.Forest.{Regions, no_regions, Blocks, no_blocks, Operations, no_operations, Root}
+use Rattle.irtext_grammar.specs.Grammar.Forest.{Regions, no_regions, Blocks, no_blocks, Operations, no_operations}
 use Rattle.irtext_grammar.specs.Grammar.Marked.{regions_marked, blocks_marked, operations_marked, marked}
 use Rattle.irtext_grammar.specs.Grammar.Reads as grammar
 use Rattle.irtext_grammar.specs.Grammar.Section.{Entry}
@@ -30,11 +25,10 @@ use Rattle.irtext_grammar.specs.Grammar.Tree.{Mark, Op, Head, Brace, Tree}
 use Rattle.irtext_grammar.specs.Graphs.Build.{build}
 use Rattle.irtext_grammar.specs.Graphs.Links.{Linked, links}
 use Rattle.irtext_grammar.specs.Names.Acts.{tree_script, root_script, section_acts, region_scripts, rule_of, failures_of, marked_as}
-use Rattle.irtext_grammar.specs.Names.Resolves.{all_in_regions, all_in_blocks, all_in_operations, everywhere, marks_of}
-use Rattle.irtext_grammar.specs.Names.Scopes.{no_scope, ◌⊳◌, facts, failures}
-use Rattle.irtext_grammar.specs.Names.Script.{Script, Failure, entry, done, does, does_all, follow}
+use Rattle.irtext_grammar.specs.Names.Resolves.{all_in_regions, all_in_blocks, all_in_operations, everywhere}
+use Rattle.irtext_grammar.specs.Names.Scopes.{no_scope, facts, failures}
+use Rattle.irtext_grammar.specs.Names.Script.{Script, entry, done, does, does_all, follow}
 use Rattle.irtext_grammar.specs.Names.Script as script
-use Rattle.irtext_grammar.proofs.Grammar.WholeTree.{whole}
 use Rattle.irtext_grammar.proofs.Names.Followed.{failures_follow}
 use Rattle.irtext_grammar.proofs.Names.Following.{operation_follow, regions_follow}
 use Rattle.irtext_grammar.proofs.Names.InScripts.{WholeOperations}
@@ -44,9 +38,9 @@ use Rattle.irtext_grammar.proofs.Names.TreeClaims.{root_entryless}
 use Rattle.irtext_grammar.proofs.Names.TreeLists.{marks_in_root}
 use Rattle.irtext_outcomes.specs.Promises.Section.{is_noted}
 use Rattle.irtext_promises.specs.Given.{RootHas}
-use Rattle.irtext_promises.specs.Held.{PtrRegions, PtrBlocks, PtrOperations, placed_under, held_root, held_op, held_regions}
+use Rattle.irtext_promises.specs.Held.{placed_under, held_root, held_op, held_regions}
 use Rattle.irtext_promises.specs.OnlyNew.{OnlyNew}
-use Rattle.irtext_promises.specs.WithSection.{behind, refused, SameShape}
+use Rattle.irtext_promises.specs.WithSection.{refused, SameShape}
 use Rattle.irtext_promises.proofs.Equal.{Keeps, root_same}
 
 -- ---- what is wrong

@@ -1,8 +1,8 @@
 -- For callers: what reading a region alone promises, as the last of an operation, and what reading a block outside of each region does.
-use Rattle.std.specs.Prelude.{◌≡◌, ◌⊎◌, ℕ, true, length, List, [], ◌∷◌, ◌++◌, Option, Some, None, IsSome, ⊤}
+use Rattle.std.specs.Prelude.{◌≡◌, ◌⊎◌, ℕ, true, length, List, [], ◌∷◌, Option, Some, None, IsSome, ⊤}
 use Rattle.std.specs.Option.{option_map}
 use Rattle.irtext_base.specs.Text.{Text}
-use Rattle.irtext_base.specs.Format.{same_text, Id}
+use Rattle.irtext_base.specs.Format.{same_text}
 use Rattle.irtext_base.specs.Faults as causes
 use Rattle.irtext_base.specs.Faults.{fault_of}
 use Rattle.irtext_base.specs.Own.{Texts}
@@ -13,7 +13,7 @@ use Rattle.irtext_base.specs.Paths.{Written, KeepsPaths}
 use Rattle.irtext_base.specs.declared.location.Location.{Location, SrcPos}
 use Rattle.irtext_base.specs.declared.parsable.fault.ParseFault.{ParseFault}
 use Rattle.irtext_stream.specs.declared.position.SourcePosition.{SourcePosition}
-use Rattle.irtext_context.specs.Context.{ContextView, OperationView, operation, regions_in}
+use Rattle.irtext_context.specs.Context.{ContextView}
 use Rattle.irtext_context.specs.Dialects.{Table}
 use Rattle.irtext_graph.specs.declared.arena.Ptr.{Ptr}
 use Rattle.irtext_graph.specs.declared.object.Operation.{Operation}

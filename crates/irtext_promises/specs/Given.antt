@@ -1,5 +1,5 @@
 -- Between functions: a forest of pointers that is that of a tree whose items have what entries of a section give them besides.
-use Rattle.std.specs.Prelude.{◌≡◌, ℕ, true, List, [], ◌∷◌, Option, Some, is_some, unwrap_or, map, ⊤}
+use Rattle.std.specs.Prelude.{◌≡◌, ℕ, true, List, [], Some, is_some, unwrap_or, map, ⊤}
 use Rattle.irtext_base.specs.Faults.{id_of}
 use Rattle.irtext_base.specs.Paths.{Written}
 use Rattle.irtext_context.specs.Context.{ContextView, OperationView, BlockView, known, operation, block}

@@ -12,7 +12,7 @@ use Rattle.irtext_graph.specs.declared.object.Object.{Object}
 use Rattle.irtext_graph.specs.declared.object.Operation.{Operation}
 use Rattle.irtext_graph.specs.declared.object.Value.{Value}
 use Rattle.irtext_graph.specs.Back.{AllOlder}
-use Rattle.irtext_graph.specs.Graph.{GraphView, children, parent, Stands}
+use Rattle.irtext_graph.specs.Graph.{children, parent, Stands}
 use Rattle.irtext_graph.specs.Nested.{Nested}
 use Rattle.irtext_scopes.specs.declared.tracker.NameTracker.{NameTracker}
 use Rattle.irtext_grammar.specs.Contexts.Formats.{format_of}

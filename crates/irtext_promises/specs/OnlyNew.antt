@@ -1,5 +1,5 @@
 -- For callers: that only an operation and all that stands in it came to a context.
-use Rattle.std.specs.Prelude.{◌≡◌, ◌⊎◌, ℕ, Some, None, IsSome}
+use Rattle.std.specs.Prelude.{◌≡◌, ◌⊎◌, ℕ, None, IsSome}
 use Rattle.irtext_base.specs.Paths.{KeepsPaths}
 use Rattle.irtext_context.specs.Context.{ContextView, operation}
 use Rattle.irtext_graph.specs.declared.arena.Ptr.{Ptr}
@@ -12,7 +12,7 @@ use Rattle.irtext_graph.specs.declared.object.Defined.{Defined}
 use Rattle.irtext_graph.specs.declared.object.Defined.TheVariants.{OfValue}
 use Rattle.irtext_graph.specs.declared.object.Site.{Site}
 use Rattle.irtext_graph.specs.declared.object.Value.TheVariants.{Result}
-use Rattle.irtext_graph.specs.Graph.{GraphView, Stands, IsInside, IsNew}
+use Rattle.irtext_graph.specs.Graph.{Stands, IsInside, IsNew}
 use Rattle.irtext_graph.specs.Store.{get}
 use Rattle.irtext_graph.specs.Used.{IsDefined, IsUse}
 

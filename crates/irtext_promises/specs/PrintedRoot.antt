@@ -1,5 +1,5 @@
 -- For callers: a root of a context of which a text was printed, and what is promised of what is read of it.
-use Rattle.std.specs.Prelude.{◌≡◌, ◌<◌, ◌^◌, ℕ, List, length, None, Some}
+use Rattle.std.specs.Prelude.{◌≡◌, ◌<◌, ◌^◌, ℕ, List, length, Some}
 use Rattle.std.specs.Str.{IsUtf8, encode_utf8_all}
 use Rattle.irtext_base.specs.Answers.{Outcome}
 use Rattle.irtext_base.specs.Locations.{AttrView}

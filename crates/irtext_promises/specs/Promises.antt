@@ -1,5 +1,5 @@
 -- For callers: what reading an operation with all that nests in it promises, with the section of its marked items or without it.
-use Rattle.std.specs.Prelude.{◌≡◌, ◌⊎◌, ℕ, Bool, true, cond, List, [], ◌∷◌, Option, Some, None}
+use Rattle.std.specs.Prelude.{◌≡◌, ℕ, Bool, true, cond, List, [], ◌∷◌, Some}
 use Rattle.irtext_base.specs.Text.{Text}
 use Rattle.irtext_base.specs.Own.{Texts}
 use Rattle.irtext_base.specs.Stream.{StreamView}
@@ -27,7 +27,7 @@ use Rattle.irtext_grammar.specs.Names.History as history
 use Rattle.irtext_grammar.specs.Names.Script as script
 use Rattle.irtext_grammar.specs.Names.Script.{Cause, Failure, Path, done}
 use Rattle.irtext_grammar.specs.Names.TextScopes.{facts}
-use Rattle.irtext_outcomes.specs.Promises.Root.{location_of, IsPlace, UnlessMemory}
+use Rattle.irtext_outcomes.specs.Promises.Root.{location_of, IsPlace}
 use Rattle.irtext_outcomes.specs.Promises.Section.{Moves, indices_of}
 use Rattle.irtext_outcomes.specs.Promises.Supported.{supported, location_standing}
 use Rattle.irtext_nesting.specs.Naming.{naming}

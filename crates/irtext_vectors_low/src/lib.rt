@@ -2,8 +2,8 @@
 #![tactic(auto)]
 
 #[cfg(test)]
-mod tests;
-#[cfg(test)]
 mod dict;
 #[cfg(test)]
 mod read;
+#[cfg(test)]
+mod tests;

@@ -13,8 +13,8 @@ mod rowed;
 #[cfg(test)]
 mod rows;
 #[cfg(test)]
+mod scopes;
+#[cfg(test)]
 mod script;
 #[cfg(test)]
 mod steps;
-#[cfg(test)]
-mod scopes;

@@ -3,8 +3,8 @@
 #![tactic(auto)]
 
 #[cfg(test)]
-mod tests;
+mod parse;
 #[cfg(test)]
 mod sections;
 #[cfg(test)]
-mod parse;
+mod tests;

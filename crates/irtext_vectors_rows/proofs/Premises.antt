@@ -1,6 +1,6 @@
 -- What the round trip asks of worked roots: of locations on line 1, and of a module with one block of two operations, from what it
 -- asks of the two.
-use Rattle.std.specs.Prelude.{◌≡◌, ℕ, ◌+◌, ◌<◌, ◌^◌, Bool, true, false, not, ◌==◌, [], ◌∷◌, ◌++◌, codes, refl, Some, None}
+use Rattle.std.specs.Prelude.{◌≡◌, ℕ, ◌+◌, ◌<◌, ◌^◌, true, false, not, ◌==◌, [], ◌∷◌, ◌++◌, codes, refl, Some, None}
 use Rattle.std.proofs.Common.{arith, ap, ap₂}
 use Rattle.std.specs.Char.{is_whitespace}
 use Rattle.std.specs.List.{list_all}

@@ -1,5 +1,5 @@
 -- A root that was read is there to be printed: it stands in no block, and is closed where its operations fit their formats.
-use Rattle.std.proofs.Common.{◌≡◌, ◌∙◌, Bool, ℕ, List, Option, Some, None, option_map, IsSome, refl, sym, ap, subst}
+use Rattle.std.proofs.Common.{◌≡◌, Bool, ℕ, List, Option, Some, None, option_map, IsSome, refl, sym, ap, subst}
 use Rattle.irtext_base.specs.Answers.{Outcome}
 use Rattle.irtext_base.specs.Own.{Texts, texts_of}
 use Rattle.irtext_base.specs.Text.{Text}
@@ -9,7 +9,7 @@ use Rattle.irtext_graph.specs.declared.object.Operation.{Operation}
 use Rattle.irtext_grammar.specs.Contexts.Formats.{isolated}
 use Rattle.irtext_grammar.specs.Contexts.Nested.{pointers, printing_over, seen_operation, seen_regions, seen_root}
 use Rattle.irtext_grammar.specs.Graphs.Closed.{Fit}
-use Rattle.irtext_grammar.specs.Graphs.Graph.{Graph, Printing}
+use Rattle.irtext_grammar.specs.Graphs.Graph.{Graph}
 use Rattle.irtext_grammar.specs.Graphs.Regained.{Named}
 use Rattle.irtext_grammar.specs.Graphs.StandsFor.{Distinct}
 use Rattle.irtext_outcomes.specs.ContextParts.{KeepsAll}

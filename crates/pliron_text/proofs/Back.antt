@@ -1,5 +1,5 @@
 -- The promises of the two calls, put together as those who make them know them.
-use Rattle.std.proofs.Common.{◌≡◌, ◌∙◌, ◌<◌, ◌^◌, ◌⊎◌, ℕ, Bool, true, List, [], length, Option, Some, None, option_map, Result, Ok, Err, IsSome, refl, sym, ap, subst, inl, inr}
+use Rattle.std.proofs.Common.{◌≡◌, ◌∙◌, ◌<◌, ◌^◌, ◌⊎◌, ℕ, Bool, true, List, length, Option, Some, None, option_map, Result, Ok, Err, refl, sym, ap, subst, inl, inr}
 use Rattle.std.specs.Prelude.{IfErr}
 use Rattle.std.specs.Str.{IsUtf8, chars}
 use Rattle.irtext_base.specs.Answers.{Outcome}
@@ -19,7 +19,6 @@ use Rattle.irtext_graph.specs.Nested.{Nested}
 use Rattle.irtext_graph.proofs.Nests.{some_eq}
 use Rattle.irtext_grammar.specs.Contexts.Formats.{isolated}
 use Rattle.irtext_grammar.specs.Contexts.Nested.{pointers, printing_over, seen_operation, seen_regions, seen_root}
-use Rattle.irtext_grammar.specs.Grammar.Forest.{Regions}
 use Rattle.irtext_grammar.specs.Grammar.Marked.{AllShown}
 use Rattle.irtext_grammar.specs.Graphs.Closed.{Fit}
 use Rattle.irtext_grammar.specs.Graphs.Graph.{Graph, Printing, written}
@@ -36,13 +35,12 @@ use Rattle.irtext_print_ops.specs.Faults.{OperationFault, RegionsFault}
 use Rattle.irtext_print_ops.specs.Heads as heads
 use Rattle.irtext_print_ops.specs.Walk.{or_nothing}
 use Rattle.irtext_promises.specs.Held.{held_root}
-use Rattle.irtext_promises.specs.OnlyNew.{OnlyNew}
 use Rattle.irtext_read.specs.AttrTexts.{attr_at}
 use Rattle.irtext_outcomes.specs.Back.{ClosedRoot, HeldBack, HeldWhole}
 use Rattle.irtext_outcomes.specs.RootParts.{KeptRoot}
 use Rattle.irtext_promises.specs.PrintedRoot.{PrintedRoot}
 use Rattle.irtext_promises.proofs.PrintedBack.{stands_back, stands_whole, not_refused, none_read}
-use Rattle.pliron_text.specs.Calls.{IsClosed, IsPrinted, ComesBack, ComesBackWhole, ReadsText, RefusesText, IsExcused}
+use Rattle.pliron_text.specs.Calls.{IsClosed, IsPrinted, ComesBack, ComesBackWhole, ReadsText, RefusesText}
 use Rattle.pliron_text.proofs.Fitting.{fits_whole}
 
 -- what is said of a refusal that was none for want of memory

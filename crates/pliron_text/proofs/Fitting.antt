@@ -4,7 +4,7 @@ use Rattle.std.specs.Prelude.{⊤}
 use Rattle.irtext_base.specs.Format as format
 use Rattle.irtext_base.specs.Format.{Format, Directive, Id, first_fault}
 use Rattle.irtext_grammar.specs.Grammar.Forest.{Regions, no_regions, region, Blocks, no_blocks, block, Operations, no_operations, operation, regions_list}
-use Rattle.irtext_grammar.specs.Graphs.Closed.{FitsCustom, FitsFormat, FitsOp, FitRegions, FitBlocks, FitOperations, Fit}
+use Rattle.irtext_grammar.specs.Graphs.Closed.{FitsCustom, FitsFormat, FitRegions, FitBlocks, FitOperations, Fit}
 use Rattle.irtext_grammar.specs.Graphs.Graph.{Graph, GraphOp, GraphBlock, Printing}
 use Rattle.irtext_print.specs.declared.printable.refusal.Refusal.TheVariants.{Misfit}
 use Rattle.irtext_print_ops.specs.Faults.{OperationFault, RegionsFault, BlocksFault, OperationsFault}

@@ -1,5 +1,5 @@
 -- A root that was read stands in no block.
-use Rattle.std.proofs.Common.{◌≡◌, ◌∙◌, ℕ, List, [], map, Option, Some, None, option_map, IsSome, slice_get, refl, sym, ap, subst, inl, inr}
+use Rattle.std.proofs.Common.{◌≡◌, ◌∙◌, ℕ, map, Option, Some, None, option_map, IsSome, slice_get, refl, sym, ap, inl, inr}
 use Rattle.irtext_context.specs.Context.{ContextView}
 use Rattle.irtext_context.proofs.Contexts.{OperationEntry, BlockEntry}
 use Rattle.irtext_graph.specs.declared.arena.Ptr.{Ptr}

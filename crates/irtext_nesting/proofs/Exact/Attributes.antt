@@ -12,7 +12,7 @@ use Rattle.irtext_read.specs.AttrTexts.{attr_at}
 use Rattle.irtext_read.specs.Tokens.{word}
 use Rattle.irtext_grammar.specs.Grammar.Reads as reads
 use Rattle.irtext_grammar.specs.Grammar.Tree as tree
-use Rattle.irtext_grammar.specs.Grammar.Tree.{Name, Attribute, Piece}
+use Rattle.irtext_grammar.specs.Grammar.Tree.{Attribute}
 use Rattle.irtext_outcomes.specs.Readers.Directives.{attribute_at}
 use Rattle.irtext_outcomes.specs.Readers.Marker.{marker, starts_with}
 use Rattle.irtext_outcomes.proofs.Joins.Answers.{Splits, mapped_read}

@@ -5,7 +5,7 @@ use Rattle.irtext_base.specs.Format as format
 use Rattle.irtext_base.specs.Format.{Format, Directive, Id, operand_places, successor_places}
 use Rattle.irtext_grammar.specs.Grammar.Forest.{Regions, no_regions, region, Blocks, no_blocks, block, Operations, no_operations, operation, AllRegions, AllBlocks, AllOperations}
 use Rattle.irtext_grammar.specs.Grammar.Tree as tree
-use Rattle.irtext_grammar.specs.Grammar.Tree.{Name, Part, Body, Op, Head, Brace, shown, elided, Tree, IsOf, parts_of, views, directive}
+use Rattle.irtext_grammar.specs.Grammar.Tree.{Part, Body, Op, Head, Brace, shown, elided, Tree, IsOf, parts_of, views, directive}
 use Rattle.irtext_grammar.specs.Spelling.Spellable.{Each}
 use Rattle.irtext_grammar.specs.Names.Script.{Path, done, does_all, claim, ResultCount}
 use Rattle.irtext_grammar.specs.Names.TextScopes.{Act, Script}

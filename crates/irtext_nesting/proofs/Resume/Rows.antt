@@ -3,7 +3,6 @@
 use Rattle.std.proofs.Common.{◌≡◌, ℕ, true, false, List, [], ◌∷◌, ◌++◌, Option, Some, codes, refl}
 use Rattle.irtext_base.specs.Text.{Text}
 use Rattle.irtext_base.specs.Format as format
-use Rattle.irtext_base.specs.Format.{Id, Format}
 use Rattle.irtext_base.specs.Answers.{Outcome, Missing}
 use Rattle.irtext_base.specs.Faults.{Memory}
 use Rattle.irtext_base.specs.Locations.{AttrView}
@@ -11,7 +10,7 @@ use Rattle.irtext_context.specs.Dialects.{Table}
 use Rattle.irtext_read.specs.Tokens.{word_at, id_at}
 use Rattle.irtext_grammar.specs.Contexts.Formats.{op_id}
 use Rattle.irtext_grammar.specs.Grammar.Tree as tree
-use Rattle.irtext_grammar.specs.Grammar.Tree.{Name, Part}
+use Rattle.irtext_grammar.specs.Grammar.Tree.{Part}
 use Rattle.irtext_outcomes.specs.Readers.RestLengths.{LeavesNoMore}
 use Rattle.irtext_nesting.specs.Heads.{Step, flat, all, one}
 use Rattle.irtext_nesting.specs.Reached.{Reached, Came, Doing, operation_at}

@@ -1,5 +1,5 @@
 -- For callers: what is promised of the text of a root that is read back.
-use Rattle.std.specs.Prelude.{true, false, [], FitsSigned}
+use Rattle.std.specs.Prelude.{true, false, FitsSigned}
 use Rattle.std.specs.Int.{w32}
 use Rattle.irtext_base.specs.Text.{Text}
 use Rattle.irtext_base.specs.Locations.{src_pos}

@@ -1,5 +1,5 @@
 -- For callers: what a text reads as, where the location of a section's entry may stand.
-use Rattle.std.specs.Prelude.{Option, Some, None, [], codes}
+use Rattle.std.specs.Prelude.{Option, Some, None, codes}
 use Rattle.irtext_base.specs.Text.{Text, begins}
 use Rattle.irtext_base.specs.Reading.{the}
 use Rattle.irtext_base.specs.Answers.{Outcome}

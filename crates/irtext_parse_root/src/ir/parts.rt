@@ -13,12 +13,12 @@ ghost use Rattle.irtext_promises.specs.Alone.{BuildsRegion, RefusesRegion, Refus
 ghost use Rattle.irtext_parse_root.specs.Block.{MissesBlock};
 ghost use Rattle.irtext_parse_root.specs.Region.{unisolated};
 
+use crate::block::block_parse;
 use crate::parsable::Parsable;
+use crate::region::region_parse;
 use irtext_base::parsable::ParseResult;
 use irtext_base::text::{AttrText, IrText};
 use irtext_context::base::{BasicBlock, Operation, Ptr, Region};
-use crate::block::block_parse;
-use crate::region::region_parse;
 use irtext_state::parsable::StateStream;
 
 impl<T: IrText<A>, A: AttrText, U> Parsable<T, A, U> for Region {

@@ -10,11 +10,11 @@ ghost use Rattle.irtext_outcomes.specs.Promises.Root.{IsFresh, UnlessMemory};
 ghost use Rattle.irtext_promises.specs.Promises.{BuildsWith, RefusesWith};
 ghost use Rattle.irtext_parse_root.specs.AnyState.{ReadsAny, MissesAny};
 
+use crate::outermost::outermost_parse;
 use crate::parsable::Parsable;
 use irtext_base::parsable::ParseResult;
 use irtext_base::text::{AttrText, IrText};
 use irtext_context::base::{Operation, Ptr};
-use crate::outermost::outermost_parse;
 use irtext_state::parsable::StateStream;
 
 /// How an operation is read.

@@ -3,7 +3,7 @@ use Rattle.std.specs.Prelude.{ℕ, zero, suc, ◌-◌, ◌==◌, ◌&&◌, Bool,
 use Rattle.std.specs.List.{list_any}
 use Rattle.irtext_base.specs.Text.{Text, begins}
 use Rattle.irtext_base.specs.Format as format
-use Rattle.irtext_base.specs.Format.{Directive, same_text, has, sym_name_key}
+use Rattle.irtext_base.specs.Format.{Directive, same_text, sym_name_key}
 use Rattle.irtext_base.specs.Own.{Language, unplaced, missing}
 use Rattle.irtext_grammar.specs.Graphs.Graph.{Printing, lookup, outlined, inline}
 use Rattle.irtext_grammar.specs.Spelling.Spell.{joins_left, attribute, joined, comma}

@@ -1,6 +1,6 @@
 -- For callers: what is asked of operations and of formats as they are printed: what the caller's types mean, how deep regions are printed, and
 -- whether directives write the regions and the keys that are there.
-use Rattle.std.specs.Prelude.{ℕ, Bool, true, false, cond, not, ◌||◌, ◌==◌, nat_lt, List, length, Option, Some, None, is_some, ⊤}
+use Rattle.std.specs.Prelude.{ℕ, Bool, true, false, cond, not, ◌||◌, ◌==◌, nat_lt, List, length, Some, None, is_some, ⊤}
 use Rattle.std.specs.List.{list_all}
 use Rattle.irtext_base.specs.Text.{Text}
 use Rattle.irtext_base.specs.Format as format

@@ -1,5 +1,5 @@
 -- What was printed and gathered of an operation, as the clauses of its printing have it.
-use Rattle.std.proofs.Common.{◌≡◌, ◌∙◌, ◌++◌, ℕ, Bool, List, [], true, refl, sym, ap, length, Option, Some, None, option_map, IsSome, Result, Ok, Err, OnOk, append-nil, append_assoc}
+use Rattle.std.proofs.Common.{◌≡◌, ◌∙◌, ◌++◌, ℕ, Bool, List, [], true, refl, sym, ap, length, Option, Some, None, option_map, IsSome, Result, Ok, Err, OnOk, append-nil}
 use Rattle.std.specs.Str.{encode_utf8_all}
 use Rattle.irtext_base.specs.Text.{Text}
 use Rattle.irtext_base.specs.declared.text.AttrText as attr_text
@@ -23,7 +23,7 @@ use Rattle.irtext_print.specs.Printers.Printing.{gathered_of, with_gathered}
 use Rattle.irtext_print.specs.Printers.Shown.{Shown}
 use Rattle.irtext_print_ir.proofs.Printers.Roots.{text_is}
 use Rattle.irtext_print_ops.proofs.Depths.{inside_is}
-use Rattle.irtext_print_ir.specs.Printers.Printed.{Printed, block_round, gathers, root_items, root_text, root_left}
+use Rattle.irtext_print_ir.specs.Printers.Printed.{Printed, block_round, gathers, root_text, root_left}
 use Rattle.irtext_print.specs.Items.{section_at}
 use Rattle.irtext_print_ops.specs.Heads as heads
 

@@ -3,7 +3,7 @@ use Rattle.std.proofs.Common.{◌≡◌, ◌++◌, ◌∙◌, List, [], ◌∷�
 use Rattle.std.specs.Option.{option_map, option_and_then}
 use Rattle.std.specs.Str.{encode_utf8_all}
 use Rattle.irtext_base.specs.Causes.{id_text}
-use Rattle.irtext_context.specs.Context.{ContextView, OperationView, operation}
+use Rattle.irtext_context.specs.Context.{ContextView, OperationView}
 use Rattle.irtext_base.specs.Format.{sym_name_key}
 use Rattle.irtext_base.specs.Text.{Text}
 use Rattle.irtext_graph.specs.declared.arena.Ptr.{Ptr}

@@ -1,5 +1,5 @@
 -- What is printed of an operation with all that nests in it, as the definitions of printing have it of what is seen under the operation.
-use Rattle.std.proofs.Common.{◌≡◌, ◌∙◌, ◌+◌, ◌++◌, ◌∷◌, ℕ, List, [], Bool, true, false, refl, sym, ap, ap₂, subst, arith, map, Option, Some, None, option_map, length, append-nil}
+use Rattle.std.proofs.Common.{◌≡◌, ◌∙◌, ◌+◌, ◌++◌, ◌∷◌, ℕ, List, [], Bool, true, false, refl, sym, ap, ap₂, arith, map, Option, Some, None, option_map}
 use Rattle.std.proofs.lemmas.List.{map-append}
 use Rattle.std.specs.Prelude.{⊤, cond}
 use Rattle.irtext_base.specs.Own.{Language}
@@ -11,11 +11,11 @@ use Rattle.irtext_graph.specs.declared.arena.Ptr.{Ptr}
 use Rattle.irtext_graph.specs.declared.object.BasicBlock.{BasicBlock}
 use Rattle.irtext_graph.specs.declared.object.Operation.{Operation}
 use Rattle.irtext_graph.specs.declared.object.Region.{Region}
-use Rattle.irtext_grammar.specs.Contexts.Nested.{pointers, seen_operation, seen_own, seen_block, seen_head, seen_regions, seen_blocks, seen_operations}
+use Rattle.irtext_grammar.specs.Contexts.Nested.{pointers, seen_operation, seen_own, seen_block, seen_regions, seen_blocks, seen_operations}
 use Rattle.irtext_grammar.specs.Grammar.Forest as forest
 use Rattle.irtext_grammar.specs.Grammar.Forest.{Regions, no_regions, Blocks, no_blocks, Operations, no_operations}
 use Rattle.irtext_grammar.specs.Graphs.Graph.{Graph, GraphOp, GraphBlock, Printing, Limit, Entry, is_elided, inside, is_marked, own_entry, op_outlined, block_outlined, mark_at, tree_op, tree_regions, marks_in_regions, entries_of, entries_of_regions, entries_of_blocks, entries_of_operations, written}
-use Rattle.irtext_grammar.specs.Spelling.Section.{text, section}
+use Rattle.irtext_grammar.specs.Spelling.Section.{text}
 use Rattle.irtext_grammar.specs.Spelling.Spell.{concrete, mark_if, region_texts, spelled}
 use Rattle.irtext_print.specs.Given.{entry_at, operation_entry, block_entry}
 use Rattle.irtext_print.specs.Items.{section_of}

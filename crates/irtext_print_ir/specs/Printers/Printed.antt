@@ -1,14 +1,13 @@
 -- For callers: what one printing of an operation, a block or a region has done, with all that nests in it, whatever was gathered before. It names
 -- the context, the pointer, the state and the bytes before, and the state and the bytes behind.
-use Rattle.std.specs.Prelude.{◌≡◌, ℕ, Bool, true, false, List, [], ◌++◌, length, Option, Some, None, IfSome, string_bytes, ⊤}
+use Rattle.std.specs.Prelude.{◌≡◌, ℕ, Bool, true, false, List, [], ◌++◌, length, Option, Some, None, IfSome, string_bytes}
 use Rattle.std.specs.Str.{encode_utf8_all}
 use Rattle.std.specs.declared.string.String.{String}
 use Rattle.std.specs.declared.alloc.Global.{Global}
-use Rattle.irtext_base.specs.Own.{Language}
 use Rattle.irtext_base.specs.Text.{Text}
 use Rattle.irtext_base.specs.declared.text.AttrText as attr_text
 use Rattle.irtext_base.specs.declared.text.IrText as ir_text
-use Rattle.irtext_context.specs.Context.{ContextView, OperationView, operation}
+use Rattle.irtext_context.specs.Context.{ContextView}
 use Rattle.irtext_context.specs.declared.base.item.Item.{Item}
 use Rattle.irtext_graph.specs.Graph.{parent_of}
 use Rattle.irtext_graph.specs.Store.{get}
@@ -17,9 +16,9 @@ use Rattle.irtext_graph.specs.declared.object.BasicBlock.{BasicBlock}
 use Rattle.irtext_graph.specs.declared.object.Operation.{Operation}
 use Rattle.irtext_graph.specs.declared.object.Region.{Region}
 use Rattle.irtext_grammar.specs.Contexts.Nested.{seen_root}
-use Rattle.irtext_grammar.specs.Graphs.Graph.{Graph, Printing}
+use Rattle.irtext_grammar.specs.Graphs.Graph.{Graph}
 use Rattle.irtext_grammar.specs.Spelling.Section.{text}
-use Rattle.irtext_print.specs.Printers.Appended.{Appends, Writes, fresh}
+use Rattle.irtext_print.specs.Printers.Appended.{Writes, fresh}
 use Rattle.irtext_print.specs.Printers.PrintedOperation.{levels}
 use Rattle.irtext_print.specs.Printers.Printing.{with_gathered}
 use Rattle.irtext_print.specs.Printers.Shown.{Shown}

@@ -25,7 +25,7 @@ fn text_missed<S: CharStream, A>(stream: &mut S, text: &str) -> ParseResult<(), 
 }
 
 /// Reads a fixed text as `text_parse` does, with its faults committed.
-#[inline]
+#[inline(always)]
 pub fn text_demanded<S: CharStream, A>(stream: &mut S, text: &str) -> ParseResult<(), A>
     ensures { MustRead S.view S.at (λ u. u) (text_at (characters text.now)) stream.old result stream.new }
 {

@@ -5,10 +5,10 @@ use irtext_context::base::{
     BasicBlock, BlockAccess, NewBlock, Operation, OperationAccess, OperationData, Ptr,
 };
 use irtext_few::Few;
+use irtext_grammar::UniqueName;
 use irtext_graph::held::HasGraph;
 use irtext_graph::object::Value;
 use irtext_types::{DemoAttr, DemoType};
-use irtext_grammar::UniqueName;
 use irtext_vectors_common::contexts::{Ctx, named, with_context, with_counters};
 use std::alloc::Global;
 use std::test::Fail;

@@ -2,9 +2,9 @@
 use crate::tests::steps::{FUNCTION, Made, Shape, Step, Used, built, operation_of};
 use irtext_context::base::Item;
 use irtext_print::printable::{RegionPrintDepthLimit, State};
-use irtext_print_ops::writers::Heads;
 use irtext_print_ops::nested::print_nested;
 use irtext_print_ops::walk::print_inside;
+use irtext_print_ops::writers::Heads;
 use irtext_types::{DemoAttr, DemoType};
 use irtext_vectors_common::contexts::{Ctx, with_context};
 use std::alloc::Global;

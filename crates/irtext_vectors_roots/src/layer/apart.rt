@@ -5,10 +5,10 @@ ghost use Rattle.irtext_base.specs.Format as format;
 ghost use Rattle.irtext_formats.specs.Directives.{directive_of, format_of};
 ghost use Rattle.irtext_vectors_roots.specs.Apart.{lab_dialects, lab_format, lab_id};
 
-use irtext_types::DemoAttr;
-use irtext_vectors_common::contexts::{Ctx, named};
 use crate::reading::concrete;
 use crate::registering::register_operation;
+use irtext_types::DemoAttr;
+use irtext_vectors_common::contexts::{Ctx, named};
 use pliron_text::base::{Context, NewBareOperation, OpId, Operation, Ptr};
 use pliron_text::dialect::DialectName;
 use pliron_text::format::{Directive, OpFormat};

@@ -1,9 +1,9 @@
 //! The dialects of a context: how they are registered and looked up, and how their names are read and printed.
+use crate::registering::register_operation;
 use irtext_types::{DemoAttr, DemoType};
 use irtext_vectors_common::answers::printed;
 use irtext_vectors_common::contexts::{Ctx, named};
 use irtext_vectors_common::tables::differing_alone;
-use crate::registering::register_operation;
 use pliron_text::base::{NewBareOperation, OpId, Operation, Ptr};
 use pliron_text::dialect::{Dialect, DialectName};
 use pliron_text::format::OpFormat;

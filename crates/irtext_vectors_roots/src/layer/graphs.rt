@@ -1,10 +1,10 @@
 //! Graphs with blocks and values that a caller makes by the names of this layer, and what is printed of them.
+use crate::reading::{concrete, whole};
+use crate::registering::register_operation;
 use irtext_graph::held::HasGraph;
 use irtext_types::{Characters, DemoAttr, DemoType, IntegerType, Signedness, Width};
 use irtext_vectors_common::contexts::{Ctx, named, with_counters, with_demo};
 use irtext_vectors_common::tables::differing;
-use crate::reading::{concrete, whole};
-use crate::registering::register_operation;
 use pliron_text::base::{
     AttrObj, BasicBlock, BlockAccess, Few, NewBlock, NewOperation, OpId, Operation,
     OperationAccess, Ptr, Value,

@@ -1,7 +1,7 @@
 //! What `pliron_text` hands on from the crates below, by its own paths, where no other row names it.
+use crate::reading::root;
 use irtext_types::DemoAttr;
 use irtext_vectors_common::contexts::{Ctx, named, with_demo};
-use crate::reading::root;
 use pliron_text::base::{
     AttrObj, AttributeDict, Identifier, OpId, Operation, OperationAccess, Ptr, Region,
 };

@@ -1,8 +1,8 @@
-use Rattle.std.proofs.Common.{◌≡◌, ◌<◌, ◌≤◌, ◌++◌, ◌∷◌, ◌∙◌, ℕ, [], List, length, map, take, drop, suc, refl, sym, ap, subst, arith, Err}
+use Rattle.std.proofs.Common.{◌<◌, ◌++◌, ◌∷◌, ◌∙◌, [], length, map, take, drop, suc, sym, ap, subst, arith, Err}
 use Rattle.irtext_graph.specs.declared.object.Value.TheVariants.{Result}
 use Rattle.irtext_graph.proofs.Closed.{older_on, closed_kept}
 use Rattle.irtext_names.specs.Rows.{DefinesResults, FailsResults}
-use Rattle.irtext_names.proofs.Lists.{known_at, number_more, number_here, numbers_before, older_itself}
+use Rattle.irtext_names.proofs.Lists.{known_at, number_more, number_here, numbers_before}
 use Rattle.irtext_names.proofs.Results.{still_ready, define_open, result_more, result_fails}
 use Rattle.irtext_names.proofs.definitions.process_parsed_ssa_defs.Goals as goal
 

@@ -1,5 +1,5 @@
 use Rattle.std.proofs.Common.{ℕ, refl, codes, length}
-use Rattle.irtext_base.specs.Answers.{Outcome, mapped, followed}
+use Rattle.irtext_base.specs.Answers.{Outcome, mapped}
 use Rattle.irtext_base.specs.Text.{Text}
 use Rattle.irtext_read.specs.Demanded.{spaced_at}
 use Rattle.irtext_read.proofs.Exits.{handed_on}

@@ -1,4 +1,4 @@
-use Rattle.std.proofs.Common.{ℕ, List, [], inl, inr, ◌∙◌, sym, ap}
+use Rattle.std.proofs.Common.{inl, inr, ◌∙◌, sym}
 use Rattle.irtext_context.proofs.Kept.{kept_trans}
 use Rattle.irtext_read.specs.AttrTexts.{attr_at}
 use Rattle.irtext_read.proofs.Exits.{handed_on}

@@ -1,4 +1,4 @@
-use Rattle.std.proofs.Common.{◌+◌, ◌≤◌, ◌≡◌, ◌∷◌, [], ◌++◌, ◌∙◌, string_bytes, arith, replicate, sym, ap, codes, cond}
+use Rattle.std.proofs.Common.{◌+◌, ◌≤◌, ◌∷◌, [], ◌++◌, ◌∙◌, string_bytes, arith, replicate, sym, ap, codes, cond}
 use Rattle.irtext_grammar.specs.Spelling.Spell.{newline}
 use Rattle.std.proofs.lemmas.Str.{IsCharBoundary-from_ascii}
 use Rattle.irtext_print.proofs.Printers.Appended.{opening-whole, opening-behind, opening-ascii}

@@ -1,4 +1,4 @@
-use Rattle.std.proofs.Common.{◌∙◌, ◌++◌, ap, sym, Some, None, string_bytes}
+use Rattle.std.proofs.Common.{◌∙◌, ◌++◌, ap, sym, string_bytes}
 use Rattle.std.proofs.lemmas.List.{append-nil}
 use Rattle.std.specs.Str.{encode_utf8_all}
 use Rattle.irtext_print.proofs.Printers.Appended.{then}

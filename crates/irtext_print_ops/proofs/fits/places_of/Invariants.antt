@@ -1,4 +1,4 @@
-use Rattle.std.proofs.Common.{◌≡◌, ◌≤◌, drop}
+use Rattle.std.proofs.Common.{◌≡◌, drop}
 use Rattle.irtext_formats.specs.Directives.{directives_of}
 use Rattle.irtext_print_ops.specs.Fits.{counted_on, places_of}
 use Rattle.irtext_print_ops.proofs.Counting.{AtMost}

@@ -16,7 +16,7 @@ pub fn skip_class<S: CharStream>(stream: &mut S, class: Class)
 }
 
 /// Passes white space, on a failed stream too.
-#[inline]
+#[inline(always)]
 pub fn skip_white_space<S: CharStream>(stream: &mut S)
     ensures { TakesFront S.view S.at is_whitespace stream.old stream.new }
 {

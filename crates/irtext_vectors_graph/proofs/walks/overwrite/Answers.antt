@@ -1,7 +1,6 @@
 use Rattle.std.proofs.Common.{◌≡◌, ℕ, refl, ap, arith, subst, length, Some}
-use Rattle.irtext_graph.specs.Graph.{GraphView}
 use Rattle.irtext_graph.specs.Throughout.{all_from}
-use Rattle.irtext_graph.proofs.Going.{Going, going_begins, going_shrinks, going_on, going_ends}
+use Rattle.irtext_graph.proofs.Going.{Going, going_begins, going_shrinks, going_on}
 use Rattle.irtext_vectors_graph.proofs.walks.overwrite.Goals as goal
 
 abbrev seven : ℕ → ℕ

@@ -1,13 +1,10 @@
-use Rattle.std.specs.Prelude.{[], codes, refl}
+use Rattle.std.specs.Prelude.{codes, refl}
 use Rattle.std.specs.Fmt.{digits}
 use Rattle.std.proofs.Common.{arith}
 use Rattle.irtext_base.specs.Text.{Text}
 use Rattle.irtext_grammar.proofs.Lists.SameText.{same_text_refl, same_text_true}
-use Rattle.irtext_grammar.specs.Graphs.Closed.{FitsOp}
-use Rattle.irtext_grammar.specs.Grammar.Forest.{no_regions}
 use Rattle.irtext_grammar.specs.Graphs.Graph.{GraphOp}
 use Rattle.irtext_grammar.specs.Graphs.RoundTrip.{GraphHeld}
-use Rattle.irtext_vectors_rows.specs.Demo.{isolated, plain_printing}
 use Rattle.irtext_vectors_rows.specs.Graphs.{noted, on_line_one}
 use Rattle.irtext_vectors_rows.specs.Located.{note_on_line_one, text_locations, up_to_bracket}
 use Rattle.irtext_vectors_rows.proofs.Premises.{fit, keeps, on, small, wordy}

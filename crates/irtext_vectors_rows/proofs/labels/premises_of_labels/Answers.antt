@@ -1,22 +1,17 @@
-use Rattle.std.specs.Prelude.{◌≡◌, Bool, true, false, cond, not, ◌==◌, [], ◌∷◌, codes, refl, Some, None}
-use Rattle.std.proofs.Common.{◌++◌, arith, ap, ap₂, inl, subst}
-use Rattle.std.specs.Char.{is_whitespace}
-use Rattle.std.specs.List.{list_all}
-use Rattle.irtext_base.proofs.Characters.{after_all, front_all}
-use Rattle.irtext_base.specs.Own.{found}
-use Rattle.irtext_base.specs.Reading.{the}
-use Rattle.irtext_base.specs.Text.{begins, Text}
+use Rattle.std.specs.Prelude.{◌≡◌, Bool, true, false, cond, [], ◌∷◌, codes, refl, Some}
+use Rattle.std.proofs.Common.{arith, inl, subst}
+use Rattle.irtext_base.specs.Text.{Text}
 use Rattle.irtext_base.specs.Format.{same_text}
 use Rattle.irtext_grammar.specs.Graphs.Closed.{Fit}
 use Rattle.irtext_grammar.specs.Graphs.ReservedKeys.{GraphKeepsKeys}
 use Rattle.irtext_grammar.specs.Spelling.Spellable.{IsIdentifier}
-use Rattle.irtext_grammar.specs.Graphs.RoundTrip.{GraphHeld, LocationReads}
+use Rattle.irtext_grammar.specs.Graphs.RoundTrip.{GraphHeld}
 use Rattle.irtext_grammar.specs.Graphs.Same.{SmallGraph}
 use Rattle.irtext_grammar.specs.Graphs.Regained.{Named}
 use Rattle.irtext_grammar.specs.Graphs.Identifiers.{HasIdentifiers}
 use Rattle.irtext_vectors_rows.specs.Labels.Demo.{isolated}
 use Rattle.irtext_vectors_rows.specs.Located.{text_locations, up_to_bracket}
-use Rattle.irtext_vectors_rows.specs.Graphs.{two_branches, on_line_one}
+use Rattle.irtext_vectors_rows.specs.Graphs.{two_branches}
 use Rattle.irtext_vectors_rows.specs.Labels.Graphs.{a_and_b}
 use Rattle.irtext_vectors_rows.proofs.Premises.{none_some, on}
 use Rattle.irtext_vectors_rows.proofs.labels.premises_of_labels.Goals as goal

@@ -2,7 +2,6 @@ use Rattle.std.proofs.Common.{◌≡◌, ◌++◌, ◌∙◌, ap, subst, length,
 use Rattle.std.specs.Str.{encode_utf8_all}
 use Rattle.irtext_print.proofs.Printers.Appended.{then}
 use Rattle.irtext_print.specs.Printers.Printing.{gathered_of, with_gathered}
-use Rattle.irtext_print.specs.declared.printable.refusal.Refusal.TheVariants.{Misfit}
 use Rattle.irtext_print_ops.specs.Heads as heads
 use Rattle.irtext_print_ir.proofs.Printers.Gathered.{rests}
 use Rattle.irtext_print_ir.proofs.ir.print.gathering.gather_operation.Goals as goal
