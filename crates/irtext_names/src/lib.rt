@@ -1,4 +1,5 @@
-//! Names over a graph: an early use of a name holds a placeholder, and the definition takes its place in all uses.
+//! Names over a graph: a forward reference to a name holds a placeholder, and the definition takes its place in all uses; and what the
+//! parser of an operation does with names, in a row.
 #![tactic(auto)]
 
 pub mod definitions;

@@ -1,5 +1,6 @@
-//! What a text is to the readers of operations, blocks and regions, however deep, with what its items do as they are read at its side:
-//! theory, and the laws that it ends in.
+//! What a text is to the parsers of operations, blocks and regions, however deep, with what its items do as they are parsed: what they do
+//! with names, and what they build; and what a text is to the parsers of the section behind a root. Definitions, proofs, and the laws that
+//! these end in.
 #![tactic(auto)]
 
 pub mod building_laws;

@@ -1,5 +1,5 @@
-//! Reading of names, of dictionaries and of the headers of blocks, of what stands in front of an operation's own parts, and of these up
-//! to its first region. Names are kept once for the reading, and what is read holds their numbers.
+//! Parsers of locations, of names, of dictionaries and of the headers of blocks, of what is in front of an operation's own parts, and of
+//! these up to its first region. Names are kept once for a parse, and what is parsed holds their numbers.
 #![tactic(auto)]
 
 pub mod arguments;

@@ -1,4 +1,5 @@
-//! What a text is read into by the outermost readers: an operation with all that nests in it, the section behind it, and a whole text.
+//! The parser of operations, regions and blocks with all that nests in them, as one loop over what is open; the outermost parsers: an
+//! operation, the section behind it, a whole text, a region alone; and the trait `Parsable` with all that implements it.
 #![tactic(auto)]
 
 mod alone;

@@ -1,5 +1,6 @@
-//! What printing stands on: the printing state with its guards, the texts of attributes and of locations, and what a format's directives
-//! write of an operation's attributes.
+//! What printing is made of: the printing state with its guards, the texts of attributes and of locations, what a format's directives
+//! write of an operation's attributes, and the section behind a root: what it gives of operations and blocks, of which their marks are
+//! made too, and its text.
 #![tactic(auto)]
 
 mod entries;

@@ -1,5 +1,7 @@
-//! Theory without code: what is open while an operation is written, however deep, the text that is still to be written of it, and what
-//! each turn of a loop over what is open writes.
+//! Printing of an operation, a region or a block with all that nests in it: a loop over what is open, so no text is too deep for it. What
+//! is written of an operation's own: the names of its results, the pieces of its format, and the form that any operation has; what is
+//! written of a block in front of its operations; and whether an operation fits its format. Where memory is refused, what was written
+//! until then stays.
 #![tactic(auto)]
 
 pub mod block_heads;

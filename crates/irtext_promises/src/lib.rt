@@ -1,4 +1,5 @@
-//! What stands under an operation that was read, with all that nests in it, and what a caller is told of it: theory, with no code.
+//! What a context holds under an operation that was parsed, with all that nests in it, what a caller is told of it, and the laws that tie
+//! printing to parsing over what the two calls promise.
 #![tactic(auto)]
 
 pub mod laws;

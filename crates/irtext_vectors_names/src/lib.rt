@@ -1,5 +1,5 @@
-//! Worked rows of names over a graph: values and labels that are used before they are defined, regions, and memory that is refused;
-//! and a random script beside a plain model.
+//! Worked rows of the scopes of names, and of names over a graph: values and labels that are used before they are defined, regions, and
+//! memory that is refused; and random scripts beside plain models.
 #![tactic(auto)]
 
 #[cfg(test)]

@@ -1,4 +1,5 @@
-//! Worked rows of roots, by the paths of `pliron_text`: what is read, what is printed, and what a refusal leaves.
+//! Worked rows of roots, by the paths of `pliron_text`: what is parsed, what is printed, and what an error leaves; and of what
+//! `pliron_text` re-exports: dialects, objects, errors and macros.
 #![tactic(auto)]
 
 #[cfg(test)]
