@@ -6,8 +6,8 @@ Reads and prints texts of that many megabytes (10 where none is given) with the 
 off, and where a text is printed its reading too. Printing is done ten times in a run, so that it is not lost in the noise of
 reading. Then come lists of integers and of quoted texts as they are read, a text that is printed between quotation marks, with a
 plain copy of the same bytes beside it, positions at the end of a text, and locations that stand in one another a million deep. Last
-come the instructions of an item, with what it may take, counted by valgrind where it is there, and those of calls on graphs and
-names, by the program of crates/irtext_graph_bench: they are the same on a busy machine."""
+come the instructions of an item, with what it may take, counted by valgrind where it is there (the program's reading of its input is
+taken off), and those of calls on graphs and names, by the program of crates/irtext_graph_bench: they are the same on a busy machine."""
 import os
 import re
 import shutil
@@ -77,12 +77,21 @@ def seconds(path, words):
     return best
 
 
+# The C library copies and fills long runs of bytes by one instruction, which valgrind counts once for each byte; it shall take others.
+LOOPS = {"GLIBC_TUNABLES": ":".join("glibc.cpu.x86_rep_%sb_threshold=%d" % (it, 1 << 30) for it in ("movs", "stos"))}
+
+
 def counted(path, words, program, tool, count):
     """What valgrind counts by this tool in a run, found in what it says by a pattern."""
     with open(path, "rb") as source:
-        run = subprocess.run(["valgrind"] + tool + [program] + words,
+        run = subprocess.run(["valgrind"] + tool + [program] + words, env={**os.environ, **LOOPS},
                              stdin=source, stdout=subprocess.DEVNULL, stderr=subprocess.PIPE, check=True)
     return int(re.search(count, run.stderr).group(1).replace(b",", b""))
+
+
+def reading(path, word):
+    """The instructions in which a text is read, less those in which the program reads its input."""
+    return instructions(path, [word]) - instructions(path, ["copied"])
 
 
 def instructions(path, words, program=PROGRAM):
@@ -252,9 +261,10 @@ def print_instructions(path):
         counts = []
         for number in (few, many):
             written(path, make(number))
-            read = instructions(path, [word])
-            again = instructions(path, [word] + ["print"] * PRINTS) if word == "roots" else read
-            counts.append((read, allocations(path, [word]), (again - read) / PRINTS))
+            printed = 0
+            if word == "roots":
+                printed = (instructions(path, [word] + ["print"] * PRINTS) - instructions(path, [word])) / PRINTS
+            counts.append((reading(path, word), allocations(path, [word]), printed))
         read, requests, printed = ((last - first) / (many - few) for first, last in zip(*counts))
         print("| %s | %.1f | %d | %.2f | %s | %s |" % (
             name, read, read_most, requests, "%.1f" % printed if word == "roots" else "-", print_most or "-"))
@@ -269,8 +279,8 @@ def print_shapes(path):
         for number in (640, 7040, 71040):
             number -= number % (50 if name == "blocks" else 64)
             written(path, make(number))
-            read = instructions(path, ["roots"])
-            counts.append((number, read, instructions(path, ["roots", "print"]) - read))
+            printed = instructions(path, ["roots", "print"]) - instructions(path, ["roots"])
+            counts.append((number, reading(path, "roots"), printed))
         rates = [[(after[i] - before[i]) / (after[0] - before[0]) for before, after in zip(counts, counts[1:])] for i in (1, 2)]
         print("| %s | %.0f | %.0f | %.0f | %.0f |" % ((name,) + tuple(rates[0]) + tuple(rates[1])))
 
