@@ -3,6 +3,7 @@ pub mod Meanings
 pub mod Interned
 pub mod NameSteps
 pub mod Listings
+pub mod Absences
 pub mod Looks
 pub mod Leads
 pub mod MarkSteps

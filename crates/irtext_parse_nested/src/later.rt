@@ -34,15 +34,13 @@ ghost use Rattle.irtext_parse_nested.specs.Read.{RefusesPiece};
 
 use crate::beginning::gather_fault;
 use crate::frame::{BegunOperation, Names};
-use crate::gathering::{NotGathered, all_items, entries_stored, kept, symbol_key};
+use crate::gathering::{NotGathered, entries_stored, kept, symbol_key};
 use irtext_base::base::{AttrObj, Identifier};
 use irtext_base::format::OpFormat;
 use irtext_base::parsable::{CharStream, ParseResult, TextStream};
 use irtext_base::text::{AttrText, IrText};
 use irtext_context::base::{Context, Operation, Ptr};
 use irtext_dict::base::AttributeDict;
-use irtext_few::Few;
-use irtext_parse_heads::entries::ReadEntry;
 use irtext_parse_heads::names::Symbol;
 use irtext_parse_heads::pieces::{ReadPiece, step_parse};
 use irtext_parse_heads::steps::step_at;
@@ -79,23 +77,6 @@ fn attr_stored<A: Drop>(
     }
 }
 
-/// Stores the entries of a dictionary. The first whose attribute may not stand under its key is refused, and memory may be refused; those
-/// before it are stored then.
-fn dictionary_kept<A: Drop>(
-    alloc: Global,
-    attributes: &mut AttributeDict<A>,
-    entries: Few<ReadEntry<A>>,
-) -> Result<(), NotGathered>
-    ensures stored { OnOk result (entries_of attributes.new ≡ put_all (entries_of attributes.old) (map entry_read entries)) }
-    ensures holds { OnOk result (MayAllHold entries) }
-    ensures refused { IfErr result (RefusesEntries entries) }
-{
-    let Ok(entries) = all_items(alloc, entries) else {
-        return Err(NotGathered::Memory);
-    };
-    entries_stored(attributes, entries)
-}
-
 /// Stores a symbol's name.
 fn symbol_stored<A: Drop>(
     alloc: Global,
@@ -123,7 +104,7 @@ fn piece_stored<T: Drop, A: Drop>(
 {
     match piece {
         ReadPiece::Attr(key, attr) => attr_stored(attributes, key, attr),
-        ReadPiece::Dictionary(entries) => dictionary_kept(alloc, attributes, entries),
+        ReadPiece::Dictionary(entries) => entries_stored(attributes, entries),
         ReadPiece::Header(symbol) => symbol_stored(alloc, attributes, symbol),
         _ => Ok(()),
     }
