@@ -1,5 +1,5 @@
 //! A piece of an operation that stands behind a region: it is read by the operation's next step, and what it gives is stored.
-ghost use Rattle.std.specs.Prelude.{◌≡◌, ◌≤◌, ◌<◌, ◌+◌, ◌∷◌, [], map, ℕ, List, Some, IfErr, OnOk, IsSome, length, slice_get, false, true};
+ghost use Rattle.std.specs.Prelude.{◌≡◌, ◌≤◌, ◌<◌, ◌+◌, ◌∷◌, [], ℕ, List, Some, IfErr, OnOk, IsSome, length, slice_get, false, true};
 ghost use Rattle.irtext_base.specs.Faults.{id_of};
 ghost use Rattle.irtext_base.specs.Format.{sym_name_key};
 ghost use Rattle.irtext_context.specs.Context.{KeepsOlder, operation};
@@ -27,7 +27,7 @@ ghost use Rattle.irtext_parse_heads.specs.Pieces.{MustPiece};
 ghost use Rattle.irtext_parse_nested.specs.declared.gathering.NotGathered.TheVariants.{Memory};
 ghost use Rattle.irtext_parse_nested.specs.Begun.{IsBegun};
 ghost use Rattle.irtext_parse_nested.specs.Ends.{WritesAttributes};
-ghost use Rattle.irtext_parse_nested.specs.Gathered.{stored_of, entry_read, MayAllHold, RefusesEntries};
+ghost use Rattle.irtext_parse_nested.specs.Gathered.{stored_of};
 ghost use Rattle.irtext_parse_nested.specs.Items.{IsSound, Lasts};
 ghost use Rattle.irtext_parse_nested.specs.Later.{given_by, IsFlatNext, MayStore, RefusesStored, StoresPiece, NotStored, GoesOn};
 ghost use Rattle.irtext_parse_nested.specs.Read.{RefusesPiece};
