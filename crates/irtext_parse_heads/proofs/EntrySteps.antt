@@ -1,6 +1,8 @@
 -- Steps of the reader of dictionaries.
 use Rattle.std.proofs.Common.{◌≡◌, ℕ, true, false, Result, Ok, Err, Option, Some, None, List, [], ◌∷◌, length, refl, sym, subst, ◌∙◌}
 use Rattle.std.specs.Char.{is_whitespace}
+use Rattle.std.specs.Prelude.{Vec}
+use Rattle.std.specs.Global.{Global}
 use Rattle.irtext_base.specs.Text.{Text, begins, front, after}
 use Rattle.irtext_base.specs.Reading.{the}
 use Rattle.irtext_base.specs.Answers.{Outcome, Takes, Answers, mapped, followed, unless_failed}
@@ -19,8 +21,8 @@ use Rattle.irtext_grammar.specs.Grammar.Tree.{Name, Attribute}
 use Rattle.irtext_grammar.specs.Spelling.AttrText.{attr_tree}
 use Rattle.irtext_nesting.specs.Heads.{name_of, name_at, dictionary_at}
 use Rattle.irtext_parse_heads.specs.declared.entries.Key.{Key}
-use Rattle.irtext_parse_heads.specs.Entries.{IsKey, IsEntry, MustEntries, EntriesBehind, dictionary_if}
-use Rattle.irtext_parse_heads.specs.Named.{whole, Each, Optional, MayMean, MustMean}
+use Rattle.irtext_parse_heads.specs.Entries.{IsKey, IsEntry, AreEntries, MustEntries, EntriesBehind, dictionary_if}
+use Rattle.irtext_parse_heads.specs.Named.{whole, Optional, MayMean, MustMean}
 use Rattle.irtext_parse_heads.proofs.Listings.{list_some}
 use Rattle.irtext_parse_heads.proofs.Meanings.{takes_whole, may_whole}
 use Rattle.irtext_parse_heads.proofs.NameSteps.{nobody}
@@ -55,11 +57,11 @@ module _ {S A : Type 0} (l : Lens S) where
       record { meant = λ _. nobody; means = tt; read = record { answers = refuses_mapped l.view l.at l.view_at l.at_at (name_of place) (l.view old).failed (identifier_at (l.view old).rest) old new fault h } }
 
   -- there is a first entry, and what stands behind it
-  pub list_entries : (item : Text → Outcome (Name ℕ × Attribute A)) {old mid new last : S} {first : Key × AttrObj A} {r : Result (List (Key × AttrObj A)) (ParseFault A)} → MayMean {A = A} l.view l.at (IsEntry (whole (l.view old))) item old (Ok first) mid → Takes l.view l.at (front is_whitespace (l.view mid).rest) (after is_whitespace (l.view mid).rest) mid new
+  pub list_entries : (item : Text → Outcome (Name ℕ × Attribute A)) {old mid new last : S} {first : Key × AttrObj A} {r : Result (Vec (Key × AttrObj A) Global) (ParseFault A)} → MayMean {A = A} l.view l.at (IsEntry (whole (l.view old))) item old (Ok first) mid → Takes l.view l.at (front is_whitespace (l.view mid).rest) (after is_whitespace (l.view mid).rest) mid new
       → EntriesBehind l.view l.at item first new r last → MustEntries l.view l.at (separated_at 44 item) old r last
   list_entries item {old = old} {mid = mid} {new = new} {last = last} {first = n} {r = r} h k rest =
       let e : whole (l.view new) ≡ whole (l.view old) = takes_whole l mid new (front is_whitespace (l.view mid).rest) (after is_whitespace (l.view mid).rest) k ∙ may_whole l h.read in
-      list_some l item h.read k (λ fine. subst (λ t. MustMean l.view l.at (Each (IsEntry t)) (λ t. items_after 44 item (length t) (h.meant n ∷ []) t) new r last) e (rest (h.meant n) (subst (λ t. IsEntry t n (h.meant n)) (sym e) h.means) fine))
+      list_some l item h.read k (λ fine. subst (λ t. MustMean l.view l.at (AreEntries t) (λ t. items_after 44 item (length t) (h.meant n ∷ []) t) new r last) e (rest (h.meant n) (subst (λ t. IsEntry t n (h.meant n)) (sym e) h.means) fine))
 
   -- the first thing, which must stand there, is refused
   pub first_refused : {X Y V W : Type 0} {see : Y → X} {sees : W → V} {f : Text → Outcome X} {old new : S} {fault : ParseFault A} (k : X → Text → Outcome V) → MustRead {Y = Y} l.view l.at see f old (Err fault) new → MustRead {Y = W} l.view l.at sees (λ t. followed (f t) k) old (Err fault) new
@@ -67,19 +69,19 @@ module _ {S A : Type 0} (l : Lens S) where
 
   module _ (attr : Text → Outcome (AttrView A)) where
     -- no dictionary stands there
-    pub no_dictionary : {Means : Option (List (Key × AttrObj A)) → Option (List (Name ℕ × Attribute A)) → Type 0} {old : S} → (l.view old).failed ≡ false → begins (the 91) (l.view old).rest ≡ false → Means None None → MustMean {A = A} l.view l.at Means (dictionary_if attr) old (Ok None) old
+    pub no_dictionary : {Means : Option (Vec (Key × AttrObj A) Global) → Option (List (Name ℕ × Attribute A)) → Type 0} {old : S} → (l.view old).failed ≡ false → begins (the 91) (l.view old).rest ≡ false → Means None None → MustMean {A = A} l.view l.at Means (dictionary_if attr) old (Ok None) old
     no_dictionary {old = old} f b h = record { meant = λ _. None; means = h; read = record { answers = rw (f, b) (refl, takes_none l.view l.at l.view_at l.at_at l.at_view old) } }
 
     -- one was read
-    pub dictionary_there : {text : Text} {old new : S} {entries : List (Key × AttrObj A)} → begins (the 91) (l.view old).rest ≡ true → MustMean {A = A} l.view l.at (Each (IsEntry text)) (dictionary_at attr) old (Ok entries) new
-        → MustMean {A = A} l.view l.at (Optional (Each (IsEntry text))) (dictionary_if attr) old (Ok (Some entries)) new
+    pub dictionary_there : {text : Text} {old new : S} {entries : Vec (Key × AttrObj A) Global} → begins (the 91) (l.view old).rest ≡ true → MustMean {A = A} l.view l.at (AreEntries text) (dictionary_at attr) old (Ok entries) new
+        → MustMean {A = A} l.view l.at (Optional (AreEntries text)) (dictionary_if attr) old (Ok (Some entries)) new
     dictionary_there {old = old} {new = new} {entries = es} b h = record {
       meant = λ _. Some (h.meant es);
       means = h.means;
-      read = record { answers = rw b (seen_alone l {A = A} (λ (d : Option (List (Key × AttrObj A))). Some (h.meant es)) Some (Some es) refl h.read).answers };
+      read = record { answers = rw b (seen_alone l {A = A} (λ (d : Option (Vec (Key × AttrObj A) Global)). Some (h.meant es)) Some (Some es) refl h.read).answers };
     }
 
     -- it is refused
-    pub dictionary_refused : {Means : List (Key × AttrObj A) → List (Name ℕ × Attribute A) → Type 0} {Other : Option (List (Key × AttrObj A)) → Option (List (Name ℕ × Attribute A)) → Type 0} {old new : S} {fault : ParseFault A} → begins (the 91) (l.view old).rest ≡ true → MustMean l.view l.at Means (dictionary_at attr) old (Err fault) new → MustMean l.view l.at Other (dictionary_if attr) old (Err fault) new
+    pub dictionary_refused : {Means : Vec (Key × AttrObj A) Global → List (Name ℕ × Attribute A) → Type 0} {Other : Option (Vec (Key × AttrObj A) Global) → Option (List (Name ℕ × Attribute A)) → Type 0} {old new : S} {fault : ParseFault A} → begins (the 91) (l.view old).rest ≡ true → MustMean l.view l.at Means (dictionary_at attr) old (Err fault) new → MustMean l.view l.at Other (dictionary_if attr) old (Err fault) new
     dictionary_refused {old = old} {new = new} {fault = fault} b h =
         record { meant = λ _. None; means = tt; read = record { answers = rw b (refuses_mapped_demanded l.view l.at l.view_at l.at_at Some (l.view old).failed (dictionary_at attr (l.view old).rest) old new fault h.read.answers) } }

@@ -8,6 +8,7 @@ pub mod FrontSteps
 pub mod Interned
 pub mod Leads
 pub mod Listings
+pub mod Absences
 pub mod Looks
 pub mod MarkSteps
 pub mod Meanings

@@ -9,7 +9,7 @@ use Rattle.irtext_grammar.specs.Grammar.Tree.{Head}
 use Rattle.irtext_nesting.specs.Heads.{head_at}
 use Rattle.irtext_parse_heads.specs.declared.headers.BlockHead.{BlockHead}
 use Rattle.irtext_parse_heads.specs.Arguments.{IsArgument}
-use Rattle.irtext_parse_heads.specs.Entries.{IsEntry}
+use Rattle.irtext_parse_heads.specs.Entries.{AreEntries}
 use Rattle.irtext_parse_heads.specs.Marks.{IsMarkIf}
 use Rattle.irtext_parse_heads.specs.Named.{whole, StandsFor, Each, Optional, MustMean}
 
@@ -17,7 +17,7 @@ use Rattle.irtext_parse_heads.specs.Named.{whole, StandsFor, Each, Optional, Mus
 pub record IsHead {T A : Type 0} (names : List Text) (text : Text) (read : BlockHead T A) (head : Head ℕ T A) : Type 0 where
   pub label : StandsFor names text read.label head.label
   pub arguments : Each (IsArgument names text) read.arguments head.arguments
-  pub attributes : Optional (Each (IsEntry text)) read.attributes head.attributes
+  pub attributes : Optional (AreEntries text) read.attributes head.attributes
   pub mark : IsMarkIf text read.mark head.mark
 
 module _ {S T A : Type 0} (view : S → StreamView) (at : S → StreamView → S) where

@@ -14,7 +14,7 @@ use Rattle.irtext_grammar.specs.Grammar.Tree as tree
 use Rattle.irtext_grammar.specs.Grammar.Tree.{Name, Attribute, Piece}
 use Rattle.irtext_parse_heads.specs.declared.pieces.ReadPiece.{ReadPiece}
 use Rattle.irtext_parse_heads.specs.declared.pieces.ReadPiece.TheVariants as read
-use Rattle.irtext_parse_heads.specs.Entries.{IsEntry}
+use Rattle.irtext_parse_heads.specs.Entries.{AreEntries}
 use Rattle.irtext_parse_heads.specs.Named.{whole, StandsFor, IsSymbol, Each, MustMean}
 
 -- the attribute that was read, or none
@@ -30,7 +30,7 @@ IsPiece names text (read.Operands ns) p = (ms : List (Name ℕ)) × (p ≡ tree.
 IsPiece names text (read.Successor i n) p = (m : Name ℕ) × (p ≡ tree.successor i m) × StandsFor names text n m
 IsPiece names text (read.Successors ns) p = (ms : List (Name ℕ)) × (p ≡ tree.successors ms) × Each (StandsFor names text) ns ms
 IsPiece names text (read.Attr k a) p = p ≡ tree.attribute k (seen_attribute a)
-IsPiece {A = A} names text (read.Dictionary es) p = (ds : List (Name ℕ × Attribute A)) × (p ≡ tree.dictionary ds) × Each (IsEntry text) es ds
+IsPiece {A = A} names text (read.Dictionary es) p = (ds : List (Name ℕ × Attribute A)) × (p ≡ tree.dictionary ds) × AreEntries text es ds
 IsPiece names text (read.ResultType i t) p = p ≡ tree.result_type i t
 IsPiece names text (read.Header s) p = (n : Name ℕ) × (p ≡ tree.header n) × IsSymbol text s n
 IsPiece names text (read.Types ts) p = p ≡ tree.types ts

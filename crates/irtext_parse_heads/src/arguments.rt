@@ -5,7 +5,7 @@ ghost use Rattle.irtext_nesting.specs.Heads.{argument_at};
 ghost use Rattle.irtext_parse_heads.specs.Arguments.{IsArgument, MustArguments, ArgumentsBehind};
 ghost use Rattle.irtext_parse_heads.specs.Named.{MayMean, NamesRead, whole};
 
-use crate::lists::with_item;
+use crate::lists::{NameKind, none_named, with_item};
 use crate::names::{ReadName, name_parse};
 use irtext_base::parsable::{CharStream, ParseResult};
 use irtext_base::text::{AttrText, IrText};
@@ -69,6 +69,9 @@ pub fn arguments_parse<S: OwnStream, V: Copy, B: Copy, T: IrText<A>, A: AttrText
         (separated_at 44 (argument_at T.IrText.reading (attr_at A.IrText.reading))) stream.old result stream.new }
     ensures names { NamesRead names.old names.new }
 {
+    if none_named(stream, NameKind::Value) {
+        return Ok(Few::none());
+    }
     match argument_parse(stream, names) {
         Ok(first) => {
             skip_white_space(stream);

@@ -8,17 +8,15 @@ ghost use Rattle.irtext_nesting.specs.Heads.{name_at, pair_at, dictionary_at};
 ghost use Rattle.irtext_parse_heads.specs.Entries.{IsKey, IsEntry, MustEntries, EntriesBehind, MustDictionaryIf};
 ghost use Rattle.irtext_parse_heads.specs.Named.{MayMean, whole};
 
-use crate::lists::with_item;
+use crate::lists::{NameKind, none_named};
 use irtext_base::base::{AttrObj, Identifier};
 use irtext_base::parsable::{CharStream, ParseResult, Place};
 use irtext_base::result::Cause;
 use irtext_base::text::AttrText;
-use irtext_few::Few;
 use irtext_read::irfmt::demanded::{spaced_text_demanded, text_demanded};
 use irtext_read::irfmt::faults::{committed, next_is, out_of_memory, refuse};
 use irtext_read::irfmt::parsers::{attr_parse, identifier_parse, skip_white_space};
 use irtext_read::parsable::OwnStream;
-use std::alloc::AllocError;
 
 /// A key that was read, and where it stands.
 #[derive(Drop)]
@@ -63,28 +61,33 @@ fn entry_parse<S: OwnStream, A: AttrText>(stream: &mut S) -> ParseResult<ReadEnt
 fn more_entries<S: OwnStream, A: AttrText>(
     stream: &mut S,
     first: ReadEntry<A>,
-) -> ParseResult<Few<ReadEntry<A>>, A>
+) -> ParseResult<Vec<ReadEntry<A>>, A>
     ensures { EntriesBehind S.CharStream.view S.CharStream.at (pair_at (attr_at A.IrText.reading)) first stream.old result stream.new }
 {
-    let mut found = Few::one(first);
+    let mut found = Vec::new(stream.allocator());
+    let Ok(()) = found.push(first) else {
+        return Err(out_of_memory(stream));
+    };
     while next_is(stream, ',') {
         let _ = stream.take();
         skip_white_space(stream);
         let answer = entry_parse(stream);
         let next = committed(stream, answer)?;
         skip_white_space(stream);
-        found = match with_item(stream.allocator(), found, next) {
-            Ok(more) => more,
-            Err(AllocError) => return Err(out_of_memory(stream)),
+        let Ok(()) = found.push(next) else {
+            return Err(out_of_memory(stream));
         };
     }
     Ok(found)
 }
 
 /// Reads entries with `,` between them and white space after each. Where no name begins, there are none. A fault is committed.
-fn entries_parse<S: OwnStream, A: AttrText>(stream: &mut S) -> ParseResult<Few<ReadEntry<A>>, A>
+fn entries_parse<S: OwnStream, A: AttrText>(stream: &mut S) -> ParseResult<Vec<ReadEntry<A>>, A>
     ensures { MustEntries S.CharStream.view S.CharStream.at (separated_at 44 (pair_at (attr_at A.IrText.reading))) stream.old result stream.new }
 {
+    if none_named(stream, NameKind::Value) {
+        return Ok(Vec::new(stream.allocator()));
+    }
     match entry_parse(stream) {
         Ok(first) => {
             skip_white_space(stream);
@@ -94,16 +97,16 @@ fn entries_parse<S: OwnStream, A: AttrText>(stream: &mut S) -> ParseResult<Few<R
             if fault.committed {
                 return Err(fault);
             }
-            Ok(Few::none())
+            Ok(Vec::new(stream.allocator()))
         }
     }
 }
 
 /// Reads a dictionary: entries between brackets, each a key, `:` and an attribute, with `,` between them. Which keys may stand there,
-/// and how often, is not looked at. Up to two entries take no memory but that of their keys and attributes. A fault is committed.
+/// and how often, is not looked at. A dictionary with no entry takes no memory, and one with entries takes a vector. A fault is committed.
 pub fn dictionary_parse<S: OwnStream, A: AttrText>(
     stream: &mut S,
-) -> ParseResult<Few<ReadEntry<A>>, A>
+) -> ParseResult<Vec<ReadEntry<A>>, A>
     ensures { MustEntries S.CharStream.view S.CharStream.at (dictionary_at (attr_at A.IrText.reading)) stream.old result stream.new }
 {
     text_demanded(stream, "[")?;
@@ -116,7 +119,7 @@ pub fn dictionary_parse<S: OwnStream, A: AttrText>(
 /// Reads a dictionary as `dictionary_parse` does, where a `[` stands. A fault is committed.
 pub fn dictionary_if_parse<S: OwnStream, A: AttrText>(
     stream: &mut S,
-) -> ParseResult<Option<Few<ReadEntry<A>>>, A>
+) -> ParseResult<Option<Vec<ReadEntry<A>>>, A>
     ensures { MustDictionaryIf S.CharStream.view S.CharStream.at (attr_at A.IrText.reading) stream.old result stream.new }
 {
     if stream.has_failed() {

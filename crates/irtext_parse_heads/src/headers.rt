@@ -21,7 +21,7 @@ use irtext_scopes::tracker::NameTracker;
 pub struct BlockHead<T, A> {
     pub label: ReadName,
     pub arguments: Few<(ReadName, T)>,
-    pub attributes: Option<Few<ReadEntry<A>>>,
+    pub attributes: Option<Vec<ReadEntry<A>>>,
     pub mark: Option<ReadMark>,
 }
 

@@ -1,14 +1,15 @@
 //! Lists of names, with `,` between them: up to two take no memory.
-ghost use Rattle.std.specs.Prelude.{◌≡◌, ◌++◌, ◌∷◌, [], IfOk};
+ghost use Rattle.std.specs.Prelude.{◌≡◌, ◌++◌, ◌∷◌, [], ◌&&◌, not, IfOk};
+ghost use Rattle.irtext_base.specs.Text.{begins};
 ghost use Rattle.irtext_read.specs.ListOutcomes.{separated_at};
 ghost use Rattle.irtext_parse_heads.specs.Named.{MayName, MustNames, NamesBehind, NamesRead};
-ghost use Rattle.irtext_parse_heads.specs.Kinds.{named_at};
+ghost use Rattle.irtext_parse_heads.specs.Kinds.{beginning, named_at};
 
 use crate::names::{ReadName, target_parse, used_parse};
 use irtext_base::parsable::{CharStream, ParseResult};
 use irtext_few::{Few, Items};
-use irtext_read::irfmt::faults::{committed, next_is, out_of_memory};
-use irtext_read::irfmt::parsers::skip_white_space;
+use irtext_read::irfmt::faults::{begins, committed, next_is, out_of_memory};
+use irtext_read::irfmt::parsers::{Class, skip_white_space};
 use irtext_scopes::tracker::NameTracker;
 use std::alloc::{AllocError, Global};
 
@@ -91,6 +92,20 @@ fn more_names<S: CharStream, V: Copy, B: Copy, A: Drop>(
     Ok(found)
 }
 
+/// Whether no name of this kind begins here, seen by the next character alone. A stream that had failed does not say so.
+#[inline]
+pub(crate) fn none_named<S: CharStream>(stream: &S, kind: NameKind) -> bool
+    ensures { result ≡ (not (S.view stream.now).failed && not (begins (beginning kind) (S.view stream.now).rest)) }
+{
+    if stream.has_failed() {
+        return false;
+    }
+    match kind {
+        NameKind::Value => !begins(stream, Class::Beginning),
+        NameKind::Block => !next_is(stream, '^'),
+    }
+}
+
 /// Reads names that are used, of values or of blocks, with `,` between them and white space after each, inside of some region or
 /// outside of each. Where none begins, there are none. A fault is committed.
 pub fn names_parse<S: CharStream, V: Copy, B: Copy, A: Drop>(
@@ -102,6 +117,9 @@ pub fn names_parse<S: CharStream, V: Copy, B: Copy, A: Drop>(
     ensures read { MustNames S.view S.at names.new.names (separated_at 44 (named_at kind inside)) stream.old result stream.new }
     ensures names { NamesRead names.old names.new }
 {
+    if none_named(stream, kind) {
+        return Ok(Few::none());
+    }
     match named_parse(stream, names, kind, inside) {
         Ok(first) => {
             skip_white_space(stream);

@@ -48,7 +48,7 @@ pub enum ReadPiece<T, A> {
     /// The attribute under this key, or none where the marker of an attribute of the section stands.
     Attr(Identifier, Option<AttrObj<A>>),
     /// The entries of a dictionary.
-    Dictionary(Few<ReadEntry<A>>),
+    Dictionary(Vec<ReadEntry<A>>),
     /// The type of the result at this place.
     ResultType(usize, T),
     /// The symbol's name.

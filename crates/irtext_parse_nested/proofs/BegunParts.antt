@@ -242,7 +242,7 @@ module _ {T A : Type 0} (names : List Text) (text : Text) where
   stored_alike (read.Successors ns) p e = sym (ap stored e.1)
   stored_alike (read.Attr k None) p e = sym (ap stored e)
   stored_alike (read.Attr k (Some a)) p e = sym (ap stored e)
-  stored_alike (read.Dictionary es) p e = entries_alike text es e.0 e.2 ∙ sym (ap stored e.1)
+  stored_alike (read.Dictionary es) p e = entries_alike text es.items e.0 e.2 ∙ sym (ap stored e.1)
   stored_alike (read.ResultType i t) p e = sym (ap stored e)
   stored_alike (read.Header s) p e = ap (λ z. (sym_name_key, ident z) ∷ []) e.2.named ∙ sym (ap stored e.1)
   stored_alike (read.Types ts) p e = sym (ap stored e)

@@ -1,6 +1,8 @@
 -- What the header of a block does with names: its keys, its arguments, its mark and its label, and where that fails.
 use Rattle.std.proofs.Common.{◌≡◌, ◌<◌, ◌+◌, ◌∙◌, inl, inr, ℕ, zero, suc, Bool, true, false, cond, List, [], ◌∷◌, ◌++◌, length, map, Option, Some, None, refl, sym, ap, ap₂, subst, arith, append-nil, append_assoc, slice_get}
 use Rattle.std.specs.Map.{lookup}
+use Rattle.std.specs.Prelude.{Vec}
+use Rattle.std.specs.Global.{Global}
 use Rattle.std.proofs.lemmas.List.{length-map}
 use Rattle.irtext_base.specs.Text.{Text}
 use Rattle.irtext_base.specs.Faults as causes
@@ -39,7 +41,7 @@ use Rattle.irtext_parse_heads.specs.declared.headers.BlockHead.{BlockHead}
 use Rattle.irtext_parse_heads.specs.declared.marks.ReadMark.{ReadMark}
 use Rattle.irtext_parse_heads.specs.declared.names.ReadName.{ReadName}
 use Rattle.irtext_parse_heads.specs.Arguments.{IsArgument}
-use Rattle.irtext_parse_heads.specs.Entries.{IsKey, IsEntry}
+use Rattle.irtext_parse_heads.specs.Entries.{IsKey, IsEntry, AreEntries}
 use Rattle.irtext_parse_heads.specs.Headers.{IsHead}
 use Rattle.irtext_parse_heads.specs.Marks.{IsMarkIf}
 use Rattle.irtext_parse_heads.specs.Named.{StandsFor, Each, Optional, NamesRead}
@@ -99,7 +101,7 @@ module _ {A : Type 0} (rule : Rule A) (text : Text) where
       }
 
 -- the entries of a dictionary that may be missing
-pub keys_each : {A : Type 0} (text : Text) (rs : Option (List (Key × AttrObj A))) (es : Option (List (Name ℕ × Attribute A))) → Optional (Each (IsEntry text)) rs es → Each (IsEntry text) (entries_in rs) (entries_if es)
+pub keys_each : {A : Type 0} (text : Text) (rs : Option (Vec (Key × AttrObj A) Global)) (es : Option (List (Name ℕ × Attribute A))) → Optional (AreEntries text) rs es → Each (IsEntry text) (entries_in rs) (entries_if es)
 keys_each text None None o = tt
 keys_each text None (Some es) o = absurd o
 keys_each text (Some rs) None o = absurd o

@@ -2,6 +2,8 @@
 use Rattle.std.proofs.Common.{◌≡◌, ◌∙◌, ℕ, zero, suc, ◌+◌, Bool, true, List, [], ◌∷◌, drop, map, slice_get, Option, Some, None, option_map, Result, IfOk, false, refl, sym, ap, subst, arith}
 use Rattle.irtext_base.specs.Text.{Text}
 use Rattle.std.specs.Char.{is_whitespace}
+use Rattle.std.specs.Prelude.{Vec}
+use Rattle.std.specs.Global.{Global}
 use Rattle.irtext_base.specs.Text.{front, after}
 use Rattle.irtext_base.specs.Own.{Sincere}
 use Rattle.irtext_base.specs.Stream.{StreamView}
@@ -128,7 +130,7 @@ module _ {T A O B : Type 0} (names : Names) (g : GraphView (Option O) B (Option 
   late_takes step n (read.Successor i r) q is o m p k l = absurd (never_late step (format.successor i) q (ap directive_of_piece is.1) tt n o)
   late_takes step n (read.Successors rs) q is o m p k l = absurd (never_late step format.successors q (ap directive_of_piece is.1) tt n o)
   late_takes step n (read.Attr key a) q is o m p k l = silent names g q (tree.attribute key (seen_attribute a)) is p k l refl
-  late_takes step n (read.Dictionary es) q is o m p k l = subst (λ z. TakesUses (piece_acts p k l z) names names g g []) (sym is.1) (entries_pass names g text es is.0 is.2 m)
+  late_takes step n (read.Dictionary es) q is o m p k l = subst (λ z. TakesUses (piece_acts p k l z) names names g g []) (sym is.1) (entries_pass names g text es.items is.0 is.2 m)
   late_takes step n (read.ResultType i t) q is o m p k l = silent names g q (tree.result_type i t) is p k l refl
   late_takes step n (read.Header s) q is o m p k l = silent names g q (tree.header is.0) is.1 p k l refl
   late_takes step n (read.Types ts) q is o m p k l = silent names g q (tree.types ts) is p k l refl
@@ -141,7 +143,7 @@ given_is T key (Some a) = refl
 -- ---- how it is refused
 module _ {T A : Type 0} where
   -- a key that is reserved is one of a dictionary
-  reserved_in : (piece : ReadPiece T A) (key : Key) → RefusesStored piece (refusal.ReservedKey key) → (es : List (Key × AttrObj A)) × (piece ≡ read.Dictionary es) × IsFirstReserved es key
+  reserved_in : (piece : ReadPiece T A) (key : Key) → RefusesStored piece (refusal.ReservedKey key) → (es : Vec (Key × AttrObj A) Global) × (piece ≡ read.Dictionary es) × IsFirstReserved es.items key
   reserved_in read.Word key r = absurd (cc r)
   reserved_in (read.Operand i n) key r = absurd (cc r)
   reserved_in (read.Operands ns) key r = absurd (cc r)
@@ -179,7 +181,7 @@ module _ {T A O B : Type 0} (names : Names) (g : GraphView (Option O) B (Option 
   late_fails piece q is key r =
       let d = reserved_in piece key r in
       let i = subst (λ z. IsPiece names.names text z q) d.1 is in
-      let f = entries_fail names g text d.0 i.0 key i.2 d.2 in
+      let f = entries_fail names g text d.0.items i.0 key i.2 d.2 in
       (f.0, f.1, λ p k l. subst (λ z. FailsUses (piece_acts p k l z) names g (record { cause = ReservedKey f.0.text; at = Some f.0.place })) (sym i.1) f.2)
 
 -- ---- its reader

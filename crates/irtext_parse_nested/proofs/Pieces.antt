@@ -1,5 +1,7 @@
 -- One piece that is gathered.
 use Rattle.std.proofs.Common.{◌≡◌, ◌+◌, ◌∙◌, ◌⊎◌, inl, inr, ℕ, zero, suc, Bool, true, false, cond, List, [], ◌∷◌, ◌++◌, length, map, flat_map, slice_get, Option, Some, None, Result, Ok, Err, IfErr, OnOk, refl, sym, ap, ap₂, subst, arith, append-nil, length-append}
+use Rattle.std.specs.Prelude.{Vec}
+use Rattle.std.specs.Global.{Global}
 use Rattle.irtext_base.specs.Text.{Text}
 use Rattle.irtext_base.specs.Format.{sym_name_key}
 use Rattle.irtext_base.specs.declared.base.attributes.AttrObj.{AttrObj}
@@ -383,15 +385,15 @@ module _ {O B T : Type 0} (names : Names) (g : GraphView (Option O) B T) where
 
 module _ {O B T A : Type 0} (names : Names) (g : GraphView (Option O) B (Option T)) {x y : Gathered T A} where
   -- a dictionary whose entries may all stand there
-  pub dictionary_one : (es : List (Key × AttrObj A)) → MayAllHold es → y.operands ≡ x.operands → y.successors ≡ x.successors → y.types ≡ x.types → y.listed ≡ x.listed
-      → entries_of y.attributes ≡ put_all (entries_of x.attributes) (map entry_read es) → Gathers {O = O} {B = B} (read.Dictionary es ∷ []) names g x names g y
+  pub dictionary_one : (es : Vec (Key × AttrObj A) Global) → MayAllHold es.items → y.operands ≡ x.operands → y.successors ≡ x.successors → y.types ≡ x.types → y.listed ≡ x.listed
+      → entries_of y.attributes ≡ put_all (entries_of x.attributes) (map entry_read es.items) → Gathers {O = O} {B = B} (read.Dictionary es ∷ []) names g x names g y
   dictionary_one es h operands successors types listed attributes = alone names g (read.Dictionary es)
-      (λ text q is p b c. subst (λ z. TakesUses (piece_acts p b c z) names names g g []) (sym is.1) (entries_pass names g text es is.0 is.2 h)) refl refl refl refl
-      operands successors (ap (λ z. z.items) types ∙ sym (append-nil x.types.items)) listed (attributes ∙ ap (put_all (entries_of x.attributes)) (sym (append-nil (map entry_read es))))
+      (λ text q is p b c. subst (λ z. TakesUses (piece_acts p b c z) names names g g []) (sym is.1) (entries_pass names g text es.items is.0 is.2 h)) refl refl refl refl
+      operands successors (ap (λ z. z.items) types ∙ sym (append-nil x.types.items)) listed (attributes ∙ ap (put_all (entries_of x.attributes)) (sym (append-nil (map entry_read es.items))))
 
 module _ {O B T A : Type 0} (names : Names) (g : GraphView (Option O) B (Option T)) where
   -- a dictionary with a key that is reserved
-  pub dictionary_fails : (es : List (Key × AttrObj A)) (key : Key) → IsFirstReserved es key → GatherFails {T = T} (read.Dictionary es ∷ []) names g key
+  pub dictionary_fails : (es : Vec (Key × AttrObj A) Global) (key : Key) → IsFirstReserved es.items key → GatherFails {T = T} (read.Dictionary es ∷ []) names g key
   dictionary_fails es key r = record { so = fails }
     where
       fails : (text : Text) (parts : List (Part ℕ T A)) → Each (IsPart names.names text) (read.Dictionary es ∷ []) parts
@@ -400,7 +402,7 @@ module _ {O B T A : Type 0} (names : Names) (g : GraphView (Option O) B (Option 
       fails text (part ∷ z ∷ parts) e = absurd e.1
       fails text (part ∷ []) e =
           let q = e.0.2 in
-          let f = entries_fail names g text es q.0 key q.2 r in
+          let f = entries_fail names g text es.items q.0 key q.2 r in
           let full = e.0.1 ∙ ap (λ z. tree.piece z) q.1 in (
             f.0,
             f.1,
@@ -500,17 +502,17 @@ module _ {T A : Type 0} (x y : Gathered T A) where
   header_tried (Ok z) key s e operands successors types listed h = λ names g. header_one names g s operands successors types listed (h ∙ ap (λ k. put_all (entries_of x.attributes) ((k, ident s.name) ∷ [])) e)
 
 module _ {T A : Type 0} (x y : Gathered T A) where
-  pub dictionary_tried : {X E : Type 0} (r : Result X E) (es ds : List (Key × AttrObj A)) → ds ≡ es → y.operands ≡ x.operands → y.successors ≡ x.successors → y.types ≡ x.types → y.listed ≡ x.listed
-      → OnOk r (entries_of y.attributes ≡ put_all (entries_of x.attributes) (map entry_read ds)) → OnOk r (MayAllHold ds) → OnOk r (GathersAlone (read.Dictionary es ∷ []) x y)
-  dictionary_tried (Err z) es ds e operands successors types listed s h = tt
-  dictionary_tried (Ok z) es ds e operands successors types listed s h = λ names g. subst (λ zs. Gathers (read.Dictionary zs ∷ []) names g x names g y) e (dictionary_one names g ds h operands successors types listed s)
+  pub dictionary_tried : {X E : Type 0} (r : Result X E) (es : Vec (Key × AttrObj A) Global) → y.operands ≡ x.operands → y.successors ≡ x.successors → y.types ≡ x.types → y.listed ≡ x.listed
+      → OnOk r (entries_of y.attributes ≡ put_all (entries_of x.attributes) (map entry_read es.items)) → OnOk r (MayAllHold es.items) → OnOk r (GathersAlone (read.Dictionary es ∷ []) x y)
+  dictionary_tried (Err z) es operands successors types listed s h = tt
+  dictionary_tried (Ok z) es operands successors types listed s h = λ names g. dictionary_one names g es h operands successors types listed s
 
 module _ (T : Type 0) {A : Type 0} where
-  pub dictionary_refused : {X : Type 0} (r : Result X NotGathered) (es ds : List (Key × AttrObj A)) → ds ≡ es → IfErr r (RefusesEntries ds) → IfErr r (RefusesAlone {T = T} {A = A} (read.Dictionary es ∷ []))
-  dictionary_refused (Ok z) es ds e h = tt
-  dictionary_refused (Err refusal.Memory) es ds e h = λ names g. tt
-  dictionary_refused (Err (refusal.ReservedKey key)) es ds e h = λ names g. dictionary_fails names g es key (subst (λ zs. IsFirstReserved zs key) e h)
-  dictionary_refused (Err (refusal.NoActiveScope n)) es ds e h = absurd h
+  pub dictionary_refused : {X : Type 0} (r : Result X NotGathered) (es : Vec (Key × AttrObj A) Global) → IfErr r (RefusesEntries es.items) → IfErr r (RefusesAlone {T = T} {A = A} (read.Dictionary es ∷ []))
+  dictionary_refused (Ok z) es h = tt
+  dictionary_refused (Err refusal.Memory) es h = λ names g. tt
+  dictionary_refused (Err (refusal.ReservedKey key)) es h = λ names g. dictionary_fails names g es key h
+  dictionary_refused (Err (refusal.NoActiveScope n)) es h = absurd h
 
 -- ---- refusals
 module _ {O B T A : Type 0} where

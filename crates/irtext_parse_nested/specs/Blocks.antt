@@ -1,5 +1,6 @@
 -- Between functions: what the header of a block comes to: its dictionary is kept, it is made in its region, and its names are defined.
-use Rattle.std.specs.Prelude.{◌≡◌, ◌⊎◌, ℕ, Bool, true, false, List, [], ◌∷◌, ◌++◌, map, Option, Some, None, slice_get, ⊤}
+use Rattle.std.specs.Prelude.{◌≡◌, ◌⊎◌, ℕ, Bool, true, false, List, [], ◌∷◌, ◌++◌, map, Option, Some, None, Vec, slice_get, ⊤}
+use Rattle.std.specs.Global.{Global}
 use Rattle.irtext_base.specs.Text.{Text}
 use Rattle.irtext_base.specs.Faults as causes
 use Rattle.irtext_base.specs.Faults.{fault_of}
@@ -43,9 +44,9 @@ use Rattle.irtext_parse_nested.specs.Placing.{PlacesBlock, RefusesLabel}
 
 -- ---- the dictionary
 -- the entries of a dictionary, where there is one
-abbrev pub entries_in : {X : Type 0} → Option (List X) → List X
+abbrev pub entries_in : {X : Type 0} → Option (Vec X Global) → List X
 entries_in None = []
-entries_in (Some es) = es
+entries_in (Some es) = es.items
 
 module _ {A : Type 0} (rule : Rule A) where
   -- each entry's attribute may stand under its key

@@ -91,7 +91,7 @@ module _ {T A : Type 0} where
   abbrev pub stored_of : ReadPiece T A → List (Text × Attribute A)
   stored_of (read.Attr k None) = []
   stored_of (read.Attr k (Some a)) = (k, attribute_of a) ∷ []
-  stored_of (read.Dictionary es) = map entry_read es
+  stored_of (read.Dictionary es) = map entry_read es.items
   stored_of (read.Header s) = (sym_name_key, ident s.name) ∷ []
   stored_of _ = []
 

@@ -44,12 +44,12 @@ given_by key (Some a) = (key, attribute_of a) ∷ []
 module _ {T A : Type 0} where
   -- where the piece is a dictionary, each entry's attribute may stand under its key
   abbrev pub MayStore : ReadPiece T A → Type 0
-  MayStore (read.Dictionary es) = MayAllHold es
+  MayStore (read.Dictionary es) = MayAllHold es.items
   MayStore _ = ⊤
 
   -- why the piece was not stored: memory was refused, or a key of its dictionary is reserved
   abbrev pub RefusesStored : ReadPiece T A → NotGathered → Type 0
-  RefusesStored (read.Dictionary es) why = RefusesEntries es why
+  RefusesStored (read.Dictionary es) why = RefusesEntries es.items why
   RefusesStored _ why = why ≡ refusal.Memory
 
   -- what the piece gives its operation was put in behind the attributes that it had

@@ -136,7 +136,7 @@ fn head_made<T: IrText<A>, A: AttrText, U>(
     region: Ptr<Region>,
     label: ReadName,
     arguments: Few<(ReadName, T)>,
-    entries: Option<Few<ReadEntry<A>>>,
+    entries: Option<Vec<ReadEntry<A>>>,
 ) -> ParseResult<(Ptr<BasicBlock>, Few<ReadName>), A>
     requires region { Stands s.old.state.ctx.now.graph (TheRegion region) }
     requires label { label.name < length names.now.names }

@@ -12,7 +12,7 @@ ghost use Rattle.irtext_parse_nested.specs.Ends.{numbers_of};
 ghost use Rattle.irtext_parse_nested.specs.Gathered.{entry_read};
 
 use crate::frame::Names;
-use crate::gathering::{NotGathered, all_items, entry_stored};
+use crate::gathering::{NotGathered, entry_stored};
 use crate::given::names_stored;
 use irtext_base::base::Identifier;
 use irtext_dict::base::AttributeDict;
@@ -72,9 +72,8 @@ fn block_entries_stored<A: Drop>(
 
 /// Stores a block's dictionary, where one stands.
 fn dictionary_stored<A: Drop>(
-    alloc: Global,
     attributes: &mut AttributeDict<A>,
-    entries: Option<Few<ReadEntry<A>>>,
+    entries: Option<Vec<ReadEntry<A>>>,
 ) -> Result<(), NotGathered>
     ensures stored { OnOk result (entries_of attributes.new ≡ put_all (entries_of attributes.old) (map entry_read (entries_in entries))) }
     ensures allowed { OnOk result (AreAllowed block_may_hold (entries_in entries)) }
@@ -83,9 +82,6 @@ fn dictionary_stored<A: Drop>(
     let Some(entries) = entries else {
         return Ok(());
     };
-    let Ok(entries) = all_items(alloc, entries) else {
-        return Err(NotGathered::Memory);
-    };
     block_entries_stored(attributes, entries)
 }
 
@@ -93,7 +89,7 @@ fn dictionary_stored<A: Drop>(
 pub(crate) fn block_attributes<A: Drop>(
     alloc: Global,
     names: &Names,
-    entries: Option<Few<ReadEntry<A>>>,
+    entries: Option<Vec<ReadEntry<A>>>,
     arguments: &Few<ReadName>,
 ) -> Result<AttributeDict<A>, NotGathered>
     requires { AreKnown (length names.now.names) (numbers_of arguments.now) }
@@ -103,7 +99,7 @@ pub(crate) fn block_attributes<A: Drop>(
     ensures refused { IfErr result (Forbids block_may_hold (entries_in entries)) }
 {
     let mut attributes = AttributeDict::new(alloc);
-    dictionary_stored(alloc, &mut attributes, entries)?;
+    dictionary_stored(&mut attributes, entries)?;
     match names_stored(alloc, names, arguments, &mut attributes) {
         Ok(()) => Ok(attributes),
         Err(AllocError) => Err(NotGathered::Memory),

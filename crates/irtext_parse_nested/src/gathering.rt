@@ -20,7 +20,7 @@ use irtext_context::base::block::BlockData;
 use irtext_context::base::operation::OperationData;
 use irtext_context::base::{BasicBlock, Ptr};
 use irtext_dict::base::AttributeDict;
-use irtext_few::{Few, Items};
+use irtext_few::Few;
 use irtext_graph::graph::Graph;
 use irtext_graph::object::Value;
 use irtext_parse_heads::entries::{Key, ReadEntry};
@@ -71,23 +71,6 @@ pub(crate) fn nothing<T: Drop, A: Drop>(alloc: Global) -> Gathered<T, A>
         listed: Few::none(),
         attributes: AttributeDict::new(alloc),
     }
-}
-
-/// The items of a list, in a vector.
-pub(crate) fn all_items<X: Drop>(alloc: Global, list: Few<X>) -> Result<Vec<X>, AllocError>
-    ensures { IfOk result (λ all. all.items ≡ list) }
-{
-    let mut all = Vec::new(alloc);
-    match list.into_items() {
-        Items::Nothing => {}
-        Items::One(only) => all.push(only)?,
-        Items::Two(first, second) => {
-            all.push(first)?;
-            all.push(second)?;
-        }
-        Items::Many(items) => return Ok(items),
-    }
-    Ok(all)
 }
 
 /// Stores an attribute under a key. A refusal changes nothing.
@@ -275,16 +258,12 @@ fn attr_gathered<T: Drop, A: Drop>(
 
 /// Stores the entries of a dictionary.
 fn dictionary_gathered<T: Drop, A: Drop>(
-    alloc: Global,
     gathered: &mut Gathered<T, A>,
-    entries: Few<ReadEntry<A>>,
+    entries: Vec<ReadEntry<A>>,
 ) -> Result<(), NotGathered>
     ensures gathers { OnOk result (GathersAlone (read.Dictionary entries ∷ []) gathered.old gathered.new) }
     ensures refused { IfErr result (RefusesAlone {T = T} {A = A} (read.Dictionary entries ∷ [])) }
 {
-    let Ok(entries) = all_items(alloc, entries) else {
-        return Err(NotGathered::Memory);
-    };
     entries_stored(&mut gathered.attributes, entries)
 }
 
@@ -363,7 +342,7 @@ fn piece_gathered<T: Drop, A: Drop>(
         ),
         ReadPiece::Successors(used) => successors_gathered(names, graph, gathered, used),
         ReadPiece::Attr(key, attr) => attr_gathered(gathered, key, attr),
-        ReadPiece::Dictionary(entries) => dictionary_gathered(alloc, gathered, entries),
+        ReadPiece::Dictionary(entries) => dictionary_gathered(gathered, entries),
         ReadPiece::ResultType(index, of_type) => type_gathered(gathered, index, of_type),
         ReadPiece::Header(symbol) => header_gathered(alloc, gathered, key, symbol),
         ReadPiece::Types(listed) => {

@@ -1,5 +1,5 @@
 //! A piece of an operation that stands behind a region: it is read by the operation's next step, and what it gives is stored.
-ghost use Rattle.std.specs.Prelude.{◌≡◌, ◌≤◌, ◌<◌, ◌+◌, ◌∷◌, [], map, ℕ, List, Some, IfErr, OnOk, IsSome, length, slice_get, false, true};
+ghost use Rattle.std.specs.Prelude.{◌≡◌, ◌≤◌, ◌<◌, ◌+◌, ◌∷◌, [], ℕ, List, Some, IfErr, OnOk, IsSome, length, slice_get, false, true};
 ghost use Rattle.irtext_base.specs.Faults.{id_of};
 ghost use Rattle.irtext_base.specs.Format.{sym_name_key};
 ghost use Rattle.irtext_context.specs.Context.{KeepsOlder, operation};
@@ -27,22 +27,20 @@ ghost use Rattle.irtext_parse_heads.specs.Pieces.{MustPiece};
 ghost use Rattle.irtext_parse_nested.specs.declared.gathering.NotGathered.TheVariants.{Memory};
 ghost use Rattle.irtext_parse_nested.specs.Begun.{IsBegun};
 ghost use Rattle.irtext_parse_nested.specs.Ends.{WritesAttributes};
-ghost use Rattle.irtext_parse_nested.specs.Gathered.{stored_of, entry_read, MayAllHold, RefusesEntries};
+ghost use Rattle.irtext_parse_nested.specs.Gathered.{stored_of};
 ghost use Rattle.irtext_parse_nested.specs.Items.{IsSound, Lasts};
 ghost use Rattle.irtext_parse_nested.specs.Later.{given_by, IsFlatNext, MayStore, RefusesStored, StoresPiece, NotStored, GoesOn};
 ghost use Rattle.irtext_parse_nested.specs.Read.{RefusesPiece};
 
 use crate::beginning::gather_fault;
 use crate::frame::{BegunOperation, Names};
-use crate::gathering::{NotGathered, all_items, entries_stored, kept, symbol_key};
+use crate::gathering::{NotGathered, entries_stored, kept, symbol_key};
 use irtext_base::base::{AttrObj, Identifier};
 use irtext_base::format::OpFormat;
 use irtext_base::parsable::{CharStream, ParseResult, TextStream};
 use irtext_base::text::{AttrText, IrText};
 use irtext_context::base::{Context, Operation, Ptr};
 use irtext_dict::base::AttributeDict;
-use irtext_few::Few;
-use irtext_parse_heads::entries::ReadEntry;
 use irtext_parse_heads::names::Symbol;
 use irtext_parse_heads::pieces::{ReadPiece, step_parse};
 use irtext_parse_heads::steps::step_at;
@@ -79,23 +77,6 @@ fn attr_stored<A: Drop>(
     }
 }
 
-/// Stores the entries of a dictionary. The first whose attribute may not stand under its key is refused, and memory may be refused; those
-/// before it are stored then.
-fn dictionary_kept<A: Drop>(
-    alloc: Global,
-    attributes: &mut AttributeDict<A>,
-    entries: Few<ReadEntry<A>>,
-) -> Result<(), NotGathered>
-    ensures stored { OnOk result (entries_of attributes.new ≡ put_all (entries_of attributes.old) (map entry_read entries)) }
-    ensures holds { OnOk result (MayAllHold entries) }
-    ensures refused { IfErr result (RefusesEntries entries) }
-{
-    let Ok(entries) = all_items(alloc, entries) else {
-        return Err(NotGathered::Memory);
-    };
-    entries_stored(attributes, entries)
-}
-
 /// Stores a symbol's name.
 fn symbol_stored<A: Drop>(
     alloc: Global,
@@ -123,7 +104,7 @@ fn piece_stored<T: Drop, A: Drop>(
 {
     match piece {
         ReadPiece::Attr(key, attr) => attr_stored(attributes, key, attr),
-        ReadPiece::Dictionary(entries) => dictionary_kept(alloc, attributes, entries),
+        ReadPiece::Dictionary(entries) => entries_stored(attributes, entries),
         ReadPiece::Header(symbol) => symbol_stored(alloc, attributes, symbol),
         _ => Ok(()),
     }

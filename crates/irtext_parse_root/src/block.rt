@@ -28,7 +28,6 @@ use irtext_base::parsable::{CharStream, ParseFault, ParseResult, TextStream};
 use irtext_base::result::Cause;
 use irtext_base::text::{AttrText, IrText};
 use irtext_context::base::{BasicBlock, Ptr};
-use irtext_few::Few;
 use irtext_parse_heads::entries::{Key, ReadEntry};
 use irtext_parse_heads::headers::{BlockHead, block_head_parse};
 use irtext_parse_heads::marks::ReadMark;
@@ -75,7 +74,7 @@ fn block_may_hold<A>(key: &Identifier, attr: &AttrObj<A>) -> bool
 }
 
 /// The key of the first entry whose attribute may not stand under its key in a block's dictionary.
-fn first_reserved<A>(entries: &Few<ReadEntry<A>>) -> Option<&Key>
+fn first_reserved<A>(entries: &[ReadEntry<A>]) -> Option<&Key>
     ensures { option_copied result ≡ first_reserved entries.now }
 {
     for index in 0..entries.len() {
@@ -88,11 +87,11 @@ fn first_reserved<A>(entries: &Few<ReadEntry<A>>) -> Option<&Key>
 }
 
 /// The same of a dictionary that may be missing.
-fn reserved_key<A>(attributes: &Option<Few<ReadEntry<A>>>) -> Option<&Key>
+fn reserved_key<A>(attributes: &Option<Vec<ReadEntry<A>>>) -> Option<&Key>
     ensures { option_copied result ≡ first_reserved (entries_in attributes.now) }
 {
     match attributes {
-        Some(entries) => first_reserved(entries),
+        Some(entries) => first_reserved(entries.as_slice()),
         None => None,
     }
 }

@@ -3,6 +3,8 @@ use Rattle.irtext_read.proofs.Steps.{Lens, lens}
 use Rattle.irtext_read.specs.AttrTexts.{attr_at}
 use Rattle.irtext_nesting.specs.Heads.{argument_at}
 use Rattle.irtext_parse_heads.proofs.Meanings.{names_more, must_refuse}
+use Rattle.irtext_parse_heads.specs.declared.lists.NameKind.TheVariants as kind
+use Rattle.irtext_parse_heads.proofs.Absences.{missing_followed, no_name_begins, list_unbegun}
 use Rattle.irtext_parse_heads.proofs.Listings.{list_bad, list_none, list_arguments}
 use Rattle.irtext_parse_heads.proofs.arguments.arguments_parse.Given as given
 use Rattle.irtext_parse_heads.proofs.arguments.arguments_parse.Goals as goal
@@ -10,6 +12,10 @@ use Rattle.irtext_parse_heads.proofs.arguments.arguments_parse.Goals as goal
 -- the stream's view, and the rules that it keeps
 abbrev stream : (g : given.Over) → Lens g.row.S.Denot
 stream g = let m = g.met.S.CharStream in lens g.S.CharStream.view g.S.CharStream.at m.view_at m.at_view m.at_at
+
+pub returns-then-none_named-clause-read : goal.returns-then-none_named-clause-read
+returns-then-none_named-clause-read g c =
+    list_unbegun (stream g) (argument_at g.T.IrText.reading (attr_at g.A.IrText.reading)) kind.Value (λ text b. missing_followed _ (no_name_begins text b)) c.none_named.ensures c.if-none_named.true c.none.result (rw c.none.ensures tt)
 
 pub returns-in-Ok-clause-read : goal.returns-in-Ok-clause-read
 returns-in-Ok-clause-read g c = list_arguments (stream g) (argument_at g.T.IrText.reading (attr_at g.A.IrText.reading)) c.argument_parse.new.names.names c.more_arguments.new.names.names c.in-Ok.ensures.read c.skip_white_space.ensures c.more_arguments.ensures.read
@@ -23,6 +29,6 @@ returns-then-fault-clause-read g c = must_refuse (stream g) (list_bad (stream g)
 pub returns-else-fault-clause-read : goal.returns-else-fault-clause-read
 returns-else-fault-clause-read g c = record {
   meant = λ _. [];
-  means = rw c.none.ensures tt;
-  read = list_none (stream g) (argument_at g.T.IrText.reading (attr_at g.A.IrText.reading)) (λ _. []) c.none.result refl c.if-fault.false c.in-Err.ensures.read.read;
+  means = rw c.none-in-Err.ensures tt;
+  read = list_none (stream g) (argument_at g.T.IrText.reading (attr_at g.A.IrText.reading)) (λ _. []) c.none-in-Err.result refl c.if-fault.false c.in-Err.ensures.read.read;
 }

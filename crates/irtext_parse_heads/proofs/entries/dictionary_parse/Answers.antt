@@ -9,8 +9,7 @@ use Rattle.irtext_read.proofs.Exits.{handed_on}
 use Rattle.irtext_read.proofs.Steps.{Lens, lens, first, spaced, more, refuses, refuses_seen, last_seen}
 use Rattle.irtext_grammar.specs.Grammar.Tree.{Name, Attribute}
 use Rattle.irtext_nesting.specs.Heads.{pair_at, dictionary_at}
-use Rattle.irtext_parse_heads.specs.Entries.{IsEntry}
-use Rattle.irtext_parse_heads.specs.Named.{Each}
+use Rattle.irtext_parse_heads.specs.Entries.{AreEntries}
 use Rattle.irtext_parse_heads.proofs.EntrySteps.{first_refused}
 use Rattle.irtext_parse_heads.proofs.Meanings.{must_refuse, passed_whole}
 use Rattle.irtext_parse_heads.proofs.entries.dictionary_parse.Given as given
@@ -63,6 +62,6 @@ returns g c =
     let p2 = more l behind_entries p1 h.read in
     record {
       meant = λ _. es;
-      means = subst (λ t. Each (IsEntry t) c.in_ok-entries.entries es) (passed_whole l p1) h.means;
+      means = subst (λ t. AreEntries t c.in_ok-entries.entries es) (passed_whole l p1) h.means;
       read = last_seen l (λ _. es) (λ _. es) c.in_ok-entries.entries refl p2 c.in_ok-text_demanded-2.ensures;
     }

@@ -16,7 +16,7 @@ stream g = let m = g.met.S.CharStream in lens g.S.CharStream.view g.S.CharStream
 abbrev pub invariant-loop-stream : goal.invariant-loop-stream
 invariant-loop-stream g l =
     (entry : Name ℕ × Attribute g.row.A.Denot) → IsEntry (whole (g.S.CharStream.view l.fn.stream)) l.fn.first entry → (g.S.CharStream.view l.fn.stream).failed ≡ false
-    → Listing (stream g) (pair_at (attr_at g.A.IrText.reading)) (IsEntry (whole (g.S.CharStream.view l.fn.stream))) (entry ∷ []) l.fn.stream l.stream l.found
+    → Listing (stream g) (pair_at (attr_at g.A.IrText.reading)) (IsEntry (whole (g.S.CharStream.view l.fn.stream))) (entry ∷ []) l.fn.stream l.stream l.found.items
 
 abbrev pub decreases-loop-stream : goal.decreases-loop-stream
 decreases-loop-stream g l = length (g.S.CharStream.view l.stream).rest

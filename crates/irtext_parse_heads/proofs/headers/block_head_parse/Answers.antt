@@ -11,7 +11,7 @@ use Rattle.irtext_read.proofs.Steps.{Lens, lens, first, spaced, more, refuses, r
 use Rattle.irtext_grammar.specs.Grammar.Tree.{Name, Mark, Attribute, Head}
 use Rattle.irtext_nesting.specs.Heads.{argument_at, mark_if_at}
 use Rattle.irtext_parse_heads.specs.Arguments.{IsArgument}
-use Rattle.irtext_parse_heads.specs.Entries.{IsEntry, dictionary_if}
+use Rattle.irtext_parse_heads.specs.Entries.{AreEntries, dictionary_if}
 use Rattle.irtext_parse_heads.specs.Marks.{IsMarkIf}
 use Rattle.irtext_parse_heads.specs.Named.{Each, Optional}
 use Rattle.irtext_parse_heads.proofs.EntrySteps.{first_refused}
@@ -163,7 +163,7 @@ returns-clause-read g c =
       means = record {
         label = stands_on c.label_demanded.new.names.names names c.in_ok-label.label label c.in_ok-arguments.ensures.names.kept refl c.in_ok-label.ensures.read.means;
         arguments = subst (λ t. Each (IsArgument names t) c.in_ok-arguments.arguments arguments) (passed_whole l p2) c.in_ok-arguments.ensures.read.means;
-        attributes = subst (λ t. Optional (Each (IsEntry t)) c.in_ok-attributes.attributes attributes) (passed_whole l p4) c.in_ok-attributes.ensures.means;
+        attributes = subst (λ t. Optional (AreEntries t) c.in_ok-attributes.attributes attributes) (passed_whole l p4) c.in_ok-attributes.ensures.means;
         mark = subst (λ t. IsMarkIf t c.in_ok-mark.mark mark) (passed_whole l p5) c.in_ok-mark.ensures.means;
       };
       read = last_seen l (λ _. whole_head) (λ _. whole_head) (record { label = c.in_ok-label.label; arguments = c.in_ok-arguments.arguments; attributes = c.in_ok-attributes.attributes; mark = c.in_ok-mark.mark }) refl p6 c.in_ok-text_demanded-2.ensures;

@@ -15,13 +15,13 @@ pub returns-in-Attr-clause-refused : goal.returns-in-Attr-clause-refused
 returns-in-Attr-clause-refused g c = rw c.in-Attr.is c.attr_stored.ensures.refused
 
 pub returns-in-Dictionary-clause-stored : goal.returns-in-Dictionary-clause-stored
-returns-in-Dictionary-clause-stored g c = rw c.in-Dictionary.is c.dictionary_kept.ensures.stored
+returns-in-Dictionary-clause-stored g c = rw c.in-Dictionary.is c.entries_stored.ensures.stored
 
 pub returns-in-Dictionary-clause-may : goal.returns-in-Dictionary-clause-may
-returns-in-Dictionary-clause-may g c = rw c.in-Dictionary.is c.dictionary_kept.ensures.holds
+returns-in-Dictionary-clause-may g c = rw c.in-Dictionary.is c.entries_stored.ensures.holds
 
 pub returns-in-Dictionary-clause-refused : goal.returns-in-Dictionary-clause-refused
-returns-in-Dictionary-clause-refused g c = rw c.in-Dictionary.is c.dictionary_kept.ensures.refused
+returns-in-Dictionary-clause-refused g c = rw c.in-Dictionary.is c.entries_stored.ensures.refused
 
 pub returns-in-Header-clause-stored : goal.returns-in-Header-clause-stored
 returns-in-Header-clause-stored g c = rw c.in-Header.is c.symbol_stored.ensures.stored
