@@ -12,7 +12,7 @@ use Rattle.irtext_read.specs.MustRead.{MustRead}
 use Rattle.irtext_read.proofs.Spelling.{prefixed-prefixed}
 use Rattle.irtext_read.proofs.Steps.{Lens, Passed, starts, first, more, refuses, spaced, starved, turned, ends}
 use Rattle.irtext_grammar.specs.Grammar.Tree as tree
-use Rattle.irtext_grammar.specs.Grammar.Tree.{Name, Piece, Part}
+use Rattle.irtext_grammar.specs.Grammar.Tree.{Piece, Part}
 use Rattle.irtext_nesting.specs.Heads.{Step, front_steps, piece_at}
 use Rattle.irtext_nesting.specs.Resume.{is_flat, front_at}
 use Rattle.irtext_nesting.proofs.Resume.Front.{in_front}

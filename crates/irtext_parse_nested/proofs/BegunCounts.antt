@@ -1,26 +1,24 @@
 -- How many operands and successors the whole body of an operation names: as many as were used of the pieces in front of its first region.
-use Rattle.std.proofs.Common.{◌≡◌, ◌∙◌, ◌+◌, ℕ, suc, Bool, true, List, [], ◌∷◌, ◌++◌, length, map, flat_map, Option, Some, None, refl, sym, ap, ap₂, subst, arith, append-nil, length-append}
+use Rattle.std.proofs.Common.{◌≡◌, ◌∙◌, ◌+◌, ℕ, suc, Bool, List, [], ◌∷◌, ◌++◌, length, map, flat_map, Some, refl, sym, ap, ap₂, subst, arith, append-nil, length-append}
 use Rattle.irtext_base.specs.Text.{Text}
 use Rattle.irtext_base.specs.Format as format
-use Rattle.irtext_base.specs.Format.{Format, Directive, Id, Accepted, are_places, operand_places, successor_places}
+use Rattle.irtext_base.specs.Format.{Format, Directive, Id, Accepted, are_places}
 use Rattle.irtext_formats.specs.Conditions.{WritesNamesOrType}
 use Rattle.irtext_grammar.specs.Grammar.Tree as tree
-use Rattle.irtext_grammar.specs.Grammar.Tree.{Name, Piece, Part, Body, parts_of, views, in_order, directive_of_piece, operand_names, successor_labels}
+use Rattle.irtext_grammar.specs.Grammar.Tree.{Name, Piece, Part, parts_of, views, in_order, directive_of_piece, operand_names, successor_labels}
 use Rattle.irtext_grammar.proofs.Lists.InOrder.{firsts}
 use Rattle.irtext_grammar.proofs.Lists.Numbering.{in_order_length}
 use Rattle.irtext_nesting.specs.Heads.{Step, flat, types, one, all, step_of, steps_of, canonical_steps, front_steps, region_steps}
 use Rattle.irtext_nesting.specs.Naming.{body_of, canonical_of, unmarked}
-use Rattle.irtext_parse_heads.specs.declared.names.ReadName.{ReadName}
 use Rattle.irtext_parse_heads.specs.declared.pieces.ReadPiece.{ReadPiece}
 use Rattle.irtext_parse_heads.specs.declared.pieces.ReadPiece.TheVariants as read
 use Rattle.irtext_parse_heads.specs.Named.{StandsFor, Each}
 use Rattle.irtext_parse_heads.specs.Pieces.{IsPiece}
-use Rattle.irtext_parse_nested.specs.Beginning.{IsPartOf, ArePartsOf}
-use Rattle.irtext_parse_nested.specs.Begun.{ReadsNeither, ReadNeither}
+use Rattle.irtext_parse_nested.specs.Beginning.{ArePartsOf}
+use Rattle.irtext_parse_nested.specs.Begun.{ReadNeither}
 use Rattle.irtext_parse_nested.specs.Gathered.{operand_place, successor_place, operand_list, successor_list, type_list}
 use Rattle.irtext_parse_nested.proofs.BegunParts.{views_both, views_pieces, behind_neither, operand_places_are, successor_places_are, later_untyped, listed_later, two_lists, only_regions, operand_alike, successor_alike, seen_alike}
 use Rattle.irtext_parse_nested.proofs.Faults.{each_length}
-use Rattle.irtext_parse_nested.proofs.Gathers.{map_both}
 use Rattle.irtext_parse_nested.proofs.StepParts.{AreOfSteps, shown_by_steps, operand_shown, operand_step, successor_shown, successor_step, operand_agrees, successor_agrees}
 
 -- parts of steps that read no name show none

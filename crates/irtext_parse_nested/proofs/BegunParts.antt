@@ -1,16 +1,14 @@
 -- What was read in front of an operation's first region: what its pieces show, which can be gathered, and which types and attributes its
 -- body has.
-use Rattle.std.proofs.Common.{◌≡◌, ◌∙◌, ◌+◌, ◌<◌, ℕ, zero, suc, Bool, true, false, not, nat_lt, List, [], ◌∷◌, ◌++◌, drop, length, map, flat_map, slice_get, Option, Some, None, refl, sym, ap, ap₂, subst, arith, true≢false, append-nil, append_assoc, length-append, ltb-true}
-use Rattle.std.specs.Prelude.{⊤}
+use Rattle.std.proofs.Common.{◌≡◌, ◌∙◌, ◌+◌, ◌<◌, ℕ, zero, suc, Bool, true, false, not, nat_lt, List, [], ◌∷◌, ◌++◌, drop, length, map, flat_map, slice_get, Some, None, refl, sym, ap, ap₂, subst, arith, true≢false, append-nil, append_assoc, length-append, ltb-true}
 use Rattle.std.specs.List.{All, list_all}
 use Rattle.irtext_base.specs.Text.{Text}
 use Rattle.irtext_base.specs.Format as format
-use Rattle.irtext_base.specs.Format.{Format, Directive, Id, Accepted, are_places, operand_places, successor_places, sym_name_key, count, is_operands, is_successors, c7}
+use Rattle.irtext_base.specs.Format.{Format, Directive, Accepted, are_places, operand_places, successor_places, sym_name_key, count, is_operands, is_successors, c7}
 use Rattle.irtext_base.specs.declared.base.attributes.AttrObj.{AttrObj}
 use Rattle.irtext_formats.specs.Conditions.{WritesNamesOrType}
-use Rattle.irtext_grammar.specs.Contexts.Held.{attribute_of}
 use Rattle.irtext_grammar.specs.Grammar.Tree as tree
-use Rattle.irtext_grammar.specs.Grammar.Tree.{Name, Attribute, ident, Piece, Part, Body, parts_of, views, in_order}
+use Rattle.irtext_grammar.specs.Grammar.Tree.{Name, Attribute, ident, Piece, Part, parts_of, views, in_order}
 use Rattle.irtext_grammar.specs.Graphs.Build.{plain_entry, stored}
 use Rattle.irtext_grammar.specs.Names.Acts.{result_types}
 use Rattle.irtext_grammar.proofs.Graphs.FitsFormat.{and_left, and_right}
@@ -31,7 +29,7 @@ use Rattle.irtext_parse_nested.specs.Begun.{HasNoType, ReadsNeither, ReadNeither
 use Rattle.irtext_parse_nested.specs.Gathered.{entry_read, operand_place, successor_place, placed_type, type_list, stored_of, last_list, CanUse, CanUseAll, LackOperands, LackSuccessors, OperandsOnce, SuccessorsOnce, CanGather}
 use Rattle.irtext_parse_nested.specs.Items.{Names}
 use Rattle.irtext_parse_nested.proofs.Gathers.{map_both, none_left}
-use Rattle.irtext_parse_nested.proofs.StepParts.{AreOfSteps, shown_by_steps, operand_shown, operand_step, successor_shown, successor_step, operands_shown, operands_step, successors_shown, successors_step, types_shown, types_step, operand_agrees, successor_agrees, operands_agree, successors_agree, types_agree, is_early, front_operand_places, front_successor_places, front_operands, front_successors, marks_of, marked, Places, accepted_places}
+use Rattle.irtext_parse_nested.proofs.StepParts.{AreOfSteps, shown_by_steps, operand_shown, operand_step, successor_shown, successor_step, operands_shown, operands_step, successors_shown, successors_step, types_shown, types_step, operand_agrees, successor_agrees, operands_agree, successors_agree, types_agree, is_early, front_operand_places, front_successor_places, front_operands, front_successors, marked, accepted_places}
 
 -- ---- steps
 -- the steps from the first region on stand behind those in front of it

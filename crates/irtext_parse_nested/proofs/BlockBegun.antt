@@ -1,29 +1,25 @@
 -- A block that was begun, as what is open sees it: it came last into its region, with its header, and all else is as it was.
-use Rattle.std.proofs.Common.{◌≡◌, ◌≤◌, ◌∙◌, inl, inr, ℕ, List, [], ◌∷◌, ◌++◌, map, length, Option, Some, None, IsSome, option_map, take, ◌-◌, arith, refl, sym, ap, ap₂, subst}
+use Rattle.std.proofs.Common.{◌≡◌, ◌≤◌, ◌∙◌, inl, inr, ℕ, List, [], ◌∷◌, ◌++◌, map, length, Option, Some, None, IsSome, option_map, arith, refl, sym, ap, ap₂, subst}
 use Rattle.irtext_base.specs.Text.{Text}
 use Rattle.irtext_base.specs.declared.base.attributes.AttrObj.{AttrObj}
 use Rattle.irtext_base.specs.declared.location.Location.{Location, SrcPos}
 use Rattle.irtext_base.specs.declared.location.Source.{Source}
 use Rattle.irtext_stream.specs.declared.position.Place.{Place}
-use Rattle.irtext_context.specs.Context.{ContextView, RegionView, operation, block, region, region_of, known, MakesBlock}
+use Rattle.irtext_context.specs.Context.{ContextView, region}
 use Rattle.irtext_context.specs.declared.base.block.BlockData.{BlockData}
-use Rattle.irtext_context.specs.declared.base.operation.OperationData.{OperationData}
-use Rattle.irtext_graph.specs.declared.arena.Entry.{Entry}
 use Rattle.irtext_graph.specs.declared.arena.Ptr.{Ptr}
 use Rattle.irtext_graph.specs.declared.object.BasicBlock.{BasicBlock}
-use Rattle.irtext_graph.specs.declared.object.Operation.{Operation}
 use Rattle.irtext_graph.specs.declared.object.Region.{Region}
 use Rattle.irtext_graph.specs.declared.object.Object.{Object}
 use Rattle.irtext_graph.specs.declared.object.Object.TheVariants.{TheOperation, TheBlock, TheRegion}
 use Rattle.irtext_graph.specs.Content.{Node, Content, Content.{AnOperation, ABlock, ARegion}, RegionContent}
 use Rattle.irtext_graph.specs.Erasing.{without_uses}
-use Rattle.irtext_graph.specs.Graph.{Appends, content, content_of, parent, Stands, IsNew}
+use Rattle.irtext_graph.specs.Graph.{content, content_of, Stands, IsNew}
 use Rattle.irtext_graph.specs.Objects.{is_older}
 use Rattle.irtext_graph.specs.Parts.{results}
 use Rattle.irtext_graph.specs.Store.{get}
 use Rattle.irtext_graph.proofs.Nests.{told}
 use Rattle.irtext_graph.proofs.Same.{ptr_tells}
-use Rattle.irtext_grammar.specs.Contexts.Held.{attribute_of, entries_of}
 use Rattle.irtext_grammar.specs.Grammar.Tree.{Name, Attribute, Head}
 use Rattle.irtext_grammar.specs.Graphs.Build.{put_all, read_names, plain_entry}
 use Rattle.irtext_grammar.specs.Names.Acts.{entries_if}
@@ -33,10 +29,9 @@ use Rattle.irtext_nesting.proofs.Edits.{spares_then, spares_fewer, made_head, bl
 use Rattle.irtext_context.specs.Made.{made_block}
 use Rattle.irtext_parse_heads.specs.declared.entries.Key.{Key}
 use Rattle.irtext_parse_heads.specs.declared.headers.BlockHead.{BlockHead}
-use Rattle.irtext_parse_heads.specs.declared.names.ReadName.{ReadName}
 use Rattle.irtext_parse_heads.specs.Entries.{IsEntry}
 use Rattle.irtext_parse_heads.specs.Headers.{IsHead}
-use Rattle.irtext_parse_heads.specs.Named.{Leaves, StandsFor, Each}
+use Rattle.irtext_parse_heads.specs.Named.{Leaves, Each}
 use Rattle.irtext_parse_nested.specs.Blocks.{entries_in, MakesHead}
 use Rattle.irtext_parse_nested.specs.Definitions.{LosesPlaceholders}
 use Rattle.irtext_parse_nested.specs.Gathered.{entry_read}

@@ -1,5 +1,5 @@
 -- The entries of a block's dictionary, as they are kept.
-use Rattle.std.proofs.Common.{◌≡◌, ◌∙◌, inl, inr, ℕ, Bool, true, false, not, ◌&&◌, List, [], ◌∷◌, ◌++◌, map, Result, Ok, Err, OnOk, IfOk, IfErr, refl, sym, ap, ap₂, subst}
+use Rattle.std.proofs.Common.{◌≡◌, ◌∙◌, inl, inr, ℕ, Bool, true, false, not, ◌&&◌, List, [], ◌∷◌, ◌++◌, map, refl, sym, ap, ap₂}
 use Rattle.std.specs.Str.{bytes_eq}
 use Rattle.irtext_base.specs.Text.{Text}
 use Rattle.irtext_base.specs.Format.{same_text, block_label_key}
@@ -15,9 +15,9 @@ use Rattle.irtext_parse_heads.specs.declared.entries.Key.{Key}
 use Rattle.irtext_parse_heads.specs.declared.names.ReadName.{ReadName}
 use Rattle.irtext_parse_nested.specs.declared.gathering.NotGathered.{NotGathered}
 use Rattle.irtext_parse_nested.specs.declared.gathering.NotGathered.TheVariants as refusal
-use Rattle.irtext_parse_nested.specs.Blocks.{AreAllowed, IsFirstForbidden, Forbids}
+use Rattle.irtext_parse_nested.specs.Blocks.{AreAllowed, Forbids}
 use Rattle.irtext_parse_nested.specs.Ends.{numbers_of}
-use Rattle.irtext_parse_nested.specs.Gathered.{entry_read, MayAllHold, RefusesEntries}
+use Rattle.irtext_parse_nested.specs.Gathered.{MayAllHold, RefusesEntries}
 
 -- ---- one entry
 -- the key is that of a label

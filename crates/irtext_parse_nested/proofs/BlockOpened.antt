@@ -1,5 +1,5 @@
 -- A block that is begun: its header was read, it was made, and its names are defined.
-use Rattle.std.proofs.Common.{◌≡◌, ◌<◌, ◌≤◌, ◌∙◌, ℕ, true, List, [], ◌∷◌, ◌++◌, map, length, Result, Ok, IsSome, refl, sym, ap, subst}
+use Rattle.std.proofs.Common.{◌≡◌, ◌<◌, ◌≤◌, ◌∙◌, ℕ, true, List, [], ◌∷◌, ◌++◌, map, length, Ok, IsSome, refl, sym, ap, subst}
 use Rattle.std.proofs.lemmas.List.{length-map}
 use Rattle.irtext_base.specs.Text.{Text}
 use Rattle.irtext_base.specs.Stream.{StreamView}
@@ -13,16 +13,15 @@ use Rattle.irtext_graph.specs.declared.arena.Ptr.{Ptr}
 use Rattle.irtext_graph.specs.declared.object.BasicBlock.{BasicBlock}
 use Rattle.irtext_graph.specs.declared.object.Region.{Region}
 use Rattle.irtext_graph.specs.declared.object.Object.TheVariants.{TheBlock, TheRegion}
-use Rattle.irtext_graph.specs.declared.object.Value.{Value}
 use Rattle.irtext_graph.specs.declared.object.Value.TheVariants.{Argument}
 use Rattle.irtext_graph.specs.Back.{IsClosedBelow}
-use Rattle.irtext_graph.specs.Graph.{GraphView, Stands, IsNew, parent}
+use Rattle.irtext_graph.specs.Graph.{Stands, IsNew, parent}
 use Rattle.irtext_state.specs.States.{marks_of}
 use Rattle.irtext_state.specs.declared.parsable.state.State as code
 use Rattle.irtext_state.specs.declared.parsable.state.StateStream.{StateStream}
 use Rattle.irtext_scopes.specs.Names.{AreDistinct}
 use Rattle.irtext_grammar.specs.Contexts.Held.{whole}
-use Rattle.irtext_grammar.specs.Grammar.Tree.{Name, Head}
+use Rattle.irtext_grammar.specs.Grammar.Tree.{Head}
 use Rattle.irtext_names.specs.Tied.{AreTied, AreWaiting}
 use Rattle.irtext_outcomes.specs.Promises.Root.{UnlessMemory}
 use Rattle.irtext_outcomes.specs.Readers.Streams.{itself, replaced}
@@ -34,7 +33,6 @@ use Rattle.irtext_parse_heads.specs.declared.headers.BlockHead.{BlockHead}
 use Rattle.irtext_parse_heads.specs.declared.names.ReadName.{ReadName}
 use Rattle.irtext_parse_heads.specs.Headers.{MustHead}
 use Rattle.irtext_parse_heads.specs.Named.{NamesRead}
-use Rattle.irtext_parse_nested.specs.declared.frame.BegunBlock.{BegunBlock}
 use Rattle.irtext_parse_nested.specs.Blocks.{entries_in, MakesHead, NamesHead, RefusesHead}
 use Rattle.irtext_parse_nested.specs.Definitions.{ValuesReady, LosesPlaceholders}
 use Rattle.irtext_parse_nested.specs.Ends.{numbers_of, noted_as}

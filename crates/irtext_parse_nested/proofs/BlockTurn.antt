@@ -1,5 +1,5 @@
 -- The turn that begins a block: what was read and done, or what is refused.
-use Rattle.std.proofs.Common.{◌≡◌, ◌∙◌, inl, inr, ℕ, true, false, List, [], ◌∷◌, ◌++◌, codes, map, length, Option, Some, None, IsSome, Result, Ok, Err, refl, sym, ap, subst}
+use Rattle.std.proofs.Common.{◌≡◌, ◌∙◌, inl, inr, ℕ, true, false, List, [], ◌∷◌, ◌++◌, codes, map, length, Some, None, IsSome, Result, Ok, Err, sym, ap, subst}
 use Rattle.irtext_base.specs.Text.{Text, begins}
 use Rattle.irtext_base.specs.Reading.{the}
 use Rattle.irtext_base.specs.Own.{Sincere}
@@ -8,44 +8,39 @@ use Rattle.std.specs.Prelude.{IfOk}
 use Rattle.irtext_base.specs.Answers.{Outcome, Read, StarvesHere}
 use Rattle.irtext_base.specs.Locations.{AttrView}
 use Rattle.irtext_base.specs.declared.parsable.fault.ParseFault.{ParseFault}
-use Rattle.irtext_base.proofs.Sincere.{Of, of_mapped, of_sincere}
+use Rattle.irtext_base.proofs.Sincere.{of_mapped, of_sincere}
 use Rattle.irtext_read.specs.AttrTexts.{attr_at}
-use Rattle.irtext_read.specs.Demanded.{spaced_at, index_at}
-use Rattle.irtext_read.specs.Infix.{Reader, ◌▷◌}
+use Rattle.irtext_read.specs.Infix.{◌▷◌}
 use Rattle.irtext_read.specs.Tokens.{identifier_at, word}
-use Rattle.irtext_read.proofs.Honest.{Honest, ◌then◌, ◌kept◌, ◌so◌, seen, honest_either, honest_word, honest_space, honest_index, honest_name, honest_spaced, honest_separated, honest_attr}
+use Rattle.irtext_read.proofs.Honest.{Honest, ◌then◌, ◌kept◌, ◌so◌, seen, honest_either, honest_word, honest_space, honest_name, honest_spaced, honest_separated, honest_attr}
 use Rattle.irtext_read.proofs.Steps.{alone}
 use Rattle.irtext_graph.specs.declared.arena.Ptr.{Ptr}
 use Rattle.irtext_graph.specs.declared.object.BasicBlock.{BasicBlock}
 use Rattle.irtext_graph.specs.declared.object.Region.{Region}
 use Rattle.irtext_graph.specs.declared.object.Object.TheVariants.{TheBlock}
 use Rattle.irtext_graph.specs.Graph.{parent}
-use Rattle.irtext_context.specs.Context.{ContextView, block}
+use Rattle.irtext_context.specs.Context.{block}
 use Rattle.irtext_context.specs.declared.base.item.Item.TheVariants as item
 use Rattle.irtext_state.specs.States.{marks_of}
 use Rattle.irtext_state.specs.declared.parsable.state.State as code
 use Rattle.irtext_state.specs.declared.parsable.state.StateStream.{StateStream}
 use Rattle.irtext_scopes.specs.Names.{AreDistinct}
 use Rattle.irtext_grammar.specs.Contexts.Held.{whole}
-use Rattle.irtext_grammar.specs.Grammar.Tree.{Name, Mark, Head}
+use Rattle.irtext_grammar.specs.Grammar.Tree.{Head}
 use Rattle.irtext_outcomes.specs.Promises.Root.{UnlessMemory}
 use Rattle.irtext_outcomes.specs.Promises.Section.{IsStarved}
 use Rattle.irtext_outcomes.specs.Readers.Streams.{itself, replaced}
-use Rattle.irtext_outcomes.specs.Readers.Directives.{attribute_at}
 use Rattle.irtext_outcomes.proofs.Readers.Answered.{Answered, answered}
 use Rattle.irtext_outcomes.proofs.Readers.Honest.{honest_nothing}
-use Rattle.irtext_nesting.specs.Heads.{name_at, name_of, label_at, mark_at, mark_if_at, pair_at, dictionary_at, dictionary_if_at, argument_at, head_at}
-use Rattle.irtext_nesting.specs.Grows.{BlockCame}
+use Rattle.irtext_nesting.specs.Heads.{name_at, name_of, label_at, pair_at, dictionary_at, argument_at, head_at}
 use Rattle.irtext_parse_heads.specs.declared.headers.BlockHead.{BlockHead}
 use Rattle.irtext_parse_heads.specs.Headers.{IsHead, MustHead}
 use Rattle.irtext_parse_heads.specs.Named.{NamesRead}
 use Rattle.irtext_parse_heads.proofs.Meanings.{must_whole}
 use Rattle.irtext_parse_nested.specs.declared.frame.BegunBlock.{BegunBlock}
-use Rattle.irtext_parse_nested.specs.Begun.{IsBlock}
 use Rattle.irtext_parse_nested.specs.Blocks.{entries_in, RefusesKeys, MakesHead, NamesHead, RefusesHead}
 use Rattle.irtext_parse_nested.specs.Ends.{noted_as}
 use Rattle.irtext_parse_nested.specs.Items.{Names, ActsWith}
-use Rattle.irtext_parse_nested.specs.Located.{IsLocated}
 use Rattle.irtext_parse_nested.specs.Read.{heads_of, BeginsBlock, RefusesBlock}
 use Rattle.irtext_parse_nested.proofs.OperationClosed.{noted_is}
 use Rattle.irtext_parse_nested.proofs.Ended.{within_honest, honest_mark}

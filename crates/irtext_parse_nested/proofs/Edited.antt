@@ -1,10 +1,8 @@
 -- An operation whose data were written leaves defined what is defined, in place what is in place, and waiting what waits.
-use Rattle.std.proofs.Common.{◌≡◌, ◌∙◌, inl, inr, ℕ, ◌≤◌, List, [], ◌∷◌, Option, Some, None, IsSome, length, map, slice_get, arith, refl, sym, ap, subst}
+use Rattle.std.proofs.Common.{◌≡◌, ◌∙◌, inl, inr, ℕ, List, [], Option, Some, None, IsSome, length, map, slice_get, arith, refl, sym, ap, subst}
 use Rattle.std.specs.Prelude.{option_and_then}
 use Rattle.std.specs.Option.{option_map}
-use Rattle.irtext_base.specs.Text.{Text}
-use Rattle.irtext_base.specs.declared.base.attributes.AttrObj.{AttrObj}
-use Rattle.irtext_context.specs.Context.{ContextView, operation, operation_of, view_of, block_of, EditsOperation, with_attributes}
+use Rattle.irtext_context.specs.Context.{ContextView, operation, operation_of, view_of, block_of, EditsOperation}
 use Rattle.irtext_context.specs.declared.base.block.BlockData.{BlockData}
 use Rattle.irtext_context.specs.declared.base.operation.OperationData.{OperationData}
 use Rattle.irtext_graph.specs.declared.arena.Ptr.{Ptr}
@@ -24,7 +22,7 @@ use Rattle.irtext_graph.specs.Content.{Node, Content, OperationContent, BlockCon
 use Rattle.irtext_graph.specs.Data as graphs
 use Rattle.irtext_graph.specs.Data.{with_data}
 use Rattle.irtext_graph.specs.Erasing.{owner}
-use Rattle.irtext_graph.specs.Graph.{GraphView, content, content_of, parent, parent_of, children, children_of, Stands, IsNew}
+use Rattle.irtext_graph.specs.Graph.{GraphView, content, content_of, parent, parent_of, children, children_of}
 use Rattle.irtext_graph.specs.Objects.{is_older}
 use Rattle.irtext_parse_nested.specs.Definitions.{BlanksHaveResults}
 use Rattle.irtext_parse_nested.proofs.Blanks.{blanks_on}

@@ -1,18 +1,17 @@
 -- What the readers of an operation's front refuse stands within their texts.
-use Rattle.std.proofs.Common.{◌≡◌, ◌∙◌, ℕ, length, Bool, true, false, List, [], ◌∷◌, ◌++◌, codes, refl, sym, ap, subst, append_assoc, cond, is_some, Some, None}
-use Rattle.irtext_base.specs.Text.{Text, begins}
-use Rattle.irtext_base.specs.Reading.{the}
+use Rattle.std.proofs.Common.{◌≡◌, ◌∙◌, ℕ, length, Bool, true, false, List, [], ◌∷◌, ◌++◌, codes, refl, ap, subst, append_assoc, cond, is_some, Some, None}
+use Rattle.irtext_base.specs.Text.{Text}
 use Rattle.irtext_base.specs.Own.{Sincere, IsFront}
 use Rattle.irtext_base.specs.Format as format
 use Rattle.irtext_base.specs.Format.{Id, Directive}
 use Rattle.irtext_base.specs.Faults.{Fault, UnregisteredOp, UnregisteredDialect}
-use Rattle.irtext_base.specs.Answers.{Outcome, Read, Missing, Bad, prefixed, mapped}
+use Rattle.irtext_base.specs.Answers.{Outcome, Read, Missing, Bad, mapped}
 use Rattle.irtext_base.specs.Locations.{AttrView}
 use Rattle.irtext_base.proofs.Sincere.{Of, of_read, of_missing, of_mapped, of_sincere}
 use Rattle.irtext_context.specs.Dialects.{Table}
 use Rattle.irtext_context.specs.DialectTable.{dialect_of, registered}
 use Rattle.irtext_read.specs.AttrTexts.{attr_at}
-use Rattle.irtext_read.specs.Infix.{Reader, ◌▷◌}
+use Rattle.irtext_read.specs.Infix.{◌▷◌}
 use Rattle.irtext_read.specs.Tokens.{identifier_at, id_at, space_at, word}
 use Rattle.irtext_read.proofs.Honest.{Honest, ◌then◌, ◌kept◌, ◌so◌, seen, honest_either, honest_word, honest_space, honest_id, honest_name, honest_spaced, honest_separated, honest_attr}
 use Rattle.irtext_outcomes.specs.Readers.Parts.{behind}
@@ -22,7 +21,7 @@ use Rattle.irtext_outcomes.specs.Readers.Operations.{registered_behind}
 use Rattle.irtext_outcomes.proofs.Readers.Honest.{honest_nothing}
 use Rattle.irtext_grammar.specs.Contexts.Formats.{op_id}
 use Rattle.irtext_grammar.specs.Grammar.Tree as tree
-use Rattle.irtext_grammar.specs.Grammar.Tree.{Name, Piece, Part}
+use Rattle.irtext_grammar.specs.Grammar.Tree.{Name, Part}
 use Rattle.irtext_nesting.specs.Heads.{Step, flat, types, one, all, name_at, name_of, used_at, target_at, symbol_at, pair_at, dictionary_at, outlined_or_at, directive_at, piece_at, results_at, named, lead_at, led_by, led_at}
 use Rattle.irtext_nesting.specs.Resume.{front_at}
 use Rattle.irtext_parse_nested.proofs.Ended.{within_honest}

@@ -1,17 +1,16 @@
 -- The front of an operation was read, or why it was not.
-use Rattle.std.proofs.Common.{◌≡◌, ◌∙◌, ◌||◌, inl, inr, ℕ, Bool, true, false, cond, List, [], ◌∷◌, ◌++◌, length, Option, Some, None, Ok, Err, refl, sym, ap, subst, append-nil, true≢false}
+use Rattle.std.proofs.Common.{◌≡◌, ◌∙◌, ◌||◌, inl, inr, ℕ, Bool, true, false, cond, List, [], ◌∷◌, ◌++◌, length, Some, None, Ok, Err, refl, sym, ap, subst, append-nil, true≢false}
 use Rattle.std.specs.Option.{option_map}
 use Rattle.irtext_base.specs.Text.{Text}
-use Rattle.irtext_base.specs.Own.{Sincere, IsFront}
+use Rattle.irtext_base.specs.Own.{Sincere}
 use Rattle.irtext_base.specs.Faults.{id_of, fault_of}
 use Rattle.irtext_base.specs.Stream.{StreamView, IsAt}
 use Rattle.irtext_base.specs.Answers.{Outcome, Read, Missing, Bad, Refuses, demanded, unless_failed}
 use Rattle.irtext_base.specs.Answers as base
-use Rattle.irtext_base.specs.Locations.{AttrView}
 use Rattle.irtext_base.specs.Format.{Id}
 use Rattle.irtext_base.specs.declared.base.identifier.OpId.{OpId}
 use Rattle.irtext_base.specs.declared.parsable.fault.ParseFault.{ParseFault}
-use Rattle.irtext_context.specs.Dialects.{Table, known_of}
+use Rattle.irtext_context.specs.Dialects.{Table}
 use Rattle.irtext_context.specs.declared.dialect.OpInfo.{OpInfo}
 use Rattle.irtext_formats.specs.Directives.{format_of}
 use Rattle.irtext_read.specs.AttrTexts.{attr_at}
@@ -19,13 +18,12 @@ use Rattle.irtext_read.proofs.Steps.{alone}
 use Rattle.irtext_scopes.specs.Names.{KeepsNames}
 use Rattle.irtext_grammar.specs.Contexts.Formats as formats
 use Rattle.irtext_grammar.specs.Contexts.Held.{whole}
-use Rattle.irtext_grammar.specs.Grammar.Tree.{Name, Part}
+use Rattle.irtext_grammar.specs.Grammar.Tree.{Name}
 use Rattle.irtext_outcomes.specs.Readers.Streams.{itself, replaced}
 use Rattle.irtext_outcomes.specs.Promises.Root.{UnlessMemory}
-use Rattle.irtext_outcomes.specs.Promises.Section.{Moves}
 use Rattle.irtext_outcomes.specs.Promises.Supported.{is_committed}
 use Rattle.irtext_outcomes.proofs.Readers.Answered.{Answered, answered, may_answered, moves_more}
-use Rattle.irtext_nesting.specs.Heads.{Step, steps_of, front_steps, led_at}
+use Rattle.irtext_nesting.specs.Heads.{steps_of, front_steps, led_at}
 use Rattle.irtext_nesting.specs.Reached.{steps_in}
 use Rattle.irtext_nesting.specs.Resume.{front_at}
 use Rattle.irtext_parse_heads.specs.declared.names.ReadName.{ReadName}

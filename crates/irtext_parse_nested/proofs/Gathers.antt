@@ -9,7 +9,7 @@ use Rattle.irtext_graph.specs.declared.object.Defined.TheVariants.{OfValue, OfBl
 use Rattle.irtext_graph.specs.Graph.{GraphView}
 use Rattle.irtext_grammar.specs.Contexts.Held.{entries_of}
 use Rattle.irtext_grammar.specs.Grammar.Tree as tree
-use Rattle.irtext_grammar.specs.Grammar.Tree.{Name, Piece, Part, views}
+use Rattle.irtext_grammar.specs.Grammar.Tree.{Name, Part, views}
 use Rattle.irtext_grammar.specs.Graphs.Build.{put, put_all}
 use Rattle.irtext_grammar.specs.Names.Acts.{piece_acts}
 use Rattle.irtext_grammar.specs.Names.History.{Event, Outcome, act, going, run, next}

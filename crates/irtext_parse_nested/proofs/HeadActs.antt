@@ -1,10 +1,9 @@
 -- A block that was begun: what its header did takes the machine to where it stands, or the machine fails where it was refused.
-use Rattle.std.proofs.Common.{◌≡◌, ◌<◌, ◌∙◌, ◌⊎◌, inl, inr, ℕ, suc, true, List, [], ◌∷◌, ◌++◌, length, map, Option, Some, None, refl, sym, ap, subst, append-nil, slice_get}
+use Rattle.std.proofs.Common.{◌≡◌, ◌∙◌, ◌⊎◌, inl, inr, ℕ, suc, true, List, [], ◌∷◌, ◌++◌, length, map, Option, Some, None, refl, sym, ap, subst, append-nil, slice_get}
 use Rattle.std.specs.Map.{lookup}
 use Rattle.std.proofs.lemmas.List.{length-map}
 use Rattle.irtext_base.specs.Text.{Text}
 use Rattle.irtext_base.specs.Faults as causes
-use Rattle.irtext_base.specs.declared.base.attributes.AttrObj.{AttrObj}
 use Rattle.irtext_base.specs.declared.location.Source.{Source}
 use Rattle.irtext_base.specs.declared.parsable.fault.ParseFault.{ParseFault}
 use Rattle.irtext_graph.specs.declared.arena.Ptr.{Ptr}
@@ -13,7 +12,6 @@ use Rattle.irtext_graph.specs.declared.object.Region.{Region}
 use Rattle.irtext_graph.specs.declared.object.Value.{Value}
 use Rattle.irtext_graph.specs.declared.object.Value.TheVariants.{Argument, Result}
 use Rattle.irtext_graph.specs.declared.object.Object.TheVariants.{TheBlock}
-use Rattle.irtext_graph.specs.declared.object.Defined.TheVariants.{OfBlock}
 use Rattle.irtext_graph.specs.Chained.{Among}
 use Rattle.irtext_graph.specs.Graph.{GraphView}
 use Rattle.irtext_graph.proofs.Preorders.{among_left, among_right}
@@ -25,8 +23,8 @@ use Rattle.irtext_state.specs.States.{marks_of, same_index}
 use Rattle.irtext_state.specs.declared.parsable.state.State as code
 use Rattle.irtext_scopes.specs.Names.{AreDistinct}
 use Rattle.irtext_grammar.specs.Grammar.Tree.{Name, Mark, Head}
-use Rattle.irtext_grammar.specs.Names.Acts.{key_act, block_may_hold, argument_definitions, mark_acts, entries_if, header_acts, word_of}
-use Rattle.irtext_grammar.specs.Names.History.{act, State, Outcome, going, failed, next, run, after}
+use Rattle.irtext_grammar.specs.Names.Acts.{key_act, block_may_hold, argument_definitions, mark_acts, entries_if, word_of}
+use Rattle.irtext_grammar.specs.Names.History.{act, State, Outcome, going, failed, run, after}
 use Rattle.irtext_grammar.specs.Names.Scopes.{fact_of, is_among}
 use Rattle.irtext_grammar.specs.Names.Script as script
 use Rattle.irtext_grammar.specs.Names.Script.{Path, Place, argument, result, block_at, define_label}
@@ -45,7 +43,7 @@ use Rattle.irtext_parse_heads.specs.Named.{StandsFor, Each, NamesRead}
 use Rattle.irtext_parse_nested.specs.Blocks.{entries_in, RefusesKeys, MakesHead, RefusesArguments, DefinesArguments, NamesHead, RefusesHead, same_argument, same_mark, same_label}
 use Rattle.irtext_parse_nested.specs.Definitions.{IsFaultOf}
 use Rattle.irtext_parse_nested.specs.Ends.{numbers_of, NotesMark, RefusesMark}
-use Rattle.irtext_parse_nested.specs.Items.{Made, Names, Pledge, StandsAs, Acts, ActsWith, ActFails, doing}
+use Rattle.irtext_parse_nested.specs.Items.{Made, Names, Pledge, StandsAs, ActsWith, ActFails, doing}
 use Rattle.irtext_parse_nested.specs.Placing.{RefusesLabel}
 use Rattle.irtext_parse_nested.proofs.BlockPlaced.{arguments_made, with_block, placed_stands}
 use Rattle.irtext_parse_nested.proofs.Ends.{definitions_unmarked}

@@ -1,9 +1,8 @@
 -- The names of a block's header, one after another: its arguments, its mark and its label.
-use Rattle.std.proofs.Common.{◌≡◌, ◌∙◌, inl, inr, ℕ, List, [], Option, Some, None, IsSome, refl, sym, ap, subst, slice_get}
+use Rattle.std.proofs.Common.{◌≡◌, ◌∙◌, inl, inr, ℕ, List, [], Option, Some, None, IsSome, refl, sym, subst, slice_get}
 use Rattle.irtext_base.specs.Text.{Text}
 use Rattle.irtext_base.specs.declared.parsable.fault.ParseFault.{ParseFault}
 use Rattle.irtext_context.specs.Context.{ContextView, KeepsOlder}
-use Rattle.irtext_context.specs.declared.base.item.Item.{Item}
 use Rattle.irtext_context.specs.declared.base.item.Item.TheVariants as item
 use Rattle.irtext_context.proofs.Kept.{kept_trans, kept_closed}
 use Rattle.irtext_graph.specs.declared.arena.Ptr.{Ptr}
@@ -24,7 +23,7 @@ use Rattle.irtext_names.specs.Tied.{AreTied, AreWaiting, IsNoPlaceholder}
 use Rattle.irtext_outcomes.specs.Promises.Root.{UnlessMemory}
 use Rattle.irtext_parse_heads.specs.declared.marks.ReadMark.{ReadMark}
 use Rattle.irtext_parse_heads.specs.declared.names.ReadName.{ReadName}
-use Rattle.irtext_parse_nested.specs.Blocks.{DefinesArguments, RefusesArguments, NamesHead, RefusesHead, same_argument, same_mark, same_label}
+use Rattle.irtext_parse_nested.specs.Blocks.{DefinesArguments, NamesHead, RefusesHead, same_mark, same_label}
 use Rattle.irtext_parse_nested.specs.Definitions.{LosesPlaceholders}
 use Rattle.irtext_parse_nested.specs.Ends.{NotesMark, RefusesMark}
 use Rattle.irtext_parse_nested.specs.Items.{Names, IsSound, BlanksDefine}

@@ -1,59 +1,45 @@
 -- What the header of a block does with names: its keys, its arguments, its mark and its label, and where that fails.
-use Rattle.std.proofs.Common.{◌≡◌, ◌<◌, ◌+◌, ◌∙◌, inl, inr, ℕ, zero, suc, Bool, true, false, cond, List, [], ◌∷◌, ◌++◌, length, map, Option, Some, None, refl, sym, ap, ap₂, subst, arith, append-nil, append_assoc, slice_get}
+use Rattle.std.proofs.Common.{◌≡◌, ◌<◌, ◌+◌, ◌∙◌, inl, inr, ℕ, zero, suc, true, false, cond, List, [], ◌∷◌, ◌++◌, length, map, Option, Some, None, refl, sym, ap, ap₂, subst, arith}
 use Rattle.std.specs.Map.{lookup}
 use Rattle.std.specs.Prelude.{Vec}
 use Rattle.std.specs.Global.{Global}
-use Rattle.std.proofs.lemmas.List.{length-map}
 use Rattle.irtext_base.specs.Text.{Text}
 use Rattle.irtext_base.specs.Faults as causes
 use Rattle.irtext_base.specs.declared.base.attributes.AttrObj.{AttrObj}
-use Rattle.irtext_base.specs.declared.location.Source.{Source}
-use Rattle.irtext_base.specs.declared.parsable.fault.ParseFault.{ParseFault}
 use Rattle.irtext_graph.specs.declared.arena.Ptr.{Ptr}
 use Rattle.irtext_graph.specs.declared.object.BasicBlock.{BasicBlock}
-use Rattle.irtext_graph.specs.declared.object.Region.{Region}
-use Rattle.irtext_graph.specs.declared.object.Value.{Value}
 use Rattle.irtext_graph.specs.declared.object.Value.TheVariants.{Argument}
-use Rattle.irtext_graph.specs.declared.object.Defined.TheVariants.{OfBlock}
 use Rattle.irtext_graph.specs.Chained.{Among}
 use Rattle.irtext_graph.specs.Graph.{GraphView}
-use Rattle.irtext_graph.proofs.Preorders.{among_left, among_right}
-use Rattle.irtext_context.specs.Context.{known}
+use Rattle.irtext_graph.proofs.Preorders.{among_right}
 use Rattle.irtext_context.specs.declared.base.item.Item.TheVariants as item
-use Rattle.irtext_state.specs.States.{marks_of, same_index}
+use Rattle.irtext_state.specs.States.{same_index}
 use Rattle.irtext_state.specs.declared.parsable.state.State as code
-use Rattle.irtext_scopes.specs.Names.{AreDistinct}
 use Rattle.irtext_grammar.specs.Contexts.Held.{attribute_of}
-use Rattle.irtext_grammar.specs.Grammar.Tree.{Name, Mark, Attribute, Head}
-use Rattle.irtext_grammar.specs.Names.Acts.{Rule, key_act, block_may_hold, argument_definitions, mark_acts, entries_if, header_acts, word_of}
-use Rattle.irtext_grammar.specs.Names.History.{act, Event, State, Outcome, going, failed, next, run, after, outcome, step}
+use Rattle.irtext_grammar.specs.Grammar.Tree.{Name, Mark, Attribute}
+use Rattle.irtext_grammar.specs.Names.Acts.{Rule, key_act, argument_definitions, mark_acts, entries_if, word_of}
+use Rattle.irtext_grammar.specs.Names.History.{act, State, Outcome, going, failed, next, run, after, outcome}
 use Rattle.irtext_grammar.specs.Names.Scopes.{fact_of, is_among}
 use Rattle.irtext_grammar.specs.Names.Script as script
-use Rattle.irtext_grammar.specs.Names.Script.{Path, Place, argument, block_at, claim, define_label, define_value, mark}
-use Rattle.irtext_grammar.specs.Names.TextScopes.{Act, Failure, Word}
+use Rattle.irtext_grammar.specs.Names.Script.{Path, argument, claim, define_value, mark}
+use Rattle.irtext_grammar.specs.Names.TextScopes.{Act, Failure}
 use Rattle.irtext_names.specs.Linked.{Known, StandsAt}
-use Rattle.irtext_names.proofs.Linked.Interned.{interned}
 use Rattle.irtext_outcomes.specs.Promises.Section.{indices_of}
-use Rattle.irtext_names.specs.Rows.{AreNamed, AreKnown}
 use Rattle.irtext_names.proofs.Rows.{rest_fails, map-through}
 use Rattle.irtext_parse_heads.specs.declared.entries.Key.{Key}
-use Rattle.irtext_parse_heads.specs.declared.headers.BlockHead.{BlockHead}
 use Rattle.irtext_parse_heads.specs.declared.marks.ReadMark.{ReadMark}
 use Rattle.irtext_parse_heads.specs.declared.names.ReadName.{ReadName}
 use Rattle.irtext_parse_heads.specs.Arguments.{IsArgument}
 use Rattle.irtext_parse_heads.specs.Entries.{IsKey, IsEntry, AreEntries}
-use Rattle.irtext_parse_heads.specs.Headers.{IsHead}
 use Rattle.irtext_parse_heads.specs.Marks.{IsMarkIf}
-use Rattle.irtext_parse_heads.specs.Named.{StandsFor, Each, Optional, NamesRead}
-use Rattle.irtext_parse_nested.specs.Blocks.{entries_in, AreAllowed, IsFirstForbidden, RefusesKeys, MakesHead, RefusesArguments, DefinesArguments, NamesHead, RefusesHead, same_argument, same_mark, same_label}
+use Rattle.irtext_parse_heads.specs.Named.{StandsFor, Each, Optional}
+use Rattle.irtext_parse_nested.specs.Blocks.{entries_in, AreAllowed, IsFirstForbidden}
 use Rattle.irtext_parse_nested.specs.Definitions.{definitions_from, AreMadeAs}
-use Rattle.irtext_parse_nested.specs.Ends.{numbers_of, NotesMark, RefusesMark}
-use Rattle.irtext_parse_nested.specs.Items.{Names, Pledge, StandsAs, Acts, ActFails, doing}
-use Rattle.irtext_parse_nested.specs.Placing.{RefusesLabel}
-use Rattle.irtext_parse_nested.proofs.BlockPlaced.{arguments_made, with_block, placed_stands}
-use Rattle.irtext_parse_nested.proofs.Ends.{after_nothing, definitions_unmarked}
-use Rattle.irtext_parse_nested.proofs.Faults.{stands_there, named_each, each_there, some_same, name_failure}
-use Rattle.irtext_parse_nested.proofs.Marking.{mark_stands, not_noted, noted_before}
+use Rattle.irtext_parse_nested.specs.Ends.{NotesMark}
+use Rattle.irtext_parse_nested.specs.Items.{Names}
+use Rattle.irtext_parse_nested.proofs.BlockPlaced.{arguments_made, with_block}
+use Rattle.irtext_parse_nested.proofs.Ends.{after_nothing}
+use Rattle.irtext_parse_nested.proofs.Marking.{mark_stands, not_noted}
 
 -- ---- the machine over acts in a row
 pub run_both : (o : Outcome) (xs ys : List Act) → run o (map act (xs ++ ys)) ≡ run (run o (map act xs)) (map act ys)

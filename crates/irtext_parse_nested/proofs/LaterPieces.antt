@@ -1,5 +1,5 @@
 -- A piece behind a region of its operation: what it does with names and keys, and where its reader refuses.
-use Rattle.std.proofs.Common.{◌≡◌, ◌∙◌, ℕ, zero, suc, ◌+◌, Bool, true, List, [], ◌∷◌, drop, map, slice_get, Option, Some, None, option_map, Result, IfOk, false, refl, sym, ap, subst, arith}
+use Rattle.std.proofs.Common.{◌≡◌, ◌∙◌, ℕ, zero, suc, Bool, true, List, [], ◌∷◌, drop, slice_get, Option, Some, None, option_map, Result, IfOk, false, refl, sym, ap, subst}
 use Rattle.irtext_base.specs.Text.{Text}
 use Rattle.std.specs.Char.{is_whitespace}
 use Rattle.std.specs.Prelude.{Vec}

@@ -1,5 +1,5 @@
 -- A piece behind a region of its operation was read and stored, and the operation goes on; or how that is refused.
-use Rattle.std.proofs.Common.{◌≡◌, ◌≤◌, ◌∙◌, ◌+◌, inl, inr, ℕ, suc, false, true, List, [], ◌∷◌, ◌++◌, drop, length, map, slice_get, Option, Some, None, IsSome, Result, Ok, Err, refl, sym, ap, subst, arith, append-nil, append_assoc}
+use Rattle.std.proofs.Common.{◌≡◌, ◌∙◌, ◌+◌, inl, inr, ℕ, suc, false, true, List, [], ◌∷◌, ◌++◌, drop, length, map, slice_get, Some, IsSome, Result, Ok, Err, refl, sym, ap, subst, arith, append-nil, append_assoc}
 use Rattle.std.specs.List.{All}
 use Rattle.irtext_base.specs.Text.{Text}
 use Rattle.irtext_base.specs.Own.{Sincere}
@@ -25,12 +25,12 @@ use Rattle.irtext_scopes.specs.Names.{AreDistinct}
 use Rattle.irtext_state.specs.States.{marks_of}
 use Rattle.irtext_state.specs.declared.parsable.state.StateStream.{StateStream}
 use Rattle.irtext_grammar.specs.Contexts.Formats.{format_of}
-use Rattle.irtext_grammar.specs.Contexts.Held.{whole, entries_of}
+use Rattle.irtext_grammar.specs.Contexts.Held.{whole}
 use Rattle.irtext_grammar.specs.Grammar.Tree as tree
-use Rattle.irtext_grammar.specs.Grammar.Tree.{Name, Piece, Part, views}
+use Rattle.irtext_grammar.specs.Grammar.Tree.{Piece, Part}
 use Rattle.irtext_grammar.specs.Graphs.Build.{put_all, stored}
 use Rattle.irtext_grammar.specs.Names.Acts.{piece_acts, result_types}
-use Rattle.irtext_grammar.specs.Names.History.{State, Outcome as Machine, act, going, failed, run}
+use Rattle.irtext_grammar.specs.Names.History.{Outcome as Machine, act, going, failed, run}
 use Rattle.irtext_grammar.specs.Names.Script.{Path, ReservedKey}
 use Rattle.irtext_names.specs.Tied.{AreTied}
 use Rattle.irtext_names.proofs.Linked.Interned.{interned}
@@ -54,11 +54,11 @@ use Rattle.irtext_parse_nested.specs.declared.frame.BegunOperation.{BegunOperati
 use Rattle.irtext_parse_nested.specs.declared.gathering.NotGathered.{NotGathered}
 use Rattle.irtext_parse_nested.specs.declared.gathering.NotGathered.TheVariants as refusal
 use Rattle.irtext_parse_nested.specs.Beginning.{HasBegun, SaysGather}
-use Rattle.irtext_parse_nested.specs.Begun.{IsBegun, HasNoType, ReadsNeither, ReadNeither}
+use Rattle.irtext_parse_nested.specs.Begun.{IsBegun, HasNoType, ReadNeither}
 use Rattle.irtext_parse_nested.specs.Ends.{WritesAttributes}
 use Rattle.irtext_parse_nested.specs.Gathered.{stored_of}
-use Rattle.irtext_parse_nested.specs.Items.{Names, Pledge, Made, StandsAs, Acts, ActFails, IsFailure, IsSound, Lasts, doing}
-use Rattle.irtext_parse_nested.specs.Later.{IsFlatNext, MayStore, RefusesStored, StoresPiece, NotStored, GoesOn}
+use Rattle.irtext_parse_nested.specs.Items.{Names, Pledge, Made, StandsAs, Acts, IsSound, Lasts, doing}
+use Rattle.irtext_parse_nested.specs.Later.{IsFlatNext, RefusesStored, StoresPiece, NotStored, GoesOn}
 use Rattle.irtext_parse_nested.specs.Located.{IsLocated}
 use Rattle.irtext_parse_nested.specs.Read.{Demands, ReadsPiece, RefusesPiece}
 use Rattle.irtext_parse_nested.proofs.Begins.{note_piece, marks_stay}

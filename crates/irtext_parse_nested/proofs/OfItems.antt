@@ -1,5 +1,5 @@
 -- What is made for an item is of that item: an operation with its results, operands and successors, and a block with its arguments.
-use Rattle.std.proofs.Common.{◌≡◌, ◌∙◌, ◌⊎◌, ℕ, suc, List, [], ◌∷◌, ◌++◌, refl, sym, ap, subst, inl, inr}
+use Rattle.std.proofs.Common.{◌≡◌, ◌⊎◌, ℕ, suc, List, [], ◌∷◌, ◌++◌, refl, sym, ap, subst, inl, inr}
 use Rattle.irtext_graph.specs.declared.arena.Ptr.{Ptr}
 use Rattle.irtext_graph.specs.declared.object.BasicBlock.{BasicBlock}
 use Rattle.irtext_graph.specs.declared.object.Operation.{Operation}
@@ -11,7 +11,7 @@ use Rattle.irtext_graph.specs.declared.object.Site.{Site}
 use Rattle.irtext_graph.specs.declared.object.Site.TheVariants.{AtOperand, AtSuccessor}
 use Rattle.irtext_graph.specs.Chained.{Among}
 use Rattle.irtext_names.proofs.Linked.Moving.{among_split}
-use Rattle.irtext_grammar.specs.Names.Script.{Path, Place, result, argument, block_at, User, operand, successor}
+use Rattle.irtext_grammar.specs.Names.Script.{Path, Place, argument, block_at, User, operand, successor}
 use Rattle.irtext_names.specs.Linked.{Known, nothing_made}
 use Rattle.irtext_names.specs.OfItems.{IsValueOf, IsBlockOf, IsSiteOf, AreOf}
 use Rattle.irtext_names.specs.Rows.{made_results, sites_from, with_operation}

@@ -1,11 +1,10 @@
 -- An operation that begins: its front was read, its names were used, and it was made; or how it is refused.
-use Rattle.std.proofs.Common.{◌≡◌, ◌<◌, ◌+◌, ◌-◌, ◌∙◌, inl, inr, ℕ, zero, suc, Bool, true, false, List, [], ◌∷◌, ◌++◌, length, map, flat_map, drop, take, slice_get, Option, Some, None, IsSome, refl, sym, ap, subst, arith, append-nil, length-append}
+use Rattle.std.proofs.Common.{◌≡◌, ◌<◌, ◌+◌, ◌-◌, ◌∙◌, inl, inr, ℕ, zero, suc, Bool, true, List, [], ◌∷◌, ◌++◌, length, map, flat_map, drop, take, Option, Some, None, IsSome, refl, sym, ap, subst, arith, length-append}
 use Rattle.std.specs.Prelude.{IfSome}
-use Rattle.std.specs.Option.{option_map}
 use Rattle.std.specs.List.{All}
 use Rattle.std.proofs.Math.Seq.{take-append_seam}
 use Rattle.irtext_base.specs.Text.{Text}
-use Rattle.irtext_base.specs.Format.{Format, Id, are_places}
+use Rattle.irtext_base.specs.Format.{Id, are_places}
 use Rattle.irtext_base.specs.Faults as causes
 use Rattle.irtext_base.specs.Faults.{id_of}
 use Rattle.irtext_base.specs.Answers.{Outcome, Read}
@@ -17,7 +16,6 @@ use Rattle.irtext_base.specs.declared.parsable.fault.ParseFault.{ParseFault}
 use Rattle.irtext_stream.specs.declared.position.Place.{Place}
 use Rattle.irtext_context.specs.Context.{ContextView, known}
 use Rattle.irtext_context.specs.Dialects.{Table}
-use Rattle.irtext_context.specs.Made.{made_view}
 use Rattle.irtext_graph.specs.Back.{AllOlder}
 use Rattle.irtext_graph.specs.Chained.{Among}
 use Rattle.irtext_graph.specs.declared.arena.Ptr.{Ptr}
@@ -30,14 +28,13 @@ use Rattle.irtext_graph.proofs.Preorders.{among_left, among_right}
 use Rattle.irtext_grammar.specs.Contexts.Formats.{format_of}
 use Rattle.irtext_grammar.specs.Contexts.Held.{whole, entries_of}
 use Rattle.irtext_grammar.specs.Grammar.Tree as tree
-use Rattle.irtext_grammar.specs.Grammar.Tree.{Name, Piece, Part, views, in_order, operand_names, successor_labels}
+use Rattle.irtext_grammar.specs.Grammar.Tree.{Name, Part, views, in_order, operand_names, successor_labels}
 use Rattle.irtext_grammar.specs.Graphs.Build.{put_all, stored}
 use Rattle.irtext_grammar.proofs.Lists.Numbering.{in_order_length}
 use Rattle.irtext_grammar.specs.Names.Acts.{result_types, piece_acts}
-use Rattle.irtext_grammar.specs.Names.History.{State, Outcome as Machine, act, going, failed, run}
+use Rattle.irtext_grammar.specs.Names.History.{State, Outcome as Machine, act, going, run}
 use Rattle.irtext_grammar.specs.Names.Script as script
 use Rattle.irtext_grammar.specs.Names.Script.{Path, Place as Spot, result}
-use Rattle.irtext_grammar.specs.Names.TextScopes.{Act, Failure}
 use Rattle.irtext_names.specs.Linked.{Known, StandsAt}
 use Rattle.irtext_names.proofs.Linked.Interned.{interned}
 use Rattle.irtext_scopes.specs.Names.{AreDistinct}
@@ -46,13 +43,13 @@ use Rattle.irtext_state.specs.declared.parsable.state.State as code
 use Rattle.irtext_state.specs.declared.parsable.state.StateStream.{StateStream}
 use Rattle.irtext_outcomes.specs.Promises.Root.{UnlessMemory, position_behind}
 use Rattle.irtext_outcomes.specs.Promises.Section.{Moves, indices_of}
-use Rattle.irtext_nesting.specs.Heads.{Step, steps_of, front_steps, region_steps, led_at}
+use Rattle.irtext_nesting.specs.Heads.{steps_of, front_steps, region_steps}
 use Rattle.irtext_nesting.specs.Naming.{body_of, unmarked, single_operands, single_successors}
 use Rattle.irtext_nesting.specs.Reached.{steps_in}
-use Rattle.irtext_nesting.specs.Resume.{Begun, begun, front_at}
+use Rattle.irtext_nesting.specs.Resume.{begun, front_at}
 use Rattle.irtext_names.specs.Rows.{made_results, with_operation}
 use Rattle.irtext_names.proofs.Made.{made_stands}
-use Rattle.irtext_nesting.specs.Stands.{OwnSoFar, HasOwn, IsThere}
+use Rattle.irtext_nesting.specs.Stands.{OwnSoFar, IsThere}
 use Rattle.irtext_nesting.proofs.Edits.{made_own}
 use Rattle.irtext_parse_heads.specs.declared.names.ReadName.{ReadName}
 use Rattle.irtext_parse_heads.specs.declared.pieces.ReadPiece.{ReadPiece}

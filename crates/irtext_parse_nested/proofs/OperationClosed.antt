@@ -1,5 +1,5 @@
 -- An operation that is closed: its results are defined, and their names are stored as given names.
-use Rattle.std.proofs.Common.{◌≡◌, ◌≤◌, ◌∙◌, ℕ, List, [], ◌∷◌, map, Option, Some, None, IsSome, arith, refl, sym, ap, subst, append-nil, ◌++◌}
+use Rattle.std.proofs.Common.{◌≡◌, ◌∙◌, ℕ, List, [], ◌∷◌, map, Option, Some, None, IsSome, arith, refl, sym, ap, subst, append-nil, ◌++◌}
 use Rattle.std.specs.Map.{lookup}
 use Rattle.irtext_base.specs.Text.{Text}
 use Rattle.irtext_base.specs.declared.location.Location.{Location}
@@ -13,7 +13,6 @@ use Rattle.irtext_graph.specs.Graph.{IsNew}
 use Rattle.irtext_graph.proofs.Frames.{new_operation}
 use Rattle.irtext_state.specs.States.{marks_of, same_index}
 use Rattle.irtext_state.specs.declared.parsable.state.State as code
-use Rattle.irtext_grammar.specs.Contexts.Held.{entries_of}
 use Rattle.irtext_grammar.specs.Grammar.Tree.{Name, Mark}
 use Rattle.irtext_grammar.specs.Graphs.Build.{put_all, read_names}
 use Rattle.irtext_nesting.specs.Grows.{OwnBecame}

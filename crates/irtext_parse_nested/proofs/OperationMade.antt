@@ -1,18 +1,15 @@
 -- An operation that begins, as a context has it: it came, last into its block where one is given, and all else is spared and lasts; names
 -- stay tied, and wait for what they waited.
-use Rattle.std.proofs.Common.{◌≡◌, ◌≢◌, ◌≤◌, ◌+◌, ◌∙◌, inl, inr, ℕ, suc, List, [], ◌∷◌, ◌++◌, length, map, Option, Some, None, IsSome, refl, sym, ap, subst, arith}
-use Rattle.std.specs.Prelude.{IfSome, option_and_then}
+use Rattle.std.proofs.Common.{◌≡◌, ◌≤◌, ◌+◌, ◌∙◌, inl, inr, ℕ, suc, List, [], ◌∷◌, ◌++◌, length, Option, Some, None, IsSome, refl, sym, ap, subst, arith}
+use Rattle.std.specs.Prelude.{IfSome}
 use Rattle.std.specs.Option.{option_map}
-use Rattle.irtext_base.specs.Faults.{id_of}
 use Rattle.irtext_base.specs.declared.location.Location.{Location}
-use Rattle.irtext_context.specs.Context.{ContextView, OperationView, operation, block, known, with_graph}
+use Rattle.irtext_context.specs.Context.{ContextView, operation, known}
 use Rattle.irtext_context.specs.Made.{made_view}
 use Rattle.irtext_context.specs.declared.base.operation.OperationData.{OperationData}
 use Rattle.irtext_context.proofs.Contexts.{made_seen}
 use Rattle.irtext_graph.specs.Back.{AllOlder}
-use Rattle.irtext_graph.specs.Chained.{Among}
-use Rattle.irtext_graph.specs.Graph.{IsNew, Appends, content_of, parent, numbered}
-use Rattle.irtext_graph.specs.Objects.{is_older}
+use Rattle.irtext_graph.specs.Graph.{IsNew, content_of, parent, numbered}
 use Rattle.irtext_graph.specs.Parts.{operation_at, results, results_of}
 use Rattle.irtext_graph.specs.Erasing.{without_uses}
 use Rattle.irtext_graph.proofs.Nests.{told}
@@ -20,24 +17,21 @@ use Rattle.irtext_graph.proofs.Same.{ptr_tells}
 use Rattle.irtext_context.specs.declared.base.block.BlockData.{BlockData}
 use Rattle.irtext_graph.specs.declared.arena.Ptr.{Ptr}
 use Rattle.irtext_graph.specs.declared.object.BasicBlock.{BasicBlock}
-use Rattle.irtext_graph.specs.declared.object.Operation.{Operation}
 use Rattle.irtext_graph.specs.declared.object.Object.{Object}
 use Rattle.irtext_graph.specs.declared.object.Object.TheVariants.{TheOperation, TheBlock}
-use Rattle.irtext_grammar.specs.Contexts.Held.{entries_of}
 use Rattle.irtext_grammar.specs.Grammar.Tree.{in_order}
 use Rattle.irtext_names.specs.Tied.{AreTied, AreWaiting}
 use Rattle.irtext_names.proofs.Added.{added_ties, operation_waits}
 use Rattle.irtext_names.proofs.Gained.{operation_added}
-use Rattle.irtext_nesting.specs.Grows.{with_last_operation, BlockGains, OperationCame}
+use Rattle.irtext_nesting.specs.Grows.{with_last_operation, OperationCame}
 use Rattle.irtext_nesting.specs.Stands.{OwnSoFar, HasOwn, HasUses, IsThere, Spares}
-use Rattle.irtext_nesting.proofs.Edits.{operation_made, operation_made_spares, operation_came, operation_came_last, operation_came_spares, operation_placed_spares, made_own, spares_then, spares_wider}
+use Rattle.irtext_nesting.proofs.Edits.{operation_made, operation_made_spares, operation_came, operation_came_last, operation_came_spares, operation_placed_spares, spares_then, spares_wider}
 use Rattle.irtext_nesting.proofs.Kept.{there_still}
 use Rattle.irtext_state.specs.declared.parsable.state.State as code
 use Rattle.irtext_parse_nested.specs.declared.beginning.ReadFront.{ReadFront}
 use Rattle.irtext_parse_nested.specs.declared.frame.BegunOperation.{BegunOperation}
-use Rattle.irtext_parse_nested.specs.declared.gathering.Gathered.{Gathered}
 use Rattle.irtext_parse_nested.specs.Beginning.{types_made, PlacedIn, MakesOf, ComesInto}
-use Rattle.irtext_parse_nested.specs.Items.{Names, Lasts, IsSound, BlanksDefine}
+use Rattle.irtext_parse_nested.specs.Items.{Names, Lasts, BlanksDefine}
 use Rattle.irtext_parse_nested.specs.Definitions.{BlanksHaveResults}
 use Rattle.irtext_parse_nested.proofs.Blanks.{blanks_on}
 use Rattle.irtext_parse_nested.proofs.Losing.{blanks_by}

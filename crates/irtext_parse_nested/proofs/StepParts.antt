@@ -4,7 +4,7 @@ use Rattle.std.specs.Prelude.{⊤}
 use Rattle.std.specs.List.{list_all}
 use Rattle.irtext_base.specs.Text.{Text}
 use Rattle.irtext_base.specs.Format as format
-use Rattle.irtext_base.specs.Format.{Format, Directive, operand_places, successor_places, Accepted, count, is_any_region, is_operands, is_successors, none_behind, c1, c2, c3, c4, c5, c6, c7}
+use Rattle.irtext_base.specs.Format.{Directive, operand_places, successor_places, Accepted, count, is_any_region, is_operands, is_successors, c1, c2, c3, c4, c5, c6, c7}
 use Rattle.irtext_base.specs.Answers.{Outcome, Read, Missing, Bad, mapped, followed}
 use Rattle.irtext_base.specs.Locations.{AttrView}
 use Rattle.irtext_read.specs.Infix.{Reader, ◌▷◌}

@@ -1,6 +1,6 @@
 -- What an operation that begins leaves of a context, step by step: where names were used, where it was made, and where it came last into a
 -- block.
-use Rattle.std.proofs.Common.{◌≡◌, ◌≢◌, ◌≤◌, ◌+◌, ◌∙◌, inl, inr, ℕ, Bool, true, false, List, [], ◌∷◌, length, Option, Some, None, IsSome, nat_lt, if◌then◌else◌, refl, sym, ap, subst, arith, ltb-true}
+use Rattle.std.proofs.Common.{◌≡◌, ◌≤◌, ◌∙◌, inl, inr, ℕ, Bool, true, false, List, [], length, Option, Some, None, IsSome, nat_lt, if◌then◌else◌, refl, sym, ap, subst, arith, ltb-true}
 use Rattle.std.specs.Prelude.{option_and_then}
 use Rattle.std.specs.Option.{option_map}
 use Rattle.irtext_context.specs.Context.{ContextView, operation, operation_of, block, block_of, region, region_of, MakesOperation}
@@ -13,7 +13,7 @@ use Rattle.irtext_graph.specs.Content.{Node, Content, Content.{AnOperation, ABlo
 use Rattle.irtext_graph.specs.Graph as graphs
 use Rattle.irtext_graph.specs.Graph.{GraphView, Appends, IsNew, Stands, content, content_of, parent, parent_of}
 use Rattle.irtext_graph.specs.Objects.{is_older}
-use Rattle.irtext_graph.specs.Parts.{operation_at, results, results_of}
+use Rattle.irtext_graph.specs.Parts.{results, results_of}
 use Rattle.irtext_graph.specs.Store.{Store, get, before}
 use Rattle.irtext_graph.specs.declared.arena.Entry.{Entry}
 use Rattle.irtext_graph.specs.declared.arena.Ptr.{Ptr}

@@ -1,5 +1,5 @@
 -- Words among pieces that are gathered: nothing is gathered of them.
-use Rattle.std.proofs.Common.{◌≡◌, ℕ, zero, suc, List, [], ◌∷◌, ◌++◌, Option, refl, sym, subst, append-nil}
+use Rattle.std.proofs.Common.{ℕ, zero, suc, List, [], ◌++◌, Option, refl, subst, append-nil}
 use Rattle.irtext_graph.specs.declared.arena.Ptr.{Ptr}
 use Rattle.irtext_graph.specs.declared.object.BasicBlock.{BasicBlock}
 use Rattle.irtext_graph.specs.declared.object.Value.{Value}

@@ -1,7 +1,6 @@
 -- What the context holds behind each turn, where the turn brings its object or changes what is innermost.
-use Rattle.std.proofs.Common.{◌≡◌, ◌∙◌, ℕ, Bool, List, [], ◌∷◌, ◌++◌, map, Option, Some, None, refl, sym, ap, subst, append-nil, inl, inr}
+use Rattle.std.proofs.Common.{◌≡◌, ◌∙◌, ℕ, Bool, List, [], ◌∷◌, ◌++◌, Option, Some, None, refl, sym, ap, subst, append-nil, inl, inr}
 use Rattle.irtext_base.specs.Format.{Format, Id}
-use Rattle.irtext_base.specs.Text.{Text}
 use Rattle.irtext_base.specs.declared.location.Location.{Location}
 use Rattle.irtext_context.specs.Context.{ContextView, OperationView, operation}
 use Rattle.irtext_context.specs.declared.base.item.Item.{Item}
@@ -14,14 +13,13 @@ use Rattle.irtext_graph.specs.declared.object.Object.{Object}
 use Rattle.irtext_graph.specs.declared.object.Object.TheVariants.{TheOperation, TheBlock, TheRegion}
 use Rattle.irtext_graph.specs.Chained.{Among}
 use Rattle.irtext_grammar.specs.Grammar.Forest as forest
-use Rattle.irtext_grammar.specs.Grammar.Forest.{Blocks, no_regions, no_blocks, Operations, no_operations}
+use Rattle.irtext_grammar.specs.Grammar.Forest.{Blocks, no_regions, Operations}
 use Rattle.irtext_grammar.specs.Grammar.Tree as tree
 use Rattle.irtext_grammar.specs.Grammar.Tree.{Name, Mark, Piece, Part, Op, Head, Brace, shown}
 use Rattle.irtext_nesting.specs.Naming.{body_of, unmarked}
-use Rattle.irtext_nesting.specs.Reached.{Doing}
-use Rattle.irtext_nesting.specs.Building.{append_blocks, Unfinished, operation_so_far, region_so_far, but_its_mark, Building, building, whole_blocks}
+use Rattle.irtext_nesting.specs.Building.{Unfinished, operation_so_far, region_so_far, but_its_mark, Building, building, whole_blocks}
 use Rattle.irtext_nesting.specs.Grows.{RegionCame, OperationGains, RegionGains, BlockGains, OperationCame, BlockCame, OwnBecame}
-use Rattle.irtext_nesting.specs.Stands.{OwnSoFar, own_of, OpenAt, operation_under, ended_under, region_under, HasOwn, HasUses, HoldsSoFar, RegionsHold, BlocksHold, RegionIsOpen, AreOpenAt, IsThere, IsAsItWas, Spares}
+use Rattle.irtext_nesting.specs.Stands.{OwnSoFar, own_of, OpenAt, operation_under, ended_under, region_under, HasOwn, HasUses, RegionsHold, BlocksHold, RegionIsOpen, AreOpenAt, IsThere, IsAsItWas, Spares}
 use Rattle.irtext_nesting.specs.Tracks as tracks
 use Rattle.irtext_nesting.specs.Tracks.{Made, noted, HoldsMade}
 use Rattle.irtext_nesting.proofs.Acts.{block_ended}

@@ -1,5 +1,5 @@
 -- The marks of what was read behind each item that is done, the items that carry them, and that one object stands at each place.
-use Rattle.std.proofs.Common.{◌≡◌, ◌∙◌, ◌≤◌, ◌<◌, ℕ, Bool, List, [], ◌∷◌, ◌++◌, map, length, Option, Some, None, refl, sym, ap, subst, append-nil, append_assoc, arith, inl, inr}
+use Rattle.std.proofs.Common.{◌≡◌, ◌∙◌, ◌≤◌, ◌<◌, ℕ, Bool, List, [], ◌∷◌, ◌++◌, map, Option, Some, None, refl, sym, ap, subst, append-nil, append_assoc, arith, inl, inr}
 use Rattle.irtext_base.specs.Format.{Format, Id}
 use Rattle.irtext_base.specs.declared.location.Location.{Location}
 use Rattle.irtext_context.specs.Context.{ContextView}
@@ -10,20 +10,19 @@ use Rattle.irtext_graph.specs.declared.object.BasicBlock.{BasicBlock}
 use Rattle.irtext_graph.specs.declared.object.Operation.{Operation}
 use Rattle.irtext_graph.specs.declared.object.Region.{Region}
 use Rattle.irtext_graph.specs.declared.object.Object.{Object}
-use Rattle.irtext_graph.specs.declared.object.Object.TheVariants.{TheOperation, TheBlock}
+use Rattle.irtext_graph.specs.declared.object.Object.TheVariants.{TheOperation}
 use Rattle.irtext_graph.specs.Chained.{Among}
 use Rattle.irtext_grammar.specs.Grammar.Forest.{Regions, no_regions, region, Blocks, no_blocks, block, Operations, no_operations, operation}
-use Rattle.irtext_grammar.specs.Grammar.Tree.{Name, Mark, Piece, Part, Op, Head, Brace, shown, Tree}
+use Rattle.irtext_grammar.specs.Grammar.Tree.{Name, Mark, Part, Op, Head, Brace, shown, Tree}
 use Rattle.irtext_grammar.specs.Names.Resolves as resolves
 use Rattle.irtext_grammar.specs.Names.Acts.{marked_as}
 use Rattle.irtext_grammar.specs.Names.Resolves.{all_in_regions, all_in_blocks, all_in_operations, everywhere}
 use Rattle.irtext_nesting.specs.Naming.{body_of, unmarked}
-use Rattle.irtext_nesting.specs.Reached.{Doing}
 use Rattle.irtext_nesting.specs.Building.{append_regions, append_blocks, append_operations, Unfinished, operation_so_far, region_so_far, but_its_mark, Building, building, whole_blocks, block_begun, region_ended, operation_closed, operation_marked, with_mark}
-use Rattle.irtext_nesting.specs.Stands.{OwnSoFar, own_of, OpenAt, operation_under, ended_under, region_under, IsOpenAt, AreOpenAt, TreeHolds, as_inner}
-use Rattle.irtext_nesting.specs.Tracks.{Made, noted}
+use Rattle.irtext_nesting.specs.Stands.{OwnSoFar, OpenAt, operation_under, ended_under, region_under, IsOpenAt, AreOpenAt, TreeHolds, as_inner}
+use Rattle.irtext_nesting.specs.Tracks.{Made}
 use Rattle.irtext_parse_nested.specs.Ends.{noted_as}
-use Rattle.irtext_parse_root.specs.Carried.{marks_in_regions, marks_in_blocks, marks_in_operations, marks_in, marks_under, marks_open, marks_whole, marks_so_far, object_of, AreCarried, Falls}
+use Rattle.irtext_parse_root.specs.Carried.{marks_in_regions, marks_in_blocks, marks_in_operations, marks_in, marks_open, marks_whole, marks_so_far, object_of, AreCarried, Falls}
 
 -- ---- the marks of what stands one behind the other
 module _ {T A : Type 0} where

@@ -1,5 +1,5 @@
 -- Turns one behind the other, and a fault behind them.
-use Rattle.std.proofs.Common.{◌≡◌, ◌∙◌, ◌≤◌, ℕ, Bool, true, false, List, [], ◌∷◌, ◌++◌, length, Option, Some, IsSome, refl, sym, ap, subst, append-nil, append_assoc, inl, inr, arith, le_refl}
+use Rattle.std.proofs.Common.{◌≡◌, ◌∙◌, ℕ, Bool, true, false, List, [], ◌∷◌, ◌++◌, length, IsSome, refl, sym, ap, subst, append-nil, append_assoc, inl, inr, arith, le_refl}
 use Rattle.irtext_base.specs.Text.{Text}
 use Rattle.irtext_base.specs.Locations.{AttrView}
 use Rattle.irtext_base.specs.Stream.{StreamView}
@@ -16,7 +16,6 @@ use Rattle.irtext_grammar.specs.Contexts.Formats.{format_of}
 use Rattle.irtext_grammar.specs.Contexts.Held.{whole}
 use Rattle.irtext_grammar.specs.Names.History.{Outcome, failed}
 use Rattle.irtext_grammar.specs.Names.Script.{Path}
-use Rattle.irtext_scopes.specs.Names.{KeepsNames}
 use Rattle.irtext_outcomes.specs.Promises.Root.{UnlessMemory}
 use Rattle.irtext_outcomes.specs.Promises.Section.{Moves}
 use Rattle.irtext_outcomes.proofs.Readers.Answered.{moves_none, moves_more}
@@ -26,12 +25,12 @@ use Rattle.irtext_nesting.proofs.Resume.Frames.{goes_trans, stuck_at}
 use Rattle.irtext_parse_heads.proofs.Meanings.{takes_whole}
 use Rattle.irtext_parse_nested.proofs.Marking.{gains_nothing}
 use Rattle.irtext_parse_nested.specs.Ends.{GainsMarks}
-use Rattle.irtext_parse_nested.specs.Items.{Names, Made, Pledge, StandsAs, Acts, ActsWith, ActFails, IsFailure, IsTextFault, IsSound, Lasts, doing}
+use Rattle.irtext_parse_nested.specs.Items.{Names, Made, Pledge, StandsAs, Acts, ActsWith, ActFails, IsFailure, IsTextFault, Lasts, doing}
 use Rattle.irtext_parse_nested.specs.Located.{IsLocated}
 use Rattle.irtext_parse_root.specs.Built.{Built}
 use Rattle.irtext_parse_root.specs.Here.{Base}
-use Rattle.irtext_parse_root.specs.Levels.{Level, next_of, waiting, pledges_of}
-use Rattle.irtext_parse_root.specs.Told.{Did, all_done}
+use Rattle.irtext_parse_root.specs.Levels.{Level, pledges_of}
+use Rattle.irtext_parse_root.specs.Told.{all_done}
 use Rattle.irtext_parse_root.specs.Turned.{Carries, Remains, Turned, Faulted, at_text, by_names}
 use Rattle.irtext_parse_root.proofs.Carrying.{falls_both}
 use Rattle.irtext_parse_root.proofs.Staying.{stay_still, stay_both}

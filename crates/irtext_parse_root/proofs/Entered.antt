@@ -1,9 +1,8 @@
 -- A region that is entered and stands nowhere: what it does with names, and how its brace is refused.
-use Rattle.std.proofs.Common.{◌≡◌, ◌∙◌, ◌⊎◌, inl, inr, Bool, true, false, [], codes, length, None, IsSome, Ok, Err, refl, sym, ap, subst}
+use Rattle.std.proofs.Common.{◌≡◌, ◌∙◌, inl, inr, Bool, true, false, [], codes, length, Ok, Err, refl, sym, ap, subst}
 use Rattle.irtext_base.specs.Faults as fault
-use Rattle.irtext_base.specs.Faults.{fault_of}
 use Rattle.irtext_base.specs.Locations.{AttrView}
-use Rattle.irtext_base.specs.Stream.{StreamView, IsAt}
+use Rattle.irtext_base.specs.Stream.{StreamView}
 use Rattle.irtext_base.specs.declared.parsable.fault.ParseFault.{ParseFault}
 use Rattle.irtext_context.specs.Context.{with_graph}
 use Rattle.irtext_graph.specs.Graph.{MakesRegion}
@@ -19,16 +18,14 @@ use Rattle.irtext_state.specs.declared.parsable.state.StateStream.{StateStream}
 use Rattle.irtext_grammar.specs.Contexts.Held.{whole}
 use Rattle.irtext_grammar.specs.Names.History as history
 use Rattle.irtext_grammar.specs.Names.History.{State, enter}
-use Rattle.irtext_grammar.specs.Names.Script.{NotIsolated}
-use Rattle.irtext_names.specs.Linked.{Takes, FailsBy}
+use Rattle.irtext_names.specs.Linked.{Takes}
 use Rattle.irtext_names.specs.Tied.{AreTied}
 use Rattle.irtext_outcomes.specs.Promises.Root.{UnlessMemory}
-use Rattle.irtext_outcomes.specs.Promises.Section.{IsStarved}
 use Rattle.irtext_outcomes.specs.Readers.Streams.{itself, replaced}
 use Rattle.irtext_outcomes.proofs.Readers.Answered.{answered}
 use Rattle.irtext_parse_heads.specs.Named.{Leaves}
 use Rattle.irtext_parse_nested.specs.Items.{Names, Acts}
-use Rattle.irtext_parse_nested.specs.Read.{enters_of, Demands, BeginsRegion, RefusesRegion, not_isolated, no_brace}
+use Rattle.irtext_parse_nested.specs.Read.{enters_of, Demands, BeginsRegion, RefusesRegion, no_brace}
 use Rattle.irtext_parse_nested.specs.declared.frame.BegunRegion.{BegunRegion}
 use Rattle.irtext_parse_nested.proofs.Ended.{within_honest}
 use Rattle.irtext_parse_nested.proofs.Faults.{must_demand}

@@ -1,5 +1,5 @@
 -- No fault of a nested text says that the stream had failed, and one of which nothing was read has a cause of a text.
-use Rattle.std.proofs.Common.{◌≡◌, ◌∙◌, ℕ, zero, suc, Bool, true, false, cond, List, [], ◌∷◌, ◌++◌, length, Option, Some, None, codes, is_some, append_assoc, refl, sym, ap, subst}
+use Rattle.std.proofs.Common.{◌≡◌, ℕ, zero, suc, Bool, true, false, cond, List, [], ◌∷◌, ◌++◌, length, Some, None, codes, is_some, append_assoc, refl, ap, subst}
 use Rattle.irtext_base.specs.Text.{Text, begins, after_space}
 use Rattle.irtext_base.specs.Reading.{the}
 use Rattle.irtext_base.specs.Format as format
@@ -25,7 +25,7 @@ use Rattle.irtext_grammar.specs.Spelling.AttrText.{attr_tree}
 use Rattle.irtext_read.specs.Demanded.{index_at}
 use Rattle.irtext_outcomes.specs.Promises.Supported.{is_committed}
 use Rattle.irtext_outcomes.proofs.Readers.Honest.{honest_nothing}
-use Rattle.irtext_outcomes.proofs.Readers.NeverFailed.{NotFailed, Fine, fine_honest, fine_read, fine_missing, fine_bad, fine_either, fine_behind, fine_mapped}
+use Rattle.irtext_outcomes.proofs.Readers.NeverFailed.{NotFailed, Fine, fine_honest, fine_missing, fine_bad, fine_either, fine_behind, fine_mapped}
 use Rattle.irtext_nesting.specs.Heads.{Step, flat, types, one, all, name_at, name_of, label_at, symbol_at, used_at, target_at, pair_at, dictionary_at, outlined_or_at, directive_at, argument_at, mark_at, mark_if_at, head_at, piece_at, front_steps, region_steps, results_at, named, lead_at, led_by, led_at}
 use Rattle.irtext_nesting.specs.Reached.{Reached, Came, Stuck, came, tells, Doing, Reads, begins_operation, begins_region, begins_block, steps_in, regions_by, more_by, operations_by, blocks_by, front_by, steps_by, end_by, body_by, operation_by, block_by, region_by, region_within, region_at, operation_at}
 

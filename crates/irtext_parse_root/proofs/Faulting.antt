@@ -1,9 +1,8 @@
 -- Where there is no turn, the text is at fault, or what is done fails: by what the turn of each thing that is open refuses.
-use Rattle.std.proofs.Common.{◌≡◌, ◌∙◌, ◌-◌, ℕ, Bool, true, false, cond, List, [], ◌∷◌, ◌++◌, map, length, codes, Option, Some, None, refl, sym, ap, subst, append-nil, inl, inr}
-use Rattle.irtext_base.specs.Text.{Text, begins, after_space}
-use Rattle.irtext_base.specs.Reading.{the}
+use Rattle.std.proofs.Common.{◌≡◌, ◌∙◌, ◌-◌, ℕ, Bool, true, false, List, [], ◌∷◌, ◌++◌, map, length, codes, Option, Some, sym, ap, subst, append-nil, inl, inr}
+use Rattle.irtext_base.specs.Text.{Text, after_space}
 use Rattle.irtext_base.specs.Stream.{StreamView}
-use Rattle.irtext_base.specs.Answers.{Outcome, Read, Bad, demanded}
+use Rattle.irtext_base.specs.Answers.{Bad, demanded}
 use Rattle.irtext_base.specs.Faults.{Fault}
 use Rattle.irtext_base.specs.Locations.{AttrView}
 use Rattle.irtext_base.specs.declared.parsable.fault.ParseFault.{ParseFault}
@@ -16,17 +15,16 @@ use Rattle.irtext_state.specs.declared.parsable.state.State as code
 use Rattle.irtext_state.specs.declared.parsable.state.StateStream.{StateStream}
 use Rattle.irtext_grammar.specs.Contexts.Formats.{format_of, isolated}
 use Rattle.irtext_grammar.specs.Contexts.Held.{whole}
-use Rattle.irtext_grammar.specs.Grammar.Tree.{Name, Mark, Piece, Part, Head}
 use Rattle.irtext_grammar.specs.Names.History.{Outcome as Machine, failed}
 use Rattle.irtext_grammar.specs.Names.Script.{Path}
 use Rattle.irtext_grammar.specs.Names.TextScopes.{Failure}
 use Rattle.irtext_outcomes.specs.Promises.Root.{UnlessMemory}
 use Rattle.irtext_outcomes.proofs.Joins.Answers.{Splits}
-use Rattle.irtext_nesting.specs.Heads.{Step, one, all, mark_if_at, front_steps, piece_at, head_at, led_at}
+use Rattle.irtext_nesting.specs.Heads.{Step, one, all, front_steps, piece_at, head_at}
 use Rattle.irtext_read.proofs.Spelling.{begins_the}
 use Rattle.irtext_nesting.specs.Reached.{Doing, begins_region, begins_block, steps_in}
 use Rattle.irtext_nesting.specs.Resume as theory
-use Rattle.irtext_nesting.specs.Resume.{Begun, with_steps, is_flat, Open, to_come, an_operation, a_region, a_block, EndsIn, Goes, StuckAt}
+use Rattle.irtext_nesting.specs.Resume.{Begun, is_flat, Open, an_operation, a_region, a_block, EndsIn, Goes, StuckAt}
 use Rattle.irtext_nesting.proofs.Naming.Keeps.{failed_keeps}
 use Rattle.irtext_nesting.proofs.Resume.Failed.{failed_at}
 use Rattle.irtext_nesting.proofs.Resume.Frames.{goes_trans, stuck_at}
@@ -40,7 +38,7 @@ use Rattle.irtext_parse_nested.specs.declared.frame.BegunBlock.{BegunBlock}
 use Rattle.irtext_parse_nested.specs.Begun.{pledge_of}
 use Rattle.irtext_parse_nested.specs.Items.{Names, Made, Pledge, StandsAs, Acts, ActFails, IsFailure, IsTextFault, doing}
 use Rattle.irtext_parse_nested.specs.Read as read
-use Rattle.irtext_parse_nested.specs.Read.{Demands, ReadsFront, begun_by, uses_of, closes_of, RefusesOperation, RefusesPiece, RefusesEnd, RefusesRegion, RefusesRegionEnd, RefusesBlock}
+use Rattle.irtext_parse_nested.specs.Read.{begun_by, closes_of, RefusesOperation, RefusesPiece, RefusesEnd, RefusesRegion, RefusesRegionEnd, RefusesBlock}
 use Rattle.irtext_parse_root.specs.Here.{Base}
 use Rattle.irtext_parse_root.specs.Levels.{Level, at_operation, at_region, at_block, outward, open_of, next_of, waiting, pledges_of}
 use Rattle.irtext_parse_root.specs.Stands.{one_stands, text_there}

@@ -1,5 +1,5 @@
 -- Where a reading begins no name is known: names, graph and marks stand where the machine starts.
-use Rattle.std.proofs.Common.{◌≡◌, ◌∙◌, ◌≤◌, ℕ, List, [], Option, Some, None, IsSome, refl, sym, ap, subst, le_refl}
+use Rattle.std.proofs.Common.{◌≡◌, ◌∙◌, ℕ, [], Option, Some, None, IsSome, refl, sym, ap, le_refl}
 use Rattle.irtext_context.specs.Context.{ContextView}
 use Rattle.irtext_graph.specs.Back.{AllOlder}
 use Rattle.irtext_graph.specs.Store.{get}

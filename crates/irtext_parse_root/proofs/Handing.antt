@@ -1,10 +1,8 @@
 -- What each turn says is put together for the loop.
-use Rattle.std.proofs.Common.{◌≡◌, ◌∙◌, ◌≤◌, ℕ, Bool, true, List, [], ◌∷◌, length, Option, Some, None, Result, Ok, Err, IfOk, OnOk, OnErr, ◌++◌, refl, sym, ap, subst}
+use Rattle.std.proofs.Common.{◌≡◌, ◌≤◌, ℕ, Bool, true, [], ◌∷◌, length, Option, Result, Ok, Err, IfOk, OnOk, OnErr, ◌++◌, sym, ap, subst}
 use Rattle.irtext_base.specs.Text.{Text}
 use Rattle.irtext_base.specs.Answers.{Read}
 use Rattle.irtext_base.specs.Locations.{AttrView}
-use Rattle.irtext_base.specs.declared.parsable.fault.ParseFault.{ParseFault}
-use Rattle.irtext_context.specs.Context.{OperationView, operation}
 use Rattle.irtext_context.specs.declared.base.item.Item.TheVariants as item
 use Rattle.irtext_graph.specs.declared.arena.Ptr.{Ptr}
 use Rattle.irtext_graph.specs.declared.object.BasicBlock.{BasicBlock}
@@ -39,8 +37,8 @@ use Rattle.irtext_parse_nested.specs.Later.{GoesOn}
 use Rattle.irtext_parse_nested.proofs.Marking.{gains_nothing}
 use Rattle.irtext_parse_nested.specs.Located.{IsLocated}
 use Rattle.irtext_parse_nested.specs.Read.{ReadsFront, begun_by, BeginsOperation, EndsOperation, BeginsRegion, EndsRegion, BeginsBlock}
-use Rattle.irtext_parse_root.specs.Turned.{Carries, Remains}
-use Rattle.irtext_parse_root.specs.Turns.{SameDepth, Begins, Continues, Ends, Enters, Leaves, Heads}
+use Rattle.irtext_parse_root.specs.Turned.{Remains}
+use Rattle.irtext_parse_root.specs.Turns.{Begins, Continues, Ends, Enters, Leaves, Heads}
 
 module _ {T A U : Type 0} (types_at : Reader T) (attr : Reader (AttrView A)) (before : Names) (old : StateStream T A U) (names : Names) (new : StateStream T A U) (rest : KeepsRest old.state new.state) where
   -- the claims of all turns

@@ -1,7 +1,7 @@
 -- A block's label stands where its header does.
 use Rattle.std.proofs.Common.{◌≡◌, ◌∙◌, ℕ, List, Option, codes, length, refl, sym, ap, subst}
 use Rattle.irtext_base.specs.Text.{Text}
-use Rattle.irtext_base.specs.Answers.{Outcome, Read}
+use Rattle.irtext_base.specs.Answers.{Read}
 use Rattle.irtext_base.specs.Locations.{AttrView}
 use Rattle.irtext_read.specs.Infix.{Reader, ◌▷◌, ◌▶◌, ◌⇒◌}
 use Rattle.irtext_read.specs.ListOutcomes.{separated_at}

@@ -1,30 +1,28 @@
 -- What is open in code and in theory: it lasts, it is pushed and popped, and as much is left to do of the one as of the other.
-use Rattle.std.proofs.Common.{◌≡◌, ◌∙◌, ◌+◌, ◌*◌, ◌≤◌, ℕ, suc, false, List, [], ◌∷◌, ◌++◌, map, drop, length, length-append, Option, Some, None, IsSome, refl, sym, ap, subst, arith}
+use Rattle.std.proofs.Common.{◌≡◌, ◌∙◌, ◌+◌, ◌*◌, ◌≤◌, ℕ, suc, List, [], ◌∷◌, ◌++◌, map, drop, length, length-append, Option, Some, None, IsSome, refl, sym, ap, subst, arith}
 use Rattle.std.proofs.lemmas.List.{map_push}
 use Rattle.irtext_base.specs.Text.{Text}
-use Rattle.irtext_base.specs.Faults.{id_of}
 use Rattle.irtext_context.specs.Context.{ContextView}
-use Rattle.irtext_context.specs.Dialects.{Table}
 use Rattle.irtext_graph.specs.declared.object.Object.TheVariants.{TheOperation, TheBlock, TheRegion}
 use Rattle.irtext_graph.specs.Graph.{GraphView}
 use Rattle.irtext_scopes.specs.Names.{KeepsNames}
 use Rattle.irtext_grammar.specs.Contexts.Formats.{format_of}
-use Rattle.irtext_grammar.specs.Grammar.Tree.{Name, Part}
+use Rattle.irtext_grammar.specs.Grammar.Tree.{Name}
 use Rattle.irtext_grammar.specs.Names.Acts.{result_types}
 use Rattle.irtext_nesting.specs.Heads.{Step}
 use Rattle.irtext_nesting.specs.Naming.{body_of}
 use Rattle.irtext_nesting.specs.Reached.{steps_in}
-use Rattle.irtext_nesting.specs.Resume.{Begun, Open, Pops, weight, weights, to_do, work, by_character}
+use Rattle.irtext_nesting.specs.Resume.{Begun, Open, Pops, weight, weights, work, by_character}
 use Rattle.irtext_parse_heads.specs.declared.names.ReadName.{ReadName}
 use Rattle.irtext_parse_heads.specs.Named.{StandsFor, Each}
 use Rattle.irtext_parse_heads.proofs.Meanings.{stands_on}
 use Rattle.irtext_parse_nested.specs.declared.frame.BegunOperation.{BegunOperation}
 use Rattle.irtext_parse_nested.specs.Beginning.{HasBegun}
-use Rattle.irtext_parse_nested.specs.Begun.{HasNoType, IsBegun, IsRegion, IsBlock}
+use Rattle.irtext_parse_nested.specs.Begun.{IsBegun}
 use Rattle.irtext_parse_nested.specs.Items.{Lasts}
 use Rattle.irtext_parse_root.specs.declared.frames.Frame.{Frame}
 use Rattle.irtext_parse_root.specs.declared.frames.Frame.TheVariants as framed
-use Rattle.irtext_parse_root.specs.Here.{Base, IsLevel, AreLevels, IsHere}
+use Rattle.irtext_parse_root.specs.Here.{IsLevel, AreLevels}
 use Rattle.irtext_parse_root.specs.Turned.{TakesLast}
 use Rattle.irtext_parse_root.specs.Levels.{Level, at_operation, at_region, at_block, outward, frame_of, open_of, first_frame, WaitIn, next_of, waiting, task_of, next_task, left_to_do, IsNewFrame, AreNewFrames, AreAllNew}
 

@@ -1,21 +1,18 @@
 -- The loop: turns are put one behind the other, till nothing is open; or a fault stands behind them.
-use Rattle.std.proofs.Common.{◌≡◌, ◌∙◌, ◌+◌, ◌<◌, ◌≤◌, ℕ, List, [], ◌∷◌, length, Option, Some, None, refl, sym, ap, subst, arith, le_refl}
-use Rattle.irtext_base.specs.Text.{Text}
+use Rattle.std.proofs.Common.{◌≡◌, ◌<◌, ℕ, List, [], ◌∷◌, length, Option, Some, None, refl, sym, subst, arith, le_refl}
 use Rattle.irtext_base.specs.Locations.{AttrView}
 use Rattle.irtext_base.specs.declared.parsable.fault.ParseFault.{ParseFault}
 use Rattle.irtext_context.specs.Context.{ContextView, KeepsOlder}
-use Rattle.irtext_context.specs.Dialects.{Table}
-use Rattle.irtext_graph.specs.Back.{IsClosedBelow}
 use Rattle.irtext_graph.specs.Graph.{GraphView}
 use Rattle.irtext_read.specs.Infix.{Reader}
 use Rattle.irtext_state.specs.declared.parsable.state.StateStream.{StateStream}
 use Rattle.irtext_grammar.specs.Contexts.Held.{whole}
 use Rattle.irtext_outcomes.specs.Promises.Root.{UnlessMemory}
-use Rattle.irtext_parse_nested.specs.Items.{Names, IsSound}
+use Rattle.irtext_parse_nested.specs.Items.{Names}
 use Rattle.irtext_parse_root.specs.declared.frames.Frame.{Frame}
 use Rattle.irtext_parse_root.specs.Here.{Base, IsHere, AreHere}
-use Rattle.irtext_parse_root.specs.Levels.{Level, at_operation, at_region, at_block, first_frame, left_to_do, AreNewFrames, AreAllNew}
-use Rattle.irtext_parse_root.specs.Turned.{Carries, Turned, Faulted, Arrives, Proceeds, Stops, Finishes}
+use Rattle.irtext_parse_root.specs.Levels.{Level, at_operation, at_region, at_block, first_frame, left_to_do, AreNewFrames}
+use Rattle.irtext_parse_root.specs.Turned.{Carries, Turned, Faulted, Arrives, Proceeds, Stops}
 use Rattle.irtext_parse_root.proofs.Chains.{moved_whole, turned_none, turned_both, turned_over, faulted_behind, faulted_over}
 
 -- nothing is open

@@ -1,15 +1,12 @@
 -- Each item of a tree that was read carries its own mark, and no other: the marks that are noted are those of the tree, one item a place.
-use Rattle.std.proofs.Common.{◌≡◌, ◌∙◌, ◌<◌, ◌≤◌, ◌==◌, ◌⊎◌, ◌||◌, ◌&&◌, ℕ, suc, Bool, true, false, not, cond, List, [], ◌∷◌, ◌++◌, map, length, Option, Some, None, refl, sym, ap, subst, arith, inl, inr}
+use Rattle.std.proofs.Common.{◌≡◌, ◌∙◌, ◌<◌, ◌==◌, ◌||◌, ◌&&◌, ℕ, suc, Bool, true, false, not, cond, List, [], ◌∷◌, ◌++◌, map, Option, Some, None, refl, sym, ap, subst, arith, inl, inr}
 use Rattle.std.specs.Map.{lookup}
 use Rattle.std.proofs.lemmas.Bool.Decides.{nat_tests}
-use Rattle.irtext_base.specs.Format.{Id, has, distinct}
+use Rattle.irtext_base.specs.Format.{has, distinct}
 use Rattle.irtext_context.specs.declared.base.item.Item.{Item}
 use Rattle.irtext_context.specs.declared.base.item.Item.TheVariants as item
-use Rattle.irtext_graph.specs.declared.arena.Ptr.{Ptr}
 use Rattle.irtext_graph.specs.declared.object.Operation.{Operation}
-use Rattle.irtext_graph.specs.declared.object.BasicBlock.{BasicBlock}
 use Rattle.irtext_graph.specs.declared.object.Object.{Object}
-use Rattle.irtext_graph.specs.declared.object.Object.TheVariants.{TheOperation, TheBlock}
 use Rattle.irtext_graph.specs.Chained.{Among}
 use Rattle.irtext_graph.proofs.Preorders.{among_left, among_right}
 use Rattle.irtext_state.specs.States.{same_index}

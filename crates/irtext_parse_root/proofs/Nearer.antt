@@ -1,13 +1,11 @@
 -- How much of a text is left behind what stands in front of an operation's regions, a block's header and a brace.
-use Rattle.std.proofs.Common.{◌≡◌, ◌∙◌, ◌<◌, ◌≤◌, ◌+◌, ℕ, suc, Bool, true, false, cond, List, [], ◌∷◌, ◌++◌, length, length-append, codes, refl, ap, sym, subst, arith, le_refl}
+use Rattle.std.proofs.Common.{◌≡◌, ◌∙◌, ◌<◌, ◌≤◌, ◌+◌, ℕ, suc, Bool, true, false, cond, List, [], ◌∷◌, ◌++◌, length, length-append, codes, refl, ap, sym, arith, le_refl}
 use Rattle.irtext_base.specs.Text.{Text, begins, after_space}
-use Rattle.irtext_base.specs.Reading.{the}
 use Rattle.irtext_base.specs.Format.{Id}
 use Rattle.irtext_base.specs.Stream.{StreamView}
 use Rattle.irtext_base.specs.Answers.{Outcome, Read, Missing, Bad}
 use Rattle.irtext_base.specs.Locations.{AttrView}
 use Rattle.irtext_context.specs.Dialects.{Table}
-use Rattle.irtext_read.specs.AttrTexts.{attr_at}
 use Rattle.irtext_read.specs.Infix.{Reader, ◌▷◌}
 use Rattle.irtext_read.specs.Tokens as tokens
 use Rattle.irtext_read.specs.Tokens.{space_at, word}
@@ -20,7 +18,7 @@ use Rattle.irtext_outcomes.specs.Readers.Parts.{without_first}
 use Rattle.irtext_parse_root.specs.Stands.{one_stands, text_there}
 use Rattle.irtext_read.proofs.Spelling.{begins_the}
 use Rattle.irtext_outcomes.proofs.Locations.RestLengths.{space_bound, Within, within_honest, ◌so◌, ◌then◌, leaves_read}
-use Rattle.irtext_nesting.specs.Heads.{Step, head_at, led_at, piece_at}
+use Rattle.irtext_nesting.specs.Heads.{Step, head_at, led_at}
 use Rattle.irtext_nesting.specs.Resume.{front_at}
 use Rattle.irtext_nesting.proofs.Knot.Leaving.{brace_leaves, piece_within, head_leaves, led_leaves}
 

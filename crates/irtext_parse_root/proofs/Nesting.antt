@@ -1,43 +1,39 @@
 -- An operation with all that nests in it, from its beginning to its end, or to the first fault.
-use Rattle.std.proofs.Common.{◌≡◌, ◌∙◌, ◌-◌, ◌+◌, ◌<◌, ◌≤◌, ℕ, Bool, true, false, List, [], ◌∷◌, ◌++◌, length, Option, Some, None, refl, sym, ap, subst, append_assoc, append-nil, arith, le_refl, inl, inr}
+use Rattle.std.proofs.Common.{◌≡◌, ◌∙◌, ◌-◌, ◌+◌, ℕ, true, false, List, [], ◌∷◌, ◌++◌, length, Option, Some, None, refl, sym, ap, subst, append_assoc, append-nil, arith, le_refl, inl, inr}
 use Rattle.irtext_base.specs.Text.{Text}
-use Rattle.irtext_base.specs.Faults.{Fault}
-use Rattle.irtext_base.specs.Answers.{Outcome, Read}
 use Rattle.irtext_base.specs.Locations.{AttrView}
 use Rattle.irtext_base.specs.declared.location.Location.{Location}
 use Rattle.irtext_base.specs.declared.parsable.fault.ParseFault.{ParseFault}
 use Rattle.irtext_context.specs.Context.{ContextView}
 use Rattle.irtext_context.specs.Dialects.{Table}
-use Rattle.irtext_context.specs.declared.base.item.Item.{Item}
 use Rattle.irtext_graph.specs.declared.arena.Ptr.{Ptr}
 use Rattle.irtext_graph.specs.declared.object.Operation.{Operation}
 use Rattle.irtext_graph.specs.declared.object.Object.{Object}
 use Rattle.irtext_graph.specs.declared.object.Object.TheVariants.{TheOperation}
 use Rattle.irtext_read.specs.AttrTexts.{attr_at}
 use Rattle.irtext_read.specs.Infix.{Reader}
-use Rattle.irtext_state.specs.States.{marks_of}
 use Rattle.irtext_state.specs.declared.parsable.state.StateStream.{StateStream}
 use Rattle.irtext_grammar.specs.Contexts.Formats.{format_of}
 use Rattle.irtext_grammar.specs.Contexts.Held.{whole}
 use Rattle.irtext_grammar.specs.Grammar.Tree.{Tree}
-use Rattle.irtext_grammar.specs.Names.History.{Outcome as Machine, State, going, failed}
+use Rattle.irtext_grammar.specs.Names.History.{Outcome as Machine, going, failed}
 use Rattle.irtext_grammar.specs.Names.Script.{Path}
 use Rattle.irtext_outcomes.specs.Promises.Root.{UnlessMemory}
 use Rattle.irtext_outcomes.specs.Promises.Supported.{is_committed}
 use Rattle.irtext_outcomes.proofs.Joins.Answers.{Splits}
 use Rattle.irtext_outcomes.proofs.Joins.Attributes.{splits_attr}
-use Rattle.irtext_nesting.specs.Heads.{front_steps, led_at}
-use Rattle.irtext_nesting.specs.Reached.{Reached, Came, Stuck, Doing, steps_in, operation_at}
+use Rattle.irtext_nesting.specs.Heads.{front_steps}
+use Rattle.irtext_nesting.specs.Reached.{Came, Stuck, Doing, steps_in, operation_at}
 use Rattle.irtext_nesting.specs.Resume as theory
-use Rattle.irtext_nesting.specs.Resume.{Begun, Open, to_come, an_operation, EndsIn, Goes, StuckAt}
+use Rattle.irtext_nesting.specs.Resume.{Begun, to_come, an_operation, EndsIn, Goes}
 use Rattle.irtext_nesting.proofs.Naming.Keeps.{failed_keeps}
 use Rattle.irtext_nesting.proofs.Resume.Failed.{failed_at}
 use Rattle.irtext_nesting.proofs.Resume.Frames.{goes_trans, stuck_at}
 use Rattle.irtext_nesting.proofs.Resume.Front.{splits_piece, front_reads, front_lacks}
 use Rattle.irtext_nesting.proofs.Knot.Whole.{leaves_no_more}
 use Rattle.irtext_nesting.proofs.Resume.Turns.{operation_begins, no_lead, no_front}
-use Rattle.irtext_nesting.specs.Building.{Building, Unfinished, building, nothing_open, finished}
-use Rattle.irtext_nesting.specs.Stands.{OwnSoFar, operation_under, AreOpenAt, TreeHolds}
+use Rattle.irtext_nesting.specs.Building.{Unfinished, building, nothing_open, finished}
+use Rattle.irtext_nesting.specs.Stands.{operation_under, AreOpenAt, TreeHolds}
 use Rattle.irtext_nesting.specs.Tracks.{Made, noted, HoldsMade}
 use Rattle.irtext_nesting.proofs.Tracked.{holds_nothing, uses_at_root}
 use Rattle.irtext_parse_nested.specs.declared.frame.BegunOperation.{BegunOperation}
@@ -48,15 +44,15 @@ use Rattle.irtext_parse_nested.specs.Located.{IsLocated}
 use Rattle.irtext_parse_nested.specs.Read as read
 use Rattle.irtext_parse_nested.specs.Read.{begun_by, RefusesOperation}
 use Rattle.irtext_parse_root.specs.declared.frames.Frame.TheVariants as framed
-use Rattle.irtext_parse_root.specs.Built.{IsHeld, Built}
-use Rattle.irtext_parse_root.specs.Here.{Base, outermost, IsHere, AreHere}
+use Rattle.irtext_parse_root.specs.Built.{IsHeld}
+use Rattle.irtext_parse_root.specs.Here.{outermost, IsHere, AreHere}
 use Rattle.irtext_parse_root.specs.Levels.{Level, at_operation}
 use Rattle.irtext_parse_root.specs.Nested as nested
 use Rattle.irtext_parse_root.specs.Nested.{ReadsNested, RefusesNested}
 use Rattle.irtext_parse_root.specs.Told.{Did, did_use, told, all_done}
-use Rattle.irtext_parse_root.specs.Turned.{Carries, Turned, Faulted, at_text, by_names, Stops, Finishes}
+use Rattle.irtext_parse_root.specs.Turned.{Turned, Faulted, at_text, by_names, Stops, Finishes}
 use Rattle.irtext_parse_root.specs.Turns.{Begins}
-use Rattle.irtext_parse_root.proofs.Carrying.{falls_both, uses_carry, carried_more}
+use Rattle.irtext_parse_root.proofs.Carrying.{falls_both}
 use Rattle.irtext_parse_root.specs.Carried.{marks_so_far, marks_in, AreCarried, Falls}
 use Rattle.irtext_parse_root.proofs.Chains.{moved_whole, carries_both, turned_over, faulted_over}
 use Rattle.irtext_parse_root.proofs.Nearer.{front_fewer, led_fewer, led_some}

@@ -1,5 +1,5 @@
 -- What is known of an operation that is open, by the parts that were read of it.
-use Rattle.std.proofs.Common.{◌≡◌, ◌∙◌, ◌+◌, ℕ, suc, zero, true, cond, List, [], ◌∷◌, ◌++◌, map, drop, length, slice_get, Option, Some, None, IsSome, refl, sym, ap, subst, append-nil, append_assoc, arith}
+use Rattle.std.proofs.Common.{◌≡◌, ◌∙◌, ◌+◌, ℕ, suc, zero, true, List, [], ◌∷◌, ◌++◌, map, drop, length, slice_get, Option, Some, None, refl, sym, ap, subst, append-nil, append_assoc, arith}
 use Rattle.std.proofs.lemmas.List.Elements.{All-cons}
 use Rattle.irtext_base.specs.Text.{Text}
 use Rattle.irtext_base.specs.Faults.{id_of}
@@ -7,8 +7,8 @@ use Rattle.irtext_base.specs.Format.{Format, Id}
 use Rattle.irtext_context.specs.Context.{ContextView}
 use Rattle.irtext_grammar.specs.Contexts.Formats.{format_of}
 use Rattle.irtext_grammar.specs.Grammar.Tree as tree
-use Rattle.irtext_grammar.specs.Grammar.Tree.{Name, Part, Piece, views, parts_of, operand_names, successor_labels}
-use Rattle.irtext_grammar.specs.Graphs.Build.{put, put_all, stored, read_names, inline_entries}
+use Rattle.irtext_grammar.specs.Grammar.Tree.{Part, Piece, views, parts_of, operand_names, successor_labels}
+use Rattle.irtext_grammar.specs.Graphs.Build.{put, put_all, stored, read_names}
 use Rattle.irtext_grammar.specs.Names.Acts.{result_types}
 use Rattle.irtext_nesting.specs.Heads.{Step, one, all}
 use Rattle.irtext_nesting.specs.Naming.{body_of, unmarked}

@@ -1,15 +1,14 @@
 -- A turn was made: what is open is in code what it is in theory, and less is left to do.
-use Rattle.std.proofs.Common.{◌≡◌, ◌∙◌, ◌+◌, ◌<◌, ◌≤◌, ℕ, suc, Bool, true, false, List, [], ◌∷◌, ◌++◌, map, drop, length, slice_get, Option, Some, None, refl, sym, ap, subst, arith, le_refl}
+use Rattle.std.proofs.Common.{◌≡◌, ◌∙◌, ◌+◌, ◌<◌, ◌≤◌, ℕ, suc, Bool, true, false, List, [], ◌∷◌, ◌++◌, map, drop, length, slice_get, Option, Some, None, refl, sym, ap, subst, arith}
 use Rattle.irtext_base.specs.Text.{Text, begins, after_space}
 use Rattle.irtext_base.specs.Reading.{the}
 use Rattle.irtext_base.specs.Stream.{StreamView}
-use Rattle.irtext_base.specs.Answers.{Outcome}
 use Rattle.irtext_base.specs.Locations.{AttrView}
-use Rattle.irtext_context.specs.Context.{ContextView, OperationView, operation}
+use Rattle.irtext_context.specs.Context.{ContextView}
 use Rattle.irtext_context.specs.Dialects.{Table}
 use Rattle.irtext_graph.specs.declared.arena.Ptr.{Ptr}
 use Rattle.irtext_graph.specs.declared.object.BasicBlock.{BasicBlock}
-use Rattle.irtext_graph.specs.declared.object.Object.TheVariants.{TheOperation, TheBlock, TheRegion}
+use Rattle.irtext_graph.specs.declared.object.Object.TheVariants.{TheOperation}
 use Rattle.irtext_graph.specs.Graph.{IsNew}
 use Rattle.irtext_read.specs.AttrTexts.{attr_at}
 use Rattle.irtext_read.specs.Infix.{Reader}
@@ -20,14 +19,12 @@ use Rattle.irtext_grammar.specs.Contexts.Formats.{format_of, isolated}
 use Rattle.irtext_grammar.specs.Contexts.Held.{whole}
 use Rattle.irtext_grammar.specs.Grammar.Tree as tree
 use Rattle.irtext_grammar.specs.Grammar.Tree.{Part}
-use Rattle.irtext_grammar.specs.Graphs.Build.{put_all, stored, read_names}
-use Rattle.irtext_outcomes.specs.Promises.Section.{Moves}
+use Rattle.irtext_grammar.specs.Graphs.Build.{put_all, stored}
 use Rattle.irtext_outcomes.proofs.Joins.Answers.{Splits}
 use Rattle.irtext_outcomes.proofs.Joins.Attributes.{splits_attr}
-use Rattle.irtext_outcomes.specs.Readers.RestLengths.{LeavesNoMore}
-use Rattle.irtext_nesting.specs.Heads.{Step, one, all, front_steps, piece_at}
-use Rattle.irtext_nesting.specs.Reached.{Doing, begins_region, begins_block, begins_operation, steps_in}
-use Rattle.irtext_nesting.specs.Resume.{Begun, with_steps, is_flat, Open, to_come, an_operation, a_region, a_block, work, by_character}
+use Rattle.irtext_nesting.specs.Heads.{Step, one, all, front_steps}
+use Rattle.irtext_nesting.specs.Reached.{Doing, begins_region, begins_block, steps_in}
+use Rattle.irtext_nesting.specs.Resume.{Begun, with_steps, Open, to_come, an_operation, a_region, a_block, work, by_character}
 use Rattle.irtext_nesting.proofs.Knot.Whole.{leaves_no_more}
 use Rattle.irtext_nesting.proofs.Resume.Front.{splits_piece}
 use Rattle.irtext_nesting.proofs.Resume.Unbounded.{Unbounded, unbounded}
@@ -36,19 +33,19 @@ use Rattle.irtext_parse_nested.specs.declared.frame.BegunOperation.{BegunOperati
 use Rattle.irtext_parse_nested.specs.declared.frame.BegunRegion.{BegunRegion}
 use Rattle.irtext_parse_nested.specs.declared.frame.BegunBlock.{BegunBlock}
 use Rattle.irtext_parse_nested.specs.Beginning.{HasBegun}
-use Rattle.irtext_parse_nested.specs.Begun.{IsBegun, IsRegion, IsBlock}
+use Rattle.irtext_parse_nested.specs.Begun.{IsBegun, IsRegion}
 use Rattle.irtext_parse_heads.specs.Named as placing
-use Rattle.irtext_parse_nested.specs.Items.{Names, Lasts}
+use Rattle.irtext_parse_nested.specs.Items.{Names}
 use Rattle.irtext_parse_nested.specs.Read.{begun_by, EndsRegion}
 use Rattle.irtext_parse_root.specs.declared.frames.Frame.{Frame}
 use Rattle.irtext_parse_root.specs.declared.frames.Frame.TheVariants as framed
 use Rattle.irtext_parse_root.specs.declared.coming.Coming.TheVariants as comes
-use Rattle.irtext_parse_root.specs.Here.{AreHere, Base, outermost, within, IsLevel, AreLevels, StandsInBlock, StandsInOperation, Nest, IsHere}
-use Rattle.irtext_parse_root.specs.Levels.{Level, at_operation, at_region, at_block, outward, frame_of, open_of, first_frame, WaitIn, next_of, waiting, isolated_in, regions_in, left_to_do, AreNewFrames, AreAllNew}
+use Rattle.irtext_parse_root.specs.Here.{AreHere, Base, AreLevels, StandsInBlock, Nest, IsHere}
+use Rattle.irtext_parse_root.specs.Levels.{Level, at_operation, at_region, at_block, outward, open_of, first_frame, next_of, waiting, isolated_in, regions_in, left_to_do, AreNewFrames}
 use Rattle.irtext_parse_root.specs.Told.{told}
-use Rattle.irtext_parse_root.specs.Turned.{Carries, TakesLast, Turned, Arrives, Proceeds}
+use Rattle.irtext_parse_root.specs.Turned.{Carries, TakesLast, Arrives, Proceeds}
 use Rattle.irtext_parse_root.specs.Stands.{one_stands, text_there, PassesTo}
-use Rattle.irtext_parse_root.specs.Turns.{SameDepth, IsStep, IsNext, Begins, Continues, Ends, Enters, Leaves, Heads}
+use Rattle.irtext_parse_root.specs.Turns.{IsNext, Begins, Continues, Ends, Enters, Leaves, Heads}
 use Rattle.irtext_nesting.proofs.Resume.Weights.{operation_nearer, step_nearer, region_nearer, another_nearer, block_nearer, first_nearer, other_nearer, end_nearer, steps_fewer}
 use Rattle.irtext_parse_root.proofs.Nearer.{moves_fewer, some_stands, front_fewer, head_fewer, led_fewer, led_some, brace_fewer, semicolon_fewer}
 use Rattle.irtext_parse_root.proofs.Labels.{head_place}

@@ -1,5 +1,5 @@
 -- What a refusal of the nested reader says of its cause, and what it leaves of the stream once a committed fault has failed it.
-use Rattle.std.proofs.Common.{◌≡◌, ◌∙◌, ℕ, Bool, true, false, cond, List, [], refl, sym, ap, subst, inl, inr}
+use Rattle.std.proofs.Common.{◌≡◌, ◌∙◌, ℕ, true, false, cond, [], refl, sym, ap, subst, inl, inr}
 use Rattle.irtext_base.specs.Text.{Text}
 use Rattle.irtext_base.specs.Faults.{Fault, Failed, fault_of}
 use Rattle.irtext_base.specs.Own.{Sincere, is_first_fault}

@@ -1,6 +1,6 @@
 -- What a context holds of a region that stands in no operation yet it holds of it once it came last into one: only that operation and the
 -- region itself changed, and of the region where it stands.
-use Rattle.std.proofs.Common.{◌≡◌, ◌∙◌, ◌⊎◌, ℕ, List, [], ◌∷◌, length, Option, Some, None, IsSome, option_map, slice_get, refl, sym, ap, subst, inl, inr}
+use Rattle.std.proofs.Common.{◌≡◌, ◌∙◌, ℕ, List, [], ◌∷◌, length, Option, Some, None, option_map, slice_get, refl, sym, ap, subst}
 use Rattle.std.specs.Prelude.{option_and_then}
 use Rattle.irtext_base.specs.declared.location.Location.{Location}
 use Rattle.irtext_context.specs.Context.{ContextView, RegionView, operation, operation_of, block, block_of, region, region_of, regions_in}
@@ -19,7 +19,7 @@ use Rattle.irtext_graph.specs.declared.object.Site.TheVariants.{AtOperand, AtSuc
 use Rattle.irtext_graph.specs.Used.{used_at}
 use Rattle.irtext_context.proofs.Contexts.{OperationEntry}
 use Rattle.irtext_context.specs.declared.base.operation.OperationData.{OperationData}
-use Rattle.irtext_graph.specs.Graph.{parent_of, children_of, content_of, Appends}
+use Rattle.irtext_graph.specs.Graph.{children_of, content_of, Appends}
 use Rattle.irtext_graph.specs.Parts.{operands_of, successors_of}
 use Rattle.irtext_graph.specs.Store.{get}
 use Rattle.irtext_graph.proofs.Frames.{map_same, block_same, operation_content_same, region_content_same}

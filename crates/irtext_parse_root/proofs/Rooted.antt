@@ -1,16 +1,14 @@
 -- The forest of pointers of an operation that was read, behind its section: each item has what its tree and the entry of its mark give it.
-use Rattle.std.proofs.Common.{◌≡◌, ◌∙◌, ◌⊎◌, ℕ, List, [], ◌∷◌, ◌++◌, Option, Some, None, IsSome, refl, sym, ap, subst, inl, inr}
+use Rattle.std.proofs.Common.{ℕ, List, Option, refl, inl, inr}
 use Rattle.irtext_base.specs.Paths.{Written}
 use Rattle.irtext_base.specs.declared.location.Location.{Location}
-use Rattle.irtext_context.specs.Context.{ContextView, KeepsOlder, operation, operation_of, block, block_of}
+use Rattle.irtext_context.specs.Context.{ContextView, operation, block}
 use Rattle.irtext_context.specs.declared.base.item.Item.{Item}
 use Rattle.irtext_context.specs.declared.base.item.Item.TheVariants as item
 use Rattle.irtext_graph.specs.declared.arena.Ptr.{Ptr}
 use Rattle.irtext_graph.specs.declared.object.Operation.{Operation}
 use Rattle.irtext_graph.specs.declared.object.BasicBlock.{BasicBlock}
 use Rattle.irtext_graph.specs.declared.object.Region.{Region}
-use Rattle.irtext_graph.specs.declared.object.Object.{Object}
-use Rattle.irtext_graph.specs.declared.object.Object.TheVariants.{TheOperation, TheBlock}
 use Rattle.irtext_graph.specs.Chained.{Among}
 use Rattle.irtext_graph.proofs.Preorders.{among_left, among_right}
 use Rattle.irtext_grammar.specs.Grammar.Forest as forest

@@ -1,17 +1,17 @@
 -- A fault of the section behind an operation is the first thing that is wrong with whatever section the text reads as.
-use Rattle.std.proofs.Common.{◌≡◌, ◌∙◌, ◌-◌, ◌+◌, ℕ, List, [], ◌∷◌, ◌++◌, length, take, Option, Some, None, refl, sym, ap, subst, append_assoc, length-append, arith, inl, inr}
+use Rattle.std.proofs.Common.{◌≡◌, ◌∙◌, ◌-◌, ◌+◌, ℕ, List, ◌++◌, length, take, refl, sym, ap, subst, append_assoc, length-append, arith, inl, inr}
 use Rattle.std.proofs.Math.Seq.{take-append_seam}
 use Rattle.irtext_base.specs.Text.{Text}
 use Rattle.irtext_base.specs.Faults.{Fault, fault_of}
-use Rattle.irtext_base.specs.Answers.{Outcome, Read, Missing, Bad}
-use Rattle.irtext_base.specs.Stream.{StreamView, IsAt}
+use Rattle.irtext_base.specs.Answers.{Outcome}
+use Rattle.irtext_base.specs.Stream.{IsAt}
 use Rattle.irtext_base.specs.declared.parsable.fault.ParseFault.{ParseFault}
 use Rattle.irtext_grammar.specs.Contexts.Held.{StandsAt}
 use Rattle.irtext_grammar.specs.Names.Script as script
 use Rattle.irtext_grammar.specs.Names.Script.{Cause, Failure}
 use Rattle.irtext_outcomes.specs.Promises.Root.{IsPlace}
 use Rattle.irtext_outcomes.specs.Promises.Supported.{RefusedAs}
-use Rattle.irtext_promises.specs.Promises.{IsCause, IsOf, IsFirst}
+use Rattle.irtext_promises.specs.Promises.{IsCause, IsFirst}
 use Rattle.irtext_nesting.specs.Agrees.{StopsAt, ReadOrStops}
 use Rattle.irtext_nesting.specs.Readers.{fault_for}
 

@@ -24,12 +24,11 @@ use Rattle.irtext_graph.specs.declared.object.Value.{Value}
 use Rattle.irtext_graph.proofs.Pointers.{ptr_or}
 use Rattle.irtext_state.specs.States.{marks_of}
 use Rattle.irtext_state.specs.declared.parsable.state.StateStream.{StateStream}
-use Rattle.irtext_grammar.specs.Contexts.Held.{location_over, entries_of}
+use Rattle.irtext_grammar.specs.Contexts.Held.{location_over}
 use Rattle.irtext_grammar.specs.Grammar.Tree.{Op, Head}
 use Rattle.irtext_grammar.specs.Graphs.Build.{content, located, labelled, but_label, with_content}
 use Rattle.irtext_grammar.specs.Names.Acts.{Rule}
 use Rattle.irtext_outcomes.specs.Promises.Section.{indices_of}
-use Rattle.irtext_nesting.specs.Stands.{own_of, head_entries, HasUses}
 use Rattle.irtext_nesting.specs.Tracks.{Made}
 use Rattle.irtext_promises.specs.Given.{OperationHas, BlockHas}
 use Rattle.irtext_promises.specs.Placed.{OperationAt, BlockAt}

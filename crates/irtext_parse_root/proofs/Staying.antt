@@ -1,5 +1,5 @@
 -- Each region that is there stands where it stood, behind each turn.
-use Rattle.std.proofs.Common.{◌≡◌, ◌∙◌, List, [], ◌∷◌, Option, Some, None, IsSome, refl, sym, ap, subst, inl, inr}
+use Rattle.std.proofs.Common.{◌≡◌, ◌∙◌, List, [], ◌∷◌, Some, IsSome, refl, sym, ap, subst, inl, inr}
 use Rattle.std.specs.Option.{option_map}
 use Rattle.irtext_context.specs.Context.{ContextView, RegionView, region}
 use Rattle.irtext_graph.specs.declared.arena.Ptr.{Ptr}

@@ -1,6 +1,6 @@
 -- A turn was refused: wherever the frames are open, the text is at fault or what is done fails.
-use Rattle.std.proofs.Common.{◌≡◌, ◌∙◌, ◌+◌, ◌<◌, ℕ, zero, suc, Bool, true, false, List, [], ◌∷◌, ◌++◌, map, drop, length, slice_get, Option, Some, None, refl, sym, ap, subst, arith, inl, inr}
-use Rattle.irtext_base.specs.Text.{Text, begins, after_space}
+use Rattle.std.proofs.Common.{◌≡◌, ◌∙◌, ◌+◌, ◌<◌, ℕ, zero, suc, Bool, true, false, List, [], ◌∷◌, drop, length, slice_get, Some, refl, sym, ap, subst, arith, inl, inr}
+use Rattle.irtext_base.specs.Text.{Text, after_space}
 use Rattle.irtext_base.specs.Faults.{id_of}
 use Rattle.irtext_base.specs.Stream.{StreamView}
 use Rattle.irtext_base.specs.Locations.{AttrView}
@@ -34,7 +34,7 @@ use Rattle.irtext_parse_root.specs.declared.coming.Coming.TheVariants as comes
 use Rattle.irtext_parse_root.specs.declared.frames.Frame.{Frame}
 use Rattle.irtext_parse_root.specs.declared.frames.Frame.TheVariants as framed
 use Rattle.irtext_parse_root.specs.Here.{Base, IsHere, AreHere}
-use Rattle.irtext_parse_root.specs.Levels.{Level, at_operation, at_region, at_block}
+use Rattle.irtext_parse_root.specs.Levels.{Level, at_operation}
 use Rattle.irtext_parse_root.specs.Stands.{one_stands, text_there, PassesTo}
 use Rattle.irtext_parse_root.specs.Told.{told}
 use Rattle.irtext_parse_root.specs.Turned.{Faulted, Stops}

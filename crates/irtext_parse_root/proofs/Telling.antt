@@ -5,11 +5,11 @@ use Rattle.irtext_base.specs.Faults.{Fault}
 use Rattle.irtext_base.specs.Answers.{Outcome}
 use Rattle.irtext_base.specs.Locations.{AttrView}
 use Rattle.irtext_context.specs.Dialects.{Table}
-use Rattle.irtext_nesting.specs.Reached.{Came, Stuck, Doing, Reads}
-use Rattle.irtext_nesting.specs.Resume.{Open, Goes, StuckAt, whole}
+use Rattle.irtext_nesting.specs.Reached.{Doing}
+use Rattle.irtext_nesting.specs.Resume.{Open, Goes, StuckAt}
 use Rattle.irtext_nesting.specs.Both.{seen_as}
 use Rattle.irtext_nesting.proofs.Seen.{Shows, seen_whole}
-use Rattle.irtext_parse_root.specs.Told.{Did, did_use, did_late, did_enter, did_leave, did_close, did_mark, did_head, told, one_done, all_done}
+use Rattle.irtext_parse_root.specs.Told.{Did, told, one_done, all_done}
 
 module _ {T A S : Type 0} (does : Doing T A S) where
   -- what is told is done

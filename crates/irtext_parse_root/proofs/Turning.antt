@@ -1,19 +1,15 @@
 -- Each turn takes what is open to what is open behind it: by the text, by what names come to, and by what the context holds.
-use Rattle.std.proofs.Common.{◌≡◌, ◌∙◌, ◌+◌, ◌<◌, ◌≤◌, ℕ, Bool, true, false, cond, List, [], ◌∷◌, ◌++◌, map, drop, length, codes, is_some, Option, Some, None, refl, sym, ap, subst, append-nil}
+use Rattle.std.proofs.Common.{◌≡◌, ◌∙◌, ◌+◌, ◌<◌, ◌≤◌, ℕ, Bool, true, false, cond, List, [], ◌∷◌, ◌++◌, map, length, codes, Option, Some, None, refl, sym, ap, subst, append-nil}
 use Rattle.irtext_base.specs.Text.{Text, begins, after_space}
-use Rattle.irtext_base.specs.Reading.{the}
 use Rattle.irtext_base.specs.Stream.{StreamView}
-use Rattle.irtext_base.specs.Answers.{Outcome, Read}
 use Rattle.irtext_base.specs.Locations.{AttrView}
-use Rattle.irtext_context.specs.Context.{ContextView, OperationView, operation}
+use Rattle.irtext_context.specs.Context.{OperationView, operation}
 use Rattle.irtext_context.specs.Dialects.{Table}
-use Rattle.irtext_context.specs.declared.base.item.Item.{Item}
 use Rattle.irtext_context.specs.declared.base.item.Item.TheVariants as item
 use Rattle.irtext_graph.specs.declared.arena.Ptr.{Ptr}
 use Rattle.irtext_graph.specs.declared.object.BasicBlock.{BasicBlock}
 use Rattle.irtext_graph.specs.declared.object.Operation.{Operation}
 use Rattle.irtext_graph.specs.declared.object.Object.TheVariants.{TheOperation, TheBlock, TheRegion}
-use Rattle.irtext_read.specs.AttrTexts.{attr_at}
 use Rattle.irtext_read.specs.Infix.{Reader, ◌▷◌}
 use Rattle.irtext_read.specs.Tokens.{space_at, word}
 use Rattle.irtext_state.specs.States.{marks_of}
@@ -22,20 +18,19 @@ use Rattle.irtext_state.specs.declared.parsable.state.StateStream.{StateStream}
 use Rattle.irtext_grammar.specs.Contexts.Formats.{format_of, isolated}
 use Rattle.irtext_grammar.specs.Contexts.Held.{whole}
 use Rattle.irtext_grammar.specs.Grammar.Tree as tree
-use Rattle.irtext_grammar.specs.Grammar.Tree.{Name, Mark, Piece, Part, Head}
+use Rattle.irtext_grammar.specs.Grammar.Tree.{Part}
 use Rattle.irtext_grammar.specs.Graphs.Build.{put_all, stored, read_names}
 use Rattle.irtext_outcomes.specs.Readers.Parts.{without_first}
 use Rattle.irtext_outcomes.proofs.Joins.Answers.{Splits}
-use Rattle.irtext_nesting.specs.Heads.{Step, one, all, mark_if_at, front_steps, piece_at, head_at}
-use Rattle.irtext_nesting.specs.Naming.{body_of, unmarked}
+use Rattle.irtext_nesting.specs.Heads.{Step, one, all, front_steps, piece_at, head_at}
 use Rattle.irtext_nesting.specs.Reached.{begins_region, begins_block, steps_in}
-use Rattle.irtext_nesting.specs.Resume.{Begun, with_steps, begun, is_flat, Open, to_come, an_operation, a_region, a_block, Goes}
+use Rattle.irtext_nesting.specs.Resume.{Begun, with_steps, is_flat, Open, to_come, an_operation, a_region, a_block, Goes}
 use Rattle.irtext_nesting.proofs.Resume.Frames.{goes_trans}
 use Rattle.irtext_nesting.proofs.Resume.Front.{front_reads}
 use Rattle.irtext_nesting.proofs.Resume.Turns.{operation_begins, piece_reads, operation_ends, first_operation, no_operation, region_begins, no_more_regions, another_region, block_begins, region_ends, another_operation, no_more_operations}
 use Rattle.irtext_nesting.proofs.Resume.Unbounded.{Unbounded}
 use Rattle.irtext_nesting.specs.Grows.{RegionCame, OperationGains, RegionGains, BlockCame, OwnBecame}
-use Rattle.irtext_nesting.specs.Stands.{OwnSoFar, own_of, operation_under, region_under, HasOwn, HasUses, Spares}
+use Rattle.irtext_nesting.specs.Stands.{OwnSoFar, operation_under, region_under, HasOwn, HasUses, Spares}
 use Rattle.irtext_parse_nested.specs.declared.frame.BegunOperation.{BegunOperation}
 use Rattle.irtext_parse_nested.specs.declared.frame.BegunRegion.{BegunRegion}
 use Rattle.irtext_parse_nested.specs.declared.frame.BegunBlock.{BegunBlock}
@@ -44,7 +39,7 @@ use Rattle.irtext_parse_nested.specs.Begun.{pledge_of}
 use Rattle.irtext_parse_nested.specs.Ends.{noted_as}
 use Rattle.irtext_parse_nested.specs.Items.{Names, Acts, doing}
 use Rattle.irtext_parse_nested.specs.Located.{IsLocated}
-use Rattle.irtext_parse_nested.specs.Read.{begun_by, uses_of, BeginsOperation, ReadsPiece, EndsOperation, BeginsRegion, EndsRegion, BeginsBlock}
+use Rattle.irtext_parse_nested.specs.Read.{begun_by, uses_of, ReadsPiece, EndsOperation, BeginsRegion, EndsRegion, BeginsBlock}
 use Rattle.irtext_parse_root.specs.Built.{IsHeld, Ended}
 use Rattle.irtext_parse_root.specs.Here.{Base, outermost, within}
 use Rattle.irtext_parse_root.specs.Levels.{Level, at_operation, at_region, at_block, outward, open_of, next_of, waiting, pledges_of, ats_of}

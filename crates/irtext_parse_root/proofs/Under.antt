@@ -1,8 +1,7 @@
 -- One region under an operation that stands, from its brace to its end, and how it comes to stand there.
-use Rattle.std.proofs.Common.{◌≡◌, ◌∙◌, ◌≤◌, ◌<◌, ◌+◌, ◌-◌, ℕ, zero, suc, Bool, true, false, List, [], ◌∷◌, ◌++◌, length, Option, Some, None, IsSome, refl, sym, ap, subst, append-nil, append_assoc, arith, le_refl, inl, inr, codes}
+use Rattle.std.proofs.Common.{◌≡◌, ◌∙◌, ◌≤◌, ◌<◌, ◌+◌, ◌-◌, ℕ, zero, suc, Bool, true, List, [], ◌∷◌, ◌++◌, length, Option, Some, None, IsSome, refl, sym, ap, subst, append-nil, arith, inl, inr, codes}
 use Rattle.std.specs.Option.{option_map, option_and_then}
 use Rattle.std.specs.Char.{is_whitespace}
-use Rattle.std.specs.Prelude.{⊤}
 use Rattle.irtext_base.specs.Text.{Text, after_space}
 use Rattle.irtext_base.specs.Faults.{Fault}
 use Rattle.irtext_base.specs.Answers.{Outcome, Read, Missing, Bad, demanded, followed}
@@ -12,12 +11,9 @@ use Rattle.irtext_base.specs.declared.parsable.fault.ParseFault.{ParseFault}
 use Rattle.irtext_base.proofs.Characters.{after_twice}
 use Rattle.irtext_context.specs.Context.{ContextView, RegionView, operation, operation_of, region, region_of, with_graph, KeepsOlder}
 use Rattle.irtext_context.specs.Dialects.{Table}
-use Rattle.irtext_context.specs.declared.base.item.Item.{Item}
-use Rattle.irtext_context.specs.declared.base.block.BlockData.{BlockData}
-use Rattle.irtext_context.specs.declared.base.operation.OperationData.{OperationData}
 use Rattle.irtext_graph.specs.Back.{AllOlder, IsClosedBelow}
 use Rattle.irtext_graph.specs.Chained.{Among}
-use Rattle.irtext_graph.specs.Graph.{GraphView, parent, parent_of, IsNew, IsInside, CanInsert, MakesRegion, Appends}
+use Rattle.irtext_graph.specs.Graph.{GraphView, parent, parent_of, IsNew, CanInsert, MakesRegion, Appends}
 use Rattle.irtext_graph.specs.Nested.{climb}
 use Rattle.irtext_graph.specs.Store.{get, before}
 use Rattle.irtext_graph.specs.declared.arena.Ptr.{Ptr}
@@ -35,7 +31,7 @@ use Rattle.irtext_state.specs.States.{marks_of}
 use Rattle.irtext_state.specs.declared.parsable.state.StateStream.{StateStream}
 use Rattle.irtext_grammar.specs.Contexts.Formats.{format_of}
 use Rattle.irtext_grammar.specs.Contexts.Held.{whole}
-use Rattle.irtext_grammar.specs.Names.History.{Outcome as Machine, State, failed}
+use Rattle.irtext_grammar.specs.Names.History.{Outcome as Machine, failed}
 use Rattle.irtext_grammar.specs.Names.Script.{Path}
 use Rattle.irtext_outcomes.specs.Promises.Root.{UnlessMemory}
 use Rattle.irtext_outcomes.specs.Promises.Section.{Moves}
@@ -50,9 +46,8 @@ use Rattle.irtext_nesting.proofs.Naming.Keeps.{failed_keeps}
 use Rattle.irtext_nesting.proofs.Naming.KeepsReading.{done_in, quiet_region_at}
 use Rattle.irtext_nesting.proofs.Resume.Frames.{tells_bad}
 use Rattle.irtext_nesting.proofs.Resume.Unbounded.{Unbounded}
-use Rattle.irtext_nesting.specs.Building.{Building}
 use Rattle.irtext_nesting.specs.Grows.{RegionCame}
-use Rattle.irtext_nesting.specs.Stands.{OpenAt, region_under, IsThere, Spares}
+use Rattle.irtext_nesting.specs.Stands.{region_under, IsThere, Spares}
 use Rattle.irtext_nesting.specs.Tracks.{Made, HoldsMade, IsHeld as HeldBy}
 use Rattle.irtext_nesting.proofs.Kept.{there_still}
 use Rattle.irtext_parse_nested.specs.declared.frame.BegunRegion.{BegunRegion}
@@ -64,17 +59,17 @@ use Rattle.irtext_parse_nested.specs.Read.{BeginsRegion, RefusesRegion}
 use Rattle.irtext_parse_root.specs.declared.frames.Frame.TheVariants as framed
 use Rattle.irtext_parse_root.specs.Built.{start_of, IsHeld, HoldsRegion}
 use Rattle.irtext_parse_root.specs.Carried.{Falls}
-use Rattle.irtext_parse_root.specs.Here.{Base, within, IsHere, AreHere}
+use Rattle.irtext_parse_root.specs.Here.{within, IsHere, AreHere}
 use Rattle.irtext_parse_root.specs.Levels.{Level, at_region, isolated_in}
-use Rattle.irtext_parse_root.specs.Told.{Did, did_enter, told, all_done}
-use Rattle.irtext_parse_root.specs.Turned.{Carries, Turned, Faulted, at_text, by_names, Stops, Finishes}
+use Rattle.irtext_parse_root.specs.Told.{did_enter, told, all_done}
+use Rattle.irtext_parse_root.specs.Turned.{Turned, Faulted, at_text, by_names, Stops, Finishes}
 use Rattle.irtext_parse_root.specs.Under as under
 use Rattle.irtext_parse_root.specs.Under.{IsolatedAs, ReadsUnder, RefusesUnder}
 use Rattle.irtext_parse_root.proofs.Carrying.{falls_both}
 use Rattle.irtext_parse_root.proofs.Chains.{moved_whole, turned_over, faulted_over}
 use Rattle.irtext_parse_root.proofs.Nearer.{moves_fewer}
 use Rattle.irtext_parse_root.proofs.Proceeding.{entered_more, is_open_some, loops}
-use Rattle.irtext_parse_root.proofs.Telling.{goes_told, goes_behind, stuck_told, done_both}
+use Rattle.irtext_parse_root.proofs.Telling.{goes_told, goes_behind, stuck_told}
 use Rattle.irtext_parse_root.proofs.Unplaced.{alone_is, alone_came, alone_spares}
 
 -- ---- a new object stands in new ones alone

@@ -1,7 +1,6 @@
 -- What the reading of an operation with all that nests in it promises: the tree that was built, what names came to, and what the context holds;
 -- or the first fault in the order of reading.
 use Rattle.std.specs.Prelude.{◌≡◌, ℕ, true, List, [], ◌++◌, length, Some}
-use Rattle.irtext_base.specs.Text.{Text}
 use Rattle.irtext_base.specs.Faults.{Fault}
 use Rattle.irtext_base.specs.Locations.{AttrView}
 use Rattle.irtext_base.specs.declared.parsable.fault.ParseFault.{ParseFault}

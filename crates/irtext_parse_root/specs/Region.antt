@@ -1,6 +1,6 @@
 -- For callers: where an operation stands that is not isolated from above, of which no region is read alone; and what is told of a region
 -- that was read.
-use Rattle.std.specs.Prelude.{◌≡◌, cond, [], Option, Some, None, IsSome, ⊤}
+use Rattle.std.specs.Prelude.{◌≡◌, cond, Option, Some, None, IsSome, ⊤}
 use Rattle.std.specs.Option.{option_map}
 use Rattle.irtext_base.specs.Faults.{id_of}
 use Rattle.irtext_base.specs.Paths.{KeepsPaths}

@@ -1,10 +1,10 @@
 -- Between functions: what each turn gives the loop: what was read, what names came to, and what came to the context.
-use Rattle.std.specs.Prelude.{◌≡◌, ◌≤◌, ◌⊎◌, ℕ, Bool, true, List, [], ◌∷◌, ◌++◌, length, map, Option, Some, None, slice_get, ⊤}
+use Rattle.std.specs.Prelude.{◌≡◌, ◌≤◌, ℕ, Bool, true, List, [], ◌∷◌, ◌++◌, length, map, Option, Some, None, slice_get, ⊤}
 use Rattle.irtext_base.specs.Text.{Text}
 use Rattle.irtext_base.specs.Answers.{Read}
 use Rattle.irtext_base.specs.Faults.{id_of}
 use Rattle.irtext_base.specs.Locations.{AttrView}
-use Rattle.irtext_context.specs.Context.{ContextView, OperationView, operation}
+use Rattle.irtext_context.specs.Context.{OperationView, operation}
 use Rattle.irtext_context.specs.Dialects.{Table}
 use Rattle.irtext_context.specs.declared.base.item.Item.TheVariants as item
 use Rattle.irtext_graph.specs.declared.arena.Ptr.{Ptr}

@@ -1,7 +1,6 @@
 -- What the reading of one region under an operation that stands promises: what was done as its text was read, what names came to, and what
 -- the context holds of it; or why it was refused.
 use Rattle.std.specs.Prelude.{◌≡◌, ◌≤◌, ℕ, Bool, true, false, List, [], ◌∷◌, ◌++◌, length, Some, codes}
-use Rattle.irtext_base.specs.Text.{Text}
 use Rattle.irtext_base.specs.Faults.{Fault, Unexpected, Word, fault_of, id_of}
 use Rattle.irtext_base.specs.Faults as causes
 use Rattle.irtext_base.specs.Stream.{IsAt, first_of}

@@ -1,5 +1,4 @@
-use Rattle.std.proofs.Common.{inl, inr, refl, sym, subst, ◌∙◌}
-use Rattle.irtext_read.proofs.Exits.{handed_on}
+use Rattle.std.proofs.Common.{inl, subst}
 use Rattle.irtext_grammar.specs.Contexts.Held.{whole}
 use Rattle.irtext_parse_nested.specs.Ends.{GivesNames}
 use Rattle.irtext_parse_nested.specs.Located.{IsLocated}

@@ -1,4 +1,4 @@
-use Rattle.std.proofs.Common.{◌≡◌, ◌∙◌, map, Some, option_map, sym, ap}
+use Rattle.std.proofs.Common.{◌∙◌, map, option_map, sym, ap}
 use Rattle.irtext_grammar.specs.Contexts.Held.{entries_of}
 use Rattle.irtext_grammar.specs.Graphs.Build.{put_all, read_names}
 use Rattle.irtext_parse_nested.proofs.Faults.{some_same}

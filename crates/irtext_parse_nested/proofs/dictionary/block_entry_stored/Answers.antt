@@ -1,4 +1,4 @@
-use Rattle.std.proofs.Common.{◌∙◌, sym}
+use Rattle.std.proofs.Common.{◌∙◌}
 use Rattle.irtext_parse_nested.proofs.BlockEntries.{label_key, label_forbidden, entry_allowed, entry_forbidden}
 use Rattle.irtext_parse_nested.proofs.Marking.{on_ok, if_err}
 use Rattle.irtext_parse_nested.proofs.dictionary.block_entry_stored.Goals as goal

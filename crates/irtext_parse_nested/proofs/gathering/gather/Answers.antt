@@ -1,5 +1,5 @@
-use Rattle.std.proofs.Common.{rules, arith, ◌≡◌, ◌∷◌, ◌++◌, [], sym, subst, ◌∙◌, ap}
-use Rattle.irtext_parse_heads.specs.Found.{only_words, with_words}
+use Rattle.std.proofs.Common.{rules, arith, ◌≡◌, ◌∷◌, [], sym, subst, ◌∙◌, ap}
+use Rattle.irtext_parse_heads.specs.Found.{with_words}
 use Rattle.irtext_parse_nested.specs.Gathered.{CanGather, Gathers, RefusesGathering}
 use Rattle.irtext_parse_nested.proofs.Steady.{steady_itself, steady_both}
 use Rattle.irtext_parse_nested.proofs.Stores.{exit_from}

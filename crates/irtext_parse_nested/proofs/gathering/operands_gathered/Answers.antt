@@ -1,4 +1,4 @@
-use Rattle.std.proofs.Common.{◌≡◌, ◌<◌, ◌∙◌, length, refl, sym, arith}
+use Rattle.std.proofs.Common.{◌<◌, ◌∙◌, length, refl, sym, arith}
 use Rattle.irtext_parse_nested.proofs.Numbered.{item_there}
 use Rattle.irtext_parse_nested.proofs.Steady.{steady_itself}
 use Rattle.irtext_parse_nested.proofs.Pieces.{operands_one, no_operands_one, none_of_length, operands_outside}

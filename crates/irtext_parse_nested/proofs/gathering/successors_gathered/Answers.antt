@@ -1,4 +1,4 @@
-use Rattle.std.proofs.Common.{◌≡◌, ◌<◌, ◌∙◌, length, refl, sym, arith}
+use Rattle.std.proofs.Common.{◌<◌, ◌∙◌, length, refl, sym, arith}
 use Rattle.irtext_parse_nested.proofs.Numbered.{item_there}
 use Rattle.irtext_parse_nested.proofs.Steady.{steady_itself}
 use Rattle.irtext_parse_nested.proofs.Pieces.{successors_one, no_successors_one, none_of_length, successors_outside}

@@ -1,4 +1,4 @@
-use Rattle.std.proofs.Common.{◌∙◌, map, length, take, slice_get, ap, arith}
+use Rattle.std.proofs.Common.{◌∙◌, map, length, slice_get, ap, arith}
 use Rattle.irtext_parse_nested.specs.Ends.{numbers_of}
 use Rattle.irtext_parse_nested.proofs.NamesGiven.{given_none, given_more}
 use Rattle.irtext_parse_nested.proofs.Numbered.{known_at, take_numbers}

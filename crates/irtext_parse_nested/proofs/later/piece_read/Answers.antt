@@ -1,5 +1,4 @@
-use Rattle.std.proofs.Common.{◌∙◌, Some, sym, ap, subst, slice_get}
-use Rattle.irtext_base.specs.Faults.{id_of}
+use Rattle.std.proofs.Common.{◌∙◌, sym, ap, subst, slice_get}
 use Rattle.irtext_nesting.specs.Heads.{piece_at}
 use Rattle.irtext_outcomes.specs.Readers.Streams.{itself, replaced}
 use Rattle.irtext_read.specs.AttrTexts.{attr_at}

@@ -1,5 +1,5 @@
-use Rattle.std.proofs.Common.{◌∙◌, ◌++◌, length, sym, ap, append-nil, Some, option_to_list, arith}
-use Rattle.irtext_grammar.specs.Grammar.Tree.{at_place, in_order}
+use Rattle.std.proofs.Common.{◌∙◌, ◌++◌, length, sym, ap, append-nil, option_to_list, arith}
+use Rattle.irtext_grammar.specs.Grammar.Tree.{in_order}
 use Rattle.irtext_parse_nested.proofs.Ordering.{next_taken}
 use Rattle.irtext_parse_nested.proofs.making.ordered.Goals.{in-Some+in_ok-push, in_default}
 use Rattle.irtext_parse_nested.proofs.making.ordered.Goals as goal

@@ -1,4 +1,4 @@
-use Rattle.std.proofs.Common.{◌≡◌, ◌∙◌, ◌<◌, sym, ap, subst, refl, arith, Some, None, []}
+use Rattle.std.proofs.Common.{◌∙◌, ◌<◌, sym, subst, refl, arith, Some, None}
 use Rattle.irtext_context.proofs.Kept.{kept_closed, kept_trans}
 use Rattle.irtext_read.specs.AttrTexts.{attr_at}
 use Rattle.irtext_read.proofs.Exits.{handed_on}

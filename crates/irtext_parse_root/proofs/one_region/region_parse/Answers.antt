@@ -1,4 +1,4 @@
-use Rattle.std.proofs.Common.{◌≡◌, ◌≤◌, ◌∙◌, true, false, arith, le_refl, sym, ap, subst, inl, inr, Some}
+use Rattle.std.proofs.Common.{◌∙◌, arith, le_refl, sym, subst, inl}
 use Rattle.irtext_context.specs.Context.{KeepsOlder}
 use Rattle.irtext_context.proofs.Kept.{kept_closed, kept_trans}
 use Rattle.irtext_context.proofs.Parts.{stands_seen}
@@ -7,7 +7,6 @@ use Rattle.irtext_graph.specs.declared.object.Object.TheVariants.{TheRegion}
 use Rattle.irtext_read.proofs.Exits.{handed_on}
 use Rattle.irtext_state.specs.States.{marks_of}
 use Rattle.irtext_parse_nested.proofs.Marking.{gains_nothing}
-use Rattle.irtext_parse_root.specs.Turned.{Remains}
 use Rattle.irtext_parse_root.proofs.Chains.{never_open, gains_both}
 use Rattle.irtext_parse_root.proofs.Under.{region_is_here, entry_refused, under_stops, still_alone, can_place, reads_under}
 use Rattle.irtext_parse_root.proofs.Unplaced.{alone_lasts, alone_new, alone_there}

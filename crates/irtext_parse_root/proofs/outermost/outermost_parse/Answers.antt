@@ -1,4 +1,4 @@
-use Rattle.std.proofs.Common.{◌≡◌, ◌∙◌, ap, sym, subst, take, length}
+use Rattle.std.proofs.Common.{◌∙◌, ap, sym, subst, take, length}
 use Rattle.std.proofs.Math.Seq.{take-append_seam}
 use Rattle.irtext_context.proofs.Kept.{rolled_back}
 use Rattle.irtext_context.specs.Context.{KeepsOlder}

@@ -1,4 +1,4 @@
-use Rattle.std.proofs.Common.{◌≡◌, true, Option, Some, None, slice_get}
+use Rattle.std.proofs.Common.{Option, Some, None, slice_get}
 use Rattle.irtext_base.specs.Faults.{id_of}
 use Rattle.irtext_read.specs.AttrTexts.{attr_at}
 use Rattle.irtext_nesting.specs.Heads.{Step}

@@ -1,4 +1,4 @@
-use Rattle.std.proofs.Common.{◌≡◌, sym, subst}
+use Rattle.std.proofs.Common.{sym, subst}
 use Rattle.irtext_base.specs.Own.{texts_of}
 use Rattle.irtext_context.specs.Context.{KeepsOlder}
 use Rattle.irtext_context.proofs.Kept.{rolled_back}
