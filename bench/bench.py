@@ -16,6 +16,8 @@ import sys
 import tempfile
 import time
 
+from shapes import SHAPES
+
 HERE = os.path.dirname(os.path.abspath(__file__))
 PROGRAM = os.path.join(HERE, "..", "crates", "irtext_bench", "out", "irtext_bench")
 GRAPHS = os.path.join(HERE, "..", "crates", "irtext_graph_bench", "out", "irtext_graph_bench")
@@ -139,59 +141,6 @@ NESTINGS = (
 def nested(count, front, back):
     """A root whose location stands in so many others."""
     return "builtin.module @m\n{\n}!0\n\noutlined_attributes:\n!0 = @[%s?%s], []\n" % (front * count, back * count)
-
-
-# The type of most values in the shapes below.
-SI = "builtin.integer si64"
-
-
-def module(body):
-    """A module of one block with this body."""
-    return "builtin.module @m\n{\n^entry():\n%s\n}" % body
-
-
-def adding(i, more=""):
-    """An operation that uses the value before its own."""
-    return "x%d = test.global (x%d) [] [%s]: <(%s) -> (%s)>" % (i + 1, i, more, SI, SI)
-
-
-def function_of(body):
-    """A module with one function of one block with this body."""
-    return module("builtin.func @f: builtin.function <()->()>\n{\n^b(x0: %s):\n%s\n}" % (SI, body))
-
-
-def chain(count):
-    """One block of so many operations, each of which uses the one before."""
-    return function_of(";\n".join(adding(i) for i in range(count)))
-
-
-def blocks(count):
-    """Functions of 50 operations in five blocks, with branches to each."""
-    def block(b):
-        first = 10 * b
-        adds = ";\n".join(adding(first + i) for i in range(8))
-        return "^b%d(x%d: %s):\n%s;\ntest.use x%d;\ntest.br ^b%d" % (b, first, SI, adds, first + 8, (3, 0, 4, 2, 1)[b])
-    body = "\n\n".join(block(b) for b in range(5))
-    return module(";\n".join("builtin.func @f%d: builtin.function <()->()>\n{\n%s\n}" % (f, body) for f in range(count // 50)))
-
-
-def nest(count):
-    """Regions 64 deep, one tower beside the other."""
-    tower = "test.scope {\n^c():\n" * 63 + "test.nop\n" + "}" * 63
-    return module(";\n".join([tower] * (count // 64)))
-
-
-def locattr(count):
-    """The chain with attributes on each operation, and a location, a name and a shared attribute for each in the section."""
-    body = ";\n".join("%s !%d" % (adding(i, 'a: builtin.integer <%d: si64>, s: builtin.string "v\\n%d"' % (i, i % 100)), i) for i in range(count))
-    entries = "".join('!%d = @["f.c": line: %d, column: %d], [builtin_given_names = builtin.given_names [x%d], dbg = !%d]\n'
-                      % (i, i // 8 + 1, i % 8 * 9 + 1, i + 1, count + i % 100) for i in range(count))
-    shared = "".join('!%d = test.dbg "note %d"\n' % (count + j, j) for j in range(100))
-    return "%s\n\noutlined_attributes:\n%s%s" % (function_of(body), entries, shared)
-
-
-# Shapes of roots with blocks.
-SHAPES = (("chain", chain), ("blocks", blocks), ("nest", nest), ("locattr", locattr))
 
 
 def quoted(count):
@@ -329,4 +278,5 @@ def main():
             print_calls(empty)
 
 
-main()
+if __name__ == "__main__":
+    main()
