@@ -1,4 +1,4 @@
-#!/usr/bin/env python3
+#!/usr/bin/env -S python3 -B
 """Roots in a row on one stream, and lists of tokens: bench/bench.py [MEGABYTES]
 
 Reads and prints texts of that many megabytes (10 where none is given) with the program of crates/irtext_bench, which `rt ci` or

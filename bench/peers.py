@@ -1,4 +1,4 @@
-#!/usr/bin/env python3
+#!/usr/bin/env -S python3 -B
 """The program irtext beside its peers, on texts of the same shape: bench/peers.py [PROGRAM]
 
 Each parses a text and prints it. Said are the instructions of an operation, counted by valgrind (a count of many operations less one of
