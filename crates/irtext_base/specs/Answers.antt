@@ -23,7 +23,7 @@ demanded (Read x taken rest) = Read x taken rest
 demanded (Missing cause) = Bad cause []
 demanded (Bad cause upto) = Bad cause upto
 
--- the outcome of what comes after the characters taken, seen from before them: that there is no value is bad, since something was consumed
+-- the outcome of what comes after the characters taken, as an outcome from before them; that there is no value is then bad
 abbrev pub prefixed : {X : Type 0} → Text → Outcome X → Outcome X
 prefixed taken (Read x more rest) = Read x (taken ++ more) rest
 prefixed taken (Missing cause) = Bad cause taken
@@ -48,7 +48,7 @@ NeedsNoMemory (Read x taken rest) (Err fault) = ⊥
 NeedsNoMemory (Missing cause) (Err fault) = Unit {0}
 NeedsNoMemory (Bad cause upto) (Err fault) = Unit {0}
 
--- the outcome is one that the relation allows of the text; on a failed stream it is the failure
+-- the outcome is one that the relation allows of the text; on a failed stream it is that the stream has failed
 abbrev pub Outcomes : {X : Type 0} → (Text → Outcome X → Type 0) → Bool → Text → Outcome X → Type 0
 Outcomes R true text o = o ≡ Bad Failed []
 Outcomes R false text o = R text o

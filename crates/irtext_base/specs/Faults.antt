@@ -1,4 +1,4 @@
--- Causes as they are to the definitions, without where their texts are in memory.
+-- Causes as the definitions see them, without where their texts are in memory.
 use Rattle.std.specs.Prelude.{ℕ, Option, List, [], ◌∷◌, cond, string_bytes}
 use Rattle.std.specs.List.{list_all}
 use Rattle.std.specs.Char.{is_ascii}
@@ -31,7 +31,7 @@ pub data Demand : Type 0 where
 abbrev pub characters : List ℕ → Text
 characters bytes = cond (list_all is_ascii bytes) bytes (chars bytes)
 
--- what is expected, as it is to the definitions
+-- what is expected, as the definitions see it
 abbrev pub demand_of : Expected → Demand
 demand_of (expected.Text text) = Word (characters text.bytes)
 demand_of (expected.Literal text) = Word (chars (string_bytes text))
@@ -72,11 +72,11 @@ pub data Fault : Type 0 where
   OwnText : Text → Fault
   NoReader : Fault
 
--- the id of an operation, as it is to the definitions
+-- the id of an operation, as the definitions see it
 abbrev pub id_of : OpId → Id
 id_of id = record { dialect = id.dialect; name = id.name }
 
--- a cause, as it is to the definitions; `NoReader` if no parser returns it
+-- a cause, as the definitions see it; `NoReader` if no parser returns it
 abbrev pub fault_of : {A : Type 0} → Cause A → Fault
 fault_of cause.Memory = Memory
 fault_of cause.StreamFailed = Failed

@@ -1,4 +1,4 @@
--- Locations as they are to the definitions, without where their parts are in memory; and the sources that they mention.
+-- Locations as the definitions see them, without where their parts are in memory; and the sources that they mention.
 use Rattle.std.specs.Prelude.{ℕ, Bool, true, false, ◌==◌, cond, Option, Some, None, List, [], ◌∷◌, ◌++◌, string_bytes}
 use Rattle.std.specs.List.{list_any}
 use Rattle.irtext_base.specs.Text.{Text}
@@ -23,7 +23,7 @@ pub data AttrView (A : Type 0) : Type 0 where
   ident : Text → AttrView A
   own : A → AttrView A
 
--- the attribute, as it is to the definitions
+-- the attribute, as the definitions see it
 abbrev pub attr_view : {A : Type 0} → AttrObj A → AttrView A
 attr_view (attr.GivenNames names) = given_names names.items
 attr_view (attr.Ident name) = ident name
@@ -82,7 +82,7 @@ abbrev mutual
   row_sourced see no_location = no_location
   row_sourced see (location l ls) = location (sourced see l) (row_sourced see ls)
 
--- one level of a location as it is to the definitions, with the locations nested in it already so
+-- one level of a location as the definitions see it, given the same of the locations nested in it
 abbrev pub view_step : {A : Type 0} → Location-F A (LocationView A) → LocationView A
 view_step (Location-F.SrcPos src pos) = src_pos src pos
 view_step (Location-F.Fused metadata locations) = fused (attr_view_in metadata.value) (in_row locations.value.items)
@@ -90,7 +90,7 @@ view_step (Location-F.Named name child_loc) = named (string_bytes name.value) ch
 view_step (Location-F.CallSite callee caller) = call_site callee.value caller.value
 view_step Location-F.Unknown = unknown
 
--- the location, as it is to the definitions
+-- the location, as the definitions see it
 abbrev pub location_view : {A : Type 0} → Location A → LocationView A
 location_view {A} = fold-Location A (LocationView A) view_step
 

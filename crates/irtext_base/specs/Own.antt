@@ -50,12 +50,12 @@ unplaced types owns formats = record { at = λ place text. ⊤; types = types; o
 abbrev pub can_follow : ℕ → Bool
 can_follow c = is_whitespace c || has ◌==◌ c (codes ",;:)]}>")
 
--- what can come after the text of a type or an attribute: the end, or such a character
+-- the text of a type or an attribute can end before this text: it is empty, or it begins with such a character
 abbrev pub Ends : Text → Type 0
 Ends text = (text ≡ []) ⊎ (begins can_follow text ≡ true)
 
--- the law of parsing and printing one kind of value: how printed texts begin, where no value is found, that what is printed is parsed back,
--- and that printed texts consist of Unicode scalar values
+-- the law of parsing and printing one kind of value: each printed text begins with a letter or `_`, no value is found in a text that does
+-- not, a printed text that ends there is parsed back, and printed texts consist of Unicode scalar values
 pub record Lawful (X : Type 0) (texts : Texts X) : Type 0 where
   pub starts : (x : X) (rest : Text) → begins begins_word (texts.written x ++ rest) ≡ true
   pub misses : (text : Text) → begins begins_word text ≡ false → texts.outcome text ≡ missing

@@ -293,7 +293,7 @@ module _ {A : Type 0} (E : A → A → Bool) (feeds : A → HashWrites) (f : (x 
   len_fed (location l ls) (location k ks) h = ap suc (len_fed ls ks (second_so (same_view E l k) (same_rows E ls ks) h))
 
   mutual
-    -- equal locations feed a hasher the same
+    -- equal locations feed the same to a hasher
     pub view_fed : (k l : LocationView A) → same_view E k l ≡ true → fed_view feeds k ≡ fed_view feeds l
     view_fed (src_pos a1 b1) (src_pos a2 b2) h = ap₂ (λ v w. fed.isize (pos 0) ++ (v ++ w)) (source_fed a1 a2 (first_so (same_source a1 a2) (same_position b1 b2) h)) (position_fed b1 b2 (second_so (same_source a1 a2) (same_position b1 b2) h))
     view_fed (src_pos a1 b1) (fused a2 b2) h = absurd (true≢false (sym h))

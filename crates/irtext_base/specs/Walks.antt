@@ -69,7 +69,7 @@ abbrev mutual
   row_taken r w no_location = still no_location w
   row_taken r w (location l ls) = joined location (taken r w l) (λ u. row_taken r u ls)
 
--- the new state comes from the old one by some sources
+-- the new state is the old one after some sources were replaced
 pub record Reached {W : Type 0} (r : Rule W) (old new : W) : Type 0 where
   pub sources : List Source
   pub by_sources : new ≡ fold r.after old sources

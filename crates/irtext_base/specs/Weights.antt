@@ -28,7 +28,7 @@ abbrev mutual
   waiting (call_site callee caller) = 1 + (waiting callee + weight caller)
   waiting unknown = 0
 
-  -- the same for a row
+  -- the same for a row, whose first location is the rest of the chain
   pub row_waiting : {S A : Type 0} → LocationsOf S A → ℕ
   row_waiting no_location = 0
   row_waiting (location l ls) = waiting l + row_weight ls

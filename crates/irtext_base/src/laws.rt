@@ -12,13 +12,13 @@ use crate::location::{Location, Source};
 use crate::text::AttrText;
 use std::hash::Hash;
 
-/// Two attributes or two locations are equal exactly if they are the same to the definitions.
+/// Two attributes are equal exactly if `attr_view` gives the same for both, and two locations exactly if `location_view` does.
 pub fn equal_where_alike<A: AttrText>()
     ensures attributes { (x y : AttrObj A) → (⟦<AttrObj<A> as PartialEq>⟧.eq x y ≡ true) ↔ (attr_view x ≡ attr_view y) }
     ensures locations { (k l : Location A) → (⟦<Location<A> as PartialEq>⟧.eq k l ≡ true) ↔ (location_view k ≡ location_view l) }
 {}
 
-/// Sources, attributes and locations that are equal feed a hasher the same.
+/// Two sources, attributes or locations that are equal feed the same to a hasher.
 pub fn equal_ones_hash_alike<A: AttrText>()
     ensures sources { (s t : Source) → ⟦<Source as PartialEq>⟧.eq s t ≡ true →
         ⟦<Source as Hash>⟧.hash_input s ≡ ⟦<Source as Hash>⟧.hash_input t }

@@ -33,38 +33,39 @@ pub struct PathKey {
 /// What a text was read from.
 #[derive(Clone, Copy, PartialEq, Eq, Hash, Debug)]
 pub enum Source {
-    /// The file with this path.
+    /// The file with this path, as `"a.src"`.
     File(PathKey),
-    /// A text in memory.
+    /// A text in memory: `<in-memory>`.
     InMemory,
 }
 
-/// Where something comes from. Locations may be nested to any depth. Dropping a location, and finding its `sources`, takes a loop. `==` and
-/// `Hash` recurse into the nested locations, but not into the last one in each location; `Debug` recurses into all.
+/// Where something comes from. Locations may be nested to any depth: a location is dropped, and its `sources` are found, by a loop. `==`
+/// and `Hash` recurse into the nested locations, but not into the last one in each location; `Debug` recurses into all.
 #[derive(Debug)]
 #[cycle(location)]
 pub enum Location<A> {
-    /// A line and a column of a source.
+    /// A line and a column of a source, as `"a.src": line: 3, column: 5`.
     SrcPos {
         src: Source,
         pos: SourcePosition,
     },
-    /// Several locations as one, with an attribute that says more about them.
+    /// Several locations as one, with an optional attribute that says more about them, as `fused<builtin.string "unit">[<in-memory>: line:
+    /// 1, column: 1, ?]`.
     Fused {
         metadata: Box<Option<AttrObj<A>>>,
         locations: Box<Vec<Location<A>>>,
     },
-    /// A name for another location.
+    /// A name for another location, as `name: "idle", loc: (?)`.
     Named {
         name: Box<String>,
         child_loc: Box<Location<A>>,
     },
-    /// The location of a callee, and the location that it was called from.
+    /// The location of a callee, and the location that it was called from, as `callsite(? at ?)`.
     CallSite {
         callee: Box<Location<A>>,
         caller: Box<Location<A>>,
     },
-    /// An unknown location.
+    /// An unknown location: `?`.
     Unknown,
 }
 
@@ -99,7 +100,7 @@ impl<A: Drop> Drop for Location<A> {
     }
 }
 
-/// Returns the error of a call that is out of memory: cause `Memory`, kind `InvalidArgument`, and no location.
+/// Returns the error of a call that is out of memory: cause `Memory`, kind `InvalidArgument`, no location.
 pub(crate) fn out_of_memory<A>() -> Error<A>
     ensures { result ≡ out_of_memory }
 {

@@ -18,12 +18,15 @@ use std::fmt::Display;
 /// The kind of an error.
 #[derive(Clone, Copy, Debug, PartialEq, Eq)]
 pub enum ErrorKind {
+    /// The program text is invalid. Parse errors are of this kind.
     InvalidInput,
+    /// What was verified is invalid. Errors of `verify_error!` are of this kind.
     VerificationFailed,
+    /// An argument of a call is invalid, or the call is out of memory.
     InvalidArgument,
 }
 
-/// A fixed text of at most 24 bytes, which takes no allocation.
+/// A fixed text of at most 24 bytes, which needs no allocation.
 pub type Token = ArrayString<24>;
 
 /// What is expected where something else was found.
@@ -94,9 +97,9 @@ pub enum Cause<A> {
     DuplicateIndex(usize),
     /// The section has an entry for an index that no mark has, or a second entry for an index.
     UnknownIndex(usize),
-    /// A reference to an index under which there is no attribute.
+    /// A reference to an index under which the section has no attribute.
     UnknownPrintOnce(usize),
-    /// A reserved key has a value of the wrong kind.
+    /// A reserved key has a value that it may not have.
     ReservedKey(Identifier),
     /// A type or an attribute of the caller rejects its text, for this reason.
     OwnText(String),
@@ -124,8 +127,11 @@ pub enum Cause<A> {
 #[derive(Drop)]
 #[cycle(cause)]
 pub struct Error<A> {
+    /// What kind of error it is.
     pub kind: ErrorKind,
+    /// Why the call failed.
     pub err: Cause<A>,
+    /// The location that the error is about, or `Unknown`.
     pub loc: Location<A>,
 }
 

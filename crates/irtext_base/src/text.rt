@@ -19,12 +19,12 @@ pub trait IrText<A>: Sized + Drop + Eq {
     ghost written: { Self → List ℕ };
 
     /// Parses a value. If none begins at the stream's position, the error is not committed and the stream is unchanged. If the text is bad
-    /// further on, if it is out of memory, or if the stream had failed, the error is committed and the stream has failed.
+    /// further on, if an allocation fails, or if the stream had failed, the error is committed and the stream has failed.
     fn read(stream: &mut TextStream) -> ParseResult<Self, A>
         ensures { Answers (λ s. s) (λ s v. v) (λ x. x)
             (unless_failed stream.old.failed (reading stream.old.rest)) stream.old result stream.new };
 
-    /// Appends the text of the value. Fails only if it is out of memory.
+    /// Appends the text of the value. Fails only when out of memory.
     fn write_text(&self, f: &mut String) -> fmt::Result
         ensures { IfOk result (λ _. string_bytes f.new ≡ string_bytes f.old ++ encode_utf8_all (written self.now)) };
 

@@ -44,7 +44,7 @@ module _ {A : Type 0} where
   is_reserved_for key attr = bytes_eq given_names_key key && not (are_given_names attr)
 
   -- why the attribute is rejected under the key: the key is that of the given names and the attribute is something else, or the key is
-  -- another one and it is out of memory
+  -- another one and an allocation failed
   abbrev pub RefusesEntry : Text → AttrObj A → Refusal → Type 0
   RefusesEntry key attr (ReservedKey refused) = (refused ≡ key) × IsTrue (is_reserved_for key attr)
   RefusesEntry key attr Memory = bytes_eq given_names_key key ≡ false

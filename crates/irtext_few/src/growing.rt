@@ -1,5 +1,5 @@
 //! A list to which elements are added and from which they are removed. Its first element is stored in place and the others in a vector, so
-//! that one element takes no allocation.
+//! that one element needs no allocation.
 ghost use Rattle.std.specs.Prelude.{◌≡◌, ◌<◌, ◌++◌, ◌∷◌, [], Some, IsTrue, OnOk, OnErr, length, slice_get, ◌↔◌};
 ghost use Rattle.std.specs.List.{remove};
 ghost use Rattle.irtext_few.specs.Growing.{listed, HasPlace};
@@ -9,7 +9,9 @@ use std::alloc::{AllocError, Global};
 /// A list. If `first` is `None`, the first element of the vector is the first of the list.
 #[derive(Drop)]
 pub struct Growing<X> {
+    /// The first element, if it is stored in place.
     pub first: Option<X>,
+    /// The elements after it.
     pub more: Vec<X>,
 }
 
@@ -55,7 +57,7 @@ impl<X: Copy> Growing<X> {
         self.more[index - 1]
     }
 
-    /// Makes room for one more element. The elements are unchanged. Fails only if it is out of memory.
+    /// Makes room for one more element. The elements are unchanged. Fails only when out of memory.
     pub fn make_room(&mut self) -> Result<(), AllocError>
         ensures same { listed self.new ≡ listed self.old }
         ensures room { OnOk result (HasPlace self.new) }
@@ -81,7 +83,7 @@ impl<X: Copy> Growing<X> {
         self.more.push_reserved(x);
     }
 
-    /// Adds an element at the end. If it is out of memory, it fails and the elements are unchanged.
+    /// Adds an element at the end. When out of memory, it fails and the elements are unchanged.
     pub fn push(&mut self, x: X) -> Result<(), AllocError>
         ensures here { OnOk result (listed self.new ≡ listed self.old ++ x ∷ []) }
         ensures err { OnErr result (listed self.new ≡ listed self.old) }

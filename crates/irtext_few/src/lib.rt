@@ -22,7 +22,7 @@ pub enum Items<X> {
     Many(Vec<X>),
 }
 
-/// A list of which up to two elements take no allocation.
+/// A list of which up to two elements need no allocation.
 #[derive(Drop)]
 pub struct Few<X> {
     items: Items<X>,

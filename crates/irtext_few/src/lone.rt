@@ -15,7 +15,7 @@ pub enum OneOrMany<X> {
     Many(Vec<X>),
 }
 
-/// A list of which one element takes no allocation.
+/// A list of which one element needs no allocation.
 #[derive(Drop)]
 pub struct Lone<X> {
     items: OneOrMany<X>,

@@ -18,7 +18,7 @@ use irtext_graph::object::{BasicBlock, Defined, Operation, Value};
 use std::alloc::AllocError;
 
 /// The arguments of a block, its operations and its predecessors, by the block's pointer, in any holder of a graph. The block must be live
-/// in the graph. Calls that return a list fail only if they are out of memory.
+/// in the graph. Calls that return a list fail only when out of memory.
 pub trait BlockParts: Sized {
     ghost use Rattle.irtext_graph.specs.declared.arena.Ptr.{Ptr};
     ghost use Rattle.irtext_graph.specs.declared.object.BasicBlock.{BasicBlock};

@@ -18,7 +18,7 @@ use irtext_graph::object::{BasicBlock, Defined, Operation, Region, Site, Value};
 use std::alloc::AllocError;
 
 /// The operands, successors, results and regions of an operation, and the uses of its results, by the operation's pointer, in any holder of
-/// a graph. The operation must be live in the graph. Calls that return a list fail only if they are out of memory.
+/// a graph. The operation must be live in the graph. Calls that return a list fail only when out of memory.
 pub trait OperationParts: Sized {
     ghost use Rattle.irtext_graph.specs.declared.arena.Ptr.{Ptr};
     ghost use Rattle.irtext_graph.specs.declared.object.Operation.{Operation};

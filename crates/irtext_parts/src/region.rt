@@ -18,7 +18,7 @@ pub trait RegionParts: Sized {
     // the pointer
     ghost pointer: { Self → Ptr Region };
 
-    /// Returns the blocks of the region, in order. Fails only if it is out of memory.
+    /// Returns the blocks of the region, in order. Fails only when out of memory.
     fn blocks<C: HasGraph>(self, ctx: &C) -> Result<Vec<Ptr<BasicBlock>>, AllocError>
         requires { Stands (C.graph ctx.now) (TheRegion (pointer self)) }
         ensures { IfOk result (λ all. all.items ≡ blocks (C.graph ctx.now) (pointer self)) };

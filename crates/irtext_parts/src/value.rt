@@ -57,7 +57,7 @@ pub trait ValueUses: Sized {
         requires { ValueStands (C.graph ctx.now) (value self) }
         ensures { Counts (IsUse (C.graph ctx.now) (OfValue (value self))) result };
 
-    /// Returns the operands that are the value, each once, in an unspecified order. Fails only if it is out of memory.
+    /// Returns the operands that are the value, each once, in an unspecified order. Fails only when out of memory.
     fn uses<C: HasGraph>(self, ctx: &C) -> Result<Vec<Site>, AllocError>
         requires { ValueStands (C.graph ctx.now) (value self) }
         ensures { IfOk result (λ us. Lists (IsUse (C.graph ctx.now) (OfValue (value self))) us.items) };

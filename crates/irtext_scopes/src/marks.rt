@@ -1,4 +1,4 @@
-//! Where the open scopes begin in the vector of bindings. The outermost mark is stored in place, so one scope takes no allocation here.
+//! Where the open scopes begin in the vector of bindings. The outermost mark is stored in place, so one scope needs no allocation here.
 ghost use Rattle.std.specs.Prelude.{◌≡◌, ◌++◌, ◌∷◌, [], reverse, option_to_list, OnOk, OnErr, IfNone};
 ghost use Rattle.irtext_scopes.specs.Bindings.{first};
 
@@ -33,7 +33,7 @@ impl Marks {
         }
     }
 
-    /// Adds the mark of a scope inside the innermost one. Only a scope inside another takes an allocation. If that fails, the marks are
+    /// Adds the mark of a scope inside the innermost one. Only a scope inside another needs an allocation. If that fails, the marks are
     /// unchanged.
     pub(crate) fn push(&mut self, mark: usize) -> Result<(), AllocError>
         ensures ok { OnOk result (self.new ≡ self.old ++ mark ∷ []) }

@@ -79,8 +79,8 @@ impl Names {
         }
     }
 
-    /// Returns the number of a name, which is kept from then on. A name that is kept already has the number that it had, and takes no
-    /// allocation. If it is out of memory, it fails and the names are unchanged.
+    /// Returns the number of a name, which is kept from then on. A name that is kept already has the number that it had, and needs no
+    /// allocation. When out of memory, it fails and the names are unchanged.
     pub fn intern(&mut self, text: &str) -> Result<usize, AllocError>
         ensures number { IfOk result (λ i. i ≡ number_of self.old text.now) }
         ensures kept { OnOk result (self.new ≡ with_name self.old text.now) }

@@ -21,7 +21,7 @@ pub enum Entry<V> {
 /// Why a name could not be defined.
 #[derive(Clone, Copy, PartialEq, Eq, Debug)]
 pub enum DefineFault {
-    /// It is out of memory.
+    /// Out of memory.
     Memory,
     /// The scope has a definition of the name already.
     MultipleDefinitions,
@@ -162,7 +162,7 @@ impl<V: Copy> Scopes<V> {
         self.marks.last().is_some()
     }
 
-    /// Opens an empty scope inside the innermost one. If it is out of memory, it fails and the scopes are unchanged.
+    /// Opens an empty scope inside the innermost one. When out of memory, it fails and the scopes are unchanged.
     pub fn enter(&mut self) -> Result<(), AllocError>
         ensures ok { OnOk result (self.new ≡ [] ∷ self.old) }
         ensures err { OnErr result (self.new ≡ self.old) }
@@ -193,8 +193,8 @@ impl<V: Copy> Scopes<V> {
         }
     }
 
-    /// Adds a name to the innermost scope. A scope must be open, and the innermost one must not have the name. If it is out of memory, it
-    /// fails and the scopes are unchanged.
+    /// Adds a name to the innermost scope. A scope must be open, and the innermost one must not have the name. When out of memory, it fails
+    /// and the scopes are unchanged.
     pub fn add(&mut self, name: usize, entry: Entry<V>) -> Result<(), AllocError>
         requires open { is_open self.old ≡ true }
         requires unknown { find name (innermost self.old) ≡ None }
@@ -224,8 +224,8 @@ impl<V: Copy> Scopes<V> {
     }
 
     /// Defines a name in the innermost scope. A scope must be open. Returns the placeholder that the definition replaces, if the scope has
-    /// one for the name. If the scope has a definition of the name already, the error is `MultipleDefinitions`. If it is out of memory,
-    /// which only happens for a name that the scope does not have, the error is `Memory`. On an error the scopes are unchanged.
+    /// one for the name. If the scope has a definition of the name already, the error is `MultipleDefinitions`. When out of memory, which
+    /// happens only for a name that the scope does not have, the error is `Memory`. On an error the scopes are unchanged.
     pub fn define(&mut self, name: usize, value: V) -> Result<Option<V>, DefineFault>
         requires { is_open self.old ≡ true }
         ensures twice { (result ≡ Err DefineFault.MultipleDefinitions) ↔

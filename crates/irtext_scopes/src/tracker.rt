@@ -17,7 +17,7 @@ use std::alloc::{AllocError, Global};
 /// Why a region can't be entered.
 #[derive(Clone, Copy, PartialEq, Eq, Debug)]
 pub enum EnterFault {
-    /// It is out of memory.
+    /// Out of memory.
     Memory,
     /// The region's operation is not isolated from above, and no scope of values is open.
     TopLevelOpRegionNotIsolatedFromAbove,
@@ -87,7 +87,7 @@ impl<V: Copy, B: Copy> NameTracker<V, B> {
     }
 
     /// Returns the number of a name, which is kept from then on. A name that was mentioned before in this parse has the number that it had,
-    /// and takes no allocation. If it is out of memory, it fails and nothing changes.
+    /// and needs no allocation. When out of memory, it fails and nothing changes.
     pub fn intern(&mut self, text: &str) -> Result<usize, AllocError>
         ensures number { IfOk result (λ i. i ≡ number_of self.old.names text.now) }
         ensures kept { OnOk result (self.new.names ≡ with_name self.old.names text.now) }
@@ -139,7 +139,7 @@ impl<V: Copy, B: Copy> NameTracker<V, B> {
     }
 
     /// Enters a region. This opens a scope of labels, and a scope of values if the region's operation is isolated from above. If it is not
-    /// isolated and no scope of values is open, the error is `TopLevelOpRegionNotIsolatedFromAbove`. If it is out of memory, the error is
+    /// isolated and no scope of values is open, the error is `TopLevelOpRegionNotIsolatedFromAbove`. When out of memory, the error is
     /// `Memory`. On an error nothing changes.
     pub fn enter_region(&mut self, isolated: bool) -> Result<(), EnterFault>
         ensures values { OnOk result (self.new.values ≡ entered isolated self.old.values) }
@@ -186,7 +186,7 @@ impl<V: Copy, B: Copy> NameTracker<V, B> {
     }
 
     /// Binds a name to a placeholder, which its use before the definition refers to. A scope of values must be open, and the innermost one
-    /// must not have the name. If it is out of memory, it fails and nothing changes.
+    /// must not have the name. When out of memory, it fails and nothing changes.
     pub fn ssa_forward(&mut self, name: usize, placeholder: V) -> Result<(), AllocError>
         requires open { is_open self.old.values ≡ true }
         requires known { name < length self.old.names }
@@ -200,8 +200,8 @@ impl<V: Copy, B: Copy> NameTracker<V, B> {
     }
 
     /// Defines a name of a value. A scope of values must be open. Returns the placeholder that the definition replaces, if the name was
-    /// used before. If the scope has a definition of the name already, the error is `MultipleDefinitions`. If it is out of memory, which
-    /// only happens for a name that the scope does not have, the error is `Memory`. On an error nothing changes.
+    /// used before. If the scope has a definition of the name already, the error is `MultipleDefinitions`. When out of memory, which
+    /// happens only for a name that the scope does not have, the error is `Memory`. On an error nothing changes.
     pub fn ssa_def(&mut self, name: usize, def: V) -> Result<Option<V>, DefineFault>
         requires open { is_open self.old.values ≡ true }
         requires known { name < length self.old.names }
@@ -226,7 +226,7 @@ impl<V: Copy, B: Copy> NameTracker<V, B> {
     }
 
     /// Binds a label to a placeholder, which its use before the definition refers to. A scope of labels must be open, and the innermost one
-    /// must not have the label. If it is out of memory, it fails and nothing changes.
+    /// must not have the label. When out of memory, it fails and nothing changes.
     pub fn block_forward(&mut self, name: usize, placeholder: B) -> Result<(), AllocError>
         requires open { is_open self.old.labels ≡ true }
         requires known { name < length self.old.names }
@@ -240,8 +240,8 @@ impl<V: Copy, B: Copy> NameTracker<V, B> {
     }
 
     /// Defines a label. A scope of labels must be open. Returns the placeholder that the definition replaces, if the label was used before.
-    /// If the scope has a definition of the label already, the error is `MultipleDefinitions`. If it is out of memory, which only happens
-    /// for a label that the scope does not have, the error is `Memory`. On an error nothing changes.
+    /// If the scope has a definition of the label already, the error is `MultipleDefinitions`. When out of memory, which happens only for a
+    /// label that the scope does not have, the error is `Memory`. On an error nothing changes.
     pub fn block_def(&mut self, name: usize, def: B) -> Result<Option<B>, DefineFault>
         requires open { is_open self.old.labels ≡ true }
         requires known { name < length self.old.names }

@@ -8,7 +8,9 @@ use std::hash::Hasher;
 /// A line and a column. Both count from 1, columns in characters, and both are capped at `i32::MAX`.
 #[derive(Clone, Copy, PartialEq, Eq, Hash, Debug)]
 pub struct SourcePosition {
+    /// From 1.
     pub line: i32,
+    /// From 1, in characters.
     pub column: i32,
 }
 

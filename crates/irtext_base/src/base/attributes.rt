@@ -15,14 +15,14 @@ pub const GIVEN_NAMES_KEY: &'static str = "builtin_given_names";
 pub enum Refusal {
     /// This key, `builtin_given_names`, takes only an `AttrObj::GivenNames`.
     ReservedKey(Identifier),
-    /// It is out of memory.
+    /// Out of memory.
     Memory,
 }
 
 /// An attribute: names of results or arguments, an identifier, or one of the caller's own.
 #[derive(PartialEq, Eq, Hash, Debug, Drop)]
 pub enum AttrObj<A> {
-    /// The given names of results or arguments, as `builtin.given_names [x]`; `None` for one without a given name.
+    /// The given names of results or arguments, as `builtin.given_names [x, ?]`. `None`, in the text `?`, is for one without a given name.
     GivenNames(Vec<Option<Identifier>>),
     /// An identifier, as `builtin.identifier outer`.
     Ident(Identifier),

@@ -118,7 +118,7 @@ fn can_begin(c: char) -> bool
     c.is_ascii_alphabetic() || c == '_'
 }
 
-/// Whether an identifier can have the character after its first one.
+/// Whether the character can come after the first one of an identifier.
 fn can_go_on(c: char) -> bool
     ensures { result ≡ in_word c }
 {
@@ -168,7 +168,7 @@ fn no_identifier<A>(text: &str) -> Error<A>
 
 impl Identifier {
     /// Returns the identifier with this text. If the text is no identifier, the error is `Unexpected` with the first character that can't
-    /// be at its position, or with the end if the text is empty. If it is out of memory, the error is `Memory`. Both are of kind
+    /// be at its position, or with the end if the text is empty. When out of memory, the error is `Memory`. Both are of kind
     /// `InvalidArgument` and have no location.
     pub fn try_new<A>(alloc: Global, text: &str) -> crate::result::Result<Identifier, A>
         ensures ok { IfOk result (λ i. i ≡ text.now) }
@@ -185,7 +185,7 @@ impl Identifier {
         }
     }
 
-    /// Returns the identifier with this text, which must be the text of one. Fails only if it is out of memory.
+    /// Returns the identifier with this text, which must be the text of one. Fails only when out of memory.
     pub fn from_word(alloc: Global, text: &str) -> Result<Identifier, AllocError>
         requires { IsTrue (is_identifier text.now) }
         ensures { IfOk result (λ i. i ≡ text.now) }
@@ -193,8 +193,8 @@ impl Identifier {
         Identifier::with_hint(alloc, text, usize::MAX)
     }
 
-    /// Returns the identifier with this text, which must be the text of one, and with a hint of where a table has it. Fails only if it is
-    /// out of memory.
+    /// Returns the identifier with this text, which must be the text of one, and with a hint of where a table has it. Fails only when out
+    /// of memory.
     fn with_hint(alloc: Global, text: &str, hint: usize) -> Result<Identifier, AllocError>
         requires { IsTrue (is_identifier text.now) }
         ensures { IfOk result (λ i. i ≡ text.now) }
@@ -205,8 +205,7 @@ impl Identifier {
         })
     }
 
-    /// Returns the same identifier with a text of its own, whose hint is the index at which a table has it. Fails only if it is out of
-    /// memory.
+    /// Returns the same identifier with a text of its own, whose hint is the index at which a table has it. Fails only when out of memory.
     pub fn hinted(&self, alloc: Global, index: usize) -> Result<Identifier, AllocError>
         ensures { IfOk result (λ i. i ≡ self.now) }
     {
@@ -315,13 +314,15 @@ impl Equivalent<Identifier> for &str {
 /// The id of an operation: its dialect and its name in the dialect, as `test.make`.
 #[derive(PartialEq, Eq, Hash, Drop)]
 pub struct OpId {
+    /// The name of the dialect.
     pub dialect: Identifier,
+    /// The name of the operation in the dialect.
     pub name: Identifier,
 }
 
 impl OpId {
     /// Returns the id with these two texts. If one of them is no identifier, the error is `Unexpected` for the first that is none, as in
-    /// `Identifier::try_new`. If it is out of memory, the error is `Memory`. Both are of kind `InvalidArgument` and have no location.
+    /// `Identifier::try_new`. When out of memory, the error is `Memory`. Both are of kind `InvalidArgument` and have no location.
     pub fn try_new<A>(alloc: Global, dialect: &str, name: &str) -> crate::result::Result<OpId, A>
         ensures dialect { IfOk result (λ id. id.dialect ≡ dialect.now) }
         ensures name { IfOk result (λ id. id.name ≡ name.now) }

@@ -7,7 +7,7 @@ use crate::location::{Location, Source, out_of_memory};
 use crate::text::AttrText;
 use std::alloc::{AllocError, Global};
 
-/// Sources that are unchanged in a copy.
+/// The sources of a copy are those of the location, unchanged.
 struct SameSources;
 
 impl NewSources for SameSources {
@@ -47,8 +47,8 @@ fn copy_location<A: AttrText>(
 }
 
 impl<A: AttrText> Location<A> {
-    /// Returns a copy that equals the location. Fails only if it is out of memory, with `Memory`, an error of kind `InvalidArgument`. A
-    /// copy of a `SrcPos` or an `Unknown` allocates nothing and never fails.
+    /// Returns a copy that equals the location. Fails only when out of memory, with `Memory`, an error of kind `InvalidArgument`. A copy of
+    /// a `SrcPos` or an `Unknown` allocates nothing and never fails.
     pub fn try_clone(&self, alloc: Global) -> crate::result::Result<Location<A>, A>
         ensures ok { IfOk result (λ copy. location_view copy ≡ location_view self.now) }
         ensures plain { OnErr result (is_plain (location_view self.now) ≡ false) }

@@ -8,9 +8,9 @@ use crate::location::sources::{Looks, see_sources};
 use crate::location::{Location, Source, out_of_memory};
 
 impl Source {
-    /// Returns the source for the file with this path, which the context keeps from then on. Fails only if it is out of memory, with
-    /// `Memory`, an error of kind `InvalidArgument`; the context is then unchanged. A path that the context keeps already takes no
-    /// allocation, and fails only if its index needs more than 32 bits.
+    /// Returns the source for the file with this path, which the context keeps from then on. Fails only when out of memory, with `Memory`,
+    /// an error of kind `InvalidArgument`; the context is then unchanged. A path that the context keeps already needs no allocation, and
+    /// fails only if its index needs more than 32 bits.
     pub fn new_from_file<C: HasPaths<A>, A>(
         ctx: &mut C,
         path: &str,

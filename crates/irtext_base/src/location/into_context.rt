@@ -90,7 +90,7 @@ fn moved<A: AttrText>(
 
 impl Source {
     /// Returns the same source for another context. For a file, it has the key of the path in that context, which keeps the path from then
-    /// on. Fails only if it is out of memory, with `Memory`, an error of kind `InvalidArgument`; the other context is then unchanged. Never
+    /// on. Fails only when out of memory, with `Memory`, an error of kind `InvalidArgument`; the other context is then unchanged. Never
     /// fails for `InMemory`.
     pub fn clone_into_context<C: HasPaths<A>, A>(
         &self,
@@ -136,7 +136,7 @@ impl CloneIntoContext for SourcePosition {
 
 impl<A: AttrText> Location<A> {
     /// Returns the same location for another context. Each file has the key of its path in that context, which keeps the paths from then
-    /// on; those that are new to it are added in the order in which the location mentions them. Fails only if it is out of memory, with
+    /// on; those that are new to it are added in the order in which the location mentions them. Fails only when out of memory, with
     /// `Memory`, an error of kind `InvalidArgument`; the other context is then unchanged. Never fails for `Unknown` or a position in a text
     /// in memory.
     pub fn clone_into_context<C: HasPaths<A>>(

@@ -129,8 +129,8 @@ impl Paths {
         self.alloc
     }
 
-    /// Returns the key of a path, which is kept from then on. A path that is kept already has the key that it had, and takes no allocation.
-    /// If it is out of memory, or the index of the path needs more than 32 bits, it fails and the paths are unchanged.
+    /// Returns the key of a path, which is kept from then on. A path that is kept already has the key that it had, and needs no allocation.
+    /// When out of memory, or if the index of the path needs more than 32 bits, it fails and the paths are unchanged.
     pub fn keep(&mut self, path: &str) -> Result<PathKey, AllocError>
         ensures key { IfOk result (λ key. key.index ≡ path_index self.old path.now) }
         ensures kept { OnOk result (self.new ≡ with_path self.old path.now) }

@@ -7,7 +7,7 @@ use crate::base::AttrObj;
 use crate::location::Location;
 use std::mem;
 
-/// The locations that were nested in one that was taken apart, and what else is needed to put one in its place.
+/// The parts of a location: the locations that are nested in it, in the boxes from which a location of the chain is built again.
 enum Parts<A> {
     Leaf,
     Many(Box<Option<AttrObj<A>>>, Box<Vec<Location<A>>>),

@@ -130,7 +130,7 @@ fn all_but_last_fused<'a, A: PartialEq>(
     all_but_last_of_rows(locations, row)
 }
 
-/// The same for two rows of locations, but not the last location of each.
+/// Compares two rows of locations, but not the last location of each. Returns what is left to compare.
 #[cycle(same)]
 fn all_but_last_of_rows<'a, A: PartialEq>(a: &'a [Location<A>], b: &'a [Location<A>]) -> Left<'a, A>
     ensures same { left_same A.eq result ≡ same_rows A.eq (in_row (map location_view a.now)) (in_row (map location_view b.now)) }

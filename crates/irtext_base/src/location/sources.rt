@@ -202,7 +202,7 @@ impl<A> Location<A> {
     }
 
     /// Returns the distinct sources of the location, in the order in which it first mentions them. What its metadata mentions doesn't
-    /// count. Fails only if it is out of memory, with `Memory`, an error of kind `InvalidArgument`, and never if the location mentions no
+    /// count. Fails only when out of memory, with `Memory`, an error of kind `InvalidArgument`, and never if the location mentions no
     /// source. Recurses as `source` does, but only if an allocation failed.
     pub fn sources(&self, alloc: Global) -> crate::result::Result<Vec<Source>, A>
         ensures ok { IfOk result (λ found. found.items ≡ sources self.now) }

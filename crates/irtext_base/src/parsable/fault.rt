@@ -7,8 +7,11 @@ use crate::result::Cause;
 /// committed, the stream has failed.
 #[derive(Drop)]
 pub struct ParseFault<A> {
+    /// The line and the column of the error.
     pub pos: SourcePosition,
+    /// What is wrong there.
     pub cause: Cause<A>,
+    /// Whether the stream has failed, so that no other parser may be tried.
     pub committed: bool,
 }
 

@@ -154,8 +154,8 @@ impl<A: Drop> AttributeDict<A> {
     }
 
     /// Puts an attribute under a key: in place of the one that is there, or else as the last entry. If the key is `builtin_given_names` and
-    /// the attribute is not `GivenNames`, the error is `ReservedKey` with the key. If the key is another one and it is out of memory, the
-    /// error is `Memory`. On an error the dictionary is unchanged. Given names under their key need no allocation, and never fail.
+    /// the attribute is not `GivenNames`, the error is `ReservedKey` with the key. For any other key, the error is `Memory` when out of
+    /// memory. On an error the dictionary is unchanged. Given names under their key need no allocation, and never fail.
     pub fn insert(&mut self, key: Identifier, attr: AttrObj<A>) -> Result<(), Refusal>
         ensures entries { OnOk result (self.new ≡ insert_entry bytes_eq self.old key attr) }
         ensures allowed { OnOk result (is_reserved_for key attr ≡ false) }

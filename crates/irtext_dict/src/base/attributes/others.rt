@@ -118,7 +118,7 @@ fn put_all<A: Drop>(map: &mut Table<A>, entries: Vec<Entry<A>>)
     }
 }
 
-/// Moves the entries to a map, and puts one more into it. If it is out of memory, the entries are unchanged.
+/// Moves the entries to a map, and puts one more into it. When out of memory, the entries are unchanged.
 fn widened<A: Drop>(
     few: &mut Vec<Entry<A>>,
     alloc: Global,
@@ -199,8 +199,8 @@ impl<A: Drop> Others<A> {
         }
     }
 
-    /// Puts an attribute under a key: in place of the one that is there, or else as the last entry. If it is out of memory, it fails and
-    /// the entries are unchanged.
+    /// Puts an attribute under a key: in place of the one that is there, or else as the last entry. When out of memory, it fails and the
+    /// entries are unchanged.
     pub(crate) fn put(
         &mut self,
         alloc: Global,
