@@ -11,7 +11,7 @@ use crate::position::{Place, SourcePosition};
 use crate::stream::TextStream;
 use std::alloc::Global;
 
-/// A character stream that parsers read. An implementor may hold more than the stream; these calls leave that unchanged.
+/// A stream of characters for parsers. An implementor may hold more than the stream; these calls leave that unchanged.
 pub trait CharStream {
     // the stream as the contracts see it
     ghost view: { Self → StreamView };
