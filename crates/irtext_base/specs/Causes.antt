@@ -1,4 +1,4 @@
--- The texts of causes and errors, in bytes.
+-- The messages of causes and errors, in bytes.
 use Rattle.std.specs.Prelude.{ℕ, Option, Some, None, List, ◌++◌, codes, string_bytes}
 use Rattle.std.specs.Fmt.{decimal}
 use Rattle.std.specs.Char.{encode_utf8}
@@ -18,7 +18,7 @@ use Rattle.irtext_base.specs.declared.parsable.names.ParserNameTrackerError.TheV
 use Rattle.irtext_base.specs.declared.result.Error.{Error}
 pub use Rattle.irtext_stream.specs.Places.{position_text}
 
--- what a dictionary refuses, as a cause
+-- why a dictionary rejects an entry, as a cause
 abbrev pub cause_of : {A : Type 0} → Refusal → Cause A
 cause_of (refusal.ReservedKey key) = ReservedKey key
 cause_of refusal.Memory = Memory
@@ -27,7 +27,7 @@ cause_of refusal.Memory = Memory
 abbrev pub id_text : OpId → List ℕ
 id_text id = id.dialect ++ (codes "." ++ id.name)
 
--- the text of a kind
+-- the message of a kind of error
 abbrev pub kind_text : ErrorKind → List ℕ
 kind_text InvalidInput = codes "invalid input program"
 kind_text VerificationFailed = codes "verification failed"
@@ -38,7 +38,7 @@ abbrev pub found_text : Option ℕ → List ℕ
 found_text None = codes "end of input"
 found_text (Some c) = codes "`" ++ (encode_utf8 c ++ codes "`")
 
--- a fixed text between backquotes, or the word for a thing
+-- a fixed text between backquotes, or the words for another thing that is expected
 abbrev pub expected_text : Expected → List ℕ
 expected_text (expected.Text text) = codes "`" ++ (text.bytes ++ codes "`")
 expected_text (expected.Literal text) = codes "`" ++ (string_bytes text ++ codes "`")
@@ -55,7 +55,7 @@ expected_text expected.Type = codes "type"
 expected_text expected.Attribute = codes "attribute"
 expected_text expected.EndOfInput = codes "end of input"
 
--- an error's text over its cause's
+-- the message of an error, with the message of its cause on the next line
 abbrev pub headed : ErrorKind → List ℕ → List ℕ
 headed kind cause = codes "Compilation error: " ++ (kind_text kind ++ (codes ".\n" ++ cause))
 
@@ -70,20 +70,20 @@ condition_text condition.C6 = codes "C6"
 condition_text condition.C7 = codes "C7"
 condition_text condition.C8 = codes "C8"
 
--- the text of a refused format
+-- the message of a format that is rejected
 abbrev pub format_fault_text : format_fault.FormatFault → List ℕ
 format_fault_text fault = codes "Format refused by condition " ++ condition_text fault
 
--- the text of a name without definition
+-- the message of a name without a definition
 abbrev pub unresolved_text : reference.UnresolvedReference → List ℕ
 unresolved_text name = codes "Identifier " ++ (name.0 ++ codes " was not resolved to any definition in the scope")
 
--- the text of what a scope refuses
+-- the message of what a scope rejects
 abbrev pub name_tracker_text : tracker.ParserNameTrackerError → List ℕ
 name_tracker_text (tracked.MultipleDefinitions name) = codes "Identifier " ++ (name ++ codes " defined more than once in the scope")
 name_tracker_text tracked.TopLevelOpRegionNotIsolatedFromAbove = codes "Regions in a top-level operation must be IsolatedFromAbove"
 
--- the text of a cause
+-- the message of a cause
 abbrev pub cause_text : {A : Type 0} → Cause A → List ℕ
 cause_text Memory = codes "Out of memory"
 cause_text StreamFailed = codes "The stream has failed"
@@ -111,6 +111,6 @@ cause_text (Nested' p kind err loc) = headed kind (cause_text err)
 cause_text (Parse' at p cause) = codes "Parse error at " ++ (position_text at ++ (codes "\n" ++ (cause_text cause ++ codes "\n")))
 cause_text (WrongDialect id dialect) = codes "Operation " ++ (id_text id ++ (codes " is not of dialect " ++ dialect))
 
--- the text of an error
+-- the message of an error
 abbrev pub error_text : {A : Type 0} → Error A → List ℕ
 error_text error = headed error.kind (cause_text error.err)

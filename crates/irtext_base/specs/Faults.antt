@@ -1,4 +1,4 @@
--- Causes as definitions speak of them: without where their texts lie in memory.
+-- Causes as the definitions see them, without where their texts are in memory.
 use Rattle.std.specs.Prelude.{ℕ, Option, List, [], ◌∷◌, cond, string_bytes}
 use Rattle.std.specs.List.{list_all}
 use Rattle.std.specs.Char.{is_ascii}
@@ -12,7 +12,7 @@ use Rattle.irtext_base.specs.declared.result.Cause.{Cause}
 use Rattle.irtext_base.specs.declared.result.Cause as cause
 use Rattle.irtext_base.specs.declared.parsable.names.ParserNameTrackerError.TheVariants as tracked
 
--- what must stand where something else stands: a fixed text, a thing, or nothing more
+-- what is expected where something else was found: a fixed text, a thing of some kind, or the end
 pub data Demand : Type 0 where
   Word : Text → Demand
   AnIdentifier : Demand
@@ -27,11 +27,11 @@ pub data Demand : Type 0 where
   AnAttribute : Demand
   TheEnd : Demand
 
--- the characters of a fixed text; an ASCII text is its bytes
+-- the characters of a text, given by its bytes; an ASCII text is its bytes
 abbrev pub characters : List ℕ → Text
 characters bytes = cond (list_all is_ascii bytes) bytes (chars bytes)
 
--- the demand, as a cause holds it
+-- what is expected, as the definitions see it
 abbrev pub demand_of : Expected → Demand
 demand_of (expected.Text text) = Word (characters text.bytes)
 demand_of (expected.Literal text) = Word (chars (string_bytes text))
@@ -48,7 +48,7 @@ demand_of expected.Type = AType
 demand_of expected.Attribute = AnAttribute
 demand_of expected.EndOfInput = TheEnd
 
--- a cause
+-- a cause of an error
 pub data Fault : Type 0 where
   Memory : Fault
   Failed : Fault
@@ -72,11 +72,11 @@ pub data Fault : Type 0 where
   OwnText : Text → Fault
   NoReader : Fault
 
--- the id, as a cause holds it
+-- the id of an operation, as the definitions see it
 abbrev pub id_of : OpId → Id
 id_of id = record { dialect = id.dialect; name = id.name }
 
--- the cause, where a reader answers it
+-- a cause, as the definitions see it; `NoReader` if no parser returns it
 abbrev pub fault_of : {A : Type 0} → Cause A → Fault
 fault_of cause.Memory = Memory
 fault_of cause.StreamFailed = Failed
@@ -100,10 +100,12 @@ fault_of (cause.ReservedKey key) = ReservedKey key
 fault_of (cause.OwnText text) = OwnText (string_bytes text)
 fault_of _ = NoReader
 
--- why the bytes of a text are refused as an identifier: want of memory where they are one, else the first character that it can't have there, or the end
+-- why the bytes of a text are rejected as an identifier: if they are one, out of memory; otherwise the first character that can't be at its
+-- position, or the end
 abbrev pub name_refused : List ℕ → Fault
 name_refused bytes = cond (is_identifier bytes) Memory (Unexpected (stranger (chars bytes)) AnIdentifier)
 
--- why the bytes of two texts are refused as the id of an operation: as the dialect's the first is none, or else the second is none, or else for want of memory
+-- why the bytes of two texts are rejected as the id of an operation: the dialect is no identifier, or else the name is none, or else out of
+-- memory
 abbrev pub id_refused : List ℕ → List ℕ → Fault
 id_refused dialect name = cond (is_identifier dialect) (name_refused name) (name_refused dialect)

@@ -1,4 +1,4 @@
--- The visits that feed a hasher a location: what its hash feeds, and what is the same in any context.
+-- The visits that feed a location to a hasher: by its `Hash`, and by its stable hash, which is the same in any context.
 use Rattle.std.specs.Prelude.{ℕ, List, ◌++◌, fold, pos}
 use Rattle.std.specs.Hash as fed
 use Rattle.std.specs.Hash.{HashWrites}
@@ -6,7 +6,7 @@ use Rattle.irtext_base.specs.SameLocations.{fed_source}
 use Rattle.irtext_base.specs.StableHash.{source_writes, position_writes, attr_writes, metadata_writes}
 use Rattle.irtext_base.specs.Visits.{Visit}
 
--- the visit that writes what the hash of a location feeds, where the attributes feed this
+-- the visit that feeds a hasher what the `Hash` of a location does, where a caller's attribute feeds `feeds`
 abbrev pub feeding : {S A : Type 0} → (S → List ℕ → S) → (A → HashWrites) → Visit S A
 feeding write feeds = record {
   place = λ s src at. fold write s (fed.isize (pos 0) ++ (fed_source src ++ position_writes at));
@@ -16,7 +16,7 @@ feeding write feeds = record {
   unknown = λ s. fold write s (fed.isize (pos 4));
 }
 
--- the visit that writes a location by the texts of these paths
+-- the visit that feeds a hasher what the stable hash of a location does, with these paths
 abbrev pub hashing : {S A : Type 0} → (S → List ℕ → S) → (A → HashWrites) → List (List ℕ) → Visit S A
 hashing write feeds paths = record {
   place = λ s src at. fold write s (fed.u8 0 ++ (source_writes paths src ++ position_writes at));

@@ -1,15 +1,15 @@
--- The formats of operations, and which of them read uniquely.
+-- The formats of operations, and which of them are parsed in one way only.
 use Rattle.std.specs.Prelude.{◌≡◌, ℕ, suc, Bool, true, false, cond, not, ◌&&◌, ◌||◌, ◌==◌, nat_lt, if◌then◌else◌, List, [], ◌∷◌, ◌++◌, length, codes, Some, None, filter_map}
 use Rattle.std.specs.List.{list_all}
 use Rattle.std.specs.Char.{is_ascii_graphic}
 use Rattle.irtext_base.specs.Text.{Text, begins_word}
 
--- the name of an operation: its dialect, and its name there
+-- the id of an operation: its dialect and its name in the dialect
 pub record Id : Type 0 where
   pub dialect : Text
   pub name : Text
 
--- one step of a format: a fixed word, or which part of the operation is written there
+-- one step of a format: a fixed word, or the part of the operation that is printed there
 pub data Directive : Type 0 where
   word : Text → Directive
   operand : ℕ → Directive
@@ -23,12 +23,12 @@ pub data Directive : Type 0 where
   regions : Directive
   header : Directive
 
--- how an operation is written: the form that any operation has, or a list of directives of its own
+-- how an operation is printed: in the canonical form, which any operation has, or by a list of directives of its own
 pub data Format : Type 0 where
   canonical : Format
   custom : List Directive → Format
 
--- tests on lists
+-- the two texts are the same
 abbrev pub same_text : Text → Text → Bool
 same_text [] [] = true
 same_text (c ∷ s) (d ∷ t) = (c == d) && same_text s t
@@ -44,28 +44,28 @@ abbrev pub distinct : {X : Type 0} → (X → X → Bool) → List X → Bool
 distinct same [] = true
 distinct same (x ∷ xs) = not (has same x xs) && distinct same xs
 
--- `0` to one below the length, each once, in any order
+-- the elements are the numbers below the length of the list, each once, in any order
 abbrev pub are_places : List ℕ → Bool
 are_places ks = distinct ◌==◌ ks && list_all (λ k. nat_lt k (length ks)) ks
 
--- from n on, ascending by one
+-- the elements are n, n + 1 and so on, in this order
 abbrev pub ascend : ℕ → List ℕ → Bool
 ascend n [] = true
 ascend n (k ∷ ks) = (k == n) && ascend (suc n) ks
 
--- what the directives of one kind name
+-- the indices of the operands that have a directive of their own
 abbrev pub operand_places : List Directive → List ℕ
 operand_places = filter_map (λ d. elim d [ operand i ↦ Some i | _ ↦ None ])
 
--- the places of the successors that have a directive of their own
+-- the indices of the successors that have a directive of their own
 abbrev pub successor_places : List Directive → List ℕ
 successor_places = filter_map (λ d. elim d [ successor i ↦ Some i | _ ↦ None ])
 
--- the places of the results whose types have a directive
+-- the indices of the results whose types have a directive
 abbrev pub type_places : List Directive → List ℕ
 type_places = filter_map (λ d. elim d [ result_type i ↦ Some i | _ ↦ None ])
 
--- the places of the regions that have a directive of their own
+-- the indices of the regions that have a directive of their own
 abbrev pub region_places : List Directive → List ℕ
 region_places = filter_map (λ d. elim d [ region i ↦ Some i | _ ↦ None ])
 
@@ -89,57 +89,57 @@ is_regions d = elim d [ regions ↦ true | _ ↦ false ]
 abbrev pub is_dictionary : Directive → Bool
 is_dictionary d = elim d [ dictionary ↦ true | _ ↦ false ]
 
--- the directive is the symbol's name behind `@`
+-- the directive is the symbol's name after `@`
 abbrev pub is_header : Directive → Bool
 is_header d = elim d [ header ↦ true | _ ↦ false ]
 
--- the directive writes one region, or all that are left
+-- the directive prints one region, or all that are left
 abbrev pub is_any_region : Directive → Bool
 is_any_region d = elim d [ region i ↦ true | regions ↦ true | _ ↦ false ]
 
--- the directive writes a list, which may be empty
+-- the directive prints a list, which may be empty
 abbrev pub is_list : Directive → Bool
 is_list d = elim d [ operands ↦ true | successors ↦ true | regions ↦ true | _ ↦ false ]
 
--- how many directives pass the test
+-- the number of directives that pass the test
 abbrev pub count : (Directive → Bool) → List Directive → ℕ
 count test [] = 0
 count test (d ∷ ds) = cond (test d) (suc (count test ds)) (count test ds)
 
--- no directive that passes `late` is followed by one that passes `early`
+-- no directive that passes `late` has one after it that passes `early`
 abbrev pub none_behind : (Directive → Bool) → (Directive → Bool) → List Directive → Bool
 none_behind late early [] = true
 none_behind late early (d ∷ ds) = (not (late d) || list_all (λ e. not (early e)) ds) && none_behind late early ds
 
--- C1 to C7
+-- if the directive is a fixed word, it is one or more printable ASCII characters
 abbrev pub word_prints : Directive → Bool
 word_prints d = elim d [ word s ↦ nat_lt 0 (length s) && list_all is_ascii_graphic s | _ ↦ true ]
 
--- C1: each fixed word is printable ASCII, with one character at least
+-- C1: each fixed word is one or more printable ASCII characters
 abbrev pub c1 : List Directive → Bool
 c1 ds = list_all word_prints ds
 
--- C2: the single operands are those of places 0, 1 and so on, each once, and there is one list of operands at most
+-- C2: the indices of single operands are 0, 1 and so on, each once, in any order, and there is at most one list of operands
 abbrev pub c2 : List Directive → Bool
 c2 ds = are_places (operand_places ds) && nat_lt (count is_operands ds) 2
 
--- C3: the same of successors
+-- C3: the same for successors
 abbrev pub c3 : List Directive → Bool
 c3 ds = are_places (successor_places ds) && nat_lt (count is_successors ds) 2
 
--- C4: the result types are those of places 0, 1 and so on, each once
+-- C4: the indices of result types are 0, 1 and so on, each once, in any order
 abbrev pub c4 : List Directive → Bool
 c4 ds = are_places (type_places ds)
 
--- C5: the single regions stand in the order of their places, and behind them one list of regions at most
+-- C5: the indices of single regions are 0, 1 and so on, in this order, and there is at most one list of regions, after all of them
 abbrev pub c5 : List Directive → Bool
 c5 ds = ascend 0 (region_places ds) && nat_lt (count is_regions ds) 2 && none_behind is_regions (λ d. elim d [ region i ↦ true | _ ↦ false ]) ds
 
--- the key of the names that were given to results or arguments
+-- the key of the given names of results or arguments
 abbrev pub given_names_key : Text
 given_names_key = codes "builtin_given_names"
 
--- the key under which a section gives a block's label
+-- the key under which a section has a block's label
 abbrev pub block_label_key : Text
 block_label_key = codes "builtin_block_label"
 
@@ -147,18 +147,18 @@ block_label_key = codes "builtin_block_label"
 abbrev pub sym_name_key : Text
 sym_name_key = codes "builtin_sym_name"
 
--- C6: no key is written twice or is the one of given names, there is one dictionary and one header at most, and the header's key has no directive beside it
+-- C6: no key comes twice or is the one of given names, there are at most one dictionary and at most one header, and beside a header there
+-- is no directive for the key of a symbol's name
 abbrev pub c6 : List Directive → Bool
 c6 ds = distinct same_text (keys ds) && not (has same_text given_names_key (keys ds))
     && nat_lt (count is_dictionary ds) 2 && nat_lt (count is_header ds) 2
     && (not (nat_lt 0 (count is_header ds)) || not (has same_text sym_name_key (keys ds)))
 
--- C7: no name and no type stands behind a region
+-- C7: no name and no type comes after a region
 abbrev pub c7 : List Directive → Bool
 c7 ds = none_behind is_any_region (λ d. elim d [ operand i ↦ true | operands ↦ true | successor i ↦ true | successors ↦ true | result_type i ↦ true | _ ↦ false ]) ds
 
--- C8. Which characters can begin what a directive writes, and which continue a list. All letters and `_` go together, so a
--- set is a list of characters in which `_` stands for them.
+-- The kind of a character, for C8: all letters and `_` are of one kind, which is `_`; each other character is its own kind.
 abbrev pub kind : ℕ → ℕ
 kind c = cond (begins_word c) 95 c
 
@@ -167,7 +167,7 @@ abbrev pub first_kinds : Text → List ℕ
 first_kinds [] = []
 first_kinds (c ∷ s) = kind c ∷ []
 
--- the kinds of characters that begin what the directive writes
+-- the kinds of the characters with which what the directive prints can begin
 abbrev pub beginnings : Directive → List ℕ
 beginnings (word s) = first_kinds s
 beginnings (operand i) = codes "_"
@@ -181,14 +181,15 @@ beginnings (region i) = codes "{"
 beginnings regions = codes "{"
 beginnings header = codes "@"
 
--- the kinds of characters by which a list of the directive's goes on
+-- the kinds of the characters with which a list of the directive can continue
 abbrev pub continuings : Directive → List ℕ
 continuings operands = codes "_,"
 continuings successors = codes "^,"
 continuings regions = codes "{"
 continuings _ = []
 
--- what can stand behind these directives' beginning: of the first, and of the next as long as they may write nothing
+-- the kinds of the characters that can come first in what these directives print, with what comes after the operation: those of the first
+-- directive, and those of the next ones as long as each before may print nothing
 abbrev pub followers : List Directive → List ℕ
 followers [] = codes "!;}^"
 followers (d ∷ ds) = beginnings d ++ cond (is_list d) (followers ds) []
@@ -197,16 +198,16 @@ followers (d ∷ ds) = beginnings d ++ cond (is_list d) (followers ds) []
 abbrev pub disjoint : List ℕ → List ℕ → Bool
 disjoint cs ds = list_all (λ c. not (has ◌==◌ c ds)) cs
 
--- C8: what can stand behind a list neither begins its next item nor separates it
+-- C8: no character that can come after a list can continue it
 abbrev pub c8 : List Directive → Bool
 c8 [] = true
 c8 (d ∷ ds) = disjoint (continuings d) (followers ds) && c8 ds
 
--- The first condition that fails, by its number; 0 where none does.
+-- The number of the first condition that the format fails, or 0 if it fails none.
 abbrev pub first_fault : Format → ℕ
 first_fault canonical = 0
 first_fault (custom ds) = if c1 ds then (if c2 ds then (if c3 ds then (if c4 ds then (if c5 ds then (if c6 ds then (if c7 ds then (if c8 ds then 0 else 8) else 7) else 6) else 5) else 4) else 3) else 2) else 1
 
--- the format meets all its conditions
+-- the format meets all conditions
 abbrev pub Accepted : Format → Type 0
 Accepted format = first_fault format ≡ 0

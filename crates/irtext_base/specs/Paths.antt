@@ -1,4 +1,4 @@
--- The paths of files that a context keeps, each in bytes, and the locations whose sources are among them.
+-- The file paths that a context keeps, each in bytes, and the locations whose files are among them.
 use Rattle.std.specs.Prelude.{◌≡◌, ◌≤◌, ◌^◌, ◌⊎◌, ℕ, Bool, true, false, ◌&&◌, nat_lt, Option, Some, None, List, [], ◌∷◌, ◌++◌, length, position, slice_get, map, string_bytes, String}
 use Rattle.std.specs.HashSet.{HashSet}
 use Rattle.std.specs.declared.alloc.Global.{Global}
@@ -8,48 +8,48 @@ use Rattle.irtext_base.specs.declared.location.Source.{Source}
 use Rattle.irtext_base.specs.declared.location.Source.TheVariants.{File, InMemory}
 use Rattle.irtext_base.specs.Locations.{LocationOf, LocationView, sourced, src_pos, fused, named, call_site, unknown, LocationViews, no_location, location}
 
--- the texts of paths
+-- the paths of a set, each in bytes
 abbrev pub path_texts : {S : Type 0} → HashSet (String Global) S → List (List ℕ)
 path_texts paths = map string_bytes paths.keys
 
--- each path stays under its key
+-- each path keeps its key
 abbrev pub KeepsPaths : List (List ℕ) → List (List ℕ) → Type 0
 KeepsPaths old new = (i : ℕ) (path : List ℕ) → slice_get old i ≡ Some path → slice_get new i ≡ Some path
 
--- the index of a path that was found, or else the next one
+-- the index of a path that was found, or else the next index
 abbrev pub index_or_next : Option ℕ → List (List ℕ) → ℕ
 index_or_next (Some i) paths = i
 index_or_next None paths = length paths
 
--- the paths, with one more behind them where none was found
+-- the paths, with one more at the end if it was not found
 abbrev pub found_or_last : Option ℕ → List (List ℕ) → List ℕ → List (List ℕ)
 found_or_last (Some i) paths path = paths
 found_or_last None paths path = paths ++ path ∷ []
 
--- the index of a path once it is kept
+-- the index that a path has or gets
 abbrev pub path_index : List (List ℕ) → List ℕ → ℕ
 path_index paths path = index_or_next (position (bytes_eq path) paths) paths
 
--- the paths once one more is kept: equal ones are kept once, and a new one is the last
+-- the paths with one more, at the end if it is new
 abbrev pub with_path : List (List ℕ) → List ℕ → List (List ℕ)
 with_path paths path = found_or_last (position (bytes_eq path) paths) paths path
 
--- a path that a context may refuse to keep: it is not kept yet, or its index takes more than 32 bits
+-- keeping the path may fail: it is not kept yet, or its index needs more than 32 bits
 abbrev pub MayBeRefused : List (List ℕ) → List ℕ → Type 0
 MayBeRefused paths path = (list_any (bytes_eq path) paths ≡ false) ⊎ (2 ^ 32 ≤ path_index paths path)
 
--- the path of a source, where it is a file whose path is kept
+-- the path of a source, if it is a file whose path is kept
 abbrev pub path_of : List (List ℕ) → Source → Option (List ℕ)
 path_of paths (File key) = slice_get paths key.index
 path_of paths InMemory = None
 
--- the source is in memory, or its key is that of one of so many paths
+-- the source is in memory, or its key is below this number
 abbrev pub is_known : ℕ → Source → Bool
 is_known count (File key) = nat_lt key.index count
 is_known count InMemory = true
 
 abbrev mutual
-  -- each source that the location mentions is so
+  -- the same for each source that the location mentions
   pub are_known : {A : Type 0} → ℕ → LocationView A → Bool
   are_known count (src_pos src pos) = is_known count src
   are_known count (fused metadata locations) = row_known count locations
@@ -57,15 +57,15 @@ abbrev mutual
   are_known count (call_site callee caller) = are_known count callee && are_known count caller
   are_known count unknown = true
 
-  -- the same of each location in a row
+  -- the same for each location of a row
   pub row_known : {A : Type 0} → ℕ → LocationViews A → Bool
   row_known count no_location = true
   row_known count (location l ls) = are_known count l && row_known count ls
 
--- a location whose files are named by the bytes of their paths; a source without a path is in memory
+-- a location whose files are given by the bytes of their paths; a source without a path is in memory
 abbrev pub Written : Type 0 → Type 0
 Written A = LocationOf (Option (List ℕ)) A
 
--- the location as its text says it, where a context keeps these paths
+-- the location with the paths of its files in place of their keys, where these are the paths
 abbrev pub written_with : {A : Type 0} → List (List ℕ) → LocationView A → Written A
 written_with paths l = sourced (path_of paths) l

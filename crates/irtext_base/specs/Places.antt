@@ -1,2 +1,2 @@
--- Where a place of a stream stands.
+-- Positions in a stream.
 pub use Rattle.irtext_stream.specs.Places.{StandsBehind, IsPlaceOf}

@@ -1,4 +1,4 @@
--- What is left of a comparison of two locations, and how much that is.
+-- What is left to compare of two locations, and a measure of it.
 use Rattle.std.specs.Prelude.{ℕ, suc, Bool, List, Option, map}
 use Rattle.irtext_base.specs.declared.base.attributes.AttrObj.{AttrObj}
 use Rattle.irtext_base.specs.declared.location.Location.{Location}
@@ -8,12 +8,12 @@ use Rattle.irtext_base.specs.Locations.{LocationView, fused, location_view, attr
 use Rattle.irtext_base.specs.SameLocations.{same_view}
 use Rattle.irtext_base.specs.Weights.{weight_of}
 
--- what the rest of a comparison answers
+-- whether what is left to compare is equal
 abbrev pub left_same : {A : Type 0} → (A → A → Bool) → Left A → Bool
 left_same E (Known same) = same
 left_same E (Last l k) = same_view E (location_view l.now) (location_view k.now)
 
--- the weight of what is left of a comparison
+-- the measure of what is left to compare
 abbrev pub left_weight : {A : Type 0} → Left A → ℕ
 left_weight (Known same) = 0
 left_weight (Last l k) = suc (weight_of l.now)

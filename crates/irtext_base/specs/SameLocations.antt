@@ -1,4 +1,5 @@
--- When two locations are equal, and what the hash of one feeds a hasher, by the same of the caller's attributes; and the laws of both.
+-- When two locations are equal, and what the `Hash` of one feeds a hasher, given the same for the caller's attributes; and the proofs that
+-- this is an equivalence and that equal locations feed the same.
 use Rattle.std.specs.Prelude.{◌≡◌, ℕ, suc, Bool, true, false, ◌&&◌, Option, Some, None, List, [], ◌++◌, pos, refl}
 use Rattle.std.proofs.Common.{ap, ap₂, sym, true≢false}
 use Rattle.std.specs.Cmp.{IsPartialEquivalence, IsEquivalence, partial_equiv_from_equiv, equiv, first_so, second_so, nat_eq_equiv, int_eq_equiv, unsigned_Decides, signed_Decides}
@@ -14,7 +15,7 @@ use Rattle.irtext_base.specs.declared.location.Source.TheVariants.{File, InMemor
 use Rattle.irtext_base.specs.Locations.{AttrView, given_names, ident, own, LocationView, LocationViews, src_pos, fused, named, call_site, unknown, no_location, location, same_source}
 use Rattle.irtext_base.specs.StableHash.{position_writes, attr_writes, row_len}
 
--- the two are one position
+-- the two positions are the same
 abbrev pub same_position : SourcePosition → SourcePosition → Bool
 same_position p q = int_eq p.line q.line && int_eq p.column q.column
 
@@ -36,7 +37,7 @@ module _ {A : Type 0} (E : A → A → Bool) where
     same_view unknown unknown = true
     same_view _ _ = false
 
-    -- the two rows are of equal length, and equal one by one
+    -- the two rows have the same length and are equal element by element
     pub same_rows : LocationViews A → LocationViews A → Bool
     same_rows no_location no_location = true
     same_rows (location l ls) (location k ks) = same_view l k && same_rows ls ks
@@ -205,7 +206,7 @@ module _ {A : Type 0} (E : A → A → Bool) (p : IsPartialEquivalence E) where
         (view_trans a1 a2 a3 (first_so (same_view E a1 a2) (same_rows E b1 b2) h) (first_so (same_view E a2 a3) (same_rows E b2 b3) g))
         (rows_trans b1 b2 b3 (second_so (same_view E a1 a2) (same_rows E b1 b2) h) (second_so (same_view E a2 a3) (same_rows E b2 b3) g))
 
-  -- the test is symmetric and transitive where that of the attributes is
+  -- the equality of locations is symmetric and transitive if that of the caller's attributes is
   pub view_per : IsPartialEquivalence (same_view E)
   view_per = record { symm = view_symm; trans = view_trans }
 
@@ -227,18 +228,18 @@ module _ {A : Type 0} (E : A → A → Bool) (e : IsEquivalence E) where
     rows_itself no_location = refl
     rows_itself (location l ls) = both_so (same_view E l l) (same_rows E ls ls) (view_itself l) (rows_itself ls)
 
-  -- the test is an equivalence where that of the attributes is
+  -- the equality of locations is an equivalence if that of the caller's attributes is
   pub view_equiv : IsEquivalence (same_view E)
   view_equiv = equiv (view_per E (partial_equiv_from_equiv e)) view_itself
 
--- the writes for a source: 0 and the key of a file's path, or 1
+-- what a source feeds a hasher: 0 and the key of a file's path, or 1
 abbrev pub fed_source : Source → HashWrites
 fed_source (File key) = fed.isize (pos 0) ++ fed.u32 key.index
 fed_source InMemory = fed.isize (pos 1)
 
 module _ {A : Type 0} (feeds : A → HashWrites) where
   abbrev mutual
-    -- the writes for a location: the number of its case, and then its parts in order
+    -- what a location feeds a hasher: the number of its variant, and then its parts in order
     pub fed_view : LocationView A → HashWrites
     fed_view (src_pos src at) = fed.isize (pos 0) ++ (fed_source src ++ position_writes at)
     fed_view (fused metadata locations) = fed.isize (pos 1) ++ (fed.option (attr_writes feeds) metadata ++ (fed.usize (row_len locations) ++ fed_rows locations))
@@ -246,7 +247,7 @@ module _ {A : Type 0} (feeds : A → HashWrites) where
     fed_view (call_site callee caller) = fed.isize (pos 3) ++ (fed_view callee ++ fed_view caller)
     fed_view unknown = fed.isize (pos 4)
 
-    -- the writes for the locations of a row, one behind the other
+    -- what the locations of a row feed a hasher, one after the other
     pub fed_rows : LocationViews A → HashWrites
     fed_rows no_location = []
     fed_rows (location l ls) = fed_view l ++ fed_rows ls
@@ -292,7 +293,7 @@ module _ {A : Type 0} (E : A → A → Bool) (feeds : A → HashWrites) (f : (x 
   len_fed (location l ls) (location k ks) h = ap suc (len_fed ls ks (second_so (same_view E l k) (same_rows E ls ks) h))
 
   mutual
-    -- equal locations are fed alike
+    -- equal locations feed the same to a hasher
     pub view_fed : (k l : LocationView A) → same_view E k l ≡ true → fed_view feeds k ≡ fed_view feeds l
     view_fed (src_pos a1 b1) (src_pos a2 b2) h = ap₂ (λ v w. fed.isize (pos 0) ++ (v ++ w)) (source_fed a1 a2 (first_so (same_source a1 a2) (same_position b1 b2) h)) (position_fed b1 b2 (second_so (same_source a1 a2) (same_position b1 b2) h))
     view_fed (src_pos a1 b1) (fused a2 b2) h = absurd (true≢false (sym h))

@@ -8,7 +8,7 @@ use Rattle.irtext_base.specs.Locations.{LocationView, LocationViews, same_source
 use Rattle.irtext_base.specs.Paths.{is_known}
 use Rattle.irtext_base.specs.Visits.{visited, row_visited, of_sources}
 
--- how many distinct sources a list has
+-- how many sources a list of distinct sources has
 abbrev pub seen_of : List Source → Seen
 seen_of [] = Nothing
 seen_of (s ∷ []) = One s
@@ -20,15 +20,15 @@ more_seen Nothing s = One s
 more_seen (One t) s = cond (same_source s t) (One t) Several
 more_seen Several s = Several
 
--- the same with those that a location mentions
+-- the same with the sources that a location mentions
 abbrev pub all_seen : {A : Type 0} → Seen → LocationView A → Seen
 all_seen = visited (of_sources more_seen)
 
--- the same with those that the locations of a row mention
+-- the same with the sources that the locations of a row mention
 abbrev pub row_seen : {A : Type 0} → Seen → LocationViews A → Seen
 row_seen = row_visited (of_sources more_seen)
 
--- the source, where one alone was seen
+-- the source, if exactly one was seen
 abbrev pub one_seen : Seen → Option Source
 one_seen Nothing = None
 one_seen (One s) = Some s

@@ -1,4 +1,4 @@
--- Copies of locations with other sources: what they are, and what the locations that are open on the way still make of them.
+-- Copies of locations with other sources: what they are, and what the open frames still make of the copy inside them.
 use Rattle.std.specs.Prelude.{◌≡◌, ℕ, ◌+◌, suc, Bool, true, ◌&&◌, List, [], ◌∷◌, fold, length, map, string_bytes, Vec}
 use Rattle.std.specs.declared.alloc.Global.{Global}
 use Rattle.irtext_base.specs.declared.location.Location.{Location}
@@ -12,20 +12,20 @@ use Rattle.irtext_base.specs.Locations.{LocationOf, LocationsOf, LocationView, L
 use Rattle.irtext_base.specs.Paths.{is_known, path_of}
 use Rattle.irtext_base.specs.Moves.{source_under, path_kept}
 
--- what becomes of the sources of a location, where W is the state that changes from source to source
+-- how the sources of a location are replaced, where W is the state that changes from source to source
 pub record Rule (W : Type 0) : Type 0 where
   -- whether the source is known
   pub known : Source → Bool
-  -- the source that stands in the copy
+  -- the source in the copy
   pub image : W → Source → Source
-  -- the state behind it
+  -- the state after it
   pub after : W → Source → W
 
--- each source stays as it is
+-- each source is unchanged
 abbrev pub same_sources : {W : Type 0} → Rule W
 same_sources = record { known = λ _. true; image = λ _ s. s; after = λ w _. w }
 
--- each file is under the key that other paths have for its path or give it
+-- each file has the key that its path has or gets among other paths
 abbrev pub moving : List (List ℕ) → Rule (List (List ℕ))
 moving from = record {
   known = is_known (length from);
@@ -33,21 +33,21 @@ moving from = record {
   after = λ to s. path_kept to (path_of from s);
 }
 
--- what is made, the state behind it, and whether all sources on the way are known
+-- a value that is built, the state after it, and whether all its sources are known
 pub record Taken (W X : Type 0) : Type 0 where
   pub known : Bool
   pub value : X
   pub after : W
 
--- what is there already
+-- a value that takes no source: the state is unchanged
 abbrev pub still : {W X : Type 0} → X → W → Taken W X
 still x w = record { known = true; value = x; after = w }
 
--- something made of what is made
+-- a value built of another
 abbrev pub made : {W X Y : Type 0} → (X → Y) → Taken W X → Taken W Y
 made make t = record { known = t.known; value = make t.value; after = t.after }
 
--- something made of two that are made one after the other
+-- a value built of two that are built one after the other
 abbrev pub joined : {W X Y Z : Type 0} → (X → Y → Z) → Taken W X → (W → Taken W Y) → Taken W Z
 joined make t next = record {
   known = t.known && (next t.after).known;
@@ -56,7 +56,7 @@ joined make t next = record {
 }
 
 abbrev mutual
-  -- the copy of a location, whose sources are taken in the order in which it mentions them
+  -- the copy of a location, whose sources are replaced in the order in which it mentions them
   pub taken : {W A : Type 0} → Rule W → W → LocationView A → Taken W (LocationView A)
   taken r w (src_pos src pos) = record { known = r.known src; value = src_pos (r.image w src) pos; after = r.after w src }
   taken r w (fused metadata locations) = made (fused metadata) (row_taken r w locations)
@@ -64,69 +64,69 @@ abbrev mutual
   taken r w (call_site callee caller) = joined call_site (taken r w callee) (λ u. taken r u caller)
   taken r w unknown = still unknown w
 
-  -- the same of each location in a row
+  -- the same for each location of a row
   pub row_taken : {W A : Type 0} → Rule W → W → LocationViews A → Taken W (LocationViews A)
   row_taken r w no_location = still no_location w
   row_taken r w (location l ls) = joined location (taken r w l) (λ u. row_taken r u ls)
 
--- the state came from the other by some sources
+-- the new state is the old one after some sources were replaced
 pub record Reached {W : Type 0} (r : Rule W) (old new : W) : Type 0 where
   pub sources : List Source
   pub by_sources : new ≡ fold r.after old sources
 
--- these locations stand in front of a row
+-- the row with these locations in front of it
 abbrev pub in_front : {S A : Type 0} → List (LocationOf S A) → LocationsOf S A → LocationsOf S A
 in_front [] ls = ls
 in_front (k ∷ ks) ls = location k (in_front ks ls)
 
--- an open row with these locations behind the copies
+-- the copy of an open row with these locations after its copies
 abbrev pub row_with : {A : Type 0} → Row A → LocationViews A → LocationView A
 row_with row ls = fused (attr_view_in row.metadata.now) (in_front (map location_view row.copies.items) ls)
 
--- the locations that are left of an open row
+-- the locations of an open row that are left to copy
 abbrev pub row_left : {A : Type 0} → Row A → LocationViews A
 row_left row = in_row (map location_view row.left.now)
 
--- what an open row makes of the state: the copies so far, and then those of what is left
+-- the copy of an open row: the copies so far, and those of the locations that are left
 abbrev pub row_rest : {W A : Type 0} → Row A → Rule W → W → Taken W (LocationView A)
 row_rest row r w = made (row_with row) (row_taken r w (row_left row))
 
--- what an open location makes of the copy inside it
+-- what an open frame makes of the copy inside it
 abbrev pub closed : {W A : Type 0} → Rule W → Frame A → Taken W (LocationView A) → Taken W (LocationView A)
 closed r (frame.Named name) t = made (named (string_bytes name.now)) t
 closed r (frame.Callee caller) t = joined call_site t (λ u. taken r u (location_view caller.now))
 closed r (frame.Caller callee) t = made (call_site (location_view callee)) t
 closed r (frame.Fused row) t = made (row_with row) (joined location t (λ u. row_taken r u (row_left row)))
 
--- what all open locations, the outermost first, make of the copy inside them
+-- what all open frames, the outermost first in the list, make of the copy inside them
 abbrev pub resume : {W A : Type 0} → Rule W → List (Frame A) → Taken W (LocationView A) → Taken W (LocationView A)
 resume r [] t = t
 resume r (f ∷ frames) t = closed r f (resume r frames t)
 
--- this is the copy of the location
+-- this is the copy of the location, and the state after it
 abbrev pub Copies : {W A : Type 0} → Rule W → Location A → W → Location A → W → Type 0
 Copies r l w copy u = still (location_view copy) u ≡ taken r w (location_view l)
 
--- the copy of what is at hand
+-- the copy of what is inside the open frames
 abbrev pub begun : {W A : Type 0} → Rule W → Turn A → W → Taken W (LocationView A)
 begun r (Inside l) w = taken r w (location_view l.now)
 begun r (Done l) w = still (location_view l) w
 
--- what an open location makes of this copy inside it
+-- what an open frame makes of this finished copy inside it
 abbrev pub closing : {W A : Type 0} → Frame A → Location A → Rule W → W → Taken W (LocationView A)
 closing f copy r w = closed r f (still (location_view copy) w)
 
--- at each state, what is at hand inside the new open locations comes to the same as this inside the old ones
+-- from any state, what is now inside the new frames makes the same as `rest` inside the old ones
 abbrev pub Continues : {W A : Type 0} → Rule W → (Rule W → W → Taken W (LocationView A))
     → Vec (Frame A) Global → Turn A → Vec (Frame A) Global → Type 0
 Continues {W} r rest old t new = (w : W) → resume r new.items (begun r t w) ≡ resume r old.items (rest r w)
 
--- what is at hand inside the new open locations comes to the same as the location inside the old ones
+-- what is now inside the new frames makes the same as the location inside the old ones
 abbrev pub Opens : {W A : Type 0} → Rule W → Location A → W → Vec (Frame A) Global → Turn A → W → Vec (Frame A) Global → Type 0
 Opens r l w old t u new = resume r new.items (begun r t u) ≡ resume r old.items (taken r w (location_view l))
 
 abbrev mutual
-  -- the turns that a location takes: it is opened, and closed behind each location inside
+  -- the steps of the loop that a location takes: one to open it, and one after each location directly nested in it
   pub turns : {A : Type 0} → LocationView A → ℕ
   turns (src_pos src pos) = 1
   turns (fused metadata locations) = suc (all_turns locations)
@@ -134,32 +134,32 @@ abbrev mutual
   turns (call_site callee caller) = suc (suc (suc (turns callee + turns caller)))
   turns unknown = 1
 
-  -- the turns of a row
+  -- the steps of a row
   pub all_turns : {A : Type 0} → LocationViews A → ℕ
   all_turns no_location = 0
   all_turns (location l ls) = suc (turns l + all_turns ls)
 
--- the turns that are left of an open row
+-- the steps that are left of an open row
 abbrev pub row_turns : {A : Type 0} → Row A → ℕ
 row_turns row = all_turns (row_left row)
 
--- the turns that an open location takes behind the copy inside it
+-- the steps that an open frame takes after the copy inside it
 abbrev pub frame_turns : {A : Type 0} → Frame A → ℕ
 frame_turns (frame.Named name) = 1
 frame_turns (frame.Callee caller) = suc (suc (turns (location_view caller.now)))
 frame_turns (frame.Caller callee) = 1
 frame_turns (frame.Fused row) = suc (row_turns row)
 
--- the turns of all open locations
+-- the steps of all open frames
 abbrev pub stack_turns : {A : Type 0} → List (Frame A) → ℕ
 stack_turns [] = 0
 stack_turns (f ∷ frames) = frame_turns f + stack_turns frames
 
--- the turns of what is at hand
+-- the steps of what is inside the open frames
 abbrev pub turn_turns : {A : Type 0} → Turn A → ℕ
 turn_turns (Inside l) = turns (location_view l.now)
 turn_turns (Done l) = 0
 
--- all turns that are left
+-- all steps that are left
 abbrev pub work : {A : Type 0} → List (Frame A) → Turn A → ℕ
 work frames t = stack_turns frames + turn_turns t

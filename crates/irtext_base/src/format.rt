@@ -1,4 +1,4 @@
-//! The formats of operations, and the conditions that one may fail.
+//! The formats of operations, and the conditions that a format has to meet.
 ghost use Rattle.std.specs.Prelude.{Some};
 ghost use Rattle.irtext_base.specs.Causes.{format_fault_text};
 
@@ -6,60 +6,61 @@ use crate::base::Identifier;
 use std::fmt;
 use std::fmt::Display;
 
-/// One step of a format: a fixed text, or which part of the operation is written there.
+/// One step of a format: a fixed text, or the part of the operation that is parsed and printed there. Indices count from 0.
 #[derive(Drop)]
 pub enum Directive {
-    /// This text.
+    /// This text, as `->`.
     Literal(String),
-    /// The name of the operand at this place.
+    /// The name of the operand at this index, as `x_v0`.
     Operand(usize),
-    /// The names of all operands behind those that have a directive of their own.
+    /// The names of all operands after those that have a directive of their own, as `x_v0, y_v1`.
     Operands,
-    /// `^` and the label of the successor at this place.
+    /// `^` and the label of the successor at this index, as `^a_block1v1`.
     Successor(usize),
-    /// The same of all successors behind those that have a directive of their own.
+    /// The same for all successors after those that have a directive of their own, as `^a_block1v1, ^b_block2v1`.
     Successors,
     /// The attribute under this key.
     Attr(Identifier),
-    /// A dictionary of the attributes that no other directive writes.
+    /// A dictionary of the attributes that no other directive prints, as `[k: builtin.string "s"]`.
     AttrDict,
-    /// The type of the result at this place.
+    /// The type of the result at this index.
     ResultType(usize),
-    /// The region at this place.
+    /// The region at this index.
     Region(usize),
-    /// All regions behind those that have a directive of their own.
+    /// All regions after those that have a directive of their own.
     Regions,
-    /// `@` and the symbol's name.
+    /// `@` and the name of the symbol.
     SymbolHeader,
 }
 
-/// How an operation is written.
+/// How an operation is parsed and printed.
 #[derive(Drop)]
 pub enum OpFormat {
-    /// In the form that any operation has.
+    /// In the canonical form, which any operation has.
     Canonical,
     /// By these directives, one after the other.
     Custom(Vec<Directive>),
 }
 
-/// The first condition that a format fails.
+/// The first condition that a format fails. Each variant says what the condition demands.
 #[derive(Clone, Copy, PartialEq, Eq, Debug)]
 pub enum FormatFault {
-    /// A literal is one or more printing ASCII characters, none of them white space.
+    /// Each `Literal` is one or more printable ASCII characters, none of them white space.
     C1,
-    /// The places of single operands are 0 and on, each once, and there is one list of operands at most.
+    /// The indices of the `Operand` directives are 0, 1 and so on, each once, in any order; and there is at most one `Operands`.
     C2,
-    /// The places of single successors are 0 and on, each once, and there is one list of successors at most.
+    /// The indices of the `Successor` directives are 0, 1 and so on, each once, in any order; and there is at most one `Successors`.
     C3,
-    /// The places of result types are 0 and on, each once.
+    /// The indices of the `ResultType` directives are 0, 1 and so on, each once, in any order.
     C4,
-    /// The places of single regions ascend from 0 by one, and behind them stands one list of regions at most.
+    /// The indices of the `Region` directives are 0, 1 and so on, in this order; and there is at most one `Regions`, after all of them.
     C5,
-    /// No key of an attribute stands twice or is reserved, and there is one dictionary and one symbol header at most.
+    /// No key of an `Attr` comes twice, is `builtin_given_names`, or is `builtin_sym_name` beside a `SymbolHeader`; and there are at most
+    /// one `AttrDict` and at most one `SymbolHeader`.
     C6,
-    /// No operand, successor or result type stands behind a region.
+    /// No operand, successor or result type comes after a region.
     C7,
-    /// No character that can begin what follows a list goes on with the list.
+    /// No character with which the text after a list can begin could continue the list.
     C8,
 }
 

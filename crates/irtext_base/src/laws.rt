@@ -1,4 +1,4 @@
-//! What the definitions say, in other words. Each function does nothing: its contract is the statement.
+//! Laws of the definitions. Each function does nothing: its contract is what is proved.
 ghost use Rattle.std.specs.Prelude.{◌≡◌, ◌↔◌, ℕ, true, List, IsTrue, length};
 ghost use Rattle.irtext_base.specs.Locations.{LocationView, attr_view, location_view};
 ghost use Rattle.irtext_base.specs.Paths.{path_of, is_known, are_known, written_with};
@@ -12,13 +12,13 @@ use crate::location::{Location, Source};
 use crate::text::AttrText;
 use std::hash::Hash;
 
-/// Attributes and locations are equal exactly where definitions see the same of them.
+/// Two attributes are equal exactly if `attr_view` gives the same for both, and two locations exactly if `location_view` does.
 pub fn equal_where_alike<A: AttrText>()
     ensures attributes { (x y : AttrObj A) → (⟦<AttrObj<A> as PartialEq>⟧.eq x y ≡ true) ↔ (attr_view x ≡ attr_view y) }
     ensures locations { (k l : Location A) → (⟦<Location<A> as PartialEq>⟧.eq k l ≡ true) ↔ (location_view k ≡ location_view l) }
 {}
 
-/// What is equal feeds a hasher alike.
+/// Two sources, attributes or locations that are equal feed the same to a hasher.
 pub fn equal_ones_hash_alike<A: AttrText>()
     ensures sources { (s t : Source) → ⟦<Source as PartialEq>⟧.eq s t ≡ true →
         ⟦<Source as Hash>⟧.hash_input s ≡ ⟦<Source as Hash>⟧.hash_input t }
@@ -28,7 +28,7 @@ pub fn equal_ones_hash_alike<A: AttrText>()
         ⟦<Location<A> as Hash>⟧.hash_input k ≡ ⟦<Location<A> as Hash>⟧.hash_input l }
 {}
 
-/// The hash of a source or a location that is made from the texts of paths is the same in any two contexts that keep their paths.
+/// The stable hash of a source or a location, which is made from the texts of paths, is the same in any two contexts that have these paths.
 pub fn stable_hashes_agree<A: AttrText>()
     ensures sources { (paths others : List (List ℕ)) (s t : Source) →
         IsTrue (is_known (length paths) s) → IsTrue (is_known (length others) t) →

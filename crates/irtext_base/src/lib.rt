@@ -1,5 +1,5 @@
-//! What needs no context: the stream of a text, causes of refusals, locations and the paths of files, identifiers, attributes,
-//! formats as values, and the law of a caller's types and attributes.
+//! Everything of the text layer that needs no context: parse errors and their causes, source locations and file paths, identifiers,
+//! attributes, operation formats, and the traits of a caller's types and attributes with the laws that these prove.
 #![tactic(auto)]
 
 pub mod base;

@@ -1,4 +1,4 @@
-//! Where operations, blocks and errors come from.
+//! Source locations of operations, blocks and errors.
 ghost use Rattle.std.specs.Prelude.{◌≡◌, true, false};
 ghost use Rattle.std.specs.Cmp.{on_equiv, on_per};
 ghost use Rattle.irtext_base.specs.declared.location.Location.{Unknown};
@@ -24,7 +24,7 @@ use crate::result::{Cause, Error, ErrorKind};
 pub use into_context::CloneIntoContext;
 use std::hash::{Hash, Hasher};
 
-/// The key of a path that a context keeps.
+/// The key of a file path that a context keeps.
 #[derive(Clone, Copy, PartialEq, Eq, Hash, Debug)]
 pub struct PathKey {
     pub(crate) index: u32,
@@ -33,39 +33,39 @@ pub struct PathKey {
 /// What a text was read from.
 #[derive(Clone, Copy, PartialEq, Eq, Hash, Debug)]
 pub enum Source {
-    /// The file of this path.
+    /// The file with this path, as `"a.src"`.
     File(PathKey),
-    /// A text in memory.
+    /// A text in memory: `<in-memory>`.
     InMemory,
 }
 
-/// Where something comes from. Locations may stand inside one another however deep: a location is released, and its `sources` are
-/// found, by a loop. `==` and `Hash` take as much of the machine's stack as locations stand inside one another in places that
-/// aren't the last of what stands in a location, and `Debug` as much as they stand inside one another.
+/// Where something comes from. Locations may be nested to any depth: a location is dropped, and its `sources` are found, by a loop. `==`
+/// and `Hash` recurse into the nested locations, but not into the last one in each location; `Debug` recurses into all.
 #[derive(Debug)]
 #[cycle(location)]
 pub enum Location<A> {
-    /// A place of a source.
+    /// A line and a column of a source, as `"a.src": line: 3, column: 5`.
     SrcPos {
         src: Source,
         pos: SourcePosition,
     },
-    /// Several locations as one, with an attribute that says more of them.
+    /// Several locations as one, with an optional attribute that says more about them, as `fused<builtin.string "unit">[<in-memory>: line:
+    /// 1, column: 1, ?]`.
     Fused {
         metadata: Box<Option<AttrObj<A>>>,
         locations: Box<Vec<Location<A>>>,
     },
-    /// A name for what stands at another location.
+    /// A name for another location, as `name: "idle", loc: (?)`.
     Named {
         name: Box<String>,
         child_loc: Box<Location<A>>,
     },
-    /// A place in a function, and the place that called it.
+    /// The location of a callee, and the location that it was called from, as `callsite(? at ?)`.
     CallSite {
         callee: Box<Location<A>>,
         caller: Box<Location<A>>,
     },
-    /// Not known.
+    /// An unknown location: `?`.
     Unknown,
 }
 
@@ -94,13 +94,13 @@ impl<A: Hash> Hash for Location<A> {
 }
 
 impl<A: Drop> Drop for Location<A> {
-    /// Releases the location and what stands in it, by a loop that takes no memory.
+    /// Drops the location and all that are nested in it, by a loop that allocates nothing.
     fn drop(self) {
         release::release(self);
     }
 }
 
-/// The refusal of a call for want of memory.
+/// Returns the error of a call that is out of memory: cause `Memory`, kind `InvalidArgument`, no location.
 pub(crate) fn out_of_memory<A>() -> Error<A>
     ensures { result ≡ out_of_memory }
 {
@@ -112,7 +112,7 @@ pub(crate) fn out_of_memory<A>() -> Error<A>
 }
 
 impl<A> Location<A> {
-    /// Whether the location is not known.
+    /// Whether the location is `Unknown`.
     pub fn is_unknown(&self) -> bool
         ensures { result ≡ elim self.now [ Unknown ↦ true | _ ↦ false ] }
     {

@@ -1,4 +1,4 @@
-//! The stream of a text, and the faults of readers.
+//! What parsers are made with: character streams and parse errors.
 
 pub mod fault;
 pub mod names;

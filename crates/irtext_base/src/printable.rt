@@ -1,6 +1,6 @@
-//! What separates the items of a list.
+//! The separators of printed lists.
 
-/// How the items of a list are separated.
+/// How the elements of a list are separated.
 #[derive(Clone, Copy, Debug, PartialEq, Eq)]
 pub enum ListSeparator {
     /// By nothing.

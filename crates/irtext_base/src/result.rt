@@ -1,4 +1,4 @@
-//! Why a call was refused: kinds, causes and errors, with their texts.
+//! Errors: their kinds and causes, with the messages of these.
 ghost use Rattle.std.specs.Prelude.{◌≡◌, Some, MatchResult, string_bytes};
 ghost use Rattle.irtext_base.specs.Causes.{kind_text, expected_text, found_text, cause_text, error_text, cause_of};
 ghost use Rattle.irtext_base.specs.Locations.{out_of_memory};
@@ -15,23 +15,26 @@ use std::alloc::{AllocError, AllocFailed};
 use std::fmt;
 use std::fmt::Display;
 
-/// What sort of mistake an error reports.
+/// The kind of an error.
 #[derive(Clone, Copy, Debug, PartialEq, Eq)]
 pub enum ErrorKind {
+    /// The program text is invalid. Parse errors are of this kind.
     InvalidInput,
+    /// What was verified is invalid. Errors of `verify_error!` are of this kind.
     VerificationFailed,
+    /// An argument of a call is invalid, or the call is out of memory.
     InvalidArgument,
 }
 
-/// A fixed text of at most 24 bytes, which needs no memory of its own.
+/// A fixed text of at most 24 bytes, which needs no allocation.
 pub type Token = ArrayString<24>;
 
-/// What must stand where something else stands.
+/// What is expected where something else was found.
 #[derive(Debug, Drop)]
 pub enum Expected {
     /// This fixed text.
     Text(Token),
-    /// This text of a format.
+    /// This literal of a format.
     Literal(String),
     /// This character.
     Char(char),
@@ -48,92 +51,95 @@ pub enum Expected {
     EndOfInput,
 }
 
-/// A text of the caller as a cause.
+/// A message of the caller as a cause.
 #[derive(Debug, Drop)]
 pub struct StringError(pub String);
 
-/// Why a call was refused.
+/// Why a call failed.
 #[derive(Drop)]
 #[cycle(cause)]
 pub enum Cause<A> {
-    /// Memory was refused, or a counter is full.
+    /// An allocation failed, or a counter is full.
     Memory,
-    /// An earlier call left the stream failed.
+    /// An earlier call marked the stream as failed.
     StreamFailed,
-    /// A character, or the end, stands where something else must.
+    /// A character, or the end, was found where something else is expected.
     Unexpected {
         found: Option<char>,
         expected: Expected,
     },
     /// The number with this text doesn't fit its type.
     NumberRange(String),
-    /// This character behind a backslash is no escape.
+    /// This character after a backslash is no escape.
     BadEscape(char),
-    /// These hexadecimal digits name no character.
+    /// These hexadecimal digits are the number of no character.
     BadUnicodeEscape(String),
-    /// An item of a list without separator took no character.
+    /// An element of a list without a separator consumed no character.
     EmptyItem,
-    /// White space cannot separate items.
+    /// White space can't separate the elements of a list.
     BadSeparator,
-    /// No dialect has this name.
+    /// No dialect with this name is registered.
     UnregisteredDialect(Identifier),
-    /// The dialect has no operation of this name.
+    /// The dialect has no operation with this name.
     UnregisteredOp(OpId),
-    /// An operation with another number of results than of names for them.
+    /// The number of results of an operation differs from the number of names for them.
     ResultCount {
         results: usize,
         names: usize,
     },
-    /// A name outside of every region.
+    /// This name is outside of every region.
     NoActiveScope(Identifier),
     /// A name or a label that its scope doesn't define.
     UnresolvedReference(UnresolvedReference),
-    /// A scope refuses a name, or a region that has none.
+    /// A scope rejects a name, or a region can't be entered.
     ParserNameTrackerError(ParserNameTrackerError),
     /// A second mark with this index.
     DuplicateIndex(usize),
-    /// An entry for an index that no mark has, or that has an entry.
+    /// The section has an entry for an index that no mark has, or a second entry for an index.
     UnknownIndex(usize),
-    /// A reference to an index under which no attribute stands.
+    /// A reference to an index under which the section has no attribute.
     UnknownPrintOnce(usize),
-    /// A reserved key with a value of another kind.
+    /// A reserved key has a value that it may not have.
     ReservedKey(Identifier),
-    /// A type or an attribute refuses its text, for this reason.
+    /// A type or an attribute of the caller rejects its text, for this reason.
     OwnText(String),
-    /// A format that may not read uniquely, by the first condition that it fails.
+    /// A format that may be parsed in more than one way, with the first condition that it fails.
     FormatFault(FormatFault),
-    /// A text of the caller.
+    /// A message of the caller.
     Text(StringError),
-    /// A printing was refused.
+    /// Printing failed.
     Fmt,
     /// An inner error.
     Nested(Box<Error<A>>),
-    /// A refused reading, and where.
+    /// A parse error, and its position.
     Parse {
         at: SourcePosition,
         cause: Box<Cause<A>>,
     },
-    /// An operation's id that is not one of the dialect's.
+    /// The id of an operation is not one of this dialect.
     WrongDialect {
         id: OpId,
         dialect: Identifier,
     },
 }
 
-/// A refusal with its kind, and the location that it speaks of.
+/// An error: its kind, its cause, and the location that it is about.
 #[derive(Drop)]
 #[cycle(cause)]
 pub struct Error<A> {
+    /// What kind of error it is.
     pub kind: ErrorKind,
+    /// Why the call failed.
     pub err: Cause<A>,
+    /// The location that the error is about, or `Unknown`.
     pub loc: Location<A>,
 }
 
-/// What a call answers that can be refused.
+/// The result of a call that can fail.
 pub type Result<X, A> = std::result::Result<X, Error<A>>;
 
 impl<A> Cause<A> {
-    /// A text of the caller as a cause. Where there was no memory for the text, the cause is `Memory`.
+    /// Returns a message of the caller as a cause. If the message could not be made, the cause is `Memory`.
     pub fn of_text<E: Drop>(text: std::result::Result<String, E>) -> Cause<A>
         ensures { MatchResult text (λ s. result ≡ Cause.Text (record { 0 = s })) (λ _. result ≡ Cause.Memory) }
     {
@@ -145,7 +151,7 @@ impl<A> Cause<A> {
 }
 
 impl<A> Error<A> {
-    /// The location that the error speaks of.
+    /// Returns the location that the error is about.
     pub fn loc(&self) -> &Location<A>
         ensures { result.now ≡ self.now.loc }
     {
@@ -154,7 +160,7 @@ impl<A> Error<A> {
 }
 
 impl<A: Drop> Error<A> {
-    /// Says of which location the error speaks. Its kind and its cause stay.
+    /// Sets the location that the error is about. Its kind and its cause are unchanged.
     pub fn set_loc(&mut self, loc: Location<A>)
         ensures { self.new ≡ record self.old { loc = loc } }
     {
@@ -206,7 +212,7 @@ impl Display for StringError {
     }
 }
 
-/// What a fault found: a character, or the end.
+/// What a parse error found: a character, or the end.
 #[derive(Clone, Copy)]
 struct Found(Option<char>);
 
@@ -282,7 +288,7 @@ impl<A> Display for Error<A> {
     }
 }
 
-/// The same text as by `Display`.
+/// Prints the same text as `Display`.
 impl<A> fmt::Debug for Error<A> {
     ghost debug_output = { λ error. Some (error_text error) };
 
@@ -310,7 +316,7 @@ impl<A> From<Refusal> for Cause<A> {
     }
 }
 
-/// Memory that was refused, as an error of kind invalid argument without a location.
+/// Out of memory, as an error of kind `InvalidArgument` without a location.
 impl<A> From<AllocError> for Error<A> {
     ghost from_gives = { λ _ error. error ≡ out_of_memory };
 
@@ -319,7 +325,7 @@ impl<A> From<AllocError> for Error<A> {
     }
 }
 
-/// What a dictionary refuses, as an error of kind invalid argument without a location.
+/// Why a dictionary rejects an entry, as an error of kind `InvalidArgument` without a location.
 impl<A> From<Refusal> for Error<A> {
     ghost from_gives = { λ refusal error. error ≡ record { kind = InvalidArgument; err = cause_of refusal; loc = Unknown } };
 

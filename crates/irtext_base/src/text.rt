@@ -1,4 +1,4 @@
-//! The law of the caller's types and attributes: how their texts are read and written.
+//! The traits of the caller's types and attributes: how their texts are parsed and printed, and the laws of these.
 ghost use Rattle.std.specs.Prelude.{◌≡◌, ℕ, List, ◌++◌, ◌↔◌, Bool, IsTrue, MatchResult, IfOk, string_bytes};
 ghost use Rattle.std.specs.Str.{encode_utf8_all};
 ghost use Rattle.irtext_base.specs.Answers.{Outcome, Answers, unless_failed};
@@ -9,21 +9,22 @@ use std::alloc::AllocError;
 use std::fmt;
 use std::hash::Hash;
 
-/// A type or an attribute of the caller, with its texts. Each impl proves the law of these: how a text begins and that it is read
-/// back (`lawful`), that what is said of a text is of that text (`sincere`), and that equality is equality of values (`decides`).
+/// A type or an attribute of the caller, with its texts. Each impl proves the laws of these: how a text begins, and that a printed text is
+/// parsed back (`lawful`); that what the parser says about a text is about that text (`sincere`); and that `==` is equality of values
+/// (`decides`).
 pub trait IrText<A>: Sized + Drop + Eq {
-    // what a text is to `read`, from where the stream stands
+    // what `read` makes of a text that is next in the stream
     ghost reading: { List ℕ → Outcome Self };
     // the characters that `write_text` appends
     ghost written: { Self → List ℕ };
 
-    /// Reads a value where the stream stands. Where none begins, the fault is uncommitted and the stream is as it was; a text that is
-    /// bad further on, want of memory and a stream that had failed are committed faults, and the stream has failed.
+    /// Parses a value. If none begins at the stream's position, the error is not committed and the stream is unchanged. If the text is bad
+    /// further on, if an allocation fails, or if the stream had failed, the error is committed and the stream has failed.
     fn read(stream: &mut TextStream) -> ParseResult<Self, A>
         ensures { Answers (λ s. s) (λ s v. v) (λ x. x)
             (unless_failed stream.old.failed (reading stream.old.rest)) stream.old result stream.new };
 
-    /// Appends the value's text. It fails only where memory was refused.
+    /// Appends the text of the value. Fails only when out of memory.
     fn write_text(&self, f: &mut String) -> fmt::Result
         ensures { IfOk result (λ _. string_bytes f.new ≡ string_bytes f.old ++ encode_utf8_all (written self.now)) };
 
@@ -36,20 +37,20 @@ pub trait IrText<A>: Sized + Drop + Eq {
 
 /// An attribute of the caller.
 pub trait AttrText: IrText<Self> + Hash {
-    // whether it is written in the section behind the root
+    // whether it is an outlined attribute: it is printed in the section after the root
     ghost outlined: { Self → Bool };
-    // whether the section writes it once, and refers to it by its index
+    // whether it is a print-once attribute: the section prints it once, and refers to it by its index
     ghost print_once: { Self → Bool };
 
-    /// Whether the attribute is written in the section behind the root.
+    /// Whether this is an outlined attribute, which is printed in the section after the root.
     fn is_outlined(&self) -> bool
         ensures { result ≡ outlined self.now };
 
-    /// Whether the section writes the attribute once, and refers to it by its index.
+    /// Whether this is a print-once attribute, which the section prints once and refers to by its index.
     fn is_print_once(&self) -> bool
         ensures { result ≡ print_once self.now };
 
-    /// A copy that equals the attribute.
+    /// Returns a copy that equals the attribute.
     fn try_clone(&self) -> Result<Self, AllocError>
         ensures { IfOk result (λ copy. copy ≡ self.now) };
 

@@ -1,4 +1,4 @@
--- What a contract sees of a dictionary: its entries in order. One key is kept beside the others.
+-- What a contract sees of a dictionary: its entries in order. The given names are kept apart from the others.
 use Rattle.std.specs.Prelude.{◌≡◌, IsTrue, ℕ, zero, suc, ◌≤◌, Bool, true, false, not, ◌&&◌, List, [], ◌∷◌, length, Option, Some, None}
 use Rattle.std.specs.Str.{bytes_eq}
 use Rattle.irtext_base.specs.Text.{Text}
@@ -9,13 +9,13 @@ use Rattle.irtext_dict.specs.declared.base.attributes.Given.{Given}
 use Rattle.irtext_base.specs.declared.base.attributes.Refusal.{Refusal}
 use Rattle.irtext_base.specs.declared.base.attributes.Refusal.TheVariants.{Memory, ReservedKey}
 
--- a list with one more item, before the one at the index, or last where there is none
+-- a list with one more element, in front of the one at the index, or at the end if there is none
 abbrev pub spliced : {X : Type 0} → ℕ → X → List X → List X
 spliced zero e xs = e ∷ xs
 spliced (suc i) e [] = e ∷ []
 spliced (suc i) e (x ∷ xs) = x ∷ spliced i e xs
 
--- where an index stands once the item at another is gone
+-- the index of an element once the one at another index is removed
 abbrev pub closed_up : ℕ → ℕ → ℕ
 closed_up gone zero = zero
 closed_up zero (suc i) = i
@@ -26,7 +26,7 @@ abbrev pub IsAbsent : {K V : Type 0} → (K → Bool) → List (K × V) → Type
 IsAbsent test [] = Unit {0}
 IsAbsent test (e ∷ es) = (test e.0 ≡ false) × IsAbsent test es
 
--- the first key that passes the test stands at the index
+-- the first key that passes the test is at the index
 abbrev pub IsFirstAt : {K V : Type 0} → (K → Bool) → List (K × V) → ℕ → Type 0
 IsFirstAt test [] i = ⊥
 IsFirstAt test (e ∷ es) zero = test e.0 ≡ true
@@ -43,27 +43,28 @@ module _ {A : Type 0} where
   abbrev pub is_reserved_for : Text → AttrObj A → Bool
   is_reserved_for key attr = bytes_eq given_names_key key && not (are_given_names attr)
 
-  -- why the attribute is refused under the key: the key is that of the given names and the attribute is something else, or the key is another one and memory is refused
+  -- why the attribute is rejected under the key: the key is that of the given names and the attribute is something else, or the key is
+  -- another one and an allocation failed
   abbrev pub RefusesEntry : Text → AttrObj A → Refusal → Type 0
   RefusesEntry key attr (ReservedKey refused) = (refused ≡ key) × IsTrue (is_reserved_for key attr)
   RefusesEntry key attr Memory = bytes_eq given_names_key key ≡ false
 
-  -- all entries, with the given names at their place among the others
+  -- all entries, with the given names at their index among the others
   abbrev pub whole : Option (Given A) → List (Text × AttrObj A) → List (Text × AttrObj A)
   whole None others = others
   whole (Some g) others = spliced g.at (g.key, g.attr) others
 
-  -- given names, and nothing else, stand under their key, beside the others, and never among them
+  -- there are only given names under their key, apart from the other entries, which do not have that key
   abbrev pub IsSound : Option (Given A) → List (Text × AttrObj A) → Type 0
   IsSound None others = IsAbsent (bytes_eq given_names_key) others
   IsSound (Some g) others = (g.key ≡ given_names_key) × (g.at ≤ length others) × IsAbsent (bytes_eq given_names_key) others × (are_given_names g.attr ≡ true)
 
-  -- the given names with a new attribute: they keep their place, or come to stand at the index
+  -- the given names with a new attribute: they keep their index, or get this one if there were none
   abbrev pub placed : Option (Given A) → ℕ → Text → AttrObj A → Given A
   placed None at key attr = record { at = at; key = key; attr = attr }
   placed (Some g) at key attr = record g { attr = attr }
 
-  -- the given names once the entry at the index is gone
+  -- the given names once another entry at this index is removed
   abbrev pub moved_up : Option (Given A) → ℕ → Option (Given A)
   moved_up None gone = None
   moved_up (Some g) gone = Some (record g { at = closed_up gone g.at })

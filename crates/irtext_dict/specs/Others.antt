@@ -5,12 +5,12 @@ use Rattle.irtext_base.specs.declared.base.attributes.AttrObj.{AttrObj}
 use Rattle.irtext_dict.specs.declared.base.attributes.others.Stored.{Stored}
 use Rattle.irtext_dict.specs.declared.base.attributes.others.Stored.TheVariants.{Few, Many}
 
--- the entries, whether a vector holds them or a map
+-- the entries, whether they are in a vector or in a map
 abbrev pub entries_of : {A : Type 0} → Stored A → List (Text × AttrObj A)
 entries_of (Few few) = few.items
 entries_of (Many map) = map.value.entries
 
--- a vector holds a few entries at most
+-- a vector has at most 8 entries
 abbrev pub IsFew : {A : Type 0} → Stored A → Type 0
 IsFew (Few few) = length few.items ≤ 8
 IsFew (Many map) = Unit {0}

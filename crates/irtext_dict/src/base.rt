@@ -1,4 +1,4 @@
-//! What operations hold beside their types, values and regions.
+//! What operations and blocks hold beside types, values and regions: dictionaries of attributes.
 
 pub mod attributes;
 

@@ -1,4 +1,5 @@
-//! The dictionary of attributes: given names stand apart; few other entries stand in a vector, which is searched, and more in a map.
+//! The dictionary of attributes. Given names are kept apart; of the other entries, a few are in a vector, which is searched, and more are
+//! in a map.
 #![tactic(auto)]
 
 pub mod base;

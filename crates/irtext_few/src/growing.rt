@@ -1,20 +1,22 @@
-//! A list that items are put into and taken out of: its first item is held in place, the others in a vector, so that one item takes no
-//! memory.
+//! A list to which elements are added and from which they are removed. Its first element is stored in place and the others in a vector, so
+//! that one element needs no allocation.
 ghost use Rattle.std.specs.Prelude.{◌≡◌, ◌<◌, ◌++◌, ◌∷◌, [], Some, IsTrue, OnOk, OnErr, length, slice_get, ◌↔◌};
 ghost use Rattle.std.specs.List.{remove};
 ghost use Rattle.irtext_few.specs.Growing.{listed, HasPlace};
 
 use std::alloc::{AllocError, Global};
 
-/// A list. Where no item is held in place, the first of the vector is the first of all.
+/// A list. If `first` is `None`, the first element of the vector is the first of the list.
 #[derive(Drop)]
 pub struct Growing<X> {
+    /// The first element, if it is stored in place.
     pub first: Option<X>,
+    /// The elements after it.
     pub more: Vec<X>,
 }
 
 impl<X: Copy> Growing<X> {
-    /// No items. They take no memory.
+    /// Returns an empty list. Allocates nothing.
     pub fn new(alloc: Global) -> Growing<X>
         ensures { listed result ≡ [] }
     {
@@ -24,14 +26,14 @@ impl<X: Copy> Growing<X> {
         }
     }
 
-    /// Whether there is no item.
+    /// Whether the list is empty.
     fn is_empty(&self) -> bool
         ensures { IsTrue result ↔ (listed self.now ≡ []) }
     {
         self.first.is_none() && self.more.is_empty()
     }
 
-    /// How many items there are.
+    /// Returns the number of elements.
     pub fn len(&self) -> usize
         ensures { result ≡ length (listed self.now) }
     {
@@ -41,7 +43,7 @@ impl<X: Copy> Growing<X> {
         }
     }
 
-    /// The item at an index.
+    /// Returns the element at an index, which must be below the number of elements.
     pub fn at(&self, index: usize) -> X
         requires { index < length (listed self.now) }
         ensures { slice_get (listed self.now) index ≡ Some result }
@@ -55,7 +57,7 @@ impl<X: Copy> Growing<X> {
         self.more[index - 1]
     }
 
-    /// Makes room for one more item. Where memory is refused nothing changes.
+    /// Makes room for one more element. The elements are unchanged. Fails only when out of memory.
     pub fn make_room(&mut self) -> Result<(), AllocError>
         ensures same { listed self.new ≡ listed self.old }
         ensures room { OnOk result (HasPlace self.new) }
@@ -69,7 +71,7 @@ impl<X: Copy> Growing<X> {
         }
     }
 
-    /// Puts an item last. There is room for it.
+    /// Adds an element at the end. There must be room for it.
     pub fn push_reserved(&mut self, x: X)
         requires { HasPlace self.old }
         ensures { listed self.new ≡ listed self.old ++ x ∷ [] }
@@ -81,7 +83,7 @@ impl<X: Copy> Growing<X> {
         self.more.push_reserved(x);
     }
 
-    /// Puts an item last. Where memory is refused nothing changes.
+    /// Adds an element at the end. When out of memory, it fails and the elements are unchanged.
     pub fn push(&mut self, x: X) -> Result<(), AllocError>
         ensures here { OnOk result (listed self.new ≡ listed self.old ++ x ∷ []) }
         ensures err { OnErr result (listed self.new ≡ listed self.old) }
@@ -96,7 +98,7 @@ impl<X: Copy> Growing<X> {
         }
     }
 
-    /// Takes the item at an index out; those after it move down.
+    /// Removes the element at an index, which must be below the number of elements. The order of the others is unchanged.
     pub fn remove(&mut self, index: usize)
         requires { index < length (listed self.old) }
         ensures { listed self.new ≡ remove (listed self.old) index }

@@ -1,5 +1,5 @@
-//! Lists that are mostly short: `Few` holds up to two items in place and `Lone` one, and more in a vector; `Growing` is a list that
-//! items are put into, with its first item in place.
+//! Lists that are mostly short. `Few` stores up to two elements in place and `Lone` one; more are in a vector. `Growing` is a list to which
+//! elements are added, with its first element stored in place.
 #![tactic(auto)]
 
 pub mod growing;
@@ -13,7 +13,7 @@ pub use crate::lone::Lone;
 use std::marker::Model;
 use std::ops::{Index, IndexMut};
 
-/// The items of a list: up to two in place, or a vector.
+/// The elements of a list: up to two in place, or a vector.
 #[derive(Drop)]
 pub enum Items<X> {
     Nothing,
@@ -22,7 +22,7 @@ pub enum Items<X> {
     Many(Vec<X>),
 }
 
-/// A list, of which up to two items take no memory of their own.
+/// A list of which up to two elements need no allocation.
 #[derive(Drop)]
 pub struct Few<X> {
     items: Items<X>,
@@ -41,7 +41,7 @@ impl<X> Items<X> {
     ghost use Rattle.irtext_few.specs.contracts.Items.{the_row};
     ghost use Rattle.irtext_few.specs.Few.{items_of, form, with_item_at};
 
-    /// The item of a list of one, for writing.
+    /// Returns the element of a list of one as a `&mut`.
     fn only_mut(&mut self) -> &mut X
         requires { form self.old ≡ 1 }
         ensures* lends { sem 𝓛 (Lends (the_row X.row) X.row self.entry result (with_item_at self.old 0)) }
@@ -53,7 +53,7 @@ impl<X> Items<X> {
         }
     }
 
-    /// The first of two items, for writing.
+    /// Returns the first of two elements as a `&mut`.
     fn first_mut(&mut self) -> &mut X
         requires { form self.old ≡ 2 }
         ensures* lends { sem 𝓛 (Lends (the_row X.row) X.row self.entry result (with_item_at self.old 0)) }
@@ -65,7 +65,7 @@ impl<X> Items<X> {
         }
     }
 
-    /// The second of two items, for writing.
+    /// Returns the second of two elements as a `&mut`.
     fn second_mut(&mut self) -> &mut X
         requires { form self.old ≡ 2 }
         ensures* lends { sem 𝓛 (Lends (the_row X.row) X.row self.entry result (with_item_at self.old 1)) }
@@ -77,7 +77,7 @@ impl<X> Items<X> {
         }
     }
 
-    /// An item of a vector, for writing.
+    /// Returns an element of a vector as a `&mut`.
     fn one_of_many_mut(&mut self, index: usize) -> &mut X
         requires many { form self.old ≡ 3 }
         requires within { index < length (items_of self.old) }
@@ -90,7 +90,7 @@ impl<X> Items<X> {
         }
     }
 
-    /// An item, for writing.
+    /// Returns the element at an index as a `&mut`.
     fn item_mut(&mut self, index: usize) -> &mut X
         requires { index < length (items_of self.old) }
         ensures* lends { sem 𝓛 (Lends (the_row X.row) X.row self.entry result (with_item_at self.old index)) }
@@ -113,7 +113,7 @@ impl<X> Items<X> {
 impl<X> Few<X> {
     ghost use Rattle.irtext_few.specs.Few.{items_of};
 
-    /// A list without items.
+    /// Returns an empty list.
     pub fn none() -> Few<X>
         ensures { result ≡ [] }
     {
@@ -122,7 +122,7 @@ impl<X> Few<X> {
         }
     }
 
-    /// A list of one item.
+    /// Returns a list of one element.
     pub fn one(x: X) -> Few<X>
         ensures { result ≡ x ∷ [] }
     {
@@ -131,7 +131,7 @@ impl<X> Few<X> {
         }
     }
 
-    /// A list of two items.
+    /// Returns a list of two elements.
     pub fn two(x: X, y: X) -> Few<X>
         ensures { result ≡ x ∷ y ∷ [] }
     {
@@ -140,7 +140,7 @@ impl<X> Few<X> {
         }
     }
 
-    /// How many items there are.
+    /// Returns the number of elements.
     pub fn len(&self) -> usize
         ensures { result ≡ length self.now }
     {
@@ -152,7 +152,7 @@ impl<X> Few<X> {
         }
     }
 
-    /// The items, taken out of the list.
+    /// Returns the elements, and consumes the list.
     pub fn into_items(self) -> Items<X>
         ensures { items_of result ≡ self }
     {
@@ -161,14 +161,14 @@ impl<X> Few<X> {
 }
 
 impl<X: Drop> Few<X> {
-    /// Drops all items.
+    /// Removes and drops all elements.
     pub fn clear(&mut self)
         ensures { self.new ≡ [] }
     {
         self.items = Items::Nothing;
     }
 
-    /// The items of a vector. It takes no memory, and gives that of the vector back where there are no more than two.
+    /// Returns a list of the elements of a vector. Allocates nothing, and frees the vector if it has no more than two elements.
     pub fn from_vec(mut xs: Vec<X>) -> Few<X>
         ensures { result ≡ xs.items }
     {

@@ -1,4 +1,4 @@
-//! Lists of which more than one item are seldom: one is held in place, and more in a vector.
+//! Lists that seldom have more than one element: one is stored in place, and more in a vector.
 ghost use Rattle.std.specs.Prelude.{◌≡◌, ◌<◌, ◌∷◌, [], IfOk, length, slice_index_or, slice_set};
 ghost use Rattle.std.specs.Borrow.{Lends, sem};
 
@@ -7,7 +7,7 @@ use std::alloc::{AllocError, Global};
 use std::marker::Model;
 use std::ops::{Index, IndexMut};
 
-/// The item of a list of one, in place, or a vector.
+/// The elements of a list: up to one in place, or a vector.
 #[derive(Drop)]
 pub enum OneOrMany<X> {
     Nothing,
@@ -15,7 +15,7 @@ pub enum OneOrMany<X> {
     Many(Vec<X>),
 }
 
-/// A list, of which one item takes no memory of its own.
+/// A list of which one element needs no allocation.
 #[derive(Drop)]
 pub struct Lone<X> {
     items: OneOrMany<X>,
@@ -34,7 +34,7 @@ impl<X> OneOrMany<X> {
     ghost use Rattle.irtext_few.specs.contracts.lone.OneOrMany.{the_row};
     ghost use Rattle.irtext_few.specs.Lone.{items_of, form, with_item_at};
 
-    /// The item of a list of one, for writing.
+    /// Returns the element of a list of one as a `&mut`.
     fn only_mut(&mut self) -> &mut X
         requires { form self.old ≡ 1 }
         ensures* lends { sem 𝓛 (Lends (the_row X.row) X.row self.entry result (with_item_at self.old 0)) }
@@ -46,7 +46,7 @@ impl<X> OneOrMany<X> {
         }
     }
 
-    /// An item of a vector, for writing.
+    /// Returns an element of a vector as a `&mut`.
     fn one_of_many_mut(&mut self, index: usize) -> &mut X
         requires many { form self.old ≡ 2 }
         requires within { index < length (items_of self.old) }
@@ -59,7 +59,7 @@ impl<X> OneOrMany<X> {
         }
     }
 
-    /// An item, for writing.
+    /// Returns the element at an index as a `&mut`.
     fn item_mut(&mut self, index: usize) -> &mut X
         requires { index < length (items_of self.old) }
         ensures* lends { sem 𝓛 (Lends (the_row X.row) X.row self.entry result (with_item_at self.old index)) }
@@ -76,7 +76,7 @@ impl<X> OneOrMany<X> {
 impl<X> Lone<X> {
     ghost use Rattle.irtext_few.specs.Lone.{items_of};
 
-    /// A list without items.
+    /// Returns an empty list.
     pub fn none() -> Lone<X>
         ensures { result ≡ [] }
     {
@@ -85,7 +85,7 @@ impl<X> Lone<X> {
         }
     }
 
-    /// A list of one item.
+    /// Returns a list of one element.
     pub fn one(x: X) -> Lone<X>
         ensures { result ≡ x ∷ [] }
     {
@@ -94,7 +94,7 @@ impl<X> Lone<X> {
         }
     }
 
-    /// How many items there are.
+    /// Returns the number of elements.
     pub fn len(&self) -> usize
         ensures { result ≡ length self.now }
     {
@@ -107,14 +107,14 @@ impl<X> Lone<X> {
 }
 
 impl<X: Drop> Lone<X> {
-    /// Drops all items.
+    /// Removes and drops all elements.
     pub fn clear(&mut self)
         ensures { self.new ≡ [] }
     {
         self.items = OneOrMany::Nothing;
     }
 
-    /// The items of a vector.
+    /// Returns a list of the elements of a vector, which it keeps.
     pub fn many(xs: Vec<X>) -> Lone<X>
         ensures { result ≡ xs.items }
     {
@@ -123,7 +123,7 @@ impl<X: Drop> Lone<X> {
         }
     }
 
-    /// The items of a short list. It takes memory for two alone.
+    /// Returns a list of the elements of a short list. Allocates only for two elements. Fails only if that allocation fails.
     #[inline(always)]
     pub fn from_few(alloc: Global, few: Few<X>) -> Result<Lone<X>, AllocError>
         ensures { IfOk result (λ items. items ≡ few) }

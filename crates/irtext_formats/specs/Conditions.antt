@@ -1,17 +1,17 @@
--- The conditions on formats in words: which directives stand at which places, and which characters can meet behind a list.
+-- The conditions on formats in words: which directives are in the list, where, and which characters can come after a list.
 use Rattle.std.specs.Prelude.{◌≡◌, ℕ, suc, ◌<◌, ◌≤◌, ◌⊎◌, true, List, length, drop, slice_get, Some}
 use Rattle.irtext_base.specs.Text.{Text, begins_word}
 use Rattle.irtext_base.specs.Format.{Directive, word, operand, operands, successor, successors, attribute, dictionary, result_type, region, regions, header, region_places, given_names_key, sym_name_key}
 
--- the directive stands at this place of the list
+-- the directive is at this index of the list
 abbrev pub StandsAt : Directive → List Directive → ℕ → Type 0
 StandsAt d ds i = slice_get ds i ≡ Some d
 
--- the directive stands somewhere in the list
+-- the directive is in the list
 abbrev pub Stands : Directive → List Directive → Type 0
 Stands d ds = (i : ℕ) × StandsAt d ds i
 
--- the directive stands at no two places of the list
+-- the directive is not at two indices of the list
 abbrev pub StandsOnceAtMost : Directive → List Directive → Type 0
 StandsOnceAtMost d ds = (i j : ℕ) → StandsAt d ds i → StandsAt d ds j → i ≡ j
 
@@ -23,33 +23,35 @@ NameAllBelow single ds = (n : ℕ) × ((k : ℕ) → k < n → Stands (single k)
 abbrev pub C1 : List Directive → Type 0
 C1 ds = (s : Text) → Stands (word s) ds → (0 < length s) × ((i c : ℕ) → slice_get s i ≡ Some c → (33 ≤ c) × (c ≤ 126))
 
--- C2: the operands that are named are 0 to one below their number, each once, and there is one list of operands at most
+-- C2: the indices of the operands that are named are 0 to one below their number, each once, and there is at most one list of operands
 abbrev pub C2 : List Directive → Type 0
 C2 ds = NameAllBelow operand ds × StandsOnceAtMost operands ds
 
--- C3: the same of successors
+-- C3: the same for successors
 abbrev pub C3 : List Directive → Type 0
 C3 ds = NameAllBelow successor ds × StandsOnceAtMost successors ds
 
--- C4: the results whose types are named are 0 to one below their number, each once
+-- C4: the indices of the results whose types are named are 0 to one below their number, each once
 abbrev pub C4 : List Directive → Type 0
 C4 ds = NameAllBelow result_type ds
 
--- C5: the regions that are named are 0, 1 and so on in this order, there is one list of regions at most, and behind it none is named
+-- C5: the indices of the regions that are named are 0, 1 and so on, in this order; there is at most one list of regions, and none is named
+-- after it
 abbrev pub C5 : List Directive → Type 0
 C5 ds = ((j k : ℕ) → slice_get (region_places ds) j ≡ Some k → k ≡ j) × StandsOnceAtMost regions ds × ((i j k : ℕ) → StandsAt regions ds i → StandsAt (region k) ds j → i < j → ⊥)
 
--- C6: each key is named once at most, and that of given names never; there is one dictionary and one header at most; and beside a header the symbol's key is not named
+-- C6: each key is named at most once, and that of given names never; there are at most one dictionary and at most one header; and beside a
+-- header the key of the symbol's name is not named
 abbrev pub C6 : List Directive → Type 0
 C6 ds = ((k : Text) → StandsOnceAtMost (attribute k) ds) × (Stands (attribute given_names_key) ds → ⊥) × StandsOnceAtMost dictionary ds × StandsOnceAtMost header ds × (Stands header ds → Stands (attribute sym_name_key) ds → ⊥)
 
--- the directive writes regions
+-- the directive prints one region or a list of regions
 abbrev pub WritesRegions : Directive → Type 0
 WritesRegions (region k) = Unit {0}
 WritesRegions regions = Unit {0}
 WritesRegions _ = ⊥
 
--- the directive writes names or a type
+-- the directive prints names or a type
 abbrev pub WritesNamesOrType : Directive → Type 0
 WritesNamesOrType (operand k) = Unit {0}
 WritesNamesOrType operands = Unit {0}
@@ -58,19 +60,19 @@ WritesNamesOrType successors = Unit {0}
 WritesNamesOrType (result_type k) = Unit {0}
 WritesNamesOrType _ = ⊥
 
--- C7: behind regions stand no names and no type
+-- C7: after regions there are no names and no type
 abbrev pub C7 : List Directive → Type 0
 C7 ds = (i j : ℕ) (d e : Directive) → StandsAt d ds i → StandsAt e ds j → i < j → WritesRegions d → WritesNamesOrType e → ⊥
 
--- the directive writes a list, which may be empty
+-- the directive prints a list, which may be empty
 abbrev pub WritesList : Directive → Type 0
 WritesList operands = Unit {0}
 WritesList successors = Unit {0}
 WritesList regions = Unit {0}
 WritesList _ = ⊥
 
--- what the directive writes can begin with this character: a name and a type with a letter or `_` (95), an attribute with these or
--- `!` (33), a successor with `^` (94), a dictionary with `[` (91), a region with `{` (123), a symbol with `@` (64)
+-- what the directive prints can begin with this character: a name and a type with a letter or `_` (95), an attribute with these or `!`
+-- (33), a successor with `^` (94), a dictionary with `[` (91), a region with `{` (123), a symbol with `@` (64)
 abbrev pub Begins : Directive → ℕ → Type 0
 Begins (word s) c = slice_get s 0 ≡ Some c
 Begins (operand i) c = begins_word c ≡ true
@@ -84,26 +86,26 @@ Begins (region i) c = c ≡ 123
 Begins regions c = c ≡ 123
 Begins header c = c ≡ 64
 
--- a list that the directive writes goes on with this character: its next item's first, or the comma (44)
+-- a list that the directive prints can continue with this character: the first of its next element, or the comma (44)
 abbrev pub GoesOn : Directive → ℕ → Type 0
 GoesOn operands c = (begins_word c ≡ true) ⊎ (c ≡ 44)
 GoesOn successors c = (c ≡ 94) ⊎ (c ≡ 44)
 GoesOn regions c = c ≡ 123
 GoesOn _ c = ⊥
 
--- this character can stand behind an operation, or begin the next block: `!`, `;` (59), `}` (125) or `^`
+-- this character can come after an operation: `!`, `;` (59), `}` (125), or the `^` of the next block
 abbrev pub StandsBehind : ℕ → Type 0
 StandsBehind c = (c ≡ 33) ⊎ ((c ≡ 59) ⊎ ((c ≡ 125) ⊎ (c ≡ 94)))
 
--- the directives in front of this place write lists alone
+-- all directives before this index print lists
 abbrev pub ListsAlone : ℕ → List Directive → Type 0
 ListsAlone j ds = (m : ℕ) (d : Directive) → m < j → StandsAt d ds m → WritesList d
 
--- this character can stand where what these directives write begins: one begins with it, with lists alone in front of it, or all of
--- them write lists and it can stand behind the operation
+-- this character can come first in what these directives print, with what comes after the operation: one of them can begin with it and all
+-- before it print lists, or all of them print lists and it can come after the operation
 abbrev pub CanFollow : List Directive → ℕ → Type 0
 CanFollow ds c = ((j : ℕ) × (e : Directive) × StandsAt e ds j × ListsAlone j ds × Begins e c) ⊎ (ListsAlone (length ds) ds × StandsBehind c)
 
--- C8: no character that can stand behind a list goes on with it
+-- C8: no character that can come after a list could continue it
 abbrev pub C8 : List Directive → Type 0
 C8 ds = (i : ℕ) (d : Directive) (c : ℕ) → StandsAt d ds i → GoesOn d c → CanFollow (drop (suc i) ds) c → ⊥

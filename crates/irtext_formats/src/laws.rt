@@ -1,9 +1,9 @@
-//! What the definitions say, in other words. Each function does nothing: its contract is the statement.
+//! Laws of the definitions. Each function does nothing: its contract is what is proved.
 ghost use Rattle.std.specs.Prelude.{◌≡◌, ◌↔◌, true, List};
 ghost use Rattle.irtext_base.specs.Format.{Directive, c1, c2, c3, c4, c5, c6, c7, c8};
 ghost use Rattle.irtext_formats.specs.Conditions.{C1, C2, C3, C4, C5, C6, C7, C8};
 
-/// Each condition on formats is met exactly where what it says of places, keys and characters holds.
+/// Each condition on formats (`c1` to `c8`) is met exactly if what it says about indices, keys and characters (`C1` to `C8`) holds.
 pub fn conditions_on_formats()
     ensures literals { (ds : List Directive) → (c1 ds ≡ true) ↔ C1 ds }
     ensures operands { (ds : List Directive) → (c2 ds ≡ true) ↔ C2 ds }

@@ -1,4 +1,4 @@
-//! The check of formats: which formats of operations read uniquely, by eight conditions on their directives.
+//! The check of formats: whether the texts of an operation's format can be parsed in one way only, by eight conditions on its directives.
 #![tactic(auto)]
 
 pub mod format;

@@ -1,4 +1,4 @@
--- What the calls that list parts of objects answer.
+-- What the calls that list parts of objects return.
 use Rattle.std.specs.Prelude.{◌≡◌, ◌++◌, ◌∷◌, ℕ, zero, suc, List, [], length, slice_get, Option, Some, None}
 use Rattle.irtext_graph.specs.declared.arena.Ptr.{Ptr}
 use Rattle.irtext_graph.specs.declared.object.BasicBlock.{BasicBlock}
@@ -14,23 +14,23 @@ abbrev pub each : {X : Type 0} → (ℕ → X) → ℕ → List X
 each f zero = []
 each f (suc n) = each f n ++ f n ∷ []
 
--- n items, each of which its index allows
+-- n elements, each of which its index allows
 pub record AreGathered {X : Type 0} (Allows : ℕ → X → Type 0) (n : ℕ) (xs : List X) : Type 0 where
   pub count : length xs ≡ n
   pub each : (i : ℕ) (x : X) → slice_get xs i ≡ Some x → Allows i x
 
--- the item that there may be, in front of a list
+-- the list with the element, if there is one, in front
 abbrev pub put_first : {X : Type 0} → Option X → List X → List X
 put_first None xs = xs
 put_first (Some x) xs = x ∷ xs
 
 module _ {O B T : Type 0} where
-  -- the block of the operation of each use, where it stands in one
+  -- the block of the operation of each use, for the operations that are in a block
   abbrev pub blocks_of : GraphView O B T → List Site → List (Ptr BasicBlock)
   blocks_of g [] = []
   blocks_of g (u ∷ us) = put_first (parent_of (get g.operations (user u))) (blocks_of g us)
 
-  -- the blocks of the operations that name b as a successor, one for each use by an operation in a block
+  -- the blocks of the operations that have b as a successor, one for each use by an operation in a block
   pub record ArePreds (g : GraphView O B T) (b : Ptr BasicBlock) (preds : List (Ptr BasicBlock)) : Type 0 where
     pub uses : List Site
     pub lists : Lists (IsUse g (OfBlock b)) uses

@@ -1,4 +1,4 @@
-//! What a block defines, which operations stand in it, and which blocks go to it.
+//! The arguments of a block, its operations, and its predecessors.
 ghost use Rattle.std.specs.Prelude.{◌≡◌, ◌<◌, ◌↔◌, IfOk, IsTrue, length};
 ghost use Rattle.irtext_graph.specs.declared.object.Object.TheVariants.{TheBlock};
 ghost use Rattle.irtext_graph.specs.declared.object.Defined.TheVariants.{OfBlock};
@@ -17,7 +17,8 @@ use irtext_graph::held::HasGraph;
 use irtext_graph::object::{BasicBlock, Defined, Operation, Value};
 use std::alloc::AllocError;
 
-/// What a block defines, what stands in it and what goes to it, by its pointer, in whatever holds a graph.
+/// The arguments of a block, its operations and its predecessors, by the block's pointer, in any holder of a graph. The block must be live
+/// in the graph. Calls that return a list fail only when out of memory.
 pub trait BlockParts: Sized {
     ghost use Rattle.irtext_graph.specs.declared.arena.Ptr.{Ptr};
     ghost use Rattle.irtext_graph.specs.declared.object.BasicBlock.{BasicBlock};
@@ -25,38 +26,39 @@ pub trait BlockParts: Sized {
     // the pointer
     ghost pointer: { Self → Ptr BasicBlock };
 
-    /// How many values the block defines.
+    /// Returns the number of arguments of the block.
     fn get_num_arguments<C: HasGraph>(self, ctx: &C) -> usize
         requires { Stands (C.graph ctx.now) (TheBlock (pointer self)) }
         ensures { result ≡ length (arguments (C.graph ctx.now) (pointer self)) };
 
-    /// The value that the block defines at an index.
+    /// Returns the argument of the block at an index, which must be below their number.
     fn get_argument<C: HasGraph>(self, ctx: &C, index: usize) -> Value
         requires { index < length (arguments (C.graph ctx.now) (pointer self)) }
         ensures value { result ≡ Argument (pointer self) index }
         ensures stands { ValueStands (C.graph ctx.now) result };
 
-    /// The values that the block defines, in order.
+    /// Returns the arguments of the block, in order.
     fn arguments<C: HasGraph>(self, ctx: &C) -> Result<Vec<Value>, AllocError>
         requires { Stands (C.graph ctx.now) (TheBlock (pointer self)) }
         ensures { IfOk result (λ all. all.items ≡ each (Argument (pointer self)) (length (arguments (C.graph ctx.now) (pointer self)))) };
 
-    /// Whether a successor names the block.
+    /// Whether the block is a successor of some operation.
     fn has_pred<C: HasGraph>(self, ctx: &C) -> bool
         requires { Stands (C.graph ctx.now) (TheBlock (pointer self)) }
         ensures { IsTrue result ↔ (u : Site) × IsUse (C.graph ctx.now) (OfBlock (pointer self)) u };
 
-    /// How many successors name the block, or the greatest `usize` where there are more.
+    /// Returns how many successors of operations are the block, or `usize::MAX` if there are more.
     fn num_preds<C: HasGraph>(self, ctx: &C) -> usize
         requires { Stands (C.graph ctx.now) (TheBlock (pointer self)) }
         ensures { Counts (IsUse (C.graph ctx.now) (OfBlock (pointer self))) result };
 
-    /// The block of each operation that names the block, once for each use, in no order that is promised.
+    /// Returns the block of each operation that has the block as a successor, once for each such successor, in an unspecified order.
+    /// Operations that are in no block are left out.
     fn preds<C: HasGraph>(self, ctx: &C) -> Result<Vec<Ptr<BasicBlock>>, AllocError>
         requires { Stands (C.graph ctx.now) (TheBlock (pointer self)) }
         ensures { IfOk result (λ all. ArePreds (C.graph ctx.now) (pointer self) all.items) };
 
-    /// The operations of the block, in order.
+    /// Returns the operations of the block, in order.
     fn operations<C: HasGraph>(self, ctx: &C) -> Result<Vec<Ptr<Operation>>, AllocError>
         requires { Stands (C.graph ctx.now) (TheBlock (pointer self)) }
         ensures { IfOk result (λ all. all.items ≡ operations_in (C.graph ctx.now) (pointer self)) };

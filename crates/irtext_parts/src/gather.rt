@@ -1,10 +1,10 @@
-//! Lists that are made item by item.
+//! Lists that are built element by element.
 ghost use Rattle.std.specs.Prelude.{◌<◌, ℕ, IfOk};
 ghost use Rattle.irtext_parts.specs.Lists.{AreGathered};
 
 use std::alloc::{AllocError, Global};
 
-/// What `item` answers for each number below `count`, in order.
+/// Returns what `item` returns for each number below `count`, in order.
 pub(crate) fn gather<X: Drop, F: Fn(usize) -> X>(
     alloc: Global,
     count: usize,

@@ -1,4 +1,5 @@
-//! What objects of a graph use, define and hold, by pointers and values, in whatever holds the graph: counted, one by one, and as lists.
+//! The parts of operations, blocks, regions and values, by their pointers, in any holder of a graph: what they use, define and contain, as
+//! numbers, one by one, and as lists.
 #![tactic(auto)]
 
 pub mod block;

@@ -1,4 +1,4 @@
-//! What an operation uses and defines, and which regions stand in it.
+//! The operands, successors and results of an operation, the uses of its results, and its regions.
 ghost use Rattle.std.specs.Prelude.{◌≡◌, ◌<◌, ◌↔◌, ℕ, Some, IfOk, IsTrue, length, map, option_map, slice_get};
 ghost use Rattle.irtext_graph.specs.declared.object.Object.TheVariants.{TheOperation};
 ghost use Rattle.irtext_graph.specs.declared.object.Defined.TheVariants.{OfValue};
@@ -17,7 +17,8 @@ use irtext_graph::held::HasGraph;
 use irtext_graph::object::{BasicBlock, Defined, Operation, Region, Site, Value};
 use std::alloc::AllocError;
 
-/// What an operation uses and defines and what stands in it, by its pointer, in whatever holds a graph.
+/// The operands, successors, results and regions of an operation, and the uses of its results, by the operation's pointer, in any holder of
+/// a graph. The operation must be live in the graph. Calls that return a list fail only when out of memory.
 pub trait OperationParts: Sized {
     ghost use Rattle.irtext_graph.specs.declared.arena.Ptr.{Ptr};
     ghost use Rattle.irtext_graph.specs.declared.object.Operation.{Operation};
@@ -25,92 +26,92 @@ pub trait OperationParts: Sized {
     // the pointer
     ghost pointer: { Self → Ptr Operation };
 
-    /// How many values the operation uses; one that is used twice counts twice.
+    /// Returns the number of operands of the operation.
     fn get_num_operands<C: HasGraph>(self, ctx: &C) -> usize
         requires { Stands (C.graph ctx.now) (TheOperation (pointer self)) }
         ensures { result ≡ length (operands (C.graph ctx.now) (pointer self)) };
 
-    /// The value that the operation uses at an index.
+    /// Returns the operand of the operation at an index, which must be below their number.
     fn get_operand<C: HasGraph>(self, ctx: &C, index: usize) -> Value
         requires stands { Stands (C.graph ctx.now) (TheOperation (pointer self)) }
         requires within { index < length (operands (C.graph ctx.now) (pointer self)) }
         ensures { slice_get (operands (C.graph ctx.now) (pointer self)) index ≡ Some result };
 
-    /// The values that the operation uses, in order.
+    /// Returns the operands of the operation, in order.
     fn operands<C: HasGraph>(self, ctx: &C) -> Result<Vec<Value>, AllocError>
         requires { Stands (C.graph ctx.now) (TheOperation (pointer self)) }
         ensures { IfOk result (λ all. all.items ≡ operands (C.graph ctx.now) (pointer self)) };
 
-    /// The types of the values that the operation uses, in order.
+    /// Returns the types of the operands of the operation, in order.
     fn operand_types<C: HasGraph>(self, ctx: &C) -> Result<Vec<&C::T>, AllocError>
         requires { Stands (C.graph ctx.now) (TheOperation (pointer self)) }
         ensures { IfOk result (λ all. map (λ t. Some t.now) all.items
             ≡ map (λ v. option_map (λ t. t.of_type) (value_at (C.graph ctx.now) v)) (operands (C.graph ctx.now) (pointer self))) };
 
-    /// How many blocks the operation uses; one that is used twice counts twice.
+    /// Returns the number of successors of the operation.
     fn get_num_successors<C: HasGraph>(self, ctx: &C) -> usize
         requires { Stands (C.graph ctx.now) (TheOperation (pointer self)) }
         ensures { result ≡ length (successors (C.graph ctx.now) (pointer self)) };
 
-    /// The block that the operation uses at an index.
+    /// Returns the successor of the operation at an index, which must be below their number.
     fn get_successor<C: HasGraph>(self, ctx: &C, index: usize) -> Ptr<BasicBlock>
         requires stands { Stands (C.graph ctx.now) (TheOperation (pointer self)) }
         requires within { index < length (successors (C.graph ctx.now) (pointer self)) }
         ensures { slice_get (successors (C.graph ctx.now) (pointer self)) index ≡ Some result };
 
-    /// The blocks that the operation uses, in order.
+    /// Returns the successors of the operation, in order.
     fn successors<C: HasGraph>(self, ctx: &C) -> Result<Vec<Ptr<BasicBlock>>, AllocError>
         requires { Stands (C.graph ctx.now) (TheOperation (pointer self)) }
         ensures { IfOk result (λ all. all.items ≡ successors (C.graph ctx.now) (pointer self)) };
 
-    /// How many values the operation defines.
+    /// Returns the number of results of the operation.
     fn get_num_results<C: HasGraph>(self, ctx: &C) -> usize
         requires { Stands (C.graph ctx.now) (TheOperation (pointer self)) }
         ensures { result ≡ length (results (C.graph ctx.now) (pointer self)) };
 
-    /// The value that the operation defines at an index.
+    /// Returns the result of the operation at an index, which must be below their number.
     fn get_result<C: HasGraph>(self, ctx: &C, index: usize) -> Value
         requires { index < length (results (C.graph ctx.now) (pointer self)) }
         ensures value { result ≡ Result (pointer self) index }
         ensures stands { ValueStands (C.graph ctx.now) result };
 
-    /// The values that the operation defines, in order.
+    /// Returns the results of the operation, in order.
     fn results<C: HasGraph>(self, ctx: &C) -> Result<Vec<Value>, AllocError>
         requires { Stands (C.graph ctx.now) (TheOperation (pointer self)) }
         ensures { IfOk result (λ all. all.items ≡ each (Result (pointer self)) (length (results (C.graph ctx.now) (pointer self)))) };
 
-    /// The type of the value that the operation defines at an index.
+    /// Returns the type of the result of the operation at an index, which must be below their number.
     fn get_type<C: HasGraph>(self, ctx: &C, index: usize) -> &C::T
         requires { index < length (results (C.graph ctx.now) (pointer self)) }
         ensures { option_map (λ v. v.of_type) (slice_get (results (C.graph ctx.now) (pointer self)) index) ≡ Some result.now };
 
-    /// The types of the values that the operation defines, in order.
+    /// Returns the types of the results of the operation, in order.
     fn result_types<C: HasGraph>(self, ctx: &C) -> Result<Vec<&C::T>, AllocError>
         requires { Stands (C.graph ctx.now) (TheOperation (pointer self)) }
         ensures { IfOk result (λ all. map (λ t. t.now) all.items ≡ map (λ v. v.of_type) (results (C.graph ctx.now) (pointer self))) };
 
-    /// Whether an operand names a result of the operation.
+    /// Whether a result of the operation is an operand of some operation.
     fn has_use<C: HasGraph>(self, ctx: &C) -> bool
         requires { Stands (C.graph ctx.now) (TheOperation (pointer self)) }
         ensures { IsTrue result ↔ (u : Site) × IsUseOf (C.graph ctx.now) (pointer self) u };
 
-    /// How many operands name a result of the operation, or the greatest `usize` where there are more.
+    /// Returns how many operands are results of the operation, or `usize::MAX` if there are more.
     fn num_uses<C: HasGraph>(self, ctx: &C) -> usize
         requires { Stands (C.graph ctx.now) (TheOperation (pointer self)) }
         ensures { Counts (IsUseOf (C.graph ctx.now) (pointer self)) result };
 
-    /// The operands that name a result of the operation, each once, in no order that is promised.
+    /// Returns the operands that are results of the operation, each once, in an unspecified order.
     fn uses<C: HasGraph>(self, ctx: &C) -> Result<Vec<Site>, AllocError>
         requires { Stands (C.graph ctx.now) (TheOperation (pointer self)) }
         ensures { IfOk result (λ us. Lists (IsUseOf (C.graph ctx.now) (pointer self)) us.items) };
 
-    /// The regions of the operation, in order.
+    /// Returns the regions of the operation, in order.
     fn regions<C: HasGraph>(self, ctx: &C) -> Result<Vec<Ptr<Region>>, AllocError>
         requires { Stands (C.graph ctx.now) (TheOperation (pointer self)) }
         ensures { IfOk result (λ all. all.items ≡ regions (C.graph ctx.now) (pointer self)) };
 }
 
-/// How many results an operation has: what is used of it is one of them.
+/// Returns the number of results of an operation. An index of a result that is used is below it.
 fn count_results<C: HasGraph>(ctx: &C, op: Ptr<Operation>) -> usize
     requires { Stands (C.graph ctx.now) (TheOperation op) }
     ensures count { result ≡ length (results (C.graph ctx.now) op) }
@@ -121,7 +122,7 @@ fn count_results<C: HasGraph>(ctx: &C, op: Ptr<Operation>) -> usize
     graph.num_results(op)
 }
 
-/// The type of the value that an operation uses at an index.
+/// Returns the type of the operand of an operation at an index.
 fn type_of_operand<C: HasGraph>(ctx: &C, op: Ptr<Operation>, index: usize) -> &C::T
     requires stands { Stands (C.graph ctx.now) (TheOperation op) }
     requires within { index < length (operands (C.graph ctx.now) op) }

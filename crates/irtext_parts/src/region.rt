@@ -1,4 +1,4 @@
-//! Which blocks stand in a region.
+//! The blocks of a region.
 ghost use Rattle.std.specs.Prelude.{◌≡◌, IfOk, slice_get};
 ghost use Rattle.irtext_graph.specs.declared.object.Object.TheVariants.{TheRegion};
 ghost use Rattle.irtext_graph.specs.Graph.{Stands};
@@ -10,7 +10,7 @@ use irtext_graph::held::HasGraph;
 use irtext_graph::object::{BasicBlock, Region};
 use std::alloc::AllocError;
 
-/// What stands in a region, by its pointer, in whatever holds a graph.
+/// The blocks of a region, by the region's pointer, in any holder of a graph. The region must be live in the graph.
 pub trait RegionParts: Sized {
     ghost use Rattle.irtext_graph.specs.declared.arena.Ptr.{Ptr};
     ghost use Rattle.irtext_graph.specs.declared.object.Region.{Region};
@@ -18,12 +18,12 @@ pub trait RegionParts: Sized {
     // the pointer
     ghost pointer: { Self → Ptr Region };
 
-    /// The blocks of the region, in order.
+    /// Returns the blocks of the region, in order. Fails only when out of memory.
     fn blocks<C: HasGraph>(self, ctx: &C) -> Result<Vec<Ptr<BasicBlock>>, AllocError>
         requires { Stands (C.graph ctx.now) (TheRegion (pointer self)) }
         ensures { IfOk result (λ all. all.items ≡ blocks (C.graph ctx.now) (pointer self)) };
 
-    /// The first block of the region, where there is one.
+    /// Returns the first block of the region, or `None` if it has no block.
     fn get_entry_block<C: HasGraph>(self, ctx: &C) -> Option<Ptr<BasicBlock>>
         requires { Stands (C.graph ctx.now) (TheRegion (pointer self)) }
         ensures { result ≡ slice_get (blocks (C.graph ctx.now) (pointer self)) 0 };

@@ -1,4 +1,4 @@
-//! Who uses a value, and how another takes its place.
+//! The uses of a value, and their replacement by another value.
 ghost use Rattle.std.specs.Prelude.{◌≡◌, ◌↔◌, ℕ, Some, IfOk, IsTrue, option_map};
 ghost use Rattle.irtext_graph.specs.declared.object.Defined.TheVariants.{OfValue};
 ghost use Rattle.irtext_graph.specs.declared.object.Site.{Site};
@@ -12,14 +12,14 @@ use irtext_graph::held::HasGraph;
 use irtext_graph::object::{Defined, Operation, Site, Value};
 use std::alloc::AllocError;
 
-/// Who uses what is used at a place.
+/// The operation of a use.
 pub trait UseSite: Sized {
     ghost use Rattle.irtext_graph.specs.declared.object.Site.{Site};
 
-    // the place
+    // the use: an operand or a successor of an operation
     ghost site: { Self → Site };
 
-    /// The operation whose operand or successor the use is.
+    /// Returns the operation that has this operand or successor.
     fn user(self) -> Ptr<Operation>
         ensures { result ≡ user (site self) };
 }
@@ -35,34 +35,34 @@ impl UseSite for Site {
     }
 }
 
-/// A value's type and its uses, in whatever holds a graph.
+/// The type and the uses of a value, in any holder of a graph. The value must be live in the graph.
 pub trait ValueUses: Sized {
     ghost use Rattle.irtext_graph.specs.declared.object.Value.{Value};
 
     // the value
     ghost value: { Self → Value };
 
-    /// The type of the value.
+    /// Returns the type of the value.
     fn get_type<C: HasGraph>(self, ctx: &C) -> &C::T
         requires { ValueStands (C.graph ctx.now) (value self) }
         ensures { option_map (λ v. v.of_type) (value_at (C.graph ctx.now) (value self)) ≡ Some result.now };
 
-    /// Whether an operand names the value.
+    /// Whether the value is an operand of some operation.
     fn has_use<C: HasGraph>(self, ctx: &C) -> bool
         requires { ValueStands (C.graph ctx.now) (value self) }
         ensures { IsTrue result ↔ (u : Site) × IsUse (C.graph ctx.now) (OfValue (value self)) u };
 
-    /// How many operands name the value, or the greatest `usize` where there are more.
+    /// Returns how many operands are the value, or `usize::MAX` if there are more.
     fn num_uses<C: HasGraph>(self, ctx: &C) -> usize
         requires { ValueStands (C.graph ctx.now) (value self) }
         ensures { Counts (IsUse (C.graph ctx.now) (OfValue (value self))) result };
 
-    /// The operands that name the value, each once, in no order that is promised.
+    /// Returns the operands that are the value, each once, in an unspecified order. Fails only when out of memory.
     fn uses<C: HasGraph>(self, ctx: &C) -> Result<Vec<Site>, AllocError>
         requires { ValueStands (C.graph ctx.now) (value self) }
         ensures { IfOk result (λ us. Lists (IsUse (C.graph ctx.now) (OfValue (value self))) us.items) };
 
-    /// Makes each operand that names the value name the other. It takes no memory.
+    /// Replaces the value by the other one in each operand that is the value. All else is unchanged. Allocates nothing.
     fn replace_all_uses<C: HasGraph>(self, ctx: &mut C, other: Value)
         requires stands { ValueStands (C.graph ctx.old) (value self) }
         requires stands_too { ValueStands (C.graph ctx.old) other }

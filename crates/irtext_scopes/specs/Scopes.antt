@@ -1,58 +1,58 @@
--- The scopes that are open, the innermost first: each is a finite map from names to what they stand for, in
--- the order in which the names were first mentioned.
+-- The open scopes, the innermost first. Each is a finite map from names to what they refer to, in the order in which the names were first
+-- mentioned.
 use Rattle.std.specs.Prelude.{ℕ, Bool, true, false, cond, List, [], ◌∷◌, ◌++◌, Option, Some, None, nat_eq}
 use Rattle.std.specs.Option.{option_or}
 use Rattle.irtext_scopes.specs.declared.scopes.Entry.{Entry}
 use Rattle.irtext_scopes.specs.declared.scopes.Entry.TheVariants.{Defined, Pending}
 
--- a scope: its names in the order in which they were first mentioned, each with what it stands for
+-- a scope: its names in the order in which they were first mentioned, each with what it refers to
 abbrev pub Scope : Type 0 → Type 0
 Scope V = List (ℕ × Entry V)
 
--- the innermost scope; it has no names where none is open
+-- the innermost scope; if none is open, one without names
 abbrev pub innermost : {V : Type 0} → List (Scope V) → Scope V
 innermost [] = []
 innermost (s ∷ ss) = s
 
--- the scopes round the innermost one
+-- the scopes around the innermost one
 abbrev pub outer : {V : Type 0} → List (Scope V) → List (Scope V)
 outer [] = []
 outer (s ∷ ss) = ss
 
--- some scope is open
+-- a scope is open
 abbrev pub is_open : {V : Type 0} → List (Scope V) → Bool
 is_open [] = false
 is_open (s ∷ ss) = true
 
--- the scopes with the innermost one changed
+-- the scopes with a function applied to the innermost one
 abbrev pub in_innermost : {V : Type 0} → (Scope V → Scope V) → List (Scope V) → List (Scope V)
 in_innermost f [] = []
 in_innermost f (s ∷ ss) = f s ∷ ss
 
--- what a name stands for in a scope, where the scope has it
+-- what a name refers to in a scope, if the scope has it
 abbrev pub find : {V : Type 0} → ℕ → Scope V → Option (Entry V)
 find n [] = None
 find n (e ∷ es) = cond (nat_eq e.0 n) (Some e.1) (find n es)
 
--- the scope with one more name, which was not mentioned in it before
+-- the scope with one more name at the end
 abbrev pub mentioned : {V : Type 0} → ℕ → Entry V → Scope V → Scope V
 mentioned n e s = s ++ (n, e) ∷ []
 
--- the scope with a definition in the place of what the name stood for
+-- the scope with a definition in place of what the name referred to
 abbrev pub resolved : {V : Type 0} → ℕ → V → Scope V → Scope V
 resolved n v [] = []
 resolved n v (e ∷ es) = (e.0, cond (nat_eq e.0 n) (Defined v) e.1) ∷ resolved n v es
 
--- the scope once a name is defined in it, by what the name stood for
+-- the scope with a name defined in it, given what the name referred to
 abbrev pub defined_from : {V : Type 0} → ℕ → V → Scope V → Option (Entry V) → Scope V
 defined_from n v s None = mentioned n (Defined v) s
 defined_from n v s (Some e) = resolved n v s
 
--- the scope once a name is defined in it
+-- the scope with a name defined in it
 abbrev pub defined : {V : Type 0} → ℕ → V → Scope V → Scope V
 defined n v s = defined_from n v s (find n s)
 
--- the value behind an entry, whether it is a definition or a placeholder
+-- the value of an entry, whether it is a definition or a placeholder
 abbrev pub value_of : {V : Type 0} → Entry V → V
 value_of (Defined v) = v
 value_of (Pending h) = h
@@ -63,13 +63,13 @@ is_defined None = false
 is_defined (Some (Defined v)) = true
 is_defined (Some (Pending h)) = false
 
--- the placeholder that stands where a definition is missing
+-- the placeholder of a name that has no definition yet
 abbrev pub placeholder_of : {V : Type 0} → Option (Entry V) → Option V
 placeholder_of None = None
 placeholder_of (Some (Defined v)) = None
 placeholder_of (Some (Pending h)) = Some h
 
--- the name, where it waits for its definition
+-- the name, if it has no definition yet
 abbrev pub if_pending : {V : Type 0} → ℕ → Entry V → Option ℕ
 if_pending n (Defined v) = None
 if_pending n (Pending h) = Some n

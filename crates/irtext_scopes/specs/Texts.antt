@@ -1,9 +1,9 @@
--- How the text of a name is kept.
+-- How the text of a name is stored.
 use Rattle.std.specs.Prelude.{ℕ, List, string_bytes}
 use Rattle.irtext_scopes.specs.declared.text.Kept.{Kept}
 use Rattle.irtext_scopes.specs.declared.text.Kept.TheVariants.{Short, Long}
 
--- the bytes of a text, whether it stands in place or in a string
+-- the bytes of a text, whether it is stored in place or in a string
 abbrev pub kept_bytes : Kept → List ℕ
 kept_bytes (Short text) = text.bytes
 kept_bytes (Long text) = string_bytes text

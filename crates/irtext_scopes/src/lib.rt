@@ -1,5 +1,4 @@
-//! Names as a text mentions them: each is kept once under a number, and stands for something in the scopes
-//! that are open.
+//! The names in a text: each is kept once under a number, and refers to a value or a block in the open scopes.
 #![tactic(auto)]
 
 mod marks;

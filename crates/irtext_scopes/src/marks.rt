@@ -1,15 +1,16 @@
-//! Where the scopes that are open begin. The outermost mark stands in place, so one scope takes no memory here.
+//! Where the open scopes begin in the vector of bindings. The outermost mark is stored in place, so one scope needs no allocation here.
 ghost use Rattle.std.specs.Prelude.{◌≡◌, ◌++◌, ◌∷◌, [], reverse, option_to_list, OnOk, OnErr, IfNone};
 ghost use Rattle.irtext_scopes.specs.Bindings.{first};
 
 use std::alloc::{AllocError, Global};
 use std::marker::Model;
 
-/// Where each scope begins, from the outermost to the innermost.
+/// The marks of the open scopes, from the outermost to the innermost. Here a mark is the index at which the bindings of a scope begin; the
+/// marks of a text are something else.
 #[derive(Drop)]
 pub(crate) struct Marks {
     outermost: Option<usize>,
-    // where the scopes inside the outermost one begin
+    // the marks of the scopes inside the outermost one
     inner: Vec<usize>,
 }
 
@@ -22,7 +23,7 @@ impl Model for Marks {
 }
 
 impl Marks {
-    /// No scope is open. It takes no memory yet.
+    /// Returns the marks of no scope. It allocates nothing yet.
     pub(crate) fn new(alloc: Global) -> Marks
         ensures { result ≡ [] }
     {
@@ -32,7 +33,8 @@ impl Marks {
         }
     }
 
-    /// Adds the mark of a scope inside the innermost one. Only a scope inside another takes memory.
+    /// Adds the mark of a scope inside the innermost one. Only a scope inside another needs an allocation. If that fails, the marks are
+    /// unchanged.
     pub(crate) fn push(&mut self, mark: usize) -> Result<(), AllocError>
         ensures ok { OnOk result (self.new ≡ self.old ++ mark ∷ []) }
         ensures err { OnErr result (self.new ≡ self.old) }
@@ -45,7 +47,7 @@ impl Marks {
         Ok(())
     }
 
-    /// Takes the mark of the innermost scope.
+    /// Removes and returns the mark of the innermost scope, or returns `None` if no scope is open.
     pub(crate) fn pop(&mut self) -> Option<usize>
         ensures marks { self.old ≡ self.new ++ option_to_list result }
         ensures none { IfNone result (self.old ≡ []) }
@@ -56,7 +58,7 @@ impl Marks {
         self.outermost.take()
     }
 
-    /// The mark of the innermost scope.
+    /// Returns the mark of the innermost scope, or `None` if no scope is open.
     pub(crate) fn last(&self) -> Option<usize>
         ensures { result ≡ first (reverse self.now) }
     {

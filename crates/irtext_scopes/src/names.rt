@@ -1,4 +1,4 @@
-//! Names that are kept once for a reading: a name's number is where it stands among those kept.
+//! Names that are kept once during a parse. The number of a name is its index among those that are kept.
 ghost use Rattle.std.specs.Prelude.{◌≡◌, ◌<◌, ◌++◌, ◌∷◌, [], Some, false, is_some, IfOk, OnOk, OnErr, length, position, slice_get};
 ghost use Rattle.std.specs.List.{list_any};
 ghost use Rattle.std.specs.Str.{bytes_eq};
@@ -9,7 +9,7 @@ use indexmap::IndexSet;
 use std::alloc::{AllocError, Global};
 use std::marker::Model;
 
-/// Names, each kept once under its number.
+/// A set of names. Each is kept once, with its index as its number.
 #[derive(Drop)]
 pub struct Names {
     texts: IndexSet<NameText>,
@@ -69,7 +69,7 @@ fn text_at(names: &IndexSet<NameText>, number: usize) -> &str
 }
 
 impl Names {
-    /// No names. They take no memory yet.
+    /// Returns an empty set. It allocates nothing yet.
     pub fn new(alloc: Global) -> Names
         ensures { result ≡ [] }
     {
@@ -79,8 +79,8 @@ impl Names {
         }
     }
 
-    /// The number of a name, which is kept from then on: a name that is kept already has the number that it
-    /// had, and takes no memory. Where memory is refused, nothing changes.
+    /// Returns the number of a name, which is kept from then on. A name that is kept already has the number that it had, and needs no
+    /// allocation. When out of memory, it fails and the names are unchanged.
     pub fn intern(&mut self, text: &str) -> Result<usize, AllocError>
         ensures number { IfOk result (λ i. i ≡ number_of self.old text.now) }
         ensures kept { OnOk result (self.new ≡ with_name self.old text.now) }
@@ -95,21 +95,21 @@ impl Names {
         keep(&mut self.texts, alloc, text)
     }
 
-    /// What always holds, as this contract says of a call that does nothing: no name stands under two numbers.
+    /// No name has two numbers. The call does nothing: its contract says this of the names.
     pub fn keeps_names(&self)
         ensures { AreDistinct self.now }
     {
         let _texts = &self.texts;
     }
 
-    /// How many names are kept.
+    /// Returns the number of names that are kept.
     pub fn len(&self) -> usize
         ensures { result ≡ length self.now }
     {
         self.texts.len()
     }
 
-    /// The name of a number.
+    /// Returns the name with this number.
     pub fn text(&self, number: usize) -> &str
         requires { number < length self.now }
         ensures { slice_get self.now number ≡ Some result.now }

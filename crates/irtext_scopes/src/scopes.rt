@@ -1,5 +1,4 @@
-//! The scopes of names of one kind as one vector of bindings: leaving a scope cuts the vector back to where
-//! the scope began.
+//! The open scopes of one kind of names, as one vector of bindings. Leaving a scope truncates the vector to where the scope began.
 ghost use Rattle.std.specs.Prelude.{◌≡◌, ℕ, ◌<◌, ◌≤◌, [], ◌∷◌, length, None, Some, true, OnOk, OnErr, IfOk, cond, nat_eq, slice_get, drop, take, set, Err, ◌↔◌};
 ghost use Rattle.irtext_scopes.specs.declared.scopes.DefineFault.{DefineFault};
 ghost use Rattle.irtext_scopes.specs.declared.scopes.Binding.{Binding};
@@ -10,22 +9,25 @@ use crate::marks::Marks;
 use std::alloc::{AllocError, Global};
 use std::marker::Model;
 
-/// What a name stands for in a scope: its definition, or a placeholder where it was used before it is
-/// defined.
+/// What a name refers to in a scope.
 #[derive(Clone, Copy)]
 pub enum Entry<V> {
+    /// The definition of the name.
     Defined(V),
+    /// A placeholder: the name was used and is not defined yet.
     Pending(V),
 }
 
-/// Why a name got no definition.
+/// Why a name could not be defined.
 #[derive(Clone, Copy, PartialEq, Eq, Debug)]
 pub enum DefineFault {
+    /// Out of memory.
     Memory,
+    /// The scope has a definition of the name already.
     MultipleDefinitions,
 }
 
-/// A name as one scope binds it, and the place of the binding of that name which it hides.
+/// A name as one scope binds it, and the index of the binding of that name that it hides.
 #[derive(Clone, Copy)]
 pub(crate) struct Binding<V> {
     pub(crate) name: usize,
@@ -33,13 +35,13 @@ pub(crate) struct Binding<V> {
     pub(crate) hidden: Option<usize>,
 }
 
-/// The scopes of names of one kind that are open, the innermost first. Names are known by their numbers.
+/// The open scopes of one kind of names, the innermost first. Names are given by their numbers.
 #[derive(Drop)]
 pub struct Scopes<V> {
-    // by the number of a name: the place of its newest binding
+    // for the number of a name: the index of its newest binding
     heads: Vec<Option<usize>>,
     bindings: Vec<Binding<V>>,
-    // where each scope begins
+    // the index at which the bindings of each scope begin
     marks: Marks,
 }
 
@@ -55,7 +57,7 @@ impl<V> Model for Scopes<V> {
     ghost invariant = { λ s. IsSound s.heads.items s.bindings.items s.marks };
 }
 
-// the place of the newest binding of a name
+// returns the index of the newest binding of a name
 fn head_of(heads: &[Option<usize>], name: usize) -> Option<usize>
     ensures { result ≡ head_at heads.now name }
 {
@@ -77,7 +79,7 @@ fn grow(heads: &mut Vec<Option<usize>>, name: usize) -> Result<(), AllocError>
     Ok(())
 }
 
-// makes another place the one that a name leads to
+// sets the index that is held for a name
 fn set_head(heads: &mut Vec<Option<usize>>, name: usize, place: Option<usize>)
     requires { name < length heads.old.items }
     ensures { (n : ℕ) → head_at heads.new.items n ≡ cond (nat_eq name n) place (head_at heads.old.items n) }
@@ -85,8 +87,8 @@ fn set_head(heads: &mut Vec<Option<usize>>, name: usize, place: Option<usize>)
     heads[name] = place;
 }
 
-// takes the bindings from a mark on away, gives each name that they bind what they hid, and answers the first
-// of them without a definition
+// removes the bindings from a mark on, so that each name in them has the binding again that was hidden, and returns the first of these
+// names without a definition
 fn cut<V: Copy>(
     heads: &mut Vec<Option<usize>>,
     bindings: &mut Vec<Binding<V>>,
@@ -111,7 +113,7 @@ fn cut<V: Copy>(
     first
 }
 
-// makes the binding at a place one of a definition
+// gives the binding at an index a definition
 fn rebind<V: Copy>(bindings: &mut Vec<Binding<V>>, place: usize, value: V)
     requires { place < length bindings.old.items }
     ensures { (b : Binding V) → slice_get bindings.old.items place ≡ Some b →
@@ -125,7 +127,7 @@ fn rebind<V: Copy>(bindings: &mut Vec<Binding<V>>, place: usize, value: V)
     };
 }
 
-// the place of the binding that the innermost scope has of a name
+// returns the index of the binding that the innermost scope has of a name
 fn place_of(heads: &[Option<usize>], marks: &Marks, name: usize) -> Option<usize>
     ensures { result ≡ place_in heads.now marks.now name }
 {
@@ -142,7 +144,7 @@ fn place_of(heads: &[Option<usize>], marks: &Marks, name: usize) -> Option<usize
 }
 
 impl<V: Copy> Scopes<V> {
-    /// No scope is open. It takes no memory yet.
+    /// Returns scopes of which none is open. It allocates nothing yet.
     pub fn new(alloc: Global) -> Scopes<V>
         ensures { result ≡ [] }
     {
@@ -153,14 +155,14 @@ impl<V: Copy> Scopes<V> {
         }
     }
 
-    /// Whether some scope is open.
+    /// Whether a scope is open.
     pub fn is_open(&self) -> bool
         ensures { result ≡ is_open self.now }
     {
         self.marks.last().is_some()
     }
 
-    /// Opens a scope without names inside the innermost one. Where memory is refused, nothing changes.
+    /// Opens an empty scope inside the innermost one. When out of memory, it fails and the scopes are unchanged.
     pub fn enter(&mut self) -> Result<(), AllocError>
         ensures ok { OnOk result (self.new ≡ [] ∷ self.old) }
         ensures err { OnErr result (self.new ≡ self.old) }
@@ -169,8 +171,8 @@ impl<V: Copy> Scopes<V> {
         Ok(())
     }
 
-    /// Closes the innermost scope, and answers the first name mentioned in it that has no definition. The
-    /// scope is closed whatever the answer; where none is open, nothing changes. It takes no memory.
+    /// Closes the innermost scope. Returns the first name in it that has no definition, in the order in which the names were first
+    /// mentioned in it; the scope is closed in any case. If no scope is open, returns `None` and changes nothing. Allocates nothing.
     pub fn leave(&mut self) -> Option<usize>
         ensures first { result ≡ first_pending (innermost self.old) }
         ensures left { self.new ≡ outer self.old }
@@ -181,7 +183,7 @@ impl<V: Copy> Scopes<V> {
         }
     }
 
-    /// What a name stands for in the innermost scope, in constant time.
+    /// Returns what a name refers to in the innermost scope, or `None` if the scope does not have the name. Takes constant time.
     pub fn find(&self, name: usize) -> Option<Entry<V>>
         ensures { result ≡ find name (innermost self.now) }
     {
@@ -191,8 +193,8 @@ impl<V: Copy> Scopes<V> {
         }
     }
 
-    /// Adds a name to the innermost scope, in which it was not mentioned before. Where memory is refused,
-    /// nothing changes.
+    /// Adds a name to the innermost scope. A scope must be open, and the innermost one must not have the name. When out of memory, it fails
+    /// and the scopes are unchanged.
     pub fn add(&mut self, name: usize, entry: Entry<V>) -> Result<(), AllocError>
         requires open { is_open self.old ≡ true }
         requires unknown { find name (innermost self.old) ≡ None }
@@ -211,7 +213,7 @@ impl<V: Copy> Scopes<V> {
         Ok(())
     }
 
-    // gives a name of the innermost scope its definition, in the place of what it stands for there
+    // gives a name of the innermost scope a definition, in place of what it refers to there
     fn resolve(&mut self, name: usize, value: V)
         ensures { self.new ≡ in_innermost (resolved name value) self.old }
     {
@@ -221,9 +223,9 @@ impl<V: Copy> Scopes<V> {
         rebind(&mut self.bindings, place, value);
     }
 
-    /// Defines a name in the innermost scope, and answers the placeholder that the definition replaces. A
-    /// name that the scope defines already is refused, and memory may be for a name that was not mentioned in
-    /// it: then nothing changes.
+    /// Defines a name in the innermost scope. A scope must be open. Returns the placeholder that the definition replaces, if the scope has
+    /// one for the name. If the scope has a definition of the name already, the error is `MultipleDefinitions`. When out of memory, which
+    /// happens only for a name that the scope does not have, the error is `Memory`. On an error the scopes are unchanged.
     pub fn define(&mut self, name: usize, value: V) -> Result<Option<V>, DefineFault>
         requires { is_open self.old ≡ true }
         ensures twice { (result ≡ Err DefineFault.MultipleDefinitions) ↔

@@ -1,4 +1,4 @@
-//! Texts of names, as they are kept: a short one takes no memory of its own.
+//! The texts of names. A short one is stored in place, without an allocation.
 ghost use Rattle.std.specs.Prelude.{◌≡◌, IfOk, nat_eq};
 ghost use Rattle.std.specs.Cmp.{on_equiv, on_per, partial_equiv_from_equiv};
 ghost use Rattle.std.specs.Cmp.Lexicographic.{pointwise, bytes_decides, nat_list_eq_equiv};
@@ -13,7 +13,7 @@ use std::alloc::{AllocError, Global};
 use std::hash::{Hash, Hasher};
 use std::marker::Model;
 
-/// Where a text stands: in place, if it is of up to 24 bytes, or in a string.
+/// How a text is stored: in place if it has up to 24 bytes, or in a string.
 #[derive(Drop)]
 enum Kept {
     Short(ArrayString<24>),
@@ -38,7 +38,7 @@ impl Model for NameText {
 impl Kept {
     ghost use Rattle.irtext_scopes.specs.Texts.{kept_bytes};
 
-    /// A copy of a text. Only a long one asks for memory.
+    /// Copies a text. Only a text of more than 24 bytes is allocated. Fails only if that allocation fails.
     fn of(alloc: Global, text: &str) -> Result<Kept, AllocError>
         ensures { IfOk result (λ kept. kept_bytes kept ≡ text.now) }
     {
@@ -60,7 +60,7 @@ impl Kept {
 }
 
 impl NameText {
-    /// A copy of a text. Only one of more than 24 bytes asks for memory.
+    /// Copies a text. Only a text of more than 24 bytes is allocated. Fails only if that allocation fails.
     pub(crate) fn of(alloc: Global, text: &str) -> Result<NameText, AllocError>
         ensures { IfOk result (λ t. t ≡ text.now) }
     {
@@ -68,7 +68,7 @@ impl NameText {
         Ok(NameText { kept })
     }
 
-    /// The text.
+    /// Returns the text.
     pub(crate) fn as_str(&self) -> &str
         ensures { result.now ≡ self.now }
     {

@@ -1,5 +1,4 @@
-//! The names of values and of blocks while a text is read: what each stands for in the scopes of the regions
-//! that are open.
+//! The names of values and of blocks during a parse: what each refers to in the scopes of the open regions.
 ghost use Rattle.std.specs.Prelude.{◌≡◌, ◌<◌, [], ◌∷◌, length, None, Some, Err, true, false, OnOk, OnErr, IfOk, IfSome, IfNone, ◌↔◌, option_map, slice_get};
 ghost use Rattle.std.specs.List.{list_any};
 ghost use Rattle.std.specs.Str.{bytes_eq};
@@ -15,15 +14,16 @@ use crate::names::Names;
 use crate::scopes::{DefineFault, Entry, Scopes};
 use std::alloc::{AllocError, Global};
 
-/// Why a region is not entered.
+/// Why a region can't be entered.
 #[derive(Clone, Copy, PartialEq, Eq, Debug)]
 pub enum EnterFault {
+    /// Out of memory.
     Memory,
+    /// The region's operation is not isolated from above, and no scope of values is open.
     TopLevelOpRegionNotIsolatedFromAbove,
 }
 
-/// The names of a reading, and what they stand for: names of values V, and labels of blocks B. A name is
-/// known by its number.
+/// The names of a parse and what they refer to: names of values V, and labels of blocks B. A name is given by its number.
 #[derive(Drop)]
 pub struct NameTracker<V, B> {
     names: Names,
@@ -33,7 +33,7 @@ pub struct NameTracker<V, B> {
     ghost labels_known: { are_known (length names) labels ≡ true },
 }
 
-// the value behind an entry
+// returns the value of an entry, whether it is a definition or a placeholder
 fn value_of<V: Copy>(entry: Entry<V>) -> V
     ensures { result ≡ value_of entry }
 {
@@ -43,7 +43,7 @@ fn value_of<V: Copy>(entry: Entry<V>) -> V
     }
 }
 
-// what a name stands for in the innermost scope
+// returns what a name refers to in the innermost scope
 fn use_of<V: Copy>(scopes: &Scopes<V>, name: usize) -> Option<V>
     ensures value { result ≡ option_map value_of (find name (innermost scopes.now)) }
     ensures unknown { IfNone result (find name (innermost scopes.now) ≡ None) }
@@ -54,7 +54,7 @@ fn use_of<V: Copy>(scopes: &Scopes<V>, name: usize) -> Option<V>
     }
 }
 
-// closes the scopes of a region, and answers the first name in them without a definition
+// closes the scopes of a region, and returns the first name in them without a definition
 fn leave<V: Copy, B: Copy>(
     values: &mut Scopes<V>,
     labels: &mut Scopes<B>,
@@ -73,7 +73,7 @@ fn leave<V: Copy, B: Copy>(
 }
 
 impl<V: Copy, B: Copy> NameTracker<V, B> {
-    /// No name is known, and no region is open. It takes no memory yet.
+    /// Returns a tracker without names and without open regions. It allocates nothing yet.
     pub fn new(alloc: Global) -> NameTracker<V, B>
         ensures names { result.names ≡ [] }
         ensures values { result.values ≡ [] }
@@ -86,8 +86,8 @@ impl<V: Copy, B: Copy> NameTracker<V, B> {
         }
     }
 
-    /// The number of a name. One that was mentioned before in this reading has the number that it had, and
-    /// takes no memory. Where memory is refused, nothing changes.
+    /// Returns the number of a name, which is kept from then on. A name that was mentioned before in this parse has the number that it had,
+    /// and needs no allocation. When out of memory, it fails and nothing changes.
     pub fn intern(&mut self, text: &str) -> Result<usize, AllocError>
         ensures number { IfOk result (λ i. i ≡ number_of self.old.names text.now) }
         ensures kept { OnOk result (self.new.names ≡ with_name self.old.names text.now) }
@@ -102,21 +102,21 @@ impl<V: Copy, B: Copy> NameTracker<V, B> {
         self.names.intern(text)
     }
 
-    /// What always holds, as this contract says of a call that does nothing: no name stands under two numbers.
+    /// No name has two numbers. The call does nothing: its contract says this of the names.
     pub fn keeps_names(&self)
         ensures { AreDistinct self.now.names }
     {
         self.names.keeps_names();
     }
 
-    /// How many names are known; their numbers are those below.
+    /// Returns how many names there are. Their numbers are those below.
     pub fn num_names(&self) -> usize
         ensures { result ≡ length self.now.names }
     {
         self.names.len()
     }
 
-    /// The name of a number.
+    /// Returns the name with this number.
     pub fn name(&self, number: usize) -> &str
         requires { number < length self.now.names }
         ensures { slice_get self.now.names number ≡ Some result.now }
@@ -124,23 +124,23 @@ impl<V: Copy, B: Copy> NameTracker<V, B> {
         self.names.text(number)
     }
 
-    /// Whether a name of a value can be used and defined here.
+    /// Whether a scope of values is open, so that names of values can be used and defined.
     pub fn has_value_scope(&self) -> bool
         ensures { result ≡ is_open self.now.values }
     {
         self.values.is_open()
     }
 
-    /// Whether a label can be used and defined here.
+    /// Whether a scope of labels is open, so that labels can be used and defined.
     pub fn has_label_scope(&self) -> bool
         ensures { result ≡ is_open self.now.labels }
     {
         self.labels.is_open()
     }
 
-    /// Enters a region: labels get a scope of their own, and values get one where the region's operation is
-    /// isolated. A region that is not isolated is refused where no scope of values is open. Where it is
-    /// refused, or memory is, nothing changes.
+    /// Enters a region. This opens a scope of labels, and a scope of values if the region's operation is isolated from above. If it is not
+    /// isolated and no scope of values is open, the error is `TopLevelOpRegionNotIsolatedFromAbove`. When out of memory, the error is
+    /// `Memory`. On an error nothing changes.
     pub fn enter_region(&mut self, isolated: bool) -> Result<(), EnterFault>
         ensures values { OnOk result (self.new.values ≡ entered isolated self.old.values) }
         ensures labels { OnOk result (self.new.labels ≡ [] ∷ self.old.labels) }
@@ -163,9 +163,9 @@ impl<V: Copy, B: Copy> NameTracker<V, B> {
         Ok(())
     }
 
-    /// Leaves a region, and answers the first name that it leaves without a definition: of its values, where
-    /// its operation is isolated, and then of its labels, each in the order in which they were first
-    /// mentioned. Its scopes are closed whatever the answer. It takes no memory.
+    /// Leaves a region. Returns the first name in it that has no definition: first of its values, if its operation is isolated from above,
+    /// and then of its labels, each in the order in which they were first mentioned. The scopes of the region are closed in any case.
+    /// Allocates nothing.
     pub fn exit_region(&mut self, isolated: bool) -> Option<usize>
         ensures first { result ≡ unresolved isolated self.old.values self.old.labels }
         ensures known { IfSome result (λ n. n < length self.old.names) }
@@ -176,8 +176,8 @@ impl<V: Copy, B: Copy> NameTracker<V, B> {
         leave(&mut self.values, &mut self.labels, isolated)
     }
 
-    /// The value that a name stands for: its definition, or the placeholder that waits for it. Where it is
-    /// `None`, the name is new here, and `ssa_forward` binds it to a placeholder.
+    /// Returns the value that a name refers to: its definition, or the placeholder that it has until it is defined. If this is `None`, the
+    /// innermost scope does not have the name, and `ssa_forward` binds it to a placeholder.
     pub fn ssa_use(&self, name: usize) -> Option<V>
         ensures value { result ≡ option_map value_of (find name (innermost self.now.values)) }
         ensures unknown { IfNone result (find name (innermost self.now.values) ≡ None) }
@@ -185,8 +185,8 @@ impl<V: Copy, B: Copy> NameTracker<V, B> {
         use_of(&self.values, name)
     }
 
-    /// Binds a name that is new here to the placeholder that its early use holds, where a scope of values is
-    /// open. Where memory is refused, nothing changes.
+    /// Binds a name to a placeholder, which its use before the definition refers to. A scope of values must be open, and the innermost one
+    /// must not have the name. When out of memory, it fails and nothing changes.
     pub fn ssa_forward(&mut self, name: usize, placeholder: V) -> Result<(), AllocError>
         requires open { is_open self.old.values ≡ true }
         requires known { name < length self.old.names }
@@ -199,9 +199,9 @@ impl<V: Copy, B: Copy> NameTracker<V, B> {
         self.values.add(name, Entry::Pending(placeholder))
     }
 
-    /// Defines a name of a value where a scope of values is open, and answers the placeholder that the
-    /// definition replaces, if the name was used before. A name that its scope defines already is refused, and
-    /// memory may be for a name that is new in it: then nothing changes.
+    /// Defines a name of a value. A scope of values must be open. Returns the placeholder that the definition replaces, if the name was
+    /// used before. If the scope has a definition of the name already, the error is `MultipleDefinitions`. When out of memory, which
+    /// happens only for a name that the scope does not have, the error is `Memory`. On an error nothing changes.
     pub fn ssa_def(&mut self, name: usize, def: V) -> Result<Option<V>, DefineFault>
         requires open { is_open self.old.values ≡ true }
         requires known { name < length self.old.names }
@@ -216,8 +216,8 @@ impl<V: Copy, B: Copy> NameTracker<V, B> {
         self.values.define(name, def)
     }
 
-    /// The block that a label stands for: its definition, or the placeholder that waits for it. Where it is
-    /// `None`, the label is new here, and `block_forward` binds it to a placeholder.
+    /// Returns the block that a label refers to: its definition, or the placeholder that it has until it is defined. If this is `None`, the
+    /// innermost scope does not have the label, and `block_forward` binds it to a placeholder.
     pub fn block_use(&self, name: usize) -> Option<B>
         ensures value { result ≡ option_map value_of (find name (innermost self.now.labels)) }
         ensures unknown { IfNone result (find name (innermost self.now.labels) ≡ None) }
@@ -225,8 +225,8 @@ impl<V: Copy, B: Copy> NameTracker<V, B> {
         use_of(&self.labels, name)
     }
 
-    /// Binds a label that is new here to the placeholder that its early use holds, where a region is open.
-    /// Where memory is refused, nothing changes.
+    /// Binds a label to a placeholder, which its use before the definition refers to. A scope of labels must be open, and the innermost one
+    /// must not have the label. When out of memory, it fails and nothing changes.
     pub fn block_forward(&mut self, name: usize, placeholder: B) -> Result<(), AllocError>
         requires open { is_open self.old.labels ≡ true }
         requires known { name < length self.old.names }
@@ -239,9 +239,9 @@ impl<V: Copy, B: Copy> NameTracker<V, B> {
         self.labels.add(name, Entry::Pending(placeholder))
     }
 
-    /// Defines a label where a region is open, and answers the placeholder that the definition replaces, if
-    /// the label was used before. A label that its region defines already is refused, and memory may be for a
-    /// label that is new in it: then nothing changes.
+    /// Defines a label. A scope of labels must be open. Returns the placeholder that the definition replaces, if the label was used before.
+    /// If the scope has a definition of the label already, the error is `MultipleDefinitions`. When out of memory, which happens only for a
+    /// label that the scope does not have, the error is `Memory`. On an error nothing changes.
     pub fn block_def(&mut self, name: usize, def: B) -> Result<Option<B>, DefineFault>
         requires open { is_open self.old.labels ≡ true }
         requires known { name < length self.old.names }

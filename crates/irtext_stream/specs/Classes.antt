@@ -6,7 +6,7 @@ use Rattle.irtext_stream.specs.Stream.{StreamView, behind}
 use Rattle.irtext_stream.specs.declared.class.Class.{Class}
 use Rattle.irtext_stream.specs.declared.class.Class.TheVariants as class
 
--- the characters of a class
+-- whether a character is of a class
 abbrev pub has : Class → ℕ → Bool
 has class.WhiteSpace c = is_whitespace c
 has class.Digit c = is_ascii_digit c
@@ -16,7 +16,7 @@ has class.Word c = in_word c
 has class.Dotted c = in_word c || c == 46
 has class.Plain c = is_plain c
 
--- a class's bit in a table of bytes
+-- the bit of a class in a table of bytes
 abbrev pub bit_of : Class → ℕ
 bit_of class.WhiteSpace = 1
 bit_of class.Digit = 2
@@ -26,10 +26,10 @@ bit_of class.Word = 16
 bit_of class.Dotted = 32
 bit_of class.Plain = 64
 
--- the stream behind the longest front of characters of a class
+-- the stream after the longest run of characters of a class that comes next
 abbrev pub behind_front : Class → StreamView → StreamView
 behind_front class v = behind v (front (has class) v.rest) (after (has class) v.rest)
 
--- the stream behind the white space that comes next
+-- the stream after the white space that comes next
 abbrev pub behind_space : StreamView → StreamView
 behind_space v = behind_front class.WhiteSpace v

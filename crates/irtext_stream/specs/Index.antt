@@ -1,20 +1,21 @@
--- What is kept of a text to find lines and columns: where its lines begin, how many begin up to each stride, and how many characters begin before each block.
+-- The index of a text, by which lines and columns are found: where its lines begin, how many begin up to each stride, and how many
+-- characters begin before the end of each block.
 use Rattle.std.specs.Prelude.{◌≡◌, ℕ, zero, suc, ◌+◌, ◌-◌, ◌*◌, ◌<◌, ◌≤◌, Bool, true, false, ◌||◌, nat_lt, nat_le, cond, List, [], ◌∷◌, ◌++◌, length, get_or, take, drop, count_by}
 use Rattle.std.specs.Str.{chars, encode_utf8_all, IsUtf8}
 use Rattle.std.specs.Char.{encode_utf8}
 use Rattle.irtext_stream.specs.Text.{Text, is_newline, column_behind, front, after}
 use Rattle.irtext_stream.specs.declared.index.TextIndex.{TextIndex}
 
--- a byte with which a character begins
+-- whether a character in UTF-8 begins with this byte
 abbrev pub begins_character : ℕ → Bool
 begins_character b = nat_lt b 128 || nat_le 192 b
 
--- the entry of a table before this one, and 0 before the first
+-- the entry of a table before this index, and 0 before the first
 abbrev pub entry_before : List ℕ → ℕ → ℕ
 entry_before table zero = 0
 entry_before table (suc k) = get_or table k 0
 
--- a line begins at a byte of the text, behind this many newlines
+-- a line begins at this byte offset of the text, after this many newlines
 pub record BeginsLine (text : Text) (offset newlines : ℕ) : Type 0 where
   pub before : Text
   pub behind : Text
@@ -23,34 +24,34 @@ pub record BeginsLine (text : Text) (offset newlines : ℕ) : Type 0 where
   pub counts : count_by is_newline before ≡ newlines
   pub fresh : column_behind before ≡ 1
 
--- where each line begins but the first
+-- the byte offsets at which the lines but the first begin
 pub record AreStarts (text : Text) (starts : List ℕ) : Type 0 where
   pub each : (k : ℕ) → k < length starts → BeginsLine text (get_or starts k 0) (suc k)
   pub all : count_by is_newline text ≡ length starts
 
--- how many characters begin before the end of each block of 512 bytes
+-- for each whole block of 512 bytes, how many characters begin before its end
 pub record AreBlocks (bytes : List ℕ) (blocks : List ℕ) : Type 0 where
   pub each : (k : ℕ) → k < length blocks → get_or blocks k 0 ≡ count_by begins_character (take (512 * suc k) bytes)
   pub all : length bytes < 512 * suc (length blocks)
 
--- this many lines begin up to an offset, but the first, and perhaps more
+-- at least this many lines but the first begin at or before the offset
 pub record BeginUpTo (starts : List ℕ) (line offset : ℕ) : Type 0 where
   pub within : line ≤ length starts
   pub before : 0 < line → get_or starts (line - 1) 0 ≤ offset
 
--- how many lines begin up to each stride of 128 bytes
+-- for each multiple of 128 up to the size, a number of lines but the first that begin at or before it
 pub record AreLines (starts : List ℕ) (size : ℕ) (lines : List ℕ) : Type 0 where
   pub each : (k : ℕ) → k < length lines → BeginUpTo starts (get_or lines k 0) (128 * k)
   pub all : size < 128 * length lines
 
--- the index is the text's
+-- the index is the index of the text
 pub record Indexes (bytes : List ℕ) (index : TextIndex) : Type 0 where
   pub lines : AreStarts (chars bytes) index.starts.items
   pub single : index.single ≡ true → count_by begins_character bytes ≡ length bytes
   pub blocks : index.single ≡ false → AreBlocks bytes index.blocks.items
   pub strides : AreLines index.starts.items (length bytes) index.lines.items
 
--- the front of characters of a kind that begins at one offset ends at the other
+-- the run of characters of a kind that begins at one offset ends at the other
 pub record Ends (bytes : List ℕ) (from : ℕ) (kind : ℕ → Bool) (to : ℕ) : Type 0 where
   pub within : to ≤ length bytes
   pub passed_utf8 : IsUtf8 (take to bytes)
@@ -58,12 +59,12 @@ pub record Ends (bytes : List ℕ) (from : ℕ) (kind : ℕ → Bool) (to : ℕ)
   pub passed : chars (take to bytes) ≡ chars (take from bytes) ++ front kind (chars (drop from bytes))
   pub rest : chars (drop to bytes) ≡ after kind (chars (drop from bytes))
 
--- how many bytes the next character has, where it is of a kind, and else 0
+-- the number of bytes of the first character of a text if it is of a kind, and otherwise 0
 abbrev pub width_of : (ℕ → Bool) → Text → ℕ
 width_of kind [] = 0
 width_of kind (c ∷ text) = cond (kind c) (length (encode_utf8 c)) 0
 
--- a text comes next at an offset, and its end is a place too
+-- a text is at an offset, and its end is a character boundary
 pub record ComesAt (bytes : List ℕ) (o : ℕ) (text : List ℕ) : Type 0 where
   pub within : o + length text ≤ length bytes
   pub passed_utf8 : IsUtf8 (take (o + length text) bytes)

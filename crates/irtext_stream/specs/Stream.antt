@@ -1,47 +1,47 @@
--- What a stream is, and where a place of its text stands.
+-- What contracts see of a stream, and the line and the column of a position in its text.
 use Rattle.std.specs.Prelude.{◌≡◌, ℕ, min, Bool, true, Option, Some, None, [], ◌∷◌, ◌++◌, ℤ, pos}
 use Rattle.irtext_stream.specs.Text.{Text, line_behind, column_behind}
 
--- what was passed, what is to come, and whether the stream has failed
+-- the text that was consumed, the text that is left, and whether the stream has failed
 pub record StreamView : Type 0 where
   pub passed : Text
   pub rest : Text
   pub failed : Bool
 
--- a line or a column as it is shown, cut at the largest `i32`
+-- a line or a column as it is given, capped at the largest `i32`
 abbrev pub cut : ℕ → ℤ
 cut n = pos (min n 2147483647)
 
--- this line and this column stand behind the text
+-- these are the line and the column of the position after the text
 abbrev pub IsAt : ℤ → ℤ → Text → Type 0
 IsAt line column text = (line ≡ cut (line_behind text)) × (column ≡ cut (column_behind text))
 
--- the next character
+-- the first character of a text, if there is one
 abbrev pub first_of : Text → Option ℕ
 first_of [] = None
 first_of (c ∷ text) = Some c
 
--- the stream with these parts behind its next character, if there is one
+-- the stream with these fields after its next character is consumed, if there is one
 abbrev pub advanced_by : Text → Text → Bool → StreamView
 advanced_by passed [] failed = record { passed = passed; rest = []; failed = failed }
 advanced_by passed (c ∷ rest) failed = record { passed = passed ++ (c ∷ []); rest = rest; failed = failed }
 
--- the stream behind its next character, if there is one
+-- the stream after its next character is consumed, if there is one
 abbrev pub advanced : StreamView → StreamView
 advanced v = advanced_by v.passed v.rest v.failed
 
--- the same stream, failed
+-- the same stream, marked as failed
 abbrev pub after_failure : StreamView → StreamView
 after_failure v = record v { failed = true }
 
--- the stream behind the characters taken
+-- the stream after these characters are consumed
 abbrev pub behind : StreamView → Text → Text → StreamView
 behind v taken rest = record { passed = v.passed ++ taken; rest = rest; failed = v.failed }
 
--- this text comes next, and of the stream behind it this holds
+-- this text comes next, and this holds of the stream after it is consumed
 abbrev pub Comes : Text → StreamView → (StreamView → Type 0) → Type 0
 Comes text v Holds = (rest : Text) × (v.rest ≡ text ++ rest) × Holds (behind v text rest)
 
--- the stream at another place of its text
+-- the stream at another position in its text
 abbrev pub moved : StreamView → Text → Text → StreamView
 moved v passed rest = record { passed = passed; rest = rest; failed = v.failed }

@@ -1,4 +1,4 @@
-//! What readers ask of a stream of characters.
+//! The trait of character streams: what parsers call to read a text.
 ghost use Rattle.std.specs.Prelude.{◌≡◌, MatchBool, refl};
 ghost use Rattle.std.specs.Str.{chars, encode_utf8_all};
 ghost use Rattle.irtext_stream.specs.Text.{BeginsOtherwise};
@@ -11,53 +11,53 @@ use crate::position::{Place, SourcePosition};
 use crate::stream::TextStream;
 use std::alloc::Global;
 
-/// A stream of characters that readers read, and perhaps more beside it.
+/// A stream of characters for parsers. An implementor may hold more than the stream; these calls leave that unchanged.
 pub trait CharStream {
-    // the stream that is read
+    // the stream as the contracts see it
     ghost view: { Self → StreamView };
-    // the same with another stream in its place
+    // the implementor with its stream replaced
     ghost at: { Self → StreamView → Self };
 
-    /// The next character, which stays.
+    /// Returns the next character without consuming it, or `None` at the end of the text.
     fn peek(&self) -> Option<char>
         ensures { result ≡ first_of (view self.now).rest };
 
-    /// The next character, which is passed.
+    /// Consumes and returns the next character. At the end of the text, returns `None` and leaves the stream unchanged.
     fn take(&mut self) -> Option<char>
         ensures value { result ≡ first_of (view self.old).rest }
         ensures after { self.new ≡ at self.old (advanced (view self.old)) };
 
-    /// Passes the longest front of characters of a class.
+    /// Consumes the longest run of characters of the class that comes next.
     fn skip(&mut self, class: Class)
         ensures { self.new ≡ at self.old (behind_front class (view self.old)) };
 
-    /// Passes a text where the whole of it comes next, and answers whether it does.
+    /// If `text` comes next, consumes it and returns true. Otherwise returns false and leaves the stream unchanged.
     fn accept(&mut self, text: &str) -> bool
         ensures { MatchBool result
             (Comes (chars text.now) (view self.old) (λ v. self.new ≡ at self.old v))
             (BeginsOtherwise (chars text.now) (view self.old).rest × (self.new ≡ self.old)) };
 
-    /// Passes white space and a text behind it, where the whole of the text comes there, and answers whether it does. Where it
-    /// doesn't, the stream stays in front of the white space.
+    /// If `text` comes next, after any white space, consumes the white space and `text`, and returns true. Otherwise returns false and
+    /// leaves the stream unchanged, in front of the white space.
     fn accept_spaced(&mut self, text: &str) -> bool
         ensures { MatchBool result
             (Comes (chars text.now) (behind_space (view self.old)) (λ v. self.new ≡ at self.old v))
             (BeginsOtherwise (chars text.now) (behind_space (view self.old)).rest × (self.new ≡ self.old)) };
 
-    /// The place of the next character, or of the end.
+    /// Returns the position of the next character, or of the end of the text.
     fn position(&self) -> Place
         ensures { StandsBehind result (view self.now).passed };
 
-    /// The line and the column of a place that `position` gave on this stream.
+    /// Returns the line and the column of a position that `position` returned on this stream.
     fn locate(&self, place: Place) -> SourcePosition
         ensures { AtPlace place (view self.now) (λ passed rest. IsAt result.line result.column passed) };
 
-    /// Goes to a place that `position` gave on this stream. A failed stream stays failed.
+    /// Moves the stream to a position that `position` returned on this stream. A failed stream stays failed.
     fn reset(&mut self, place: Place)
         requires { IsPlaceOf place (view self.old) }
         ensures { AtPlace place (view self.old) (λ passed rest. self.new ≡ at self.old (moved (view self.old) passed rest)) };
 
-    /// Fails the stream: each reader refuses it from now on.
+    /// Marks the stream as failed: from now on every parser fails on it.
     fn fail(&mut self)
         ensures { self.new ≡ at self.old (after_failure (view self.old)) };
 
@@ -65,12 +65,12 @@ pub trait CharStream {
     fn has_failed(&self) -> bool
         ensures { result ≡ (view self.now).failed };
 
-    /// The text between an earlier place and the next character.
+    /// Returns the text from an earlier position up to the current one.
     fn text_since(&self, place: Place) -> &str
         requires { HasPassed place (view self.now) }
         ensures { SincePlace place (view self.now) (λ passed taken. result.now ≡ encode_utf8_all taken) };
 
-    /// Where what a reader answers is allocated.
+    /// Returns the allocator for the values that parsers return.
     fn allocator(&self) -> Global;
 
     ghost view_at: { (s : Self) (v : StreamView) → view (at s v) ≡ v };

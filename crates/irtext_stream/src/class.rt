@@ -3,7 +3,7 @@ ghost use Rattle.std.specs.Prelude.{◌≡◌, ◌<◌, MatchBool, true, false, 
 ghost use Rattle.irtext_stream.specs.Classes.{has, bit_of};
 ghost use Rattle.irtext_stream.specs.declared.class.TheConstants.{CLASSES};
 
-// for each ASCII character the bits of its classes, and 0 for the other bytes
+// the bits of the classes of each ASCII character, and 0 for the other bytes
 const CLASSES: [u8; 256] = [
     64, 64, 64, 64, 64, 64, 64, 64, 64, 65, 65, 65, 65, 65, 64, 64, 64, 64, 64, 64, 64, 64, 64, 64,
     64, 64, 64, 64, 64, 64, 64, 64, 65, 64, 0, 64, 64, 64, 64, 64, 64, 64, 64, 64, 64, 64, 96, 64,
@@ -18,7 +18,7 @@ const CLASSES: [u8; 256] = [
     0, 0,
 ];
 
-/// The bits of a byte's classes.
+/// Returns the bits of the classes of a byte.
 #[inline(always)]
 fn classes_of(b: u8) -> u8
     ensures { result ≡ get_or CLASSES b 0 }
@@ -29,18 +29,19 @@ fn classes_of(b: u8) -> u8
 /// A class of characters.
 #[derive(Clone, Copy)]
 pub enum Class {
+    /// The characters that `char::is_whitespace` accepts.
     WhiteSpace,
     /// `0` to `9`.
     Digit,
     /// `0` to `9`, `a` to `f` and `A` to `F`.
     HexadecimalDigit,
-    /// What a word begins with: an ASCII letter or `_`.
+    /// The first character of a word: an ASCII letter or `_`.
     Beginning,
-    /// What a word goes on with: an ASCII letter, an ASCII digit or `_`.
+    /// A later character of a word: an ASCII letter, an ASCII digit or `_`.
     Word,
-    /// What a dotted word goes on with: these or `.`.
+    /// A later character of a dotted word: one of `Word`, or `.`.
     Dotted,
-    /// What stands for itself in a quoted text: all but a quotation mark and a backslash.
+    /// A character that denotes itself in a quoted text: any but `"` and `\`.
     Plain,
 }
 
@@ -56,7 +57,7 @@ impl Class {
         self.has_wide(c)
     }
 
-    /// The same, by what the class is.
+    /// The same without the table, for any character.
     #[cold]
     fn has_wide(self, c: char) -> bool
         ensures { result ≡ has self c }
@@ -72,7 +73,7 @@ impl Class {
         }
     }
 
-    /// Whether this byte is an ASCII character of this class.
+    /// Whether the byte is an ASCII character of this class.
     #[inline(always)]
     pub(crate) fn has_byte(self, b: u8) -> bool
         ensures { MatchBool result ((b < 128) × (has self b ≡ true)) (b < 128 → has self b ≡ false) }
@@ -80,7 +81,7 @@ impl Class {
         classes_of(b) & self.bit() != 0
     }
 
-    /// The class's bit in the table.
+    /// Returns the bit of the class in the table.
     #[inline(always)]
     fn bit(self) -> u8
         ensures { result ≡ bit_of self }

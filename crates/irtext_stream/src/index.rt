@@ -1,4 +1,5 @@
-//! The index of a text: where its lines begin, and how many characters begin before each block of it.
+//! The index of a text, by which a byte offset is turned into a line and a column: where lines begin, and how many characters begin before
+//! the end of each block of bytes.
 ghost use Rattle.std.specs.Prelude.{◌≡◌, ◌<◌, ◌≤◌, ◌-◌, ◌+◌, length, get_or, take, count_by, IfOk};
 ghost use Rattle.std.specs.Str.{chars};
 ghost use Rattle.irtext_stream.specs.Stream.{IsAt, cut};
@@ -9,31 +10,33 @@ use crate::position::SourcePosition;
 use memchr::memchr;
 use std::alloc::{AllocError, Global};
 
-/// Where the lines of a text begin, and how many characters begin before each block of it.
+/// Where the lines of a text begin, and how many characters begin before the end of each block of its bytes.
 #[derive(Drop)]
 pub struct TextIndex {
-    // where each line begins but the first
+    // the byte offset at which each line but the first begins
     pub(crate) starts: Vec<usize>,
-    // whether each byte is a character
+    // whether each byte is a character, as in an ASCII text
     pub(crate) single: bool,
-    // how many characters begin before the end of each whole block; none where each byte is one
+    // for each whole block, how many characters begin before its end; empty if `single`
     pub(crate) blocks: Vec<usize>,
-    // how many lines begin up to each stride, but the first
+    // for each multiple of `STRIDE`, how many lines but the first begin at or before it
     pub(crate) lines: Vec<usize>,
 }
 
+// in bytes
 const BLOCK: usize = 512;
 
+// in bytes
 const STRIDE: usize = 128;
 
-/// Whether a character begins with this byte.
+/// Whether a character in UTF-8 begins with this byte.
 fn begins_character(byte: u8) -> bool
     ensures { result ≡ begins_character byte }
 {
     byte < 128 || 192 <= byte
 }
 
-/// How many characters begin among these bytes.
+/// Returns how many characters begin in these bytes.
 fn count_characters(bytes: &[u8]) -> usize
     ensures { result ≡ count_by begins_character bytes.now }
 {
@@ -46,7 +49,7 @@ fn count_characters(bytes: &[u8]) -> usize
     n
 }
 
-/// Where each line begins but the first.
+/// Returns the byte offset at which each line but the first begins.
 fn line_starts(alloc: Global, text: &str) -> Result<Vec<usize>, AllocError>
     ensures { IfOk result (λ starts. AreStarts (chars text.now) starts.items) }
 {
@@ -60,7 +63,7 @@ fn line_starts(alloc: Global, text: &str) -> Result<Vec<usize>, AllocError>
     Ok(starts)
 }
 
-/// How many characters begin before the end of each whole block.
+/// Returns, for each whole block, how many characters begin before its end.
 fn block_counts(alloc: Global, bytes: &[u8]) -> Result<Vec<usize>, AllocError>
     ensures { IfOk result (λ blocks. AreBlocks bytes.now blocks.items) }
 {
@@ -75,7 +78,7 @@ fn block_counts(alloc: Global, bytes: &[u8]) -> Result<Vec<usize>, AllocError>
     Ok(blocks)
 }
 
-/// How many lines begin up to an offset, but the first. At least so many are known to.
+/// Returns how many lines but the first begin at or before the offset. At least `least` of them do.
 fn line_at(starts: &[usize], least: usize, offset: usize) -> usize
     requires { BeginUpTo starts.now least offset }
     ensures up_to { BeginUpTo starts.now result offset }
@@ -88,7 +91,7 @@ fn line_at(starts: &[usize], least: usize, offset: usize) -> usize
     line
 }
 
-/// For each stride of a text how many lines begin up to it, but the first.
+/// Returns, for each multiple of `STRIDE` up to `size`, how many lines but the first begin at or before it.
 fn line_counts(alloc: Global, starts: &[usize], size: usize) -> Result<Vec<usize>, AllocError>
     ensures { IfOk result (λ lines. AreLines starts.now size lines.items) }
 {
@@ -102,7 +105,7 @@ fn line_counts(alloc: Global, starts: &[usize], size: usize) -> Result<Vec<usize
     Ok(lines)
 }
 
-/// The entry before this one, and 0 before the first.
+/// Returns the entry before index `k`, or 0 if `k` is 0.
 fn entry_before(table: &[usize], k: usize) -> usize
     requires { k ≤ length table.now }
     ensures { result ≡ entry_before table.now k }
@@ -110,7 +113,7 @@ fn entry_before(table: &[usize], k: usize) -> usize
     if k == 0 { 0 } else { table[k - 1] }
 }
 
-/// A line or a column behind this many lines or characters.
+/// Returns the number of a line or a column that comes after so many others, capped at `i32::MAX`.
 fn shown(behind: usize) -> i32
     ensures { result ≡ cut (1 + behind) }
 {
@@ -122,7 +125,7 @@ fn shown(behind: usize) -> i32
 }
 
 impl TextIndex {
-    /// The index of a text. Only memory can be refused.
+    /// Builds the index of a text. Fails only if an allocation fails.
     pub(crate) fn new(alloc: Global, text: &str) -> Result<TextIndex, AllocError>
         ensures { IfOk result (λ index. Indexes text.now index) }
     {
@@ -145,7 +148,7 @@ impl TextIndex {
         })
     }
 
-    /// How many characters begin before an offset.
+    /// Returns how many characters begin before the offset.
     fn characters_before(&self, bytes: &[u8], offset: usize) -> usize
         requires blocks { AreBlocks bytes.now self.now.blocks.items }
         requires within { offset ≤ length bytes.now }
@@ -155,7 +158,7 @@ impl TextIndex {
         entry_before(&self.blocks, block) + count_characters(&bytes[block * BLOCK..offset])
     }
 
-    /// How many characters begin between two offsets.
+    /// Returns how many characters begin from `start` up to `end`.
     fn characters_between(&self, bytes: &[u8], start: usize, end: usize) -> usize
         requires indexed { Indexes bytes.now self.now }
         requires order { start ≤ end }
@@ -172,7 +175,7 @@ impl TextIndex {
         self.characters_before(bytes, end) - self.characters_before(bytes, start)
     }
 
-    /// The line and the column of an offset where a character begins, or of the end.
+    /// Returns the line and the column of an offset at which a character begins, or of the end of the text.
     pub(crate) fn position(&self, text: &str, offset: usize) -> SourcePosition
         requires indexed { Indexes text.now self.now }
         requires within { offset ≤ length text.now }

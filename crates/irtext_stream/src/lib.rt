@@ -1,4 +1,4 @@
-//! The stream of a text: its bytes and a byte offset, and an index made once, by which lines and columns are found.
+//! The stream that parsers read: a text, a byte offset in it, and an index, built once, by which lines and columns are found.
 #![tactic(auto)]
 
 pub mod char_stream;

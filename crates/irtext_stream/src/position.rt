@@ -1,14 +1,16 @@
-//! Lines and columns, and places of a stream.
+//! Line and column numbers, and positions in a stream.
 ghost use Rattle.std.specs.Prelude.{[], Some};
 ghost use Rattle.irtext_stream.specs.Stream.{IsAt};
 
 use std::fmt;
 use std::hash::Hasher;
 
-/// A line and a column, each counted from 1 in characters, and cut at the largest `i32`.
+/// A line and a column. Both count from 1, columns in characters, and both are capped at `i32::MAX`.
 #[derive(Clone, Copy, PartialEq, Eq, Hash, Debug)]
 pub struct SourcePosition {
+    /// From 1.
     pub line: i32,
+    /// From 1, in characters.
     pub column: i32,
 }
 
@@ -16,7 +18,7 @@ impl SourcePosition {
     ghost use Rattle.std.specs.Prelude.{◌≡◌, fold};
     ghost use Rattle.irtext_stream.specs.Places.{position_writes};
 
-    /// Feeds a hasher the line, and then the column: the same beside any context.
+    /// Feeds the line and then the column to the hasher. The context is not used, so the hash is the same with any context.
     pub fn stable_hash<C, H: Hasher>(&self, _ctx: &C, state: &mut H)
         ensures { state.new ≡ fold H.write state.old (position_writes self.now) }
     {
@@ -26,7 +28,7 @@ impl SourcePosition {
 }
 
 impl Default for SourcePosition {
-    /// The beginning of a text.
+    /// The beginning of a text: line 1, column 1.
     fn default() -> SourcePosition
         ensures { IsAt result.line result.column [] }
     {
@@ -46,7 +48,7 @@ impl fmt::Display for SourcePosition {
     }
 }
 
-/// A place of a stream, to which the stream can be set back: an offset in its text.
+/// A position in a stream, to which the stream can be reset: a byte offset in its text.
 #[derive(Clone, Copy)]
 pub struct Place {
     pub(crate) offset: usize,

@@ -1,4 +1,4 @@
-//! How far the characters of a class go.
+//! Scans a text from a byte offset: where a run of characters of a class ends, and whether a given text comes next.
 ghost use Rattle.std.specs.Prelude.{◌≡◌, ◌≤◌, MatchBool, length, take, drop};
 ghost use Rattle.std.specs.Str.{chars, IsUtf8};
 ghost use Rattle.irtext_stream.specs.Text.{BeginsOtherwise, is_plain};
@@ -9,7 +9,7 @@ ghost use Rattle.irtext_stream.specs.Index.{Ends, ComesAt, width_of};
 use crate::class::Class;
 use memchr::memchr2;
 
-/// The character at an offset, by its bytes.
+/// Decodes the character at an offset. Returns `None` at the end of the text.
 #[cold]
 pub(crate) fn decode(text: &str, at: usize) -> Option<char>
     requires within { at ≤ length text.now }
@@ -19,7 +19,7 @@ pub(crate) fn decode(text: &str, at: usize) -> Option<char>
     text[at..].chars().next()
 }
 
-/// How many bytes the character at an offset has, where it is of the class; and else 0.
+/// Returns the number of bytes of the character at an offset if it is of the class, and otherwise 0.
 fn width_at(text: &str, at: usize, class: Class) -> usize
     requires within { at ≤ length text.now }
     requires utf8 { IsUtf8 (drop at text.now) }
@@ -31,7 +31,7 @@ fn width_at(text: &str, at: usize, class: Class) -> usize
     }
 }
 
-/// Where the front of characters of a class ends that begins at an offset.
+/// Returns the offset at which the run of characters of the class that begins at `from` ends.
 #[inline(always)]
 pub(crate) fn end_of(text: &str, from: usize, class: Class) -> usize
     requires within { from ≤ length text.now }
@@ -45,7 +45,7 @@ pub(crate) fn end_of(text: &str, from: usize, class: Class) -> usize
     end_of_run(text, from, class)
 }
 
-/// The same, byte by byte, up to a character of several bytes.
+/// The same, byte by byte up to the first character that is not ASCII.
 #[inline(always)]
 fn end_of_run(text: &str, from: usize, class: Class) -> usize
     requires within { from ≤ length text.now }
@@ -84,7 +84,7 @@ fn end_of_wide(text: &str, from: usize, class: Class) -> usize
     }
 }
 
-/// The same of plain characters. To these belong all past ASCII, so no character is looked at by itself.
+/// The same for `Class::Plain`. All characters but `"` and `\` are plain, so only these two bytes are searched.
 fn end_of_plain(text: &str, from: usize) -> usize
     requires within { from ≤ length text.now }
     requires passed_utf8 { IsUtf8 (take from text.now) }
@@ -97,7 +97,7 @@ fn end_of_plain(text: &str, from: usize) -> usize
     }
 }
 
-/// Whether the whole of a text comes at an offset.
+/// Whether `word` is in the text at an offset.
 #[inline(always)]
 pub(crate) fn comes_at(text: &str, at: usize, word: &str) -> bool
     requires within { at ≤ length text.now }

@@ -1,4 +1,4 @@
-//! The stream of a text: its bytes, how far they were read, and the index by which its lines and columns are found.
+//! A text as a stream: its bytes, the offset up to which they were consumed, and the index by which lines and columns are found.
 ghost use Rattle.std.specs.Prelude.{◌≡◌, [], IfOk, MatchBool, false};
 ghost use Rattle.std.specs.Str.{chars, encode_utf8_all};
 ghost use Rattle.irtext_stream.specs.Text.{BeginsOtherwise};
@@ -13,7 +13,7 @@ use crate::scan::{comes_at, decode, end_of};
 use std::alloc::{AllocError, Global};
 use std::marker::Model;
 
-/// A text, how far it was read, and whether a reader has failed on it.
+/// A stream of the characters of a text, which it owns; and whether it was marked as failed.
 #[derive(Drop)]
 pub struct TextStream {
     alloc: Global,
@@ -43,7 +43,7 @@ impl Model for TextStream {
 }
 
 impl TextStream {
-    /// A stream at the beginning of a text, which is copied. Only memory can be refused.
+    /// Returns a stream at the beginning of a text, which is copied. Fails only if an allocation fails.
     pub fn new(alloc: Global, text: &str) -> Result<TextStream, AllocError>
         ensures { IfOk result (λ s. s ≡ record { passed = []; rest = chars text.now; failed = false }) }
     {
@@ -58,7 +58,7 @@ impl TextStream {
         })
     }
 
-    /// The next character, which stays.
+    /// Returns the next character without consuming it, or `None` at the end of the text.
     #[inline(always)]
     pub fn peek(&self) -> Option<char>
         ensures { result ≡ first_of self.now.rest }
@@ -70,7 +70,7 @@ impl TextStream {
         }
     }
 
-    /// The next character, which is passed.
+    /// Consumes and returns the next character. At the end of the text, returns `None` and leaves the stream unchanged.
     #[inline(always)]
     pub fn take(&mut self) -> Option<char>
         ensures value { result ≡ first_of self.old.rest }
@@ -86,7 +86,7 @@ impl TextStream {
         }
     }
 
-    /// The same, by the character's bytes.
+    /// The same for a character that is not ASCII, and for the end of the text.
     #[cold]
     fn take_wide(&mut self) -> Option<char>
         ensures value { result ≡ first_of self.old.rest }
@@ -97,7 +97,7 @@ impl TextStream {
         Some(c)
     }
 
-    /// Passes the longest front of characters of a class.
+    /// Consumes the longest run of characters of the class that comes next.
     #[inline(always)]
     pub fn skip(&mut self, class: Class)
         ensures { self.new ≡ behind_front class self.old }
@@ -105,7 +105,7 @@ impl TextStream {
         self.offset = end_of(self.text.as_str(), self.offset, class);
     }
 
-    /// Passes a text where the whole of it comes next, and answers whether it does.
+    /// If `text` comes next, consumes it and returns true. Otherwise returns false and leaves the stream unchanged.
     #[inline(always)]
     pub fn accept(&mut self, text: &str) -> bool
         ensures { MatchBool result
@@ -119,8 +119,8 @@ impl TextStream {
         true
     }
 
-    /// Passes white space and a text behind it, where the whole of the text comes there, and answers whether it does. Where it
-    /// doesn't, the stream stays in front of the white space.
+    /// If `text` comes next, after any white space, consumes the white space and `text`, and returns true. Otherwise returns false and
+    /// leaves the stream unchanged, in front of the white space.
     #[inline(always)]
     pub fn accept_spaced(&mut self, text: &str) -> bool
         ensures { MatchBool result
@@ -135,7 +135,7 @@ impl TextStream {
         true
     }
 
-    /// The place of the next character, or of the end.
+    /// Returns the position of the next character, or of the end of the text.
     #[inline(always)]
     pub fn position(&self) -> Place
         ensures { StandsBehind result self.now.passed }
@@ -145,7 +145,7 @@ impl TextStream {
         }
     }
 
-    /// The line and the column of a place that `position` gave on this stream.
+    /// Returns the line and the column of a position that `position` returned on this stream.
     pub fn locate(&self, place: Place) -> SourcePosition
         ensures { AtPlace place self.now (λ passed rest. IsAt result.line result.column passed) }
     {
@@ -153,7 +153,7 @@ impl TextStream {
         self.index.position(self.text.as_str(), offset)
     }
 
-    /// Goes to a place that `position` gave on this stream. A failed stream stays failed.
+    /// Moves the stream to a position that `position` returned on this stream. A failed stream stays failed.
     pub fn reset(&mut self, place: Place)
         requires { IsPlaceOf place self.old }
         ensures { AtPlace place self.old (λ passed rest. self.new ≡ moved self.old passed rest) }
@@ -161,7 +161,7 @@ impl TextStream {
         self.offset = place.offset;
     }
 
-    /// Fails the stream: each reader refuses it from now on.
+    /// Marks the stream as failed: from now on every parser fails on it.
     pub fn fail(&mut self)
         ensures { self.new ≡ after_failure self.old }
     {
@@ -175,7 +175,7 @@ impl TextStream {
         self.failed
     }
 
-    /// The text between an earlier place and the next character.
+    /// Returns the text from an earlier position up to the current one.
     pub fn text_since(&self, place: Place) -> &str
         requires { HasPassed place self.now }
         ensures { SincePlace place self.now (λ passed taken. result.now ≡ encode_utf8_all taken) }
@@ -183,7 +183,7 @@ impl TextStream {
         &self.text.as_str()[place.offset..self.offset]
     }
 
-    /// Where what a reader answers is allocated.
+    /// Returns the allocator for the values that parsers return.
     pub fn allocator(&self) -> Global {
         self.alloc
     }

@@ -4,25 +4,28 @@ mod copy;
 
 use crate::base::Identifier;
 
-/// The key of a symbol's name.
+/// The key of the attribute that holds a symbol's name.
 pub const SYM_NAME_KEY: &'static str = "builtin_sym_name";
 
-/// The key of the names that results and arguments were given.
+/// The key of the attribute that holds the given names of results or arguments.
 pub const GIVEN_NAMES_KEY: &'static str = "builtin_given_names";
 
-/// Why a dictionary refuses an entry.
+/// Why a dictionary rejects an entry.
 #[derive(PartialEq, Eq, Debug, Drop)]
 pub enum Refusal {
-    /// This key, `builtin_given_names`, takes `AttrObj::GivenNames` alone.
+    /// This key, `builtin_given_names`, takes only an `AttrObj::GivenNames`.
     ReservedKey(Identifier),
-    /// Memory was refused.
+    /// Out of memory.
     Memory,
 }
 
 /// An attribute: names of results or arguments, an identifier, or one of the caller's own.
 #[derive(PartialEq, Eq, Hash, Debug, Drop)]
 pub enum AttrObj<A> {
+    /// The given names of results or arguments, as `builtin.given_names [x, ?]`. `None`, in the text `?`, is for one without a given name.
     GivenNames(Vec<Option<Identifier>>),
+    /// An identifier, as `builtin.identifier outer`.
     Ident(Identifier),
+    /// An attribute of the caller's own type.
     Own(A),
 }

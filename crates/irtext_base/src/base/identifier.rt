@@ -25,21 +25,21 @@ use std::hash::{Hash, Hasher};
 use std::marker::Model;
 use std::rc::Rc;
 
-/// A name: a letter or `_`, then letters, digits and `_`, all ASCII. A clone shares the text and takes no memory: it is refused only
-/// where the counter of those that share it is full.
+/// A name: an ASCII letter or `_`, then ASCII letters, ASCII digits and `_`. A clone shares the text and allocates nothing. It fails only
+/// if the counter of those that share the text is full.
 #[derive(Drop)]
 pub struct Identifier {
     text: Rc<Hinted>,
 }
 
-/// A text, and where a table may have it.
+/// The text of an identifier, and a hint of where a table may have it.
 #[derive(Drop)]
 struct Hinted {
     word: Word,
     hint: usize,
 }
 
-/// The text of an identifier: a short one takes no memory of its own.
+/// The text of an identifier. Up to 24 bytes are stored in place; only a longer text is allocated.
 #[derive(Drop)]
 enum Word {
     Short(ArrayString<24>),
@@ -62,7 +62,7 @@ impl Model for Identifier {
 }
 
 impl Word {
-    /// The word of a text. Only a long one asks for memory.
+    /// Returns the word with this text. Only a text of more than 24 bytes is allocated. Fails only if that allocation fails.
     fn of(alloc: Global, text: &str) -> Result<Word, AllocError>
         ensures { IfOk result (λ word. word_bytes word ≡ text.now) }
     {
@@ -101,7 +101,7 @@ fn all_in_word(bytes: &[u8]) -> bool
     bytes.iter().all(|b| in_word(*b))
 }
 
-/// Whether a text is the text of an identifier.
+/// Whether the text is an identifier: an ASCII letter or `_`, then ASCII letters, ASCII digits and `_`.
 pub fn is_identifier(text: &str) -> bool
     ensures { result ≡ is_identifier text.now }
 {
@@ -111,28 +111,28 @@ pub fn is_identifier(text: &str) -> bool
     }
 }
 
-/// Whether an identifier can begin with a character.
+/// Whether an identifier can begin with the character.
 fn can_begin(c: char) -> bool
     ensures { result ≡ begins_word c }
 {
     c.is_ascii_alphabetic() || c == '_'
 }
 
-/// Whether an identifier can go on with a character.
+/// Whether the character can come after the first one of an identifier.
 fn can_go_on(c: char) -> bool
     ensures { result ≡ in_word c }
 {
     c.is_ascii_alphanumeric() || c == '_'
 }
 
-/// The first character that no identifier has.
+/// Returns the first character of the text that can't come after the first one of an identifier.
 fn first_alien(text: &str) -> Option<char>
     ensures { result ≡ find (λ c. not (in_word c)) (chars text.now) }
 {
     text.chars().find(|c| !can_go_on(*c))
 }
 
-/// The first character of a text that an identifier can't have where it stands.
+/// Returns the first character of the text that an identifier can't have at its position.
 fn stranger(text: &str) -> Option<char>
     ensures { result ≡ stranger (chars text.now) }
 {
@@ -143,7 +143,7 @@ fn stranger(text: &str) -> Option<char>
     first_alien(text)
 }
 
-/// An error of kind invalid argument without a location.
+/// Returns an error of kind `InvalidArgument` with this cause and without a location.
 fn invalid<A>(cause: Cause<A>) -> Error<A>
     ensures { result ≡ record { kind = ErrorKind.InvalidArgument; err = cause; loc = Unknown } }
 {
@@ -154,7 +154,7 @@ fn invalid<A>(cause: Cause<A>) -> Error<A>
     }
 }
 
-/// The error that a text is no identifier.
+/// Returns the error for a text that is no identifier.
 fn no_identifier<A>(text: &str) -> Error<A>
     requires { is_identifier text.now ≡ false }
     ensures refused { fault_of result.err ≡ name_refused text.now }
@@ -167,9 +167,9 @@ fn no_identifier<A>(text: &str) -> Error<A>
 }
 
 impl Identifier {
-    /// The identifier of a text. Where the text isn't one it answers `Unexpected`, with the first character that an identifier
-    /// can't have there, or the end; else, where memory was refused, `Memory`. The error is of kind invalid argument without a
-    /// location.
+    /// Returns the identifier with this text. If the text is no identifier, the error is `Unexpected` with the first character that can't
+    /// be at its position, or with the end if the text is empty. When out of memory, the error is `Memory`. Both are of kind
+    /// `InvalidArgument` and have no location.
     pub fn try_new<A>(alloc: Global, text: &str) -> crate::result::Result<Identifier, A>
         ensures ok { IfOk result (λ i. i ≡ text.now) }
         ensures fits { IfOk result (λ _. IsTrue (is_identifier text.now)) }
@@ -185,7 +185,7 @@ impl Identifier {
         }
     }
 
-    /// The identifier of a text that is one. Only memory can be refused.
+    /// Returns the identifier with this text, which must be the text of one. Fails only when out of memory.
     pub fn from_word(alloc: Global, text: &str) -> Result<Identifier, AllocError>
         requires { IsTrue (is_identifier text.now) }
         ensures { IfOk result (λ i. i ≡ text.now) }
@@ -193,7 +193,8 @@ impl Identifier {
         Identifier::with_hint(alloc, text, usize::MAX)
     }
 
-    /// The identifier of a text that is one, with a hint of where a table has it. Only memory can be refused.
+    /// Returns the identifier with this text, which must be the text of one, and with a hint of where a table has it. Fails only when out
+    /// of memory.
     fn with_hint(alloc: Global, text: &str, hint: usize) -> Result<Identifier, AllocError>
         requires { IsTrue (is_identifier text.now) }
         ensures { IfOk result (λ i. i ≡ text.now) }
@@ -204,20 +205,21 @@ impl Identifier {
         })
     }
 
-    /// The same identifier with a text of its own, whose hint is the index at which a table has it. Only memory can be refused.
+    /// Returns the same identifier with a text of its own, whose hint is the index at which a table has it. Fails only when out of memory.
     pub fn hinted(&self, alloc: Global, index: usize) -> Result<Identifier, AllocError>
         ensures { IfOk result (λ i. i ≡ self.now) }
     {
         Identifier::with_hint(alloc, self.as_str(), index)
     }
 
-    /// The index at which a table may have the identifier: what it gave to `hinted`, for this identifier and all that share its
-    /// text, else `usize::MAX`. Nothing follows from it: who looks there compares what is found.
+    /// Returns the index at which a table may have the identifier: the one that was passed to `hinted`, for the identifier that it returned
+    /// and for all that share its text, and otherwise `usize::MAX`. The hint is not proved to be right: a caller has to compare what it
+    /// finds at the index.
     pub fn hint(&self) -> usize {
         self.text.hint
     }
 
-    /// The text of the identifier.
+    /// Returns the text of the identifier.
     pub fn as_str(&self) -> &str
         ensures text { result.now ≡ self.now }
         ensures fits { IsTrue (is_identifier self.now) }
@@ -309,16 +311,18 @@ impl Equivalent<Identifier> for &str {
     }
 }
 
-/// The name of an operation: its dialect, and its name there.
+/// The id of an operation: its dialect and its name in the dialect, as `test.make`.
 #[derive(PartialEq, Eq, Hash, Drop)]
 pub struct OpId {
+    /// The name of the dialect.
     pub dialect: Identifier,
+    /// The name of the operation in the dialect.
     pub name: Identifier,
 }
 
 impl OpId {
-    /// The id of these two texts. Where one of them is no identifier it answers `Unexpected` of the first that isn't, as
-    /// `Identifier::try_new` does; else, where memory was refused, `Memory`. The error is of kind invalid argument without a location.
+    /// Returns the id with these two texts. If one of them is no identifier, the error is `Unexpected` for the first that is none, as in
+    /// `Identifier::try_new`. When out of memory, the error is `Memory`. Both are of kind `InvalidArgument` and have no location.
     pub fn try_new<A>(alloc: Global, dialect: &str, name: &str) -> crate::result::Result<OpId, A>
         ensures dialect { IfOk result (λ id. id.dialect ≡ dialect.now) }
         ensures name { IfOk result (λ id. id.name ≡ name.now) }

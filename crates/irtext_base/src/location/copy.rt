@@ -7,7 +7,7 @@ use crate::location::{Location, Source, out_of_memory};
 use crate::text::AttrText;
 use std::alloc::{AllocError, Global};
 
-/// Each source stays as it is.
+/// The sources of a copy are those of the location, unchanged.
 struct SameSources;
 
 impl NewSources for SameSources {
@@ -22,7 +22,7 @@ impl NewSources for SameSources {
     }
 }
 
-/// A copy of the location, which takes no memory where no part of the location stands elsewhere in memory.
+/// Copies a location. A copy of a `SrcPos` or an `Unknown` allocates nothing and never fails.
 fn copy_location<A: AttrText>(
     alloc: Global,
     location: &Location<A>,
@@ -47,8 +47,8 @@ fn copy_location<A: AttrText>(
 }
 
 impl<A: AttrText> Location<A> {
-    /// A copy that equals the location. It is refused only for want of memory, by `Memory`, an error of kind invalid argument. A
-    /// place of a source, and `Unknown`, take no memory and are never refused.
+    /// Returns a copy that equals the location. Fails only when out of memory, with `Memory`, an error of kind `InvalidArgument`. A copy of
+    /// a `SrcPos` or an `Unknown` allocates nothing and never fails.
     pub fn try_clone(&self, alloc: Global) -> crate::result::Result<Location<A>, A>
         ensures ok { IfOk result (λ copy. location_view copy ≡ location_view self.now) }
         ensures plain { OnErr result (is_plain (location_view self.now) ≡ false) }

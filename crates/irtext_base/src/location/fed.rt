@@ -1,4 +1,4 @@
-//! What the hash of a location feeds a hasher.
+//! What the `Hash` of a location feeds a hasher.
 ghost use Rattle.std.specs.Prelude.{◌≡◌, fold};
 ghost use Rattle.std.specs.Hash as fed;
 ghost use Rattle.irtext_base.specs.Locations.{location_view, attr_view_in};
@@ -24,7 +24,7 @@ fn feed_metadata<A: Hash, H: Hasher>(metadata: &Option<AttrObj<A>>, state: &mut 
     }
 }
 
-/// What feeds a hasher each location that is visited.
+/// A visitor that feeds each location to a hasher.
 #[derive(Drop)]
 struct Feeding;
 
@@ -59,7 +59,7 @@ impl<A: Hash, H: Hasher> Visitor<A, H> for Feeding {
     }
 }
 
-/// Feeds a hasher a location.
+/// Feeds a location to a hasher, as its `Hash` does.
 pub(super) fn feed<A: Hash, H: Hasher>(location: &Location<A>, state: &mut H)
     ensures { state.new ≡ fold H.write state.old (fed_view A.hash_input (location_view location.now)) }
 {

@@ -1,4 +1,4 @@
-//! Files as sources, and whether the files of a location are among those whose paths are kept.
+//! Files as sources, and whether the paths of a location's files are kept.
 ghost use Rattle.std.specs.Prelude.{◌≡◌, length, nat_lt, Some, IfOk, IfErr, OnOk, OnErr};
 ghost use Rattle.irtext_base.specs.Locations.{location_view, out_of_memory};
 ghost use Rattle.irtext_base.specs.Paths.{path_index, with_path, MayBeRefused, path_of, is_known, are_known};
@@ -8,9 +8,9 @@ use crate::location::sources::{Looks, see_sources};
 use crate::location::{Location, Source, out_of_memory};
 
 impl Source {
-    /// The source of a file with this path, under the key that the context has for it or gives it. It is refused only for want
-    /// of memory, by `Memory`, an error of kind invalid argument, and then changes nothing. A path that the context keeps already
-    /// takes none; so it is refused only where its index takes more than 32 bits.
+    /// Returns the source for the file with this path, which the context keeps from then on. Fails only when out of memory, with `Memory`,
+    /// an error of kind `InvalidArgument`; the context is then unchanged. A path that the context keeps already needs no allocation, and
+    /// fails only if its index needs more than 32 bits.
     pub fn new_from_file<C: HasPaths<A>, A>(
         ctx: &mut C,
         path: &str,
@@ -36,7 +36,7 @@ impl Source {
         }
     }
 
-    /// Whether the source is in memory, or a file whose path the context keeps.
+    /// Whether the source is `InMemory`, or a file whose path the context keeps.
     pub fn is_of<C: HasPaths<A>, A>(self, ctx: &C) -> bool
         ensures { result ≡ is_known (length (C.paths ctx.now)) self }
     {
@@ -44,7 +44,7 @@ impl Source {
     }
 }
 
-/// Whether all sources that were looked at are in memory or among the files with so many paths.
+/// Whether all sources that were seen are `InMemory` or files with one of the first `count` keys.
 #[derive(Clone, Copy)]
 pub(crate) struct Among {
     count: usize,
@@ -65,8 +65,8 @@ impl Looks for Among {
 }
 
 impl Paths {
-    /// Whether the paths of all files that a location mentions are kept. It takes as much of the machine's stack as locations stand
-    /// inside one another in places that aren't the last of what stands in a location.
+    /// Whether the paths of all files that a location mentions are kept. Recurses into the nested locations, but not into the last one in
+    /// each location.
     pub fn contain<A>(&self, location: &Location<A>) -> bool
         ensures { result ≡ are_known (length self.now) (location_view location.now) }
     {

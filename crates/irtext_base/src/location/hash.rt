@@ -1,4 +1,5 @@
-//! Hashes of locations that agree in any two contexts: they are made from the texts of paths, and not from their keys.
+//! Stable hashes of sources and locations. They are made from the texts of paths and not from keys, so they are the same in any two
+//! contexts.
 ghost use Rattle.std.specs.Prelude.{◌≡◌, length, fold, IsTrue};
 ghost use Rattle.irtext_base.specs.Locations.{location_view, attr_view, attr_view_in};
 ghost use Rattle.irtext_base.specs.Paths.{is_known, are_known};
@@ -12,7 +13,7 @@ use crate::parsable::SourcePosition;
 use crate::text::AttrText;
 use std::hash::{Hash, Hasher};
 
-/// Feeds a hasher a source. Of a file whose path is not kept it feeds no path.
+/// Feeds a source to a hasher. For a file whose path is not kept, no path is fed.
 fn hash_source<H: Hasher>(source: Source, paths: &Paths, state: &mut H)
     ensures { state.new ≡ fold H.write state.old (source_writes paths.now source) }
 {
@@ -45,7 +46,7 @@ fn hash_metadata<A: AttrText, H: Hasher>(metadata: &Option<AttrObj<A>>, state: &
     }
 }
 
-/// What feeds a hasher each location that is visited, by the texts of these paths.
+/// A visitor that feeds each location to a hasher, with the texts of these paths.
 #[derive(Drop)]
 struct Stable<'p>(&'p Paths);
 
@@ -87,7 +88,7 @@ fn hash_location<A: AttrText, H: Hasher>(location: &Location<A>, paths: &Paths, 
 }
 
 impl Source {
-    /// Feeds a hasher the source: 0 and the text of the path of a file, or 1 for memory.
+    /// Feeds the source to a hasher: 0 and the text of the path for a file, or 1 for `InMemory`. The context must have the file's path.
     pub fn stable_hash<C: HasPaths<A>, A, H: Hasher>(&self, ctx: &C, state: &mut H)
         requires { IsTrue (is_known (length (C.paths ctx.now)) self.now) }
         ensures { state.new ≡ fold H.write state.old (source_writes (C.paths ctx.now) self.now) }
@@ -97,9 +98,9 @@ impl Source {
 }
 
 impl<A: AttrText> Location<A> {
-    /// Feeds a hasher the number of the location's case, and then its parts in order: locations that are equal up to the
-    /// contexts that keep their paths are fed alike. It takes as much of the machine's stack as locations stand inside one another
-    /// in places that aren't the last of what stands in a location.
+    /// Feeds the location to a hasher: the number of its variant, and then its parts in order. Locations that differ only in the keys that
+    /// their contexts have for the same paths feed the same. The context must have the paths of all files in the location. Recurses into
+    /// the nested locations, but not into the last one in each location.
     pub fn stable_hash<C: HasPaths<A>, H: Hasher>(&self, ctx: &C, state: &mut H)
         requires { IsTrue (are_known (length (C.paths ctx.now)) (location_view self.now)) }
         ensures { state.new ≡ fold H.write state.old (location_writes A.hash_input (C.paths ctx.now) (location_view self.now)) }

@@ -1,4 +1,4 @@
-//! Sources, positions and locations for another context, under its keys for the same paths.
+//! Copies of sources, positions and locations for another context, with its keys for the same paths.
 ghost use Rattle.std.specs.Prelude.{◌≡◌, ◌≢◌, false, length, Ok, IfOk, IfErr, OnOk, OnErr, IsTrue};
 ghost use Rattle.irtext_base.specs.Locations.{location_view, out_of_memory};
 ghost use Rattle.irtext_base.specs.Paths.{path_of, is_known, are_known, written_with};
@@ -36,7 +36,7 @@ impl NewSources for Paths {
     }
 }
 
-/// The location over the other paths, of which there may be more also where memory is refused.
+/// Copies a location for other paths. If it fails, some of the location's paths may have been added to them.
 fn move_location<A: AttrText>(
     location: &Location<A>,
     from: &Paths,
@@ -64,7 +64,7 @@ fn move_location<A: AttrText>(
     }
 }
 
-/// The location over the other paths. Where memory is refused, these are as they were.
+/// Copies a location for other paths. If it fails, they are unchanged.
 fn moved<A: AttrText>(
     location: &Location<A>,
     from: &Paths,
@@ -89,9 +89,9 @@ fn moved<A: AttrText>(
 }
 
 impl Source {
-    /// The same source for another context: for a file, under the key that the other context has for its path or gives it.
-    /// It is refused only for want of memory, by `Memory`, an error of kind invalid argument, and then changes nothing. A text in
-    /// memory is never refused.
+    /// Returns the same source for another context. For a file, it has the key of the path in that context, which keeps the path from then
+    /// on. Fails only when out of memory, with `Memory`, an error of kind `InvalidArgument`; the other context is then unchanged. Never
+    /// fails for `InMemory`.
     pub fn clone_into_context<C: HasPaths<A>, A>(
         &self,
         src_ctx: &C,
@@ -112,9 +112,9 @@ impl Source {
     }
 }
 
-/// What is the same in any context, since it mentions no path.
+/// A value that is the same in any context, since it mentions no path.
 pub trait CloneIntoContext: Sized {
-    /// The same value for another context, which stays as it was. It is never refused.
+    /// Returns the same value. The other context is unchanged. Never fails.
     fn clone_into_context<C: HasPaths<A>, A>(
         &self,
         src_ctx: &C,
@@ -135,10 +135,10 @@ impl CloneIntoContext for SourcePosition {
 }
 
 impl<A: AttrText> Location<A> {
-    /// The same location for another context: each of its files under the key that the other context has for its path or gives
-    /// it, in the order in which the location mentions them. It is refused only for want of memory, by `Memory`, an error of
-    /// kind invalid argument, and then the other context keeps what paths it kept. `Unknown`, and a place of a text in memory,
-    /// are never refused.
+    /// Returns the same location for another context. Each file has the key of its path in that context, which keeps the paths from then
+    /// on; those that are new to it are added in the order in which the location mentions them. Fails only when out of memory, with
+    /// `Memory`, an error of kind `InvalidArgument`; the other context is then unchanged. Never fails for `Unknown` or a position in a text
+    /// in memory.
     pub fn clone_into_context<C: HasPaths<A>>(
         &self,
         src_ctx: &C,

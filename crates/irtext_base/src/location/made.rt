@@ -1,4 +1,4 @@
-//! Locations made of copies of their names and metadata, and of the locations that stand inside them.
+//! Builds locations from copies of their names and metadata, and from the locations that are nested in them.
 ghost use Rattle.std.specs.Prelude.{◌≡◌, map, IfOk, string_bytes};
 ghost use Rattle.irtext_base.specs.Locations.{location_view, attr_view_in, in_row, fused, named, call_site};
 
@@ -19,7 +19,7 @@ fn copy_metadata<A: AttrText>(
     }
 }
 
-/// Several locations as one, with a copy of the metadata.
+/// Returns a `Fused` location with a copy of the metadata.
 pub(super) fn fused<A: AttrText>(
     alloc: Global,
     metadata: &Option<AttrObj<A>>,
@@ -35,7 +35,7 @@ pub(super) fn fused<A: AttrText>(
     })
 }
 
-/// A location under a copy of the name.
+/// Returns a `Named` location with a copy of the name.
 pub(super) fn named<A: Drop>(
     alloc: Global,
     name: &String,
@@ -48,7 +48,7 @@ pub(super) fn named<A: Drop>(
     Ok(Location::Named { name, child_loc })
 }
 
-/// A callee's location with its caller's.
+/// Returns a `CallSite` location.
 pub(super) fn call_site<A: Drop>(
     alloc: Global,
     callee: Location<A>,

@@ -1,4 +1,4 @@
-//! The paths of files, each kept once under a key, and what has such paths.
+//! File paths, each kept once under a key, and the trait of what has such paths.
 ghost use Rattle.std.specs.Prelude.{◌≡◌, ◌≤◌, ◌<◌, ◌^◌, ◌++◌, ◌∷◌, ℕ, List, [], Some, false, is_some};
 ghost use Rattle.std.specs.Prelude.{IfOk, OnOk, OnErr, length, position, slice_get, take};
 ghost use Rattle.std.specs.Borrow.{sem};
@@ -11,7 +11,7 @@ use indexmap::IndexSet;
 use std::alloc::{AllocError, Global};
 use std::marker::Model;
 
-/// Paths of files. Each is kept once, under its index.
+/// A set of file paths. Each is kept once, with its index as its key.
 #[derive(Drop)]
 pub struct Paths {
     texts: IndexSet<String>,
@@ -30,21 +30,22 @@ impl Model for Paths {
     ghost view = { λ p. path_texts p.texts };
 }
 
-/// What has paths of files, over attributes A, as a context has. Calls that need no more of a context ask for this, so that they
-/// stand in the crate of their types; whoever writes the paths by it may take some away, and then their keys name nothing.
+/// A holder of file paths, as a context is; `A` is the type of the caller's attributes. Calls that need nothing else of a context are
+/// bounded by this trait, so that they can be in the crate of their types. A caller of `paths_mut` may remove paths; their keys are then
+/// invalid.
 pub trait HasPaths<A> {
     ghost use Rattle.irtext_base.specs.PathLends.{LendsPaths};
 
     // the paths, each in bytes
     ghost paths: { Self → List (List ℕ) };
-    // the same with other paths in their place
+    // the same holder with other paths
     ghost with_paths: { Self → List (List ℕ) → Self };
 
-    /// The paths.
+    /// Returns the paths.
     fn paths(&self) -> &Paths
         ensures { result.now ≡ paths self.now };
 
-    /// The paths, for writing.
+    /// Returns the paths as a `&mut`.
     fn paths_mut(&mut self) -> &mut Paths
         ensures* lends { sem 𝓛 (LendsPaths Self.row with_paths self.entry result) }
         ensures value { result.now ≡ paths self.old };
@@ -54,7 +55,7 @@ pub trait HasPaths<A> {
     ghost with_own: { (c : Self) → with_paths c (paths c) ≡ c };
 }
 
-/// An index as one of 32 bits, where it is one.
+/// Returns the index as one of 32 bits. Fails if it needs more.
 fn as_index(index: usize) -> Result<u32, AllocError>
     ensures ok { IfOk result (λ i. i ≡ index) }
     ensures err { OnErr result (2 ^ 32 ≤ index) }
@@ -113,7 +114,7 @@ fn path_at(paths: &IndexSet<String>, index: usize) -> &str
 }
 
 impl Paths {
-    /// No paths. It takes no memory yet.
+    /// Returns an empty set. It allocates nothing yet.
     pub fn new(alloc: Global) -> Paths
         ensures { result ≡ [] }
     {
@@ -123,13 +124,13 @@ impl Paths {
         }
     }
 
-    /// Where the paths are allocated.
+    /// Returns the allocator of the paths.
     pub fn allocator(&self) -> Global {
         self.alloc
     }
 
-    /// The key of a path, which is kept from then on: a path that is kept already has the key that it had, and takes no memory.
-    /// Where memory is refused, or the path's index takes more than 32 bits, nothing changes.
+    /// Returns the key of a path, which is kept from then on. A path that is kept already has the key that it had, and needs no allocation.
+    /// When out of memory, or if the index of the path needs more than 32 bits, it fails and the paths are unchanged.
     pub fn keep(&mut self, path: &str) -> Result<PathKey, AllocError>
         ensures key { IfOk result (λ key. key.index ≡ path_index self.old path.now) }
         ensures kept { OnOk result (self.new ≡ with_path self.old path.now) }
@@ -141,21 +142,21 @@ impl Paths {
         Ok(PathKey { index })
     }
 
-    /// How many paths are kept.
+    /// Returns the number of paths.
     pub fn len(&self) -> usize
         ensures { result ≡ length self.now }
     {
         self.texts.len()
     }
 
-    /// Takes all paths out but the first so many.
+    /// Removes all paths but the first `count`.
     pub(crate) fn truncate(&mut self, count: usize)
         ensures { self.new ≡ take count self.old }
     {
         truncate(&mut self.texts, count);
     }
 
-    /// The path under a key of these paths.
+    /// Returns the path under a key of these paths.
     pub fn path(&self, key: PathKey) -> &str
         requires { key.index < length self.now }
         ensures { slice_get self.now key.index ≡ Some result.now }

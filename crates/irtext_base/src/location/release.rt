@@ -1,5 +1,5 @@
-//! The release of a location by a loop that takes no memory, so that a location may be nested however deep. What waits hangs in
-//! the first place of the location that waits before it.
+//! Drops a location by a loop that allocates nothing, so that locations may be nested to any depth. The locations that are left to drop
+//! form a chain: the first place in each holds the rest of the chain.
 ghost use Rattle.std.specs.Prelude.{◌≡◌, ◌+◌, ◌<◌, IfSome};
 ghost use Rattle.irtext_base.specs.Weights.{weight_of, waiting_of, weight_all, waiting_all, left_of, parts_weight, parts_waiting};
 
@@ -7,7 +7,7 @@ use crate::base::AttrObj;
 use crate::location::Location;
 use std::mem;
 
-/// The locations that stood in one that was taken apart, and what else its place needs.
+/// The parts of a location: the locations that are nested in it, in the boxes from which a location of the chain is built again.
 enum Parts<A> {
     Leaf,
     Many(Box<Option<AttrObj<A>>>, Box<Vec<Location<A>>>),
@@ -33,7 +33,8 @@ impl<A> Location<A> {
     }
 }
 
-/// The last of several locations, and what waits behind it.
+/// Returns the next location to drop, and the rest of the chain, where the chain begins with a `Fused` of these parts; or `None` if the
+/// chain ends there.
 fn take_last<A: Drop>(
     metadata: Box<Option<AttrObj<A>>>,
     locations: Box<Vec<Location<A>>>,
@@ -58,7 +59,7 @@ fn take_last<A: Drop>(
     ))
 }
 
-/// The next of what waits, and what waits behind it.
+/// Returns the next location to drop, and the rest of the chain; or `None` if the chain is at its end.
 fn take_next<A: Drop>(rest: Location<A>) -> Option<(Location<A>, Location<A>)>
     ensures { IfSome result (λ both. left_of both.0 both.1 < waiting_of rest) }
 {
@@ -70,7 +71,7 @@ fn take_next<A: Drop>(rest: Location<A>) -> Option<(Location<A>, Location<A>)>
     }
 }
 
-/// The first of several locations, with the others and what waited waiting behind it.
+/// Returns the first of several locations, and the chain with the others added in front.
 fn enter<A: Drop>(
     metadata: Box<Option<AttrObj<A>>>,
     locations: Box<Vec<Location<A>>>,
@@ -93,7 +94,8 @@ fn enter<A: Drop>(
     )
 }
 
-/// What is let go behind a location, and what waits behind that.
+/// Drops one location but not those that are nested in it. Returns the next location to drop, and the rest of the chain; or `None` if
+/// nothing is left.
 fn step<A: Drop>(next: Location<A>, rest: Location<A>) -> Option<(Location<A>, Location<A>)>
     ensures { IfSome result (λ both. left_of both.0 both.1 < left_of next rest) }
 {
@@ -109,7 +111,7 @@ fn step<A: Drop>(next: Location<A>, rest: Location<A>) -> Option<(Location<A>, L
     }
 }
 
-/// Lets a location go.
+/// Drops a location and all that are nested in it.
 pub(super) fn release<A: Drop>(location: Location<A>) {
     let mut next = location;
     let mut rest = Location::Unknown;

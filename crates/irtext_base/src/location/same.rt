@@ -1,4 +1,4 @@
-//! When locations are equal: a loop along the last location of each, and a recursion into the others.
+//! Equality of locations: a loop along the last location in each, and recursion into the others.
 ghost use Rattle.std.specs.Prelude.{◌≡◌, ◌≤◌, ◌&&◌, suc, map};
 ghost use Rattle.std.specs.Option.{option_eq};
 ghost use Rattle.irtext_base.specs.Locations.{location_view, attr_view_in, in_row, src_pos};
@@ -17,16 +17,16 @@ fn is_same_metadata<A: PartialEq>(a: &Option<AttrObj<A>>, b: &Option<AttrObj<A>>
     *a == *b
 }
 
-/// What is left of a comparison of two locations.
+/// What is left to compare of two locations.
 #[derive(Drop)]
 enum Left<'a, A> {
-    /// Nothing: whether they are equal.
+    /// Nothing: whether the two are equal.
     Known(bool),
-    /// Their last locations: all else of them is equal.
+    /// The last location in each: all else of the two is equal.
     Last(&'a Location<A>, &'a Location<A>),
 }
 
-/// The last locations of two are left where all else of the two is equal.
+/// Returns what is left to compare: the last locations of the two if all else is `alike`, and otherwise that they differ.
 fn last_if<'a, A: PartialEq>(
     alike: bool,
     last: &'a Location<A>,
@@ -42,7 +42,7 @@ fn last_if<'a, A: PartialEq>(
     }
 }
 
-/// Whether a location is this place of this source.
+/// Whether a location is this position of this source.
 fn is_place<A: PartialEq>(location: &Location<A>, source: Source, place: SourcePosition) -> bool
     ensures { result ≡ same_view A.eq (src_pos source place) (location_view location.now) }
 {
@@ -70,7 +70,7 @@ pub(super) fn is_same<A: PartialEq>(a: &Location<A>, b: &Location<A>) -> bool
     }
 }
 
-/// Compares all of two locations but the last that stands in each.
+/// Compares two locations, but not the last location in each. Returns what is left to compare.
 #[cycle(same)]
 fn all_but_last<'a, A: PartialEq>(a: &'a Location<A>, b: &'a Location<A>) -> Left<'a, A>
     ensures same { left_same A.eq result ≡ same_view A.eq (location_view a.now) (location_view b.now) }
@@ -106,7 +106,7 @@ fn all_but_last<'a, A: PartialEq>(a: &'a Location<A>, b: &'a Location<A>) -> Lef
     }
 }
 
-/// Compares all of several locations with another location but the last that stands in each.
+/// The same for a `Fused` location with these parts, and any other location.
 #[cycle(same)]
 fn all_but_last_fused<'a, A: PartialEq>(
     metadata: &Option<AttrObj<A>>,
@@ -130,7 +130,7 @@ fn all_but_last_fused<'a, A: PartialEq>(
     all_but_last_of_rows(locations, row)
 }
 
-/// Compares all of two rows but the last location of each.
+/// Compares two rows of locations, but not the last location of each. Returns what is left to compare.
 #[cycle(same)]
 fn all_but_last_of_rows<'a, A: PartialEq>(a: &'a [Location<A>], b: &'a [Location<A>]) -> Left<'a, A>
     ensures same { left_same A.eq result ≡ same_rows A.eq (in_row (map location_view a.now)) (in_row (map location_view b.now)) }

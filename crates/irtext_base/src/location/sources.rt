@@ -36,14 +36,14 @@ fn note_source(found: &mut Vec<Source>, source: Source) -> Result<(), AllocError
     Ok(())
 }
 
-/// What is still to be looked through: one location, or several in a row.
+/// Locations that are left to search: one location, or several in a row.
 #[derive_where(Clone, Copy)]
 enum Waits<'a, A> {
     One(&'a Location<A>),
     Row(&'a [Location<A>]),
 }
 
-/// Notes the source of a location that is a place, or puts what stands in the location on top of what waits.
+/// Records the source of a `SrcPos`, or pushes the locations that are nested in the location.
 fn note_one<'a, A>(
     location: &'a Location<A>,
     waits: &mut Vec<Waits<'a, A>>,
@@ -101,14 +101,14 @@ fn note_sources<A>(
     Ok(())
 }
 
-/// What is noted of sources that are looked at one after the other.
+/// A summary of the sources that were seen, one after the other.
 pub(super) trait Looks: Copy {
     ghost use Rattle.irtext_base.specs.declared.location.Source.{Source};
 
-    // what is noted with one more source
+    // the summary with one more source
     ghost more: { Self → Source → Self };
 
-    /// The same with one more source.
+    /// Returns the summary with one more source.
     fn with(self, source: Source) -> Self
         ensures { result ≡ more self source };
 }
@@ -152,7 +152,7 @@ impl Seen {
     }
 }
 
-/// What looks at the sources of the locations that are visited.
+/// A visitor that adds the source of each location to a summary.
 #[derive(Drop)]
 struct OfSources;
 
@@ -174,7 +174,7 @@ impl<A, L: Looks> Visitor<A, L> for OfSources {
     fn unknown(&self, _: &mut L) {}
 }
 
-/// What was noted of all sources once those of a location are looked at.
+/// Returns the summary with all sources of a location added.
 pub(super) fn see_sources<A, L: Looks>(location: &Location<A>, seen: L) -> L
     ensures { result ≡ visited (of_sources L.more) seen (location_view location.now) }
 {
@@ -192,8 +192,8 @@ impl<A> Location<A> {
         matches!(see_sources(self, Seen::Nothing), Seen::Nothing)
     }
 
-    /// The source that the location mentions, where it mentions exactly one distinct source. It takes no memory; it takes as much
-    /// of the machine's stack as locations stand inside one another in places that aren't the last of what stands in a location.
+    /// Returns the source that the location mentions, if it mentions exactly one distinct source. Allocates nothing. Recurses into the
+    /// nested locations, but not into the last one in each location.
     #[tactic(auto, using(crate::proofs::Sources::one_is_only))]
     pub fn source(&self) -> Option<Source>
         ensures { result ≡ source self.now }
@@ -201,9 +201,9 @@ impl<A> Location<A> {
         see_sources(self, Seen::Nothing).only()
     }
 
-    /// The distinct sources of the location, in the order in which it first mentions them. What its metadata
-    /// mentions doesn't count. It is refused only for want of memory, by `Memory`, an error of kind invalid argument, and never
-    /// where the location mentions no source. Only where memory was refused does it take the machine's stack as `source` does.
+    /// Returns the distinct sources of the location, in the order in which it first mentions them. What its metadata mentions doesn't
+    /// count. Fails only when out of memory, with `Memory`, an error of kind `InvalidArgument`, and never if the location mentions no
+    /// source. Recurses as `source` does, but only if an allocation failed.
     pub fn sources(&self, alloc: Global) -> crate::result::Result<Vec<Source>, A>
         ensures ok { IfOk result (λ found. found.items ≡ sources self.now) }
         ensures err { IfErr result (λ e. e ≡ out_of_memory) }

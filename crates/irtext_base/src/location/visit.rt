@@ -1,4 +1,4 @@
-//! Visits of locations: a loop along the last location of each, and a recursion into the others.
+//! Visits of locations: a loop along the last location in each, and recursion into the others.
 ghost use Rattle.std.specs.Prelude.{◌≡◌, map};
 ghost use Rattle.irtext_base.specs.Locations.{location_view, in_row};
 ghost use Rattle.irtext_base.specs.Visits.{visited, row_visited};
@@ -7,37 +7,36 @@ use crate::base::AttrObj;
 use crate::location::{Location, Source};
 use crate::parsable::SourcePosition;
 
-/// What is done to a state at each location that is visited, before what stands in the location is visited.
+/// What is done to a state at each location that is visited. A location is visited before those that are nested in it.
 pub(super) trait Visitor<A, S> {
     ghost use Rattle.irtext_base.specs.Locations.{attr_view_in};
     ghost use Rattle.irtext_base.specs.Visits.{Visit};
 
-    // what becomes of the state at a location of each kind
+    // the state after a location of each kind
     ghost visit: { Self → Visit S A };
 
-    /// At a place of a source.
+    /// Visits a `SrcPos`.
     fn place(&self, src: Source, at: &SourcePosition, state: &mut S)
         ensures { state.new ≡ (visit self.now).place state.old src at.now };
 
-    /// At so many locations as one, with their metadata.
+    /// Visits a `Fused` of `count` locations.
     fn fused(&self, metadata: &Option<AttrObj<A>>, count: usize, state: &mut S)
         ensures { state.new ≡ (visit self.now).fused state.old (attr_view_in metadata.now) count };
 
-    /// At a name for a location.
+    /// Visits a `Named`.
     fn named(&self, name: &str, state: &mut S)
         ensures { state.new ≡ (visit self.now).named state.old name.now };
 
-    /// At a callee with its caller.
+    /// Visits a `CallSite`.
     fn called(&self, state: &mut S)
         ensures { state.new ≡ (visit self.now).called state.old };
 
-    /// At a location that is not known.
+    /// Visits an `Unknown`.
     fn unknown(&self, state: &mut S)
         ensures { state.new ≡ (visit self.now).unknown state.old };
 }
 
-/// Visits a location and what stands in it. It takes as much of the machine's stack as locations stand inside one another in places
-/// that aren't the last of what stands in a location.
+/// Visits a location and all that are nested in it. Recurses into the nested locations, but not into the last one in each location.
 #[cycle(visit)]
 pub(super) fn visit<A, S, V: Visitor<A, S>>(location: &Location<A>, visitor: &V, state: &mut S)
     ensures { state.new ≡ visited (V.visit visitor.now) state.old (location_view location.now) }

@@ -1,4 +1,4 @@
-//! Copies of locations with other sources, whatever their nesting: what is open waits on a stack.
+//! Copies locations with other sources, by a loop with a stack of frames, so that they may be nested to any depth.
 ghost use Rattle.std.specs.Prelude.{◌≡◌, ◌+◌, ◌<◌, IfOk, OnOk, OnErr, IsTrue};
 ghost use Rattle.irtext_base.specs.Locations.{location_view};
 ghost use Rattle.irtext_base.specs.Walks.{Reached, Continues, Opens, Copies, taken, row_rest, closing};
@@ -10,17 +10,17 @@ use crate::location::{Location, Source};
 use crate::text::AttrText;
 use std::alloc::{AllocError, Global};
 
-/// What becomes of each source of a location that is copied.
+/// How the sources of a location are replaced in a copy.
 pub(super) trait NewSources {
     ghost use Rattle.irtext_base.specs.Walks.{Rule};
 
-    /// What changes from source to source.
+    /// The state that changes from source to source.
     type State;
 
-    // which sources are known, what becomes of each, and the state behind it
+    // which sources are known, what each is replaced by, and the state after it
     ghost rule: { Self → Rule Self.State };
 
-    /// The source that stands in the copy. A refusal leaves the state as it was.
+    /// Returns the source for the copy. If it fails, the state is unchanged.
     fn new_source(&self, source: Source, state: &mut Self::State) -> Result<Source, AllocError>
         requires { IsTrue ((rule self.now).known source) }
         ensures ok { IfOk result (λ s. s ≡ (rule self.now).image state.old source) }
@@ -28,7 +28,7 @@ pub(super) trait NewSources {
         ensures err { OnErr result (state.new ≡ state.old) };
 }
 
-/// A row of locations that is open: its metadata, the copies so far, and the locations that are left.
+/// An open row of locations: its metadata, the copies so far, and the locations that are left to copy.
 #[derive(Drop)]
 pub(crate) struct Row<'a, A> {
     metadata: &'a Option<AttrObj<A>>,
@@ -36,29 +36,29 @@ pub(crate) struct Row<'a, A> {
     left: &'a [Location<A>],
 }
 
-/// A location that is open round the one that is copied now.
+/// A frame: a location that is open around the one that is copied now.
 #[derive(Drop)]
 pub(crate) enum Frame<'a, A> {
-    /// This name stands for the location inside.
+    /// The location inside has this name.
     Named(&'a String),
-    /// The location inside is a callee, and this is its caller.
+    /// The location inside is a callee, and this is its caller, which is copied after it.
     Callee(&'a Location<A>),
     /// The location inside is a caller, and this is the copy of its callee.
     Caller(Location<A>),
-    /// The location inside stands in this row, between the copies and what is left.
+    /// The location inside is one of this row, between the copies and those that are left.
     Fused(Row<'a, A>),
 }
 
-/// What stands inside the open locations.
+/// What is inside the open frames.
 #[derive(Drop)]
 pub(crate) enum Turn<'a, A> {
-    /// A location, which is copied next.
+    /// A location that is copied next.
     Inside(&'a Location<A>),
-    /// A copy.
+    /// A finished copy.
     Done(Location<A>),
 }
 
-/// What copies locations: where the copies are allocated, and what becomes of the sources.
+/// Copies locations: the allocator of the copies, and how sources are replaced.
 #[derive(Drop)]
 pub(super) struct Walk<'m, M> {
     pub(super) alloc: Global,
@@ -66,7 +66,7 @@ pub(super) struct Walk<'m, M> {
 }
 
 impl<'m, M: NewSources> Walk<'m, M> {
-    /// Goes on with the next location of a row, or makes the row's copy where none is left.
+    /// Continues with the next location of a row, or builds the row's copy if none is left.
     fn go_on<'a, A: AttrText>(
         &self,
         row: Row<'a, A>,
@@ -93,7 +93,7 @@ impl<'m, M: NewSources> Walk<'m, M> {
         }
     }
 
-    /// Opens a location: what stands inside it is next.
+    /// Opens a location: the first location that is nested in it is next. A location with none is copied.
     fn open<'a, A: AttrText>(
         &self,
         location: &'a Location<A>,
@@ -133,7 +133,7 @@ impl<'m, M: NewSources> Walk<'m, M> {
         }
     }
 
-    /// Puts a copy into the innermost location that is open.
+    /// Puts a copy into the innermost open frame.
     fn close<'a, A: AttrText>(
         &self,
         frame: Frame<'a, A>,
@@ -157,7 +157,7 @@ impl<'m, M: NewSources> Walk<'m, M> {
         }
     }
 
-    /// The location with new sources. A refusal leaves the state as some of them had made it.
+    /// Copies a location with other sources. If it fails, the state is as the sources that were replaced so far have made it.
     pub(super) fn copy<A: AttrText>(
         &self,
         location: &Location<A>,

@@ -1,4 +1,4 @@
-//! Why a name of a text is refused.
+//! Errors about the names in a text.
 ghost use Rattle.std.specs.Prelude.{Some, codes, ◌++◌};
 ghost use Rattle.irtext_base.specs.Causes.{name_tracker_text, unresolved_text};
 
@@ -10,12 +10,12 @@ use std::fmt::Display;
 #[derive(Debug, Drop)]
 pub struct UnresolvedReference(pub Identifier);
 
-/// Why a scope refuses a name, or a region is refused as it is entered.
+/// Why a scope rejects a name, or why a region can't be entered.
 #[derive(Debug, Drop)]
 pub enum ParserNameTrackerError {
     /// The scope defines this name already.
     MultipleDefinitions(Identifier),
-    /// A region with no scope of names round it, whose operation is not isolated from above.
+    /// The region is in no scope of names, and its operation is not isolated from above.
     TopLevelOpRegionNotIsolatedFromAbove,
 }
 

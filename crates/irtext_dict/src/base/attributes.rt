@@ -19,7 +19,7 @@ use others::Others;
 use std::alloc::Global;
 use std::marker::Model;
 
-/// The given names, with their place among the other entries.
+/// The given names, with their index among the other entries.
 #[derive(Drop)]
 pub(crate) struct Given<A> {
     at: usize,
@@ -27,7 +27,7 @@ pub(crate) struct Given<A> {
     attr: AttrObj<A>,
 }
 
-/// Attributes under keys, in the order in which the keys came.
+/// A dictionary: attributes under keys, in the order in which the keys were inserted. No key comes twice.
 #[derive(Drop)]
 pub struct AttributeDict<A> {
     given: Option<Given<A>>,
@@ -125,7 +125,7 @@ fn move_up<A>(given: &mut Option<Given<A>>, gone: usize)
 }
 
 impl<A: Drop> AttributeDict<A> {
-    /// An empty dictionary. It takes no memory yet.
+    /// Returns an empty dictionary. It allocates nothing yet.
     pub fn new(alloc: Global) -> Self
         ensures { result ≡ [] }
     {
@@ -136,14 +136,14 @@ impl<A: Drop> AttributeDict<A> {
         }
     }
 
-    /// The attribute under a key.
+    /// Returns the attribute under the key, or `None` if there is none.
     pub fn get(&self, key: &Identifier) -> Option<&AttrObj<A>>
         ensures { option_copied result ≡ lookup (bytes_eq key.now) self.now }
     {
         self.get_str(key.as_str())
     }
 
-    /// The attribute under the key of this text.
+    /// Returns the attribute under the key with this text, or `None` if there is none.
     pub fn get_str(&self, key: &str) -> Option<&AttrObj<A>>
         ensures { option_copied result ≡ lookup (bytes_eq key.now) self.now }
     {
@@ -153,9 +153,9 @@ impl<A: Drop> AttributeDict<A> {
         self.others.get(key)
     }
 
-    /// Puts an attribute under a key, in place of the one that is there, or else last. A refusal changes nothing: by
-    /// `ReservedKey` with the key where it is `builtin_given_names` and the attribute isn't `GivenNames`, else for memory. Given names
-    /// under their key take none, and are not refused.
+    /// Puts an attribute under a key: in place of the one that is there, or else as the last entry. If the key is `builtin_given_names` and
+    /// the attribute is not `GivenNames`, the error is `ReservedKey` with the key. For any other key, the error is `Memory` when out of
+    /// memory. On an error the dictionary is unchanged. Given names under their key need no allocation, and never fail.
     pub fn insert(&mut self, key: Identifier, attr: AttrObj<A>) -> Result<(), Refusal>
         ensures entries { OnOk result (self.new ≡ insert_entry bytes_eq self.old key attr) }
         ensures allowed { OnOk result (is_reserved_for key attr ≡ false) }
@@ -173,7 +173,7 @@ impl<A: Drop> AttributeDict<A> {
         Ok(())
     }
 
-    /// Takes the attribute under a key out. The entries behind it close up.
+    /// Removes the attribute under the key and returns it, or returns `None` if there is none. The order of the other entries is unchanged.
     pub fn remove(&mut self, key: &Identifier) -> Option<AttrObj<A>>
         ensures value { result ≡ lookup (bytes_eq key.now) self.old }
         ensures entries { self.new ≡ shift_remove_entry (bytes_eq key.now) self.old }
@@ -186,7 +186,7 @@ impl<A: Drop> AttributeDict<A> {
         Some(attr)
     }
 
-    /// The entry at an index, from 0, in the order in which the keys came.
+    /// Returns the entry at an index, from 0, in the order in which the keys were inserted; or `None` if there are fewer entries.
     pub fn get_index(&self, index: usize) -> Option<(&Identifier, &AttrObj<A>)>
         ensures { option_map deref_pair result ≡ slice_get self.now index }
     {
@@ -202,7 +202,7 @@ impl<A: Drop> AttributeDict<A> {
         self.others.at(index - 1)
     }
 
-    /// How many entries there are.
+    /// Returns the number of entries.
     #[tactic(auto, using(crate::proofs::Spliced::length_spliced))]
     pub fn len(&self) -> usize
         ensures { result ≡ length self.now }
@@ -213,7 +213,7 @@ impl<A: Drop> AttributeDict<A> {
         }
     }
 
-    /// The entries, in the order in which the keys came.
+    /// Returns an iterator over the entries, in the order in which the keys were inserted.
     pub fn iter(&self) -> Iter<'_, A>
         ensures { entries_left result ≡ self.now }
     {
@@ -221,7 +221,7 @@ impl<A: Drop> AttributeDict<A> {
     }
 }
 
-/// The entries of a dictionary, in the order in which the keys came.
+/// An iterator over the entries of a dictionary, in the order in which the keys were inserted.
 #[derive(Drop)]
 pub struct Iter<'a, A> {
     pub(crate) dict: &'a AttributeDict<A>,

@@ -1,4 +1,4 @@
-//! The eight conditions under which directives read uniquely, in the order in which they are asked.
+//! The eight conditions on directives, in the order in which they are checked.
 ghost use Rattle.std.specs.Prelude.{◌≡◌, ◌&&◌, ◌||◌, not, nat_lt, length, MatchResult};
 ghost use Rattle.std.specs.List.{list_all};
 ghost use Rattle.irtext_formats.specs.Directives.{directives_of, places_of, condition_number, free_keys};
@@ -15,7 +15,7 @@ fn c1(directives: &[Directive]) -> bool
     directives.iter().all(|d| parts::word_prints(d))
 }
 
-/// Whether the places of one kind are below their number.
+/// Whether the indices of one kind of part are below their number.
 fn below_their_number(part: Part, directives: &[Directive]) -> bool
     ensures { result ≡ list_all (λ k. nat_lt k (length (places_of part (directives_of directives.now))))
         (places_of part (directives_of directives.now)) }
@@ -23,7 +23,7 @@ fn below_their_number(part: Part, directives: &[Directive]) -> bool
     parts::all_below(part, parts::count_places(part, directives), directives)
 }
 
-/// Whether the places of one kind are 0 to one below their number, each once.
+/// Whether the indices of one kind of part are 0 to one below their number, each once, in any order.
 fn are_places(part: Part, directives: &[Directive]) -> bool
     ensures { result ≡ are_places (places_of part (directives_of directives.now)) }
 {
@@ -48,7 +48,7 @@ fn c4(directives: &[Directive]) -> bool
     are_places(Part::ResultType, directives)
 }
 
-/// Whether the places of regions ascend from 0 by one.
+/// Whether the indices of regions are 0, 1 and so on, in this order.
 fn regions_ascend(directives: &[Directive]) -> bool
     ensures { result ≡ ascend 0 (places_of Part.Region (directives_of directives.now)) }
 {
@@ -74,14 +74,14 @@ fn c5(directives: &[Directive]) -> bool
         && rules::regions_last(directives)
 }
 
-/// Whether no key is named twice or is the one of given names.
+/// Whether no key comes twice or is the one of given names.
 fn keys_are_free(directives: &[Directive]) -> bool
     ensures { result ≡ free_keys (directives_of directives.now) }
 {
     rules::keys_differ(directives) && !parts::has_key("builtin_given_names", directives)
 }
 
-/// The same, and whether there is one dictionary and one header at most.
+/// The same, and whether there are at most one dictionary and at most one header.
 fn entries_stand_once(directives: &[Directive]) -> bool
     ensures { result ≡ (free_keys (directives_of directives.now)
         && nat_lt (count is_dictionary (directives_of directives.now)) 2 && nat_lt (count is_header (directives_of directives.now)) 2) }
@@ -91,7 +91,7 @@ fn entries_stand_once(directives: &[Directive]) -> bool
         && parts::count_sole(Sole::Header, directives) < 2
 }
 
-/// Whether the symbol's name has a directive of its own only where there is no header.
+/// Whether there is no directive for the key of the symbol's name beside a header.
 fn name_stands_once(directives: &[Directive]) -> bool
     ensures { result ≡ (not (nat_lt 0 (count is_header (directives_of directives.now)))
         || not (has same_text sym_name_key (keys (directives_of directives.now)))) }
@@ -118,7 +118,7 @@ fn c8(directives: &[Directive]) -> bool
     rules::lists_end(directives)
 }
 
-/// The first condition that directives fail, if there is one.
+/// Returns the first condition that the directives fail as an error, if there is one.
 pub(crate) fn check(directives: &[Directive]) -> Result<(), FormatFault>
     ensures { MatchResult result (λ _. first_fault (custom (directives_of directives.now)) ≡ 0)
         (λ fault. first_fault (custom (directives_of directives.now)) ≡ condition_number fault) }

@@ -1,4 +1,4 @@
-//! Which characters can stand behind a list, and which go on with it. `_` stands for itself and all letters.
+//! Which characters can come after a list, and which can continue it. `_` denotes itself and all letters.
 ghost use Rattle.std.specs.Prelude.{◌≡◌, ◌==◌, not, ◌&&◌, codes};
 ghost use Rattle.std.specs.Str.{chars};
 ghost use Rattle.irtext_formats.specs.Directives.{directive_of, directives_of};
@@ -27,7 +27,7 @@ fn begins_text(text: &str, character: char) -> bool
     }
 }
 
-/// Whether what a directive writes can begin with a character.
+/// Whether what a directive prints can begin with a character.
 fn begins(directive: &Directive, character: char) -> bool
     ensures { result ≡ has ◌==◌ character (beginnings (directive_of directive.now)) }
 {
@@ -48,7 +48,7 @@ fn ends_operation(character: char) -> bool
     character == '!' || character == ';' || character == '}' || character == '^'
 }
 
-/// Whether a character can stand where these directives begin.
+/// Whether a character can come first in what these directives print, with what comes after the operation.
 fn can_follow(directives: &[Directive], character: char) -> bool
     ensures { result ≡ has ◌==◌ character (followers (directives_of directives.now)) }
 {
@@ -65,7 +65,7 @@ fn can_follow(directives: &[Directive], character: char) -> bool
     ends_operation(character)
 }
 
-/// Whether nothing that can stand behind a directive goes on with a list that it writes.
+/// Whether no character that can come after a directive could continue a list that it prints.
 pub(crate) fn list_ends(directive: &Directive, rest: &[Directive]) -> bool
     ensures { result ≡ disjoint (continuings (directive_of directive.now)) (followers (directives_of rest.now)) }
 {

@@ -1,4 +1,4 @@
-//! What single directives write: the parts that they name by a place or a key, and how often such directives stand.
+//! Single directives: which part of the operation each names, by an index or a key, and how often each comes.
 ghost use Rattle.std.specs.Prelude.{◌≡◌, ◌==◌, ◌&&◌, nat_lt, length, option_copied};
 ghost use Rattle.std.specs.List.{list_all};
 ghost use Rattle.std.specs.Char.{is_ascii_graphic};
@@ -11,7 +11,7 @@ ghost use Rattle.irtext_base.specs.Format.{word_prints, same_text, has, count, k
 use irtext_base::base::Identifier;
 use irtext_base::format::Directive;
 
-/// The parts of an operation that directives name by their places.
+/// The parts of an operation that directives name by an index.
 #[derive(Clone, Copy)]
 pub(crate) enum Part {
     Operand,
@@ -20,7 +20,7 @@ pub(crate) enum Part {
     Region,
 }
 
-/// The directives that may stand once.
+/// The directives that may come only once.
 #[derive(Clone, Copy)]
 pub enum Sole {
     Operands,
@@ -30,7 +30,7 @@ pub enum Sole {
     Header,
 }
 
-/// The first character of a text.
+/// Returns the first character of a text.
 pub(crate) fn first_of(text: &str) -> Option<char>
     ensures { result ≡ first_of (chars text.now) }
 {
@@ -52,7 +52,7 @@ fn prints(text: &str) -> bool
     }
 }
 
-/// Whether a literal is printable ASCII with one character at least. Other directives do as well.
+/// Whether a literal is one or more printable ASCII characters. True for any other directive.
 pub(crate) fn word_prints(directive: &Directive) -> bool
     ensures { result ≡ word_prints (directive_of directive.now) }
 {
@@ -62,7 +62,7 @@ pub(crate) fn word_prints(directive: &Directive) -> bool
     }
 }
 
-/// The place that a directive names among the parts of one kind.
+/// Returns the index that a directive names among the parts of one kind.
 pub(crate) fn place_of(part: Part, directive: &Directive) -> Option<usize>
     ensures { result ≡ place_of part (directive_of directive.now) }
 {
@@ -75,7 +75,7 @@ pub(crate) fn place_of(part: Part, directive: &Directive) -> Option<usize>
     }
 }
 
-/// The key that a directive names.
+/// Returns the key that a directive names.
 pub(crate) fn key_of(directive: &Directive) -> Option<&Identifier>
     ensures { option_copied result ≡ key_of (directive_of directive.now) }
 {
@@ -98,21 +98,21 @@ pub(crate) fn is_sole(sole: Sole, directive: &Directive) -> bool
     }
 }
 
-/// Whether a directive writes one region.
+/// Whether a directive prints one region.
 pub(crate) fn is_region(directive: &Directive) -> bool
     ensures { result ≡ is_region (directive_of directive.now) }
 {
     matches!(directive, Directive::Region(_))
 }
 
-/// Whether a directive writes regions.
+/// Whether a directive prints one region or a list of regions.
 pub(crate) fn is_any_region(directive: &Directive) -> bool
     ensures { result ≡ is_any_region (directive_of directive.now) }
 {
     matches!(directive, Directive::Region(_) | Directive::Regions)
 }
 
-/// Whether a directive writes names or a type.
+/// Whether a directive prints names or a type.
 pub(crate) fn is_named(directive: &Directive) -> bool
     ensures { result ≡ is_named (directive_of directive.now) }
 {
@@ -124,7 +124,7 @@ pub(crate) fn is_named(directive: &Directive) -> bool
     }
 }
 
-/// Whether a directive writes a list, which may be empty.
+/// Whether a directive prints a list, which may be empty.
 pub(crate) fn is_list(directive: &Directive) -> bool
     ensures { result ≡ is_list (directive_of directive.now) }
 {
@@ -162,21 +162,21 @@ fn names_key(key: &str, directive: &Directive) -> bool
     }
 }
 
-/// Whether a directive names this place.
+/// Whether a directive names this index.
 pub(crate) fn has_place(part: Part, place: usize, directives: &[Directive]) -> bool
     ensures { result ≡ has ◌==◌ place (places_of part (directives_of directives.now)) }
 {
     directives.iter().any(|d| names_place(part, place, d))
 }
 
-/// Whether all places that are named are below a number.
+/// Whether all indices that are named are below a number.
 pub(crate) fn all_below(part: Part, number: usize, directives: &[Directive]) -> bool
     ensures { result ≡ list_all (λ k. nat_lt k number) (places_of part (directives_of directives.now)) }
 {
     directives.iter().all(|d| is_below(part, number, d))
 }
 
-/// How many directives name a place.
+/// Returns how many directives name an index.
 pub(crate) fn count_places(part: Part, directives: &[Directive]) -> usize
     ensures { result ≡ length (places_of part (directives_of directives.now)) }
 {
@@ -193,7 +193,7 @@ pub(crate) fn has_key(key: &str, directives: &[Directive]) -> bool
     directives.iter().any(|d| names_key(key, d))
 }
 
-/// How often a directive stands that may stand once.
+/// Returns how often a directive comes that may come only once.
 pub fn count_sole(sole: Sole, directives: &[Directive]) -> usize
     ensures { result ≡ count (is_sole sole) (directives_of directives.now) }
 {

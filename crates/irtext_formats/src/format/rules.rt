@@ -1,4 +1,4 @@
-//! What is asked of a directive and of those behind it.
+//! Rules on a directive and the directives after it.
 ghost use Rattle.std.specs.Prelude.{◌≡◌, ◌==◌, not};
 ghost use Rattle.std.specs.List.{list_all};
 ghost use Rattle.irtext_formats.specs.Directives.{directive_of, directives_of, place_of, places_of, key_of};
@@ -9,18 +9,18 @@ use crate::format::parts::{Part, Sole};
 use crate::format::{followers, parts};
 use irtext_base::format::Directive;
 
-/// A rule on a directive and those behind it.
+/// A rule on a directive and the directives after it.
 #[derive(Clone, Copy)]
 enum Rule {
-    /// The place that the directive names isn't named again.
+    /// The index that the directive names is not named again.
     PlacesDiffer(Part),
-    /// The key that the directive names isn't named again.
+    /// The key that the directive names is not named again.
     KeysDiffer,
-    /// Behind all regions that are left stands no region.
+    /// After a list of regions there is no single region.
     RegionsBefore,
-    /// Behind a region stand no name and no type.
+    /// After regions there are no names and no type.
     NamesBefore,
-    /// What can stand behind a list doesn't go on with it.
+    /// No character that can come after a list could continue it.
     ListsEnd,
 }
 
@@ -66,7 +66,7 @@ fn keeps(rule: Rule, directive: &Directive, rest: &[Directive]) -> bool
     }
 }
 
-/// Whether each directive, with those behind it, keeps a rule.
+/// Whether each directive, with those after it, obeys a rule.
 fn all_keep(rule: Rule, directives: &[Directive]) -> bool
     ensures { result ≡ all_keep rule (directives_of directives.now) }
 {
@@ -80,7 +80,7 @@ fn all_keep(rule: Rule, directives: &[Directive]) -> bool
     true
 }
 
-/// Whether no place among the parts of one kind is named twice.
+/// Whether no index of one kind of part is named twice.
 pub(crate) fn places_differ(part: Part, directives: &[Directive]) -> bool
     ensures { result ≡ distinct ◌==◌ (places_of part (directives_of directives.now)) }
 {
@@ -94,21 +94,21 @@ pub(crate) fn keys_differ(directives: &[Directive]) -> bool
     all_keep(Rule::KeysDiffer, directives)
 }
 
-/// Whether no region of its own stands behind all that are left.
+/// Whether no single region comes after a list of regions.
 pub(crate) fn regions_last(directives: &[Directive]) -> bool
     ensures { result ≡ none_behind is_regions is_region (directives_of directives.now) }
 {
     all_keep(Rule::RegionsBefore, directives)
 }
 
-/// Whether no name and no type stands behind a region.
+/// Whether no names and no type come after regions.
 pub(crate) fn names_first(directives: &[Directive]) -> bool
     ensures { result ≡ none_behind is_any_region is_named (directives_of directives.now) }
 {
     all_keep(Rule::NamesBefore, directives)
 }
 
-/// Whether what can stand behind a list never goes on with it.
+/// Whether no character that can come after a list could continue it.
 pub(crate) fn lists_end(directives: &[Directive]) -> bool
     ensures { result ≡ c8 (directives_of directives.now) }
 {

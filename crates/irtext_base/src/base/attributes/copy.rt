@@ -29,7 +29,7 @@ fn copy_names(
 }
 
 impl<A: AttrText> AttrObj<A> {
-    /// A copy that equals the attribute. It is refused only for want of memory.
+    /// Returns a copy that equals the attribute. Fails only when out of memory.
     pub fn try_clone(&self, alloc: Global) -> Result<AttrObj<A>, AllocError>
         ensures { IfOk result (λ copy. attr_view copy ≡ attr_view self.now) }
     {

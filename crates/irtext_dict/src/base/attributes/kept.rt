@@ -1,4 +1,4 @@
-//! What every dictionary keeps, for callers that prove something of one.
+//! What holds of every dictionary, for callers that prove something about one.
 ghost use Rattle.std.specs.Prelude.{◌≡◌, true, not};
 ghost use Rattle.std.specs.List.{list_all};
 ghost use Rattle.std.specs.Map.{keys_of};
@@ -9,8 +9,8 @@ ghost use Rattle.irtext_base.specs.Format.{distinct};
 use crate::base::AttributeDict;
 
 impl<A: Drop> AttributeDict<A> {
-    /// No key stands twice in a dictionary, and under the key `builtin_given_names` it has `AttrObj::GivenNames` alone. The call
-    /// does nothing: its contract says so of the dictionary.
+    /// No key comes twice in a dictionary, and under the key `builtin_given_names` there is only an `AttrObj::GivenNames`. The call does
+    /// nothing: its contract says this of the dictionary.
     pub fn keeps_keys(&self)
         ensures differ { distinct bytes_eq (keys_of self.now) ≡ true }
         ensures reserved { list_all (λ e. not (is_reserved_for e.0 e.1)) self.now ≡ true }

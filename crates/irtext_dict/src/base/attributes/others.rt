@@ -1,4 +1,4 @@
-//! The entries of a dictionary beside the given names: a few stand in a vector, which is searched, and more in a map.
+//! The entries of a dictionary beside the given names: a few are in a vector, which is searched, and more are in a map.
 ghost use Rattle.std.specs.Prelude.{◌≡◌, ◌+◌, ◌<◌, ◌≤◌, [], true, IfOk, OnOk, OnErr, IfSome, option_copied, length, slice_get, position};
 ghost use Rattle.std.specs.Map.{lookup, keys_of};
 ghost use Rattle.std.specs.Map.Iter.{deref_pair};
@@ -13,7 +13,7 @@ use irtext_base::base::{AttrObj, Identifier};
 use std::alloc::{AllocError, Global};
 use std::marker::Model;
 
-/// How many entries are searched, one after the other, before there is a map.
+/// The largest number of entries that are kept in a vector. With one more they are moved to a map.
 const FEW: usize = 8;
 
 type Entry<A> = (Identifier, AttrObj<A>);
@@ -26,7 +26,7 @@ enum Stored<A> {
     Many(Box<Table<A>>),
 }
 
-/// Entries in the order in which their keys came. No key stands twice.
+/// Entries in the order in which their keys were inserted. No key comes twice.
 #[derive(Drop)]
 pub(crate) struct Others<A> {
     stored: Stored<A>,
@@ -86,7 +86,7 @@ fn put_in<A: Drop>(map: &mut Table<A>, key: Identifier, attr: AttrObj<A>) -> Res
     Ok(())
 }
 
-/// Puts an entry where there is room for it.
+/// Puts an entry into a map that has room for it.
 fn put_within<A: Drop>(map: &mut Table<A>, key: Identifier, attr: AttrObj<A>)
     requires { 0 < spare map.old }
     ensures entries { map.new.entries ≡ insert_entry bytes_eq map.old.entries key attr }
@@ -98,7 +98,7 @@ fn put_within<A: Drop>(map: &mut Table<A>, key: Identifier, attr: AttrObj<A>)
     }
 }
 
-/// A map with room for more than a few entries.
+/// Returns an empty map with room for one entry more than `FEW`.
 fn roomy<A: Drop>(alloc: Global) -> Result<Box<Table<A>>, AllocError>
     ensures empty { IfOk result (λ map. map.value.entries ≡ []) }
     ensures spare { IfOk result (λ map. 9 ≤ spare map.value) }
@@ -107,7 +107,7 @@ fn roomy<A: Drop>(alloc: Global) -> Result<Box<Table<A>>, AllocError>
     Ok(Box::new(alloc, map)?)
 }
 
-/// Puts all entries into a map that has room for them.
+/// Puts all entries into a map that has room for them and for one more.
 fn put_all<A: Drop>(map: &mut Table<A>, entries: Vec<Entry<A>>)
     requires { length entries.items < spare map.old }
     ensures entries { map.new.entries ≡ insert_all bytes_eq map.old.entries entries.items }
@@ -118,7 +118,7 @@ fn put_all<A: Drop>(map: &mut Table<A>, entries: Vec<Entry<A>>)
     }
 }
 
-/// The entries in a map, with one more put in. Where memory is refused they stay where they were.
+/// Moves the entries to a map, and puts one more into it. When out of memory, the entries are unchanged.
 fn widened<A: Drop>(
     few: &mut Vec<Entry<A>>,
     alloc: Global,
@@ -136,7 +136,7 @@ fn widened<A: Drop>(
     Ok(map)
 }
 
-/// Gives the entry at a place a new attribute.
+/// Replaces the attribute of the entry at an index.
 fn replace<A: Drop>(few: &mut Vec<Entry<A>>, place: usize, key: &Identifier, attr: AttrObj<A>)
     requires { position (bytes_eq key.now) (keys_of few.old.items) ≡ Some place }
     ensures entries { few.new.items ≡ insert_entry bytes_eq few.old.items key.now attr }
@@ -190,7 +190,7 @@ fn take<A: Drop>(stored: &mut Stored<A>, key: &Identifier) -> Option<(usize, Att
 }
 
 impl<A: Drop> Others<A> {
-    /// No entries. They take no memory yet.
+    /// Returns an empty list of entries. It allocates nothing yet.
     pub(crate) fn new(alloc: Global) -> Self
         ensures { result ≡ [] }
     {
@@ -199,7 +199,8 @@ impl<A: Drop> Others<A> {
         }
     }
 
-    /// Puts an attribute under a key, in place of the one that is there, or else last. Where memory is refused nothing changes.
+    /// Puts an attribute under a key: in place of the one that is there, or else as the last entry. When out of memory, it fails and the
+    /// entries are unchanged.
     pub(crate) fn put(
         &mut self,
         alloc: Global,
@@ -212,7 +213,7 @@ impl<A: Drop> Others<A> {
         put(&mut self.stored, alloc, key, attr)
     }
 
-    /// The attribute under the key of this text.
+    /// Returns the attribute under the key with this text, or `None` if there is none.
     pub(crate) fn get(&self, key: &str) -> Option<&AttrObj<A>>
         ensures { option_copied result ≡ lookup (bytes_eq key.now) self.now }
     {
@@ -222,7 +223,7 @@ impl<A: Drop> Others<A> {
         }
     }
 
-    /// How many entries there are.
+    /// Returns the number of entries.
     pub(crate) fn len(&self) -> usize
         ensures len { result ≡ length self.now }
         ensures small { result < 9223372036854775808 }
@@ -233,7 +234,7 @@ impl<A: Drop> Others<A> {
         }
     }
 
-    /// The entry at an index, from 0.
+    /// Returns the entry at an index, from 0, or `None` if there are fewer.
     pub(crate) fn at(&self, i: usize) -> Option<(&Identifier, &AttrObj<A>)>
         ensures { option_map deref_pair result ≡ slice_get self.now i }
     {
@@ -243,7 +244,8 @@ impl<A: Drop> Others<A> {
         }
     }
 
-    /// Takes the attribute under a key out, with the index of its entry. The entries behind it close up.
+    /// Removes the attribute under the key and returns it with the index of its entry, or returns `None` if there is none. The order of the
+    /// other entries is unchanged.
     pub(crate) fn take(&mut self, key: &Identifier) -> Option<(usize, AttrObj<A>)>
         ensures entries { self.new ≡ shift_remove_entry (bytes_eq key.now) self.old }
         ensures value { option_map (λ p. p.1) result ≡ lookup (bytes_eq key.now) self.old }
@@ -252,7 +254,7 @@ impl<A: Drop> Others<A> {
         take(&mut self.stored, key)
     }
 
-    /// No key stands twice. The call does nothing: its contract says so of the entries.
+    /// No key comes twice. The call does nothing: its contract says this of the entries.
     pub(crate) fn keeps_keys(&self)
         ensures { distinct bytes_eq (keys_of self.now) ≡ true }
     {
