@@ -1,4 +1,4 @@
-//! Readers of tokens. Each takes the stream first and answers what stands there, or a fault with its cause and place.
+//! Parsers of tokens. Each takes the stream first and returns the value that comes next, or an error with its cause and position.
 
 pub mod attributes;
 pub mod class;
