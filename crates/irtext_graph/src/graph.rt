@@ -59,8 +59,8 @@ impl<O: Drop, B: Drop, T: Drop> Graph<O, B, T> {
         Graph::with_counters(alloc, 0, 1)
     }
 
-    /// Makes a graph without objects. Its next value gets the number `values`, and its slots are numbered from `places`. Large numbers
-    /// put the counters near their limits: a slot's number is always less than `u32::MAX`. It allocates nothing.
+    /// Makes a graph without objects. Its next value gets the number `values`, and its slots are numbered from `places`, at least 1.
+    /// Large numbers put the counters near their limits: a slot's number is always less than `u32::MAX`. It allocates nothing.
     pub fn with_counters(alloc: Global, values: u64, places: u32) -> Graph<O, B, T>
         requires { 1 ≤ places }
         ensures { result ≡ begun values places }
@@ -87,7 +87,7 @@ impl<O: Drop, B: Drop, T: Drop> Graph<O, B, T> {
         self.alloc
     }
 
-    /// Returns how many objects were made, erased ones included. All live objects were made before this mark for `roll_back`.
+    /// Returns how many objects were made, erased ones included. It is a mark for `roll_back`: all live objects are older.
     pub fn made(&self) -> u64
         ensures value { result ≡ self.now.made }
         ensures older { AllOlder result self.now }
@@ -262,8 +262,8 @@ impl<O: Drop, B: Drop, T: Drop> Graph<O, B, T> {
 
     /// Erases an object and everything nested in it, and removes it from its parent. Nothing outside may use what is defined in it
     /// (`CanErase`). The slots become free, and no pointer is reused. It allocates nothing. Its time grows with the objects in o, their
-    /// uses, and the children after o in its parent. From time to time the graph's record of what was made drops erased objects, so that
-    /// it has no more of them than of live objects.
+    /// uses, and the children after o in its parent. Now and then erased objects are removed from the graph's log of made objects, so
+    /// that it has no more of them than of live objects.
     pub fn erase(&mut self, o: Object)
         requires stands { Stands self.old o }
         requires can { CanErase self.old o }

@@ -185,7 +185,7 @@ impl<K: Kind> Ptr<K> {
         ctx.graph_mut().erase(K::object(self));
     }
 
-    /// Returns the nearest operation that contains the object.
+    /// Returns the nearest operation that encloses the object, if there is one.
     pub fn get_parent_op<C: HasGraph>(self, ctx: &C) -> Option<Ptr<Operation>>
         requires { Stands (C.graph ctx.now) (K.object self) }
         ensures parent { ancestor (C.graph ctx.now) (to_operation (K.object self)) (K.object self) ≡ option_map TheOperation result }
@@ -199,7 +199,7 @@ impl<K: Kind> Ptr<K> {
         }
     }
 
-    /// Returns the nearest block that contains the object.
+    /// Returns the nearest block that encloses the object, if there is one.
     pub fn get_parent_block<C: HasGraph>(self, ctx: &C) -> Option<Ptr<BasicBlock>>
         requires { Stands (C.graph ctx.now) (K.object self) }
         ensures parent { ancestor (C.graph ctx.now) (to_block (K.object self)) (K.object self) ≡ option_map TheBlock result }
@@ -213,7 +213,7 @@ impl<K: Kind> Ptr<K> {
         }
     }
 
-    /// Returns the nearest region that contains the object.
+    /// Returns the nearest region that encloses the object, if there is one.
     pub fn get_parent_region<C: HasGraph>(self, ctx: &C) -> Option<Ptr<Region>>
         requires { Stands (C.graph ctx.now) (K.object self) }
         ensures parent { ancestor (C.graph ctx.now) (to_region (K.object self)) (K.object self) ≡ option_map TheRegion result }

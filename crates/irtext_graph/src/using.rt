@@ -88,7 +88,7 @@ impl<O: Drop, B: Drop, T: Drop> Graph<O, B, T> {
         self.objects.count_uses(d)
     }
 
-    /// Returns the operands and successors that refer to d, each once. An operation that uses d twice has two. It goes over all uses.
+    /// Returns the sites of all uses of d, each once: two for an operation that uses d twice. Fails only if an allocation fails.
     pub fn uses(&self, d: Defined) -> Result<Vec<Site>, AllocError>
         requires { IsDefined self.now d }
         ensures { IfOk result (λ us. Lists (IsUse self.now d) us.items) }

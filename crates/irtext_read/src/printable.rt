@@ -46,7 +46,7 @@ fn fmt_images(text: &str, f: &mut String) -> fmt::Result
     Ok(())
 }
 
-/// Appends the text as a quoted string, as `"a\n"` for `a` and a newline. A NUL, tab, newline, carriage return, quotation mark and
+/// Appends the text as a quoted string, such as `"a\n"` for `a` and a newline. A NUL, tab, newline, carriage return, quotation mark and
 /// backslash are printed as `\0`, `\t`, `\n`, `\r`, `\"` and `\\`, every other ASCII control character as `\u{N}` with N in lower-case
 /// hexadecimal, and every other character as itself. Fails only if an allocation fails; what was appended before stays.
 pub fn fmt_quoted(text: &str, f: &mut String) -> fmt::Result

@@ -23,7 +23,7 @@ pub enum Signedness {
     Signless,
 }
 
-/// An integer type, printed as its sign and its width without a space between them, as `si32`.
+/// An integer type such as `si32`. It is printed as its sign and its width, without a space between them.
 #[derive(Clone, Copy, PartialEq, Eq, Hash, Debug)]
 pub struct IntegerType {
     pub kind: Signedness,
@@ -101,7 +101,7 @@ fn width_if(number: Option<u64>) -> Option<Width>
     Width::new(number? as usize)
 }
 
-/// Parses an integer type, as `si32`: `si`, `ui` or `i`, and a width in decimal digits, without white space between them. Fails with
+/// Parses an integer type, such as `si32`: `si`, `ui` or `i`, and a width in decimal digits, without white space between them. Fails with
 /// `Unexpected`, uncommitted, if the next character begins no sign. Every other error is committed: `Unexpected` if `s` or `u` is not
 /// followed by `i` or the sign by a digit, and `NumberRange` at the first digit if the width is not from 1 to 65,535.
 pub fn integer_type_parse<A>(stream: &mut TextStream) -> ParseResult<IntegerType, A>

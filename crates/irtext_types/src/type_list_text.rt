@@ -27,7 +27,7 @@ fn items_parse<A: Drop>(stream: &mut TextStream) -> ParseResult<Vec<DemoType>, A
     list_parser(stream, ',', |s: &mut TextStream| type_parse(s))
 }
 
-/// Parses a required list of types, as `(builtin.integer si32, test.ptr )`: in parentheses, separated by commas, with optional white
+/// Parses a required list of types, such as `(builtin.integer si32, test.ptr )`: in parentheses, separated by commas, with optional white
 /// space before and after each type. Every error is committed.
 pub fn types_parse<A: Drop>(stream: &mut TextStream) -> ParseResult<TypeList, A>
     ensures { MustRead (λ s. s) (λ s v. v) (λ t. t) types_at stream.old result stream.new }

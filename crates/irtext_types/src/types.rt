@@ -14,7 +14,7 @@ use std::fmt;
 /// A demo type.
 #[derive(Clone, Copy, PartialEq, Eq, Hash, Debug)]
 pub enum DemoType {
-    /// Printed as `builtin.integer W`, where W is the text of the integer type, as `si32`.
+    /// Printed as `builtin.integer W`, where W is the text of the integer type, such as `si32`.
     Integer(IntegerType),
     /// Printed as `test.ptr ` with one space at its end. The parser consumes the word only.
     Pointer,

@@ -22,7 +22,8 @@ use std::marker::Model;
 
 /// All operations, blocks and regions by their pointers, the paths of source files, and the dialects by their names.
 ///
-/// A forward reference refers to a placeholder: an operation without data, which no text names. The definition replaces it.
+/// A placeholder is an operation without data. It represents an operation or a value that is referred to before it is defined; no text
+/// refers to the placeholder itself.
 #[derive(Drop)]
 pub struct Context<T, A> {
     pub(crate) graph: Graph<Option<OperationData<A>>, BlockData<A>, Option<T>>,

@@ -107,8 +107,8 @@ pub trait OperationAccess: Sized {
         ensures kept { (mark : ℕ) → before mark ctx.old.graph.operations (pointer self) ≡ None → KeepsOlder mark ctx.old ctx.new };
 
     /// Sets the attribute under a key of the operation, as `AttributeDict::insert` does. Nothing else changes. Fails with `ReservedKey`
-    /// and the key if the key is `builtin_given_names` and the attribute is not `GivenNames`, or if an allocation fails. On an error the
-    /// context is unchanged.
+    /// and the key if the key is `builtin_given_names` and the attribute is not `GivenNames`, and with `Memory` if an allocation fails.
+    /// On an error the context is unchanged.
     fn set_attribute<T: IrText<A>, A: AttrText>(
         self,
         ctx: &mut Context<T, A>,

@@ -1,4 +1,4 @@
-//! Items by their indices, such as the marks of a text. An item is here any value. The items with the indices 0, 1, 2, .. are in a
+//! Items by their indices, such as the marks of a text. Here an item is any value. The items with the indices 0, 1, 2, .. are in a
 //! vector; from the first gap on they are in a map.
 ghost use Rattle.std.specs.Prelude.{◌≡◌, ◌<◌, ◌++◌, ◌∷◌, [], None, IsSome, IsTrue, ◌↔◌, IfOk, OnOk, OnErr, is_some, length, option_copied, option_to_list, take};
 ghost use Rattle.std.specs.Map.{lookup};

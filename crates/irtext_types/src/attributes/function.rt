@@ -39,7 +39,7 @@ fn signature_parse<A: Drop>(stream: &mut TextStream) -> ParseResult<FunctionAttr
     Ok(FunctionAttr { inputs, results })
 }
 
-/// Parses a required function type after its word, as `<(test.ptr )->(builtin.integer si32)>`, with optional white space before each
+/// Parses a required function type after its word, such as `<(test.ptr )->(builtin.integer si32)>`, with optional white space before each
 /// token. Every error is committed.
 pub fn function_parse<A: Drop>(stream: &mut TextStream) -> ParseResult<FunctionAttr, A>
     ensures { MustRead (λ s. s) (λ s v. v) (λ a. a) function_at stream.old result stream.new }

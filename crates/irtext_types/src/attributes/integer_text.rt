@@ -37,8 +37,8 @@ fn attr_of(value: i64, ty: IntegerType) -> IntegerAttr
     IntegerAttr { value, ty }
 }
 
-/// Parses a required integer with its type, after its word, as `<5: si32>`, with optional white space before each token. Every error is
-/// committed.
+/// Parses a required integer with its type, after its word, such as `<5: si32>`, with optional white space before each token. Every error
+/// is committed.
 pub fn integer_attr_parse<A>(stream: &mut TextStream) -> ParseResult<IntegerAttr, A>
     ensures { MustRead (λ s. s) (λ s v. v) (λ a. a) integer_attr_at stream.old result stream.new }
 {

@@ -16,7 +16,7 @@ use irtext_dict::base::AttributeDict;
 use irtext_few::Few;
 use std::alloc::AllocError;
 
-/// Makes blocks.
+/// Makes blocks: `BasicBlock::new`.
 pub trait NewBlock {
     /// Makes a block without a parent, with an optional label and arguments of these types. It has no operations and no attributes, and
     /// its location is `Unknown`. Fails with `Memory` if an allocation fails or a counter is at its limit. The error is of kind invalid

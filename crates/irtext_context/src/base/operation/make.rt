@@ -67,7 +67,7 @@ fn make<T: IrText<A>, A: AttrText>(
     Ok(op)
 }
 
-/// Makes operations.
+/// Makes operations: `Operation::new`.
 pub trait NewOperation {
     /// Makes an operation without a parent, with results of these types, these operands and successors, and `num_regions` empty regions.
     /// It has no attributes, and its location is `Unknown`. Fails with `UnregisteredDialect` or `UnregisteredOp` if the operation is not

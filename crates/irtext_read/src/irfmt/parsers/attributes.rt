@@ -116,10 +116,10 @@ fn led_parse<S: OwnStream, A: AttrText>(stream: &mut S) -> ParseResult<AttrObj<A
     }
 }
 
-/// Parses an attribute: after the word `builtin.given_names` a list in brackets of names or `?`, separated by `,`, as
-/// `builtin.given_names [a, ?]`; after the word `builtin.identifier` an identifier; otherwise an attribute of the caller, by the caller's
-/// own parser, whose errors are returned unchanged. White space is allowed between all tokens. After one of the two words every error is
-/// committed, and leaves the stream failed. Only the stream's text is read, and nothing but the stream changes.
+/// Parses an attribute. After the word `builtin.given_names`: a list of names or `?` in brackets, separated by `,`, such as
+/// `builtin.given_names [a, ?]`. After the word `builtin.identifier`: an identifier. Otherwise: an attribute of the caller, by the
+/// caller's own parser, whose errors are returned unchanged. White space is allowed between all tokens. After one of the two words every
+/// error is committed, and leaves the stream failed. Only the stream's text is read, and nothing but the stream changes.
 pub fn attr_parse<S: OwnStream, A: AttrText>(stream: &mut S) -> ParseResult<AttrObj<A>, A>
     ensures read { MayRead S.CharStream.view S.CharStream.at attr_view (attr_at A.IrText.reading) stream.old result stream.new }
     ensures beside { stream.new ≡ S.CharStream.at stream.old (S.CharStream.view stream.new) }

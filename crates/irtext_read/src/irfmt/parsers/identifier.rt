@@ -34,7 +34,7 @@ pub fn word_parse<S: CharStream, A>(
     }
 }
 
-/// Parses the longest identifier that comes next, as `v_1`. If none does, fails with `Unexpected`, uncommitted.
+/// Parses the longest identifier that comes next, such as `v_1`. If none does, fails with `Unexpected`, uncommitted.
 #[inline]
 pub fn identifier_parse<S: CharStream, A>(stream: &mut S) -> ParseResult<Identifier, A>
     ensures { ReadsAs S.view S.at (λ name. name) identifier_at stream.old result stream.new }

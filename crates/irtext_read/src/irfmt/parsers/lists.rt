@@ -144,9 +144,9 @@ where
     separated(stream, sep, item)
 }
 
-/// Parses the left character, optional white space, a list with a separator as `list_parser` does, and the right character, as `[a, b]`.
-/// If the left character is missing, the error is uncommitted and the stream is unchanged. Every other error is committed, also if the
-/// right character is missing.
+/// Parses a list such as `[a, b]`: the left character, optional white space, items with a separator as `list_parser` does, and the right
+/// character. If the left character is missing, the error is uncommitted and the stream is unchanged. Every other error is committed,
+/// also if the right character is missing.
 pub fn delimited_list_parser<
     S: CharStream,
     X: Drop,

@@ -10,7 +10,7 @@ use irtext_base::base::OpId;
 use irtext_base::parsable::{CharStream, ParseResult};
 use irtext_base::result::Expected;
 
-/// Parses an operation's id, as `builtin.module`: the dialect, `.` and the operation's name, without white space between them. If no
+/// Parses an operation's id, such as `builtin.module`: the dialect, `.` and the operation's name, without white space between them. If no
 /// dialect comes next, fails with `Unexpected`, uncommitted. Every other error is committed.
 #[tactic(auto, unfolding(crate::specs::Tokens::id_at))]
 pub fn id_parse<S: CharStream, A>(stream: &mut S) -> ParseResult<OpId, A>

@@ -147,8 +147,8 @@ fn units_parse<S: CharStream, A>(stream: &mut S) -> ParseResult<String, A>
     Ok(text)
 }
 
-/// Parses a quoted string, as `"a\n"`: a quotation mark, escapes and any other characters, which denote themselves, and a quotation mark.
-/// Returns the characters that they denote.
+/// Parses a quoted string, such as `"a\n"`: a quotation mark, escapes and any other characters, which denote themselves, and a quotation
+/// mark. Returns the characters that they denote.
 ///
 /// If no quotation mark comes first, fails with `Unexpected`, uncommitted, and the stream is unchanged. Every other error is committed:
 /// `BadEscape` and `BadUnicodeEscape` at the escape's backslash, and `Unexpected` at the position of a missing character.
