@@ -1,4 +1,4 @@
--- What a contract sees of a dialect: its name, and its operations with their formats.
+-- A dialect as contracts see it: its name, and its operations with their formats.
 use Rattle.std.specs.Prelude.{◌≡◌, Bool, false, ◌&&◌, List, [], ◌∷◌, map}
 use Rattle.std.specs.Str.{bytes_eq}
 use Rattle.indexmap.specs.IndexMap.{insert_entry}
@@ -10,34 +10,34 @@ use Rattle.irtext_context.specs.declared.dialect.OpInfo.{OpInfo}
 use Rattle.irtext_base.specs.declared.format.OpFormat.{OpFormat}
 use Rattle.irtext_base.specs.declared.result.Cause.{Cause, Memory, FormatFault, WrongDialect}
 
--- what a dialect knows of an operation: how it is written, and whether it is isolated
+-- what a dialect records of an operation: its format, and whether it is isolated from above
 pub record Known : Type 0 where
   pub format : Format
   pub isolated : Bool
 
--- a dialect: its name, and its operations in the order in which they came
+-- a dialect: its name, and its operations in the order of their registration
 pub record Table : Type 0 where
   pub name : Text
   pub entries : List (OpId × Known)
 
--- what the code keeps of an operation, with its format as the theory has it
+-- what the code keeps of an operation, with its format as the definitions have it
 abbrev pub known_of : OpInfo → Known
 known_of info = record { format = format_of info.format; isolated = info.isolated }
 
--- the operations that the code keeps, each with what is known of it
+-- the operations that the code keeps, each with what is recorded of it
 abbrev pub known_entries : List (OpId × OpInfo) → List (OpId × Known)
 known_entries = map (λ e. (e.0, known_of e.1))
 
--- both ids have the same dialect and the same name
+-- whether two ids have the same dialect and the same name
 abbrev pub same_id : OpId → OpId → Bool
 same_id x y = bytes_eq x.dialect y.dialect && bytes_eq x.name y.name
 
--- each operation is one of the dialect, and its format reads uniquely
+-- each operation belongs to the dialect, and its format is accepted: its text can be parsed in one way only
 abbrev pub AreAccepted : Text → List (OpId × Known) → Type 0
 AreAccepted name [] = Unit {0}
 AreAccepted name (e ∷ es) = (e.0.dialect ≡ name) × Accepted e.1.format × AreAccepted name es
 
--- each dialect keeps operations of accepted formats alone
+-- each dialect has only operations of its own whose formats are accepted
 abbrev pub AllAccepted : List (Text × Table) → Type 0
 AllAccepted [] = Unit {0}
 AllAccepted (d ∷ ds) = AreAccepted d.1.name d.1.entries × AllAccepted ds
@@ -46,7 +46,7 @@ AllAccepted (d ∷ ds) = AreAccepted d.1.name d.1.entries × AllAccepted ds
 abbrev pub with_op : Table → OpId → Format → Bool → Table
 with_op table id format isolated = record { name = table.name; entries = insert_entry same_id table.entries id (record { format = format; isolated = isolated }) }
 
--- why an operation is refused: it is of another dialect, or else its format may not read uniquely, or else memory was refused
+-- why an operation is rejected: it belongs to another dialect, else its format is not accepted, else an allocation failed
 abbrev pub IsRefusedBy : {A : Type 0} → Text → OpId → OpFormat → Cause A → Type 0
 IsRefusedBy name id format (WrongDialect i d) = (bytes_eq id.dialect name ≡ false) × (i ≡ id) × (d ≡ name)
 IsRefusedBy name id format (FormatFault fault) = (id.dialect ≡ name) × (first_fault (format_of format) ≡ condition_number fault)

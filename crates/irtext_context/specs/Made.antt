@@ -1,4 +1,5 @@
--- An operation that is made with its regions: whether it is registered, what comes to the context, and what a refusal leaves.
+-- Making a registered operation with its regions: whether it is registered, what is added to the context, and what is unchanged on an
+-- error.
 use Rattle.std.specs.Prelude.{◌≡◌, ℕ, zero, suc, List, [], Option, Some, None, IsSome, slice_get}
 use Rattle.irtext_base.specs.Text.{Text}
 use Rattle.irtext_context.specs.Dialects.{Table}
@@ -20,51 +21,51 @@ use Rattle.irtext_context.specs.declared.base.operation.OperationData.{Operation
 use Rattle.irtext_base.specs.declared.location.Location.{Unknown}
 use Rattle.irtext_base.specs.declared.result.Cause.{Cause, UnregisteredDialect, UnregisteredOp}
 
--- why an operation is unknown: its dialect isn't registered, or it isn't registered with its dialect
+-- why an operation is not registered: its dialect is not registered, or the dialect has no such operation
 abbrev pub IsUnregistered : {A : Type 0} → List (Text × Table) → OpId → Cause A → Type 0
 IsUnregistered dialects id (UnregisteredDialect name) = (name ≡ id.dialect) × (dialect_of dialects id.dialect ≡ None)
 IsUnregistered dialects id (UnregisteredOp i) = (i ≡ id) × IsSome (dialect_of dialects id.dialect) × (registered dialects id ≡ None)
 IsUnregistered dialects id _ = ⊥
 
--- an operation without attributes, whose location is unknown
+-- the data of an operation without attributes, whose location is unknown
 abbrev pub bare : {A : Type 0} → OpId → OperationData A
 bare id = record { id = id; attributes = []; loc = Unknown }
 
--- a block with this label or none, without attributes, whose location is unknown
+-- the data of a block with this label, if any, without attributes, whose location is unknown
 abbrev pub bare_block : {A : Type 0} → Option Text → BlockData A
 bare_block label = record { label = label; attributes = []; loc = Unknown }
 
 module _ {T A : Type 0} where
-  -- each of these values is there
+  -- each of these values is defined in the graph
   abbrev pub ValuesStand : ContextView T A → List Value → Type 0
   ValuesStand c values = (i : ℕ) (v : Value) → slice_get values i ≡ Some v → ValueStands c.graph v
 
-  -- each of these blocks is there
+  -- each of these blocks is live
   abbrev pub BlocksStand : ContextView T A → List (Ptr BasicBlock) → Type 0
   BlocksStand c blocks = (i : ℕ) (b : Ptr BasicBlock) → slice_get blocks i ≡ Some b → Stands c.graph (TheBlock b)
 
-  -- what is seen of an operation that was made with results of these types, and without regions
+  -- the view of a new operation with this data and results of these types, without regions
   abbrev pub made_view : OperationData A → List T → OperationView T A
   made_view held types = record { id = held.id; result_types = known types; attributes = held.attributes; loc = held.loc; regions = [] }
 
-  -- what is seen of a block that was made with arguments of these types, and holds no operation
+  -- the view of a new block with this data and arguments of these types, without operations
   abbrev pub made_block : BlockData A → List T → BlockView T A
   made_block held types = record { label = held.label; arg_types = known types; attributes = held.attributes; loc = held.loc; operations = [] }
 
-  -- as many regions came to stand in an operation, one after the other
+  -- this many regions were appended to an operation, one after the other
   abbrev pub AddsRegions : ℕ → ContextView T A → ContextView T A → Ptr Operation → Type 0
   AddsRegions zero old new op = new ≡ old
   AddsRegions (suc n) old new op = (mid : ContextView T A) × (r : Ptr Region) × AddsRegions n old mid op × AddsRegion mid new op r
 
-  -- an operation with results of these types, which uses these values and these blocks, without attributes and a location, came to stand
-  -- under a new pointer, and then as many regions in it
+  -- an operation without attributes and a location was made under a new pointer, with results of these types and these operands and
+  -- successors, and then n regions were appended to it
   pub record MakesWithRegions (n : ℕ) (old new : ContextView T A) (op : Ptr Operation) (id : OpId) (types : List T) (operands : List Value)
       (successors : List (Ptr BasicBlock)) : Type 0 where
     pub middle : ContextView T A
     pub makes : MakesOperation old middle op (bare id) types operands successors
     pub adds : AddsRegions n middle new op
 
-  -- every object that stood stands as it did, none else does, each path stays under its key, and the dialects are the same
+  -- every live object is unchanged, no other is live, each path keeps its key, and the dialects are the same
   pub record SameObjects (old new : ContextView T A) : Type 0 where
     pub operations : (p : Ptr Operation) → get new.graph.operations p ≡ get old.graph.operations p
     pub blocks : (p : Ptr BasicBlock) → get new.graph.blocks p ≡ get old.graph.blocks p

@@ -1,4 +1,4 @@
-//! The context and its objects: operations, blocks and regions, which stand in a graph.
+//! The context and its objects: a graph of operations, blocks and regions.
 
 pub mod block;
 pub mod context;

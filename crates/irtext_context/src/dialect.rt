@@ -1,4 +1,4 @@
-//! Dialects: their names, and their operations, each with the format in which it is written.
+//! Dialects: a dialect has a name and registers operations, each with the format that it is printed and parsed in.
 ghost use Rattle.std.specs.Prelude.{◌≡◌, [], false, nat_eq, IfOk, IfErr, IfSome, IsTrue, OnOk, OnErr, Some, option_copied, option_map};
 ghost use Rattle.std.specs.Cmp.{on_equiv, on_per, partial_equiv_from_equiv};
 ghost use Rattle.std.specs.Cmp.Lexicographic.{pointwise, bytes_decides, nat_list_eq_equiv};
@@ -33,7 +33,7 @@ use std::fmt;
 use std::hash::{Hash, Hasher};
 use std::marker::Model;
 
-/// The name of a dialect, which is an identifier.
+/// The name of a dialect, an identifier.
 #[derive(Drop)]
 pub struct DialectName {
     name: Identifier,
@@ -51,9 +51,9 @@ impl Model for DialectName {
 }
 
 impl DialectName {
-    /// The dialect's name of a text. Where the text is no identifier it answers `Unexpected`, with the first character that an
-    /// identifier can't have there, or the end; else, where memory was refused, `Memory`. The error is of kind invalid argument
-    /// without a location.
+    /// Makes a dialect name from a text. Fails with `Unexpected` if the text is not an identifier: the error holds the first character
+    /// that an identifier cannot have there, or the end of the text. Fails with `Memory` if an allocation fails. The error is of kind
+    /// invalid argument and has no location.
     pub fn try_new<A>(alloc: Global, text: &str) -> result::Result<DialectName, A>
         ensures ok { IfOk result (λ n. n ≡ text.now) }
         ensures fits { IfOk result (λ _. IsTrue (is_identifier text.now)) }
@@ -64,8 +64,8 @@ impl DialectName {
         Ok(DialectName { name })
     }
 
-    /// A second name that shares the text, and takes no memory. It is refused by `Memory` alone, where the counter of those that
-    /// share the text is full, with kind invalid argument and no location.
+    /// Returns a second name that shares the text of this one. It allocates nothing. Fails only with `Memory`, if the reference count of
+    /// the text is at its limit. The error is of kind invalid argument and has no location.
     pub fn try_clone<A>(&self) -> result::Result<DialectName, A>
         ensures ok { IfOk result (λ n. n ≡ self.now) }
         ensures refused { IfErr result (λ e. e.err ≡ Cause.Memory) }
@@ -77,7 +77,7 @@ impl DialectName {
         }
     }
 
-    /// Whether an operation is of this dialect.
+    /// Whether an operation belongs to this dialect.
     fn is_of(&self, id: &OpId) -> bool
         ensures { result ≡ bytes_eq id.now.dialect self.now }
     {
@@ -153,17 +153,17 @@ impl Equivalent<DialectName> for &Identifier {
     }
 }
 
-/// What a dialect knows of one of its operations.
+/// What a dialect records of one of its operations.
 #[derive(Drop)]
 pub struct OpInfo {
-    /// How the operation is written.
+    /// The format that the operation is printed and parsed in.
     pub format: OpFormat,
-    /// Whether names inside its regions don't see those outside.
+    /// Whether the operation is isolated from above: names in its regions do not see the names outside.
     pub isolated: bool,
     sym_name_key: Option<SymNameKey>,
 }
 
-/// A dialect: its operations by their ids. Each is of this dialect, and its format was accepted by `check_format`.
+/// A dialect: its operations by their ids. Every id has this dialect's name, and every format was accepted by `check_format`.
 #[derive(Drop)]
 pub struct Dialect {
     name: DialectName,
@@ -191,7 +191,7 @@ pub(crate) fn invalid<A>(cause: Cause<A>) -> Error<A>
     }
 }
 
-/// Why an operation of another dialect is refused.
+/// Why an operation of another dialect is rejected.
 fn wrong_dialect<A>(id: OpId, name: &DialectName) -> Cause<A>
     requires { bytes_eq id.dialect name.now ≡ false }
     ensures { (format : OpFormat) → IsRefusedBy name.now id format result }
@@ -202,7 +202,7 @@ fn wrong_dialect<A>(id: OpId, name: &DialectName) -> Cause<A>
     }
 }
 
-/// The id as a dialect keeps it: it shares the text of the dialect's name, and its own name keeps a hint of this index.
+/// The id as a dialect stores it. It shares the text of the dialect's name; its own name carries this index as a hint for lookups.
 fn kept(name: &DialectName, alloc: Global, id: &OpId, index: usize) -> Result<OpId, AllocError>
     requires { id.now.dialect ≡ name.now }
     ensures { IfOk result (λ i. i ≡ id.now) }
@@ -212,7 +212,7 @@ fn kept(name: &DialectName, alloc: Global, id: &OpId, index: usize) -> Result<Op
     Ok(OpId { dialect, name })
 }
 
-/// Puts what is known of an operation of this dialect into its table. Where memory is refused, nothing changes.
+/// Inserts an operation of this dialect into the dialect's table. If an allocation fails, the entries are unchanged.
 fn put<A>(
     ops: &mut IndexMap<OpId, OpInfo>,
     name: &DialectName,
@@ -234,7 +234,7 @@ fn put<A>(
     }
 }
 
-/// What is kept of an operation, if it is there: it is looked for where the hint of its name leads first.
+/// Looks up an operation. The index that the name carries as a hint is tried first.
 fn found<'o>(ops: &'o IndexMap<OpId, OpInfo>, id: &OpId) -> Option<&'o OpInfo>
     ensures { option_copied result ≡ lookup (same_id id.now) ops.now.entries }
 {
@@ -247,7 +247,7 @@ fn found<'o>(ops: &'o IndexMap<OpId, OpInfo>, id: &OpId) -> Option<&'o OpInfo>
 }
 
 impl Dialect {
-    /// A dialect without operations. It takes no memory yet.
+    /// Makes a dialect without operations. It allocates nothing.
     pub fn new(alloc: Global, name: DialectName) -> Dialect
         ensures name { result.name ≡ name }
         ensures entries { result.entries ≡ [] }
@@ -265,9 +265,9 @@ impl Dialect {
         &self.name
     }
 
-    /// Registers an operation with its format, and whether it is isolated. What was registered under the id before is replaced.
-    /// A refusal changes nothing, and is of kind invalid argument without a location: by `WrongDialect` where the id is of another
-    /// dialect, else by `FormatFault` where `check_format` refuses the format, else by `Memory`.
+    /// Registers an operation with its format, and whether it is isolated from above. Replaces what was registered under the id before.
+    /// Fails with `WrongDialect` if the id belongs to another dialect, with `FormatFault` if `check_format` rejects the format, else with
+    /// `Memory` if an allocation fails. The error is of kind invalid argument and has no location, and the dialect is unchanged.
     pub fn add_op<A>(&mut self, id: OpId, format: OpFormat, isolated: bool) -> result::Result<(), A>
         ensures ok { OnOk result (self.new ≡ with_op self.old id (format_of format) isolated) }
         ensures accepted { OnOk result ((id.dialect ≡ self.old.name) × Accepted (format_of format)) }
@@ -295,15 +295,14 @@ impl Dialect {
         }
     }
 
-    /// What always holds, as this contract says of a call that does nothing: each operation is of this dialect, and its format was
-    /// accepted by `check_format`.
+    /// States an invariant, and does nothing: every operation belongs to this dialect, and its format was accepted by `check_format`.
     pub fn keeps_formats(&self)
         ensures { AreAccepted self.now.name self.now.entries }
     {
         let _ops = &self.ops;
     }
 
-    /// What the dialect knows of an operation, if it was registered. It takes no memory.
+    /// Returns what the dialect records of an operation, or `None` if it is not registered. It allocates nothing.
     pub fn op(&self, id: &OpId) -> Option<&OpInfo>
         ensures found { option_map (λ info. known_of info.now) result ≡ lookup (same_id id.now) self.now.entries }
         ensures accepted { IfSome result (λ info. Accepted (format_of info.now.format)) }

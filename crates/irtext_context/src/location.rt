@@ -1,4 +1,4 @@
-//! Locations of the operations and blocks in a context, and how they are taken away.
+//! Erasing the locations of operations and blocks.
 ghost use Rattle.std.specs.Prelude.{◌≡◌, ℕ, None, IsSome, option_map};
 ghost use Rattle.irtext_base.specs.declared.location.Location.{Unknown};
 ghost use Rattle.irtext_graph.specs.Graph.{Stands};
@@ -13,7 +13,8 @@ use irtext_base::text::{AttrText, IrText};
 use irtext_graph::graph::Graph;
 use irtext_graph::object::Object;
 
-/// Sets the location of an operation, where it is no placeholder, or of a block to `Unknown`. A region has none.
+/// Sets the location of an operation that is no placeholder, or of a block, to `Unknown`. Does nothing to a region, which has no
+/// location.
 fn erase_object<T: IrText<A>, A: AttrText>(
     graph: &mut Graph<Option<OperationData<A>>, BlockData<A>, Option<T>>,
     o: Object,
@@ -28,7 +29,7 @@ fn erase_object<T: IrText<A>, A: AttrText>(
     }
 }
 
-/// Sets the location in an operation's data to `Unknown`. A placeholder has none.
+/// Sets the location in an operation's data to `Unknown`. A placeholder has no data.
 fn erase_held<A: AttrText>(held: &mut Option<OperationData<A>>)
     ensures { held.new ≡ option_map (with_loc Unknown) held.old }
 {
@@ -37,7 +38,7 @@ fn erase_held<A: AttrText>(held: &mut Option<OperationData<A>>)
     }
 }
 
-/// Sets the locations of all operations and blocks inside an object to `Unknown`.
+/// Sets the locations of an object and of all operations and blocks nested in it to `Unknown`.
 fn erase_inside<T: IrText<A>, A: AttrText>(
     graph: &mut Graph<Option<OperationData<A>>, BlockData<A>, Option<T>>,
     o: Object,
@@ -53,8 +54,8 @@ fn erase_inside<T: IrText<A>, A: AttrText>(
     }
 }
 
-/// Sets the location of an operation, and of every operation and every block that stands inside it at any depth, to `Unknown`. Nothing
-/// else changes: where no block stands inside it, the operation alone changes. It takes no memory and does not recurse.
+/// Sets the locations of an operation and of all operations and blocks nested in it, at any depth, to `Unknown`. Nothing else changes. If
+/// no block is nested in the operation, only the operation changes. It allocates nothing and does not recurse.
 pub fn erase_locations<T: IrText<A>, A: AttrText>(ctx: &mut Context<T, A>, op: Ptr<Operation>)
     requires { IsSome (operation ctx.old op) }
     ensures erased { ErasesLocations ctx.old ctx.new op }

@@ -1,4 +1,4 @@
--- What is given back since a point, and when it can be.
+-- Removing what was made since a mark, and when that is possible.
 use Rattle.std.specs.Prelude.{◌≡◌, ℕ, List, [], Option, Some, None, slice_get}
 use Rattle.irtext_graph.specs.declared.arena.Entry.{Entry}
 use Rattle.irtext_graph.specs.declared.arena.Ptr.{Ptr}
@@ -15,30 +15,30 @@ use Rattle.irtext_graph.specs.Content.{Node, OperationContent}
 use Rattle.irtext_graph.specs.Graph.{GraphView, parent, children, IsNew}
 use Rattle.irtext_graph.specs.Store.{get, before, Returns}
 
--- the object that a value is of
+-- the operation or the block that defines a value
 abbrev pub owner : Value → Object
 owner (Result p i) = TheOperation p
 owner (Argument b i) = TheBlock b
 
 module _ {O T : Type 0} where
-  -- the values that an operation uses, where there is one
+  -- the operands of an operation, if there is one
   abbrev pub operands_of : Option (Entry (Node BasicBlock Region (OperationContent O T))) → List Value
   operands_of None = []
   operands_of (Some e) = e.content.content.operands
 
-  -- the blocks that an operation uses, where there is one
+  -- the successors of an operation, if there is one
   abbrev pub successors_of : Option (Entry (Node BasicBlock Region (OperationContent O T))) → List (Ptr BasicBlock)
   successors_of None = []
   successors_of (Some e) = e.content.content.successors
 
 module _ {O B T : Type 0} where
-  -- each object stands as it did, or was no older than the mark and is gone
+  -- each object is unchanged, or was not made before the mark and is gone
   pub record ShedsAll (mark : ℕ) (old new : Objects O B T) : Type 0 where
     pub operations : Sheds mark old.operations new.operations
     pub blocks : Sheds mark old.blocks new.blocks
     pub regions : Sheds mark old.regions new.regions
 
-  -- what stands in, holds or uses an object that is not older than the mark is not older either
+  -- the children, the parent and the users of an object that was not made before the mark were not made before it either
   pub record IsClosedBelow (mark : ℕ) (g : GraphView O B T) : Type 0 where
     pub parents : (o k : Object) → parent g o ≡ Some k → IsNew mark g k → IsNew mark g o
     pub children : (o c : Object) (i : ℕ) → slice_get (children g o) i ≡ Some c → IsNew mark g c → IsNew mark g o
@@ -47,13 +47,13 @@ module _ {O B T : Type 0} where
     pub successors : (p : Ptr Operation) (i : ℕ) (b : Ptr BasicBlock) → slice_get (successors_of (get g.operations p)) i ≡ Some b
         → IsNew mark g (TheBlock b) → IsNew mark g (TheOperation p)
 
-  -- every object that stands is older than the mark
+  -- every live object was made before the mark
   pub record AllOlder (mark : ℕ) (g : GraphView O B T) : Type 0 where
     pub operations : (p : Ptr Operation) → before mark g.operations p ≡ get g.operations p
     pub blocks : (p : Ptr BasicBlock) → before mark g.blocks p ≡ get g.blocks p
     pub regions : (p : Ptr Region) → before mark g.regions p ≡ get g.regions p
 
-  -- what is older than the mark stands as it did, all else is gone, and nothing is handed out again
+  -- what was made before the mark is unchanged, all else is gone, and no pointer is reused
   pub record RollsBack (mark : ℕ) (old new : GraphView O B T) : Type 0 where
     pub operations : Returns Operation mark old.operations new.operations
     pub blocks : Returns BasicBlock mark old.blocks new.blocks

@@ -1,4 +1,4 @@
--- What an object is, apart from its place in the forest and from any links.
+-- What an object is, apart from its parent, its children and any links.
 use Rattle.std.specs.Prelude.{ℕ, List, Option, map}
 use Rattle.irtext_few.specs.Growing.{listed}
 use Rattle.irtext_graph.specs.declared.arena.Arena.{Arena}
@@ -17,7 +17,7 @@ pub record Typed (T : Type 0) : Type 0 where
   pub of_type : T
   pub number : ℕ
 
--- an operation's data, the values and the blocks that it uses, and its results
+-- an operation's data, its operands and successors, and its results
 pub record OperationContent (O T : Type 0) : Type 0 where
   pub data_of : O
   pub operands : List Value
@@ -29,10 +29,10 @@ pub record BlockContent (B T : Type 0) : Type 0 where
   pub data_of : B
   pub arguments : List (Typed T)
 
--- a region has nothing
+-- a region has no content
 pub record RegionContent : Type 0 where
 
--- how many objects were made before an object, and what it is
+-- how many objects were made before an object, and its content
 pub data Content (O B T : Type 0) : Type 0 where
   AnOperation : ℕ → OperationContent O T → Content O B T
   ABlock : ℕ → BlockContent B T → Content O B T
@@ -59,16 +59,16 @@ block_content d = record { data_of = d.data; arguments = map typed d.arguments }
 abbrev pub region_content : RegionData → RegionContent
 region_content d = record {}
 
--- an object with its place in the forest: what it stands in, what stands in it in order, and what it is
+-- an object in the forest: its parent, its children in order, and its content
 pub record Node (P C E : Type 0) : Type 0 where
   pub parent : Option (Ptr P)
   pub children : List (Ptr C)
   pub content : E
 
--- an object without the room of its list, with its data as `see` shows it
+-- an object in the forest, without the capacity of its list, with its data as `see` shows it
 abbrev pub node_of : {P C D E : Type 0} → (D → E) → Nest P C D → Node P C E
 node_of see n = record { parent = n.parent; children = listed n.children; content = see n.data }
 
--- the objects of an arena with their places in the forest, and with all that they hold
+-- the objects of an arena in the forest, with all their data
 abbrev pub nodes : {P C D : Type 0} → Arena (Nest P C D) → Store (Node P C D)
 nodes a = store_of (node_of (λ d. d)) a

@@ -1,4 +1,4 @@
--- The data of operations and blocks, as they are written: what else stays as it was.
+-- Changes of the data of operations and blocks, and what is unchanged.
 use Rattle.std.specs.Prelude.{◌≡◌, set, Option, Some, None}
 use Rattle.irtext_graph.specs.declared.arena.Entry.{Entry}
 use Rattle.irtext_graph.specs.declared.arena.Ptr.{Ptr}
@@ -10,7 +10,7 @@ use Rattle.irtext_graph.specs.Content.{Node, OperationContent, BlockContent}
 use Rattle.irtext_graph.specs.Graph.{GraphView}
 
 module _ {X K : Type 0} where
-  -- the objects with another content at the place of the object that is given, if one is
+  -- the objects with the content of this object changed, if there is one
   abbrev pub with_object : Option (Entry X) → Store X → Ptr K → (X → X) → Store X
   with_object None s p change = s
   with_object (Some e) s p change = record s { cells = set s.cells p.index (record { generation = p.generation; object = Some (object_of change e) }) }
@@ -19,20 +19,20 @@ module _ {X K : Type 0} where
   abbrev pub edited_at : Store X → Ptr K → (X → X) → Store X
   edited_at s p change = with_object (get s p) s p change
 
--- an operation's node with other data
+-- an operation's node with its data changed
 abbrev pub with_data : {O T : Type 0} → (O → O) → Node BasicBlock Region (OperationContent O T) → Node BasicBlock Region (OperationContent O T)
 with_data change n = record n { content = record n.content { data_of = change n.content.data_of } }
 
--- a block's node with other data
+-- a block's node with its data changed
 abbrev pub with_block : {B T : Type 0} → (B → B) → Node Region Operation (BlockContent B T) → Node Region Operation (BlockContent B T)
 with_block change n = record n { content = record n.content { data_of = change n.content.data_of } }
 
 module _ {O B T : Type 0} where
-  -- the graph with these data of one operation
+  -- the graph with this data of one operation
   abbrev pub with_operation_data : GraphView O B T → Ptr Operation → O → GraphView O B T
   with_operation_data g p d = record g { operations = edited_at g.operations p (with_data (λ _. d)) }
 
-  -- the graph with these data of one block
+  -- the graph with this data of one block
   abbrev pub with_block_data : GraphView O B T → Ptr BasicBlock → B → GraphView O B T
   with_block_data g p d = record g { blocks = edited_at g.blocks p (with_block (λ _. d)) }
 

@@ -1,4 +1,4 @@
--- What may go, and what goes: all that the operations inside an object use, and all inside an object.
+-- What may be erased, and what erasing removes: the uses in an object, and everything nested in it.
 use Rattle.std.specs.Prelude.{◌≡◌, ◌≢◌, ℕ, slice_get, Option, Some, None}
 use Rattle.std.specs.Option.{option_map}
 use Rattle.std.specs.List.{remove}
@@ -18,24 +18,24 @@ use Rattle.irtext_graph.specs.Content.{Content, Content.{AnOperation, ABlock, AR
 use Rattle.irtext_graph.specs.Store.{generation_at}
 use Rattle.irtext_graph.specs.Graph.{GraphView, SamePlaces, parent, children, content, IsInside}
 
--- an object that uses nothing
+-- the content of an object without operands and successors
 abbrev pub without_uses : {O B T : Type 0} → Content O B T → Content O B T
 without_uses (AnOperation b c) = AnOperation b (without_operands c)
 without_uses (ABlock b c) = ABlock b c
 without_uses (ARegion b c) = ARegion b c
 
--- the operation or the block to which a value or a block belongs
+-- the operation that defines a result, or the block that defines an argument or is the block
 abbrev pub owner : Defined → Object
 owner (OfValue (Result p i)) = TheOperation p
 owner (OfValue (Argument b i)) = TheBlock b
 owner (OfBlock b) = TheBlock b
 
--- the operation that uses something at a place
+-- the operation of a use
 abbrev pub user : Site → Object
 user (AtOperand p i) = TheOperation p
 user (AtSuccessor p i) = TheOperation p
 
--- what an object names at the place of a use, which is in it
+-- what the operand or successor of an object at a site refers to
 abbrev pub named_at : {O B T : Type 0} → Option (Content O B T) → Site → Option Defined
 named_at (Some (AnOperation b c)) (AtOperand p i) = option_map OfValue (slice_get c.operands i)
 named_at (Some (AnOperation b c)) (AtSuccessor p i) = option_map OfBlock (slice_get c.successors i)
@@ -44,11 +44,11 @@ named_at (Some (ARegion b c)) u = None
 named_at None u = None
 
 module _ {O B T : Type 0} where
-  -- each use of a value or of a block inside o stands in an operation inside o
+  -- each use of a value or a block that is defined in o is in an operation that is o or nested in o
   abbrev pub CanErase : GraphView O B T → Object → Type 0
   CanErase g o = (u : Site) (d : Defined) → named_at (content g (user u)) u ≡ Some d → IsInside g o (owner d) → IsInside g o (user u)
 
-  -- the operations inside o use nothing, and all else is as it was
+  -- o and the operations nested in it have no operands and successors, and all else is unchanged
   pub record DropsUses (old new : GraphView O B T) (o : Object) : Type 0 where
     pub inside : (q : Object) → IsInside old o q → content new q ≡ option_map without_uses (content old q)
     pub others : (q : Object) → (IsInside old o q → ⊥) → content new q ≡ content old q
@@ -61,7 +61,7 @@ module _ {O B T : Type 0} where
     pub values : new.values ≡ old.values
     pub first_place : new.first_place ≡ old.first_place
 
-  -- all inside o is gone, the list of what o stood in closed up, and all else is as it was
+  -- o and everything nested in it is gone, o is removed from its parent's children, and all else is unchanged
   pub record Erases (old new : GraphView O B T) (o : Object) : Type 0 where
     pub gone : (q : Object) → IsInside old o q → content new q ≡ None
     pub contents : (q : Object) → (IsInside old o q → ⊥) → content new q ≡ content old q
@@ -76,10 +76,10 @@ module _ {O B T : Type 0} where
     pub first_place : new.first_place ≡ old.first_place
 
 module _ {O B T : Type 0} where
-  -- each use of d that is in a use list stands in an operation inside o
+  -- each use of d that is in a use list is in an operation that is o or nested in o
   pub record IsUsedInside (x : Objects O B T) (o : Object) (d : Defined) : Type 0 where
     pub uses : (u : Site) → val x u ≡ Some d → Within (up x) o (user u)
 
-  -- each use of what q defines stands in an operation inside o
+  -- each use of what q defines is in an operation that is o or nested in o
   pub record IsAllUsedInside (x : Objects O B T) (o q : Object) : Type 0 where
     pub all : (d : Defined) → owner d ≡ q → IsUsedInside x o d

@@ -1,4 +1,4 @@
--- A graph as its callers see it: the objects under their pointers, without links, lists of free places and room.
+-- A graph as its callers see it: the live objects under their pointers, without links, capacities and the lists of free slots.
 use Rattle.std.specs.Prelude.{◌≡◌, ◌≢◌, ◌≤◌, ◌+◌, ◌++◌, ◌∷◌, ℕ, List, [], length, map, slice_get, Option, Some, None, IsSome, false}
 use Rattle.std.specs.Option.{option_map}
 use Rattle.std.specs.List.{remove}
@@ -17,7 +17,7 @@ use Rattle.irtext_graph.specs.Objects.{is_older}
 use Rattle.irtext_graph.specs.Store.{Store, store_of, get, generation_at, before, Inserts, count}
 use Rattle.irtext_graph.specs.Content.{Typed, Node, node_of, Content, Content.{AnOperation, ABlock, ARegion}, OperationContent, operation_content, BlockContent, block_content, RegionContent, region_content}
 
--- a graph: how many objects and how many values were made in it, from which number on its places count, and the objects that stand
+-- a graph: how many objects and values were made in it, the number of its first slot, and the live objects
 pub record GraphView (O B T : Type 0) : Type 0 where
   pub made : ℕ
   pub values : ℕ
@@ -27,23 +27,23 @@ pub record GraphView (O B T : Type 0) : Type 0 where
   pub regions : Store (Node Operation BasicBlock RegionContent)
 
 module _ {P C E : Type 0} where
-  -- what an object stands in, where there is one
+  -- the parent of an object, if there is one
   abbrev pub parent_of : Option (Entry (Node P C E)) → Option (Ptr P)
   parent_of None = None
   parent_of (Some e) = e.content.parent
 
-  -- what stands in an object, in order, where there is one
+  -- the children of an object in order, if there is one
   abbrev pub children_of : Option (Entry (Node P C E)) → List (Ptr C)
   children_of None = []
   children_of (Some e) = e.content.children
 
-  -- how many objects were made before an object, and what it is
+  -- how many objects were made before an object, and its content
   abbrev pub content_of : Option (Entry (Node P C E)) → Option (ℕ × E)
   content_of None = None
   content_of (Some e) = Some (e.born, e.content.content)
 
 module _ {X : Type 0} where
-  -- the places are as they were: what they handed out, and which comes next
+  -- the slots are unchanged: their generations, and which is used next
   pub record SamePlaces (old new : Store X) : Type 0 where
     pub generations : (i : ℕ) → generation_at new i ≡ generation_at old i
     pub free : new.free ≡ old.free
@@ -54,16 +54,16 @@ abbrev pub numbered : {T : Type 0} → ℕ → List T → List (Typed T)
 numbered n [] = []
 numbered n (t ∷ ts) = record { of_type = t; number = n } ∷ numbered (n + 1) ts
 
--- counters that stand at 0
+-- counters that are at 0
 abbrev pub no_counters : Counters
 no_counters = record { values = 0; first_place = 0 }
 
--- an object that stands nowhere and holds none
+-- an object without a parent and children
 abbrev pub fresh : {P C E : Type 0} → E → Node P C E
 fresh content = record { parent = None; children = []; content = content }
 
 module _ {O B T : Type 0} where
-  -- what is seen of these objects, where so many objects were made and the counters stand so
+  -- the view of these objects, with this number of objects made and these counters
   abbrev pub graph_of : ℕ → Counters → Objects O B T → GraphView O B T
   graph_of made counters x = record {
     made = made;
@@ -74,7 +74,7 @@ module _ {O B T : Type 0} where
     regions = store_of (node_of region_content) x.regions;
   }
 
-  -- a graph in which nothing was made, whose next value has this number, and whose places count from this one
+  -- a graph in which nothing was made yet, with the number of the next value and the number of the first slot
   abbrev pub begun : ℕ → ℕ → GraphView O B T
   begun values places = record {
     made = 0;
@@ -85,54 +85,54 @@ module _ {O B T : Type 0} where
     regions = record { cells = []; free = None };
   }
 
-  -- a graph in which nothing was made
+  -- a graph in which nothing was made yet
   abbrev pub empty : GraphView O B T
   empty = begun 0 1
 
-  -- what is seen of all objects
+  -- the view of all objects
   abbrev pub seen : Objects O B T → GraphView O B T
   seen x = graph_of 0 no_counters x
 
-  -- what an object stands in
+  -- the parent of an object
   abbrev pub parent : GraphView O B T → Object → Option Object
   parent g (TheOperation p) = option_map TheBlock (parent_of (get g.operations p))
   parent g (TheBlock p) = option_map TheRegion (parent_of (get g.blocks p))
   parent g (TheRegion p) = option_map TheOperation (parent_of (get g.regions p))
 
-  -- what stands in an object, in order
+  -- the children of an object, in order
   abbrev pub children : GraphView O B T → Object → List Object
   children g (TheOperation p) = map TheRegion (children_of (get g.operations p))
   children g (TheBlock p) = map TheOperation (children_of (get g.blocks p))
   children g (TheRegion p) = map TheBlock (children_of (get g.regions p))
 
-  -- what stands so many levels round an object: at level 1 what it stands in
+  -- the ancestor of an object that many levels up: level 1 is the parent
   abbrev pub ancestor : GraphView O B T → ℕ → Object → Option Object
   ancestor g n o = climb (parent g) n (Some o)
 
-  -- when an object was made, and what it is
+  -- when an object was made, and its content
   abbrev pub content : GraphView O B T → Object → Option (Content O B T)
   content g (TheOperation p) = option_map (λ d. AnOperation d.0 d.1) (content_of (get g.operations p))
   content g (TheBlock p) = option_map (λ d. ABlock d.0 d.1) (content_of (get g.blocks p))
   content g (TheRegion p) = option_map (λ d. ARegion d.0 d.1) (content_of (get g.regions p))
 
-  -- the object is there
+  -- the object is live
   abbrev pub Stands : GraphView O B T → Object → Type 0
   Stands g o = IsSome (content g o)
 
-  -- the object was made when m objects had been made, or later, or there is none
+  -- the object was not made before the mark, or is not live
   abbrev pub IsNew : ℕ → GraphView O B T → Object → Type 0
   IsNew m g o = is_older m (content g o) ≡ false
 
-  -- q is o, or stands somewhere in o
+  -- q is o or nested in o
   abbrev pub IsInside : GraphView O B T → Object → Object → Type 0
   IsInside g o q = Within (parent g) o q
 
-  -- c stands nowhere, and k is not inside it
+  -- c has no parent, and k is neither c nor nested in it
   pub record CanInsert (g : GraphView O B T) (k c : Object) : Type 0 where
     pub free : parent g c ≡ None
     pub apart : IsInside g c k → ⊥
 
-  -- no object came or went, nothing changed but which object stands in which, and the same places come next
+  -- the same objects are live, only parents and children may differ, and the slots are unchanged
   pub record KeepsObjects (old new : GraphView O B T) : Type 0 where
     pub contents : (q : Object) → content new q ≡ content old q
     pub operation_places : SamePlaces old.operations new.operations
@@ -142,7 +142,7 @@ module _ {O B T : Type 0} where
     pub values : new.values ≡ old.values
     pub first_place : new.first_place ≡ old.first_place
 
-  -- c came to stand last in k
+  -- c became the last child of k
   pub record Appends (old new : GraphView O B T) (k c : Object) : Type 0 where
     pub here : children new k ≡ children old k ++ c ∷ []
     pub others : (q : Object) → q ≢ k → children new q ≡ children old q
@@ -150,7 +150,7 @@ module _ {O B T : Type 0} where
     pub parents : (q : Object) → q ≢ c → parent new q ≡ parent old q
     pub objects : KeepsObjects old new
 
-  -- what was made before m objects were made stands as it did
+  -- what was made before the mark is unchanged
   pub record KeepsOlder (m : ℕ) (old new : GraphView O B T) : Type 0 where
     pub operations : (p : Ptr Operation) → before m new.operations p ≡ before m old.operations p
     pub blocks : (p : Ptr BasicBlock) → before m new.blocks p ≡ before m old.blocks p
@@ -159,7 +159,7 @@ module _ {O B T : Type 0} where
     pub values : old.values ≤ new.values
     pub first_place : new.first_place ≡ old.first_place
 
-  -- a region came to stand under a new pointer
+  -- a region was made under a new pointer
   pub record MakesRegion (old new : GraphView O B T) (p : Ptr Region) : Type 0 where
     pub regions : Inserts old.regions new.regions p (record { born = old.made; content = fresh (record {}) })
     pub operations : new.operations ≡ old.operations
@@ -168,7 +168,7 @@ module _ {O B T : Type 0} where
     pub values : new.values ≡ old.values
     pub first_place : new.first_place ≡ old.first_place
 
-  -- a block with these arguments came to stand under a new pointer
+  -- a block with these arguments was made under a new pointer
   pub record MakesBlock (old new : GraphView O B T) (p : Ptr BasicBlock) (value : B) (types : List T) : Type 0 where
     pub blocks : Inserts old.blocks new.blocks p (record { born = old.made; content = fresh (record { data_of = value; arguments = numbered old.values types }) })
     pub operations : new.operations ≡ old.operations
@@ -177,7 +177,7 @@ module _ {O B T : Type 0} where
     pub values : new.values ≡ old.values + length types
     pub first_place : new.first_place ≡ old.first_place
 
-  -- an operation with these results, which uses these values and blocks, came to stand under a new pointer
+  -- an operation with these results, operands and successors was made under a new pointer
   pub record MakesOperation (old new : GraphView O B T) (p : Ptr Operation) (value : O) (types : List T)
       (operands : List Value) (successors : List (Ptr BasicBlock)) : Type 0 where
     pub operations : Inserts old.operations new.operations p (record { born = old.made; content = fresh (record { data_of = value; operands = operands; successors = successors; results = numbered old.values types }) })
@@ -187,7 +187,7 @@ module _ {O B T : Type 0} where
     pub values : new.values ≡ old.values + length types
     pub first_place : new.first_place ≡ old.first_place
 
-  -- c stands nowhere now, and the list of what it stood in closed up
+  -- c was removed from its parent
   pub record Unlinks (old new : GraphView O B T) (c : Object) : Type 0 where
     pub free : parent new c ≡ None
     pub parents : (q : Object) → q ≢ c → parent new q ≡ parent old q
@@ -195,6 +195,6 @@ module _ {O B T : Type 0} where
     pub others : (q : Object) → parent old c ≢ Some q → children new q ≡ children old q
     pub objects : KeepsObjects old new
 
-  -- how many objects stand
+  -- the number of live objects
   abbrev pub num_live : GraphView O B T → ℕ
   num_live g = count g.operations + count g.blocks + count g.regions

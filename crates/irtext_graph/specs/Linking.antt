@@ -1,4 +1,4 @@
--- New uses, which are in no use list yet, new values, which nothing uses, and new operations, which have both.
+-- New uses, which are in no use list yet, new values, which have no uses, and new operations, which have both.
 use Rattle.std.specs.Prelude.{◌≡◌, ◌≢◌, ℕ, List, [], map, Some, None, false, slice_get}
 use Rattle.irtext_few.specs.Growing.{listed}
 use Rattle.irtext_graph.specs.declared.arena.Ptr.{Ptr}
@@ -22,17 +22,17 @@ use Rattle.irtext_graph.specs.Uses.{first_of}
 abbrev pub unlinked : {D : Type 0} → D → Use D
 unlinked d = record { def = d; links = record { linked = false; prev = None; next = None } }
 
--- the place of an operand or of a successor of an operation
+-- the site of an operand or a successor of an operation
 abbrev pub site_of : Side → Ptr Operation → ℕ → Site
 site_of Operands p i = AtOperand p i
 site_of Successors p i = AtSuccessor p i
 
--- the definitions are values of these types, numbered from a number on, which nothing uses
+-- the definitions are values of these types, numbered from a number on, without uses
 pub record Defines {T : Type 0} (ds : List (Definition T)) (types : List T) (from : ℕ) : Type 0 where
   pub values : map typed ds ≡ numbered from types
   pub unused : (i : ℕ) (u : Site) → first_of (slice_get ds i) ≢ Some (Some u)
 
--- the operation stands nowhere, holds none, names these values and blocks, and nothing uses its results
+-- the operation has no parent and regions, has these operands and successors, and its results have no uses
 pub record IsBlank {O T : Type 0} (n : Nest BasicBlock Region (OperationData O T)) (value : O) (types : List T) (from : ℕ)
     (operands : List Value) (successors : List (Ptr BasicBlock)) : Type 0 where
   pub parent : n.parent ≡ None

@@ -1,4 +1,4 @@
--- The list of what was made.
+-- The log of what was made.
 use Rattle.std.specs.Prelude.{◌≡◌, ◌<◌, ◌≤◌, ℕ, Bool, List, Option, Some, is_some, slice_get}
 use Rattle.irtext_graph.specs.declared.log.Made.{Made}
 use Rattle.irtext_graph.specs.declared.object.Object.{Object}
@@ -7,23 +7,23 @@ use Rattle.irtext_graph.specs.declared.objects.Objects.{Objects}
 use Rattle.irtext_graph.specs.Arena.{get, born_in}
 use Rattle.irtext_graph.specs.Objects.{what}
 
--- the objects stand in the order of making
+-- the objects are in the order in which they were made
 abbrev pub IsByAge : List Made → Type 0
 IsByAge log = (j k : ℕ) (a b : Made) → j ≤ k → slice_get log j ≡ Some a → slice_get log k ≡ Some b → a.born ≤ b.born
 
 module _ {O B T : Type 0} where
-  -- how many objects were made before an object, where there is one
+  -- how many objects were made before an object, if there is one
   abbrev pub age : Objects O B T → Object → Option ℕ
   age x (TheOperation p) = born_in (get x.operations p)
   age x (TheBlock p) = born_in (get x.blocks p)
   age x (TheRegion p) = born_in (get x.regions p)
 
-  -- each object that stands is in the list with its age, and the list goes by age and is older than the mark
+  -- each live object is in the log with its age, and the log is ordered by age and has only what was made before the mark
   pub record IsLogged (made : ℕ) (log : List Made) (x : Objects O B T) : Type 0 where
     pub listed : (o : Object) (b : ℕ) → age x o ≡ Some b → (k : ℕ) × (slice_get log k ≡ Some (record { born = b; object = o }))
     pub by_age : IsByAge log
     pub below : (k : ℕ) (a : Made) → slice_get log k ≡ Some a → a.born < made
 
-  -- whether an object of the list stands
+  -- whether an object of the log is live
   abbrev pub stands_in : Objects O B T → Made → Bool
   stands_in x m = is_some (what x m.object)

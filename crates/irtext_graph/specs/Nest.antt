@@ -1,4 +1,4 @@
--- What an arena of nested objects holds under its pointers.
+-- The parents, children and data of the objects in an arena, by their pointers.
 use Rattle.std.specs.Prelude.{ℕ, List, [], length, Option, Some, None, sum_by}
 use Rattle.irtext_few.specs.Growing.{listed}
 use Rattle.irtext_graph.specs.declared.arena.Slot.{Slot}
@@ -10,12 +10,12 @@ use Rattle.irtext_graph.specs.declared.nest.Nest.{Nest}
 use Rattle.irtext_graph.specs.Arena.{get}
 
 module _ {P C D : Type 0} where
-  -- what an object stands in, where there is one
+  -- the parent of an object, if there is one
   abbrev pub parent_in : Option (Entry (Nest P C D)) → Option (Ptr P)
   parent_in None = None
   parent_in (Some x) = x.content.parent
 
-  -- what stands in an object, in order, where there is one
+  -- the children of an object in order, if there is one
   abbrev pub children_in : Option (Entry (Nest P C D)) → List (Ptr C)
   children_in None = []
   children_in (Some x) = listed x.content.children
@@ -25,23 +25,23 @@ module _ {P C D : Type 0} where
   datum_in None = None
   datum_in (Some x) = Some (x.born, x.content.data)
 
-  -- what the object under a pointer stands in
+  -- the parent of the object that a pointer refers to
   abbrev pub up : {K : Type 0} → Arena (Nest P C D) → Ptr K → Option (Ptr P)
   up a p = parent_in (get a p)
 
-  -- what stands in the object under a pointer
+  -- the children of the object that a pointer refers to
   abbrev pub kids : {K : Type 0} → Arena (Nest P C D) → Ptr K → List (Ptr C)
   kids a p = children_in (get a p)
 
-  -- the age and the data of the object under a pointer
+  -- the age and the data of the object that a pointer refers to
   abbrev pub datum : {K : Type 0} → Arena (Nest P C D) → Ptr K → Option (ℕ × D)
   datum a p = datum_in (get a p)
 
-  -- how many children the object of a place has
+  -- the number of children of the object in a slot
   abbrev pub size : Slot (Nest P C D) → ℕ
   size (Vacant _ _) = 0
   size (Full _ x) = length (listed x.content.children)
 
-  -- how many children there are in all
+  -- the number of children of all objects
   abbrev pub links : Arena (Nest P C D) → ℕ
   links a = sum_by size a.slots.items

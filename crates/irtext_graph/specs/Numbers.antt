@@ -1,4 +1,4 @@
--- The numbers of values: each is below the graph's counter, and no two values have the same.
+-- The numbers of values: each is less than the graph's counter, and no two values have the same.
 use Rattle.std.specs.Prelude.{◌≡◌, ◌<◌, Some}
 use Rattle.irtext_graph.specs.declared.object.Value.{Value}
 use Rattle.irtext_graph.specs.Content.{Typed}
@@ -10,7 +10,7 @@ module _ {O B T : Type 0} where
   abbrev pub NumbersDiffer : GraphView O B T → Type 0
   NumbersDiffer g = (v w : Value) (t u : Typed T) → value_at g v ≡ Some t → value_at g w ≡ Some u → t.number ≡ u.number → v ≡ w
 
-  -- every value's number is below the counter, and no two values have the same
+  -- every value's number is less than the counter, and no two values have the same
   pub record AreNumbered (g : GraphView O B T) : Type 0 where
     pub below : (v : Value) (t : Typed T) → value_at g v ≡ Some t → t.number < g.values
     pub differ : NumbersDiffer g

@@ -16,14 +16,14 @@ use Rattle.irtext_graph.specs.declared.object.BasicBlock.{BasicBlock}
 abbrev pub eq_ptr : {K : Type 0} → Ptr K → Ptr K → Bool
 eq_ptr p q = eqb p.index q.index && eqb p.generation q.generation
 
--- whether two names of objects name one object
+-- whether two objects are the same
 abbrev pub eq_object : Object → Object → Bool
 eq_object (TheOperation p) (TheOperation q) = eq_ptr p q
 eq_object (TheBlock p) (TheBlock q) = eq_ptr p q
 eq_object (TheRegion p) (TheRegion q) = eq_ptr p q
 eq_object _ _ = false
 
--- an object of this kind can hold one of that kind
+-- an object of the first kind can be the parent of one of the second kind
 abbrev pub Fits : Object → Object → Type 0
 Fits (TheOperation _) (TheRegion _) = Unit {0}
 Fits (TheRegion _) (TheBlock _) = Unit {0}
@@ -31,39 +31,39 @@ Fits (TheBlock _) (TheOperation _) = Unit {0}
 Fits _ _ = ⊥
 
 module _ {O B T : Type 0} where
-  -- what an object stands in
+  -- the parent of an object
   abbrev pub up : Objects O B T → Object → Option Object
   up x (TheOperation p) = option_map TheBlock (parent_at x.operations p)
   up x (TheBlock p) = option_map TheRegion (parent_at x.blocks p)
   up x (TheRegion p) = option_map TheOperation (parent_at x.regions p)
 
-  -- what stands in an object, in order
+  -- the children of an object, in order
   abbrev pub kids : Objects O B T → Object → List Object
   kids x (TheOperation p) = map TheRegion (children_at x.operations p)
   kids x (TheBlock p) = map TheOperation (children_at x.blocks p)
   kids x (TheRegion p) = map TheBlock (children_at x.regions p)
 
-  -- when an object was made, and what it is
+  -- when an object was made, and its content
   abbrev pub what : Objects O B T → Object → Option (Content O B T)
   what x (TheOperation p) = option_map (λ d. AnOperation d.0 (operation_content d.1)) (datum x.operations p)
   what x (TheBlock p) = option_map (λ d. ABlock d.0 (block_content d.1)) (datum x.blocks p)
   what x (TheRegion p) = option_map (λ d. ARegion d.0 (region_content d.1)) (datum x.regions p)
 
-  -- the object is there
+  -- the object is live
   abbrev pub Lives : Objects O B T → Object → Type 0
   Lives x o = IsSome (what x o)
 
-  -- how many objects stand in another
+  -- the number of children of all objects
   abbrev pub links : Objects O B T → ℕ
   links x = links_of x.operations + links_of x.blocks + links_of x.regions
 
-  -- an object is as it was
+  -- an object is unchanged
   pub record SameAt (old new : Objects O B T) (o : Object) : Type 0 where
     pub same_up : up new o ≡ up old o
     pub same_kids : kids new o ≡ kids old o
     pub same_what : what new o ≡ what old o
 
-  -- no object stands there
+  -- the object is not live, and has no parent and children
   pub record IsGone (x : Objects O B T) (o : Object) : Type 0 where
     pub gone_up : up x o ≡ None
     pub gone_kids : kids x o ≡ []
@@ -73,7 +73,7 @@ module _ {O B T : Type 0} where
   abbrev pub IsForest : Objects O B T → Type 0
   IsForest x = Nested (kids x) (up x)
 
-  -- c came to stand last in k
+  -- c became the last child of k
   pub record Appends (old new : Objects O B T) (k c : Object) : Type 0 where
     pub here : kids new k ≡ kids old k ++ c ∷ []
     pub others : (x : Object) → x ≢ k → kids new x ≡ kids old x
@@ -81,34 +81,34 @@ module _ {O B T : Type 0} where
     pub ups : (x : Object) → x ≢ c → up new x ≡ up old x
     pub whats : (x : Object) → what new x ≡ what old x
 
-  -- c stands nowhere, and k is not inside it
+  -- c has no parent, and k is neither c nor nested in it
   pub record CanInsert (x : Objects O B T) (k c : Object) : Type 0 where
     pub free : up x c ≡ None
     pub apart : Within (up x) c k → ⊥
 
-  -- the arenas hold the same
+  -- the arenas have the same objects
   pub record SameNodes (old new : Objects O B T) : Type 0 where
     pub same_operations : nodes new.operations ≡ nodes old.operations
     pub same_blocks : nodes new.blocks ≡ nodes old.blocks
     pub same_regions : nodes new.regions ≡ nodes old.regions
 
-  -- the data of all objects are as they were, links included
+  -- the data of all objects is unchanged, links included
   pub record SameData (old new : Objects O B T) : Type 0 where
     pub operation_data : (p : Ptr Operation) → datum new.operations p ≡ datum old.operations p
     pub block_data : (p : Ptr BasicBlock) → datum new.blocks p ≡ datum old.blocks p
 
-  -- the data of an object are as they were, links included
+  -- the data of an object is unchanged, links included
   pub record SameDatum (old new : Objects O B T) (q : Object) : Type 0 where
     pub operation : (p : Ptr Operation) → q ≡ TheOperation p → datum new.operations p ≡ datum old.operations p
     pub block : (p : Ptr BasicBlock) → q ≡ TheBlock p → datum new.blocks p ≡ datum old.blocks p
 
-  -- objects may have gone, but no generation of a place comes again
+  -- objects may be gone, but no generation of a slot is used again
   pub record Sheds (old new : Objects O B T) : Type 0 where
     pub operation_places : ShedsPlaces old.operations new.operations
     pub block_places : ShedsPlaces old.blocks new.blocks
     pub region_places : ShedsPlaces old.regions new.regions
 
-  -- the places of all arenas are as they were
+  -- the slots of all arenas are unchanged
   pub record SamePlaces (old new : Objects O B T) : Type 0 where
     pub operation_places : KeepsPlaces old.operations new.operations
     pub block_places : KeepsPlaces old.blocks new.blocks
@@ -120,7 +120,7 @@ module _ {O B T : Type 0} where
   born_of (ABlock b _) = b
   born_of (ARegion b _) = b
 
-  -- whether there is an object that was made before m
+  -- whether the object is live and was made before m
   abbrev pub is_older : ℕ → Option (Content O B T) → Bool
   is_older m None = false
   is_older m (Some k) = nat_lt (born_of k) m
@@ -129,12 +129,12 @@ module _ {O B T : Type 0} where
   abbrev pub stays : ℕ → Objects O B T → Object → Bool
   stays m x o = is_older m (what x o)
 
-  -- what was made before m is as it was
+  -- what was made before m is unchanged
   pub record KeepsOlder (m : ℕ) (old new : Objects O B T) : Type 0 where
     pub same : (o : Object) → stays m old o ≡ true → SameAt old new o
     pub age : (o : Object) → stays m new o ≡ stays m old o
 
-  -- the object c, which had no children and stood in k, is gone
+  -- the object c, which had no children and was a child of k, is gone
   pub record Drops (old new : Objects O B T) (k c : Object) : Type 0 where
     pub forest : IsForest new
     pub gone : IsGone new c
@@ -145,7 +145,7 @@ module _ {O B T : Type 0} where
     pub sheds : Sheds old new
     pub fewer : links new < links old
 
-  -- all is as it was, places and links of uses included
+  -- all is unchanged, slots and links of uses included
   pub record Renumbers (old new : Objects O B T) : Type 0 where
     pub at : (q : Object) → SameAt old new q
     pub as_many : links new ≡ links old

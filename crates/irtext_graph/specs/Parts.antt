@@ -1,4 +1,4 @@
--- The parts of objects as a graph's callers see them: data, operands, successors, results, arguments, and what stands in them by its kind.
+-- The parts of objects as a graph's callers see them: data, operands, successors, results, arguments, and children by their kind.
 use Rattle.std.specs.Prelude.{List, [], slice_get, Option, Some, None, IsSome}
 use Rattle.std.specs.Option.{option_map}
 use Rattle.irtext_graph.specs.declared.arena.Ptr.{Ptr}
@@ -16,41 +16,41 @@ use Rattle.irtext_graph.specs.Content.{Typed, OperationContent, BlockContent}
 use Rattle.irtext_graph.specs.Graph.{GraphView, children_of}
 
 module _ {O T : Type 0} where
-  -- the values that an operation uses, where there is one
+  -- the operands of an operation, if there is one
   abbrev pub operands_of : Option (OperationContent O T) → List Value
   operands_of None = []
   operands_of (Some c) = c.operands
 
-  -- the blocks that an operation uses, where there is one
+  -- the successors of an operation, if there is one
   abbrev pub successors_of : Option (OperationContent O T) → List (Ptr BasicBlock)
   successors_of None = []
   successors_of (Some c) = c.successors
 
-  -- the results of an operation, where there is one
+  -- the results of an operation, if there is one
   abbrev pub results_of : Option (OperationContent O T) → List (Typed T)
   results_of None = []
   results_of (Some c) = c.results
 
 module _ {B T : Type 0} where
-  -- the arguments of a block, where there is one
+  -- the arguments of a block, if there is one
   abbrev pub arguments_of : Option (BlockContent B T) → List (Typed T)
   arguments_of None = []
   arguments_of (Some c) = c.arguments
 
 module _ {O B T : Type 0} where
-  -- what an operation is, apart from its place in the forest
+  -- the content of an operation
   abbrev pub operation_at : GraphView O B T → Ptr Operation → Option (OperationContent O T)
   operation_at g p = option_map (λ e. e.content.content) (get g.operations p)
 
-  -- what a block is, apart from its place in the forest
+  -- the content of a block
   abbrev pub block_at : GraphView O B T → Ptr BasicBlock → Option (BlockContent B T)
   block_at g p = option_map (λ e. e.content.content) (get g.blocks p)
 
-  -- the values that an operation uses, in order
+  -- the operands of an operation, in order
   abbrev pub operands : GraphView O B T → Ptr Operation → List Value
   operands g p = operands_of (operation_at g p)
 
-  -- the blocks that an operation uses, in order
+  -- the successors of an operation, in order
   abbrev pub successors : GraphView O B T → Ptr Operation → List (Ptr BasicBlock)
   successors g p = successors_of (operation_at g p)
 
@@ -74,16 +74,16 @@ module _ {O B T : Type 0} where
   abbrev pub operations_in : GraphView O B T → Ptr BasicBlock → List (Ptr Operation)
   operations_in g b = children_of (get g.blocks b)
 
-  -- a value's type and number, where it is there
+  -- a value's type and number, if it is defined
   abbrev pub value_at : GraphView O B T → Value → Option (Typed T)
   value_at g (Result p i) = slice_get (results g p) i
   value_at g (Argument p i) = slice_get (arguments g p) i
 
-  -- the value is there
+  -- the value is defined
   abbrev pub ValueStands : GraphView O B T → Value → Type 0
   ValueStands g v = IsSome (value_at g v)
 
-  -- what a value is, with its uses, where it is there
+  -- the definition of a value, with its uses, if it is defined
   abbrev pub definition_at : Objects O B T → Value → Option (Definition T)
   definition_at x (Result p i) = result_in (arena.get x.operations p) i
   definition_at x (Argument p i) = argument_in (arena.get x.blocks p) i

@@ -1,46 +1,46 @@
--- The order in which all inside an object is gone through: an object, and then what stands in it.
+-- The preorder of an object and everything nested in it: an object, and then its children.
 use Rattle.std.specs.Prelude.{◌+◌, ◌++◌, ◌∷◌, ℕ, zero, suc, Bool, cond, List, [], length, Option, Some, None}
 use Rattle.irtext_graph.specs.declared.object.Object.{Object}
 use Rattle.irtext_graph.specs.declared.objects.Objects.{Objects}
 use Rattle.irtext_graph.specs.Objects.{up, kids, eq_object}
 
 module _ {O : Type 0} where
-  -- what f gives of each item, one behind the other
+  -- the lists that f gives for the elements, one after the other
   abbrev pub flat : (O → List O) → List O → List O
   flat f [] = []
   flat f (x ∷ xs) = f x ++ flat f xs
 
-  -- the items behind the first that is x
+  -- the elements after the first that is x
   abbrev pub past : (O → O → Bool) → O → List O → List O
   past eq x [] = []
   past eq x (y ∷ ys) = cond (eq y x) ys (past eq x ys)
 
-  -- an object and all that stands in it, n levels deep
+  -- an object and everything nested in it, n levels deep
   abbrev pub subtree : (O → List O) → ℕ → O → List O
   subtree kids zero x = []
   subtree kids (suc n) x = x ∷ flat (subtree kids n) (kids x)
 
-  -- all that stands in the objects behind x in its parent
+  -- the later siblings of x with everything nested in them
   abbrev pub beside : (O → O → Bool) → (O → List O) → ℕ → O → Option O → List O
   beside eq kids depth x None = []
   beside eq kids depth x (Some k) = flat (subtree kids depth) (past eq x (kids k))
 
-  -- what comes inside o behind an object and all that stands in it, n levels up
+  -- what comes in o after an object and everything nested in it, n levels up
   abbrev pub behind : (O → O → Bool) → (O → List O) → (O → Option O) → ℕ → O → ℕ → Option O → List O
   behind eq kids up depth o zero x = []
   behind eq kids up depth o (suc n) None = []
   behind eq kids up depth o (suc n) (Some x) = cond (eq x o) [] (beside eq kids depth x (up x) ++ behind eq kids up depth o n (up x))
 
-  -- what comes inside o from an object on
+  -- what comes in o from an object on
   abbrev pub onward : (O → O → Bool) → (O → List O) → (O → Option O) → ℕ → O → Option O → List O
   onward eq kids up depth o None = []
   onward eq kids up depth o (Some x) = subtree kids depth x ++ behind eq kids up depth o depth (Some x)
 
 module _ {O B T : Type 0} where
-  -- the places of all arenas
+  -- the number of slots of all arenas
   abbrev pub slots : Objects O B T → ℕ
   slots x = length x.operations.slots.items + length x.blocks.slots.items + length x.regions.slots.items
 
-  -- the objects inside o from one of them on
+  -- the objects in o from one of them on
   abbrev pub left : Objects O B T → Object → Option Object → List Object
   left x o at = onward eq_object (kids x) (up x) (suc (slots x)) o at

@@ -1,4 +1,4 @@
--- Regions that come last into operations as they are made.
+-- Making a region as the last of an operation.
 use Rattle.std.specs.Prelude.{◌≡◌, ◌+◌, ◌++◌, ◌∷◌, [], Option, Some, None}
 use Rattle.irtext_graph.specs.declared.arena.Entry.{Entry}
 use Rattle.irtext_graph.specs.declared.arena.Ptr.{Ptr}
@@ -10,17 +10,17 @@ use Rattle.irtext_graph.specs.Store.{Inserts, Edits}
 use Rattle.irtext_graph.specs.Content.{Node}
 use Rattle.irtext_graph.specs.Graph.{GraphView}
 
--- an object is there, and has room for one more child
+-- an object is live, and has room for one more child
 abbrev pub HasRoom : {P C D : Type 0} → Option (Entry (Nest P C D)) → Type 0
 HasRoom None = ⊥
 HasRoom (Some e) = HasPlace e.content.children
 
--- an object's node with another child, which comes last
+-- an object's node with another child, which is the last
 abbrev pub with_child : {P C E : Type 0} → Ptr C → Node P C E → Node P C E
 with_child c n = record n { children = n.children ++ c ∷ [] }
 
 module _ {O B T : Type 0} where
-  -- a region without blocks came to stand last in an operation, under a new pointer
+  -- an empty region was made under a new pointer, as the last of an operation
   pub record AddsRegion (old new : GraphView O B T) (op : Ptr Operation) (r : Ptr Region) : Type 0 where
     pub operations : Edits old.operations new.operations op (with_child r)
     pub regions : Inserts old.regions new.regions r (record { born = old.made; content = record { parent = Some op; children = []; content = record {} } })

@@ -1,4 +1,4 @@
--- What is always true of the objects of a graph.
+-- The invariants of a graph's objects.
 use Rattle.std.specs.Prelude.{ℕ, List}
 use Rattle.irtext_graph.specs.declared.graph.Counters.{Counters}
 use Rattle.irtext_graph.specs.declared.log.Made.{Made}
@@ -10,7 +10,7 @@ use Rattle.irtext_graph.specs.Numbers.{AreNumbered}
 use Rattle.irtext_graph.specs.Objects.{IsForest}
 use Rattle.irtext_graph.specs.Uses.{AreUsesLinked, AreAllUsed}
 
--- the objects are a forest, each operand and each successor is in the use list of what it names, and every object is older than the mark
+-- the objects are a forest, each operand and successor is in the use list of what it refers to, and every object was made before the mark
 pub record IsSound {O B T : Type 0} (made : ℕ) (x : Objects O B T) : Type 0 where
   pub forest : IsForest x
   pub uses : AreUsesLinked x
@@ -22,7 +22,7 @@ pub record IsSound {O B T : Type 0} (made : ℕ) (x : Objects O B T) : Type 0 wh
   pub older_blocks : AreOlder made x.blocks
   pub older_regions : AreOlder made x.regions
 
--- the objects are sound, the list of what was made has them all, and the numbers of values differ and are below the counter
+-- the objects are sound, the log has all of them, and the numbers of values differ and are less than the counter
 pub record IsKept {O B T : Type 0} (made : ℕ) (counters : Counters) (log : List Made) (x : Objects O B T) : Type 0 where
   pub sound : IsSound made x
   pub logged : IsLogged made log x

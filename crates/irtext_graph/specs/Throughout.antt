@@ -1,4 +1,4 @@
--- All that stands inside an object, in the order in which it is gone through, and what changes where the data of one object or of all of these are written.
+-- Everything nested in an object, in preorder, and changes of the data of one object or of all of these.
 use Rattle.std.specs.Prelude.{◌≡◌, ◌≢◌, ◌+◌, ℕ, suc, List, length, Option}
 use Rattle.std.specs.Option.{option_map}
 use Rattle.irtext_graph.specs.declared.arena.Ptr.{Ptr}
@@ -10,42 +10,42 @@ use Rattle.irtext_graph.specs.Graph.{GraphView, SamePlaces, parent, children, co
 use Rattle.irtext_graph.specs.Objects.{eq_object}
 use Rattle.irtext_graph.specs.Preorder.{onward}
 
--- an object whose data are changed: by the first function where it is an operation, and by the second where it is a block
+-- an object whose data changed: an operation's by the first function, and a block's by the second
 abbrev pub changed : {O B T : Type 0} → (O → O) → (B → B) → Content O B T → Content O B T
 changed on_operation on_block (AnOperation n c) = AnOperation n (record c { data_of = on_operation c.data_of })
 changed on_operation on_block (ABlock n c) = ABlock n (record c { data_of = on_block c.data_of })
 changed on_operation on_block (ARegion n c) = ARegion n c
 
 module _ {O B T : Type 0} where
-  -- how many places there are for objects
+  -- the number of slots for objects
   abbrev pub places : GraphView O B T → ℕ
   places g = length g.operations.cells + length g.blocks.cells + length g.regions.cells
 
-  -- the objects inside o from one of them on, each before what stands in it
+  -- the objects in o from one of them on, in preorder
   abbrev pub all_from : GraphView O B T → Object → Option Object → List Object
   all_from g o at = onward eq_object (children g) (parent g) (suc (places g)) o at
 
-  -- o and all that stands inside it were made when m objects had been made, or later
+  -- neither o nor anything nested in it was made before the mark
   abbrev pub IsNewInside : ℕ → GraphView O B T → Object → Type 0
   IsNewInside m g o = (q : Object) → IsInside g o q → IsNew m g q
 
-  -- no block stands inside o
+  -- o is no block, and no block is nested in it
   abbrev pub HoldsNoBlocks : GraphView O B T → Object → Type 0
   HoldsNoBlocks g o = (b : Ptr BasicBlock) → IsInside g o (TheBlock b) → ⊥
 
-  -- an object is what it was, stands where it stood, and holds what it held
+  -- the content, the parent and the children of an object are unchanged
   pub record SameObject (old new : GraphView O B T) (q : Object) : Type 0 where
     pub what : content new q ≡ content old q
     pub holder : parent new q ≡ parent old q
     pub items : children new q ≡ children old q
 
-  -- an object's data are changed; it stands where it stood, and holds and uses what it did
+  -- an object's data changed; its parent, its children and all else are unchanged
   pub record ChangedObject (old new : GraphView O B T) (q : Object) (on_operation : O → O) (on_block : B → B) : Type 0 where
     pub what : content new q ≡ option_map (changed on_operation on_block) (content old q)
     pub holder : parent new q ≡ parent old q
     pub items : children new q ≡ children old q
 
-  -- the same places come next, and as many objects and values were made
+  -- the slots are unchanged, and as many objects and values were made
   pub record KeepsRest (old new : GraphView O B T) : Type 0 where
     pub operation_places : SamePlaces old.operations new.operations
     pub block_places : SamePlaces old.blocks new.blocks
@@ -60,7 +60,7 @@ module _ {O B T : Type 0} where
     pub others : (q : Object) → q ≢ o → SameObject old new q
     pub rest : KeepsRest old new
 
-  -- the data of o and of all that stands inside it changed, and nothing else
+  -- the data of o and of everything nested in it changed, and nothing else
   pub record EditsInside (old new : GraphView O B T) (o : Object) (on_operation : O → O) (on_block : B → B) : Type 0 where
     pub inside : (q : Object) → IsInside old o q → ChangedObject old new q on_operation on_block
     pub others : (q : Object) → (IsInside old o q → ⊥) → SameObject old new q

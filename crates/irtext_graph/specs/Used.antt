@@ -1,4 +1,4 @@
--- Who uses what in a graph as its callers see it: a use is an operand or a successor, and there is no list of uses.
+-- The uses in a graph as its callers see it: a use is an operand or a successor, and there are no use lists.
 use Rattle.std.specs.Prelude.{◌≡◌, ◌+◌, ℕ, cond, [], slice_get, sum_by, unwrap_or, Option, Some}
 use Rattle.std.specs.Option.{option_map}
 use Rattle.irtext_graph.specs.declared.arena.Ptr.{Ptr}
@@ -20,7 +20,7 @@ use Rattle.irtext_graph.specs.Parts.{operands, successors, ValueStands}
 use Rattle.irtext_graph.specs.Store.{Store, Cell, mapped}
 use Rattle.irtext_graph.specs.Uses.{eq_defined, operations_seen}
 
--- what is used, with another in the place of one
+-- what is used, with d replaced by e
 abbrev pub replaced : Defined → Defined → Defined → Defined
 replaced d e x = cond (eq_defined x d) e x
 
@@ -30,7 +30,7 @@ AreAlike (OfValue _) (OfValue _) = Unit {0}
 AreAlike (OfBlock _) (OfBlock _) = Unit {0}
 AreAlike _ _ = ⊥
 
--- a use at the place can name d
+-- a use at the site can refer to d
 abbrev pub CanName : Site → Defined → Type 0
 CanName (AtOperand _ _) (OfValue _) = Unit {0}
 CanName (AtSuccessor _ _) (OfBlock _) = Unit {0}
@@ -41,48 +41,48 @@ abbrev pub user : Site → Ptr Operation
 user (AtOperand p _) = p
 user (AtSuccessor p _) = p
 
--- an operation without what it uses
+-- an operation's content without operands and successors
 abbrev pub without_operands : {O T : Type 0} → OperationContent O T → OperationContent O T
 without_operands c = record { data_of = c.data_of; operands = []; successors = []; results = c.results }
 
--- an operation with its place in the forest and without what it uses
+-- an operation's node without operands and successors
 abbrev pub without_uses_in : {O T : Type 0} → Node BasicBlock Region (OperationContent O T) → Node BasicBlock Region (OperationContent O T)
 without_uses_in n = record { parent = n.parent; children = n.children; content = without_operands n.content }
 
 module _ {O T : Type 0} where
-  -- how many operands and successors of an operation name d
+  -- how many operands and successors of an operation refer to d
   abbrev pub uses_in : Defined → OperationContent O T → ℕ
   uses_in d c = sum_by (λ v. cond (eq_defined (OfValue v) d) 1 0) c.operands
       + sum_by (λ b. cond (eq_defined (OfBlock b) d) 1 0) c.successors
 
-  -- the same at a place where an operation may stand
+  -- the same for the operation in a slot; 0 if there is none
   abbrev pub uses_of : Defined → Cell (Node BasicBlock Region (OperationContent O T)) → ℕ
   uses_of d c = unwrap_or (option_map (λ e. uses_in d e.content.content) c.object) 0
 
-  -- how many operands and successors of all operations name d
+  -- how many operands and successors of all operations refer to d
   abbrev pub uses_left : Defined → Store (Node BasicBlock Region (OperationContent O T)) → ℕ
   uses_left d s = sum_by (uses_of d) s.cells
 
-  -- the operations of an arena without links, and without what they use
+  -- the operations of an arena without links, operands and successors
   abbrev pub operations_bare : Arena (Nest BasicBlock Region (OperationData O T)) → Store (Node BasicBlock Region (OperationContent O T))
   operations_bare a = mapped without_uses_in (operations_seen a)
 
 module _ {O B T : Type 0} where
-  -- what the operand or the successor at a place names
+  -- what the operand or the successor at a site refers to
   abbrev pub used_at : GraphView O B T → Site → Option Defined
   used_at g (AtOperand p i) = option_map OfValue (slice_get (operands g p) i)
   used_at g (AtSuccessor p i) = option_map OfBlock (slice_get (successors g p) i)
 
-  -- the operand or the successor at the place names d
+  -- the operand or the successor at the site refers to d
   abbrev pub IsUse : GraphView O B T → Defined → Site → Type 0
   IsUse g d u = used_at g u ≡ Some d
 
-  -- the value or the block is there
+  -- the value is defined, or the block is live
   abbrev pub IsDefined : GraphView O B T → Defined → Type 0
   IsDefined g (OfValue v) = ValueStands g v
   IsDefined g (OfBlock b) = Stands g (TheBlock b)
 
-  -- the graph without what its operations use
+  -- the graph without the operands and successors of its operations
   abbrev pub without_uses : GraphView O B T → GraphView O B T
   without_uses g = record {
     made = g.made;
@@ -93,15 +93,15 @@ module _ {O B T : Type 0} where
     regions = g.regions;
   }
 
-  -- each use of d became a use of e, and all else is as it was
+  -- each use of d became a use of e, and all else is unchanged
   pub record Replaces (old new : GraphView O B T) (d e : Defined) : Type 0 where
     pub uses : (u : Site) → used_at new u ≡ option_map (replaced d e) (used_at old u)
     pub rest : without_uses new ≡ without_uses old
 
-  -- no operation that was made before m objects were made uses d
+  -- no operation that was made before the mark uses d
   abbrev pub IsUnusedBelow : ℕ → GraphView O B T → Defined → Type 0
   IsUnusedBelow m g d = (u : Site) → IsUse g d u → IsNew m g (TheOperation (user u))
 
-  -- what is seen of all objects, without what operations use
+  -- the view of all objects, without the operands and successors of operations
   abbrev pub bare : Objects O B T → GraphView O B T
   bare x = without_uses (seen x)

@@ -1,4 +1,4 @@
-//! Arenas: objects of one kind, under pointers of a place and a generation.
+//! Arenas: the objects of one kind, in slots. A pointer is the index of a slot and a generation.
 ghost use Rattle.std.specs.Prelude.{◌≡◌, ◌≢◌, ◌<◌, ◌≤◌, ◌+◌, ◌↔◌, ℕ, Some, None, [], IsSome, IsTrue, IfOk, IfSome, OnErr, option_copied, option_map, length, slice_get, count_by, set};
 ghost use Rattle.std.specs.Borrow.{Lends, sem};
 
@@ -6,24 +6,24 @@ use std::alloc::{AllocError, Global};
 use std::marker::PhantomData;
 use std::mem;
 
-/// A pointer to an object of kind K: a place, and a generation, so that no two objects of a kind ever have the same pointer.
+/// A pointer to an object of kind K: a slot and a generation. No two objects of a kind ever have the same pointer.
 #[derive_where(Clone, Copy, PartialEq, Eq, Hash, Debug)]
 pub struct Ptr<K> {
-    // the place, from 0
+    // the index of the slot, from 0
     pub(crate) index: u32,
     pub(crate) generation: u32,
     pub(crate) of: PhantomData<K>,
 }
 
 impl<K> Ptr<K> {
-    /// The place, counted from 1.
+    /// Returns the number of the slot, counted from 1.
     pub fn place(self) -> u64
         ensures { result ≡ self.index + 1 }
     {
         self.index as u64 + 1
     }
 
-    /// Which of the objects that stood at the place in turn, counted from 1.
+    /// Which of the objects that were in the slot one after the other, counted from 1.
     pub fn generation(self) -> u32
         ensures { result ≡ self.generation }
     {
@@ -31,14 +31,14 @@ impl<K> Ptr<K> {
     }
 }
 
-/// An object, and how many objects of its context were made before it.
+/// An object, and the number of objects of its context that were made before it.
 #[derive(Drop)]
 pub(crate) struct Entry<X> {
     pub(crate) born: u64,
     pub(crate) content: X,
 }
 
-/// A place: the last generation that it handed out, and the next free place or its object.
+/// A slot: the last generation that it was given, and the next free slot or the object.
 #[derive(Drop)]
 pub(crate) enum Slot<X> {
     Vacant(u32, u32),
@@ -49,7 +49,7 @@ pub(crate) enum Slot<X> {
 #[derive(Drop)]
 pub(crate) struct Arena<X> {
     pub(crate) slots: Vec<Slot<X>>,
-    // the place that was given back last, where it is one that can be used again
+    // the slot that was freed last, if it is one that can be used again
     pub(crate) free: u32,
 }
 
@@ -76,7 +76,7 @@ impl<X: Drop> Arena<X> {
     ghost use Rattle.irtext_graph.specs.Arena.{get, generation_at, next_index, free_place, Updates, Inserts, HasFew, born_in, is_full, AtLeast, Sheds};
     ghost use Rattle.irtext_graph.specs.Lending.{LendsContent};
 
-    /// An arena without objects.
+    /// Makes an arena without objects.
     pub(crate) fn new(alloc: Global) -> Arena<X>
         ensures { result.slots.items ≡ [] }
     {
@@ -86,8 +86,8 @@ impl<X: Drop> Arena<X> {
         }
     }
 
-    /// Stores an object. Its place is the one that was given back last, or else the next new one, and its generation the next of
-    /// that place. Places count from `first`, each below the greatest `u32`. Memory is refused, or no place is left: then nothing changes.
+    /// Stores an object in the slot that was freed last, or else in a new one, under the slot's next generation. Slots are numbered from
+    /// `first`, and each number is less than `u32::MAX`. If an allocation fails or no slot is left, the arena is unchanged.
     #[inline(always)]
     pub(crate) fn insert<K>(
         &mut self,
@@ -119,7 +119,7 @@ impl<X: Drop> Arena<X> {
         self.insert_last(first, born, content)
     }
 
-    /// Stores an object at a new place, where none that was given back can be used again.
+    /// Stores an object in a new slot. No freed slot can be used again.
     fn insert_last<K>(&mut self, first: u32, born: u64, content: X) -> Result<Ptr<K>, AllocError>
         requires { free_place self.old ≡ None }
         ensures inserts { IfOk result (λ p. Inserts self.old self.new p (record { born = born; content = content })) }
@@ -141,7 +141,7 @@ impl<X: Drop> Arena<X> {
         }
     }
 
-    /// The object under a pointer.
+    /// Returns the object that a pointer refers to, if it is live.
     pub(crate) fn get<K>(&self, p: Ptr<K>) -> Option<&Entry<X>>
         ensures { option_copied result ≡ get self.now p }
     {
@@ -157,14 +157,14 @@ impl<X: Drop> Arena<X> {
         }
     }
 
-    /// Whether an object stands under a pointer.
+    /// Whether a pointer refers to a live object.
     pub(crate) fn contains<K>(&self, p: Ptr<K>) -> bool
         ensures { IsTrue result ↔ IsSome (get self.now p) }
     {
         self.get(p).is_some()
     }
 
-    /// The content of an object.
+    /// Returns the content of an object.
     pub(crate) fn content<K>(&self, p: Ptr<K>) -> &X
         requires { IsSome (get self.now p) }
         ensures { option_map (λ o. o.content) (get self.now p) ≡ Some result.now }
@@ -175,7 +175,7 @@ impl<X: Drop> Arena<X> {
         }
     }
 
-    /// The content of an object, for writing.
+    /// Borrows the content of an object as `&mut`.
     pub(crate) fn content_mut<K>(&mut self, p: Ptr<K>) -> &mut X
         requires { IsSome (get self.old p) }
         ensures* lends { sem 𝓛 (LendsContent X.row self.entry p.index result) }
@@ -184,7 +184,7 @@ impl<X: Drop> Arena<X> {
         self.slots[p.index as usize].content_mut()
     }
 
-    /// Takes the object under a pointer out. Its place is the next that is handed out, unless its generations are used up.
+    /// Removes an object and returns its content. Its slot is the next to be used, unless its generations are exhausted.
     pub(crate) fn remove<K>(&mut self, p: Ptr<K>) -> Option<X>
         ensures value { result ≡ option_map (λ o. o.content) (get self.old p) }
         ensures updates { Updates self.old self.new p None }
@@ -211,14 +211,14 @@ impl<X: Drop> Arena<X> {
         }
     }
 
-    /// How many objects were made before the object under a pointer.
+    /// Returns how many objects were made before an object, if it is live.
     pub(crate) fn born<K>(&self, p: Ptr<K>) -> Option<u64>
         ensures { result ≡ born_in (get self.now p) }
     {
         Some(self.get(p)?.born)
     }
 
-    /// Takes the object under a pointer out, if it is no older than the mark. It takes no memory.
+    /// Removes an object if it was not made before the mark. It allocates nothing.
     pub(crate) fn remove_since<K>(&mut self, p: Ptr<K>, mark: u64)
         ensures sheds { Sheds mark self.old self.new }
         ensures gone { AtLeast mark (born_in (get self.new p)) → ⊥ }
@@ -232,7 +232,7 @@ impl<X: Drop> Arena<X> {
         self.remove(p);
     }
 
-    /// How many objects there are.
+    /// The number of live objects.
     pub(crate) fn count(&self) -> usize
         ensures { result ≡ count_by is_full self.now.slots.items }
     {

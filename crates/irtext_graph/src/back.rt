@@ -1,4 +1,4 @@
-//! Giving back what was made since a point.
+//! Rolling back: removing the objects that were made since a mark. A mark is the number of objects that were made up to a point.
 ghost use Rattle.std.specs.Prelude.{◌≡◌, ◌≢◌, ◌<◌, ◌≤◌, ℕ, Some, None, IsSome, length, slice_get};
 
 use crate::arena::Ptr;
@@ -17,7 +17,7 @@ impl<O: Drop, B: Drop, T: Drop> Objects<O, B, T> {
     ghost use Rattle.irtext_graph.specs.Log.{age};
     ghost use Rattle.irtext_graph.specs.Uses.{use_at, val, AreUsesLinked};
 
-    /// Takes a use out of its list, if it is in one.
+    /// Removes a use from its use list, if it is in one.
     fn detach_linked(&mut self, u: Site)
         requires linked { AreUsesLinked self.old }
         requires there { IsSome (use_at self.old u) }
@@ -32,7 +32,7 @@ impl<O: Drop, B: Drop, T: Drop> Objects<O, B, T> {
         self.detach(u);
     }
 
-    /// Takes the operands of an operation out of their lists.
+    /// Removes the operands of an operation from their use lists.
     pub(crate) fn detach_operands(&mut self, p: Ptr<Operation>)
         requires linked { AreUsesLinked self.old }
         requires lives { IsSome (get self.old.operations p) }
@@ -46,7 +46,7 @@ impl<O: Drop, B: Drop, T: Drop> Objects<O, B, T> {
         }
     }
 
-    /// Takes the successors of an operation out of their lists.
+    /// Removes the successors of an operation from their use lists.
     pub(crate) fn detach_successors(&mut self, p: Ptr<Operation>)
         requires linked { AreUsesLinked self.old }
         requires lives { IsSome (get self.old.operations p) }
@@ -60,7 +60,7 @@ impl<O: Drop, B: Drop, T: Drop> Objects<O, B, T> {
         }
     }
 
-    /// Takes the uses of an object out of their lists, if it is an operation that is no older than the mark.
+    /// Removes the uses of an object from their use lists, if it is an operation that was not made before the mark.
     fn detach_new(&mut self, o: Object, mark: u64)
         requires linked { AreUsesLinked self.old }
         ensures linked { AreUsesLinked self.new }
@@ -82,7 +82,7 @@ impl<O: Drop, B: Drop, T: Drop> Objects<O, B, T> {
         self.detach_successors(p);
     }
 
-    /// Takes the uses of all operations of a list out of their lists, from an index on, that are no older than the mark.
+    /// Removes the uses of those operations in a log, from an index on, that were not made before the mark from their use lists.
     pub(crate) fn detach_since(&mut self, log: &[Made], start: usize, mark: u64)
         requires linked { AreUsesLinked self.old }
         requires start { start ≤ length log.now }
@@ -98,7 +98,7 @@ impl<O: Drop, B: Drop, T: Drop> Objects<O, B, T> {
         }
     }
 
-    /// Takes an object out, if it is no older than the mark.
+    /// Removes an object if it was not made before the mark.
     fn take_out(&mut self, o: Object, mark: u64)
         ensures sheds { ShedsAll mark self.old self.new }
         ensures gone { AtLeast mark (age self.new o) → ⊥ }
@@ -110,7 +110,7 @@ impl<O: Drop, B: Drop, T: Drop> Objects<O, B, T> {
         }
     }
 
-    /// Takes all objects of a list out, from an index on, that are no older than the mark.
+    /// Removes those objects in a log, from an index on, that were not made before the mark.
     pub(crate) fn take_out_since(&mut self, log: &[Made], start: usize, mark: u64)
         requires { start ≤ length log.now }
         ensures sheds { ShedsAll mark self.old self.new }
@@ -127,9 +127,9 @@ impl<O: Drop, B: Drop, T: Drop> Graph<O, B, T> {
     ghost use Rattle.irtext_graph.specs.Back.{IsClosedBelow, RollsBack};
     ghost use Rattle.irtext_graph.specs.Graph.{KeepsOlder};
 
-    /// Takes every object out that was made when `mark` objects had been made, or later. What is older stands as it did, no
-    /// generation is handed out again, and the numbers of objects and of values that were made stay. It takes no memory, and as
-    /// long as what was made since is much.
+    /// Removes every object that was not made before the mark, a value that `made` returned. Older objects are unchanged. No pointer is
+    /// reused, and `made` and the number of the next value are unchanged. It allocates nothing. Its time grows with the number of objects
+    /// that were made since.
     pub fn roll_back(&mut self, mark: u64)
         requires closed { IsClosedBelow mark self.old }
         ensures back { RollsBack mark self.old self.new }

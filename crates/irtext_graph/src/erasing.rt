@@ -1,4 +1,4 @@
-//! What the operations inside an object use is dropped, so that the object can go.
+//! Erasing: dropping what the operations nested in an object use, and the test whether the object can be erased.
 ghost use Rattle.std.specs.Prelude.{◌≡◌, ◌≢◌, ◌<◌, ◌↔◌, ℕ, Some, None, IsSome, IsTrue, option_map};
 ghost use Rattle.irtext_graph.specs.Erasing.{user, without_uses, IsUsedInside, IsAllUsedInside};
 
@@ -6,7 +6,7 @@ use crate::arena::Ptr;
 use crate::object::{BasicBlock, Defined, Object, Operation, Site, Value};
 use crate::objects::Objects;
 
-/// The operation that uses something at a place.
+/// Returns the operation of a use.
 fn user_of(u: Site) -> Object
     ensures { result ≡ user u }
 {
@@ -28,7 +28,7 @@ impl<O: Drop, B: Drop, T: Drop> Objects<O, B, T> {
     ghost use Rattle.irtext_graph.specs.Uses.{use_at, val, head_at, AreUsesLinked};
     ghost use Rattle.irtext_graph.specs.Used.{without_uses_in};
 
-    /// Drops what an operation uses.
+    /// Drops the operands and successors of an operation.
     fn drop_uses(&mut self, p: Ptr<Operation>)
         requires stands { IsSome (get self.old.operations p) }
         requires linked { AreUsesLinked self.old }
@@ -45,7 +45,7 @@ impl<O: Drop, B: Drop, T: Drop> Objects<O, B, T> {
         self.operations.clear_uses(p);
     }
 
-    /// Drops what an object uses: nothing, where it is no operation.
+    /// Drops the operands and successors of an object, if it is an operation.
     fn drop_uses_of(&mut self, q: Object)
         requires lives { Lives self.old q }
         requires linked { AreUsesLinked self.old }
@@ -63,7 +63,7 @@ impl<O: Drop, B: Drop, T: Drop> Objects<O, B, T> {
         }
     }
 
-    /// Drops what the operations inside an object use. It takes no memory.
+    /// Drops the operands and successors of o and of all operations nested in it. It allocates nothing.
     pub(crate) fn drop_all_uses(&mut self, o: Object)
         requires lives { Lives self.old o }
         requires forest { IsForest self.old }
@@ -85,7 +85,7 @@ impl<O: Drop, B: Drop, T: Drop> Objects<O, B, T> {
         }
     }
 
-    /// Whether each use of d is made inside o.
+    /// Whether each use of d is in an operation that is o or nested in o.
     fn is_used_inside(&self, o: Object, d: Defined) -> bool
         requires forest { IsForest self.now }
         requires linked { AreUsesLinked self.now }
@@ -103,7 +103,7 @@ impl<O: Drop, B: Drop, T: Drop> Objects<O, B, T> {
         true
     }
 
-    /// Whether each use of a result of p is made inside o.
+    /// Whether each use of a result of p is in an operation that is o or nested in o.
     fn are_results_used_inside(&self, o: Object, p: Ptr<Operation>) -> bool
         requires forest { IsForest self.now }
         requires linked { AreUsesLinked self.now }
@@ -119,7 +119,7 @@ impl<O: Drop, B: Drop, T: Drop> Objects<O, B, T> {
         true
     }
 
-    /// Whether each use of an argument of b is made inside o.
+    /// Whether each use of an argument of b is in an operation that is o or nested in o.
     fn are_arguments_used_inside(&self, o: Object, b: Ptr<BasicBlock>) -> bool
         requires forest { IsForest self.now }
         requires linked { AreUsesLinked self.now }
@@ -135,7 +135,7 @@ impl<O: Drop, B: Drop, T: Drop> Objects<O, B, T> {
         true
     }
 
-    /// Whether each use of what q defines is made inside o.
+    /// Whether each use of what q defines is in an operation that is o or nested in o.
     fn is_all_used_inside(&self, o: Object, q: Object) -> bool
         requires forest { IsForest self.now }
         requires linked { AreUsesLinked self.now }
@@ -155,7 +155,7 @@ impl<O: Drop, B: Drop, T: Drop> Objects<O, B, T> {
         }
     }
 
-    /// Whether each use of what is defined inside o is made inside o.
+    /// Whether nothing outside of o uses what o, or an object nested in it, defines.
     pub(crate) fn can_erase(&self, o: Object) -> bool
         requires forest { IsForest self.now }
         requires linked { AreUsesLinked self.now }

@@ -1,11 +1,11 @@
-//! The forest that the objects are: what can be put where, what comes off, and what goes with all inside.
+//! The forest of the objects: inserting, unlinking and erasing an object, and walking over everything nested in it.
 ghost use Rattle.std.specs.Prelude.{◌≡◌, ◌≢◌, ◌<◌, ◌≤◌, ◌↔◌, ◌∷◌, ℕ, Some, None, [], IsSome, IsTrue, OnOk, OnErr, slice_get, true, false};
 
 use crate::object::Object;
 use crate::objects::Objects;
 use std::alloc::AllocError;
 
-/// Whether two names name one object.
+/// Whether two objects are the same.
 fn same_object(o: Object, c: Object) -> bool
     ensures { IsTrue result ↔ o ≡ c }
 {
@@ -18,7 +18,7 @@ impl<O: Drop, B: Drop, T: Drop> Objects<O, B, T> {
     ghost use Rattle.irtext_graph.specs.Objects.{up, kids, what, Lives, links, SameAt, SameNodes, SamePlaces, SameData, stays, IsGone, IsForest, Appends, Fits, CanInsert, KeepsOlder, Drops, Renumbers, SameDatum, Sheds};
     ghost use Rattle.irtext_graph.specs.Preorder.{left};
 
-    /// Whether c stands nowhere and k is not inside it.
+    /// Whether c has no parent, and k is neither c nor nested in it.
     pub(crate) fn can_insert(&self, k: Object, c: Object) -> bool
         requires forest { IsForest self.now }
         requires holder { Lives self.now k }
@@ -38,7 +38,7 @@ impl<O: Drop, B: Drop, T: Drop> Objects<O, B, T> {
         true
     }
 
-    /// Whether q is o, or stands somewhere in o.
+    /// Whether q is o or nested in o.
     pub(crate) fn is_inside(&self, o: Object, q: Object) -> bool
         requires forest { IsForest self.now }
         requires lives { Lives self.now q }
@@ -54,7 +54,7 @@ impl<O: Drop, B: Drop, T: Drop> Objects<O, B, T> {
         false
     }
 
-    /// Puts c last into k.
+    /// Makes c the last child of k.
     pub(crate) fn insert_last(&mut self, k: Object, c: Object) -> Result<(), AllocError>
         requires forest { IsForest self.old }
         requires holder { Lives self.old k }
@@ -79,7 +79,7 @@ impl<O: Drop, B: Drop, T: Drop> Objects<O, B, T> {
         }
     }
 
-    /// Notes for each child of k from an index on at which index it stands.
+    /// Records the index of each child of k from an index on.
     fn renumber(&mut self, k: Object, from: usize)
         requires forest { IsForest self.old }
         requires lives { Lives self.old k }
@@ -91,7 +91,7 @@ impl<O: Drop, B: Drop, T: Drop> Objects<O, B, T> {
         }
     }
 
-    /// Where an object stands in its parent's list: at the index that was noted, or else the list is searched from its end.
+    /// Returns the index of an object in its parent. The recorded index is tried first; then the children are searched from the last one.
     pub(crate) fn index_in(&self, k: Object, c: Object) -> usize
         requires forest { IsForest self.now }
         requires stands { up self.now c ≡ Some k }
@@ -111,7 +111,7 @@ impl<O: Drop, B: Drop, T: Drop> Objects<O, B, T> {
         unreachable!()
     }
 
-    /// Takes c, which stands in k at an index, out of the list of k.
+    /// Removes c, the child of k at an index, from k.
     fn unlist(&mut self, k: Object, i: usize, c: Object)
         requires forest { IsForest self.old }
         requires stands { up self.old c ≡ Some k }
@@ -130,7 +130,7 @@ impl<O: Drop, B: Drop, T: Drop> Objects<O, B, T> {
         self.clear_parent(c);
     }
 
-    /// Takes an object out of what it stands in.
+    /// Removes an object from its parent, if it has one.
     pub(crate) fn unlink(&mut self, c: Object)
         requires lives { Lives self.old c }
         requires forest { IsForest self.old }
@@ -152,7 +152,7 @@ impl<O: Drop, B: Drop, T: Drop> Objects<O, B, T> {
         }
     }
 
-    /// The object behind q among all inside o, where an object comes before what stands in it.
+    /// Returns the object after q in the preorder of o and everything nested in it.
     pub(crate) fn after(&self, o: Object, q: Object) -> Option<Object>
         requires forest { IsForest self.now }
         requires lives { Lives self.now q }
@@ -179,7 +179,7 @@ impl<O: Drop, B: Drop, T: Drop> Objects<O, B, T> {
         None
     }
 
-    /// The last child of the last child and so on of an object, until one has none.
+    /// Goes from an object to its last child, and so on, to an object without children.
     fn innermost(&self, o: Object) -> Object
         requires forest { IsForest self.now }
         requires lives { Lives self.now o }
@@ -196,7 +196,7 @@ impl<O: Drop, B: Drop, T: Drop> Objects<O, B, T> {
         at
     }
 
-    /// Takes an object without children out of its parent's list and of its arena, and answers its parent.
+    /// Removes an object without children from its parent and its arena, and returns its parent.
     fn drop_leaf(&mut self, c: Object) -> Object
         requires forest { IsForest self.old }
         requires lives { Lives self.old c }
@@ -213,7 +213,7 @@ impl<O: Drop, B: Drop, T: Drop> Objects<O, B, T> {
         k
     }
 
-    /// Takes an object that stands nowhere, and all that stands in it, out of the arenas, and says how many they were. It takes no memory.
+    /// Removes a detached object and all that is nested in it from the arenas, and returns how many they were. It allocates nothing.
     fn erase_all(&mut self, o: Object) -> usize
         requires lives { Lives self.old o }
         requires forest { IsForest self.old }
@@ -235,7 +235,7 @@ impl<O: Drop, B: Drop, T: Drop> Objects<O, B, T> {
         count
     }
 
-    /// Takes an object, and all that stands in it, out of the arenas and of what it stands in, and says how many they were.
+    /// Removes an object and everything nested in it from the arenas and from its parent, and returns how many objects they were.
     pub(crate) fn erase(&mut self, o: Object) -> usize
         requires lives { Lives self.old o }
         requires forest { IsForest self.old }

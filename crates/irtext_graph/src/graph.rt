@@ -1,4 +1,4 @@
-//! The graph: what its callers can do with it.
+//! The graph and the calls of its users.
 ghost use Rattle.std.specs.Prelude.{◌≡◌, ◌≤◌, ◌+◌, ◌∷◌, ◌↔◌, Some, IsSome, IfSome, IsTrue, OnOk, OnErr, length, slice_get, ◌<◌, ℕ};
 ghost use Rattle.irtext_graph.specs.Graph.{empty, begun, parent, children, ancestor, Stands, IsInside, CanInsert, Appends, Unlinks, IsNew, KeepsOlder, num_live};
 ghost use Rattle.irtext_graph.specs.Nested.{Nested};
@@ -20,20 +20,20 @@ use crate::objects::Objects;
 use std::alloc::{AllocError, Global};
 use std::marker::Model;
 
-/// Where a graph's counters stand: the number of its next value, and the number from which its places count.
+/// The counters of a graph: the number of the next value, and the number of the first slot.
 #[derive(Clone, Copy, Debug)]
 pub(crate) struct Counters {
     pub(crate) values: u64,
     pub(crate) first_place: u32,
 }
 
-/// Operations with data O, blocks with data B, values with types T, and regions: how they nest, and who uses which value or block.
+/// A graph of operations with data O, blocks with data B, values with types T, and regions: how they nest, and which uses there are.
 #[derive(Drop)]
 pub struct Graph<O, B, T> {
     pub(crate) objects: Objects<O, B, T>,
-    // what was made, in the order of making; objects that are gone may be in it
+    // what was made, in order; it may have objects that are gone
     pub(crate) log: Vec<Made>,
-    // how many are in it at most that were erased
+    // an upper bound for the number of erased objects in `log`
     pub(crate) gone: usize,
     pub(crate) made: u64,
     pub(crate) counters: Counters,
@@ -52,15 +52,15 @@ impl<O, B, T> Model for Graph<O, B, T> {
 }
 
 impl<O: Drop, B: Drop, T: Drop> Graph<O, B, T> {
-    /// A graph without objects. It takes no memory yet.
+    /// Makes a graph without objects. It allocates nothing.
     pub fn new(alloc: Global) -> Graph<O, B, T>
         ensures { result ≡ empty }
     {
         Graph::with_counters(alloc, 0, 1)
     }
 
-    /// A graph without objects whose next value has the number `values`, and whose places count from `places`, so that the ends of
-    /// its counters are near: the greatest place is below the greatest `u32`. It takes no memory yet.
+    /// Makes a graph without objects. Its next value gets the number `values`, and its slots are numbered from `places`, at least 1.
+    /// Large numbers put the counters near their limits: a slot's number is always less than `u32::MAX`. It allocates nothing.
     pub fn with_counters(alloc: Global, values: u64, places: u32) -> Graph<O, B, T>
         requires { 1 ≤ places }
         ensures { result ≡ begun values places }
@@ -82,12 +82,12 @@ impl<O: Drop, B: Drop, T: Drop> Graph<O, B, T> {
         }
     }
 
-    /// Where the graph's objects are allocated.
+    /// The allocator of the graph's objects.
     pub fn allocator(&self) -> Global {
         self.alloc
     }
 
-    /// How many objects were made, those that are gone among them. All that stand are older, so this is a mark for `roll_back`.
+    /// Returns how many objects were made, erased ones included. It is a mark for `roll_back`: all live objects are older.
     pub fn made(&self) -> u64
         ensures value { result ≡ self.now.made }
         ensures older { AllOlder result self.now }
@@ -96,14 +96,14 @@ impl<O: Drop, B: Drop, T: Drop> Graph<O, B, T> {
         self.made
     }
 
-    /// The number of a pointer's place, as it is printed.
+    /// Returns the number of a pointer's slot, as it is printed.
     pub fn number_of_place<K>(&self, p: Ptr<K>) -> u64
         ensures { result ≡ self.now.first_place + p.index }
     {
         self.counters.first_place as u64 + p.index as u64
     }
 
-    /// How many operations, blocks and regions stand.
+    /// The number of live operations, blocks and regions.
     pub fn num_live(&self) -> u64
         ensures { result ≡ num_live self.now }
     {
@@ -113,14 +113,14 @@ impl<O: Drop, B: Drop, T: Drop> Graph<O, B, T> {
         operations + blocks + regions
     }
 
-    /// Whether an object stands in the graph.
+    /// Whether an object is live.
     pub fn contains(&self, o: Object) -> bool
         ensures { IsTrue result ↔ Stands self.now o }
     {
         self.objects.contains(o)
     }
 
-    /// What an object stands in, which is there too.
+    /// Returns the parent of an object, which is live too.
     pub fn get_parent(&self, o: Object) -> Option<Object>
         requires { Stands self.now o }
         ensures parent { result ≡ parent self.now o }
@@ -129,7 +129,7 @@ impl<O: Drop, B: Drop, T: Drop> Graph<O, B, T> {
         self.objects.parent_of(o)
     }
 
-    /// What stands so many levels round an object: at level 1 what it stands in.
+    /// Returns the ancestor of an object that many levels up: level 1 is the parent.
     pub fn ancestor(&self, o: Object, levels: usize) -> Option<Object>
         requires { Stands self.now o }
         ensures ancestor { result ≡ ancestor self.now levels o }
@@ -142,8 +142,8 @@ impl<O: Drop, B: Drop, T: Drop> Graph<O, B, T> {
         Some(at)
     }
 
-    /// What always holds, as this contract says of a call that does nothing: an object is listed once by what it stands in, a fit one
-    /// that is there, and by no other; none stands inside itself; `next_inside` meets all inside an object; what is used is there.
+    /// States invariants, and does nothing: an object is listed once by its parent, a live one of a fitting kind, and by no other; none
+    /// is nested in itself; `next_inside` visits all that is nested in an object; what is used is defined.
     pub fn keeps_nesting(&self)
         ensures forest { Nested (children self.now) (parent self.now) }
         ensures holders { (c k : _) → parent self.now c ≡ Some k → Stands self.now k }
@@ -154,8 +154,8 @@ impl<O: Drop, B: Drop, T: Drop> Graph<O, B, T> {
         let _objects = &self.objects;
     }
 
-    /// What always holds of the numbers of values, as this contract says of a call that does nothing: each is below the counter from
-    /// which the next value draws its number, and values with the same number are the same value.
+    /// States invariants of the values' numbers, and does nothing: each is less than the number of the next value, and values with the
+    /// same number are the same value.
     pub fn keeps_numbers(&self)
         ensures below { (v : Value) (t : _) → value_at self.now v ≡ Some t → t.number < self.now.values }
         ensures differ { NumbersDiffer self.now }
@@ -163,7 +163,7 @@ impl<O: Drop, B: Drop, T: Drop> Graph<O, B, T> {
         let _objects = &self.objects;
     }
 
-    /// How many objects stand directly in an object.
+    /// The number of children of an object.
     pub fn num_children(&self, o: Object) -> usize
         requires { Stands self.now o }
         ensures { result ≡ length (children self.now o) }
@@ -171,7 +171,7 @@ impl<O: Drop, B: Drop, T: Drop> Graph<O, B, T> {
         self.objects.child_count(o)
     }
 
-    /// The object that stands in an object at an index.
+    /// Returns the child of an object at an index.
     pub fn get_child(&self, o: Object, i: usize) -> Object
         requires stands { Stands self.now o }
         requires within { i < length (children self.now o) }
@@ -181,7 +181,7 @@ impl<O: Drop, B: Drop, T: Drop> Graph<O, B, T> {
         self.objects.child_at(o, i)
     }
 
-    /// Whether q is o, or stands somewhere in o. It takes as long as q stands deep.
+    /// Whether q is o or nested in o, at any depth. Its time grows with the depth of q.
     pub fn is_inside(&self, o: Object, q: Object) -> bool
         requires { Stands self.now q }
         ensures { IsTrue result ↔ IsInside self.now o q }
@@ -189,7 +189,7 @@ impl<O: Drop, B: Drop, T: Drop> Graph<O, B, T> {
         self.objects.is_inside(o, q)
     }
 
-    /// The object behind q among o and all that stands inside it, where each comes before what stands in it.
+    /// Returns the object after q in the preorder of o and everything nested in it: each object comes before its children.
     pub fn next_inside(&self, o: Object, q: Object) -> Option<Object>
         requires stands { Stands self.now q }
         requires within { IsInside self.now o q }
@@ -200,7 +200,7 @@ impl<O: Drop, B: Drop, T: Drop> Graph<O, B, T> {
         self.objects.after(o, q)
     }
 
-    /// Whether c stands nowhere and k is not inside it: the condition of `insert_at_back`.
+    /// Whether c has no parent, and k is neither c nor nested in it: the condition of `insert_at_back`.
     pub fn can_insert_at_back(&self, k: Object, c: Object) -> bool
         requires holder { Stands self.now k }
         requires stands { Stands self.now c }
@@ -209,7 +209,7 @@ impl<O: Drop, B: Drop, T: Drop> Graph<O, B, T> {
         self.objects.can_insert(k, c)
     }
 
-    /// Puts c last into k. Where memory is refused nothing changes.
+    /// Makes c the last child of k. If an allocation fails, the graph is unchanged.
     pub fn insert_at_back(&mut self, k: Object, c: Object) -> Result<(), AllocError>
         requires holder { Stands self.old k }
         requires stands { Stands self.old c }
@@ -222,7 +222,7 @@ impl<O: Drop, B: Drop, T: Drop> Graph<O, B, T> {
         self.objects.insert_last(k, c)
     }
 
-    /// The index at which c stands in its parent k, which is noted with c, so that nothing is searched.
+    /// Returns the index of c in its parent k. It is recorded with c, so that no search is needed.
     pub fn find_index_in_parent(&self, k: Object, c: Object) -> usize
         requires { parent self.now c ≡ Some k }
         ensures { slice_get (children self.now k) result ≡ Some c }
@@ -230,8 +230,8 @@ impl<O: Drop, B: Drop, T: Drop> Graph<O, B, T> {
         self.objects.index_in(k, c)
     }
 
-    /// Takes an object out of what it stands in, if it stands in anything. What stands in it stays there. It takes no memory, and as
-    /// long as there are children behind it.
+    /// Removes an object from its parent, if it has one. Its children stay with it. It allocates nothing. Its time grows with the number
+    /// of children after it.
     pub fn unlink(&mut self, c: Object)
         requires { Stands self.old c }
         ensures unlinks { Unlinks self.old self.new c }
@@ -240,8 +240,8 @@ impl<O: Drop, B: Drop, T: Drop> Graph<O, B, T> {
         self.objects.unlink(c);
     }
 
-    /// Whether each use of a value or of a block inside o is made inside o: the condition of `erase`. It takes no memory, and as long as
-    /// there are objects inside o and uses of what they define, each use as long as its operation stands deep.
+    /// Whether nothing outside of o uses a value or a block that is defined in o: the condition of `erase`. It allocates nothing. Its
+    /// time grows with the objects in o, and with the uses of what they define, each times the depth of its operation.
     pub fn can_erase(&self, o: Object) -> bool
         requires { Stands self.now o }
         ensures { IsTrue result ↔ CanErase self.now o }
@@ -249,8 +249,8 @@ impl<O: Drop, B: Drop, T: Drop> Graph<O, B, T> {
         self.objects.can_erase(o)
     }
 
-    /// Drops what the operations inside o use, o among them: they have no operands and no successors then. All else is as it was.
-    /// It takes no memory, and as long as there are objects inside o and uses in them.
+    /// Drops all operands and successors of o and of the operations nested in it. All else is unchanged. It allocates nothing. Its time
+    /// grows with the objects in o and their uses.
     pub fn drop_all_uses(&mut self, o: Object)
         requires { Stands self.old o }
         ensures drops { DropsUses self.old self.new o }
@@ -260,10 +260,10 @@ impl<O: Drop, B: Drop, T: Drop> Graph<O, B, T> {
         self.objects.drop_all_uses(o);
     }
 
-    /// Takes an object with all that stands in it out of the graph and of what it stands in. Nothing outside of it may use what it
-    /// defines (`CanErase`). Their places are free then, and no generation comes again. It takes no memory, and as long as there are
-    /// objects inside o and uses in them, and children behind o in its parent; that they were made is forgotten now and then, so that
-    /// what is kept of objects that are gone is no more than of those that stand.
+    /// Erases an object and everything nested in it, and removes it from its parent. Nothing outside may use what is defined in it
+    /// (`CanErase`). The slots become free, and no pointer is reused. It allocates nothing. Its time grows with the objects in o, their
+    /// uses, and the children after o in its parent. Now and then erased objects are removed from the graph's log of made objects, so
+    /// that it has no more of them than of live objects.
     pub fn erase(&mut self, o: Object)
         requires stands { Stands self.old o }
         requires can { CanErase self.old o }

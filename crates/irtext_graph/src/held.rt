@@ -1,4 +1,4 @@
-//! Objects by their pointers, in whatever holds a graph: the calls that a context hands on.
+//! Calls on pointers to objects, for anything that has a graph, such as a context.
 ghost use Rattle.std.specs.Prelude.{◌≡◌, ◌<◌, ◌↔◌, ℕ, Some, None, IfSome, IsSome, IsTrue, OnOk, OnErr, length, option_map, slice_get};
 ghost use Rattle.std.specs.Borrow.{sem};
 ghost use Rattle.irtext_graph.specs.Objects.{Fits};
@@ -13,7 +13,7 @@ use crate::graph::Graph;
 use crate::object::{BasicBlock, Object, Operation, Region};
 use std::alloc::AllocError;
 
-/// What holds a graph, as a context does. The calls on pointers ask for this alone, so that they serve whatever holds one.
+/// Anything that has a graph, such as a context. The calls on pointers need only this.
 pub trait HasGraph {
     ghost use Rattle.irtext_graph.specs.DataLends.{LendsGraph};
 
@@ -26,14 +26,14 @@ pub trait HasGraph {
 
     // the graph
     ghost graph: { Self → GraphView Self.O Self.B Self.T };
-    // the same with another graph in its place
+    // the same with another graph
     ghost with_graph: { Self → GraphView Self.O Self.B Self.T → Self };
 
-    /// The graph.
+    /// Returns the graph.
     fn graph(&self) -> &Graph<Self::O, Self::B, Self::T>
         ensures { result.now ≡ graph self.now };
 
-    /// The graph, for writing.
+    /// Borrows the graph as `&mut`.
     fn graph_mut(&mut self) -> &mut Graph<Self::O, Self::B, Self::T>
         ensures* lends { sem 𝓛 (LendsGraph Self.O.row Self.B.row Self.T.row Self.row with_graph self.entry result) }
         ensures value { result.now ≡ graph self.old };
@@ -43,20 +43,20 @@ pub trait HasGraph {
     ghost with_own: { (c : Self) → with_graph c (graph c) ≡ c };
 }
 
-/// A kind of objects.
+/// A kind of objects: operations, blocks or regions.
 pub trait Kind {
     ghost use Rattle.irtext_graph.specs.declared.arena.Ptr.{Ptr};
     ghost use Rattle.irtext_graph.specs.declared.object.Object.{Object};
 
-    // the object under a pointer of this kind
+    // the object that a pointer of this kind refers to
     ghost object: { Ptr Self → Object };
 
-    /// The object under a pointer of this kind.
+    /// Returns the object that a pointer of this kind refers to.
     fn object(p: Ptr<Self>) -> Object
         ensures { result ≡ object p };
 }
 
-/// A kind whose objects hold those of kind K.
+/// A kind of objects whose children are of kind K.
 pub trait Holds<K: Kind>: Kind {
     ghost use Rattle.irtext_graph.specs.declared.arena.Ptr.{Ptr};
 
@@ -105,7 +105,7 @@ impl Holds<BasicBlock> for Region {
     ghost fits = { λ k c. tt };
 }
 
-/// The first of three for an operation, the second for a block, and the third for a region.
+/// Returns the first number for an operation, the second for a block, and the third for a region.
 fn by_kind(o: Object, operation: usize, block: usize, region: usize) -> usize
     ensures { result ≡ by_kind o operation block region }
 {
@@ -117,7 +117,7 @@ fn by_kind(o: Object, operation: usize, block: usize, region: usize) -> usize
 }
 
 impl<K: Kind> Ptr<K> {
-    /// Whether the object stands nowhere and its holder is not inside it: the condition of `insert_at_back`.
+    /// Whether the object has no parent, and the holder is neither the object nor nested in it: the condition of `insert_at_back`.
     pub fn can_insert_at_back<H: Holds<K>, C: HasGraph>(self, holder: Ptr<H>, ctx: &C) -> bool
         requires holder { Stands (C.graph ctx.now) (H.object holder) }
         requires stands { Stands (C.graph ctx.now) (K.object self) }
@@ -127,7 +127,7 @@ impl<K: Kind> Ptr<K> {
             .can_insert_at_back(H::object(holder), K::object(self))
     }
 
-    /// Puts the object last into its holder. Where memory is refused nothing changes.
+    /// Makes the object the last child of the holder. If an allocation fails, nothing changes.
     pub fn insert_at_back<H: Holds<K>, C: HasGraph>(
         self,
         holder: Ptr<H>,
@@ -146,7 +146,7 @@ impl<K: Kind> Ptr<K> {
         ctx.graph_mut().insert_at_back(H::object(holder), item)
     }
 
-    /// Takes the object out of what it stands in, if it stands in anything. What stands in it stays there.
+    /// Removes the object from its parent, if it has one. Its children stay with it.
     pub fn unlink<C: HasGraph>(self, ctx: &mut C)
         requires { Stands (C.graph ctx.old) (K.object self) }
         ensures unlinks { Unlinks (C.graph ctx.old) (C.graph ctx.new) (K.object self) }
@@ -156,7 +156,7 @@ impl<K: Kind> Ptr<K> {
         ctx.graph_mut().unlink(K::object(self));
     }
 
-    /// Whether nothing outside of the object uses what is defined inside it: the condition of `erase`. It takes no memory.
+    /// Whether nothing outside of the object uses what is defined in it: the condition of `erase`. It allocates nothing.
     pub fn can_erase<C: HasGraph>(self, ctx: &C) -> bool
         requires { Stands (C.graph ctx.now) (K.object self) }
         ensures { IsTrue result ↔ CanErase (C.graph ctx.now) (K.object self) }
@@ -164,7 +164,7 @@ impl<K: Kind> Ptr<K> {
         ctx.graph().can_erase(K::object(self))
     }
 
-    /// Drops what the operations inside the object use, itself among them. It takes no memory.
+    /// Drops all operands and successors of the object and of the operations nested in it. It allocates nothing.
     pub fn drop_all_uses<C: HasGraph>(self, ctx: &mut C)
         requires { Stands (C.graph ctx.old) (K.object self) }
         ensures drops { DropsUses (C.graph ctx.old) (C.graph ctx.new) (K.object self) }
@@ -174,7 +174,7 @@ impl<K: Kind> Ptr<K> {
         ctx.graph_mut().drop_all_uses(K::object(self));
     }
 
-    /// Takes the object, with all that stands in it, out of the graph and of what it stands in. It takes no memory.
+    /// Erases the object and everything nested in it, and removes it from its parent. It allocates nothing.
     pub fn erase<C: HasGraph>(self, ctx: &mut C)
         requires stands { Stands (C.graph ctx.old) (K.object self) }
         requires can { CanErase (C.graph ctx.old) (K.object self) }
@@ -185,7 +185,7 @@ impl<K: Kind> Ptr<K> {
         ctx.graph_mut().erase(K::object(self));
     }
 
-    /// The nearest operation round the object.
+    /// Returns the nearest operation that encloses the object, if there is one.
     pub fn get_parent_op<C: HasGraph>(self, ctx: &C) -> Option<Ptr<Operation>>
         requires { Stands (C.graph ctx.now) (K.object self) }
         ensures parent { ancestor (C.graph ctx.now) (to_operation (K.object self)) (K.object self) ≡ option_map TheOperation result }
@@ -199,7 +199,7 @@ impl<K: Kind> Ptr<K> {
         }
     }
 
-    /// The nearest block round the object.
+    /// Returns the nearest block that encloses the object, if there is one.
     pub fn get_parent_block<C: HasGraph>(self, ctx: &C) -> Option<Ptr<BasicBlock>>
         requires { Stands (C.graph ctx.now) (K.object self) }
         ensures parent { ancestor (C.graph ctx.now) (to_block (K.object self)) (K.object self) ≡ option_map TheBlock result }
@@ -213,7 +213,7 @@ impl<K: Kind> Ptr<K> {
         }
     }
 
-    /// The nearest region round the object.
+    /// Returns the nearest region that encloses the object, if there is one.
     pub fn get_parent_region<C: HasGraph>(self, ctx: &C) -> Option<Ptr<Region>>
         requires { Stands (C.graph ctx.now) (K.object self) }
         ensures parent { ancestor (C.graph ctx.now) (to_region (K.object self)) (K.object self) ≡ option_map TheRegion result }
@@ -227,7 +227,7 @@ impl<K: Kind> Ptr<K> {
         }
     }
 
-    /// The index at which the object stands in what it stands in.
+    /// Returns the index of the object in its parent.
     pub fn find_index_in_parent<C: HasGraph>(self, ctx: &C) -> usize
         requires stands { Stands (C.graph ctx.now) (K.object self) }
         requires inside { IsSome (parent (C.graph ctx.now) (K.object self)) }
@@ -243,7 +243,7 @@ impl<K: Kind> Ptr<K> {
 }
 
 impl Ptr<Operation> {
-    /// How many regions stand in the operation.
+    /// The number of regions of the operation.
     pub fn num_regions<C: HasGraph>(self, ctx: &C) -> usize
         requires { Stands (C.graph ctx.now) (TheOperation self) }
         ensures { result ≡ length (regions (C.graph ctx.now) self) }
@@ -251,7 +251,7 @@ impl Ptr<Operation> {
         ctx.graph().num_children(Object::TheOperation(self))
     }
 
-    /// The region of the operation at an index.
+    /// Returns the region of the operation at an index.
     pub fn get_region<C: HasGraph>(self, ctx: &C, index: usize) -> Ptr<Region>
         requires { index < length (regions (C.graph ctx.now) self) }
         ensures { slice_get (regions (C.graph ctx.now) self) index ≡ Some result }
@@ -264,7 +264,7 @@ impl Ptr<Operation> {
 }
 
 impl Ptr<BasicBlock> {
-    /// How many operations stand in the block.
+    /// The number of operations in the block.
     pub fn num_operations<C: HasGraph>(self, ctx: &C) -> usize
         requires { Stands (C.graph ctx.now) (TheBlock self) }
         ensures { result ≡ length (operations_in (C.graph ctx.now) self) }
@@ -272,7 +272,7 @@ impl Ptr<BasicBlock> {
         ctx.graph().num_children(Object::TheBlock(self))
     }
 
-    /// The operation of the block at an index.
+    /// Returns the operation of the block at an index.
     pub fn get_operation<C: HasGraph>(self, ctx: &C, index: usize) -> Ptr<Operation>
         requires { index < length (operations_in (C.graph ctx.now) self) }
         ensures { slice_get (operations_in (C.graph ctx.now) self) index ≡ Some result }
@@ -285,7 +285,7 @@ impl Ptr<BasicBlock> {
 }
 
 impl Ptr<Region> {
-    /// How many blocks stand in the region.
+    /// The number of blocks in the region.
     pub fn num_blocks<C: HasGraph>(self, ctx: &C) -> usize
         requires { Stands (C.graph ctx.now) (TheRegion self) }
         ensures { result ≡ length (blocks (C.graph ctx.now) self) }
@@ -293,7 +293,7 @@ impl Ptr<Region> {
         ctx.graph().num_children(Object::TheRegion(self))
     }
 
-    /// The block of the region at an index.
+    /// Returns the block of the region at an index.
     pub fn get_block<C: HasGraph>(self, ctx: &C, index: usize) -> Ptr<BasicBlock>
         requires { index < length (blocks (C.graph ctx.now) self) }
         ensures { slice_get (blocks (C.graph ctx.now) self) index ≡ Some result }

@@ -1,4 +1,4 @@
-//! The graph of operations, blocks and regions: how they nest, and who uses which value and which block.
+//! The graph of operations, blocks and regions: how they nest, and which operations use which values and blocks.
 #![tactic(auto)]
 
 pub mod arena;

@@ -1,4 +1,4 @@
-//! The uses of a new operation: made in no use list, and put into their lists once all memory is there.
+//! The uses of a new operation. They are made outside of the use lists, and inserted into them when all allocations have succeeded.
 ghost use Rattle.std.specs.Prelude.{◌≡◌, ◌≢◌, ◌<◌, ℕ, Some, None, IsSome, IfOk, map};
 ghost use Rattle.irtext_graph.specs.Linking.{unlinked, site_of};
 
@@ -8,14 +8,14 @@ use crate::objects::{Links, Objects, Use};
 use irtext_few::Few;
 use std::alloc::{AllocError, Global};
 
-/// The operands of an operation, or its successors.
+/// The operands or the successors of an operation.
 #[derive(Clone, Copy, Debug)]
 pub(crate) enum Side {
     Operands,
     Successors,
 }
 
-/// The place of an operand or of a successor.
+/// Returns the site of an operand or a successor.
 fn site_at(side: Side, p: Ptr<Operation>, i: usize) -> Site
     ensures { result ≡ site_of side p i }
 {
@@ -25,7 +25,7 @@ fn site_at(side: Side, p: Ptr<Operation>, i: usize) -> Site
     }
 }
 
-/// A use of this, in no use list.
+/// Makes a use of this that is in no use list.
 #[inline(always)]
 fn unlinked_use<D>(def: D) -> Use<D>
     ensures { result ≡ unlinked def }
@@ -40,7 +40,7 @@ fn unlinked_use<D>(def: D) -> Use<D>
     }
 }
 
-/// Uses of these, in no use list, in a vector.
+/// Makes uses of these that are in no use list, in a vector.
 fn many_unlinked_uses<D: Copy + Drop>(alloc: Global, defs: &[D]) -> Result<Vec<Use<D>>, AllocError>
     ensures { IfOk result (λ uses. uses.items ≡ map unlinked defs.now) }
 {
@@ -51,7 +51,7 @@ fn many_unlinked_uses<D: Copy + Drop>(alloc: Global, defs: &[D]) -> Result<Vec<U
     Ok(uses)
 }
 
-/// Uses of these, in no use list. It takes no memory for up to two.
+/// Makes uses of these that are in no use list. It allocates nothing for up to two.
 #[inline(always)]
 pub(crate) fn unlinked_uses<D: Copy + Drop>(
     alloc: Global,
@@ -73,7 +73,7 @@ impl<O: Drop, B: Drop, T: Drop> Objects<O, B, T> {
     ghost use Rattle.irtext_graph.specs.Graph.{seen};
     ghost use Rattle.irtext_graph.specs.Uses.{use_at, head_at, val, AreUsesLinked};
 
-    /// Puts the operands of an operation, or its successors, into the use lists of what they name.
+    /// Inserts the operands of an operation, or its successors, into the use lists of what they refer to.
     pub(crate) fn attach_all(&mut self, side: Side, p: Ptr<Operation>, count: usize)
         requires linked { AreUsesLinked self.old }
         requires there { (i : ℕ) → i < count → IsSome (use_at self.old (site_of side p i)) }

@@ -1,4 +1,4 @@
-//! The links of uses, as they stand in the arenas of operations and of blocks.
+//! Reads and sets the links of uses in the arenas of operations and blocks.
 ghost use Rattle.std.specs.Prelude.{◌≡◌, ◌≢◌, ◌↔◌, ◌<◌, ℕ, Some, None, IsSome, option_map};
 
 use crate::arena::{Arena, Ptr};
@@ -15,7 +15,7 @@ impl<O: Drop, T: Drop> Arena<Nest<BasicBlock, Region, OperationData<O, T>>> {
     ghost use Rattle.irtext_graph.specs.Store.{Edits};
     ghost use Rattle.irtext_graph.specs.declared.object.Defined.TheVariants.{OfValue, OfBlock};
 
-    /// The operand of an operation at an index.
+    /// Returns the operand of an operation at an index.
     pub(crate) fn operand(&self, p: Ptr<Operation>, i: usize) -> Use<Value>
         requires { IsSome (operand_in (get self.now p) i) }
         ensures { operand_in (get self.now p) i ≡ Some result }
@@ -23,7 +23,7 @@ impl<O: Drop, T: Drop> Arena<Nest<BasicBlock, Region, OperationData<O, T>>> {
         self.content(p).data.operands[i]
     }
 
-    /// How many results an operation has.
+    /// The number of results of an operation.
     pub(crate) fn result_count(&self, p: Ptr<Operation>) -> usize
         requires { IsSome (get self.now p) }
         ensures { (i : ℕ) → IsSome (first_of (result_in (get self.now p) i)) ↔ i < result }
@@ -31,7 +31,7 @@ impl<O: Drop, T: Drop> Arena<Nest<BasicBlock, Region, OperationData<O, T>>> {
         self.content(p).data.results.len()
     }
 
-    /// Drops what an operation uses.
+    /// Drops the operands and successors of an operation.
     pub(crate) fn clear_uses(&mut self, p: Ptr<Operation>)
         requires { IsSome (get self.old p) }
         ensures operands { (i : ℕ) → operand_in (get self.new p) i ≡ None }
@@ -46,7 +46,7 @@ impl<O: Drop, T: Drop> Arena<Nest<BasicBlock, Region, OperationData<O, T>>> {
         node.data.successors.clear();
     }
 
-    /// Writes the links of an operand.
+    /// Sets the links of an operand.
     pub(crate) fn link_operand(&mut self, p: Ptr<Operation>, i: usize, links: Links)
         requires { IsSome (operand_in (get self.old p) i) }
         ensures here { operand_in (get self.new p) i ≡ option_map (relinked links) (operand_in (get self.old p) i) }
@@ -58,7 +58,7 @@ impl<O: Drop, T: Drop> Arena<Nest<BasicBlock, Region, OperationData<O, T>>> {
         self.content_mut(p).data.operands[i].links = links;
     }
 
-    /// Writes the value that an operand names. Its links stay.
+    /// Sets the value that an operand refers to. Its links are unchanged.
     pub(crate) fn set_operand(&mut self, p: Ptr<Operation>, i: usize, d: Value)
         requires { IsSome (operand_in (get self.old p) i) }
         ensures here { operand_in (get self.new p) i ≡ option_map (renamed d) (operand_in (get self.old p) i) }
@@ -72,7 +72,7 @@ impl<O: Drop, T: Drop> Arena<Nest<BasicBlock, Region, OperationData<O, T>>> {
         self.content_mut(p).data.operands[i].def = d;
     }
 
-    /// The successor of an operation at an index.
+    /// Returns the successor of an operation at an index.
     pub(crate) fn successor(&self, p: Ptr<Operation>, i: usize) -> Use<Ptr<BasicBlock>>
         requires { IsSome (successor_in (get self.now p) i) }
         ensures { successor_in (get self.now p) i ≡ Some result }
@@ -80,7 +80,7 @@ impl<O: Drop, T: Drop> Arena<Nest<BasicBlock, Region, OperationData<O, T>>> {
         self.content(p).data.successors[i]
     }
 
-    /// Writes the links of a successor.
+    /// Sets the links of a successor.
     pub(crate) fn link_successor(&mut self, p: Ptr<Operation>, i: usize, links: Links)
         requires { IsSome (successor_in (get self.old p) i) }
         ensures here { successor_in (get self.new p) i ≡ option_map (relinked links) (successor_in (get self.old p) i) }
@@ -92,7 +92,7 @@ impl<O: Drop, T: Drop> Arena<Nest<BasicBlock, Region, OperationData<O, T>>> {
         self.content_mut(p).data.successors[i].links = links;
     }
 
-    /// Writes the block that a successor names. Its links stay.
+    /// Sets the block that a successor refers to. Its links are unchanged.
     pub(crate) fn set_successor(&mut self, p: Ptr<Operation>, i: usize, d: Ptr<BasicBlock>)
         requires { IsSome (successor_in (get self.old p) i) }
         ensures here { successor_in (get self.new p) i ≡ option_map (renamed d) (successor_in (get self.old p) i) }
@@ -106,7 +106,7 @@ impl<O: Drop, T: Drop> Arena<Nest<BasicBlock, Region, OperationData<O, T>>> {
         self.content_mut(p).data.successors[i].def = d;
     }
 
-    /// The first use of a result.
+    /// Returns the first use of a result.
     pub(crate) fn first_result(&self, p: Ptr<Operation>, i: usize) -> Option<Site>
         requires { IsSome (first_of (result_in (get self.now p) i)) }
         ensures { first_of (result_in (get self.now p) i) ≡ Some result }
@@ -114,7 +114,7 @@ impl<O: Drop, T: Drop> Arena<Nest<BasicBlock, Region, OperationData<O, T>>> {
         self.content(p).data.results[i].first
     }
 
-    /// Writes the first use of a result.
+    /// Sets the first use of a result.
     pub(crate) fn set_first_result(&mut self, p: Ptr<Operation>, i: usize, h: Option<Site>)
         requires { IsSome (first_of (result_in (get self.old p) i)) }
         ensures here { first_of (result_in (get self.new p) i) ≡ Some h }
@@ -133,7 +133,7 @@ impl<B: Drop, T: Drop> Arena<Nest<Region, Operation, BlockData<B, T>>> {
     ghost use Rattle.irtext_graph.specs.Arena.{get};
     ghost use Rattle.irtext_graph.specs.Uses.{argument_in, preds_in, first_of, blocks_seen as seen};
 
-    /// How many arguments a block has.
+    /// The number of arguments of a block.
     pub(crate) fn argument_count(&self, b: Ptr<BasicBlock>) -> usize
         requires { IsSome (get self.now b) }
         ensures { (i : ℕ) → IsSome (first_of (argument_in (get self.now b) i)) ↔ i < result }
@@ -141,7 +141,7 @@ impl<B: Drop, T: Drop> Arena<Nest<Region, Operation, BlockData<B, T>>> {
         self.content(b).data.arguments.len()
     }
 
-    /// The first use of an argument.
+    /// Returns the first use of an argument.
     pub(crate) fn first_argument(&self, p: Ptr<BasicBlock>, i: usize) -> Option<Site>
         requires { IsSome (first_of (argument_in (get self.now p) i)) }
         ensures { first_of (argument_in (get self.now p) i) ≡ Some result }
@@ -149,7 +149,7 @@ impl<B: Drop, T: Drop> Arena<Nest<Region, Operation, BlockData<B, T>>> {
         self.content(p).data.arguments[i].first
     }
 
-    /// Writes the first use of an argument.
+    /// Sets the first use of an argument.
     pub(crate) fn set_first_argument(&mut self, p: Ptr<BasicBlock>, i: usize, h: Option<Site>)
         requires { IsSome (first_of (argument_in (get self.old p) i)) }
         ensures here { first_of (argument_in (get self.new p) i) ≡ Some h }
@@ -160,7 +160,7 @@ impl<B: Drop, T: Drop> Arena<Nest<Region, Operation, BlockData<B, T>>> {
         self.content_mut(p).data.arguments[i].first = h;
     }
 
-    /// The first use of a block.
+    /// Returns the first use of a block.
     pub(crate) fn first_pred(&self, b: Ptr<BasicBlock>) -> Option<Site>
         requires { IsSome (preds_in (get self.now b)) }
         ensures { preds_in (get self.now b) ≡ Some result }
@@ -168,7 +168,7 @@ impl<B: Drop, T: Drop> Arena<Nest<Region, Operation, BlockData<B, T>>> {
         self.content(b).data.preds
     }
 
-    /// Writes the first use of a block.
+    /// Sets the first use of a block.
     pub(crate) fn set_first_pred(&mut self, b: Ptr<BasicBlock>, h: Option<Site>)
         requires { IsSome (preds_in (get self.old b)) }
         ensures here { preds_in (get self.new b) ≡ Some h }

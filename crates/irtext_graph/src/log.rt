@@ -1,4 +1,4 @@
-//! The list of what was made: each object with its age, in the order of making.
+//! The log of what was made: each object with its age, in the order in which they were made.
 ghost use Rattle.std.specs.Prelude.{◌≡◌, ◌<◌, ◌≤◌, ◌++◌, ◌∷◌, ℕ, Some, [], OnOk, length, slice_get};
 ghost use Rattle.std.specs.Vec.{vec_len, vec_capacity};
 ghost use Rattle.irtext_graph.specs.Log.{IsByAge, IsLogged};
@@ -7,14 +7,14 @@ use crate::object::Object;
 use crate::objects::Objects;
 use std::alloc::AllocError;
 
-/// An object that was made, and how many objects were made before it.
+/// An object that was made, and the number of objects that were made before it.
 #[derive(Clone, Copy, Debug)]
 pub(crate) struct Made {
     pub(crate) born: u64,
     pub(crate) object: Object,
 }
 
-/// Makes room for one more. Where memory is refused the list stays as it is.
+/// Reserves room for one more entry. The entries are unchanged.
 pub(crate) fn make_room(log: &mut Vec<Made>) -> Result<(), AllocError>
     ensures same { log.new.items ≡ log.old.items }
     ensures room { OnOk result (vec_len log.new < vec_capacity log.new) }
@@ -22,7 +22,7 @@ pub(crate) fn make_room(log: &mut Vec<Made>) -> Result<(), AllocError>
     log.reserve(1)
 }
 
-/// Notes an object that was made. There is room for it.
+/// Records an object that was made. There is room for it.
 pub(crate) fn note(log: &mut Vec<Made>, born: u64, object: Object)
     requires { vec_len log.old < vec_capacity log.old }
     ensures { log.new.items ≡ log.old.items ++ record { born = born; object = object } ∷ [] }
@@ -33,7 +33,7 @@ pub(crate) fn note(log: &mut Vec<Made>, born: u64, object: Object)
     }
 }
 
-/// How many objects of a list were made before the mark. It takes as long as the others are many.
+/// Returns how many entries of a log were made before the mark. Its time grows with the number of the others.
 pub(crate) fn count_before(log: &[Made], mark: u64) -> usize
     requires { IsByAge log.now }
     ensures before { (k : ℕ) (a : _) → k < result → slice_get log.now k ≡ Some a → a.born < mark }
@@ -50,7 +50,7 @@ pub(crate) fn count_before(log: &[Made], mark: u64) -> usize
     count
 }
 
-/// The object at an index of a list.
+/// Returns the object of a log at an index.
 pub(crate) fn object_at(log: &[Made], index: usize) -> Object
     requires { index < length log.now }
     ensures { (a : _) → slice_get log.now index ≡ Some a → a.object ≡ result }
@@ -58,7 +58,7 @@ pub(crate) fn object_at(log: &[Made], index: usize) -> Object
     log[index].object
 }
 
-/// Takes what is gone out of a list where it is more than half of it, and says how many in it are gone at most.
+/// Removes erased objects from a log if they may be more than half of it, and returns how many may still be in it.
 pub(crate) fn forget_gone<O: Drop, B: Drop, T: Drop>(
     log: &mut Vec<Made>,
     objects: &Objects<O, B, T>,

@@ -1,4 +1,4 @@
-//! How objects are made.
+//! Making objects.
 ghost use Rattle.std.specs.Prelude.{◌≡◌, ◌≢◌, ◌≤◌, ◌+◌, ◌++◌, ◌∷◌, ℕ, Some, None, [], IsSome, IfOk, OnOk, OnErr, length, slice_get};
 ghost use Rattle.irtext_graph.specs.Graph.{MakesRegion, MakesBlock, MakesOperation, KeepsOlder, Stands};
 ghost use Rattle.irtext_graph.specs.Parts.{ValueStands};
@@ -17,7 +17,7 @@ use crate::objects::{BlockData, Definition, OperationData, RegionData, Use};
 use irtext_few::{Few, Growing, Items, Lone};
 use std::alloc::{AllocError, Global};
 
-/// A value with this type and this number, which nothing uses.
+/// Makes a value with this type and this number, without uses.
 #[inline(always)]
 fn definition<T>(of_type: T, number: u64) -> Definition<T>
     ensures { result ≡ record { of_type = of_type; number = number; first = None } }
@@ -29,7 +29,7 @@ fn definition<T>(of_type: T, number: u64) -> Definition<T>
     }
 }
 
-/// Values with these types, numbered from a number on, which nothing uses, in a vector.
+/// Makes values with these types, numbered from `from`, without uses, in a vector.
 fn many_definitions<T: Drop>(
     alloc: Global,
     types: Vec<T>,
@@ -47,7 +47,7 @@ fn many_definitions<T: Drop>(
     Ok(defined)
 }
 
-/// Values with these types, numbered from a number on, which nothing uses. It takes no memory for up to one.
+/// Makes values with these types, numbered from `from`, without uses. It allocates nothing for up to one.
 #[inline(always)]
 fn definitions<T: Drop>(
     alloc: Global,
@@ -70,7 +70,7 @@ fn definitions<T: Drop>(
     }
 }
 
-/// An operation with this data and these lists that stands nowhere and holds no region.
+/// Makes an operation with this data and these lists, without a parent and regions.
 #[inline(always)]
 fn blank_operation<O: Drop, T: Drop>(
     alloc: Global,
@@ -106,7 +106,7 @@ impl<O: Drop, T: Drop> Arena<Nest<BasicBlock, Region, OperationData<O, T>>> {
     ghost use Rattle.irtext_graph.specs.Nest.{up, kids, datum};
     ghost use Rattle.irtext_graph.specs.Uses.{operations_seen as seen};
 
-    /// Makes room for one more region in an operation's list. Nothing is seen of it.
+    /// Reserves room for one more region of an operation. What contracts see of it is unchanged.
     fn make_region_room(&mut self, p: Ptr<Operation>) -> Result<(), AllocError>
         requires { IsSome (get self.old p) }
         ensures room { OnOk result (HasRoom (get self.new p)) }
@@ -119,7 +119,7 @@ impl<O: Drop, T: Drop> Arena<Nest<BasicBlock, Region, OperationData<O, T>>> {
         self.content_mut(p).children.make_room()
     }
 
-    /// Puts a region last into an operation's list. There is room for it.
+    /// Appends a region to an operation. There is room for it.
     fn push_region(&mut self, p: Ptr<Operation>, r: Ptr<Region>)
         requires { HasRoom (get self.old p) }
         ensures here { kids self.new p ≡ kids self.old p ++ r ∷ [] }
@@ -139,7 +139,7 @@ impl<O: Drop, B: Drop, T: Drop> Graph<O, B, T> {
     ghost use Rattle.irtext_graph.specs.declared.object.Value.{Value};
     ghost use Rattle.irtext_graph.specs.declared.object.Object.TheVariants.{TheOperation, TheBlock};
 
-    /// Makes a region that stands nowhere and holds no block. Where memory is refused, or a counter is full, nothing changes.
+    /// Makes a region without a parent and blocks. If an allocation fails or a counter is at its limit, the graph is unchanged.
     pub fn make_region(&mut self) -> Result<Ptr<Region>, AllocError>
         ensures made { IfOk result (λ p. MakesRegion self.old self.new p) }
         ensures err { OnErr result (self.new ≡ self.old) }
@@ -163,7 +163,7 @@ impl<O: Drop, B: Drop, T: Drop> Graph<O, B, T> {
         Ok(p)
     }
 
-    /// Makes a region that holds no block, last in an operation. Where memory is refused, or a counter is full, nothing changes.
+    /// Makes an empty region, the last of an operation. If an allocation fails or a counter is at its limit, the graph is unchanged.
     pub fn add_region(&mut self, op: Ptr<Operation>) -> Result<Ptr<Region>, AllocError>
         requires { Stands self.old (TheOperation op) }
         ensures added { IfOk result (λ r. AddsRegion self.old self.new op r) }
@@ -189,8 +189,8 @@ impl<O: Drop, B: Drop, T: Drop> Graph<O, B, T> {
         self.made = made + 1;
         Ok(p)
     }
-    /// Makes a block with this data that stands nowhere and holds no operation, with arguments of these types, which draw the next numbers of
-    /// values. Where memory is refused, or a counter is full, nothing changes.
+    /// Makes a block with this data, without a parent and operations, with arguments of these types. The arguments get the next numbers
+    /// of values. If an allocation fails or a counter is at its limit, the graph is unchanged.
     pub fn make_block(&mut self, value: B, types: Few<T>) -> Result<Ptr<BasicBlock>, AllocError>
         ensures made { IfOk result (λ p. MakesBlock self.old self.new p value types) }
         ensures err { OnErr result (self.new ≡ self.old) }
@@ -224,8 +224,8 @@ impl<O: Drop, B: Drop, T: Drop> Graph<O, B, T> {
         Ok(p)
     }
 
-    /// Makes an operation with this data that stands nowhere, holds no region, and uses these values and these blocks, with results
-    /// of these types, which draw the next numbers of values. Where memory is refused, or a counter is full, nothing changes.
+    /// Makes an operation with this data, operands, successors and result types, without a parent and regions. The results get the next
+    /// numbers of values. If an allocation fails or a counter is at its limit, the graph is unchanged.
     pub fn make_operation(
         &mut self,
         value: O,

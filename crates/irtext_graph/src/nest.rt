@@ -1,4 +1,4 @@
-//! Objects with what they stand in and what stands in them.
+//! Objects with their parents and children.
 ghost use Rattle.std.specs.Prelude.{◌≡◌, ◌≢◌, ◌<◌, ◌≤◌, ◌+◌, ◌++◌, ◌∷◌, ℕ, Some, None, [], IsSome, OnOk, OnErr, length, slice_get};
 
 use crate::arena::{Arena, Ptr};
@@ -10,7 +10,7 @@ use std::alloc::AllocError;
 pub(crate) struct Nest<P, C, D> {
     pub(crate) parent: Option<Ptr<P>>,
     pub(crate) children: Growing<Ptr<C>>,
-    // the index in the parent's list as it was noted last: it is tried first, and nothing rests on it
+    // the index in the parent as it was recorded last: a hint that is tried first, and may be wrong
     pub(crate) noted: usize,
     pub(crate) data: D,
 }
@@ -22,7 +22,7 @@ impl<P, C, D: Drop> Arena<Nest<P, C, D>> {
     ghost use Rattle.irtext_graph.specs.Nest.{up, kids, datum, links};
     ghost use Rattle.irtext_graph.specs.Content.{nodes};
 
-    /// What an object stands in.
+    /// Returns the parent of an object.
     pub(crate) fn parent_of<K>(&self, p: Ptr<K>) -> Option<Ptr<P>>
         requires { IsSome (get self.now p) }
         ensures { up self.now p ≡ result }
@@ -30,7 +30,7 @@ impl<P, C, D: Drop> Arena<Nest<P, C, D>> {
         self.content(p).parent
     }
 
-    /// Says what an object stands in.
+    /// Sets the parent of an object.
     pub(crate) fn set_parent<K>(&mut self, p: Ptr<K>, parent: Option<Ptr<P>>)
         requires { IsSome (get self.old p) }
         ensures here { up self.new p ≡ parent }
@@ -43,14 +43,14 @@ impl<P, C, D: Drop> Arena<Nest<P, C, D>> {
         self.content_mut(p).parent = parent;
     }
 
-    /// The index in its parent's list that was noted for an object last.
+    /// Returns the index in its parent that was recorded for an object last.
     pub(crate) fn noted<K>(&self, p: Ptr<K>) -> usize
         requires { IsSome (get self.now p) }
     {
         self.content(p).noted
     }
 
-    /// Notes an index for an object. Nothing is seen of it.
+    /// Records an object's index in its parent. What contracts see of the object is unchanged.
     pub(crate) fn note<K>(&mut self, p: Ptr<K>, index: usize)
         requires { IsSome (get self.old p) }
         ensures ups { (q : Ptr K) → up self.new q ≡ up self.old q }
@@ -62,7 +62,7 @@ impl<P, C, D: Drop> Arena<Nest<P, C, D>> {
         self.content_mut(p).noted = index;
     }
 
-    /// Puts a child last into an object's list. Where memory is refused nothing changes.
+    /// Appends a child to an object. If an allocation fails, nothing changes.
     pub(crate) fn push_child<K>(&mut self, p: Ptr<K>, c: Ptr<C>) -> Result<(), AllocError>
         requires { IsSome (get self.old p) }
         ensures here { OnOk result (kids self.new p ≡ kids self.old p ++ c ∷ []) }
@@ -79,7 +79,7 @@ impl<P, C, D: Drop> Arena<Nest<P, C, D>> {
         }
     }
 
-    /// How many children an object has.
+    /// The number of children of an object.
     pub(crate) fn child_count<K>(&self, p: Ptr<K>) -> usize
         requires { IsSome (get self.now p) }
         ensures { result ≡ length (kids self.now p) }
@@ -87,7 +87,7 @@ impl<P, C, D: Drop> Arena<Nest<P, C, D>> {
         self.content(p).children.len()
     }
 
-    /// The child at an index.
+    /// Returns the child at an index.
     pub(crate) fn child_at<K>(&self, p: Ptr<K>, i: usize) -> Ptr<C>
         requires live { IsSome (get self.now p) }
         requires within { i < length (kids self.now p) }
@@ -96,7 +96,7 @@ impl<P, C, D: Drop> Arena<Nest<P, C, D>> {
         self.content(p).children.at(i)
     }
 
-    /// Takes the child at an index out of an object's list.
+    /// Removes the child at an index from an object.
     pub(crate) fn remove_child<K>(&mut self, p: Ptr<K>, i: usize)
         requires live { IsSome (get self.old p) }
         requires within { i < length (kids self.old p) }
@@ -110,7 +110,7 @@ impl<P, C, D: Drop> Arena<Nest<P, C, D>> {
         self.content_mut(p).children.remove(i);
     }
 
-    /// Takes an object out. Its children stay.
+    /// Removes an object. Its children stay live.
     pub(crate) fn vacate<K>(&mut self, p: Ptr<K>)
         ensures gone { get self.new p ≡ None }
         ensures others { (q : Ptr K) → q ≢ p → get self.new q ≡ get self.old q }

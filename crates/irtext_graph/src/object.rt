@@ -1,4 +1,4 @@
-//! The kinds of objects, objects of any kind, values, and the places where something is used.
+//! The kinds of objects, objects of any kind, values, and the sites of uses.
 use crate::arena::Ptr;
 
 /// The kind of operations, for pointers to them.
@@ -35,7 +35,7 @@ pub enum Defined {
     OfBlock(Ptr<BasicBlock>),
 }
 
-/// The place of a use: an operand or a successor of an operation, by its index.
+/// The site of a use: an operand or a successor of an operation, by its index.
 #[derive(Clone, Copy, PartialEq, Eq, Hash, Debug)]
 pub enum Site {
     AtOperand(Ptr<Operation>, usize),

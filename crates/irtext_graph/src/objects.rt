@@ -1,4 +1,4 @@
-//! Operations, blocks and regions, each in an arena of its own, as objects of one forest.
+//! Operations, blocks and regions, each in an arena of its own, as the objects of one forest.
 ghost use Rattle.std.specs.Prelude.{◌≡◌, ◌≢◌, ◌<◌, ◌≤◌, ◌+◌, ◌++◌, ◌∷◌, ℕ, Some, None, [], IsSome, IsTrue, OnOk, OnErr, length, slice_get, ◌↔◌};
 
 use crate::arena::{Arena, Ptr};
@@ -7,7 +7,7 @@ use crate::object::{BasicBlock, Object, Operation, Region, Site, Value};
 use irtext_few::{Few, Lone};
 use std::alloc::AllocError;
 
-/// Where a use stands in a use list: whether it is in it, and the uses before and behind it there.
+/// The links of a use: whether it is in a use list, and the uses before and after it there.
 #[derive(Clone, Copy, Debug)]
 pub(crate) struct Links {
     pub(crate) linked: bool,
@@ -15,14 +15,14 @@ pub(crate) struct Links {
     pub(crate) next: Option<Site>,
 }
 
-/// A use: what is used, and the links with its other uses.
+/// A use: what is used, and its links to the other uses of the same.
 #[derive(Clone, Copy, Debug)]
 pub(crate) struct Use<D> {
     pub(crate) def: D,
     pub(crate) links: Links,
 }
 
-/// What a value is: its type, its number, and the first of its uses.
+/// A value: its type, its number, and its first use.
 #[derive(Drop)]
 pub(crate) struct Definition<T> {
     pub(crate) of_type: T,
@@ -30,7 +30,7 @@ pub(crate) struct Definition<T> {
     pub(crate) first: Option<Site>,
 }
 
-/// What there is of an operation beside its place in the forest.
+/// An operation, without its parent and children.
 #[derive(Drop)]
 pub(crate) struct OperationData<O, T> {
     pub(crate) data: O,
@@ -39,7 +39,7 @@ pub(crate) struct OperationData<O, T> {
     pub(crate) results: Lone<Definition<T>>,
 }
 
-/// What there is of a block beside its place in the forest.
+/// A block, without its parent and children.
 #[derive(Drop)]
 pub(crate) struct BlockData<B, T> {
     pub(crate) data: B,
@@ -47,11 +47,11 @@ pub(crate) struct BlockData<B, T> {
     pub(crate) preds: Option<Site>,
 }
 
-/// What there is of a region beside its place in the forest: nothing.
+/// A region, without its parent and children: nothing.
 #[derive(Drop)]
 pub(crate) struct RegionData {}
 
-/// All objects.
+/// All objects of a graph.
 #[derive(Drop)]
 pub(crate) struct Objects<O, B, T> {
     pub(crate) operations: Arena<Nest<BasicBlock, Region, OperationData<O, T>>>,
@@ -63,7 +63,7 @@ impl<O: Drop, B: Drop, T: Drop> Objects<O, B, T> {
     ghost use Rattle.std.specs.List.{remove};
     ghost use Rattle.irtext_graph.specs.Objects.{up, kids, what, Lives, links, SameAt, SameNodes, SamePlaces, SameData, stays, IsGone, Appends, Fits, Renumbers, SameDatum, Sheds};
 
-    /// Whether an object is there.
+    /// Whether an object is live.
     pub(crate) fn contains(&self, o: Object) -> bool
         ensures { IsTrue result ↔ Lives self.now o }
     {
@@ -74,7 +74,7 @@ impl<O: Drop, B: Drop, T: Drop> Objects<O, B, T> {
         }
     }
 
-    /// What an object stands in.
+    /// Returns the parent of an object.
     pub(crate) fn parent_of(&self, o: Object) -> Option<Object>
         requires { Lives self.now o }
         ensures { result ≡ up self.now o }
@@ -95,7 +95,7 @@ impl<O: Drop, B: Drop, T: Drop> Objects<O, B, T> {
         }
     }
 
-    /// Says that an object stands nowhere.
+    /// Sets the parent of an object to none.
     pub(crate) fn clear_parent(&mut self, o: Object)
         requires { Lives self.old o }
         ensures here { up self.new o ≡ None }
@@ -113,7 +113,7 @@ impl<O: Drop, B: Drop, T: Drop> Objects<O, B, T> {
         }
     }
 
-    /// The index in its parent's list that was noted for an object last.
+    /// Returns the index in its parent that was recorded for an object last.
     pub(crate) fn noted(&self, o: Object) -> usize
         requires { Lives self.now o }
     {
@@ -124,7 +124,7 @@ impl<O: Drop, B: Drop, T: Drop> Objects<O, B, T> {
         }
     }
 
-    /// Notes the index at which an object stands in its parent's list.
+    /// Records an object's index in its parent.
     pub(crate) fn note(&mut self, o: Object, index: usize)
         requires { Lives self.old o }
         ensures { Renumbers self.old self.new }
@@ -136,7 +136,7 @@ impl<O: Drop, B: Drop, T: Drop> Objects<O, B, T> {
         }
     }
 
-    /// Takes an object out of its arena.
+    /// Removes an object from its arena.
     pub(crate) fn vacate(&mut self, o: Object)
         ensures gone { what self.new o ≡ None }
         ensures gone_up { up self.new o ≡ None }
@@ -153,7 +153,7 @@ impl<O: Drop, B: Drop, T: Drop> Objects<O, B, T> {
         }
     }
 
-    /// Puts c last into the list of k, and says that it stands there. Where memory is refused nothing changes.
+    /// Appends c to the children of k, and makes k the parent of c. If an allocation fails, nothing changes.
     pub(crate) fn append(&mut self, k: Object, c: Object) -> Result<(), AllocError>
         requires holder { Lives self.old k }
         requires lives { Lives self.old c }
@@ -192,7 +192,7 @@ impl<O: Drop, B: Drop, T: Drop> Objects<O, B, T> {
         }
     }
 
-    /// How many objects stand directly in an object.
+    /// The number of children of an object.
     pub(crate) fn child_count(&self, o: Object) -> usize
         requires { Lives self.now o }
         ensures { result ≡ length (kids self.now o) }
@@ -204,7 +204,7 @@ impl<O: Drop, B: Drop, T: Drop> Objects<O, B, T> {
         }
     }
 
-    /// The child of an object at an index.
+    /// Returns the child of an object at an index.
     pub(crate) fn child_at(&self, o: Object, i: usize) -> Object
         requires lives { Lives self.now o }
         requires within { i < length (kids self.now o) }
@@ -217,7 +217,7 @@ impl<O: Drop, B: Drop, T: Drop> Objects<O, B, T> {
         }
     }
 
-    /// Takes the child at an index out of an object's list.
+    /// Removes the child at an index from an object.
     pub(crate) fn remove_child(&mut self, k: Object, i: usize)
         requires live { Lives self.old k }
         requires within { i < length (kids self.old k) }

@@ -1,4 +1,4 @@
-//! What is seen of one object: its data, also for writing, its operands, successors, results and arguments.
+//! The parts of an object: its data, operands, successors, results and arguments.
 ghost use Rattle.std.specs.Prelude.{◌≡◌, ◌↔◌, ◌<◌, ℕ, Some, IsSome, IsTrue, length, slice_get, option_map};
 ghost use Rattle.irtext_graph.specs.declared.object.Object.TheVariants.{TheOperation, TheBlock};
 ghost use Rattle.irtext_graph.specs.Graph.{Stands};
@@ -11,7 +11,7 @@ use crate::object::{BasicBlock, Object, Operation, Value};
 use crate::objects::{Definition, Objects};
 
 impl<O: Drop, B: Drop, T: Drop> Objects<O, B, T> {
-    /// Whether a value is there.
+    /// Whether a value is defined.
     fn is_defined(&self, v: Value) -> bool
         ensures { IsTrue result ↔ IsSome (definition_at self.now v) }
     {
@@ -27,7 +27,7 @@ impl<O: Drop, B: Drop, T: Drop> Objects<O, B, T> {
         }
     }
 
-    /// What a value is.
+    /// Returns the definition of a value.
     fn definition(&self, v: Value) -> &Definition<T>
         requires { IsSome (definition_at self.now v) }
         ensures { definition_at self.now v ≡ Some result.now }
@@ -45,7 +45,7 @@ impl<O: Drop, B: Drop, T: Drop> Graph<O, B, T> {
     ghost use Rattle.irtext_graph.specs.declared.object.Value.{Value};
     ghost use Rattle.irtext_graph.specs.DataLends.{LendsOperation, LendsBlock};
 
-    /// How many values an operation defines.
+    /// The number of results of an operation.
     pub fn num_results(&self, op: Ptr<Operation>) -> usize
         requires { Stands self.now (TheOperation op) }
         ensures { result ≡ length (results self.now op) }
@@ -53,7 +53,7 @@ impl<O: Drop, B: Drop, T: Drop> Graph<O, B, T> {
         self.objects.operations.content(op).data.results.len()
     }
 
-    /// How many values an operation uses; one that is used twice counts twice.
+    /// The number of operands of an operation. A value that is used twice counts twice.
     pub fn num_operands(&self, op: Ptr<Operation>) -> usize
         requires { Stands self.now (TheOperation op) }
         ensures { result ≡ length (operands self.now op) }
@@ -61,7 +61,7 @@ impl<O: Drop, B: Drop, T: Drop> Graph<O, B, T> {
         self.objects.operations.content(op).data.operands.len()
     }
 
-    /// The value that an operation uses at an index.
+    /// Returns the operand of an operation at an index.
     pub fn get_operand(&self, op: Ptr<Operation>, i: usize) -> Value
         requires stands { Stands self.now (TheOperation op) }
         requires within { i < length (operands self.now op) }
@@ -70,7 +70,7 @@ impl<O: Drop, B: Drop, T: Drop> Graph<O, B, T> {
         self.objects.operations.content(op).data.operands[i].def
     }
 
-    /// How many blocks an operation uses; one that is used twice counts twice.
+    /// The number of successors of an operation. A block that is used twice counts twice.
     pub fn num_successors(&self, op: Ptr<Operation>) -> usize
         requires { Stands self.now (TheOperation op) }
         ensures { result ≡ length (successors self.now op) }
@@ -78,7 +78,7 @@ impl<O: Drop, B: Drop, T: Drop> Graph<O, B, T> {
         self.objects.operations.content(op).data.successors.len()
     }
 
-    /// The block that an operation uses at an index.
+    /// Returns the successor of an operation at an index.
     pub fn get_successor(&self, op: Ptr<Operation>, i: usize) -> Ptr<BasicBlock>
         requires stands { Stands self.now (TheOperation op) }
         requires within { i < length (successors self.now op) }
@@ -87,7 +87,7 @@ impl<O: Drop, B: Drop, T: Drop> Graph<O, B, T> {
         self.objects.operations.content(op).data.successors[i].def
     }
 
-    /// How many values a block defines.
+    /// The number of arguments of a block.
     pub fn num_arguments(&self, block: Ptr<BasicBlock>) -> usize
         requires { Stands self.now (TheBlock block) }
         ensures { result ≡ length (arguments self.now block) }
@@ -95,14 +95,14 @@ impl<O: Drop, B: Drop, T: Drop> Graph<O, B, T> {
         self.objects.blocks.content(block).data.arguments.len()
     }
 
-    /// Whether a value is there: whether its operation or its block stands, and has so many results or arguments.
+    /// Whether a value is defined: its operation or block is live, and has a result or an argument with this index.
     pub fn contains_value(&self, v: Value) -> bool
         ensures { IsTrue result ↔ ValueStands self.now v }
     {
         self.objects.is_defined(v)
     }
 
-    /// Whether each of these values is there, as an operation needs it that is to use them.
+    /// Whether each of these values is defined, so that a new operation can use them.
     pub fn contains_values(&self, values: &[Value]) -> bool
         ensures { IsTrue result ↔ ((i : ℕ) (v : Value) → slice_get values.now i ≡ Some v → ValueStands self.now v) }
     {
@@ -114,7 +114,7 @@ impl<O: Drop, B: Drop, T: Drop> Graph<O, B, T> {
         true
     }
 
-    /// Whether each of these blocks stands, as an operation needs it that is to use them.
+    /// Whether each of these blocks is live, so that a new operation can use them.
     pub fn contains_blocks(&self, blocks: &[Ptr<BasicBlock>]) -> bool
         ensures { IsTrue result ↔ ((i : ℕ) (b : Ptr BasicBlock) → slice_get blocks.now i ≡ Some b → Stands self.now (TheBlock b)) }
     {
@@ -126,7 +126,7 @@ impl<O: Drop, B: Drop, T: Drop> Graph<O, B, T> {
         true
     }
 
-    /// The type of a value.
+    /// Returns the type of a value.
     pub fn type_of(&self, v: Value) -> &T
         requires { ValueStands self.now v }
         ensures { option_map (λ t. t.of_type) (value_at self.now v) ≡ Some result.now }
@@ -134,7 +134,7 @@ impl<O: Drop, B: Drop, T: Drop> Graph<O, B, T> {
         &self.objects.definition(v).of_type
     }
 
-    /// The number of a value, which no other value of the graph has or had.
+    /// Returns the number of a value, which no other value of the graph has or had.
     pub fn number_of(&self, v: Value) -> u64
         requires { ValueStands self.now v }
         ensures { option_map (λ t. t.number) (value_at self.now v) ≡ Some result }
@@ -142,7 +142,7 @@ impl<O: Drop, B: Drop, T: Drop> Graph<O, B, T> {
         self.objects.definition(v).number
     }
 
-    /// The data of an operation.
+    /// Returns the data of an operation.
     pub fn operation(&self, op: Ptr<Operation>) -> &O
         requires { Stands self.now (TheOperation op) }
         ensures { option_map (λ c. c.data_of) (operation_at self.now op) ≡ Some result.now }
@@ -150,7 +150,7 @@ impl<O: Drop, B: Drop, T: Drop> Graph<O, B, T> {
         &self.objects.operations.content(op).data.data
     }
 
-    /// The data of a block.
+    /// Returns the data of a block.
     pub fn block(&self, block: Ptr<BasicBlock>) -> &B
         requires { Stands self.now (TheBlock block) }
         ensures { option_map (λ c. c.data_of) (block_at self.now block) ≡ Some result.now }
@@ -158,7 +158,7 @@ impl<O: Drop, B: Drop, T: Drop> Graph<O, B, T> {
         &self.objects.blocks.content(block).data.data
     }
 
-    /// The data of an operation, for writing. All else of the graph stays as it is.
+    /// Borrows the data of an operation as `&mut`. All else in the graph is unchanged.
     pub fn operation_mut(&mut self, op: Ptr<Operation>) -> &mut O
         requires { Stands self.old (TheOperation op) }
         ensures* lends { sem 𝓛 (LendsOperation O.row B.row T.row self.entry op result) }
@@ -167,7 +167,7 @@ impl<O: Drop, B: Drop, T: Drop> Graph<O, B, T> {
         &mut self.objects.operations.content_mut(op).data.data
     }
 
-    /// The data of a block, for writing. All else of the graph stays as it is.
+    /// Borrows the data of a block as `&mut`. All else in the graph is unchanged.
     pub fn block_mut(&mut self, block: Ptr<BasicBlock>) -> &mut B
         requires { Stands self.old (TheBlock block) }
         ensures* lends { sem 𝓛 (LendsBlock O.row B.row T.row self.entry block result) }

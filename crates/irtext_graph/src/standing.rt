@@ -1,4 +1,4 @@
-//! What stands at each place, for calls that go through all that there is; and how far the counters have come.
+//! The live objects by their slots, for calls that go over all of them; and the state of the counters.
 ghost use Rattle.std.specs.Prelude.{◌≡◌, length, slice_get};
 ghost use Rattle.irtext_graph.specs.Places.{pointer_at, pointer_in};
 
@@ -8,7 +8,7 @@ use crate::object::{BasicBlock, Operation};
 use std::marker::PhantomData;
 
 impl<X: Drop> Arena<X> {
-    /// The pointer of the object at a place, where one stands there.
+    /// Returns the pointer to the object in a slot, if there is one.
     fn pointer_at<K>(&self, index: u32) -> Option<Ptr<K>>
         ensures { result ≡ pointer_in index (slice_get self.now.slots.items index) }
     {
@@ -24,42 +24,42 @@ impl<X: Drop> Arena<X> {
 }
 
 impl<O: Drop, B: Drop, T: Drop> Graph<O, B, T> {
-    /// How many places there are for operations.
+    /// The number of slots for operations.
     pub fn operation_places(&self) -> u32
         ensures { result ≡ length self.now.operations.cells }
     {
         self.objects.operations.slots.len() as u32
     }
 
-    /// The operation that stands at a place, a placeholder too.
+    /// Returns the operation in a slot, if there is one. It may be a placeholder.
     pub fn operation_in(&self, place: u32) -> Option<Ptr<Operation>>
         ensures { result ≡ pointer_at self.now.operations place }
     {
         self.objects.operations.pointer_at(place)
     }
 
-    /// How many places there are for blocks.
+    /// The number of slots for blocks.
     pub fn block_places(&self) -> u32
         ensures { result ≡ length self.now.blocks.cells }
     {
         self.objects.blocks.slots.len() as u32
     }
 
-    /// The block that stands at a place.
+    /// Returns the block in a slot, if there is one.
     pub fn block_in(&self, place: u32) -> Option<Ptr<BasicBlock>>
         ensures { result ≡ pointer_at self.now.blocks place }
     {
         self.objects.blocks.pointer_at(place)
     }
 
-    /// The number of the next value, above those of all values.
+    /// Returns the number of the next value. All values have smaller numbers.
     pub fn next_number(&self) -> u64
         ensures { result ≡ self.now.values }
     {
         self.counters.values
     }
 
-    /// The number from which places count.
+    /// Returns the number of the first slot.
     pub fn first_place(&self) -> u32
         ensures { result ≡ self.now.first_place }
     {

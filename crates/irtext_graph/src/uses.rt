@@ -1,4 +1,4 @@
-//! Use lists: each use of a value or of a block is linked with the other uses of it in its own place.
+//! Use lists: each use of a value or a block has links to the other uses of the same, and is in one list with them.
 ghost use Rattle.std.specs.Prelude.{◌≡◌, ◌≢◌, ◌<◌, Some, None, IsSome, option_map};
 
 use crate::object::{Defined, Site, Value};
@@ -9,7 +9,7 @@ impl<O: Drop, B: Drop, T: Drop> Objects<O, B, T> {
     ghost use Rattle.irtext_graph.specs.Uses.{use_at, head_at, val, prv, nxt, relinked, renamed, AreUsesLinked, AreAllUsed};
     ghost use Rattle.irtext_graph.specs.Used.{bare, uses_left, CanName};
 
-    /// The use at a place.
+    /// Returns the use at a site.
     pub(crate) fn use_of(&self, u: Site) -> Use<Defined>
         requires { IsSome (use_at self.now u) }
         ensures { use_at self.now u ≡ Some result }
@@ -32,7 +32,7 @@ impl<O: Drop, B: Drop, T: Drop> Objects<O, B, T> {
         }
     }
 
-    /// Writes the links of a use.
+    /// Sets the links of a use.
     fn set_links(&mut self, u: Site, links: Links)
         requires { IsSome (use_at self.old u) }
         ensures here { use_at self.new u ≡ option_map (relinked links) (use_at self.old u) }
@@ -46,7 +46,7 @@ impl<O: Drop, B: Drop, T: Drop> Objects<O, B, T> {
         }
     }
 
-    /// Writes what a use names. Its links stay.
+    /// Sets what a use refers to. Its links are unchanged.
     fn set_def(&mut self, u: Site, d: Defined)
         requires there { IsSome (use_at self.old u) }
         requires names { CanName u d }
@@ -66,7 +66,7 @@ impl<O: Drop, B: Drop, T: Drop> Objects<O, B, T> {
         }
     }
 
-    /// The first use of a value or of a block.
+    /// Returns the first use of a value or a block.
     pub(crate) fn head_of(&self, d: Defined) -> Option<Site>
         requires { IsSome (head_at self.now d) }
         ensures { head_at self.now d ≡ Some result }
@@ -78,7 +78,7 @@ impl<O: Drop, B: Drop, T: Drop> Objects<O, B, T> {
         }
     }
 
-    /// Writes the first use of a value or of a block.
+    /// Sets the first use of a value or a block.
     fn set_head(&mut self, d: Defined, h: Option<Site>)
         requires { IsSome (head_at self.old d) }
         ensures here { head_at self.new d ≡ Some h }
@@ -93,7 +93,7 @@ impl<O: Drop, B: Drop, T: Drop> Objects<O, B, T> {
         }
     }
 
-    /// Writes the link backwards of a use, where there is one.
+    /// Sets the link to the previous use, if there is a use w.
     fn set_prev_of(&mut self, w: Option<Site>, p: Option<Site>)
         requires { (s : _) → w ≡ Some s → IsSome (use_at self.old s) }
         ensures here { (s : _) → w ≡ Some s → prv self.new s ≡ p }
@@ -110,7 +110,7 @@ impl<O: Drop, B: Drop, T: Drop> Objects<O, B, T> {
         }
     }
 
-    /// Writes the link forwards of a use, or the first use of d where there is none.
+    /// Sets the link to the next use, or the first use of d if there is no use w.
     fn set_next_of(&mut self, w: Option<Site>, d: Defined, n: Option<Site>)
         requires sites { (s : _) → w ≡ Some s → IsSome (use_at self.old s) }
         requires stands { IsSome (head_at self.old d) }
@@ -132,7 +132,7 @@ impl<O: Drop, B: Drop, T: Drop> Objects<O, B, T> {
         }
     }
 
-    /// Puts a use that is in no list at the head of the list of what it names.
+    /// Inserts a use that is in no use list at the head of the list of what it refers to.
     pub(crate) fn attach(&mut self, u: Site)
         requires linked { AreUsesLinked self.old }
         requires there { IsSome (use_at self.old u) }
@@ -157,7 +157,7 @@ impl<O: Drop, B: Drop, T: Drop> Objects<O, B, T> {
         self.set_head(d, Some(u));
     }
 
-    /// Takes a use out of its list. It still names what it named.
+    /// Removes a use from its use list. What it refers to is unchanged.
     pub(crate) fn detach(&mut self, u: Site)
         requires linked { AreUsesLinked self.old }
         requires used { IsSome (val self.old u) }
@@ -179,7 +179,7 @@ impl<O: Drop, B: Drop, T: Drop> Objects<O, B, T> {
         self.set_next_of(o.links.prev, o.def, o.links.next);
     }
 
-    /// Takes a use out of its list, and makes it a use of e.
+    /// Removes a use from its use list, and makes it a use of e.
     pub(crate) fn redirect(&mut self, u: Site, e: Defined)
         requires linked { AreUsesLinked self.old }
         requires all_used { AreAllUsed self.old }

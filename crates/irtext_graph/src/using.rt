@@ -1,4 +1,4 @@
-//! What uses a value or a block, and how another takes its place in all its uses.
+//! The uses of a value or a block, and replacing all of them.
 ghost use Rattle.std.specs.Prelude.{◌≡◌, ◌≢◌, ◌↔◌, ℕ, Some, IsSome, IsTrue, IfOk, option_map};
 ghost use Rattle.irtext_graph.specs.Chained.{Lists, Counts};
 ghost use Rattle.irtext_graph.specs.Used.{IsUse, IsDefined, AreAlike, Replaces, IsUnusedBelow, bare, replaced};
@@ -19,7 +19,7 @@ fn same_defined(d: Defined, e: Defined) -> bool
 impl<O: Drop, B: Drop, T: Drop> Objects<O, B, T> {
     ghost use Rattle.irtext_graph.specs.Uses.{head_at, val, AreUsesLinked, AreAllUsed};
 
-    /// How many uses stand in a list, or the greatest `usize` where there are more.
+    /// Counts the uses in a use list, up to `usize::MAX`.
     fn count_uses(&self, d: Defined) -> usize
         requires linked { AreUsesLinked self.now }
         requires stands { IsSome (head_at self.now d) }
@@ -37,7 +37,7 @@ impl<O: Drop, B: Drop, T: Drop> Objects<O, B, T> {
         n
     }
 
-    /// The uses that stand in a list, each once.
+    /// Returns the uses in a use list, each once.
     fn list_uses(&self, alloc: Global, d: Defined) -> Result<Vec<Site>, AllocError>
         requires linked { AreUsesLinked self.now }
         requires stands { IsSome (head_at self.now d) }
@@ -52,7 +52,7 @@ impl<O: Drop, B: Drop, T: Drop> Objects<O, B, T> {
         Ok(uses)
     }
 
-    /// Makes each use of d a use of e. It takes no memory.
+    /// Makes each use of d a use of e. It allocates nothing.
     fn replace_uses(&mut self, d: Defined, e: Defined)
         requires linked { AreUsesLinked self.old }
         requires all_used { AreAllUsed self.old }
@@ -72,7 +72,7 @@ impl<O: Drop, B: Drop, T: Drop> Objects<O, B, T> {
 }
 
 impl<O: Drop, B: Drop, T: Drop> Graph<O, B, T> {
-    /// Whether an operand or a successor names d.
+    /// Whether an operand or a successor refers to d.
     pub fn has_use(&self, d: Defined) -> bool
         requires { IsDefined self.now d }
         ensures { IsTrue result ↔ (u : Site) × IsUse self.now d u }
@@ -80,7 +80,7 @@ impl<O: Drop, B: Drop, T: Drop> Graph<O, B, T> {
         self.objects.head_of(d).is_some()
     }
 
-    /// How many operands and successors name d, or the greatest `usize` where there are more. It takes as long as there are uses.
+    /// Returns how many operands and successors refer to d, at most `usize::MAX`. Its time grows with the number of uses.
     pub fn num_uses(&self, d: Defined) -> usize
         requires { IsDefined self.now d }
         ensures { Counts (IsUse self.now d) result }
@@ -88,7 +88,7 @@ impl<O: Drop, B: Drop, T: Drop> Graph<O, B, T> {
         self.objects.count_uses(d)
     }
 
-    /// The operands and the successors that name d, each once, so two of an operation that names it twice. It goes through all uses.
+    /// Returns the sites of all uses of d, each once: two for an operation that uses d twice. Fails only if an allocation fails.
     pub fn uses(&self, d: Defined) -> Result<Vec<Site>, AllocError>
         requires { IsDefined self.now d }
         ensures { IfOk result (λ us. Lists (IsUse self.now d) us.items) }
@@ -96,7 +96,7 @@ impl<O: Drop, B: Drop, T: Drop> Graph<O, B, T> {
         self.objects.list_uses(self.alloc, d)
     }
 
-    /// Makes each use of d a use of e: each operand or successor that names d names e. It takes as long as d has uses, and no memory.
+    /// Makes each operand or successor that refers to d refer to e. It allocates nothing. Its time grows with the number of uses of d.
     pub fn replace_all_uses(&mut self, d: Defined, e: Defined)
         requires stands { IsDefined self.old d }
         requires stands_too { IsDefined self.old e }

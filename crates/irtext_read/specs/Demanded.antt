@@ -1,10 +1,10 @@
--- What a text is to the readers of several tokens, each of which must stand.
+-- The outcomes of parsers of several tokens, each of which is required.
 use Rattle.std.specs.Prelude.{ℕ, codes}
 use Rattle.irtext_base.specs.Text.{Text}
 use Rattle.irtext_read.specs.Infix.{Reader, ◌▷◌}
 use Rattle.irtext_read.specs.Tokens.{space_at, word, identifier_at, number_at}
 
--- a fixed text with white space round it
+-- a fixed text with optional white space before and after it
 abbrev pub spaced_at : Text → Reader Unit
 spaced_at text = space_at ▷ word text ▷ space_at
 

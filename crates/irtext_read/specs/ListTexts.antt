@@ -1,4 +1,4 @@
--- What a text is to a list, where it is known what it is to the item.
+-- The outcomes that a list may have on a text, if a relation gives the outcomes of the item.
 use Rattle.std.specs.Prelude.{◌≡◌, ℕ, false, List, [], ◌∷◌, ◌++◌}
 use Rattle.irtext_base.specs.Text.{Text, begins, after_space}
 use Rattle.irtext_base.specs.Reading.{the}
@@ -6,14 +6,14 @@ use Rattle.irtext_base.specs.Faults.{Fault}
 use Rattle.irtext_base.specs.Answers.{Outcome, Read, Missing, Bad}
 use Rattle.irtext_read.specs.Lists.{spaces}
 
--- an item in front of what comes behind it
+-- the outcome of a list with one more item before the others
 abbrev pub item_before : {X : Type 0} → X → Text → Outcome (List X) → Outcome (List X)
 item_before x taken (Read xs more rest) = Read (x ∷ xs) (taken ++ more) rest
 item_before x taken (Missing cause) = Missing cause
 item_before x taken (Bad cause upto) = Bad cause (taken ++ upto)
 
 module _ {X : Type 0} (R : Text → Outcome X → Type 0) where
-  -- Separators and items that must stand, as long as a separator follows, with white space after each.
+  -- Separators and items, as long as a separator comes next, with white space after each. An item is required after each separator.
   pub data TailAt (sep : ℕ) : Text → Outcome (List X) → Type 0 where
     ended : (text : Text) → begins (the sep) text ≡ false → TailAt sep text (Read [] [] text)
     none_behind : (text left : Text) (cause : Fault) → text ≡ sep ∷ left → R (after_space left) (Missing cause) → TailAt sep text (Bad cause (sep ∷ spaces left))

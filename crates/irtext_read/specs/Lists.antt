@@ -1,4 +1,4 @@
--- Lists of items, over the calls of any item.
+-- Lists of items, over the calls of any item's parser.
 use Rattle.std.specs.Prelude.{◌≡◌, ℕ, ◌<◌, Bool, true, false, Option, Some, None, Result, Ok, Err, List, [], ◌∷◌, ◌++◌, Vec, length}
 use Rattle.std.specs.Fn.{CalledAtMut, Mut}
 use Rattle.std.specs.Borrow.{MutBor}
@@ -12,15 +12,15 @@ use Rattle.irtext_base.specs.declared.parsable.fault.ParseFault.{ParseFault}
 use Rattle.irtext_base.specs.declared.printable.ListSeparator.{ListSeparator}
 use Rattle.irtext_base.specs.declared.printable.ListSeparator.TheVariants as separator
 
--- the white space at the front of a text
+-- the white space at the beginning of a text
 abbrev pub spaces : Text → Text
 spaces text = front is_whitespace text
 
--- the stream behind the white space at its front
+-- the stream after the white space that comes next
 abbrev pub skipped : StreamView → StreamView
 skipped v = behind v (spaces v.rest) (after_space v.rest)
 
--- the character of a separator, where it has one
+-- the character of a separator, if it has one
 abbrev pub character_of : ListSeparator → Option ℕ
 character_of separator.None = None
 character_of separator.Newline = None
@@ -28,36 +28,37 @@ character_of (separator.CharNewline c) = Some c
 character_of (separator.Char c) = Some c
 character_of (separator.CharSpace c) = Some c
 
--- the items that were read, without where they lie in memory
+-- the parsed items as a list, without their allocation
 abbrev pub listed : {X E Z : Type 0} → Result (Vec X Z) E → Result (List X) E
 listed (Ok found) = Ok found.items
 listed (Err fault) = Err fault
 
--- what more items answer, with these in front
+-- the result of more items, with these items before them
 abbrev pub prepended : {X E : Type 0} → List X → Result (List X) E → Result (List X) E
 prepended xs (Ok ys) = Ok (xs ++ ys)
 prepended xs (Err fault) = Err fault
 
--- a call of an item, whose answer is seen as a result, may answer this, and leave this behind
+-- a call of the item's parser on f and s may return r, and leave g and t
 pub record Calls {S F R X A : Type 0} (seen : R → Result X (ParseFault A)) (item : Mut F (MutBor S × Unit {0}) (R × (MutBor S × Unit {0}))) (f : F) (s : S) (r : Result X (ParseFault A)) (g : F) (t : S) : Type 0 where
   pub answer : R
   pub called : CalledAtMut item f s answer g t
   pub is : seen answer ≡ r
 
 module _ {S : Type 0} (view : S → StreamView) (at : S → StreamView → S) where
-  -- what a successful item does to a stream: it hands on its text or a later part of it
+  -- what an item that is parsed does to a stream: the text that is left is the old one or a suffix of it
   pub record HandsOn (old new : S) : Type 0 where
     pub taken : Text
     pub same : taken ++ (view new).rest ≡ (view old).rest
     pub passed : (view new).passed ≡ (view old).passed ++ taken
     pub fails : (view new).failed ≡ (view old).failed
 
-  -- what any item keeps: a value stands in front of the text or a later part of it, an uncommitted fault leaves the stream, and a committed one leaves it failed
+  -- the rules of errors: a value leaves the old text or a suffix of it, an uncommitted error leaves the stream unchanged, and a committed
+  -- error leaves it failed
   abbrev pub KeepsRules : {Y A : Type 0} → S → Result Y (ParseFault A) → S → Type 0
   KeepsRules old (Ok y) new = HandsOn old new
   KeepsRules old (Err fault) new = (fault.committed ≡ false → new ≡ old) × (fault.committed ≡ true → (view new).failed ≡ true)
 
-  -- a fault of an item that must stand: an uncommitted one is committed, and the stream fails where it stands
+  -- the error of a required item: an uncommitted one becomes committed, and the stream is marked as failed
   pub record Insisted {A : Type 0} (fault : ParseFault A) (old : S) (last : ParseFault A) (new : S) : Type 0 where
     pub cause : last.cause ≡ fault.cause
     pub place : last.pos ≡ fault.pos
@@ -65,29 +66,29 @@ module _ {S : Type 0} (view : S → StreamView) (at : S → StreamView → S) wh
     pub already : fault.committed ≡ true → new ≡ old
     pub failing : fault.committed ≡ false → new ≡ at old (after_failure (view old))
 
-  -- on a failed stream a reader is bad where it stands, and else it answers what the relation says
+  -- on a failed stream the committed error `StreamFailed`, and otherwise a result that the relation allows
   abbrev pub UnlessFailed : {Y A : Type 0} → (S → Result Y (ParseFault A) → S → Type 0) → Bool → S → Result Y (ParseFault A) → S → Type 0
   UnlessFailed R true old (Ok y) new = ⊥
   UnlessFailed R true old (Err fault) new = Commits view at Failed [] old fault new
   UnlessFailed R false old result new = R old result new
 
-  -- white space alone lies between
+  -- the new stream is the old one after white space
   abbrev pub Skips : S → S → Type 0
   Skips old new = new ≡ at old (skipped (view old))
 
-  -- this character and the white space behind it lie between
+  -- the new stream is the old one after this character and white space
   pub record Opens (c : ℕ) (old new : S) : Type 0 where
     pub mid : S
     pub begins_so : begins (the c) (view old).rest ≡ true
     pub taken : mid ≡ at old (advanced (view old))
     pub skips : Skips mid new
 
-  -- every call of the item keeps the rules
+  -- every call of the item's parser keeps the rules
   abbrev pub AlwaysKeepsRules : {F R X A : Type 0} → (R → Result X (ParseFault A)) → Mut F (MutBor S × Unit {0}) (R × (MutBor S × Unit {0})) → Type 0
   AlwaysKeepsRules {F} {R} seen item = (f : F) (s : S) (answer : R) (g : F) (t : S) → CalledAtMut item f s answer g t → KeepsRules s (seen answer) t
 
   module _ {F X A : Type 0} (calls : F → S → Result X (ParseFault A) → F → S → Type 0) where
-    -- Items with white space after each, until one is missing; one that takes no character is bad.
+    -- Items with white space after each, until one is missing. An item that consumes no character is an error.
     pub data Items : F → S → Result (List X) (ParseFault A) → S → Type 0 where
       missing : (f : F) (s : S) (fault : ParseFault A) (g : F) (t : S) → calls f s (Err fault) g t → fault.committed ≡ false → Items f s (Ok []) t
       bad : (f : F) (s : S) (fault : ParseFault A) (g : F) (t : S) → calls f s (Err fault) g t → fault.committed ≡ true → Items f s (Err fault) t
@@ -102,7 +103,7 @@ module _ {S : Type 0} (view : S → StreamView) (at : S → StreamView → S) wh
       pub skips : Skips s mid
       pub items : Items f mid r u
 
-    -- Behind an item and white space: no separator, or a separator, white space and an item that must stand, any number of times.
+    -- After an item and white space: no separator, or a separator, white space and a required item, any number of times.
     pub data Tail (sep : ℕ) : F → S → Result (List X) (ParseFault A) → S → Type 0 where
       none : (f : F) (s : S) → begins (the sep) (view s).rest ≡ false → Tail sep f s (Ok []) s
       insisted : (f : F) (s b : S) (fault last : ParseFault A) (g : F) (t u : S) → Opens sep s b → calls f b (Err fault) g t → Insisted fault t last u → Tail sep f s (Err last) u
@@ -110,18 +111,18 @@ module _ {S : Type 0} (view : S → StreamView) (at : S → StreamView → S) wh
       next : (f : F) (s b : S) (x : X) (g : F) (t d : S) (r q : Result (List X) (ParseFault A)) (u : S) → Opens sep s b → calls f b (Ok x) g t → Skips t d
           → Tail sep g d r u → q ≡ prepended (x ∷ []) r → Tail sep f s q u
 
-    -- the same with items found before
+    -- the same, with the items that were found before
     abbrev pub TailAfter : ℕ → List X → F → S → Result (List X) (ParseFault A) → S → Type 0
     TailAfter sep xs f s q u = (r : Result (List X) (ParseFault A)) × Tail sep f s r u × (q ≡ prepended xs r)
 
-    -- No item, or an item, white space and what is behind it.
+    -- No item, or an item, white space and the tail.
     pub data Separated (sep : ℕ) : F → S → Result (List X) (ParseFault A) → S → Type 0 where
       no_item : (f : F) (s : S) (fault : ParseFault A) (g : F) (t : S) → calls f s (Err fault) g t → fault.committed ≡ false → Separated sep f s (Ok []) t
       bad_item : (f : F) (s : S) (fault : ParseFault A) (g : F) (t : S) → calls f s (Err fault) g t → fault.committed ≡ true → Separated sep f s (Err fault) t
       no_first_room : (f : F) (s : S) (x : X) (g : F) (t : S) (fault : ParseFault A) (u : S) → calls f s (Ok x) g t → StarvesHere view at t fault u → Separated sep f s (Err fault) u
       an_item : (f : F) (s : S) (x : X) (g : F) (t b : S) (q : Result (List X) (ParseFault A)) (u : S) → calls f s (Ok x) g t → Skips t b → TailAfter sep (x ∷ []) g b q u → Separated sep f s q u
 
-    -- A character, white space, the list of items with a separator, and a character.
+    -- The left character, white space, the list of items with a separator, and the right character.
     pub data Delimited (left right sep : ℕ) : F → S → Result (List X) (ParseFault A) → S → Type 0 where
       no_left : (f : F) (s : S) (fault : ParseFault A) (u : S) → begins (the left) (view s).rest ≡ false → Passes view at (Unexpected (first_of (view s).rest) (Word (left ∷ []))) s fault u → Delimited left right sep f s (Err fault) u
       bad_inside : (f : F) (s b : S) (fault : ParseFault A) (u : S) → Opens left s b → Separated sep f b (Err fault) u → Delimited left right sep f s (Err fault) u
@@ -129,18 +130,18 @@ module _ {S : Type 0} (view : S → StreamView) (at : S → StreamView → S) wh
           → Commits view at (Unexpected (first_of (view t).rest) (Word (right ∷ []))) [] t fault u → Delimited left right sep f s (Err fault) u
       closed : (f : F) (s b : S) (xs : List X) (t u : S) → Opens left s b → Separated sep f b (Ok xs) t → begins (the right) (view t).rest ≡ true → u ≡ at t (advanced (view t)) → Delimited left right sep f s (Ok xs) u
 
-    -- items with this character between them, which is refused where it is white space
+    -- items with this character between them; the error `BadSeparator` if it is white space
     abbrev pub WithCharacter : Bool → ℕ → F → S → Result (List X) (ParseFault A) → S → Type 0
     WithCharacter true c f s (Ok xs) u = ⊥
     WithCharacter true c f s (Err fault) u = Passes view at BadSeparator s fault u
     WithCharacter false c f s r u = Separated c f s r u
 
-    -- items with the character between them, or with white space alone where there is none
+    -- items with the separator's character between them, or with white space after each if it has no character
     abbrev pub WithSeparator : Option ℕ → F → S → Result (List X) (ParseFault A) → S → Type 0
     WithSeparator None f s r u = Items f s r u
     WithSeparator (Some c) f s r u = WithCharacter (is_whitespace c) c f s r u
 
-    -- White space, the item, and white space. White space counts as read: behind it the item must stand.
+    -- White space, the item, and white space. White space before the item counts as consumed: after it the item is required.
     pub data Spaced (f : F) (s : S) : Result X (ParseFault A) → S → Type 0 where
       read : (b : S) (x : X) (g : F) (t u : S) → Skips s b → calls f b (Ok x) g t → Skips t u → Spaced f s (Ok x) u
       refused : (fault : ParseFault A) (g : F) (u : S) → begins is_whitespace (view s).rest ≡ false → calls f s (Err fault) g u → Spaced f s (Err fault) u

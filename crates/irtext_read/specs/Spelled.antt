@@ -1,4 +1,4 @@
--- How far a reader of a text that is known has come.
+-- How far the parser of a fixed text has come.
 use Rattle.std.specs.Prelude.{◌≡◌, ℕ, Bool, true, false, Option, Some, None, List, [], ◌∷◌}
 use Rattle.std.specs.Str.{encode_utf8_all}
 use Rattle.irtext_base.specs.Text.{Text, begins}
@@ -9,19 +9,19 @@ use Rattle.irtext_base.specs.Faults.{Fault}
 use Rattle.irtext_base.specs.declared.parsable.fault.ParseFault.{ParseFault}
 use Rattle.irtext_read.specs.Tokens.{spelled_at, text_at}
 
--- what is left of the word decides, from before the characters taken
+-- the outcome of the rest of the word, as it is from before the consumed characters
 abbrev pub begun_by : {X : Type 0} → Bool → Text → Outcome X → Outcome X
 begun_by false taken o = o
 begun_by true taken o = prefixed taken o
 
 module _ {S : Type 0} (view : S → StreamView) (at : S → StreamView → S) where
-  -- the characters taken are the word's up to what is left of it
+  -- the consumed characters are those of the word in front of `left`
   pub record Spelling (word : Text) (old now : S) (begun : Bool) (taken left : Text) : Type 0 where
     pub takes : Takes view at taken (view now).rest old now
     pub untaken : begun ≡ false → taken ≡ []
     pub so_far : text_at word (view old).rest ≡ begun_by begun taken (spelled_at word left (view now).rest)
 
-  -- a front of the word was taken, and its next character doesn't come
+  -- a prefix of the word was consumed, and its next character does not come next
   pub record Differs (word : Text) (old : S) (begun : Bool) (now : S) : Type 0 where
     pub taken : Text
     pub next : ℕ
@@ -29,12 +29,12 @@ module _ {S : Type 0} (view : S → StreamView) (at : S → StreamView → S) wh
     pub spelling : Spelling word old now begun taken (next ∷ left)
     pub other : begins (the next) (view now).rest ≡ false
 
-  -- The word with these bytes was read, or its next character doesn't come, and whether one was taken before.
+  -- The word with these bytes was parsed; or its next character does not come next, and the flag tells whether one was consumed before.
   abbrev pub Spells : List ℕ → S → Option Bool → S → Type 0
   Spells bytes old None new = (word : Text) → encode_utf8_all word ≡ bytes → Gives view at (text_at word (view old).rest) old tt new
   Spells bytes old (Some begun) new = (word : Text) → encode_utf8_all word ≡ bytes → Differs word old begun new
 
-  -- the fault of this cause where the stream stands: committed where something was begun
+  -- the error with this cause at the current position: committed if something was consumed
   abbrev pub Misses : {A : Type 0} → Bool → Fault → S → ParseFault A → S → Type 0
   Misses true cause old fault new = Commits view at cause [] old fault new
   Misses false cause old fault new = Passes view at cause old fault new

@@ -1,4 +1,4 @@
--- Tokens: what a text is to the reader of each.
+-- Tokens: the outcome of each parser on a text.
 use Rattle.std.specs.Prelude.{ℕ, zero, suc, ℤ, pos, negsuc, Bool, cond, ◌||◌, nat_lt, Option, Some, None, [], ◌∷◌, ◌++◌, codes, ⊤}
 use Rattle.std.specs.Char.{is_ascii_digit, is_whitespace}
 use Rattle.irtext_base.specs.Text.{Text, begins, front, after, begins_word, in_word}
@@ -12,11 +12,11 @@ pub use Rattle.irtext_read.specs.Digits.{fitting}
 use Rattle.irtext_read.specs.Infix.{Reader, ◌▷◌, ◌▶◌, ◌⇒◌}
 use Rattle.irtext_read.specs.Digits.{value_in}
 
--- white space, as far as it goes
+-- white space, as much as comes next
 abbrev pub space_at : Text → Outcome ⊤
 space_at text = Read tt (front is_whitespace text) (after is_whitespace text)
 
--- a letter or `_`, then letters, digits and `_`, as long as they go; where none begins, the demand is not met
+-- a letter or `_`, then letters, digits and `_`, as many as come next; if there is no first one, the demand is the expected token
 unfoldable pub word_at : Demand → Text → Outcome Text
 word_at demand text = cond (begins begins_word text) (Read (front in_word text) (front in_word text) (after in_word text)) (Missing (Unexpected (first_of text) demand))
 
@@ -24,7 +24,8 @@ word_at demand text = cond (begins begins_word text) (Read (front in_word text) 
 abbrev pub identifier_at : Text → Outcome Text
 identifier_at text = word_at AnIdentifier text
 
--- what is left of a word, one character behind the other: where the first differs the whole word is missing, and where a later one does that is bad
+-- the rest of a word, character by character: if its first character differs the whole word is missing, and if a later one does that is a
+-- committed error
 abbrev pub spelled_at : Text → Text → Text → Outcome Unit
 spelled_at whole [] text = Read tt [] text
 spelled_at whole (c ∷ word) [] = Missing (Unexpected None (Word whole))
@@ -34,47 +35,47 @@ spelled_at whole (c ∷ word) (d ∷ text) = cond (the c d) (prefixed (d ∷ [])
 abbrev pub text_at : Text → Text → Outcome Unit
 text_at word text = spelled_at word word text
 
--- the reader of a fixed text
+-- the parser of a fixed text
 abbrev pub word : Text → Reader Unit
 word w = text_at w
 
--- a plus or a minus
+-- whether a character is a plus or a minus
 abbrev pub is_sign : ℕ → Bool
 is_sign c = the 43 c || the 45 c
 
--- the sign at the front, if there is one
+-- the sign at the beginning, if there is one
 abbrev pub sign_of : Text → Text
 sign_of [] = []
 sign_of (c ∷ text) = cond (is_sign c) (c ∷ []) []
 
--- what is left behind that sign
+-- the text after that sign
 abbrev pub after_sign : Text → Text
 after_sign [] = []
 after_sign (c ∷ text) = cond (is_sign c) text (c ∷ text)
 
--- the number that digits write, where it fits
+-- the number that decimal digits denote, if it fits
 abbrev pub value_of : Text → Option ℕ
 value_of digits = value_in 10 digits
 
--- what a sign and a number that fits or doesn't are: the number, or a fault at the sign
+-- the outcome of a sign and a number that may not fit: the number, or an error at the sign
 abbrev pub numbered : Text → Text → Text → Option ℕ → Outcome ℕ
 numbered sign digits rest None = Bad (NumberRange (sign ++ digits)) []
 numbered sign digits rest (Some n) = cond (begins (the 45) sign) (Bad (NumberRange (sign ++ digits)) []) (Read n (sign ++ digits) rest)
 
--- no digit where a number must stand, which is bad behind a sign
+-- a required digit is missing: committed after a sign, and otherwise uncommitted
 abbrev pub no_digit : Text → Text → Outcome ℕ
 no_digit [] text = Missing (Unexpected (first_of text) ADigit)
 no_digit (c ∷ sign) text = Bad (Unexpected (first_of text) ADigit) (c ∷ sign)
 
--- one digit or more behind a sign, as far as they go
+-- one digit or more after a sign, as many as come next
 abbrev pub digits_at : Text → Text → Outcome ℕ
 digits_at sign text = cond (begins is_ascii_digit text) (numbered sign (front is_ascii_digit text) (after is_ascii_digit text) (value_of (front is_ascii_digit text))) (no_digit sign text)
 
--- a number, with a sign or none
+-- a number with an optional sign
 unfoldable pub number_at : Text → Outcome ℕ
 number_at text = digits_at (sign_of text) (after_sign text)
 
--- the opposite of a number
+-- a number, negated
 abbrev pub negated : ℕ → ℤ
 negated zero = pos 0
 negated (suc n) = negsuc n
@@ -83,32 +84,32 @@ negated (suc n) = negsuc n
 abbrev pub signed : Text → ℕ → ℤ
 signed sign n = cond (begins (the 45) sign) (negated n) (pos n)
 
--- the greatest number that fits 32 bits behind a sign: one more behind a minus
+-- the largest magnitude that fits 32 bits after a sign: one more after a minus
 abbrev pub greatest : Text → ℕ
 greatest sign = cond (begins (the 45) sign) 2147483648 2147483647
 
--- the integer of a sign and a number, where it fits 32 bits
+-- the integer of a sign and a number, if it fits 32 bits
 abbrev pub integer_of : Text → Option ℕ → Option ℤ
 integer_of sign None = None
 integer_of sign (Some n) = cond (nat_lt (greatest sign) n) None (Some (signed sign n))
 
--- what a sign and digits are as a signed integer of 32 bits: the integer, or a fault at the sign
+-- the outcome of a sign and digits as a 32-bit signed integer: the integer, or an error at the sign
 abbrev pub integered : Text → Text → Text → Option ℤ → Outcome ℤ
 integered sign digits rest None = Bad (NumberRange (sign ++ digits)) []
 integered sign digits rest (Some z) = Read z (sign ++ digits) rest
 
--- no digit where an integer must stand, which is bad behind a sign
+-- a required digit is missing: committed after a sign, and otherwise uncommitted
 abbrev pub no_integer : Text → Text → Outcome ℤ
 no_integer [] text = Missing (Unexpected (first_of text) ADigit)
 no_integer (c ∷ sign) text = Bad (Unexpected (first_of text) ADigit) (c ∷ sign)
 
--- a signed integer of 32 bits, with a sign or none
+-- a 32-bit signed integer with an optional sign
 unfoldable pub integer_at : Text → Outcome ℤ
 integer_at text = cond (begins is_ascii_digit (after_sign text))
     (integered (sign_of text) (front is_ascii_digit (after_sign text)) (after is_ascii_digit (after_sign text)) (integer_of (sign_of text) (value_of (front is_ascii_digit (after_sign text)))))
     (no_integer (sign_of text) (after_sign text))
 
--- the id of a dialect and a name
+-- the id with this dialect and this name
 abbrev pub id_with : Text → Text → Id
 id_with dialect name = record { dialect = dialect; name = name }
 

@@ -1,4 +1,4 @@
-//! How the parts of a text are read.
+//! Parsers for the parts of a text.
 
 pub mod demanded;
 pub mod faults;

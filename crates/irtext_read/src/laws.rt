@@ -1,4 +1,4 @@
-//! Laws of the definitions that the readers' contracts speak of. Each function does nothing: its contract is a theorem about
-//! every text, proved from the definitions alone.
+//! Laws of the definitions that the parsers' contracts use. Each function does nothing: its contract is a theorem about every text,
+//! proved from the definitions alone.
 
 pub mod quoted;

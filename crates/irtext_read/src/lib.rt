@@ -1,4 +1,4 @@
-//! Readers over a stream: tokens, lists and attributes; and texts between quotation marks, as they are read and printed.
+//! Parsers over a character stream for tokens, lists and attributes; and quoted strings, parsed and printed.
 #![tactic(auto)]
 
 pub mod irfmt;

@@ -1,4 +1,4 @@
-//! Streams on which a caller's own readers read, and errors as faults of a reading.
+//! Streams on which the caller's own parsers run, and the conversion of errors to parse errors.
 
 pub mod answer;
 pub mod own;

@@ -1,18 +1,18 @@
-//! Texts between quotation marks.
+//! Prints quoted strings.
 ghost use Rattle.std.specs.Prelude.{◌≡◌, ◌++◌, OnOk, true, string_bytes};
 ghost use Rattle.irtext_base.specs.Quoted.{image_of, images};
 ghost use Rattle.irtext_read.specs.QuotedBytes.{is_escaped, quoted_bytes};
 
 use std::fmt;
 
-/// Whether a byte is a character that doesn't stand as itself in a quoted text. All such characters are ASCII.
+/// Whether a byte is a character that is escaped in a quoted string. All these characters are ASCII.
 fn is_escaped(byte: u8) -> bool
     ensures { result ≡ is_escaped byte }
 {
     byte.is_ascii_control() || byte == b'"' || byte == b'\\'
 }
 
-/// Appends what stands for such a character.
+/// Appends the escape of such a character.
 fn fmt_escape(byte: u8, f: &mut String) -> fmt::Result
     requires { is_escaped byte ≡ true }
     ensures { OnOk result (string_bytes f.new ≡ string_bytes f.old ++ image_of byte) }
@@ -29,7 +29,7 @@ fn fmt_escape(byte: u8, f: &mut String) -> fmt::Result
     Ok(())
 }
 
-/// Appends what stands for the characters of a text. What lies between two escapes is copied as it is.
+/// Appends the characters of a text, each that must be escaped as its escape. The text between two escapes is copied in one piece.
 fn fmt_images(text: &str, f: &mut String) -> fmt::Result
     ensures { OnOk result (string_bytes f.new ≡ string_bytes f.old ++ images text.now) }
 {
@@ -46,9 +46,9 @@ fn fmt_images(text: &str, f: &mut String) -> fmt::Result
     Ok(())
 }
 
-/// Appends the text between quotation marks: a NUL, tab, newline, carriage return, quotation mark and backslash as `\0`, `\t`,
-/// `\n`, `\r`, `\"` and `\\`, each other ASCII control character as `\u{N}` with N in lower hexadecimal, and every other character
-/// as itself. It fails only where memory is refused; what was written until then stays.
+/// Appends the text as a quoted string, such as `"a\n"` for `a` and a newline. A NUL, tab, newline, carriage return, quotation mark and
+/// backslash are printed as `\0`, `\t`, `\n`, `\r`, `\"` and `\\`, every other ASCII control character as `\u{N}` with N in lower-case
+/// hexadecimal, and every other character as itself. Fails only if an allocation fails; what was appended before stays.
 pub fn fmt_quoted(text: &str, f: &mut String) -> fmt::Result
     ensures { OnOk result (string_bytes f.new ≡ string_bytes f.old ++ quoted_bytes text.now) }
 {

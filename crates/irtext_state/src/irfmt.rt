@@ -1,3 +1,3 @@
-//! Readers that need the state of a reading.
+//! Parsers that need the state of a parse.
 
 pub mod parsers;

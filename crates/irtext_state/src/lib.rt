@@ -1,5 +1,5 @@
-//! The state of a reading beside its text: the context, the source, the caller's data and the marks; reading from a text in memory;
-//! and the readers that need it.
+//! The state of a parse beside its text: the context, the source, the caller's data and the marks. Parsing of a text in memory, and the
+//! parsers that need the state.
 #![tactic(auto)]
 
 pub mod irfmt;

@@ -1,4 +1,4 @@
-//! The stream of a text together with the state of its reading.
+//! The stream of a text, together with the state of its parse.
 
 pub mod numbered;
 pub mod state;

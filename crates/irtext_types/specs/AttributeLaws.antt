@@ -1,4 +1,4 @@
--- For callers: the texts of the demo attributes keep the law of texts.
+-- For callers: the demo attributes obey the law of parsing and printing.
 use Rattle.std.proofs.Common.{◌≡◌, true, false, ◌∷◌, [], ◌++◌, ◌==◌, drop, refl, sym, ◌∙◌, ap, codes, true≢false}
 use Rattle.irtext_base.specs.Text.{Text, begins, after_space, begins_word}
 use Rattle.irtext_base.specs.Reading.{keyword}
@@ -30,7 +30,7 @@ attributes_start (attr.Debug text) rest = refl
 attributes_miss : (text : Text) → begins begins_word text ≡ false → standing (attr_at text) ≡ missing
 attributes_miss text e = dotted_missed attr_behind (begins begins_word text) _ _ e
 
--- a quoted text is read back behind a space
+-- a quoted string that was printed after a space is parsed back
 quoted-behind : (s : ScalarText) (rest : Text) → (space_at ▷ characters_at) (32 ∷ (quoted s.characters ++ rest)) ≡ Read s (32 ∷ quoted s.characters) rest
 quoted-behind s rest =
     behind_one characters_at (quoted s.characters ++ rest) refl ∙ (ap (λ o. prefixed (32 ∷ []) (mapped scalar_text o)) (quoted_back s.characters rest)

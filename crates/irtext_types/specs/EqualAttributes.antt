@@ -1,4 +1,4 @@
--- For callers: demo attributes are equal exactly where they are the same values.
+-- For callers: demo attributes compare equal exactly if they are the same values.
 use Rattle.std.proofs.Common.{◌≡◌, true, false, List, refl, sym, ◌∙◌, ap, ap₂, true≢false}
 use Rattle.std.proofs.lemmas.Str.{chars-encodes}
 use Rattle.std.specs.Cmp.{signed_Decides}

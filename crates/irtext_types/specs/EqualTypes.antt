@@ -1,4 +1,4 @@
--- For callers: demo types are equal exactly where they are the same values.
+-- For callers: demo types compare equal exactly if they are the same values.
 use Rattle.std.proofs.Common.{◌≡◌, true, false, Some, refl, sym, ◌∙◌, ap, ap₂, true≢false}
 use Rattle.std.specs.Prelude.{◌↔◌, IsTrue, unwrap_or}
 use Rattle.std.proofs.lemmas.Bool.{eqb-true}

@@ -1,4 +1,4 @@
--- For theorems: the texts of functions' types are ASCII.
+-- For theorems: the texts of function types are ASCII.
 use Rattle.std.proofs.Common.{◌≡◌, List, [], ◌∷◌, ◌++◌, refl, codes}
 use Rattle.std.proofs.lemmas.Str.{IsAscii-append, encodes-IsAscii}
 use Rattle.std.proofs.lemmas.Str.Ascii.{IsAscii-nil}
@@ -28,6 +28,6 @@ ascii-function a =
     (IsAscii-append (codes "->") (types_text a.results ++ codes ">") (ascii-from (codes "->") refl)
     (IsAscii-append (types_text a.results) (codes ">") (ascii-types a.results) (ascii-from (codes ">") refl))))
 
--- the bytes of the attribute's text
+-- the bytes of the attribute's text are its characters
 pub encodes-function : (a : FunctionAttr) → encode_utf8_all (codes "builtin.function " ++ function_text a) ≡ codes "builtin.function " ++ function_text a
 encodes-function a = encodes-IsAscii (codes "builtin.function " ++ function_text a) (IsAscii-append (codes "builtin.function ") (function_text a) (ascii-from (codes "builtin.function ") refl) (ascii-function a))

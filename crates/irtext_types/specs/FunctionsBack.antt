@@ -1,4 +1,4 @@
--- For theorems: what is written of a function's type is read again.
+-- For theorems: a function type that was printed is parsed back.
 use Rattle.std.proofs.Common.{◌≡◌, List, [], ◌∷◌, ◌++◌, refl, ◌∙◌, ap, append_assoc, codes}
 use Rattle.irtext_base.specs.Text.{Text}
 use Rattle.irtext_base.specs.Answers.{mapped, followed}
@@ -20,11 +20,11 @@ signature-here inputs results rest =
     let arrow = and_then (spaced_at (codes "->") behind) (λ u text. results_at inputs text) tt (function_with inputs results) (45 ∷ 62 ∷ []) (types_text results ++ rest) rest refl (results-here inputs results rest) in
     and_then (types_at (types_text inputs ++ behind)) (λ inputs text. arrow_at inputs text) inputs (function_with inputs results) r.0 behind rest r.1 arrow
 
--- the parts of the text, one behind the other
+-- the parts of the text, one after the other
 flat : (inputs results : List DemoType) (rest : Text) → (types_text inputs ++ (codes "->" ++ (types_text results ++ codes ">"))) ++ rest ≡ types_text inputs ++ (45 ∷ 62 ∷ (types_text results ++ (62 ∷ rest)))
 flat inputs results rest = append_assoc (types_text inputs) (codes "->" ++ (types_text results ++ codes ">")) rest ∙ ap (λ u. types_text inputs ++ (45 ∷ 62 ∷ u)) (append_assoc (types_text results) (codes ">") rest)
 
--- a function's type is read back behind a space, whatever follows
+-- a function type that was printed after a space is parsed back, whatever comes after it
 pub function-here : (a : FunctionAttr) (rest : Text) → Reads (function_at (32 ∷ (function_text a ++ rest))) a rest
 function-here a rest =
     let t = types_text a.inputs ++ (45 ∷ 62 ∷ (types_text a.results ++ (62 ∷ rest))) in

@@ -25,6 +25,6 @@ ascii-integer_attr a =
     (IsAscii-append (codes ": ") (integer_type_text a.ty ++ codes ">") (ascii-from (codes ": ") refl)
     (IsAscii-append (integer_type_text a.ty) (codes ">") (ascii-integer_type a.ty) (ascii-from (codes ">") refl))))
 
--- the bytes of the attribute's text
+-- the bytes of the attribute's text are its characters
 pub encodes-integer_attr : (a : IntegerAttr) → encode_utf8_all (codes "builtin.integer " ++ integer_attr_text a) ≡ codes "builtin.integer " ++ integer_attr_text a
 encodes-integer_attr a = encodes-IsAscii (codes "builtin.integer " ++ integer_attr_text a) (IsAscii-append (codes "builtin.integer ") (integer_attr_text a) (ascii-from (codes "builtin.integer ") refl) (ascii-integer_attr a))

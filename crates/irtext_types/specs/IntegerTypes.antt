@@ -15,17 +15,17 @@ use Rattle.irtext_types.specs.declared.integer_type.Signedness.{Signedness}
 use Rattle.irtext_types.specs.declared.integer_type.Signedness.TheVariants.{Signed, Unsigned, Signless}
 use Rattle.irtext_types.specs.declared.integer_type.IntegerType.{IntegerType}
 
--- the word of a sign
+-- the text of a sign
 abbrev pub signedness_text : Signedness → Text
 signedness_text Signed = codes "si"
 signedness_text Unsigned = codes "ui"
 signedness_text Signless = codes "i"
 
--- the text that is written: the sign's word, and the width without leading zeros
+-- the text that is printed: the sign, and the width without leading zeros
 abbrev pub integer_type_text : IntegerType → Text
 integer_type_text t = signedness_text t.kind ++ decimal t.width.bits
 
--- a sign's word
+-- a sign
 abbrev pub signedness_at : Text → Outcome Signedness
 signedness_at =
     either (begins (the 115)) (word (codes "si") ⇒ λ _. Signed)
@@ -33,19 +33,19 @@ signedness_at =
     (either (begins (the 105)) (word (codes "i") ⇒ λ _. Signless)
     (λ text. Missing (Unexpected (first_of text) AType))))
 
--- the width of a number that fits 64 bits or doesn't, where that is one
+-- the width with this number of bits, if there is one; `None` is a number that does not fit 64 bits
 abbrev pub width_if : Option ℕ → Option Width
 width_if None = None
 width_if (Some n) = width_of n
 
--- decimal digits that write a width, as far as they go
+-- the decimal digits of a width, as many as come next
 abbrev pub width_at : Text → Outcome Width
 width_at text = cond (begins is_ascii_digit text) (ranged (front is_ascii_digit text) (after is_ascii_digit text) (width_if (value_of (front is_ascii_digit text)))) (Missing (Unexpected (first_of text) ADigit))
 
--- the type of a sign and a width
+-- the integer type with this sign and this width
 abbrev pub integer_type_with : Signedness → Width → IntegerType
 integer_type_with kind width = record { kind = kind; width = width }
 
--- a sign's word and a width, with nothing between
+-- a sign and a width, without white space between them
 abbrev pub integer_type_at : Text → Outcome IntegerType
 integer_type_at = signedness_at ▶ λ kind. width_at ⇒ integer_type_with kind

@@ -1,4 +1,4 @@
--- For theorems: what is written of an integer with its type is read again.
+-- For theorems: an integer with its type that was printed is parsed back.
 use Rattle.std.proofs.Common.{◌≡◌, ℕ, ℤ, pos, negsuc, suc, ◌<◌, ◌^◌, ◌+◌, Bool, true, false, cond, Some, None, [], ◌∷◌, ◌++◌, length, refl, sym, ◌∙◌, ap, ap₂, append_assoc, arith, codes, nat_lt, decimal, true≢false}
 use Rattle.std.proofs.lemmas.Bool.Decides.{nat_tests}
 use Rattle.std.proofs.lemmas.Fmt.{decimal_is_IsNumeral}
@@ -27,11 +27,11 @@ found_by : (a : IntegerAttr) (b : Bool) (e : is_i64 a.value ≡ b) → integer_a
 found_by a true e = ap (λ (p : is_i64 a.value ≡ true). let x : IntegerAttr = record { value = a.value; ty = a.ty; in_range = p } in x) (Bool-set (is_i64 a.value) true e a.in_range)
 found_by a false e = absurd (true≢false (sym a.in_range ∙ e))
 
--- each attribute is that of its integer and its type
+-- an attribute is the one with its integer and its type
 pub attr_found : (a : IntegerAttr) → integer_attr_of a.value a.ty ≡ a
 attr_found a = found_by a (is_i64 a.value) refl
 
--- digits of a magnitude that fits are read behind a sign, where no digit follows
+-- the digits of a magnitude that fits are parsed after a sign, if no digit comes after them
 digits-int : (sign ds rest : Text) (n : ℕ) (z : ℤ) → sign_of (sign ++ (ds ++ rest)) ≡ sign → after_sign (sign ++ (ds ++ rest)) ≡ ds ++ rest → 0 < length ds → list_all is_ascii_digit ds ≡ true → digits_value 10 ds ≡ n
     → nat_lt n (signed_below 64 (begins (the 45) sign)) ≡ true → integer_by (begins (the 45) sign) n ≡ z → begins is_ascii_digit rest ≡ false → int_at (signed_below 64) (sign ++ (ds ++ rest)) ≡ Read z (sign ++ ds) rest
 unfolding int_at
@@ -52,7 +52,7 @@ below_64 n e = grind (arith, nat_tests)
 small_behind : (n : ℕ) → n < 2 ^ 63 → nat_lt (suc n) (2 ^ 63 + 1) ≡ true
 small_behind n e = grind (arith, nat_tests)
 
--- an integer that fits is read back where no digit follows
+-- an integer that fits is parsed back if no digit comes after it
 int-here : (z : ℤ) (rest : Text) → is_i64 z ≡ true → begins is_ascii_digit rest ≡ false → int_at (signed_below 64) (signed_decimal z ++ rest) ≡ Read z (signed_decimal z) rest
 int-here (pos n) rest fits stop =
     let small = below_64 n fits in
@@ -64,16 +64,16 @@ int-here (negsuc n) rest fits stop =
     let k = decimal_is_IsNumeral (suc n) (omega (arith, small)) in
     digits-int (45 ∷ []) (decimal (suc n)) rest (suc n) (negsuc n) refl refl k.0.0 (digits_every (decimal (suc n)) k.0.1) k.1 (small_behind n small) refl stop
 
--- an integer's text begins with no white space
+-- an integer's text does not begin with white space
 int_no_space : (z : ℤ) (rest : Text) → is_i64 z ≡ true → begins is_whitespace (signed_decimal z ++ rest) ≡ false
 int_no_space (pos n) rest fits = let k = decimal_is_IsNumeral n (omega (arith, below_64 n fits)) in (plain (decimal n) rest k.0.0 (digits_every (decimal n) k.0.1)).space
 int_no_space (negsuc n) rest fits = refl
 
--- a text reads as the value and leaves the rest
+-- the outcome is this value, with this text left
 abbrev pub Reads : {X : Type 0} → Outcome X → X → Text → Type 0
 Reads o x rest = (taken : Text) × (o ≡ Read x taken rest)
 
--- one reading behind another
+-- one parser after another
 pub and_then : {X Y : Type 0} (o : Outcome X) (next : X → Text → Outcome Y) (x : X) (y : Y) (taken t rest : Text) → o ≡ Read x taken t → Reads (next x t) y rest → Reads (followed o next) y rest
 and_then o next x y taken t rest e (more, q) = (taken ++ more, ap (λ z. followed z next) e ∙ ap (prefixed taken) q)
 
@@ -92,11 +92,11 @@ value-here z t rest fits =
     and_then (int_at (signed_below 64) (signed_decimal z ++ behind)) (λ z text. colon_at z text) z (integer_attr_of z t) (signed_decimal z) behind rest (int-here z behind fits refl)
     (and_then (spaced_at (codes ":") behind) (λ u text. type_at z text) tt (integer_attr_of z t) (58 ∷ 32 ∷ []) ty rest colon (type-here z t rest))
 
--- the parts of the text, one behind the other
+-- the parts of the text, one after the other
 flat : (z : ℤ) (t : IntegerType) (rest : Text) → (signed_decimal z ++ (codes ": " ++ (integer_type_text t ++ codes ">"))) ++ rest ≡ signed_decimal z ++ (58 ∷ 32 ∷ (integer_type_text t ++ (62 ∷ rest)))
 flat z t rest = append_assoc (signed_decimal z) (codes ": " ++ (integer_type_text t ++ codes ">")) rest ∙ ap (λ u. signed_decimal z ++ (58 ∷ 32 ∷ u)) (append_assoc (integer_type_text t) (codes ">") rest)
 
--- an attribute is read back behind a space, whatever follows
+-- an attribute that was printed after a space is parsed back, whatever comes after it
 pub integer_attr-here : (a : IntegerAttr) (rest : Text) → Reads (integer_attr_at (32 ∷ (integer_attr_text a ++ rest))) a rest
 integer_attr-here a rest =
     let t = signed_decimal a.value ++ (58 ∷ 32 ∷ (integer_type_text a.ty ++ (62 ∷ rest))) in

@@ -1,4 +1,4 @@
--- What callers rest on, in reading order
+-- What callers rely on, in reading order
 pub mod Widths
 pub mod WidthOf
 pub mod WidthLaws
@@ -19,7 +19,7 @@ pub mod SincereAttributes
 pub mod EqualTypes
 pub mod EqualAttributes
 pub mod DemoDialects
--- What the laws of the texts are proved by
+-- What the laws of the texts are proved with
 pub mod IntegersBack
 pub mod TypeListsBack
 pub mod FunctionsBack

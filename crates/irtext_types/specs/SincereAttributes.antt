@@ -1,4 +1,4 @@
--- For callers: what the readers of the demo attributes say of a text is of that text.
+-- For callers: the outcomes of the demo attributes' parsers are about the text: what they consume, and where their errors are.
 use Rattle.std.proofs.Common.{codes}
 use Rattle.irtext_base.specs.Text.{Text}
 use Rattle.irtext_base.specs.Own.{Sincere}

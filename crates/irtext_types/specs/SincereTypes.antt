@@ -1,4 +1,4 @@
--- For callers: what the readers of the demo types say of a text is of that text.
+-- For callers: the outcomes of the demo types' parsers are about the text: what they consume, and where their errors are.
 use Rattle.std.proofs.Common.{◌≡◌, Option, Some, None, [], ◌++◌, codes, refl}
 use Rattle.std.specs.Char.{is_ascii_digit}
 use Rattle.irtext_base.specs.Text.{Text, begins, begins_word, front, after}

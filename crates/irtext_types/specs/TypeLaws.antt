@@ -1,4 +1,4 @@
--- For callers: the texts of the demo types keep the law of texts.
+-- For callers: the demo types obey the law of parsing and printing.
 use Rattle.irtext_base.specs.Own.{texts_of, Lawful}
 use Rattle.irtext_base.proofs.Scalars.{AreScalars, scalars_ascii}
 use Rattle.irtext_types.specs.Types.{type_at, type_text}

@@ -25,7 +25,7 @@ ascii-cons c text small rest (suc i) = rest i
 ascii-small : (c : ℕ) → is_ascii c ≡ true → c < 128
 ascii-small c e = grind (arith, nat_tests)
 
--- a text whose characters pass the test
+-- a text is ASCII if its characters pass the test
 pub ascii-from : (text : Text) → list_all is_ascii text ≡ true → IsAscii text
 ascii-from [] e = IsAscii-nil
 ascii-from (c ∷ text) e = ascii-cons c text (ascii-small c (and_left (is_ascii c) (list_all is_ascii text) e)) (ascii-from text (and_right (is_ascii c) (list_all is_ascii text) e))
@@ -42,6 +42,6 @@ pub ascii-type : (x : DemoType) → IsAscii (type_text x)
 ascii-type (Integer t) = IsAscii-append (codes "builtin.integer ") (integer_type_text t) (ascii-from (codes "builtin.integer ") refl) (ascii-integer_type t)
 ascii-type Pointer = ascii-from (codes "test.ptr ") refl
 
--- the bytes of a type's text
+-- the bytes of a type's text are its characters
 pub encodes-type : (x : DemoType) → encode_utf8_all (type_text x) ≡ type_text x
 encodes-type x = encodes-IsAscii (type_text x) (ascii-type x)

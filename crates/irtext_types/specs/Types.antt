@@ -13,20 +13,20 @@ use Rattle.irtext_types.specs.declared.types.TypeWord.TheVariants as word
 use Rattle.irtext_types.specs.declared.types.DemoType.{DemoType}
 use Rattle.irtext_types.specs.declared.types.DemoType.TheVariants.{Integer, Pointer}
 
--- the word of a type that a text is
+-- the word of a type that a text is, if it is one
 abbrev pub type_word : Text → Option TypeWord
 type_word text = cond (bytes_eq text (codes "builtin.integer")) (Some word.Integer) (cond (bytes_eq text (codes "test.ptr")) (Some word.Pointer) None)
 
--- the text that is written of a type
+-- the text that is printed for a type
 abbrev pub type_text : DemoType → Text
 type_text (Integer t) = codes "builtin.integer " ++ integer_type_text t
 type_text Pointer = codes "test.ptr "
 
--- what stands behind the word of a type
+-- the rest of a type, after its word
 abbrev pub type_behind : TypeWord → Text → Outcome DemoType
 type_behind word.Integer = space_at ▷ integer_type_at ⇒ Integer
 type_behind word.Pointer = nothing Pointer
 
--- a type's word, and what stands behind it
+-- a type's word, and the rest of the type
 abbrev pub type_at : Text → Outcome DemoType
 type_at = dotted_at type_word (codes "Unregistered type ") AType ▶ type_behind

@@ -1,4 +1,4 @@
--- For callers: what is written of a type is read again.
+-- For callers: a type that was printed is parsed back.
 use Rattle.std.proofs.Common.{◌≡◌, ℕ, ◌<◌, ◌^◌, Bool, true, false, cond, [], ◌∷◌, ◌++◌, length, refl, ◌∙◌, ap, ap₂, arith, inl, inr, codes, decimal}
 use Rattle.std.proofs.lemmas.Bool.Decides.{nat_tests}
 use Rattle.std.proofs.lemmas.Fmt.{decimal_is_IsNumeral}
@@ -29,13 +29,13 @@ use Rattle.irtext_types.specs.WidthLaws.{width_found, width_small}
 digit_not_end : (c : ℕ) → can_follow c ≡ true → is_ascii_digit c ≡ false
 digit_not_end c e = grind (arith, nat_tests)
 
--- no digit stands where a text ends
+-- a text that can come after another does not begin with a digit
 pub no_digit : (rest : Text) → Ends rest → begins is_ascii_digit rest ≡ false
 no_digit [] e = refl
 no_digit (c ∷ rest) (inl e) = absurd (cc)
 no_digit (c ∷ rest) (inr e) = digit_not_end c e
 
--- digits that write a width are read as it, where no digit follows
+-- the digits of a width are parsed if no digit comes after them
 digits-width : (ds rest : Text) (w : Width) → 0 < length ds → list_all is_ascii_digit ds ≡ true → digits_value 10 ds ≡ w.bits → begins is_ascii_digit rest ≡ false → width_at (ds ++ rest) ≡ Read w ds rest
 digits-width [] rest w some all v stop = absurd (omega (arith, some))
 digits-width (c ∷ s) rest w some all v stop =
@@ -46,13 +46,13 @@ digits-width (c ∷ s) rest w some all v stop =
     ∙ (ap (λ o. ranged (c ∷ s) rest (width_if o)) (ap fitting v ∙ fitting-small w.bits small)
     ∙ ap (ranged (c ∷ s) rest) (width_found w)))
 
--- a width is read back where no digit follows
+-- a width is parsed back if no digit comes after it
 width-here : (w : Width) (rest : Text) → begins is_ascii_digit rest ≡ false → width_at (decimal w.bits ++ rest) ≡ Read w (decimal w.bits) rest
 width-here w rest stop =
     let k = decimal_is_IsNumeral w.bits (omega (arith, width_small w)) in
     digits-width (decimal w.bits) rest w k.0.0 (digits_every (decimal w.bits) k.0.1) k.1 stop
 
--- an integer type is read back where no digit follows
+-- an integer type is parsed back if no digit comes after it
 pub integer_type-here : (t : IntegerType) (rest : Text) → begins is_ascii_digit rest ≡ false → integer_type_at (integer_type_text t ++ rest) ≡ Read t (integer_type_text t) rest
 integer_type-here t rest stop = by t.kind refl
   where
@@ -64,7 +64,7 @@ integer_type-here t rest stop = by t.kind refl
     by Unsigned e = more Unsigned e (codes "ui")
     by Signless e = more Signless e (codes "i")
 
--- it begins with no white space
+-- the text of an integer type does not begin with white space
 pub no_space : (t : IntegerType) (rest : Text) → begins is_whitespace (integer_type_text t ++ rest) ≡ false
 no_space t rest = by t.kind
   where
@@ -73,15 +73,15 @@ no_space t rest = by t.kind
     by Unsigned = refl
     by Signless = refl
 
--- no white space is passed in front of what begins with none
+-- in a text that does not begin with white space, none is skipped
 pub none-passed : (t : Text) → begins is_whitespace t ≡ false → space_at t ≡ Read tt [] t
 none-passed t e = ap₂ (λ f a. Read tt f a) (front_all is_whitespace [] t refl e) (after_all is_whitespace [] t refl e)
 
--- one space is
+-- one space before such a text is skipped
 pub one-passed : (t : Text) → begins is_whitespace t ≡ false → space_at (32 ∷ t) ≡ Read tt (32 ∷ []) t
 one-passed t e = ap₂ (λ f a. Read tt (32 ∷ f) a) (front_all is_whitespace [] t refl e) (after_all is_whitespace [] t refl e)
 
--- behind one space what begins with no white space is read
+-- after one space the parser of an item runs on a text that does not begin with white space
 pub behind_one : {X : Type 0} (item : Text → Outcome X) (t : Text) → begins is_whitespace t ≡ false → (space_at ▷ item) (32 ∷ t) ≡ prefixed (32 ∷ []) (item t)
 behind_one item t e = ap (λ o. followed o (λ u t. item t)) (one-passed t e)
 
@@ -89,7 +89,7 @@ pub types_start : (x : DemoType) (rest : Text) → begins begins_word (type_text
 types_start (Integer t) rest = refl
 types_start Pointer rest = refl
 
--- where no word begins, a dotted word is missing
+-- if no word begins the text, a dotted word is missing
 pub dotted_missed : {X Y : Type 0} (next : X → Text → Outcome Y) (b : Bool) (o : Outcome X) (cause : _) → b ≡ false → standing (followed (cond b o (Missing cause)) next) ≡ missing
 dotted_missed next b o cause e = rw e refl
 

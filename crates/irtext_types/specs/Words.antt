@@ -11,11 +11,11 @@ use Rattle.irtext_base.specs.Answers.{Outcome, Read, Missing, Bad}
 abbrev pub in_dotted : ℕ → Bool
 in_dotted = has Dotted
 
--- what a word was found to be; one that is nothing is refused by a text that ends in it
+-- the value of a word; an unknown word is an error with a text that ends in the word
 abbrev pub chosen : {X : Type 0} → Text → Text → Text → Option X → Outcome X
 chosen refusal found rest (Some x) = Read x found rest
 chosen refusal found rest None = Bad (OwnText (refusal ++ found)) []
 
--- a dotted word, as long as it goes, and what it is
+-- a dotted word, as long as possible, and its value
 abbrev pub dotted_at : {X : Type 0} → (Text → Option X) → Text → Demand → Text → Outcome X
 dotted_at word refusal demand text = cond (begins begins_word text) (chosen refusal (front in_dotted text) (after in_dotted text) (word (front in_dotted text))) (Missing (Unexpected (first_of text) demand))

@@ -1,4 +1,5 @@
-//! The demo attributes: integers with their type, texts, types of functions, and notes that are printed in the section behind a root.
+//! The demo attributes: integers with their type, strings, function types, and debug notes, which are printed in the section after a
+//! root.
 ghost use Rattle.std.specs.Prelude.{◌≡◌, ◌++◌, OnOk, codes, string_bytes};
 ghost use Rattle.std.specs.Str.{encode_utf8_all};
 ghost use Rattle.irtext_base.specs.Answers.{Answers, unless_failed};
@@ -36,7 +37,7 @@ pub enum DemoAttr {
     String(Characters),
     /// Printed as `builtin.function <(T, ..)->(T, ..)>`.
     Function(FunctionAttr),
-    /// Printed as `test.dbg "S"`, once, in the section behind the root.
+    /// Printed as `test.dbg "S"`, once, in the section after the root.
     Debug(Characters),
 }
 
@@ -75,7 +76,7 @@ impl DottedWord for AttrWord {
     }
 }
 
-/// Reads a quoted text.
+/// Parses a quoted string.
 fn characters_parse<A>(stream: &mut TextStream) -> ParseResult<Characters, A>
     ensures { Answers (λ s. s) (λ s v. v) (λ c. c)
         (unless_failed stream.old.failed (characters_at stream.old.rest)) stream.old result stream.new }
@@ -86,7 +87,7 @@ fn characters_parse<A>(stream: &mut TextStream) -> ParseResult<Characters, A>
     }
 }
 
-/// Reads a quoted text behind white space, where it must stand.
+/// Parses a required quoted string after optional white space.
 fn characters_behind<A>(stream: &mut TextStream) -> ParseResult<Characters, A>
     ensures { MustRead (λ s. s) (λ s v. v) (λ c. c) (space_at ▷ characters_at) stream.old result stream.new }
 {
@@ -98,7 +99,7 @@ fn characters_behind<A>(stream: &mut TextStream) -> ParseResult<Characters, A>
     committed(stream, found)
 }
 
-/// Reads what stands behind the word of an attribute.
+/// Parses the rest of an attribute, after its word.
 fn attr_parse<A: Drop>(stream: &mut TextStream, word: AttrWord) -> ParseResult<DemoAttr, A>
     ensures { MustRead (λ s. s) (λ s v. v) (λ a. a) (attr_behind word) stream.old result stream.new }
 {
@@ -110,7 +111,7 @@ fn attr_parse<A: Drop>(stream: &mut TextStream, word: AttrWord) -> ParseResult<D
     }
 }
 
-/// Appends a word and a quoted text.
+/// Appends a word and a quoted string.
 fn write_quoted(word: &str, text: &Characters, f: &mut String) -> fmt::Result
     ensures { OnOk result (string_bytes f.new ≡ string_bytes f.old ++ (word.now ++ encode_utf8_all (quoted text.now.characters))) }
 {
@@ -119,7 +120,7 @@ fn write_quoted(word: &str, text: &Characters, f: &mut String) -> fmt::Result
     Ok(())
 }
 
-/// Appends an integer with its type, behind the word for it.
+/// Appends an integer with its type, after their word.
 fn write_integer(attr: &IntegerAttr, f: &mut String) -> fmt::Result
     ensures { OnOk result (string_bytes f.new ≡ string_bytes f.old ++ (codes "builtin.integer " ++ integer_attr_text attr.now)) }
 {

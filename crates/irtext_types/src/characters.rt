@@ -1,4 +1,4 @@
-//! Texts that are seen as their characters.
+//! Strings that contracts see as their characters.
 ghost use Rattle.std.specs.Prelude.{◌≡◌, IfOk, string_bytes};
 ghost use Rattle.std.specs.Cmp.{on_equiv, on_per, partial_equiv_from_equiv};
 ghost use Rattle.std.specs.Cmp.Lexicographic.{nat_list_eq_equiv};
@@ -12,7 +12,7 @@ use std::fmt;
 use std::hash::{Hash, Hasher};
 use std::marker::Model;
 
-/// A text of its own. It equals another one where both have the same characters.
+/// An owned string. Two are equal if they have the same characters.
 #[derive(Drop)]
 pub struct Characters {
     text: String,
@@ -31,14 +31,14 @@ impl Model for Characters {
 }
 
 impl Characters {
-    /// The characters of a text, which is kept.
+    /// Makes it from a string, which is stored.
     pub fn new(text: String) -> Characters
         ensures { result.characters ≡ chars (string_bytes text) }
     {
         Characters { text }
     }
 
-    /// The text.
+    /// Returns the string.
     pub fn as_str(&self) -> &str
         ensures characters { chars result.now ≡ self.now.characters }
         ensures bytes { result.now ≡ encode_utf8_all self.now.characters }
@@ -46,7 +46,7 @@ impl Characters {
         self.text.as_str()
     }
 
-    /// A copy that equals the text. Only memory can be refused.
+    /// Returns an equal copy. Fails only if an allocation fails.
     pub fn try_clone(&self) -> Result<Characters, AllocError>
         ensures { IfOk result (λ copy. copy ≡ self.now) }
     {

@@ -17,7 +17,7 @@ use irtext_context::base::Context;
 use irtext_context::dialect::{Dialect, DialectName};
 use std::alloc::{AllocError, Global};
 
-/// The refusal for want of memory.
+/// Returns the error for an allocation that failed.
 fn out_of_memory<A>() -> Error<A>
     ensures { result ≡ record { kind = ErrorKind.InvalidArgument; err = Cause.Memory; loc = Unknown } }
 {
@@ -53,7 +53,7 @@ enum Demo {
     Global,
 }
 
-/// All of them, in the order in which they are registered.
+/// All operations of the demo dialects, in the order of their registration.
 const ALL: &[Demo] = &[
     Demo::Module,
     Demo::Function,
@@ -67,7 +67,7 @@ const ALL: &[Demo] = &[
     Demo::Global,
 ];
 
-/// The names of the operation's dialect and of the operation, and whether it is isolated from above.
+/// Returns the name of the operation's dialect, the operation's name, and whether it is isolated from above.
 fn row(demo: Demo) -> (&'static str, &'static str, bool)
     ensures dialect { result.0.now ≡ (demo_op demo).id.dialect }
     ensures name { result.1.now ≡ (demo_op demo).id.name }
@@ -88,7 +88,7 @@ fn row(demo: Demo) -> (&'static str, &'static str, bool)
     }
 }
 
-/// The id of the operation.
+/// Returns the operation's id.
 fn id(alloc: Global, demo: Demo) -> Result<OpId, AllocError>
     ensures { IfOk result (λ id. id ≡ (demo_op demo).id) }
 {
@@ -98,14 +98,14 @@ fn id(alloc: Global, demo: Demo) -> Result<OpId, AllocError>
     Ok(OpId { dialect, name })
 }
 
-/// A colon.
+/// Returns the literal `:`.
 fn colon(alloc: Global) -> Result<Directive, AllocError>
     ensures { IfOk result (λ d. directive_of d ≡ word (codes ":")) }
 {
     Ok(Directive::Literal(String::from_str(alloc, ":")?))
 }
 
-/// The format of the operation, with memory of its own.
+/// Returns the operation's format, newly allocated.
 fn op_format(alloc: Global, demo: Demo) -> Result<OpFormat, AllocError>
     ensures { IfOk result (λ f. format_of f ≡ (demo_op demo).format) }
 {
@@ -142,7 +142,7 @@ fn op_format(alloc: Global, demo: Demo) -> Result<OpFormat, AllocError>
     Ok(OpFormat::Custom(directives))
 }
 
-/// Registers the operation with its dialect. Where it is refused the dialect may stay, without the operation.
+/// Registers the operation with its dialect. On an error the dialect may stay registered, without the operation.
 fn add<T: IrText<A>, A: AttrText>(ctx: &mut Context<T, A>, demo: Demo) -> Answer<(), A>
     ensures ok { OnOk result (ctx.new.dialects ≡ with_demo ctx.old.dialects (demo_op demo)) }
     ensures rest { ctx.new ≡ record ctx.old { dialects = ctx.new.dialects } }
@@ -161,7 +161,7 @@ fn add<T: IrText<A>, A: AttrText>(ctx: &mut Context<T, A>, demo: Demo) -> Answer
     dialect.add_op(id, format, isolated)
 }
 
-/// Registers operations one after the other, up to one that is refused; those before it stay registered then.
+/// Registers operations one after the other, up to the first that fails. Those before it stay registered.
 fn add_all<T: IrText<A>, A: AttrText>(ctx: &mut Context<T, A>, demos: &[Demo]) -> Answer<(), A>
     ensures ok { OnOk result (ctx.new.dialects ≡ with_all ctx.old.dialects (map demo_op demos.now)) }
     ensures rest { ctx.new ≡ record ctx.old { dialects = ctx.new.dialects } }
@@ -174,11 +174,13 @@ fn add_all<T: IrText<A>, A: AttrText>(ctx: &mut Context<T, A>, demos: &[Demo]) -
     Ok(())
 }
 
-/// Registers the operations of the demo dialects with their formats, `builtin.module`, `builtin.func`, `test.constant`, `test.return`,
-/// `test.use`, `test.make`, `test.br`, `test.scope`, `test.nop` and `test.global`, and the dialects where they aren't there. What was
-/// registered under one of these ids before is replaced. An error, of kind invalid argument without a location, says that memory was
-/// refused, or by `WrongDialect` that the context has a dialect of another name under one of these names; those before it stay
-/// registered then, and all else in the context is as it was.
+/// Registers the operations of the demo dialects with their formats: `builtin.module`, `builtin.func`, `test.constant`, `test.return`,
+/// `test.use`, `test.make`, `test.br`, `test.scope`, `test.nop` and `test.global`. Registers the two dialects if they are not registered
+/// yet. Replaces what was registered under one of these ids before.
+///
+/// Fails with `Memory` if an allocation fails, or with `WrongDialect` if the context has a dialect with another name under the name
+/// `builtin` or `test`. The error is of kind invalid argument and has no location. Operations before the one that fails stay registered;
+/// everything in the context but its dialects is unchanged.
 pub fn register_demo<T: IrText<A>, A: AttrText>(ctx: &mut Context<T, A>) -> Answer<(), A>
     ensures ok { OnOk result (ctx.new.dialects ≡ with_all ctx.old.dialects demo_operations) }
     ensures rest { ctx.new ≡ record ctx.old { dialects = ctx.new.dialects } }

@@ -1,4 +1,4 @@
-//! The integer types, and how their text is read: a sign, and a width in decimal digits.
+//! The integer types and their parser: a sign, and a width in decimal digits.
 ghost use Rattle.std.specs.Prelude.{◌≡◌, Some};
 ghost use Rattle.irtext_base.specs.Answers.{Answers, unless_failed};
 ghost use Rattle.irtext_read.specs.MustRead.{MustRead};
@@ -12,7 +12,7 @@ use irtext_read::irfmt::parsers::digits::{Radix, out_of_range, take_digits};
 use irtext_read::irfmt::parsers::{Class, text_parse};
 use std::fmt;
 
-/// Whether the integers of a type have a sign, or whether each use decides.
+/// Whether the integers of a type are signed, unsigned, or interpreted by each use.
 #[derive(Clone, Copy, PartialEq, Eq, Hash, Debug)]
 pub enum Signedness {
     /// Printed as `si`.
@@ -23,7 +23,7 @@ pub enum Signedness {
     Signless,
 }
 
-/// An integer type, printed as its sign and its width, with nothing between.
+/// An integer type such as `si32`. It is printed as its sign and its width, without a space between them.
 #[derive(Clone, Copy, PartialEq, Eq, Hash, Debug)]
 pub struct IntegerType {
     pub kind: Signedness,
@@ -52,7 +52,7 @@ impl fmt::Display for IntegerType {
     }
 }
 
-/// Reads `si`, `ui` or `i`.
+/// Parses `si`, `ui` or `i`.
 fn signedness_parse<A>(stream: &mut TextStream) -> ParseResult<Signedness, A>
     ensures { Answers (λ s. s) (λ s v. v) (λ k. k)
         (unless_failed stream.old.failed (signedness_at stream.old.rest)) stream.old result stream.new }
@@ -75,7 +75,7 @@ fn signedness_parse<A>(stream: &mut TextStream) -> ParseResult<Signedness, A>
     Err(unexpected(stream, Expected::Type))
 }
 
-/// Reads a width in decimal digits, as far as they go. One that is none is refused at its first digit.
+/// Parses a width: as many decimal digits as come next. Fails with `NumberRange` at its first digit if it is not from 1 to 65,535.
 fn width_parse<A>(stream: &mut TextStream) -> ParseResult<Width, A>
     ensures { Answers (λ s. s) (λ s v. v) (λ w. w)
         (unless_failed stream.old.failed (width_at stream.old.rest)) stream.old result stream.new }
@@ -94,14 +94,16 @@ fn width_parse<A>(stream: &mut TextStream) -> ParseResult<Width, A>
     }
 }
 
-/// The width of a number that fits 64 bits or doesn't, where that is one.
+/// Returns the width with this number of bits, if it is from 1 to 65,535. `None` is a number that does not fit 64 bits.
 fn width_if(number: Option<u64>) -> Option<Width>
     ensures { result ≡ width_if number }
 {
     Width::new(number? as usize)
 }
 
-/// Reads an integer type: `si`, `ui` or `i`, and a width in decimal digits, with nothing between.
+/// Parses an integer type, such as `si32`: `si`, `ui` or `i`, and a width in decimal digits, without white space between them. Fails with
+/// `Unexpected`, uncommitted, if the next character begins no sign. Every other error is committed: `Unexpected` if `s` or `u` is not
+/// followed by `i` or the sign by a digit, and `NumberRange` at the first digit if the width is not from 1 to 65,535.
 pub fn integer_type_parse<A>(stream: &mut TextStream) -> ParseResult<IntegerType, A>
     ensures { Answers (λ s. s) (λ s v. v) (λ t. t)
         (unless_failed stream.old.failed (integer_type_at stream.old.rest)) stream.old result stream.new }
@@ -112,7 +114,7 @@ pub fn integer_type_parse<A>(stream: &mut TextStream) -> ParseResult<IntegerType
     Ok(IntegerType { kind, width })
 }
 
-/// Reads an integer type as `integer_type_parse` does, with its faults committed.
+/// Parses an integer type as `integer_type_parse` does, but every error is committed.
 pub fn integer_type_demanded<A>(stream: &mut TextStream) -> ParseResult<IntegerType, A>
     ensures { MustRead (λ s. s) (λ s v. v) (λ t. t) integer_type_at stream.old result stream.new }
 {

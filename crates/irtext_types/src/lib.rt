@@ -1,5 +1,5 @@
-//! The types and attributes of the demo dialects `builtin` and `test`, each with its text, and the
-//! operations of these dialects, each with its format.
+//! The types and attributes of the demo dialects `builtin` and `test`, with their parsers and printers, and the operations of these
+//! dialects, with their formats.
 #![tactic(auto)]
 
 pub mod attributes;

@@ -13,7 +13,7 @@ use std::fmt;
 use std::hash::{Hash, Hasher};
 use std::marker::Model;
 
-/// Demo types, one behind the other.
+/// A list of demo types.
 #[derive(Drop)]
 pub struct TypeList {
     types: Vec<DemoType>,
@@ -29,21 +29,21 @@ impl Model for TypeList {
 }
 
 impl TypeList {
-    /// The list of these types.
+    /// Makes a list of these types.
     pub fn new(types: Vec<DemoType>) -> TypeList
         ensures { result ≡ types.items }
     {
         TypeList { types }
     }
 
-    /// The types.
+    /// Returns the types.
     pub fn as_slice(&self) -> &[DemoType]
         ensures { result.now ≡ self.now }
     {
         self.types.as_slice()
     }
 
-    /// A copy that equals the list. Only memory can be refused.
+    /// Returns an equal copy. Fails only if an allocation fails.
     pub fn try_clone(&self) -> Result<TypeList, AllocError>
         ensures { IfOk result (λ copy. copy ≡ self.now) }
     {

@@ -1,4 +1,4 @@
-//! How lists of demo types are read and written: in parentheses, with commas between.
+//! The parser and the printer of lists of demo types: in parentheses, separated by commas.
 ghost use Rattle.std.specs.Prelude.{◌≡◌, ◌++◌, OnOk, string_bytes};
 ghost use Rattle.irtext_read.specs.ListOutcomes.{separated_at};
 ghost use Rattle.irtext_read.specs.MustRead.{MayRead, MustRead};
@@ -13,21 +13,22 @@ use irtext_read::irfmt::demanded::text_demanded;
 use irtext_read::irfmt::parsers::{list_parser, skip_white_space};
 use std::fmt;
 
-/// Reads a type.
+/// Parses a type.
 fn type_parse<A>(stream: &mut TextStream) -> ParseResult<DemoType, A>
     ensures { MayRead (λ s. s) (λ s v. v) (λ t. t) type_at stream.old result stream.new }
 {
     <DemoType as IrText<A>>::read(stream)
 }
 
-/// Reads no type, or types with commas between.
+/// Parses types separated by commas, or none.
 fn items_parse<A: Drop>(stream: &mut TextStream) -> ParseResult<Vec<DemoType>, A>
     ensures { MayRead (λ s. s) (λ s v. v) (λ types. types.items) (separated_at 44 type_at) stream.old result stream.new }
 {
     list_parser(stream, ',', |s: &mut TextStream| type_parse(s))
 }
 
-/// Reads types in parentheses, with commas between and white space round each.
+/// Parses a required list of types, such as `(builtin.integer si32, test.ptr )`: in parentheses, separated by commas, with optional white
+/// space before and after each type. Every error is committed.
 pub fn types_parse<A: Drop>(stream: &mut TextStream) -> ParseResult<TypeList, A>
     ensures { MustRead (λ s. s) (λ s v. v) (λ t. t) types_at stream.old result stream.new }
 {
@@ -38,7 +39,7 @@ pub fn types_parse<A: Drop>(stream: &mut TextStream) -> ParseResult<TypeList, A>
     Ok(TypeList::new(types))
 }
 
-/// Appends each type behind a comma.
+/// Appends `, ` and the type, for each type.
 fn write_tail(types: &[DemoType], f: &mut String) -> fmt::Result
     ensures { OnOk result (string_bytes f.new ≡ string_bytes f.old ++ tail_text types.now) }
 {
@@ -48,7 +49,7 @@ fn write_tail(types: &[DemoType], f: &mut String) -> fmt::Result
     Ok(())
 }
 
-/// Appends types with commas between.
+/// Appends the types, separated by `, `.
 fn write_joined(types: &[DemoType], f: &mut String) -> fmt::Result
     ensures { OnOk result (string_bytes f.new ≡ string_bytes f.old ++ joined_text types.now) }
 {
@@ -59,7 +60,7 @@ fn write_joined(types: &[DemoType], f: &mut String) -> fmt::Result
     Ok(())
 }
 
-/// Appends types in parentheses, with commas between.
+/// Appends the types in parentheses, separated by `, `. Fails only if an allocation fails.
 pub fn write_types(types: &TypeList, f: &mut String) -> fmt::Result
     ensures { OnOk result (string_bytes f.new ≡ string_bytes f.old ++ types_text types.now) }
 {

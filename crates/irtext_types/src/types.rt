@@ -14,9 +14,9 @@ use std::fmt;
 /// A demo type.
 #[derive(Clone, Copy, PartialEq, Eq, Hash, Debug)]
 pub enum DemoType {
-    /// Printed as `builtin.integer W`, where W is the type's own text.
+    /// Printed as `builtin.integer W`, where W is the text of the integer type, such as `si32`.
     Integer(IntegerType),
-    /// Printed as `test.ptr ` with one space at its end; the word alone is read.
+    /// Printed as `test.ptr ` with one space at its end. The parser consumes the word only.
     Pointer,
 }
 
@@ -59,7 +59,7 @@ impl fmt::Display for DemoType {
     }
 }
 
-/// Reads what stands behind the word of a type.
+/// Parses the rest of a type, after its word.
 fn type_parse<A>(stream: &mut TextStream, word: TypeWord) -> ParseResult<DemoType, A>
     ensures { MustRead (λ s. s) (λ s v. v) (λ t. t) (type_behind word) stream.old result stream.new }
 {

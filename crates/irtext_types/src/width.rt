@@ -2,7 +2,7 @@
 ghost use Rattle.std.specs.Prelude.{◌≡◌, true};
 ghost use Rattle.irtext_types.specs.Widths.{is_width};
 
-/// How many bits an integer type has: from 1 to 65,535.
+/// The number of bits of an integer type: from 1 to 65,535.
 #[derive(Clone, Copy, PartialEq, Eq, Hash, Debug)]
 pub struct Width {
     bits: u16,
@@ -12,7 +12,7 @@ pub struct Width {
 impl Width {
     ghost use Rattle.irtext_types.specs.WidthOf.{width_of};
 
-    /// The width of so many bits, where that is one.
+    /// Returns the width with this number of bits, or `None` if it is not from 1 to 65,535.
     pub fn new(bits: usize) -> Option<Width>
         ensures { result ≡ width_of bits }
     {
@@ -22,7 +22,7 @@ impl Width {
         Some(Width { bits: bits as u16 })
     }
 
-    /// How many bits it is.
+    /// Returns the number of bits.
     pub fn bits(self) -> u16
         ensures { result ≡ self.bits }
     {

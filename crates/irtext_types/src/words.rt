@@ -1,4 +1,4 @@
-//! The dotted words that types and attributes begin with.
+//! The dotted words that types and attributes begin with, such as `builtin.integer`.
 ghost use Rattle.std.specs.Prelude.{◌≡◌, ◌⊎◌, ◌++◌, ℕ, List, Option};
 ghost use Rattle.std.specs.Str.{encode_utf8_all};
 ghost use Rattle.irtext_base.specs.Answers.{Answers, StarvesHere, FailsBehind, unless_failed};
@@ -11,18 +11,19 @@ use irtext_base::result::{Cause, Expected};
 use irtext_read::irfmt::faults::{begins, out_of_memory, refuse, refuse_at, unexpected};
 use irtext_read::irfmt::parsers::{Class, skip_class};
 
-/// The words that texts of one kind begin with.
+/// The words that values of one kind begin with.
 pub trait DottedWord: Copy {
-    // the word that a text is
+    // the word that a text is, if it is one
     ghost word: { List ℕ → Option Self };
 
-    /// The word that the text is, if it is one.
+    /// Returns the word that the text is, or `None` if it is not one.
     fn of(text: &str) -> Option<Self>
         ensures { result ≡ word text.now };
 }
 
-/// The fault of a word since a place, which is none, at that place: what it is not, and the word. Where there is no memory for this
-/// text, that is the fault, where the stream stands. It leaves the stream failed.
+/// Returns the error `OwnText` for an unknown word that begins at an earlier position. The error is at that position, and its text is
+/// `refusal` and then the word. If the text cannot be allocated, returns `Memory` at the current position. The error is committed, and
+/// the stream is marked as failed.
 #[cold]
 #[inline(never)]
 fn unregistered<A>(stream: &mut TextStream, place: Place, refusal: &str) -> ParseFault<A>
@@ -39,7 +40,8 @@ fn unregistered<A>(stream: &mut TextStream, place: Place, refusal: &str) -> Pars
     }
 }
 
-/// Reads a dotted word, as long as it goes. One that is none of the words is refused at its beginning.
+/// Parses the longest dotted word that comes next. Fails with `Unexpected`, uncommitted, if there is none, and with `OwnText`, committed,
+/// at the beginning of the word if it is unknown.
 pub fn dotted_parse<W: DottedWord, A>(
     stream: &mut TextStream,
     refusal: &str,

@@ -1,4 +1,4 @@
-//! Blocks: what a context holds of one, and how it is read and written.
+//! Blocks: the data that a context keeps of a block, and the calls that read and change it.
 ghost use Rattle.std.specs.Prelude.{◌≡◌, ◌≤◌, ℕ, List, [], Some, None, false, IsSome, IfErr, OnOk, OnErr, option_map, option_copied};
 ghost use Rattle.std.specs.Borrow.{sem};
 ghost use Rattle.irtext_base.specs.Text.{Text};
@@ -17,7 +17,7 @@ use irtext_dict::base::AttributeDict;
 pub use make::NewBlock;
 use std::alloc::Global;
 
-/// A block's label, where it has one, its attributes and where it comes from.
+/// A block's label, if it has one, its attributes and its location.
 #[derive(Drop)]
 pub struct BlockData<A> {
     pub(crate) label: Option<Identifier>,
@@ -28,7 +28,7 @@ pub struct BlockData<A> {
 impl<A: Drop> BlockData<A> {
     ghost use Rattle.irtext_base.specs.declared.location.Location.{Unknown};
 
-    /// Neither a label nor attributes nor a location. It takes no memory.
+    /// Data without a label and attributes; the location is `Unknown`. It allocates nothing.
     pub fn blank(alloc: Global) -> BlockData<A>
         ensures { result ≡ record { label = None; attributes = []; loc = Unknown } }
     {
@@ -40,7 +40,7 @@ impl<A: Drop> BlockData<A> {
     }
 }
 
-/// What the context holds of a block.
+/// The data of a block.
 fn held<T: IrText<A>, A: AttrText>(ctx: &Context<T, A>, p: Ptr<BasicBlock>) -> &BlockData<A>
     requires { IsSome (block ctx.now p) }
     ensures { option_map (λ c. c.data_of) (block_at ctx.now.graph p) ≡ Some result.now }
@@ -52,7 +52,8 @@ impl<T: IrText<A>, A: AttrText> Context<T, A> {
     ghost use Rattle.irtext_base.specs.declared.base.attributes.AttrObj.{AttrObj};
     ghost use Rattle.irtext_context.specs.AttributeLends.{LendsBlockAttributes};
 
-    /// The attributes of a block, for writing. Whatever is written, all else of the context stays as it is. It takes no memory.
+    /// Borrows the attributes of a block as `&mut`. Changes through the reference leave everything else in the context unchanged. It
+    /// allocates nothing.
     pub fn block_attributes_mut(&mut self, p: Ptr<BasicBlock>) -> &mut AttributeDict<A>
         requires { IsSome (block self.old p) }
         ensures* lends { sem 𝓛 (LendsBlockAttributes T.row A.row self.entry p result) }
@@ -66,7 +67,7 @@ impl<T: IrText<A>, A: AttrText> Context<T, A> {
     }
 }
 
-/// How a block of a context is read and written, by its pointer. None of these calls but `set_attribute` takes memory.
+/// Reads and changes a block through its pointer. Only `set_attribute` allocates.
 pub trait BlockAccess: Sized {
     ghost use Rattle.irtext_graph.specs.declared.arena.Ptr.{Ptr};
     ghost use Rattle.irtext_graph.specs.declared.object.BasicBlock.{BasicBlock};
@@ -74,12 +75,12 @@ pub trait BlockAccess: Sized {
     // the pointer
     ghost pointer: { Self → Ptr BasicBlock };
 
-    /// The block's label, where it has one.
+    /// Returns the block's label, if it has one.
     fn label<'c, T: IrText<A>, A: AttrText>(self, ctx: &'c Context<T, A>) -> Option<&'c Identifier>
         requires { IsSome (block ctx.now (pointer self)) }
         ensures { option_map (λ b. b.label) (block ctx.now (pointer self)) ≡ Some (option_copied result) };
 
-    /// The block's attributes.
+    /// Returns the block's attributes.
     fn attributes<'c, T: IrText<A>, A: AttrText>(
         self,
         ctx: &'c Context<T, A>,
@@ -87,12 +88,12 @@ pub trait BlockAccess: Sized {
         requires { IsSome (block ctx.now (pointer self)) }
         ensures { option_map (λ b. b.attributes) (block ctx.now (pointer self)) ≡ Some result.now };
 
-    /// Where the block comes from.
+    /// Returns the block's location.
     fn loc<'c, T: IrText<A>, A: AttrText>(self, ctx: &'c Context<T, A>) -> &'c Location<A>
         requires { IsSome (block ctx.now (pointer self)) }
         ensures { option_map (λ b. b.loc) (block ctx.now (pointer self)) ≡ Some result.now };
 
-    /// Gives the block this label, or takes its label away, and changes nothing else.
+    /// Sets the block's label, or removes it for `None`. Nothing else changes.
     fn set_label<T: IrText<A>, A: AttrText>(
         self,
         ctx: &mut Context<T, A>,
@@ -102,14 +103,14 @@ pub trait BlockAccess: Sized {
         ensures edits { EditsBlock ctx.old ctx.new (pointer self) (with_label label) }
         ensures kept { (mark : ℕ) → before mark ctx.old.graph.blocks (pointer self) ≡ None → KeepsOlder mark ctx.old ctx.new };
 
-    /// Sets where the block comes from, and changes nothing else.
+    /// Sets the block's location. Nothing else changes.
     fn set_loc<T: IrText<A>, A: AttrText>(self, ctx: &mut Context<T, A>, loc: Location<A>)
         requires { IsSome (block ctx.old (pointer self)) }
         ensures edits { EditsBlock ctx.old ctx.new (pointer self) (with_block_loc loc) }
         ensures kept { (mark : ℕ) → before mark ctx.old.graph.blocks (pointer self) ≡ None → KeepsOlder mark ctx.old ctx.new };
 
-    /// Puts an attribute under a key of the block, as `OperationAccess::set_attribute` does for an operation: a refusal is the same
-    /// and changes nothing.
+    /// Sets an attribute of the block, as `OperationAccess::set_attribute` does for an operation, with the same errors. On an error the
+    /// context is unchanged.
     fn set_attribute<T: IrText<A>, A: AttrText>(
         self,
         ctx: &mut Context<T, A>,

@@ -1,4 +1,4 @@
-//! The context: the graph of all operations, blocks and regions, the paths of files, and the dialects.
+//! The context: the graph of all operations, blocks and regions, the paths of source files, and the registered dialects.
 ghost use Rattle.std.specs.Prelude.{◌≡◌, ◌≤◌, ◌↔◌, [], IsSome, IsTrue, refl};
 ghost use Rattle.irtext_graph.specs.Graph.{empty, begun, num_live, Stands};
 ghost use Rattle.irtext_graph.specs.declared.object.Object.TheVariants.{TheOperation, TheBlock, TheRegion};
@@ -20,9 +20,10 @@ use irtext_graph::object::Object;
 use std::alloc::Global;
 use std::marker::Model;
 
-/// All operations, blocks and regions, under pointers, the paths of files, and the dialects, under their names.
+/// All operations, blocks and regions by their pointers, the paths of source files, and the dialects by their names.
 ///
-/// A placeholder, which stands for an operation or a value that is named before it is defined, has no data; no text names it.
+/// A placeholder is an operation without data. It represents an operation or a value that is referred to before it is defined; no text
+/// refers to the placeholder itself.
 #[derive(Drop)]
 pub struct Context<T, A> {
     pub(crate) graph: Graph<Option<OperationData<A>>, BlockData<A>, Option<T>>,
@@ -71,15 +72,16 @@ impl<T: Drop, A: Drop> HasGraph for Context<T, A> {
 }
 
 impl<T: IrText<A>, A: AttrText> Context<T, A> {
-    /// A context without objects and dialects. It takes no memory yet.
+    /// Makes a context without objects and dialects. It allocates nothing.
     pub fn new(alloc: Global) -> Context<T, A>
         ensures { result ≡ record { graph = empty; paths = []; dialects = [] } }
     {
         Context::with_counters(alloc, 0, 1)
     }
 
-    /// A context without objects and dialects whose next value has the number `values`, and whose places count from `places`, so
-    /// that the ends of its counters are near: the greatest place is below the greatest `u32`. It takes no memory yet.
+    /// Makes a context without objects and dialects. Its next value gets the number `values`, and the numbers of its slots start at
+    /// `places`. Large numbers put these counters near their limits: a slot's number is always less than `u32::MAX`. It allocates
+    /// nothing.
     pub fn with_counters(alloc: Global, values: u64, places: u32) -> Context<T, A>
         requires { 1 ≤ places }
         ensures { result ≡ record { graph = begun values places; paths = []; dialects = [] } }
@@ -92,19 +94,19 @@ impl<T: IrText<A>, A: AttrText> Context<T, A> {
         }
     }
 
-    /// Where the context's objects are allocated.
+    /// The allocator of the context's objects.
     pub fn allocator(&self) -> Global {
         self.alloc
     }
 
-    /// How many operations, blocks and regions stand.
+    /// The number of live operations, blocks and regions. Placeholders count.
     pub fn num_live(&self) -> u64
         ensures { result ≡ num_live self.now.graph }
     {
         self.graph.num_live()
     }
 
-    /// Whether an operation stands under a pointer, and is no placeholder.
+    /// Whether a pointer refers to a live operation that is no placeholder.
     pub fn contains_operation(&self, p: Ptr<Operation>) -> bool
         ensures stands { IsTrue result ↔ IsSome (operation self.now p) }
         ensures graph { IsTrue result → Stands self.now.graph (TheOperation p) }
@@ -112,7 +114,7 @@ impl<T: IrText<A>, A: AttrText> Context<T, A> {
         self.graph.contains(Object::TheOperation(p)) && self.graph.operation(p).is_some()
     }
 
-    /// Whether a block stands under a pointer.
+    /// Whether a pointer refers to a live block.
     pub fn contains_block(&self, p: Ptr<BasicBlock>) -> bool
         ensures stands { IsTrue result ↔ IsSome (block self.now p) }
         ensures graph { IsTrue result → Stands self.now.graph (TheBlock p) }
@@ -120,7 +122,7 @@ impl<T: IrText<A>, A: AttrText> Context<T, A> {
         self.graph.contains(Object::TheBlock(p))
     }
 
-    /// Whether a region stands under a pointer.
+    /// Whether a pointer refers to a live region.
     pub fn contains_region(&self, p: Ptr<Region>) -> bool
         ensures stands { IsTrue result ↔ IsSome (region self.now p) }
         ensures graph { IsTrue result → Stands self.now.graph (TheRegion p) }

@@ -1,9 +1,9 @@
-//! What may carry a mark.
+//! Items: an item is an operation or a block that carries a mark, or may carry one.
 
 use irtext_graph::arena::Ptr;
 use irtext_graph::object::{BasicBlock, Operation};
 
-/// What may carry a mark: an operation or a block.
+/// An operation or a block, which may carry a mark.
 #[derive(Clone, Copy, PartialEq, Eq, Debug)]
 pub enum Item {
     Operation(Ptr<Operation>),

@@ -1,4 +1,4 @@
-//! Operations: what a context holds of one, and how it is read and written.
+//! Operations: the data that a context keeps of an operation, and the calls that read and change it.
 ghost use Rattle.std.specs.Prelude.{◌≡◌, ◌≤◌, ℕ, List, Some, None, false, IsSome, IfOk, IfErr, OnOk, OnErr, option_map, option_and_then};
 ghost use Rattle.std.specs.Borrow.{sem};
 ghost use Rattle.irtext_base.specs.Text.{Text};
@@ -21,7 +21,7 @@ use irtext_dict::base::AttributeDict;
 pub use make::{NewOperation, add_regions};
 use std::alloc::AllocError;
 
-/// What a context holds of an operation, beside its operands, successors, results and regions.
+/// An operation's id, attributes and location. Its operands, successors, results and regions are kept by the graph.
 #[derive(Drop)]
 pub struct OperationData<A> {
     pub(crate) id: OpId,
@@ -29,7 +29,7 @@ pub struct OperationData<A> {
     pub(crate) loc: Location<A>,
 }
 
-/// What the context holds of an operation that is no placeholder.
+/// The data of an operation that is no placeholder.
 fn held<'c, T: IrText<A>, A: AttrText>(
     ctx: &'c Context<T, A>,
     op: Ptr<Operation>,
@@ -43,7 +43,7 @@ fn held<'c, T: IrText<A>, A: AttrText>(
     }
 }
 
-/// The attributes of an operation that is no placeholder, for writing.
+/// Borrows the attributes of an operation that is no placeholder as `&mut`.
 fn attributes_of<A: Drop>(held: &mut Option<OperationData<A>>) -> &mut AttributeDict<A>
     requires { IsSome held.old }
     ensures* lends { sem 𝓛 (LendsHeld A.row held.entry result) }
@@ -59,7 +59,8 @@ impl<T: IrText<A>, A: AttrText> Context<T, A> {
     ghost use Rattle.irtext_base.specs.declared.base.attributes.AttrObj.{AttrObj};
     ghost use Rattle.irtext_context.specs.AttributeLends.{LendsAttributes};
 
-    /// The attributes of an operation, for writing. Whatever is written, all else of the context stays as it is. It takes no memory.
+    /// Borrows the attributes of an operation as `&mut`. Changes through the reference leave everything else in the context unchanged. It
+    /// allocates nothing.
     pub fn operation_attributes_mut(&mut self, p: Ptr<Operation>) -> &mut AttributeDict<A>
         requires { IsSome (operation self.old p) }
         ensures* lends { sem 𝓛 (LendsAttributes T.row A.row self.entry p result) }
@@ -73,7 +74,7 @@ impl<T: IrText<A>, A: AttrText> Context<T, A> {
     }
 }
 
-/// How an operation of a context is read and written, by its pointer.
+/// Reads and changes an operation through its pointer.
 pub trait OperationAccess: Sized {
     ghost use Rattle.irtext_graph.specs.declared.arena.Ptr.{Ptr};
     ghost use Rattle.irtext_graph.specs.declared.object.Operation.{Operation};
@@ -81,12 +82,12 @@ pub trait OperationAccess: Sized {
     // the pointer
     ghost pointer: { Self → Ptr Operation };
 
-    /// The operation's id.
+    /// Returns the operation's id.
     fn get_opid<'c, T: IrText<A>, A: AttrText>(self, ctx: &'c Context<T, A>) -> &'c OpId
         requires { IsSome (operation ctx.now (pointer self)) }
         ensures { option_map (λ op. op.id) (operation ctx.now (pointer self)) ≡ Some result.now };
 
-    /// The operation's attributes.
+    /// Returns the operation's attributes.
     fn attributes<'c, T: IrText<A>, A: AttrText>(
         self,
         ctx: &'c Context<T, A>,
@@ -94,19 +95,20 @@ pub trait OperationAccess: Sized {
         requires { IsSome (operation ctx.now (pointer self)) }
         ensures { option_map (λ op. op.attributes) (operation ctx.now (pointer self)) ≡ Some result.now };
 
-    /// Where the operation comes from.
+    /// Returns the operation's location.
     fn loc<'c, T: IrText<A>, A: AttrText>(self, ctx: &'c Context<T, A>) -> &'c Location<A>
         requires { IsSome (operation ctx.now (pointer self)) }
         ensures { option_map (λ op. op.loc) (operation ctx.now (pointer self)) ≡ Some result.now };
 
-    /// Sets where the operation comes from.
+    /// Sets the operation's location. Nothing else changes.
     fn set_loc<T: IrText<A>, A: AttrText>(self, ctx: &mut Context<T, A>, loc: Location<A>)
         requires { IsSome (operation ctx.old (pointer self)) }
         ensures edits { EditsOperation ctx.old ctx.new (pointer self) (with_loc loc) }
         ensures kept { (mark : ℕ) → before mark ctx.old.graph.operations (pointer self) ≡ None → KeepsOlder mark ctx.old ctx.new };
 
-    /// Puts an attribute under a key of the operation, as `AttributeDict::insert` does, and changes nothing else. A refusal changes
-    /// nothing: by `ReservedKey` with the key where it is `builtin_given_names` and the attribute isn't `GivenNames`, else for memory.
+    /// Sets the attribute under a key of the operation, as `AttributeDict::insert` does. Nothing else changes. Fails with `ReservedKey`
+    /// and the key if the key is `builtin_given_names` and the attribute is not `GivenNames`, and with `Memory` if an allocation fails.
+    /// On an error the context is unchanged.
     fn set_attribute<T: IrText<A>, A: AttrText>(
         self,
         ctx: &mut Context<T, A>,
@@ -120,8 +122,8 @@ pub trait OperationAccess: Sized {
         ensures refused { IfErr result (RefusesEntry key attr) }
         ensures kept { (mark : ℕ) → before mark ctx.old.graph.operations (pointer self) ≡ None → KeepsOlder mark ctx.old ctx.new };
 
-    /// Adds an empty region to the operation, behind those that it has, and changes nothing else. Where memory is refused, or a
-    /// counter is full, nothing changes.
+    /// Adds an empty region to the operation, after its other regions. Nothing else changes. Fails if an allocation fails or a counter is
+    /// at its limit; then the context is unchanged.
     fn add_region<T: IrText<A>, A: AttrText>(
         self,
         ctx: &mut Context<T, A>,

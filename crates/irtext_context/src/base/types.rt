@@ -1,11 +1,11 @@
-//! The types of values, as the graph holds them: that of a placeholder isn't known.
+//! The types of values as the graph stores them, as `Option`: `None` is the type of a placeholder, which is not known.
 ghost use Rattle.std.specs.Prelude.{◌≡◌, IfOk};
 ghost use Rattle.irtext_context.specs.Context.{known};
 
 use irtext_few::{Few, Items};
 use std::alloc::{AllocError, Global};
 
-/// These types, each of them known, in a vector.
+/// Wraps each type of a vector in `Some`.
 fn many_known_types<T: Drop>(alloc: Global, types: Vec<T>) -> Result<Vec<Option<T>>, AllocError>
     ensures { IfOk result (λ all. all.items ≡ known types.items) }
 {
@@ -16,7 +16,7 @@ fn many_known_types<T: Drop>(alloc: Global, types: Vec<T>) -> Result<Vec<Option<
     Ok(all)
 }
 
-/// These types of values, each of them known. It takes no memory for up to two.
+/// Wraps each type in `Some`. It allocates nothing for up to two types.
 pub(crate) fn known_types<T: Drop>(
     alloc: Global,
     types: Few<T>,

@@ -1,4 +1,4 @@
-//! The key under which a symbol's name is kept, made once for each operation that has one.
+//! The attribute key of a symbol's name. It is made once for each registered operation that has a symbol's name.
 ghost use Rattle.std.specs.Prelude.{◌≡◌, IfSome};
 ghost use Rattle.irtext_base.specs.Format.{sym_name_key};
 
@@ -44,7 +44,7 @@ fn has_header(format: &OpFormat) -> bool {
     }
 }
 
-/// The key, where the format has a symbol's name.
+/// Returns the key if the format has a symbol's name.
 pub(crate) fn key_for(alloc: Global, format: &OpFormat) -> Result<Option<SymNameKey>, AllocError> {
     if !has_header(format) {
         return Ok(None);
@@ -54,7 +54,7 @@ pub(crate) fn key_for(alloc: Global, format: &OpFormat) -> Result<Option<SymName
 }
 
 impl OpInfo {
-    /// The key `builtin_sym_name`, which is kept where the format has a symbol's name.
+    /// Returns the key `builtin_sym_name` if the operation's format has a symbol's name.
     pub fn sym_name_key(&self) -> Option<&Identifier>
         ensures { IfSome result (λ key. key.now ≡ sym_name_key) }
     {

@@ -1,4 +1,4 @@
-//! Dialects and operations found by the texts of their names.
+//! Looking up dialects and operations by the texts of their names.
 ghost use Rattle.std.specs.Prelude.{◌≡◌, IfSome, option_map};
 ghost use Rattle.std.specs.Cmp.Lexicographic.{bytes_decides, nat_list_eq_equiv};
 ghost use Rattle.std.specs.Hash as fed;
@@ -49,7 +49,8 @@ impl Equivalent<DialectName> for &str {
 }
 
 impl Dialect {
-    /// What the dialect knows of the operation whose id has these texts, and that id, if it was registered. It takes no memory.
+    /// Returns the id with these texts and what the dialect records of its operation, or `None` if it is not registered. It allocates
+    /// nothing.
     pub fn op_named(&self, dialect: &str, name: &str) -> Option<(&OpId, &OpInfo)>
         ensures found { option_map (λ e. known_of e.1.now) result ≡ lookup (same_id (id_of_texts dialect.now name.now)) self.now.entries }
         ensures id { IfSome result (λ e. e.0.now ≡ id_of_texts dialect.now name.now) }
@@ -60,7 +61,8 @@ impl Dialect {
 }
 
 impl<T: IrText<A>, A: AttrText> Context<T, A> {
-    /// The dialect of a name that is given as a text, and its name as the context has it, if it is registered. It takes no memory.
+    /// Returns the dialect with this name, and its name as the context stores it, or `None` if it is not registered. It allocates
+    /// nothing.
     pub fn dialect_named(&self, name: &str) -> Option<(&DialectName, &Dialect)>
         ensures found { option_map (λ e. e.1.now) result ≡ dialect_of self.now.dialects name.now }
         ensures name { IfSome result (λ e. e.0.now ≡ name.now) }

@@ -1,4 +1,4 @@
-//! The dialects of a context: how one is registered, and what is known of an operation.
+//! The dialects of a context: registering a dialect, and looking up operations.
 ghost use Rattle.std.specs.Prelude.{◌≡◌, ◌<◌, ◌∷◌, ◌++◌, [], Some, None, IsSome, IfOk, IfErr, IfSome, OnOk, OnErr};
 ghost use Rattle.std.specs.Prelude.{length, slice_get, is_some, option_copied, option_map};
 ghost use Rattle.std.specs.Borrow.{sem};
@@ -20,7 +20,7 @@ use irtext_base::result::{Cause, ErrorKind};
 use irtext_base::text::{AttrText, IrText};
 use std::alloc::{AllocError, Global};
 
-/// A dialect without operations, under its name, which keeps a hint of this index in the table.
+/// Makes a dialect without operations, and its key, a name that carries this index as a hint for lookups.
 fn empty(
     alloc: Global,
     name: &DialectName,
@@ -34,7 +34,7 @@ fn empty(
     Ok((DialectName { name: key }, dialect))
 }
 
-/// Puts a dialect last. Where memory is refused, nothing changes.
+/// Appends a dialect. If an allocation fails, the entries are unchanged.
 fn put_last(
     dialects: &mut IndexMap<DialectName, Dialect>,
     key: DialectName,
@@ -48,7 +48,8 @@ fn put_last(
     Ok(())
 }
 
-/// The index of the dialect of a name, which is put last where it isn't there. Where memory is refused, nothing changes.
+/// Returns the index of the dialect with this name. Appends one without operations if there is none. If an allocation fails, the entries
+/// are unchanged.
 fn keep(
     dialects: &mut IndexMap<DialectName, Dialect>,
     alloc: Global,
@@ -66,7 +67,7 @@ fn keep(
     Ok(index)
 }
 
-/// The dialect of a name, if it is there: it is looked for where the name's hint leads first.
+/// Looks up the dialect with this name. The index that the name carries as a hint is tried first.
 fn dialect_by<'d>(
     dialects: &'d IndexMap<DialectName, Dialect>,
     name: &Identifier,
@@ -84,7 +85,7 @@ fn dialect_by<'d>(
 impl<T: IrText<A>, A: AttrText> Context<T, A> {
     ghost use Rattle.irtext_context.specs.DialectLends.{LendsDialectAt};
 
-    /// The dialect at an index, for writing.
+    /// Borrows the dialect at an index as `&mut`.
     fn dialect_at(&mut self, index: usize) -> &mut Dialect
         requires { index < length self.old.dialects }
         ensures* lends { sem 𝓛 (LendsDialectAt T.row A.row self.entry index result) }
@@ -93,8 +94,8 @@ impl<T: IrText<A>, A: AttrText> Context<T, A> {
         &mut self.dialects[index]
     }
 
-    /// The index of the dialect of a name, which is registered without operations where it isn't there. Where memory is refused,
-    /// nothing changes.
+    /// Returns the index of the dialect with this name. Registers one without operations if there is none. If an allocation fails, the
+    /// context is unchanged.
     fn keep_dialect(&mut self, name: &DialectName) -> Result<usize, AllocError>
         ensures index { IfOk result (λ i. IsKeptAt self.old.dialects name.now i self.new.dialects) }
         ensures rest { OnOk result (self.new ≡ record self.old { dialects = self.new.dialects }) }
@@ -104,22 +105,22 @@ impl<T: IrText<A>, A: AttrText> Context<T, A> {
         keep(&mut self.dialects, alloc, name)
     }
 
-    /// The dialect of a name, if it is registered. It takes no memory.
+    /// Returns the dialect with this name, or `None` if it is not registered. It allocates nothing.
     pub fn dialect(&self, name: &DialectName) -> Option<&Dialect>
         ensures { option_copied result ≡ dialect_of self.now.dialects name.now }
     {
         self.dialects.get(name)
     }
 
-    /// Whether a dialect of this name is registered. It takes no memory.
+    /// Whether a dialect with this name is registered. It allocates nothing.
     pub fn has_dialect(&self, name: &Identifier) -> bool
         ensures { result ≡ is_some (dialect_of self.now.dialects name.now) }
     {
         self.dialects.contains_key(name)
     }
 
-    /// What always holds, as this contract says of a call that changes nothing: each operation's format was accepted by `check_format`.
-    /// It looks at each dialect, and takes no memory.
+    /// States an invariant, and changes nothing: the format of every registered operation was accepted by `check_format`. It loops over
+    /// the dialects and allocates nothing.
     pub fn keeps_formats(&self)
         ensures { AllAccepted self.now.dialects }
     {
@@ -128,7 +129,7 @@ impl<T: IrText<A>, A: AttrText> Context<T, A> {
         }
     }
 
-    /// What is known of an operation, if it is registered with a dialect of the context. It takes no memory.
+    /// Returns what is recorded of an operation, or `None` if it is not registered with a dialect of the context. It allocates nothing.
     pub fn op_info(&self, id: &OpId) -> Option<&OpInfo>
         ensures found { option_map (λ info. known_of info.now) result ≡ registered self.now.dialects id.now }
         ensures accepted { IfSome result (λ info. Accepted (format_of info.now.format)) }
@@ -137,8 +138,8 @@ impl<T: IrText<A>, A: AttrText> Context<T, A> {
         dialect.op(id)
     }
 
-    /// The same id, where its operation is registered with a dialect of the context. Else it answers `UnregisteredDialect` where
-    /// the dialect isn't registered, and `UnregisteredOp` where it is. It takes no memory.
+    /// Returns the id unchanged if its operation is registered with a dialect of the context. Fails with `UnregisteredDialect` if the
+    /// dialect is not registered, and with `UnregisteredOp` if only the operation is not. It allocates nothing.
     pub fn known_id(&self, id: OpId) -> Result<OpId, Cause<A>>
         ensures ok { IfOk result (λ i. (i ≡ id) × IsSome (registered self.now.dialects id)) }
         ensures refused { IfErr result (λ cause. IsUnregistered self.now.dialects id cause) }
@@ -156,9 +157,9 @@ impl<T: IrText<A>, A: AttrText> Context<T, A> {
 impl Dialect {
     ghost use Rattle.irtext_context.specs.DialectLends.{LendsDialect};
 
-    /// The context's dialect of a name, for writing. Where the context has none it is registered first, without operations; a
-    /// dialect that is there stays as it is. Only memory can be refused, with kind invalid argument and no location, and then
-    /// nothing changes.
+    /// Borrows the context's dialect with this name as `&mut`. If there is none, a dialect without operations is registered first; a
+    /// dialect that is registered already is unchanged. Fails only with `Memory`, if an allocation fails. The error is of kind invalid
+    /// argument and has no location, and the context is unchanged.
     pub fn register<'c, T: IrText<A>, A: AttrText>(
         ctx: &'c mut Context<T, A>,
         name: &DialectName,

@@ -1,4 +1,4 @@
-//! Tokens that must stand where they are read: a missing one is a committed fault, which leaves the stream failed.
+//! Parsers of tokens that are required: if the token is missing, the error is committed and the stream is left failed.
 ghost use Rattle.irtext_base.specs.Faults.{characters};
 ghost use Rattle.irtext_read.specs.Tokens.{text_at, identifier_at, number_at, integer_at};
 ghost use Rattle.irtext_read.specs.Demanded.{spaced_at, index_at, symbol_at};
@@ -14,7 +14,7 @@ use irtext_base::base::Identifier;
 use irtext_base::parsable::{CharStream, ParseResult};
 use irtext_base::result::Cause;
 
-/// The same as `text_demanded`, for texts that don't stand there whole.
+/// The slow path of `text_demanded`, for a text that does not come next as a whole.
 #[cold]
 #[inline(never)]
 fn text_missed<S: CharStream, A>(stream: &mut S, text: &str) -> ParseResult<(), A>
@@ -24,7 +24,7 @@ fn text_missed<S: CharStream, A>(stream: &mut S, text: &str) -> ParseResult<(), 
     committed(stream, answer)
 }
 
-/// Reads a fixed text as `text_parse` does, with its faults committed.
+/// Parses a fixed text as `text_parse` does, but every error is committed.
 #[inline(always)]
 pub fn text_demanded<S: CharStream, A>(stream: &mut S, text: &str) -> ParseResult<(), A>
     ensures { MustRead S.view S.at (λ u. u) (text_at (characters text.now)) stream.old result stream.new }
@@ -38,7 +38,7 @@ pub fn text_demanded<S: CharStream, A>(stream: &mut S, text: &str) -> ParseResul
     text_missed(stream, text)
 }
 
-/// Reads an identifier as `identifier_parse` does, with its faults committed.
+/// Parses an identifier as `identifier_parse` does, but every error is committed.
 #[inline]
 pub fn identifier_demanded<S: CharStream, A>(stream: &mut S) -> ParseResult<Identifier, A>
     ensures { MustRead S.view S.at (λ name. name) identifier_at stream.old result stream.new }
@@ -47,7 +47,7 @@ pub fn identifier_demanded<S: CharStream, A>(stream: &mut S) -> ParseResult<Iden
     committed(stream, answer)
 }
 
-/// Reads a number below 2 ^ 64 as `int_parse` does, with its faults committed.
+/// Parses a number less than 2^64 as `int_parse` does, but every error is committed.
 pub fn usize_demanded<S: CharStream, A>(stream: &mut S) -> ParseResult<usize, A>
     ensures read { MustRead S.view S.at (λ n. n) number_at stream.old result stream.new }
     ensures spares { SparesMemory S.view number_at stream.old result }
@@ -56,7 +56,7 @@ pub fn usize_demanded<S: CharStream, A>(stream: &mut S) -> ParseResult<usize, A>
     committed(stream, answer)
 }
 
-/// Reads an integer of 32 bits as `int_parse` does, with its faults committed.
+/// Parses a 32-bit signed integer as `int_parse` does, but every error is committed.
 pub fn i32_demanded<S: CharStream, A>(stream: &mut S) -> ParseResult<i32, A>
     ensures read { MustRead S.view S.at (λ z. z) integer_at stream.old result stream.new }
     ensures spares { SparesMemory S.view integer_at stream.old result }
@@ -65,7 +65,7 @@ pub fn i32_demanded<S: CharStream, A>(stream: &mut S) -> ParseResult<i32, A>
     committed(stream, answer)
 }
 
-/// The same as `spaced_text_demanded`, for texts that don't stand there whole.
+/// The slow path of `spaced_text_demanded`, for a text that does not come next as a whole.
 #[cold]
 #[inline(never)]
 fn spaced_text_missed<S: CharStream, A>(stream: &mut S, text: &str) -> ParseResult<(), A>
@@ -80,7 +80,7 @@ fn spaced_text_missed<S: CharStream, A>(stream: &mut S, text: &str) -> ParseResu
     Ok(())
 }
 
-/// Reads a fixed text with white space round it.
+/// Parses a fixed text with optional white space before and after it. Every error is committed.
 #[inline(always)]
 pub fn spaced_text_demanded<S: CharStream, A>(stream: &mut S, text: &str) -> ParseResult<(), A>
     ensures { MustRead S.view S.at (λ u. u) (spaced_at (characters text.now)) stream.old result stream.new }
@@ -95,7 +95,7 @@ pub fn spaced_text_demanded<S: CharStream, A>(stream: &mut S, text: &str) -> Par
     spaced_text_missed(stream, text)
 }
 
-/// Reads `!` and an index.
+/// Parses `!` and an index, as in `!3`. Every error is committed.
 #[inline(always)]
 pub fn index_demanded<S: CharStream, A>(stream: &mut S) -> ParseResult<usize, A>
     ensures { MustRead S.view S.at (λ n. n) index_at stream.old result stream.new }
@@ -104,7 +104,7 @@ pub fn index_demanded<S: CharStream, A>(stream: &mut S) -> ParseResult<usize, A>
     usize_demanded(stream)
 }
 
-/// Reads `@` and a name.
+/// Parses `@` and a name, as in `@main`. Every error is committed.
 pub fn symbol_demanded<S: CharStream, A>(stream: &mut S) -> ParseResult<Identifier, A>
     ensures { MustRead S.view S.at (λ name. name) symbol_at stream.old result stream.new }
 {

@@ -1,4 +1,6 @@
-//! Faults of readers, and tests of the next character.
+//! The errors that parsers return, and tests of the next character.
+//!
+//! An uncommitted error leaves the stream unchanged, so the caller may try another parser. A committed error leaves the stream failed.
 ghost use Rattle.std.specs.Prelude.{◌≡◌, [], true};
 ghost use Rattle.irtext_base.specs.Text.{begins};
 ghost use Rattle.irtext_base.specs.Reading.{the};
@@ -30,14 +32,14 @@ pub fn begins<S: CharStream>(stream: &S, class: Class) -> bool
     }
 }
 
-/// The line and the column where the stream stands.
+/// Returns the line and the column of the stream's current position.
 pub fn stands_at<S: CharStream>(stream: &S) -> SourcePosition
     ensures { IsAt result.line result.column (S.view stream.now).passed }
 {
     stream.locate(stream.position())
 }
 
-/// A committed fault of this cause and place. It leaves the stream failed.
+/// Returns a committed error with this cause and position, and marks the stream as failed.
 fn fail_at<S: CharStream, A>(stream: &mut S, pos: SourcePosition, cause: Cause<A>) -> ParseFault<A>
     ensures fault { result ≡ record { pos = pos; cause = cause; committed = true } }
     ensures left { stream.new ≡ S.at stream.old (after_failure (S.view stream.old)) }
@@ -50,7 +52,7 @@ fn fail_at<S: CharStream, A>(stream: &mut S, pos: SourcePosition, cause: Cause<A
     }
 }
 
-/// A committed fault of this cause where the stream stands, which leaves the stream failed.
+/// Returns a committed error with this cause at the current position, and marks the stream as failed.
 #[cold]
 #[inline(never)]
 pub fn refuse<S: CharStream, A>(stream: &mut S, cause: Cause<A>) -> ParseFault<A>
@@ -60,7 +62,7 @@ pub fn refuse<S: CharStream, A>(stream: &mut S, cause: Cause<A>) -> ParseFault<A
     fail_at(stream, pos, cause)
 }
 
-/// A committed fault of this cause at an earlier place, which leaves the stream failed where it stands.
+/// Returns a committed error with this cause at an earlier position, and marks the stream as failed. The stream does not move.
 #[cold]
 #[inline(never)]
 pub fn refuse_at<S: CharStream, A>(stream: &mut S, place: Place, cause: Cause<A>) -> ParseFault<A>
@@ -73,7 +75,7 @@ pub fn refuse_at<S: CharStream, A>(stream: &mut S, place: Place, cause: Cause<A>
     fail_at(stream, pos, cause)
 }
 
-/// The fault of want of memory where the stream stands, which leaves the stream failed.
+/// Returns the committed error `Memory` at the current position, for an allocation that failed, and marks the stream as failed.
 #[cold]
 #[inline(never)]
 pub fn out_of_memory<S: CharStream, A>(stream: &mut S) -> ParseFault<A>
@@ -83,7 +85,7 @@ pub fn out_of_memory<S: CharStream, A>(stream: &mut S) -> ParseFault<A>
     fail_at(stream, pos, Cause::Memory)
 }
 
-/// An uncommitted fault of this cause where the stream stands.
+/// Returns an uncommitted error with this cause at the current position.
 #[cold]
 #[inline(never)]
 pub fn pass<S: CharStream, A>(stream: &S, cause: Cause<A>) -> ParseFault<A>
@@ -96,7 +98,7 @@ pub fn pass<S: CharStream, A>(stream: &S, cause: Cause<A>) -> ParseFault<A>
     }
 }
 
-/// An uncommitted fault at the next character, or at the end, where this is expected.
+/// Returns an uncommitted `Unexpected` error at the current position: this was expected, and the next character or the end was found.
 #[cold]
 #[inline(never)]
 pub fn unexpected<S: CharStream, A>(stream: &S, expected: Expected) -> ParseFault<A>
@@ -106,7 +108,8 @@ pub fn unexpected<S: CharStream, A>(stream: &S, expected: Expected) -> ParseFaul
     pass(stream, Cause::Unexpected { found, expected })
 }
 
-/// A committed fault at the next character, or at the end, where this is expected. It leaves the stream failed.
+/// Returns a committed `Unexpected` error at the current position: this was expected, and the next character or the end was found. Marks
+/// the stream as failed.
 #[cold]
 #[inline(never)]
 pub fn commit_unexpected<S: CharStream, A>(stream: &mut S, expected: Expected) -> ParseFault<A>
@@ -116,7 +119,7 @@ pub fn commit_unexpected<S: CharStream, A>(stream: &mut S, expected: Expected) -
     refuse(stream, Cause::Unexpected { found, expected })
 }
 
-/// The same fault, committed, which leaves the stream failed.
+/// Returns the same error, committed, and marks the stream as failed.
 #[cold]
 #[inline(never)]
 pub fn commit<S: CharStream, A>(stream: &mut S, fault: ParseFault<A>) -> ParseFault<A>
@@ -125,7 +128,7 @@ pub fn commit<S: CharStream, A>(stream: &mut S, fault: ParseFault<A>) -> ParseFa
     fail_at(stream, fault.pos, fault.cause)
 }
 
-/// The same answer, its fault committed. A fault leaves the stream failed.
+/// Returns the same result, with an error committed. Marks the stream as failed if it is an error.
 #[inline]
 pub fn committed<S: CharStream, X, A>(
     stream: &mut S,

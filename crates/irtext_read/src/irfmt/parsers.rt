@@ -1,4 +1,6 @@
-//! Readers of tokens. Each takes the stream first and answers what stands there, or a fault with its cause and place.
+//! Parsers of tokens. Each takes the stream first and returns the value that comes next, or an error with its cause and position. A
+//! parser that returns a `ParseResult` fails with `StreamFailed` on a failed stream, and with `Memory` if an allocation fails. Both
+//! errors are committed.
 
 pub mod attributes;
 pub mod class;

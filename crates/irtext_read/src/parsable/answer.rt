@@ -1,4 +1,4 @@
-//! Errors as faults of a reading.
+//! Converts errors to parse errors.
 ghost use Rattle.std.specs.Prelude.{◌≡◌, Result, Err};
 ghost use Rattle.irtext_read.specs.Committed.{place_of, fault_from, committed};
 ghost use Rattle.irtext_base.specs.declared.parsable.fault.ParseFault.{ParseFault};
@@ -7,18 +7,18 @@ use irtext_base::location::Location;
 use irtext_base::parsable::{ParseFault, ParseResult, SourcePosition};
 use irtext_base::result::{Error, Result};
 
-/// What can be the answer of a reading: a `Result`, or an `Error`, which is always a refusal.
+/// What can be converted to the result of a parser: a `Result`, or an `Error`, which always becomes an error.
 pub trait IntoParseResult<X, A> {
-    // the answer that is made of it
+    // the result of the conversion
     ghost answer: { Self → Result X (ParseFault A) };
 
-    /// The value as it is, and an error as a committed fault with its cause, at the place that its location names in a source;
-    /// another location gives line 1, column 1. No stream is touched.
+    /// Returns a value unchanged, and an error as a committed `ParseFault` with the error's cause. The position is the one that the
+    /// error's location has in a source, or line 1, column 1 for any other location. No stream is changed.
     fn into_parse_result(self) -> ParseResult<X, A>
         ensures { result ≡ answer self };
 }
 
-/// The place that a location names in a source, or the beginning.
+/// Returns the position that a location has in a source, or line 1, column 1 for any other location.
 fn place_of<A>(location: &Location<A>) -> SourcePosition
     ensures { result ≡ place_of location.now }
 {
@@ -28,7 +28,7 @@ fn place_of<A>(location: &Location<A>) -> SourcePosition
     }
 }
 
-/// The committed fault of an error.
+/// Returns the committed parse error of an error.
 fn fault_from<A: Drop>(error: Error<A>) -> ParseFault<A>
     ensures { result ≡ fault_from error }
 {

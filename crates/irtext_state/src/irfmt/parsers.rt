@@ -1,4 +1,4 @@
-//! The reader of types, and where a reading stands.
+//! The parser of types, and the location of the stream's current position.
 ghost use Rattle.std.specs.Prelude.{◌≡◌};
 ghost use Rattle.irtext_read.specs.MustRead.{MayRead};
 ghost use Rattle.irtext_state.specs.States.{LocatesAt};
@@ -8,14 +8,15 @@ use irtext_base::location::Location;
 use irtext_base::parsable::ParseResult;
 use irtext_base::text::{AttrText, IrText};
 
-/// Where the stream stands, as a place of the source that is read. It reads nothing, and answers on a failed stream too.
+/// Returns the location of the stream's current position, in the source that is parsed. It consumes nothing, and works on a failed stream
+/// too.
 pub fn location<T: IrText<A>, A: AttrText, U>(stream: &StateStream<'_, T, A, U>) -> Location<A>
     ensures { LocatesAt stream.now.state.src stream.now.stream.passed result }
 {
     stream.loc()
 }
 
-/// Reads a type by its own reader, whose faults are the answer. Nothing but the stream changes.
+/// Parses a type by its own parser, whose errors are returned unchanged. The state is unchanged.
 pub fn type_parse<T: IrText<A>, A: AttrText, U>(
     stream: &mut StateStream<'_, T, A, U>,
 ) -> ParseResult<T, A>

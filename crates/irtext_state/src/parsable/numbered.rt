@@ -1,5 +1,5 @@
-//! Items under indices, as the marks of a text: those that count from 0 on stand in a vector, and from the first gap on they stand in
-//! a map.
+//! Items by their indices, such as the marks of a text. Here an item is any value. The items with the indices 0, 1, 2, .. are in a
+//! vector; from the first gap on they are in a map.
 ghost use Rattle.std.specs.Prelude.{◌≡◌, ◌<◌, ◌++◌, ◌∷◌, [], None, IsSome, IsTrue, ◌↔◌, IfOk, OnOk, OnErr, is_some, length, option_copied, option_to_list, take};
 ghost use Rattle.std.specs.Map.{lookup};
 ghost use Rattle.irtext_state.specs.Numbered.{all_numbered};
@@ -9,12 +9,12 @@ use indexmap::IndexMap;
 use std::alloc::{AllocError, Global};
 use std::marker::Model;
 
-/// Items under indices, in the order in which they were noted. No index stands twice.
+/// Items by their indices, in the order in which they were recorded. No index occurs twice.
 #[derive(Drop)]
 pub struct Numbered<X> {
-    // the item at a place has that place as its index
+    // the item at a position has that position as its index
     dense: Vec<X>,
-    // none of these was noted before one of the others
+    // all of these were recorded after the items in `dense`
     others: IndexMap<usize, X>,
 }
 
@@ -27,7 +27,7 @@ impl<X> Model for Numbered<X> {
     ghost view = { λ n. all_numbered n.dense.items n.others.entries };
 }
 
-/// Notes an item behind the others.
+/// Records an item after the others. On an error nothing is recorded.
 fn note_last<X: Drop>(
     dense: &mut Vec<X>,
     others: &mut IndexMap<usize, X>,
@@ -47,7 +47,7 @@ fn note_last<X: Drop>(
 }
 
 impl<X: Drop> Numbered<X> {
-    /// No items. They take no memory yet.
+    /// Makes an empty collection. It allocates nothing.
     pub fn new(alloc: Global) -> Numbered<X>
         ensures { result ≡ [] }
     {
@@ -57,7 +57,7 @@ impl<X: Drop> Numbered<X> {
         }
     }
 
-    /// The item under an index, where one is noted.
+    /// Returns the item with this index, if one is recorded.
     pub fn get(&self, index: usize) -> Option<&X>
         ensures { option_copied result ≡ lookup (same_index index) self.now }
     {
@@ -70,21 +70,22 @@ impl<X: Drop> Numbered<X> {
         self.others.get(&index)
     }
 
-    /// Whether an item is noted under an index.
+    /// Whether an item with this index is recorded.
     pub fn contains(&self, index: usize) -> bool
         ensures { result ≡ is_some (lookup (same_index index) self.now) }
     {
         self.get(index).is_some()
     }
 
-    /// How many items are noted.
+    /// The number of recorded items.
     pub fn len(&self) -> usize
         ensures { result ≡ length self.now }
     {
         self.dense.len() + self.others.len()
     }
 
-    /// Notes an item; false, and nothing is noted, where the index is noted already. Where memory is refused nothing changes.
+    /// Records an item. Returns false, and records nothing, if the index is recorded already. If an allocation fails, nothing is
+    /// recorded.
     pub fn note(&mut self, index: usize, item: X) -> Result<bool, AllocError>
         ensures noted { IfOk result (λ noting. Notes index item noting self.old self.new) }
         ensures err { OnErr result (self.new ≡ self.old) }
@@ -96,7 +97,7 @@ impl<X: Drop> Numbered<X> {
         Ok(true)
     }
 
-    /// Takes out the item that was noted last, with its index.
+    /// Removes the item that was recorded last, and returns it with its index.
     pub fn pop(&mut self) -> Option<(usize, X)>
         ensures entries { self.old ≡ self.new ++ option_to_list result }
         ensures found { IsSome result ↔ (0 < length self.old) }
@@ -108,7 +109,7 @@ impl<X: Drop> Numbered<X> {
         Some((self.dense.len(), item))
     }
 
-    /// Forgets all items but the first ones.
+    /// Keeps the first `len` items, in the order in which they were recorded, and removes the others.
     pub fn truncate(&mut self, len: usize)
         ensures { self.new ≡ take len self.old }
     {

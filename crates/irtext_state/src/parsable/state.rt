@@ -1,4 +1,5 @@
-//! What a reading carries beside its text: the context, the source, the caller's data, and the marks that it has seen.
+//! The state of a parse beside its text: the context, the source, the caller's data, and the marks that were parsed so far. An item is an
+//! operation or a block that carries a mark.
 ghost use Rattle.std.specs.Prelude.{◌≡◌, ℕ, List, [], ◌++◌, ◌∷◌, Bool, true, Some, None, refl, IfOk, OnErr, IsTrue, ◌↔◌, length, MatchResult, option_copied, IsNone, take};
 ghost use Rattle.std.specs.Str.{encode_utf8_all};
 ghost use Rattle.std.specs.Map.{lookup};
@@ -15,21 +16,21 @@ use irtext_context::base::{Context, Item};
 use irtext_read::parsable::OwnStream;
 use std::alloc::{AllocError, Global};
 
-/// What a reading carries beside its text.
+/// The state of a parse beside its text.
 #[derive(Drop)]
 pub struct State<'c, T, A, U> {
-    /// Where objects are made.
+    /// The context in which objects are made.
     pub ctx: &'c mut Context<T, A>,
-    /// What the text was read from.
+    /// The source of the text.
     pub src: Source,
-    /// The caller's own.
+    /// The caller's own data.
     pub aux_data: U,
-    // the operations and blocks that carry a mark for which no section was read yet
+    // the items whose section was not parsed yet, by the indices of their marks
     marks: Numbered<Item>,
 }
 
 impl<'c, T: IrText<A>, A: AttrText, U> State<'c, T, A, U> {
-    /// A fresh state: no mark is kept.
+    /// Makes a state without marks.
     pub fn new(ctx: &'c mut Context<T, A>, src: Source, aux_data: U) -> State<'c, T, A, U>
         ensures lent { result.ctx.ghost_name ≡ ctx.entry.ghost_name }
         ensures now { result.ctx.now ≡ ctx.old }
@@ -46,14 +47,14 @@ impl<'c, T: IrText<A>, A: AttrText, U> State<'c, T, A, U> {
         }
     }
 
-    /// The operation or block that carries a mark of this index, where one is noted.
+    /// Returns the operation or block that carries the mark with this index, if one is recorded.
     pub fn marked(&self, index: usize) -> Option<Item>
         ensures { result ≡ lookup (same_index index) (marks_of self.now) }
     {
         self.marks.get(index).copied()
     }
 
-    /// Whether a mark is noted.
+    /// Whether any mark is recorded.
     pub fn has_marks(&self) -> bool
         ensures { IsTrue result ↔ (marks_of self.now ≡ [] → ⊥) }
     {
@@ -61,24 +62,25 @@ impl<'c, T: IrText<A>, A: AttrText, U> State<'c, T, A, U> {
     }
 }
 
-/// What notes the marks of operations and blocks, as the state of a reading does: for the readers of these and of the section behind
-/// them. Callers of the text layer are not handed it.
+/// Records the marks of operations and blocks, as the state of a parse does. The trait is for the parsers of operations and blocks and of
+/// the section after them. Users of the text layer are not given it.
 pub trait Noting {
     ghost use Rattle.irtext_context.specs.declared.base.item.Item.{Item};
 
-    // the marks that are noted, each with the operation or block that carries it
+    // the recorded marks, each with the operation or block that carries it
     ghost noted: { Self → List (ℕ × Item) };
 
-    /// Notes the mark of an operation or a block; false, and nothing is noted, where the index is noted already.
+    /// Records the mark of an operation or a block. Returns false, and records nothing, if the index is recorded already. If an
+    /// allocation fails, nothing is recorded.
     fn mark(&mut self, index: usize, item: Item) -> Result<bool, AllocError>
         ensures marks { IfOk result (λ noting. Notes index item noting (noted self.old) (noted self.new)) }
         ensures err { OnErr result (noted self.new ≡ noted self.old) };
 
-    /// How many marks are noted.
+    /// The number of recorded marks.
     fn num_marks(&self) -> usize
         ensures { result ≡ length (noted self.now) };
 
-    /// Forgets all marks but the first ones.
+    /// Keeps the first `len` marks, in the order in which they were recorded, and removes the others.
     fn truncate_marks(&mut self, len: usize)
         ensures marks { noted self.new ≡ take len (noted self.old) };
 }
@@ -113,7 +115,7 @@ impl<'c, T: IrText<A>, A: AttrText, U> Noting for State<'c, T, A, U> {
     }
 }
 
-/// A text, and the state of its reading.
+/// A text and the state of its parse.
 #[derive(Drop)]
 pub struct StateStream<'c, T, A, U> {
     pub stream: TextStream,
@@ -121,7 +123,7 @@ pub struct StateStream<'c, T, A, U> {
 }
 
 impl<'c, T: IrText<A>, A: AttrText, U> StateStream<'c, T, A, U> {
-    /// A text with the state of its reading.
+    /// Makes a stream from a text and the state of its parse.
     pub(crate) fn new(stream: TextStream, state: State<'c, T, A, U>) -> StateStream<'c, T, A, U>
         ensures lent { result.state.ctx.ghost_name ≡ state.entry.ctx.ghost_name }
         ensures now { result.state.ctx.now ≡ state.entry.ctx.now }
@@ -131,7 +133,7 @@ impl<'c, T: IrText<A>, A: AttrText, U> StateStream<'c, T, A, U> {
         StateStream { stream, state }
     }
 
-    /// The context, when the reading is over.
+    /// Returns the context when the parse is over.
     pub fn into_ctx(self) -> &'c mut Context<T, A>
     where
         U: Drop,
@@ -221,12 +223,12 @@ impl<'c, T: IrText<B>, B: AttrText, U> OwnStream for StateStream<'c, T, B, U> {
     }
 }
 
-/// Where a stream stands, as a location.
+/// The current position of a stream, as a location.
 pub trait StreamLocation<A> {
-    // the location of where the stream stands
+    // the location is the one of the stream's current position
     ghost locates: { Self → Location A → Type 0 };
 
-    /// The place of the next character, in the source that is read.
+    /// Returns the location of the next character, or of the end, in the source that is parsed.
     fn loc(&self) -> Location<A>
         ensures { locates self.now result };
 }

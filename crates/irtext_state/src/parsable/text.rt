@@ -1,4 +1,4 @@
-//! Reading from a text or from characters.
+//! Runs a parser on a text in memory, or on the characters of an iterator.
 ghost use Rattle.std.specs.Prelude.{◌≡◌, ◌⊎◌, ℕ, List, IfOk};
 ghost use Rattle.std.specs.Iterator.{Drains, IsFinite};
 ghost use Rattle.std.specs.Str.{encode_utf8_all};
@@ -12,7 +12,7 @@ use irtext_base::text::{AttrText, IrText};
 use irtext_context::base::Context;
 use std::alloc::{AllocError, Global};
 
-/// The error of a refused reading from memory.
+/// Returns the error for a parser that failed on a text in memory.
 fn error_of<A: Drop>(alloc: Global, fault: ParseFault<A>) -> Error<A>
     ensures { IsErrorOf fault result }
 {
@@ -35,7 +35,7 @@ fn error_of<A: Drop>(alloc: Global, fault: ParseFault<A>) -> Error<A>
     }
 }
 
-/// What a reader answers on a text in memory.
+/// Runs a parser on a text in memory, and returns its result.
 fn run_on<T, A, R, F: FnOnce(&mut StateStream<'_, T, A, ()>) -> R>(
     stream: TextStream,
     ctx: &mut Context<T, A>,
@@ -55,20 +55,20 @@ where
     answer
 }
 
-/// What a reader answers, and what reading from memory makes of it.
+/// The result of a parser, and its conversion to the result of `parse_from_str`.
 pub trait ParseAnswer: Sized {
     type Answer;
 
-    // the answer that is made of the reader's
+    // the conversion of the parser's result
     ghost passes: { Self → Self.Answer → Type 0 };
-    // the answer where there was no memory for the text
+    // the result if the text cannot be allocated
     ghost starved: { Self.Answer → Type 0 };
 
-    /// The value, or the fault as an error.
+    /// Returns the value, or the `ParseFault` as an `Error`.
     fn into_answer(self, alloc: Global) -> Self::Answer
         ensures { passes self result };
 
-    /// The error where there was no memory for the text.
+    /// Returns the error for a text that cannot be allocated.
     fn no_memory() -> Self::Answer
         ensures { starved result };
 }
@@ -96,9 +96,11 @@ impl<X, A: Drop> ParseAnswer for ParseResult<X, A> {
     }
 }
 
-/// Reads from a text in memory, with a reader that answers a `ParseResult`. What follows behind what was read is not looked at.
-/// A fault becomes an error of kind invalid input, with the fault and its place as cause, or want of memory where there was none
-/// for it, and the place as location. The context is as the reader left it.
+/// Runs a parser that returns a `ParseResult` on a text in memory. The text after what the parser consumes is ignored.
+///
+/// If the parser fails, the error is of kind invalid input. Its cause is `Parse`, with the parser's cause and its position, or `Memory`
+/// if that cannot be allocated. Its location is the position, in memory. The context is as the parser left it. If the text cannot be
+/// copied, the parser does not run: the error is `Memory`, of kind invalid argument without a location, and the context is unchanged.
 pub fn parse_from_str<T, A, R, F: FnOnce(&mut StateStream<'_, T, A, ()>) -> R>(
     parse: F,
     ctx: &mut Context<T, A>,
@@ -120,7 +122,7 @@ where
     answer.into_answer(alloc)
 }
 
-/// A stream of the characters of a finite iterator, which are collected first. Only memory can be refused.
+/// Makes a stream of the characters of a finite iterator, which are collected first. Fails only if an allocation fails.
 pub fn state_stream_from_iterator<'c, T: IrText<A>, A: AttrText, U: Drop, I: Iterator<Item = char>>(
     iterator: I,
     state: State<'c, T, A, U>,

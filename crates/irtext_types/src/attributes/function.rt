@@ -1,4 +1,4 @@
-//! The types of functions, as they are read and written: as `<(T, ..)->(T, ..)>`.
+//! Function types as attributes, with their parser and printer: `<(T, ..)->(T, ..)>`.
 ghost use Rattle.std.specs.Prelude.{◌≡◌, ◌++◌, OnOk, IfOk, codes, string_bytes};
 ghost use Rattle.irtext_read.specs.MustRead.{MustRead};
 ghost use Rattle.irtext_types.specs.FunctionAttributes.{function_text, signature_at, function_at};
@@ -11,7 +11,7 @@ use irtext_read::irfmt::parsers::skip_white_space;
 use std::alloc::AllocError;
 use std::fmt;
 
-/// What a function takes and what it gives.
+/// The type of a function: the types of its inputs and of its results.
 #[derive(PartialEq, Eq, Hash, Debug, Drop)]
 pub struct FunctionAttr {
     pub inputs: TypeList,
@@ -19,7 +19,7 @@ pub struct FunctionAttr {
 }
 
 impl FunctionAttr {
-    /// A copy that equals the attribute. Only memory can be refused.
+    /// Returns an equal copy. Fails only if an allocation fails.
     pub fn try_clone(&self) -> Result<FunctionAttr, AllocError>
         ensures { IfOk result (λ copy. copy ≡ self.now) }
     {
@@ -29,7 +29,7 @@ impl FunctionAttr {
     }
 }
 
-/// Reads what a function takes, `->`, and what it gives.
+/// Parses the inputs, `->` and the results.
 fn signature_parse<A: Drop>(stream: &mut TextStream) -> ParseResult<FunctionAttr, A>
     ensures { MustRead (λ s. s) (λ s v. v) (λ a. a) signature_at stream.old result stream.new }
 {
@@ -39,7 +39,8 @@ fn signature_parse<A: Drop>(stream: &mut TextStream) -> ParseResult<FunctionAttr
     Ok(FunctionAttr { inputs, results })
 }
 
-/// Reads `<`, what a function takes, `->`, what it gives, and `>`, with white space in front of each.
+/// Parses a required function type after its word, such as `<(test.ptr )->(builtin.integer si32)>`, with optional white space before each
+/// token. Every error is committed.
 pub fn function_parse<A: Drop>(stream: &mut TextStream) -> ParseResult<FunctionAttr, A>
     ensures { MustRead (λ s. s) (λ s v. v) (λ a. a) function_at stream.old result stream.new }
 {
@@ -50,7 +51,7 @@ pub fn function_parse<A: Drop>(stream: &mut TextStream) -> ParseResult<FunctionA
     Ok(attr)
 }
 
-/// Appends a function's type, behind the word for it.
+/// Appends a function type, after its word. Fails only if an allocation fails.
 pub fn write_function(attr: &FunctionAttr, f: &mut String) -> fmt::Result
     ensures { OnOk result (string_bytes f.new ≡ string_bytes f.old ++ (codes "builtin.function " ++ function_text attr.now)) }
 {

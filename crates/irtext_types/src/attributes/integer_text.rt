@@ -1,4 +1,4 @@
-//! How integers with their type are read and written: as `<N: W>`.
+//! The parser and the printer of integers with their type: `<N: W>`.
 ghost use Rattle.std.specs.Prelude.{◌≡◌, Some};
 ghost use Rattle.irtext_read.specs.Integers.{int_at, signed_below};
 ghost use Rattle.irtext_read.specs.MustRead.{MustRead};
@@ -22,7 +22,7 @@ impl fmt::Display for IntegerAttr {
     }
 }
 
-/// Reads an integer as `int_parse` does, with its faults committed.
+/// Parses an integer as `int_parse` does, but every error is committed.
 fn value_demanded<A>(stream: &mut TextStream) -> ParseResult<i64, A>
     ensures { MustRead (λ s. s) (λ s v. v) (λ z. z) (int_at (signed_below 64)) stream.old result stream.new }
 {
@@ -30,14 +30,15 @@ fn value_demanded<A>(stream: &mut TextStream) -> ParseResult<i64, A>
     committed(stream, answer)
 }
 
-/// The attribute of an integer and its type.
+/// Makes the attribute of an integer and its type.
 fn attr_of(value: i64, ty: IntegerType) -> IntegerAttr
     ensures { result ≡ integer_attr_of value ty }
 {
     IntegerAttr { value, ty }
 }
 
-/// Reads `<`, an integer, `:`, its type, and `>`, with white space in front of each.
+/// Parses a required integer with its type, after its word, such as `<5: si32>`, with optional white space before each token. Every error
+/// is committed.
 pub fn integer_attr_parse<A>(stream: &mut TextStream) -> ParseResult<IntegerAttr, A>
     ensures { MustRead (λ s. s) (λ s v. v) (λ a. a) integer_attr_at stream.old result stream.new }
 {

@@ -1,4 +1,4 @@
-//! The making of blocks.
+//! Making blocks.
 ghost use Rattle.std.specs.Prelude.{◌≡◌, ◌≤◌, ℕ, IfOk, IfErr, OnErr};
 ghost use Rattle.irtext_base.specs.declared.location.Location.{Unknown};
 ghost use Rattle.irtext_context.specs.Context.{KeepsOlder, MakesBlock};
@@ -16,11 +16,11 @@ use irtext_dict::base::AttributeDict;
 use irtext_few::Few;
 use std::alloc::AllocError;
 
-/// How blocks are made by their kind.
+/// Makes blocks: `BasicBlock::new`.
 pub trait NewBlock {
-    /// Makes a block that stands nowhere and holds no operation, with this label or none and arguments of these types, without
-    /// attributes and a location. Where memory is refused or a counter is full it answers `Memory`, by an error of kind invalid
-    /// argument without a location, and nothing changes.
+    /// Makes a block without a parent, with an optional label and arguments of these types. It has no operations and no attributes, and
+    /// its location is `Unknown`. Fails with `Memory` if an allocation fails or a counter is at its limit. The error is of kind invalid
+    /// argument and has no location, and the context is unchanged.
     fn new<T: IrText<A>, A: AttrText>(
         ctx: &mut Context<T, A>,
         label: Option<Identifier>,

@@ -1,5 +1,5 @@
-//! How a context's objects are made and given back, and its paths kept: calls for the crates above, which know when they are
-//! safe. Callers of the text layer are not handed the trait, so that no operation of theirs comes to hold a region that is gone.
+//! Making objects, rolling them back, and keeping paths. These calls are for the crates above, which know when they are safe. Users of
+//! the text layer are not given this trait, so that none of their operations comes to hold a region that is gone.
 ghost use Rattle.std.specs.Prelude.{◌≡◌, ◌≤◌, ℕ, [], None, IsSome, IfOk, OnOk, OnErr};
 ghost use Rattle.irtext_base.specs.Paths.{path_index, with_path, MayBeRefused};
 ghost use Rattle.irtext_graph.specs.Back.{AllOlder, IsClosedBelow};
@@ -20,20 +20,22 @@ use irtext_dict::base::AttributeDict;
 use irtext_few::Few;
 use std::alloc::AllocError;
 
-/// What makes objects, and gives them back, as a context does.
+/// Makes objects of a context, and rolls them back.
 pub trait Making<T: IrText<A>, A: AttrText> {
     ghost use Rattle.irtext_context.specs.Context.{ContextView};
 
     // the context that is changed
     ghost seen: { Self → ContextView T A };
 
-    /// How many objects were made, those that are gone among them. Each that stands was made before as many.
+    /// Returns how many objects were made so far, erased ones included. It is a mark for `roll_back`: every live object was made before
+    /// it.
     fn made(&self) -> u64
         ensures made { result ≡ (seen self.now).graph.made }
         ensures older { AllOlder result (seen self.now).graph }
         ensures closed { IsClosedBelow result (seen self.now).graph };
 
-    /// Makes an operation without results, operands, successors and regions. Where memory is refused, or a counter is full, nothing changes.
+    /// Makes an operation without results, operands, successors and regions. Fails if an allocation fails or a counter is at its limit;
+    /// then the context is unchanged.
     fn make_operation(
         &mut self,
         id: OpId,
@@ -45,8 +47,8 @@ pub trait Making<T: IrText<A>, A: AttrText> {
         ensures err { OnErr result (seen self.new ≡ seen self.old) }
         ensures kept { (mark : ℕ) → mark ≤ (seen self.old).graph.made → KeepsOlder mark (seen self.old) (seen self.new) };
 
-    /// Makes an operation without regions, with results of these types, which uses these values and these blocks. Where memory is refused,
-    /// or a counter is full, nothing changes.
+    /// Makes an operation without regions, with results of these types and these operands and successors. Fails if an allocation fails or
+    /// a counter is at its limit; then the context is unchanged.
     fn make_operation_with(
         &mut self,
         id: OpId,
@@ -63,8 +65,8 @@ pub trait Making<T: IrText<A>, A: AttrText> {
         ensures err { OnErr result (seen self.new ≡ seen self.old) }
         ensures kept { (mark : ℕ) → mark ≤ (seen self.old).graph.made → KeepsOlder mark (seen self.old) (seen self.new) };
 
-    /// Makes a block that stands nowhere and holds no operation, with arguments of these types. Where memory is refused, or a counter
-    /// is full, nothing changes.
+    /// Makes a block without a parent and without operations, with arguments of these types. Fails if an allocation fails or a counter is
+    /// at its limit; then the context is unchanged.
     fn make_block(
         &mut self,
         label: Option<Identifier>,
@@ -77,7 +79,8 @@ pub trait Making<T: IrText<A>, A: AttrText> {
         ensures err { OnErr result (seen self.new ≡ seen self.old) }
         ensures kept { (mark : ℕ) → mark ≤ (seen self.old).graph.made → KeepsOlder mark (seen self.old) (seen self.new) };
 
-    /// Makes an empty region, the last of an operation. Where memory is refused, or a counter is full, nothing changes.
+    /// Adds an empty region to an operation, after its other regions. Fails if an allocation fails or a counter is at its limit; then the
+    /// context is unchanged.
     fn add_region(&mut self, op: Ptr<Operation>) -> Result<Ptr<Region>, AllocError>
         requires { Stands (seen self.old).graph (TheOperation op) }
         ensures added { IfOk result (λ r. AddsRegion (seen self.old) (seen self.new) op r) }
@@ -85,14 +88,14 @@ pub trait Making<T: IrText<A>, A: AttrText> {
         ensures kept { (mark : ℕ) → mark ≤ (seen self.old).graph.made → before mark (seen self.old).graph.operations op ≡ None →
             KeepsOlder mark (seen self.old) (seen self.new) };
 
-    /// Takes every object out that is no older than the mark, where `made` gave the mark. Paths and dialects stay. It takes no memory.
+    /// Removes every object that was made since `made` returned this mark. Paths and dialects stay. It allocates nothing.
     fn roll_back(&mut self, mark: u64)
         requires closed { IsClosedBelow mark (seen self.old).graph }
         ensures back { RollsBack mark (seen self.old) (seen self.new) }
         ensures kept { (m : ℕ) → m ≤ mark → KeepsOlder m (seen self.old) (seen self.new) };
 
-    /// The key of a path, which the context keeps from then on: a path that it keeps already has the key that it had, and takes no
-    /// memory. Where memory is refused, or the path's index takes more than 32 bits, nothing changes.
+    /// Returns the key of a path, and keeps the path. A path that the context keeps already has its old key, and nothing is allocated.
+    /// Fails if an allocation fails or the index of the path takes more than 32 bits; then the context is unchanged.
     fn keep_path(&mut self, path: &str) -> Result<PathKey, AllocError>
         ensures key { IfOk result (λ key. key.index ≡ path_index (seen self.old).paths path.now) }
         ensures kept { OnOk result (seen self.new ≡ record (seen self.old) { paths = with_path (seen self.old).paths path.now }) }

@@ -1,4 +1,4 @@
-//! The paths of files that a context keeps.
+//! The paths of source files that a context keeps.
 ghost use Rattle.std.specs.Prelude.{◌≡◌, ◌<◌, Some, length, slice_get, refl};
 ghost use Rattle.irtext_base.specs.Locations.{location_view};
 ghost use Rattle.irtext_base.specs.Paths.{are_known};
@@ -28,14 +28,14 @@ impl<T, A> HasPaths<A> for Context<T, A> {
 }
 
 impl<T: IrText<A>, A: AttrText> Context<T, A> {
-    /// How many paths the context keeps.
+    /// The number of paths that the context keeps.
     pub fn num_paths(&self) -> usize
         ensures { result ≡ length self.now.paths }
     {
         self.paths.len()
     }
 
-    /// The path under a key of this context.
+    /// Returns the path of a key of this context.
     pub fn path(&self, key: PathKey) -> &str
         requires { key.index < length self.now.paths }
         ensures { slice_get self.now.paths key.index ≡ Some result.now }
@@ -43,7 +43,7 @@ impl<T: IrText<A>, A: AttrText> Context<T, A> {
         self.paths.path(key)
     }
 
-    /// Whether the context keeps the paths of all files that a location mentions.
+    /// Whether the context keeps the paths of all files that a location refers to.
     pub fn contains_paths(&self, location: &Location<A>) -> bool
         ensures { result ≡ are_known (length self.now.paths) (location_view location.now) }
     {

@@ -1,4 +1,4 @@
-//! The making of operations that are registered, without results, operands and successors.
+//! Making registered operations without results, operands and successors.
 ghost use Rattle.std.specs.Prelude.{◌≡◌, ◌≤◌, ◌⊎◌, ℕ, [], IsSome, IfOk, IfErr, OnOk, OnErr};
 ghost use Rattle.irtext_context.specs.Context.{KeepsOlder};
 ghost use Rattle.irtext_context.specs.DialectTable.{registered};
@@ -13,11 +13,12 @@ use irtext_base::result::{Cause, ErrorKind};
 use irtext_base::text::{AttrText, IrText};
 use irtext_few::Few;
 
-/// How operations without results, operands and successors are made by their kind.
+/// Makes operations without results, operands and successors.
 pub trait NewBareOperation {
-    /// Makes an operation with as many regions, without results, operands, successors, attributes and a location. Where it isn't
-    /// registered it answers `UnregisteredDialect` or `UnregisteredOp`, else where memory is refused or a counter is full `Memory`. The
-    /// error is of kind invalid argument without a location, and all objects are as they were.
+    /// Makes an operation with `num_regions` empty regions. It has no results, operands, successors and attributes, and its location is
+    /// `Unknown`. Fails with `UnregisteredDialect` or `UnregisteredOp` if the operation is not registered, else with `Memory` if an
+    /// allocation fails or a counter is at its limit. The error is of kind invalid argument and has no location, and all objects are
+    /// unchanged.
     fn new<T: IrText<A>, A: AttrText>(
         ctx: &mut Context<T, A>,
         id: OpId,

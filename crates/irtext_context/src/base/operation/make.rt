@@ -1,4 +1,4 @@
-//! The making of operations that are registered.
+//! Making registered operations.
 ghost use Rattle.std.specs.Prelude.{◌≡◌, ◌≤◌, ◌⊎◌, ℕ, None, IsSome, IfOk, IfErr, OnOk, OnErr};
 ghost use Rattle.irtext_graph.specs.Graph.{Stands};
 ghost use Rattle.irtext_graph.specs.Store.{before};
@@ -22,7 +22,8 @@ use irtext_dict::base::AttributeDict;
 use irtext_few::Few;
 use std::alloc::AllocError;
 
-/// Adds as many empty regions to an operation. Those that were added stay where memory is refused or a counter is full.
+/// Adds `count` empty regions to an operation. Fails if an allocation fails or a counter is at its limit; the regions that were added
+/// before stay.
 pub fn add_regions<T: IrText<A>, A: AttrText>(
     ctx: &mut Context<T, A>,
     op: Ptr<Operation>,
@@ -38,8 +39,8 @@ pub fn add_regions<T: IrText<A>, A: AttrText>(
     Ok(())
 }
 
-/// An operation with results of these types, which uses these values and these blocks, and with as many regions. What was made stays
-/// where memory is refused or a counter is full.
+/// Makes an operation with results of these types, these operands and successors, and `num_regions` empty regions. If an allocation fails
+/// or a counter is at its limit, what was made before stays.
 fn make<T: IrText<A>, A: AttrText>(
     ctx: &mut Context<T, A>,
     id: OpId,
@@ -66,12 +67,12 @@ fn make<T: IrText<A>, A: AttrText>(
     Ok(op)
 }
 
-/// How operations are made by their kind, with all that they have.
+/// Makes operations: `Operation::new`.
 pub trait NewOperation {
-    /// Makes an operation that stands nowhere, with results of these types, with these operands and successors, and with as many
-    /// regions, without attributes and a location. Where it isn't registered it answers `UnregisteredDialect` or `UnregisteredOp`,
-    /// else where memory is refused or a counter is full `Memory`. The error is of kind invalid argument without a location, and all
-    /// objects are as they were, what they use and what uses them too.
+    /// Makes an operation without a parent, with results of these types, these operands and successors, and `num_regions` empty regions.
+    /// It has no attributes, and its location is `Unknown`. Fails with `UnregisteredDialect` or `UnregisteredOp` if the operation is not
+    /// registered, else with `Memory` if an allocation fails or a counter is at its limit. The error is of kind invalid argument and has
+    /// no location, and all objects are unchanged, their use lists too.
     fn new<T: IrText<A>, A: AttrText>(
         ctx: &mut Context<T, A>,
         id: OpId,

@@ -1,4 +1,4 @@
-//! The readers of types and of attributes: each is the caller's own reader, but that two words lead to given names and to an identifier.
+//! The parser of attributes. It runs the caller's own parser, except that two words introduce given names and an identifier.
 ghost use Rattle.std.specs.Prelude.{◌≡◌, MatchBool, true, false};
 ghost use Rattle.std.specs.List.{list_all};
 ghost use Rattle.irtext_base.specs.Text.{after, in_dotted};
@@ -19,18 +19,19 @@ use irtext_base::parsable::{CharStream, ParseResult};
 use irtext_base::result::Cause;
 use irtext_base::text::{AttrText, IrText};
 
-/// What the dotted word at the beginning of an attribute leads to.
+/// What the dotted word at the beginning of an attribute introduces.
 #[derive(Clone, Copy)]
 pub(crate) enum Lead {
     /// Given names.
     GivenNames,
     /// An identifier.
     Ident,
-    /// An attribute of the caller, to which the word belongs.
+    /// An attribute of the caller. The word, if there is one, belongs to the attribute.
     Own,
 }
 
-/// Passes this dotted word where it stands here and goes no further, and answers whether it does. The stream stays at another word.
+/// If exactly this dotted word comes next, consumes it and returns true. At a longer or another word, returns false and leaves the stream
+/// unchanged.
 fn take_word<S: CharStream>(stream: &mut S, word: &str) -> bool
     requires { list_all in_dotted word.now ≡ true }
     ensures { MatchBool result
@@ -49,7 +50,7 @@ fn take_word<S: CharStream>(stream: &mut S, word: &str) -> bool
     false
 }
 
-/// Passes the dotted word that stands here, where it leads to given names or to an identifier. The stream stays at another word.
+/// Consumes the dotted word that comes next if it introduces given names or an identifier. At another word the stream is unchanged.
 fn take_lead<S: CharStream>(stream: &mut S) -> Lead
     ensures { Led S.view S.at stream.old result stream.new }
 {
@@ -62,7 +63,7 @@ fn take_lead<S: CharStream>(stream: &mut S) -> Lead
     Lead::Own
 }
 
-/// A given name, or `?` where there is none.
+/// Parses a given name, or `?` for a missing one.
 fn given_name<S: CharStream, A>(stream: &mut S) -> ParseResult<Option<Identifier>, A>
     ensures { MayRead S.view S.at (λ name. name) given_name_at stream.old result stream.new }
 {
@@ -73,14 +74,14 @@ fn given_name<S: CharStream, A>(stream: &mut S) -> ParseResult<Option<Identifier
     Ok(Some(identifier_parse(stream)?))
 }
 
-/// Given names with `,` between them.
+/// Parses given names, separated by `,`.
 fn names<S: CharStream, A: Drop>(stream: &mut S) -> ParseResult<Vec<Option<Identifier>>, A>
     ensures { MayRead S.view S.at (λ names. names.items) names_at stream.old result stream.new }
 {
     list_parser(stream, ',', |s: &mut S| given_name(s))
 }
 
-/// Given names between brackets, behind their word.
+/// Parses given names in brackets, after their word.
 fn given_names<S: CharStream, A: Drop>(stream: &mut S) -> ParseResult<Vec<Option<Identifier>>, A>
     ensures { (S.view stream.old).failed ≡ false →
         MustRead S.view S.at (λ names. names.items) bracketed_names_at stream.old result stream.new }
@@ -93,7 +94,7 @@ fn given_names<S: CharStream, A: Drop>(stream: &mut S) -> ParseResult<Vec<Option
     Ok(names)
 }
 
-/// An identifier, behind its word.
+/// Parses an identifier, after its word.
 fn ident<S: CharStream, A>(stream: &mut S) -> ParseResult<Identifier, A>
     ensures { (S.view stream.old).failed ≡ false → MustRead S.view S.at (λ name. name) spaced_identifier_at stream.old result stream.new }
 {
@@ -101,7 +102,7 @@ fn ident<S: CharStream, A>(stream: &mut S) -> ParseResult<Identifier, A>
     identifier_demanded(stream)
 }
 
-/// Reads an attribute by what its beginning leads to.
+/// Parses an attribute. Its first word selects the parser.
 fn led_parse<S: OwnStream, A: AttrText>(stream: &mut S) -> ParseResult<AttrObj<A>, A>
     ensures { MayRead S.CharStream.view S.CharStream.at attr_view (attr_at A.IrText.reading) stream.old result stream.new }
 {
@@ -115,10 +116,10 @@ fn led_parse<S: OwnStream, A: AttrText>(stream: &mut S) -> ParseResult<AttrObj<A
     }
 }
 
-/// Reads an attribute: behind the word `builtin.given_names` names or `?` with `,` between them in brackets, behind the word
-/// `builtin.identifier` an identifier, with white space between all tokens; and else an attribute of the caller by its own reader, whose
-/// faults are the answer. Behind one of the two words each fault is committed, and leaves the stream failed. Nothing but the text is
-/// read, and nothing beside it changes.
+/// Parses an attribute. After the word `builtin.given_names`: a list of names or `?` in brackets, separated by `,`, such as
+/// `builtin.given_names [a, ?]`. After the word `builtin.identifier`: an identifier. Otherwise: an attribute of the caller, by the
+/// caller's own parser, whose errors are returned unchanged. White space is allowed between all tokens. After one of the two words every
+/// error is committed, and leaves the stream failed. Only the stream's text is read, and nothing but the stream changes.
 pub fn attr_parse<S: OwnStream, A: AttrText>(stream: &mut S) -> ParseResult<AttrObj<A>, A>
     ensures read { MayRead S.CharStream.view S.CharStream.at attr_view (attr_at A.IrText.reading) stream.old result stream.new }
     ensures beside { stream.new ≡ S.CharStream.at stream.old (S.CharStream.view stream.new) }

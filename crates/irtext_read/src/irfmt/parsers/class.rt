@@ -1,4 +1,4 @@
-//! Classes of characters, and the front of a text that is of one class.
+//! Classes of characters, and skipping a run of characters of a class.
 ghost use Rattle.std.specs.Char.{is_whitespace};
 ghost use Rattle.irtext_read.specs.Tokens.{has};
 ghost use Rattle.irtext_read.specs.Reads.{TakesFront};
@@ -6,7 +6,7 @@ ghost use Rattle.irtext_read.specs.Reads.{TakesFront};
 use irtext_base::parsable::CharStream;
 pub use irtext_base::parsable::Class;
 
-/// Passes the characters of the class, as far as they go, on a failed stream too.
+/// Consumes the longest run of characters of the class that comes next, on a failed stream too.
 #[inline]
 #[tactic(auto, using(irtext_base::proofs::Along::fronts))]
 pub fn skip_class<S: CharStream>(stream: &mut S, class: Class)
@@ -15,7 +15,7 @@ pub fn skip_class<S: CharStream>(stream: &mut S, class: Class)
     stream.skip(class);
 }
 
-/// Passes white space, on a failed stream too.
+/// Consumes the white space that comes next, on a failed stream too.
 #[inline(always)]
 pub fn skip_white_space<S: CharStream>(stream: &mut S)
     ensures { TakesFront S.view S.at is_whitespace stream.old stream.new }

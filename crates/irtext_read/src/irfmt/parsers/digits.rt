@@ -1,4 +1,4 @@
-//! The reader of digits in a radix.
+//! The parser of digits in a radix.
 ghost use Rattle.std.specs.Prelude.{◌≡◌, true, Some};
 ghost use Rattle.std.specs.Char.{digit_value};
 ghost use Rattle.std.specs.List.{list_all};
@@ -15,7 +15,7 @@ use crate::irfmt::parsers::class::{Class, skip_class};
 use irtext_base::parsable::{CharStream, ParseFault, Place};
 use irtext_base::result::Cause;
 
-/// The radix in which digits write a number.
+/// The radix of a number's digits.
 #[derive(Clone, Copy)]
 pub enum Radix {
     /// `0` to `9`.
@@ -32,7 +32,7 @@ impl Radix {
         self.class().has(c)
     }
 
-    /// The class of the radix's digits.
+    /// Returns the class of the radix's digits.
     fn class(self) -> Class
         ensures { has result ≡ is_digit_in self }
     {
@@ -42,7 +42,7 @@ impl Radix {
         }
     }
 
-    /// How many digits there are.
+    /// Returns the base: 10 or 16.
     fn base(self) -> u64
         ensures { result ≡ base self }
     {
@@ -53,19 +53,19 @@ impl Radix {
     }
 }
 
-/// What a digit of the radix stands for.
+/// Returns the value of a digit of the radix.
 fn digit_value(digit: u8, radix: Radix) -> u8
     requires { is_digit_in radix digit ≡ true }
     ensures { result ≡ digit_value digit }
 {
     match radix {
-        // a letter's place in the alphabet, in both cases
+        // the letter's position in the alphabet, in both cases
         Radix::Hexadecimal if b'9' < digit => digit % 32 + 9,
         _ => digit - b'0',
     }
 }
 
-/// The number with one more digit behind it, where it fits 64 bits.
+/// Returns the number with one more digit appended, if it fits 64 bits.
 #[inline(always)]
 fn append_digit(number: u64, radix: Radix, digit: u8) -> Option<u64>
     requires { is_digit_in radix digit ≡ true }
@@ -76,7 +76,7 @@ fn append_digit(number: u64, radix: Radix, digit: u8) -> Option<u64>
         .checked_add(digit_value(digit, radix) as u64)
 }
 
-/// The number that digits write, where it fits 64 bits.
+/// Returns the number that the digits denote, if it fits 64 bits.
 fn value_of(digits: &[u8], radix: Radix) -> Option<u64>
     requires { list_all (is_digit_in radix) digits.now ≡ true }
     ensures { result ≡ value_in (base radix) digits.now }
@@ -88,7 +88,7 @@ fn value_of(digits: &[u8], radix: Radix) -> Option<u64>
     Some(number)
 }
 
-/// Passes digits, as far as they go, and answers the number that they write, where it fits 64 bits.
+/// Consumes the digits that come next, and returns the number that they denote, if it fits 64 bits.
 pub fn take_digits<S: CharStream>(stream: &mut S, radix: Radix) -> Option<u64>
     ensures value { result ≡ value_in (base radix) (front (is_digit_in radix) (S.view stream.old).rest) }
     ensures takes { TakesFront S.view S.at (is_digit_in radix) stream.old stream.new }
@@ -98,8 +98,9 @@ pub fn take_digits<S: CharStream>(stream: &mut S, radix: Radix) -> Option<u64>
     value_of(stream.text_since(place).as_bytes(), radix)
 }
 
-/// The fault of a number that doesn't fit, at the place where it began. Where there is no memory for its text, that is the fault, where
-/// the stream stands. It leaves the stream failed.
+/// Returns the error `NumberRange` for a number that does not fit. Its position is where the number begins, and it holds the number's
+/// text. If the text cannot be allocated, returns `Memory` at the current position. The error is committed, and the stream is marked as
+/// failed.
 #[cold]
 #[inline(never)]
 pub fn out_of_range<S: CharStream, A>(stream: &mut S, place: Place) -> ParseFault<A>

@@ -1,4 +1,4 @@
-//! The reader of fixed texts, a format's literals among them.
+//! The parser of fixed texts, such as the literals of a format.
 ghost use Rattle.std.specs.Prelude.{◌≡◌, IfOk, false};
 ghost use Rattle.irtext_base.specs.Answers.{Answers, NeedsNoMemory};
 ghost use Rattle.irtext_base.specs.Faults.{Unexpected, Word, characters, demand_of};
@@ -12,7 +12,7 @@ use irtext_base::parsable::{CharStream, ParseFault, ParseResult};
 use irtext_base::result::{Cause, Expected, Token};
 use std::alloc::{AllocError, Global};
 
-/// Takes the characters of a text as long as they come. Where not all of them do, it answers whether one did.
+/// Consumes the characters of a text as long as they come next. Returns `None` if all of them do, otherwise whether any was consumed.
 fn spell<S: CharStream>(stream: &mut S, text: &str) -> Option<bool>
     ensures { Spells S.view S.at text.now stream.old result stream.new }
 {
@@ -27,7 +27,7 @@ fn spell<S: CharStream>(stream: &mut S, text: &str) -> Option<bool>
     None
 }
 
-/// The fault where this is expected and doesn't stand: committed where something of it was begun.
+/// Returns the `Unexpected` error at the current position, committed if a part of the text was consumed.
 #[cold]
 #[inline(never)]
 fn missing<S: CharStream, A>(stream: &mut S, begun: bool, expected: Expected) -> ParseFault<A>
@@ -40,8 +40,8 @@ fn missing<S: CharStream, A>(stream: &mut S, begun: bool, expected: Expected) ->
     fault
 }
 
-/// A fixed text as what is expected: a text of at most 24 bytes is held inside, and a longer one is copied. The error means that there
-/// was no memory for the copy.
+/// Returns a fixed text as an `Expected`. A text of at most 24 bytes is stored inline, a longer one is copied. Fails only if the copy
+/// cannot be allocated.
 pub fn held(alloc: Global, text: &str) -> Result<Expected, AllocError>
     ensures { IfOk result (λ e. demand_of e ≡ Word (characters text.now)) }
 {
@@ -54,7 +54,7 @@ pub fn held(alloc: Global, text: &str) -> Result<Expected, AllocError>
     }
 }
 
-/// The same as `text_parse`, one character behind the other: so it finds the first that differs.
+/// The slow path of `text_parse`: compares character by character, to find the first that differs.
 #[cold]
 #[inline(never)]
 fn spelled_parse<S: CharStream, A>(stream: &mut S, text: &str) -> ParseResult<(), A>
@@ -71,8 +71,9 @@ fn spelled_parse<S: CharStream, A>(stream: &mut S, text: &str) -> ParseResult<()
     }
 }
 
-/// Reads a fixed text. The fault stands at the first character that differs; it is uncommitted where that is the first of all. A text of
-/// more than 24 bytes is copied for the fault; where there is no memory for it, that is the fault.
+/// Parses a fixed text. If it does not come next, fails with `Unexpected` at the first character that differs, uncommitted if that is the
+/// first character of the text. A text of more than 24 bytes is copied for the error; if the copy cannot be allocated, fails with
+/// `Memory`.
 #[inline]
 pub fn text_parse<S: CharStream, A>(stream: &mut S, text: &str) -> ParseResult<(), A>
     ensures answers { ReadsAs S.view S.at (λ u. u) (text_at (characters text.now)) stream.old result stream.new }

@@ -1,4 +1,4 @@
-//! Number types that are read from a text.
+//! Number types that can be parsed.
 ghost use Rattle.std.specs.Prelude.{◌≡◌, ◌<◌, ◌≤◌, ◌^◌, ◌+◌, ◌≤ℤ◌, ◌<ℤ◌, neg_ℤ, ℕ, ℤ, pos, Bool, cond, IfSome, List, Result, true, false};
 ghost use Rattle.std.specs.Int.{w8, w16, w32, w64};
 ghost use Rattle.std.specs.Option.{option_map};
@@ -9,24 +9,25 @@ ghost use Rattle.irtext_read.specs.Integers.{signed_below, unsigned_below, withi
 
 use std::num::ParseIntError;
 
-/// A number type that is read from a text.
+/// A number type that can be parsed.
 pub trait FromStrRadix: Sized {
     // the number as an integer
     ghost number: { Self → ℤ };
-    // how many magnitudes fit the type, behind a minus and without one
+    // how many magnitudes fit the type, with a minus and without one
     ghost below: { Bool → ℕ };
-    // what the text is in this radix
+    // the result of parsing the text in this radix
     ghost parses: { ℕ → List ℕ → Result Self ParseIntError → Type 0 };
 
-    /// The number that the whole text writes in this radix, as the type's own `from_str_radix` answers it: behind `+` or nothing,
-    /// and at a signed type also behind `-`, one digit or more. The error is the type's own too: of an empty text, of a character
-    /// that is no digit, or of a number that doesn't fit.
+    /// Parses a whole text as a number in this radix, as the type's own `from_str_radix` does: an optional `+`, or `-` for a signed type,
+    /// and one digit or more. The errors are the type's own too: for an empty text, for a character that is not a digit, and for a number
+    /// that does not fit.
     fn from_str_radix(src: &str, radix: u32) -> Result<Self, ParseIntError>
         requires low { 2 ≤ radix }
         requires high { radix ≤ 36 }
         ensures { parses radix src.now result };
 
-    /// The number of this magnitude, behind a minus or not, where it fits. Behind a minus no number fits an unsigned type.
+    /// Returns the number with this magnitude, negated if `negative`, if it fits the type. With `negative`, no magnitude fits an unsigned
+    /// type, not even 0.
     fn from_magnitude(negative: bool, magnitude: u64) -> Option<Self>
         ensures { option_map number result ≡ within below negative magnitude };
 
@@ -139,7 +140,7 @@ impl FromStrRadix for usize {
     ghost narrow = { elim [ true ↦ lit≤ tt | false ↦ lit≤ tt ] };
 }
 
-/// The integer of a magnitude, where it is one of so many that fit; behind a minus one more fits.
+/// Returns the integer with this magnitude if the magnitude is less than the limit; a negative one may also be equal to it.
 fn signed(negative: bool, magnitude: u64, limit: u64) -> Option<i64>
     requires some { 0 < limit }
     requires fits { limit ≤ 2 ^ 63 }

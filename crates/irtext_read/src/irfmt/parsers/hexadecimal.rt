@@ -1,4 +1,4 @@
-//! The reader of hexadecimal numbers.
+//! The parser of hexadecimal numbers.
 ghost use Rattle.irtext_read.specs.Integers.{hexadecimal_mark_at, hex_int_at};
 ghost use Rattle.irtext_read.specs.Reads.{ReadsAs, SparesMemory};
 
@@ -11,7 +11,7 @@ use crate::irfmt::parsers::integer::number_of;
 use irtext_base::parsable::{CharStream, ParseResult};
 use irtext_base::result::Expected;
 
-/// `0x`, in front of a hexadecimal digit.
+/// Parses `0x`, which must be followed by a hexadecimal digit.
 fn mark_parse<S: CharStream, A>(stream: &mut S) -> ParseResult<(), A>
     ensures answers { ReadsAs S.view S.at (λ u. u) hexadecimal_mark_at stream.old result stream.new }
     ensures spares { SparesMemory S.view hexadecimal_mark_at stream.old result }
@@ -23,10 +23,10 @@ fn mark_parse<S: CharStream, A>(stream: &mut S) -> ParseResult<(), A>
     Err(commit_unexpected(stream, Expected::HexadecimalDigit))
 }
 
-/// Reads a number of `0x` and one hexadecimal digit or more, in both cases and as far as they go. Where the first character is no
-/// `0`, it answers that `0x` is expected, uncommitted; where the second is no `x`, the same, committed; where no digit follows, that
-/// a hexadecimal digit is expected, committed. A number that doesn't fit its type is refused at its beginning. An uncommitted fault
-/// leaves the stream where it was, a committed one leaves it failed.
+/// Parses a number such as `0x1F`: `0x` and one hexadecimal digit or more, in either case, as many as come next. Fails with `Unexpected`
+/// if the first character is not `0`, uncommitted, or the second is not `x`, committed: both expect `0x`. Fails with `Unexpected`,
+/// committed, if no hexadecimal digit follows. Fails with `NumberRange` at the beginning of the number if it does not fit its type. An
+/// uncommitted error leaves the stream unchanged, a committed one leaves it failed.
 pub fn hex_int_parse<S: CharStream, N: FromStrRadix, A>(stream: &mut S) -> ParseResult<N, A>
     ensures answers { ReadsAs S.view S.at N.number (hex_int_at N.below) stream.old result stream.new }
     ensures spares { SparesMemory S.view (hex_int_at N.below) stream.old result }

@@ -1,4 +1,4 @@
-//! The reader of identifiers.
+//! The parser of identifiers.
 ghost use Rattle.std.specs.Prelude.{◌≡◌, true};
 ghost use Rattle.std.specs.Bool.{MatchBool};
 ghost use Rattle.irtext_base.specs.Faults.{demand_of};
@@ -12,7 +12,7 @@ use irtext_base::base::Identifier;
 use irtext_base::parsable::{CharStream, ParseResult};
 use irtext_base::result::{Cause, Expected};
 
-/// Reads an identifier, as long as it goes. Where none begins, this was expected.
+/// Parses the longest identifier that comes next. If none does, fails with `Unexpected`, uncommitted, with this expectation.
 #[tactic(auto, unfolding(crate::specs::Tokens::word_at))]
 pub fn word_parse<S: CharStream, A>(
     stream: &mut S,
@@ -34,7 +34,7 @@ pub fn word_parse<S: CharStream, A>(
     }
 }
 
-/// Reads an identifier, as long as it goes. Where none begins, it answers an uncommitted fault.
+/// Parses the longest identifier that comes next, such as `v_1`. If none does, fails with `Unexpected`, uncommitted.
 #[inline]
 pub fn identifier_parse<S: CharStream, A>(stream: &mut S) -> ParseResult<Identifier, A>
     ensures { ReadsAs S.view S.at (λ name. name) identifier_at stream.old result stream.new }
@@ -42,8 +42,8 @@ pub fn identifier_parse<S: CharStream, A>(stream: &mut S) -> ParseResult<Identif
     word_parse(stream, Expected::Identifier)
 }
 
-/// Passes an identifier, as long as it goes, and answers whether one begins there; else it passes nothing. It takes no memory, and
-/// goes on a failed stream too.
+/// Consumes the longest identifier that comes next, and returns whether there is one. If there is none, the stream is unchanged. It
+/// allocates nothing, and works on a failed stream too.
 pub fn skip_identifier<S: CharStream>(stream: &mut S) -> bool
     ensures { MatchBool result
         ((begins begins_word (S.view stream.old).rest ≡ true) × TakesFront S.view S.at in_word stream.old stream.new)

@@ -1,4 +1,4 @@
-//! The readers of integers of every type, and of numbers as their text.
+//! The parsers of integers of every type, and of numbers as their text.
 ghost use Rattle.std.specs.Prelude.{◌≡◌, string_bytes};
 ghost use Rattle.std.specs.Option.{option_map};
 ghost use Rattle.irtext_base.specs.Stream.{first_of};
@@ -14,7 +14,7 @@ use crate::irfmt::parsers::from_str_radix::FromStrRadix;
 use irtext_base::parsable::{CharStream, ParseResult};
 use irtext_base::result::{Cause, Expected};
 
-/// Passes the sign, if one stands first, and answers it.
+/// If a sign comes next, consumes and returns it.
 fn take_sign<S: CharStream>(stream: &mut S) -> Option<char>
     ensures sign { result ≡ first_of (sign_of (S.view stream.old).rest) }
     ensures takes { Takes S.view S.at (sign_of (S.view stream.old).rest) (after_sign (S.view stream.old).rest) stream.old stream.new }
@@ -28,7 +28,7 @@ fn take_sign<S: CharStream>(stream: &mut S) -> Option<char>
     }
 }
 
-/// Reads `+`, `-` or no sign, in front of a digit.
+/// Parses an optional `+` or `-`, which must be followed by a digit.
 #[inline(always)]
 fn sign_parse<S: CharStream, A>(stream: &mut S) -> ParseResult<Option<char>, A>
     ensures answers { ReadsAs S.view S.at sign_text sign_at stream.old result stream.new }
@@ -48,17 +48,17 @@ fn sign_parse<S: CharStream, A>(stream: &mut S) -> ParseResult<Option<char>, A>
     Err(fault)
 }
 
-/// The number of a magnitude that fits 64 bits or doesn't, behind a minus or not, where it fits its type.
+/// Returns the number with this magnitude, negated if `negative`, if it fits its type. `None` is a magnitude that does not fit 64 bits.
 pub(crate) fn number_of<N: FromStrRadix>(negative: bool, magnitude: Option<u64>) -> Option<N>
     ensures { option_map N.number result ≡ within_of N.below negative magnitude }
 {
     N::from_magnitude(negative, magnitude?)
 }
 
-/// Reads a number: `+`, `-` or no sign, and one digit or more, as far as they go. Where no digit stands, it answers that a digit is
-/// expected, uncommitted where nothing was read and committed behind a sign. A number that doesn't fit its type is refused at its
-/// beginning; behind `-` no number fits an unsigned type. An uncommitted fault leaves the stream where it was, a committed one
-/// leaves it failed.
+/// Parses a number such as `-12`: an optional `+` or `-`, and one digit or more, as many as come next. If there is no digit, fails with
+/// `Unexpected`, committed after a sign and otherwise uncommitted. Fails with `NumberRange` at the beginning of the number if it does not
+/// fit its type; an unsigned type fits no number after `-`. An uncommitted error leaves the stream unchanged, a committed one leaves it
+/// failed.
 pub fn int_parse<S: CharStream, N: FromStrRadix, A>(stream: &mut S) -> ParseResult<N, A>
     ensures answers { ReadsAs S.view S.at N.number (int_at N.below) stream.old result stream.new }
     ensures spares { SparesMemory S.view (int_at N.below) stream.old result }
@@ -72,9 +72,9 @@ pub fn int_parse<S: CharStream, N: FromStrRadix, A>(stream: &mut S) -> ParseResu
     }
 }
 
-/// Reads a number as its text: `+`, `-` or no sign, and one digit or more, as far as they go. Where no digit stands, it answers that
-/// a digit is expected, uncommitted where nothing was read and committed behind a sign. An uncommitted fault leaves the stream where
-/// it was, a committed one leaves it failed.
+/// Parses a number and returns its text: an optional `+` or `-`, and one digit or more, as many as come next. If there is no digit, fails
+/// with `Unexpected`, committed after a sign and otherwise uncommitted. An uncommitted error leaves the stream unchanged, a committed one
+/// leaves it failed.
 pub fn number_as_string_parse<S: CharStream, A>(stream: &mut S) -> ParseResult<String, A>
     ensures { ReadsAs S.view S.at (λ text. string_bytes text) number_text_at stream.old result stream.new }
 {

@@ -1,5 +1,5 @@
-//! Readers of lists, over any item. An item keeps the rules of faults: a value stands in front of the text or a later part of it, an
-//! uncommitted fault leaves the stream as it was, and a committed one leaves it failed.
+//! Parsers of lists, over any parser of an item. The item's parser keeps the rules of errors: on success the stream has moved on or is
+//! where it was, an uncommitted error leaves it unchanged, and a committed error leaves it failed.
 ghost use Rattle.std.specs.Prelude.{◌≡◌, []};
 ghost use Rattle.std.specs.Bool.{MatchBool};
 ghost use Rattle.irtext_read.specs.Lists.{AlwaysKeepsRules, Calls, KeepsRules, UnlessFailed, Items, SpacedItems, Separated, TailAfter, Delimited, WithSeparator, Spaced, character_of, listed};
@@ -13,7 +13,7 @@ use irtext_base::parsable::{CharStream, ParseFault, ParseResult, Place};
 use irtext_base::printable::ListSeparator;
 use irtext_base::result::{Cause, Expected};
 
-/// Whether no character was taken since an earlier place.
+/// Whether no character was consumed since an earlier position.
 fn is_still_at<S: CharStream>(stream: &S, place: Place) -> bool
     requires { HasPassed place (S.view stream.now) }
     ensures { SincePlace place (S.view stream.now) (λ passed taken. MatchBool result (taken ≡ []) (taken ≡ [] → ⊥)) }
@@ -21,7 +21,7 @@ fn is_still_at<S: CharStream>(stream: &S, place: Place) -> bool
     stream.text_since(place).is_empty()
 }
 
-/// The character of a separator, where it has one.
+/// Returns the character of a separator, if it has one.
 fn character_of(sep: ListSeparator) -> Option<char>
     ensures { result ≡ character_of sep }
 {
@@ -33,7 +33,7 @@ fn character_of(sep: ListSeparator) -> Option<char>
     }
 }
 
-/// Items with white space after each, until one is missing.
+/// Parses items, each with optional white space after it, until one is missing.
 fn items<S: CharStream, X: Drop, A: Drop, F: FnMut(&mut S) -> ParseResult<X, A> + Drop>(
     stream: &mut S,
     mut item: F,
@@ -66,7 +66,7 @@ where
     }
 }
 
-/// Separators and items behind the items found, as long as a separator follows.
+/// Parses more items after those found, as long as a separator comes next.
 fn tail<S: CharStream, X: Drop, A: Drop, F: FnMut(&mut S) -> ParseResult<X, A> + Drop>(
     stream: &mut S,
     sep: char,
@@ -94,7 +94,7 @@ where
     Ok(found)
 }
 
-/// Items with a separator between them, white space after each item and each separator.
+/// Parses items with a separator between them, and optional white space after each item and each separator.
 fn separated<S: CharStream, X: Drop, A: Drop, F: FnMut(&mut S) -> ParseResult<X, A> + Drop>(
     stream: &mut S,
     sep: char,
@@ -123,9 +123,9 @@ where
     tail(stream, sep, found, item)
 }
 
-/// Reads items with a separator between them, and white space after each item and each separator. Where the first item is missing
-/// the list is empty and the stream stays. Behind a separator an item must stand: its fault is committed, as are the faults of memory
-/// and of a failed stream.
+/// Parses items with a separator between them, and optional white space after each item and each separator. If the first item is missing,
+/// the list is empty and the stream is unchanged. After a separator an item is required: its error is committed. `Memory` and
+/// `StreamFailed` are committed too.
 pub fn list_parser<S: CharStream, X: Drop, A: Drop, F: FnMut(&mut S) -> ParseResult<X, A> + Drop>(
     stream: &mut S,
     sep: char,
@@ -144,8 +144,9 @@ where
     separated(stream, sep, item)
 }
 
-/// Reads a character, white space, a list with a separator, and a character. Where the first character is missing the fault is
-/// uncommitted and the stream stays; each other fault is committed, also that of the last character.
+/// Parses a list such as `[a, b]`: the left character, optional white space, items with a separator as `list_parser` does, and the right
+/// character. If the left character is missing, the error is uncommitted and the stream is unchanged. Every other error is committed,
+/// also if the right character is missing.
 pub fn delimited_list_parser<
     S: CharStream,
     X: Drop,
@@ -175,9 +176,9 @@ where
     Ok(found)
 }
 
-/// Reads items with a separator between them as `list_parser` does, or, where the separator has no character, items with white space
-/// after each until one is missing. A separator of white space is an uncommitted fault, whatever the text. An item that takes no
-/// character is a committed fault where no separator stands between them.
+/// Parses items with a separator between them as `list_parser` does. If the separator has no character, parses items with optional white
+/// space after each until one is missing; then an item that consumes no character is the committed error `EmptyItem`. A white-space
+/// character as the separator is the uncommitted error `BadSeparator`, for any text.
 pub fn list_with_sep_parser<
     S: CharStream,
     X: Drop,
@@ -203,8 +204,8 @@ where
     separated(stream, c, item)
 }
 
-/// Reads white space, and items with white space after each, until one is missing. Each fault is committed: that of an item, of
-/// an item that takes no character, of memory and of a failed stream.
+/// Parses white space, and items with optional white space after each, until one is missing. Every error is committed: a committed error
+/// of an item, `EmptyItem` for an item that consumes no character, `Memory` and `StreamFailed`.
 pub fn zero_or_more_parser<
     S: CharStream,
     X: Drop,
@@ -225,8 +226,8 @@ where
     items(stream, item)
 }
 
-/// Reads white space, the item and white space. White space counts as read: where it stands first, the item's fault is committed and
-/// the stream fails; where none does, the item's fault is the answer.
+/// Parses the item with optional white space before and after it. White space before it counts as consumed: then the item's error is
+/// committed, and the stream is left failed. Otherwise the item's error is returned unchanged.
 pub fn spaced<S: CharStream, X: Drop, A: Drop, F: FnMut(&mut S) -> ParseResult<X, A> + Drop>(
     stream: &mut S,
     mut item: F,

@@ -1,4 +1,4 @@
-//! The reader of operations' ids.
+//! The parser of operation ids.
 ghost use Rattle.irtext_base.specs.Faults.{id_of};
 ghost use Rattle.irtext_read.specs.Tokens.{id_at};
 ghost use Rattle.irtext_read.specs.Reads.{ReadsAs};
@@ -10,7 +10,8 @@ use irtext_base::base::OpId;
 use irtext_base::parsable::{CharStream, ParseResult};
 use irtext_base::result::Expected;
 
-/// Reads an operation's id: its dialect, `.` and its name there, with nothing between. Where no dialect begins, it answers an uncommitted fault.
+/// Parses an operation's id, such as `builtin.module`: the dialect, `.` and the operation's name, without white space between them. If no
+/// dialect comes next, fails with `Unexpected`, uncommitted. Every other error is committed.
 #[tactic(auto, unfolding(crate::specs::Tokens::id_at))]
 pub fn id_parse<S: CharStream, A>(stream: &mut S) -> ParseResult<OpId, A>
     ensures { ReadsAs S.view S.at id_of id_at stream.old result stream.new }

@@ -1,4 +1,4 @@
-//! The reader of quoted texts.
+//! The parser of quoted strings.
 ghost use Rattle.std.specs.Prelude.{◌≡◌, [], ◌++◌, false, codes, IfOk, MatchResult, string_bytes};
 ghost use Rattle.std.specs.Str.{encode_utf8_all};
 ghost use Rattle.irtext_base.specs.Text.{front, begins};
@@ -16,7 +16,7 @@ use crate::irfmt::parsers::fixed_text::text_parse;
 use irtext_base::parsable::{CharStream, ParseFault, ParseResult, Place};
 use irtext_base::result::{Cause, Expected};
 
-/// Appends characters that stand for themselves to the text, as far as they go. Only memory can be refused.
+/// Consumes the characters that come next and denote themselves, and appends them to the text. Fails only if an allocation fails.
 fn append_plain<S: CharStream, A>(stream: &mut S, text: &mut String) -> ParseResult<(), A>
     requires { (S.view stream.old).failed ≡ false }
     ensures value { IfOk result (λ _.
@@ -33,7 +33,7 @@ fn append_plain<S: CharStream, A>(stream: &mut S, text: &mut String) -> ParseRes
     }
 }
 
-/// The character of a number, where it is one's.
+/// Returns the character with this code, if there is one.
 fn character(number: Option<u64>) -> Option<char>
     ensures { result ≡ character_of number }
 {
@@ -44,8 +44,9 @@ fn character(number: Option<u64>) -> Option<char>
     char::from_u32(number as u32)
 }
 
-/// The fault of hexadecimal digits since a place, which name no character, at the escape's own place. Where there is no memory for the
-/// digits, that is the fault, where the stream stands. It leaves the stream failed.
+/// Returns the error `BadUnicodeEscape`, at the escape's backslash, for hexadecimal digits that denote no character. It holds the digits,
+/// from a position up to the current one. If they cannot be allocated, returns `Memory` at the current position. Marks the stream as
+/// failed.
 #[cold]
 #[inline(never)]
 fn no_character<S: CharStream, A>(stream: &mut S, escape: Place, digits: Place) -> ParseFault<A>
@@ -59,8 +60,8 @@ fn no_character<S: CharStream, A>(stream: &mut S, escape: Place, digits: Place) 
     }
 }
 
-/// Reads the braces and the digits of an escape by number, whose backslash stands at the place. What it answers is what the escape is
-/// from its backslash on.
+/// Parses the rest of an escape such as `\u{41}`, from its opening brace on. The escape's backslash is at the given position. The
+/// contract covers the escape from its backslash on.
 fn unicode_parse<S: CharStream, A>(stream: &mut S, escape: Place) -> ParseResult<char, A>
     requires { (S.view stream.old).failed ≡ false }
     ensures { (before : S) → Takes S.view S.at (codes "\\u") (S.view stream.old).rest before stream.old →
@@ -86,7 +87,7 @@ fn unicode_parse<S: CharStream, A>(stream: &mut S, escape: Place) -> ParseResult
     Ok(c)
 }
 
-/// The character that one behind a backslash stands for.
+/// Returns the character that this character denotes after a backslash, if it is an escape.
 fn escaped(c: char) -> Option<char>
     ensures { result ≡ escape_of c }
 {
@@ -102,7 +103,7 @@ fn escaped(c: char) -> Option<char>
     }
 }
 
-/// Reads one unit: an escape, or a character as it stands.
+/// Parses one unit: an escape, or a character that denotes itself.
 #[tactic(auto, unfolding(crate::specs::QuotedTexts::unit_at))]
 fn unit_parse<S: CharStream, A>(stream: &mut S) -> ParseResult<char, A>
     requires { (S.view stream.old).failed ≡ false }
@@ -127,7 +128,7 @@ fn unit_parse<S: CharStream, A>(stream: &mut S) -> ParseResult<char, A>
     }
 }
 
-/// Reads units up to the first quotation mark that stands outside of a unit, and that mark.
+/// Parses units up to the first quotation mark that is not part of a unit, and consumes that quotation mark.
 fn units_parse<S: CharStream, A>(stream: &mut S) -> ParseResult<String, A>
     requires { (S.view stream.old).failed ≡ false }
     ensures { Answers S.view S.at (λ s. string_bytes s)
@@ -146,11 +147,11 @@ fn units_parse<S: CharStream, A>(stream: &mut S) -> ParseResult<String, A>
     Ok(text)
 }
 
-/// Reads a quoted text: a quotation mark, escapes and any other characters as they stand, and a quotation mark. It answers the
-/// characters that they mean.
+/// Parses a quoted string, such as `"a\n"`: a quotation mark, escapes and any other characters, which denote themselves, and a quotation
+/// mark. Returns the characters that they denote.
 ///
-/// Where no quotation mark begins it, the fault is uncommitted and the stream stands where it stood. Else a fault is committed:
-/// `BadEscape` and `BadUnicodeEscape` stand at the escape's backslash, and `Unexpected` where a character is missing.
+/// If no quotation mark comes first, fails with `Unexpected`, uncommitted, and the stream is unchanged. Every other error is committed:
+/// `BadEscape` and `BadUnicodeEscape` at the escape's backslash, and `Unexpected` at the position of a missing character.
 pub fn quoted_string_parse<S: CharStream, A>(stream: &mut S) -> ParseResult<String, A>
     ensures { ReadsAs S.view S.at (λ s. string_bytes s) (λ text. mapped encode_utf8_all (quoted_at text)) stream.old result stream.new }
 {

@@ -1,4 +1,4 @@
-//! The reader of truth values.
+//! The parser of `true` and `false`.
 ghost use Rattle.irtext_read.specs.Integers.{bool_at};
 ghost use Rattle.irtext_read.specs.Reads.{ReadsAs, SparesMemory};
 
@@ -7,9 +7,9 @@ use crate::irfmt::parsers::fixed_text::text_parse;
 use irtext_base::parsable::{CharStream, ParseResult};
 use irtext_base::result::{Cause, Expected};
 
-/// Reads `true` or `false`, whatever follows. Where neither begins, it answers that one of them is expected, uncommitted; where the
-/// one that begins differs later, that this one is expected, committed, at the character that differs. An uncommitted fault leaves
-/// the stream where it was, a committed one leaves it failed.
+/// Parses `true` or `false`, whatever comes after it. If the next character begins neither, fails with `Unexpected`, uncommitted,
+/// expecting one of the two. If a later character differs, fails with `Unexpected` there, committed, expecting the word that was begun.
+/// An uncommitted error leaves the stream unchanged, a committed one leaves it failed.
 #[tactic(auto, unfolding(crate::specs::Integers::bool_at))]
 pub fn bool_parse<S: CharStream, A>(stream: &mut S) -> ParseResult<bool, A>
     ensures answers { ReadsAs S.view S.at (λ b. b) bool_at stream.old result stream.new }
