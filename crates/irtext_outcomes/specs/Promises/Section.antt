@@ -39,7 +39,7 @@ abbrev pub Faults : {A : Type 0} → Bool → (Fault → Text → Type 0) → St
 Faults committed Allowed old fault = IsStarved fault ⊎ ((cause : Fault) × (upto : Text) × Allowed cause upto × FaultAt committed cause upto old fault)
 
 module _ {A : Type 0} where
-  -- whether the files in what an entry gives have their paths among the first ones, this many
+  -- whether the keys of the files in what an entry gives are below this count
   abbrev pub known_given : ℕ → Option (Location A) → Bool
   known_given count None = true
   known_given count (Some l) = known_location count l

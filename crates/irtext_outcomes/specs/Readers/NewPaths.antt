@@ -19,7 +19,7 @@ pub record AddsPaths {T A : Type 0} (old new : ContextView T A) : Type 0 where
   pub kept : KeepsPaths old.paths new.paths
   pub rest : new ≡ with_paths old new.paths
 
--- the paths of the location's files are among the first ones, this many
+-- the keys of the location's files are below this count
 abbrev pub known_location : {A : Type 0} → ℕ → Location A → Bool
 known_location count l = are_known count (location_view l)
 
