@@ -24,8 +24,8 @@ pub struct UndefinedName {
     pub index: usize,
 }
 
-/// Defines names as the results of an operation, one after another, from result 0 on. The operation has a result for each name, and a
-/// scope of values is open. Each result replaces the placeholder of its name, if the name was used before. Fails with
+/// Defines names as the results of an operation, one after another, from result 0 on. The operation must have a result for each name, and
+/// a scope of values must be open. Each result replaces the placeholder of its name, if the name was used before. Fails with
 /// `MultipleDefinitions` at the first name that its scope defines already, and with `Memory` if an allocation fails; the names before
 /// that one are defined then.
 pub fn process_parsed_ssa_defs<N: Named, O: Drop, B: Drop, T: Drop>(

@@ -24,9 +24,9 @@ use irtext_scopes::scopes::DefineFault;
 use irtext_scopes::tracker::NameTracker;
 use std::alloc::AllocError;
 
-/// Returns the block that a label refers to where it is used: its definition, or the placeholder that waits for it. A region is open. A
-/// label that is new in its region gets a placeholder: a detached block with this data and without arguments. Fails if an allocation
-/// fails or a counter is full; then the scopes and each object of the graph are unchanged.
+/// Returns the block that a label refers to where it is used: its definition, or the placeholder that waits for it. A region must be
+/// open. A label that is new in its region gets a placeholder: a detached block with this data and without arguments. Fails if an
+/// allocation fails or a counter is full; then the scopes and each object of the graph are unchanged.
 pub fn block_opd<O: Drop, B: Drop, T: Drop>(
     names: &mut NameTracker<Value, Ptr<BasicBlock>>,
     graph: &mut Graph<Option<O>, B, Option<T>>,
@@ -60,9 +60,9 @@ pub fn block_opd<O: Drop, B: Drop, T: Drop>(
     Ok(block)
 }
 
-/// Defines a label as this block. A region is open. If the label was used before, the block replaces the placeholder in all uses, and the
-/// placeholder is erased. Fails with `MultipleDefinitions` if the region defines the label already, and with `Memory` if an allocation
-/// fails, which can happen only for a label that is new in the region. On an error the scopes and the graph are unchanged.
+/// Defines a label as this block. A region must be open. If the label was used before, the block replaces the placeholder in all uses,
+/// and the placeholder is erased. Fails with `MultipleDefinitions` if the region defines the label already, and with `Memory` if an
+/// allocation fails, which can happen only for a label that is new in the region. On an error the scopes and the graph are unchanged.
 pub fn block_def<O: Drop, B: Drop, T: Drop>(
     names: &mut NameTracker<Value, Ptr<BasicBlock>>,
     graph: &mut Graph<Option<O>, B, Option<T>>,

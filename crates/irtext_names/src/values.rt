@@ -24,8 +24,8 @@ use irtext_scopes::scopes::DefineFault;
 use irtext_scopes::tracker::NameTracker;
 use std::alloc::AllocError;
 
-/// Returns the value that a name refers to where it is used: its definition, or the placeholder that waits for it. A scope of values is
-/// open. A name that is new in its scope gets a placeholder: the result of a detached operation without data. Fails if an allocation
+/// Returns the value that a name refers to where it is used: its definition, or the placeholder that waits for it. A scope of values must
+/// be open. A name that is new in its scope gets a placeholder: the result of a detached operation without data. Fails if an allocation
 /// fails or a counter is full; then the scopes and each object of the graph are unchanged.
 pub fn ssa_opd<O: Drop, B: Drop, T: Drop>(
     names: &mut NameTracker<Value, Ptr<BasicBlock>>,
@@ -59,8 +59,8 @@ pub fn ssa_opd<O: Drop, B: Drop, T: Drop>(
     Ok(value)
 }
 
-/// Defines a name as this value. A scope of values is open. If the name was used before, the value replaces the placeholder in all uses,
-/// and the placeholder is erased. Fails with `MultipleDefinitions` if the scope defines the name already, and with `Memory` if an
+/// Defines a name as this value. A scope of values must be open. If the name was used before, the value replaces the placeholder in all
+/// uses, and the placeholder is erased. Fails with `MultipleDefinitions` if the scope defines the name already, and with `Memory` if an
 /// allocation fails, which can happen only for a name that is new in the scope. On an error the scopes and the graph are unchanged.
 pub fn ssa_def<O: Drop, B: Drop, T: Drop>(
     names: &mut NameTracker<Value, Ptr<BasicBlock>>,

@@ -108,7 +108,7 @@ module _ {T A S : Type 0} (dialects : List (Text × Table)) (types_at : Text →
   pub record StuckAt (next : Option (Open T A)) (frames : List (Open T A)) (s : S) (text : Text) (s' : S) (cause : Fault) (place : ℕ) : Type 0 where
     pub so : whole next frames s text ≡ Stuck s' cause place
 
--- how many steps of the loop a frame takes without consuming text: for an operation its steps
+-- how much is left to do of a frame without consuming text: of an operation its steps
 abbrev pub weight : {T A : Type 0} → Open T A → ℕ
 weight (to_come inside) = 1
 weight (an_operation o) = suc (length o.steps)
@@ -116,17 +116,17 @@ weight (a_region iso place) = 1
 weight (a_block true) = 3
 weight (a_block false) = 1
 
--- the same of all frames that wait
+-- how much is left to do of all frames that wait
 abbrev pub weights : {T A : Type 0} → List (Open T A) → ℕ
 weights [] = 0
 weights (f ∷ frames) = weight f + weights frames
 
--- the same of all that is open: nothing if no frame is next
+-- how much is left to do of all that is open: nothing if no frame is next
 abbrev pub to_do : {T A : Type 0} → Option (Open T A) → List (Open T A) → ℕ
 to_do None frames = 0
 to_do (Some f) frames = weight f + weights frames
 
--- the steps that are left, if k steps are counted for each character of the text
+-- how much is left to do, counting k for each character of the text
 abbrev pub work : {T A : Type 0} → ℕ → Option (Open T A) → List (Open T A) → Text → ℕ
 work k next frames text = k * length text + to_do next frames
 
@@ -140,6 +140,6 @@ abbrev pub all_steps : List (Text × Table) → ℕ
 all_steps [] = 0
 all_steps (d ∷ ds) = entry_steps d.1.entries + all_steps ds
 
--- no more steps than this are done for each character that is parsed
+-- at most this much is done for each character that is parsed
 abbrev pub by_character : List (Text × Table) → ℕ
 by_character dialects = all_steps dialects + 4

@@ -1,4 +1,5 @@
--- For callers: roots whose printed text is parsed back, and what is promised of each root that is parsed from it.
+-- For callers: roots whose printed text is parsed back, and what is promised of each root that is parsed from it. Fillings are the given
+-- names, labels and positions that the text adds where the root has none.
 use Rattle.std.specs.Prelude.{◌≡◌, ◌<◌, ◌^◌, ℕ, Bool, true, List, [], length, Option, Some}
 use Rattle.irtext_base.specs.Answers.{Outcome}
 use Rattle.irtext_base.specs.Format.{Id}
@@ -52,7 +53,7 @@ module _ {T A : Type 0} (types : Texts T) (owns : Texts A) (attr : Text → Outc
     pub is : t ≡ text (unplaced types owns C.format_of) C g indentation width limit
     pub few : length t < 2 ^ 64
 
-  -- A text parses as a tree and the entries of its section, with this rest; they resolve; and what they build is held.
+  -- A text parses as a tree and the entries of its section, with this rest; they resolve; and `held` is what they build.
   pub record ReadsAs (first : ℕ → Written A) (t rest : Text) (held : Option (Built T A (Written A))) : Type 0 where
     pub tree : Tree ℕ T A
     pub entries : List (Entry ℕ A (Written A))
@@ -60,7 +61,7 @@ module _ {T A : Type 0} (types : Texts T) (owns : Texts A) (attr : Text → Outc
     pub resolves : failures_of isolated tree entries ≡ []
     pub builds : held ≡ Some (build isolated first entries tree)
 
-  -- What is held is equal to the root up to fillings, with the same uses inside; and only white space is left of the text.
+  -- `held` is equal to the root up to fillings, with the same uses inside; and only white space is left of the text.
   pub record HeldBack (g : Graph T A) (rest : Text) (held : Option (Built T A (Written A))) : Type 0 where
     pub built : Built T A (Written A)
     pub is : held ≡ Some built
@@ -68,7 +69,7 @@ module _ {T A : Type 0} (types : Texts T) (owns : Texts A) (attr : Text → Outc
     pub uses : SameUses (stood C isolated g) built
     pub ends : after_space rest ≡ []
 
-  -- The same with nothing filled in but positions.
+  -- The same, with nothing filled in but positions.
   pub record HeldWhole (g : Graph T A) (rest : Text) (held : Option (Built T A (Written A))) : Type 0 where
     pub built : Built T A (Written A)
     pub is : held ≡ Some built

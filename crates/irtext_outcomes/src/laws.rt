@@ -1,5 +1,5 @@
 //! Laws of the round trip: whatever is parsed from the printed text of a closed root is equal to it up to fillings, and no error that
-//! depends on the text can occur.
+//! depends on the text can occur. Fillings are the given names, labels and positions that the text adds where the root has none.
 ghost use Rattle.std.specs.Prelude.{◌≡◌, ◌<◌, ◌^◌, ℕ, Bool, List, [], Option, None, true, length};
 ghost use Rattle.std.specs.Str.{IsUtf8, chars, encode_utf8_all};
 ghost use Rattle.irtext_base.specs.Format.{Id};
@@ -25,9 +25,9 @@ ghost use Rattle.irtext_outcomes.specs.Back.{ClosedRoot, HeldBack, HeldWhole, Is
 
 use irtext_base::text::{AttrText, IrText};
 
-/// Whatever is parsed from the printed text of a closed root of a context, and is then held, is equal to the root up to fillings, with
+/// Whatever is parsed from the printed text of a closed root of a context, and built (`held`), is equal to the root up to fillings, with
 /// the same uses inside, and only white space is left of the text. Also, the text does parse as a root that resolves. So no error that
-/// depends on the text can occur: such an error says that whatever the text parses as does not resolve.
+/// depends on the text can occur: such an error means that whatever the text parses as does not resolve.
 pub fn closed_root_comes_back<T: IrText<A>, A: AttrText>()
     ensures builds { (C : Printing T A) (isolated : Id → Bool) (first : ℕ → Written A) (g : Graph T A) (width n : ℕ) (t rest : List ℕ)
         (held : Option (Built T A (Written A))) →

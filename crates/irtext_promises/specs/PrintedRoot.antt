@@ -36,6 +36,6 @@ module _ {T A : Type 0} (types : Texts T) (owns : Texts A) (attr : Text → Outc
     abbrev pub StandsBack : Type 0
     StandsBack = HeldBack types owns attr C (isolated dialects) g new.stream.rest (held_root new.state.ctx.now q)
 
-    -- the same with nothing filled in but positions
+    -- the same, with nothing filled in but positions
     abbrev pub StandsWhole : Type 0
     StandsWhole = HeldWhole types owns attr C (isolated dialects) g new.stream.rest (held_root new.state.ctx.now q)

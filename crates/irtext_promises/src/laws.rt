@@ -1,4 +1,5 @@
-//! The law of the two calls: what is parsed from the printed text of a closed root is equal to it.
+//! The law of the two calls: what is parsed from the printed text of a closed root is equal to it up to fillings. Fillings are the given
+//! names, labels and positions that the text adds where the root has none.
 ghost use Rattle.std.specs.Prelude.{◌≡◌, ℕ, List, None, Option, Some};
 ghost use Rattle.std.specs.Str.{chars};
 ghost use Rattle.irtext_base.specs.Answers.{Outcome};

@@ -35,7 +35,7 @@ abbrev pub no_operation : Text → Type 0
 no_operation text = begins (λ c. begins_word c || c == 61) (after_space text) ≡ false
 
 module _ {P T A : Type 0} (L : Language P T A) where
-  -- the reading, at a text whose place is the given one
+  -- `reading`, at a text whose place is the given one
   abbrev pub here : P → Reading → Reading
   here place reading text rest = L.at place text × reading text rest
 
@@ -72,7 +72,7 @@ module _ {P T A : Type 0} (L : Language P T A) where
   abbrev pub own_read : A → Reading
   own_read a text rest = L.owns.outcome text ≡ found a rest
 
-  -- the reading, unless this keyword comes next
+  -- `reading`, unless this keyword comes next
   abbrev pub unless : Text → Reading → Reading
   unless word reading text rest = ((after : Text) → keyword word text after → ⊥) × reading text rest
 
@@ -132,7 +132,7 @@ module _ {P T A : Type 0} (L : Language P T A) where
   results_if ns text rest = results ns text rest
       ⊎ ((ns ≡ []) × (rest ≡ text) × ((others : List (Name P)) (left : Text) → results others text left → ⊥))
 
-  -- the reading, if the operation is registered and its body has the shape of its format
+  -- `reading`, if the operation is registered and its body has the shape of its format
   abbrev pub registered : Op P T A → Reading → Reading
   registered op reading text rest = ((f : Format) × (L.format_of op.id ≡ Some f) × IsOf f op.body) × reading text rest
 

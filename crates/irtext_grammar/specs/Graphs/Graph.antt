@@ -9,7 +9,8 @@ use Rattle.irtext_grammar.specs.Grammar.Tree as tree
 use Rattle.irtext_grammar.specs.Grammar.Tree.{Name, Mark, Attribute, given_names, ident, own, Part, Body, Op, Head, Brace, shown, elided, Tree}
 use Rattle.irtext_grammar.specs.Spelling.PrintedNames.{value_name, block_name}
 
--- an operation: values are given by their numbers, blocks by place and generation; the location is a text, if it is known
+-- an operation without its regions: values are given by their numbers, blocks by place and generation; the location is a text, if it is
+-- known
 pub record GraphOp (T A : Type 0) : Type 0 where
   pub id : Id
   pub results : List (ℕ × T)

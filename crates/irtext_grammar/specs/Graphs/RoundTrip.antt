@@ -1,5 +1,5 @@
 -- For callers: the whole round trip. The printed text of a root, with its section, parses as a tree and entries that resolve, and what
--- they build is equal to the root up to fillings. And what the arenas ensure of locations and dictionaries for that.
+-- they build is equal to the root up to fillings (see Graphs/Same). And what the arenas ensure of locations and dictionaries for that.
 use Rattle.std.specs.Prelude.{◌≡◌, ℕ, Bool, true, false, List, [], ◌++◌, map, Option, Some, None, ⊤}
 use Rattle.std.specs.Char.{is_whitespace}
 use Rattle.irtext_base.specs.Text.{Text, begins, after_space}
