@@ -27,7 +27,7 @@ abbrev pub came : {X Y S : Type 0} → Reached X S → (X → S → Text → Rea
 came (Came x s rest) next = next x s rest
 came (Stuck s cause place) next = Stuck s cause place
 
--- goes on after something that is required at a text, with this state
+-- goes on after something that is required at a text, with this state; stuck if it is missing or bad
 abbrev pub tells : {X Y S : Type 0} → Outcome X → Text → S → (X → Text → Reached Y S) → Reached Y S
 tells (Read x taken rest) text s next = next x rest
 tells (Missing cause) text s next = Stuck s cause (length text)

@@ -18,7 +18,8 @@ use irtext_base::text::{AttrText, IrText};
 
 /// The tree that is built while nested text is parsed is the tree that the text parses as. If each registered format meets all its
 /// conditions, then what the parser of an operation, with everything nested in it, builds from nothing is a tree of the grammar. Each
-/// tree of the grammar is built from nothing, up to the same rest; if something is open, the tree is added there as the last one.
+/// tree of the grammar is built from nothing, up to the same rest; if something is open, the tree is added there as the last one. The
+/// actions of the tree, performed from nothing, build the same.
 pub fn what_is_built_is_the_tree<T: IrText<A>, A: AttrText>()
     ensures read { (dialects : List (Text × Table)) (text rest : Text) (b : Building T A) → ((id : Id) → IsAccepted dialects id) →
         operation_at dialects T.reading (attr_at A.reading) (building (format_of dialects)) true text nothing_open ≡ Came tt b rest →

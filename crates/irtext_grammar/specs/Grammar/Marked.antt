@@ -1,5 +1,4 @@
--- For callers: whether a tree has a mark; and the grammar of a root, which has a section exactly if its tree has a mark. An item is an
--- operation or a block that carries a mark.
+-- For callers: whether a tree has a mark; and the grammar of a root, which has a section exactly if its tree has a mark.
 use Rattle.std.specs.Prelude.{Bool, true, false, ◌||◌, List, [], ◌∷◌, is_some, ⊤}
 use Rattle.irtext_grammar.specs.Grammar.Forest.{Regions, no_regions, region, Blocks, no_blocks, block, Operations, no_operations, operation, AllRegions}
 use Rattle.irtext_base.specs.Text.{Text}

@@ -30,7 +30,7 @@ no_given_name text = begins (λ c. begins_word c || c == 63) text ≡ false
 abbrev pub no_label : Text → Type 0
 no_label text = begins (the 94) text ≡ false
 
--- no operation begins here, nor after the white space that is here
+-- no operation begins here, after white space
 abbrev pub no_operation : Text → Type 0
 no_operation text = begins (λ c. begins_word c || c == 61) (after_space text) ≡ false
 

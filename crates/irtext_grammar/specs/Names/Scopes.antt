@@ -93,7 +93,7 @@ module _ {N : Type 0} (eq : N → N → Bool) where
   lookup n (uses m u ∷ fs) = lookup n fs
   lookup n (defines m p ∷ fs) = cond (eq m n) (Some p) (lookup n fs)
 
-  -- each use among the facts, with the definition of its name in the whole scope
+  -- each use among the facts whose name the whole scope defines, with that definition
   abbrev pub bound_in : List (Fact N) → List (Fact N) → List (User × Place)
   bound_in all [] = []
   bound_in all (uses n u ∷ fs) = link u (lookup n all) ++ bound_in all fs

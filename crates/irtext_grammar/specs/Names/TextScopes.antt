@@ -38,7 +38,7 @@ Scopes = scopes.Scopes Text
 abbrev pub lookup : Text → List Fact → Option Place
 lookup = scopes.lookup same_text
 
--- each use among the facts, with its definition
+-- each use among the facts that has a definition, with it
 abbrev pub bound_in : List Fact → List Fact → List (User × Place)
 bound_in = scopes.bound_in same_text
 
