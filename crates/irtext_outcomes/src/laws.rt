@@ -69,7 +69,8 @@ pub fn limited_root_is_refused<T: IrText<A>, A: AttrText>()
         reads_root (language types owns C.format_of) (location_standing (attr_at A.reading)) tree entries t rest → ⊥ }
 {}
 
-/// If fewer than 2 ^ 64 bytes in memory encode the printed text of a root, their characters are a text of the root (`IsTextOf`).
+/// If fewer than 2 ^ 64 bytes in memory encode the printed text of a root that meets `KeptRoot` and fits its formats, their characters
+/// are a text of the root (`IsTextOf`).
 pub fn bytes_are_text<T: IrText<A>, A: AttrText>()
     ensures { (C : Printing T A) (isolated : Id → Bool) (g : Graph T A) (width n : ℕ) (limit : Limit) (bytes : List ℕ) →
         let types = texts_of T.reading T.written in
@@ -79,9 +80,9 @@ pub fn bytes_are_text<T: IrText<A>, A: AttrText>()
         IsTextOf types owns (attr_at A.reading) C isolated g width n limit (chars bytes) }
 {}
 
-/// A root that represents what was parsed and resolved is closed if its operations fit their formats; its blocks have labels, and
-/// everything that has results or arguments has given names. So what is parsed from its printed text is equal to it, except that unknown
-/// locations have become positions.
+/// A root that represents what was parsed and resolved is closed if its operations fit their formats and no two of its values or blocks
+/// are the same; its blocks have labels, and everything that has results or arguments has given names. So what is parsed from its printed
+/// text is equal to it, except that unknown locations have become positions.
 pub fn read_root_is_closed<T: IrText<A>, A: AttrText>()
     ensures closed { (C : Printing T A) (isolated : Id → Bool) (before : ℕ → Written A) (tree : Tree ℕ T A) (entries : List (Entry ℕ A (Written A)))
         (source rest : List ℕ) (g : Graph T A) →
