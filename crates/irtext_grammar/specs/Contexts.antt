@@ -1,4 +1,4 @@
--- What a context holds under an operation, and what its dialects say of it.
+-- What a context contains under an operation, and what its dialects say of it.
 pub mod Formats
 pub mod Held
 pub mod Nested

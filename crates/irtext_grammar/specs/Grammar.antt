@@ -1,4 +1,4 @@
--- What a text reads as: trees, and the section behind a root.
+-- What a text parses as: trees, and the section after a root.
 pub mod Forest
 pub mod Tree
 pub mod Reads

@@ -1,4 +1,4 @@
--- What arenas hold, and what a tree builds.
+-- What arenas contain, and what a tree builds.
 pub mod Graph
 pub mod Build
 pub mod Closed

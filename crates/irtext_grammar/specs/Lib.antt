@@ -1,4 +1,5 @@
--- Texts and readings, then trees, names, graphs, what is written of them, and what a context holds, in reading order
+-- The definitions in reading order: texts and their grammar, then trees, names, graphs, what is printed of them, and what a context
+-- contains.
 pub mod Contexts
 pub mod Grammar
 pub mod Graphs

@@ -1,4 +1,4 @@
--- Which definition a name means: acts in reading order, scopes, placeholders.
+-- Which definition a name refers to: acts in the order in which a text is parsed, scopes, placeholders.
 pub mod Script
 pub mod Scopes
 pub mod TextScopes

@@ -1,4 +1,4 @@
--- The text that is written of a tree, a graph, a section, a location.
+-- The text that is printed of a tree, a graph, a section, a location.
 pub mod Spell
 pub mod Spellable
 pub mod AttrText

@@ -1,4 +1,4 @@
-//! The names of values and blocks.
+//! The names under which values and blocks are printed.
 ghost use Rattle.std.specs.Prelude.{◌≡◌, ◌+◌, ℕ, Some, IsSome, IfOk, string_bytes, option_copied, option_and_then};
 ghost use Rattle.std.specs.Str.{chars};
 ghost use Rattle.irtext_graph.specs.Parts.{ValueStands};
@@ -14,7 +14,7 @@ use irtext_graph::held::HasGraph;
 use irtext_graph::object::Value;
 use std::alloc::{AllocError, Global};
 
-/// The name that attributes give to the value of an index, where they do.
+/// Returns the name that attributes give to the value with this index, if they do.
 fn given_at<A: Drop>(attributes: &AttributeDict<A>, index: usize) -> Option<&Identifier>
     ensures { option_copied result ≡ given_at index attributes.now }
 {
@@ -27,7 +27,7 @@ fn given_at<A: Drop>(attributes: &AttributeDict<A>, index: usize) -> Option<&Ide
     }
 }
 
-/// The name that is given to a result of an operation, where one is: a placeholder gives none.
+/// Returns the given name of a result of an operation, if it has one. A result of a placeholder has none.
 fn given_to_result<'c, T: IrText<A>, A: AttrText>(
     ctx: &'c Context<T, A>,
     op: Ptr<Operation>,
@@ -41,7 +41,7 @@ fn given_to_result<'c, T: IrText<A>, A: AttrText>(
     given_at(op.attributes(ctx), index)
 }
 
-/// The name that is given to an argument of a block, where one is.
+/// Returns the given name of an argument of a block, if it has one.
 fn given_to_argument<'c, T: IrText<A>, A: AttrText>(
     ctx: &'c Context<T, A>,
     p: Ptr<BasicBlock>,
@@ -53,7 +53,7 @@ fn given_to_argument<'c, T: IrText<A>, A: AttrText>(
     given_at(p.attributes(ctx), index)
 }
 
-/// The name that is given to a value, where one is.
+/// Returns the given name of a value, if it has one. A result of a placeholder has none.
 pub fn given_name<T: IrText<A>, A: AttrText>(ctx: &Context<T, A>, v: Value) -> Option<&Identifier>
     requires { ValueStands ctx.now.graph v }
     ensures { option_copied result ≡ given_name ctx.now v }
@@ -64,7 +64,7 @@ pub fn given_name<T: IrText<A>, A: AttrText>(ctx: &Context<T, A>, v: Value) -> O
     }
 }
 
-/// The name of a value with this given name or none, and this number.
+/// Returns the printed name of a value with this number and this given name, if any. Fails only if an allocation fails.
 fn value_text(alloc: Global, given: Option<&Identifier>, number: u64) -> Result<String, AllocError>
     ensures { IfOk result (λ s. chars (string_bytes s) ≡ printed.value_name (option_copied given.entry) number) }
 {
@@ -77,7 +77,7 @@ fn value_text(alloc: Global, given: Option<&Identifier>, number: u64) -> Result<
     }
 }
 
-/// The name of a block with this label or none, and this place and generation.
+/// Returns the printed name of a block with this place, this generation and this label, if any. Fails only if an allocation fails.
 fn block_text(
     alloc: Global,
     label: Option<&Identifier>,
@@ -95,21 +95,22 @@ fn block_text(
     }
 }
 
-/// What is printed by a name that nothing else of its context has: values and blocks.
+/// Values and blocks: things that are printed under a name that is unique in their context.
 pub trait UniqueName: Sized {
     ghost use Rattle.std.specs.Prelude.{Option};
     ghost use Rattle.irtext_base.specs.Text.{Text};
     ghost use Rattle.irtext_context.specs.Context.{ContextView};
 
-    // it is there
+    // it is live
     ghost stands: { (T A : Type 0) → ContextView T A → Self → Type 0 };
 
-    // its name, where it is there
+    // its name, if it is live
     ghost name: { (T A : Type 0) → ContextView T A → Self → Option Text };
 
-    /// The name under which it is printed: of a value `v` and its number, behind its given name and `_` where it has one; of a block
-    /// `block`, its place, `v` and its generation, behind its label and `_` where it has one. Given names are those that the
-    /// attributes of its operation or its block hold under the key `builtin_given_names`. It is refused only for want of memory.
+    /// Returns the name under which it is printed. The name of a value is `v` and its number, after its given name and `_` if it has one,
+    /// as in `sum_v12`. The name of a block is `block`, its place, `v` and its generation, after its label and `_` if it has one, as in
+    /// `exit_block3v1`. Given names are in the attributes of the operation or the block, under the key `builtin_given_names`. Fails only
+    /// if an allocation fails.
     fn unique_name<T: IrText<A>, A: AttrText>(
         self,
         ctx: &Context<T, A>,

@@ -1,5 +1,5 @@
--- What ties the names of a reading, and the graph in which its operations use what they stand for, to the machine that reads acts
--- one by one.
+-- How the state of a parse agrees with the machine that processes acts one by one. The state is the names, and the graph in which
+-- operations use what the names refer to. A use is in hand if it is parsed but its operation is not created yet.
 use Rattle.std.specs.Prelude.{◌≡◌, ◌⊎◌, ℕ, Bool, true, false, cond, List, [], ◌∷◌, ◌++◌, Option, Some, None, map, slice_get}
 use Rattle.std.specs.Option.{option_map}
 use Rattle.irtext_base.specs.Text.{Text}
@@ -25,7 +25,7 @@ use Rattle.irtext_grammar.specs.Names.TextScopes.{Fact, Act, Failure, lookup}
 use Rattle.irtext_grammar.specs.Names.History.{Event, act, State, after, going, failed, step}
 use Rattle.irtext_names.specs.Tied.{AreTied, IsNoPlaceholder}
 
--- the name that a fact speaks of
+-- the name in a fact
 abbrev pub name_of : Fact → Text
 name_of (uses n u) = n
 name_of (defines n p) = n
@@ -35,11 +35,11 @@ abbrev pub is_listed : Text → List Text → Bool
 is_listed t [] = false
 is_listed t (n ∷ ns) = cond (same_text n t) true (is_listed t ns)
 
--- the names with one more behind them, where it is not among them
+-- the names, with one more at the end unless it is among them
 abbrev pub with_mention : List Text → Text → List Text
 with_mention ns t = cond (is_listed t ns) ns (ns ++ t ∷ [])
 
--- the names, and behind them those that facts mention, in order of first mention
+-- the names, and after them those that facts mention, in order of first mention
 abbrev pub mentioned_from : List Text → List Fact → List Text
 mentioned_from ns [] = ns
 mentioned_from ns (f ∷ fs) = mentioned_from (with_mention ns (name_of f)) fs
@@ -48,25 +48,25 @@ mentioned_from ns (f ∷ fs) = mentioned_from (with_mention ns (name_of f)) fs
 abbrev pub mentioned_in : List Fact → List Text
 mentioned_in fs = mentioned_from [] fs
 
--- what the reading has made so far: the value and the block of each place of the text, and the operand or successor of each user whose
--- operation is made
+-- what the parser has created so far: the value and the block of each place of the text, and the operand or successor of each user whose
+-- operation is created
 pub record Known : Type 0 where
   pub values : List (Place × Value)
   pub blocks : List (Place × Ptr BasicBlock)
   pub sites : List (User × Site)
 
--- nothing is made yet
+-- nothing is created yet
 abbrev pub nothing_made : Known
 nothing_made = record { values = []; blocks = []; sites = [] }
 
--- the place of the text was made into d
+-- d was created for this place of the text
 abbrev pub Became : Known → Place → Defined → Type 0
 Became known p (OfValue v) = Among (p, v) known.values
 Became known p (OfBlock b) = Among (p, b) known.blocks
 
 module _ {V : Type 0} where
-  -- what a name stands for in a scope, by the definition that the facts have of it: its value, or, where they have none, a placeholder or
-  -- nothing
+  -- what a name refers to in a scope, given the definition that the facts have of it: the value of that definition; if they have none, a
+  -- placeholder or nothing
   abbrev pub IsMeant : List (Place × V) → Option Place → Option (Entry V) → Type 0
   IsMeant made (Some p) (Some (entries.Defined v)) = Among (p, v) made
   IsMeant made (Some p) _ = ⊥
@@ -77,27 +77,27 @@ module _ {V : Type 0} where
   abbrev pub texts_of : List Text → Scope V → List (Option Text)
   texts_of names scope = map (λ e. slice_get names e.0) scope
 
-  -- a scope has the names of its facts, in order of first mention, and each stands for what the facts say of it
+  -- a scope has the names of its facts, in order of first mention, and each refers to what the facts say of it
   pub record Means (names : List Text) (made : List (Place × V)) (facts : List Fact) (scope : Scope V) : Type 0 where
     pub order : texts_of names scope ≡ map Some (mentioned_in facts)
     pub each : (n : ℕ) (t : Text) → slice_get names n ≡ Some t → IsMeant made (lookup t facts) (find n scope)
 
 module _ {O B T : Type 0} where
-  -- an operation that has its data names d at the place
+  -- d is used at this site of an operation that has its data
   abbrev pub IsInPlace : GraphView (Option O) B T → Defined → Site → Type 0
   IsInPlace g d s = IsUse g d s × (x : O) × (option_map (λ c. c.data_of) (operation_at g (user s)) ≡ Some (Some x))
 
-  -- the user names d: at its place in the graph, or in hand, where its operation is not made yet
+  -- the user refers to d: at its site in the graph, or in hand
   abbrev pub Holds : List (User × Site) → List (User × Defined) → GraphView (Option O) B T → User → Defined → Type 0
   Holds sites held g u d = ((s : Site) × Among (u, s) sites × IsInPlace g d s) ⊎ Among (u, d) held
 
   module _ {V : Type 0} where
-    -- each user of a name in a scope holds what the name stands for there
+    -- each user of a name in a scope refers to what the name refers to there
     abbrev pub AreUsed : List Text → (V → Defined) → List (User × Site) → List (User × Defined) → GraphView (Option O) B T → List Fact → Scope V → Type 0
     AreUsed names of sites held g facts scope = (n : ℕ) (t : Text) (u : User) → slice_get names n ≡ Some t → Among (uses t u) facts
         → (e : Entry V) × (find n scope ≡ Some e) × Holds sites held g u (of (value_of e))
 
-    -- each open scope has the names of its facts, and their users hold what they stand for
+    -- each open scope has the names of its facts, and their users refer to what the names refer to
     abbrev pub AreLinked : List Text → (V → Defined) → List (Place × V) → List (User × Site) → List (User × Defined) → GraphView (Option O) B T
         → List (List Fact) → List (Scope V) → Type 0
     AreLinked names of made sites held g [] [] = Unit {0}
@@ -105,12 +105,13 @@ module _ {O B T : Type 0} where
         × AreLinked names of made sites held g rest ss
     AreLinked names of made sites held g _ _ = ⊥
 
-    -- what the places of the text were made into is there, and no name waits with it
+    -- what was created for places of the text is live, and no name waits with it as its placeholder
     abbrev pub AreMade : (V → Defined) → List (Place × V) → List (Scope V) → GraphView (Option O) B T → Type 0
     AreMade of made scopes g = (p : Place) (v : V) → Among (p, v) made → IsDefined g (of v) × IsNoPlaceholder scopes v
 
-  -- the names, the graph and what is in hand stand where the machine stands: no name has two numbers, each open scope has the names of the
-  -- facts read so far, what they define is there, each use holds what its name stands for, and what scopes that ended bind is bound
+  -- the names, the graph and the uses in hand agree with the state of the machine: no name has two numbers, each open scope has the names
+  -- of the facts so far, what they define is live, each use refers to what its name refers to, and each use that is bound for good refers
+  -- to its definition
   pub record StandsAt (names : NameTracker Value (Ptr BasicBlock)) (g : GraphView (Option O) B T) (known : Known) (held : List (User × Defined))
       (st : State) : Type 0 where
     pub distinct : AreDistinct names.names
@@ -121,21 +122,23 @@ module _ {O B T : Type 0} where
     pub blocks_made : AreMade OfBlock known.blocks names.labels g
     pub bound : (u : User) (p : Place) → Among (u, p) st.bound → (d : Defined) × Became known p d × Holds known.sites held g u d
 
-  -- wherever the machine stands with what was, a use in hand besides, the act takes it to where it stands with what is, and d is in hand too
+  -- if the old names and graph agree with a state of the machine, the act takes it to a state that the new ones agree with, with a use of
+  -- d more in hand
   pub record TakesUse (a : Act) (old new : NameTracker Value (Ptr BasicBlock)) (g k : GraphView (Option O) B T) (u : User) (d : Defined) : Type 0 where
     pub so : (known : Known) (held : List (User × Defined)) (st : State) → StandsAt old g known held st
         → (step st (act a) ≡ going (after st (fact_of a))) × StandsAt new k known (held ++ (u, d) ∷ []) (after st (fact_of a))
 
-  -- wherever the machine stands with what was, and nothing is in hand, the act defines the place as d and takes it to where it stands
-  -- with what is
+  -- if the old names and graph agree with a state of the machine, nothing is in hand, and d was created for the place, the act takes the
+  -- machine to a state that the new ones agree with
   pub record TakesDefinition (a : Act) (old new : NameTracker Value (Ptr BasicBlock)) (g k : GraphView (Option O) B T) (p : Place) (d : Defined) : Type 0 where
     pub so : (known : Known) (st : State) → Became known p d → StandsAt old g known [] st
         → (step st (act a) ≡ going (after st (fact_of a))) × StandsAt new k known [] (after st (fact_of a))
 
-  -- wherever the machine stands with what was, and nothing is in hand, the event takes it on to where it stands with what is
+  -- if the old names and the graph agree with a state of the machine, and nothing is in hand, the event takes it to a state that the new
+  -- ones agree with
   pub record Takes (event : Event) (next : State → State) (old new : NameTracker Value (Ptr BasicBlock)) (g : GraphView (Option O) B T) : Type 0 where
     pub so : (known : Known) (st : State) → StandsAt old g known [] st → (step st event ≡ going (next st)) × StandsAt new g known [] (next st)
 
-  -- wherever the machine stands with these names and this graph, whatever is in hand, the event fails so
+  -- if these names and this graph agree with a state of the machine, whatever is in hand, the event fails there with this failure
   pub record FailsBy (event : Event) (names : NameTracker Value (Ptr BasicBlock)) (g : GraphView (Option O) B T) (failure : Failure) : Type 0 where
     pub so : (known : Known) (held : List (User × Defined)) (st : State) → StandsAt names g known held st → step st event ≡ failed failure

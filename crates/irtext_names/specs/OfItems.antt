@@ -1,4 +1,5 @@
--- What a reading has made so far, told by the items of the text that it was made for: an item has a place in the text, and its object.
+-- What the parser has created so far, by the items that it was created for. An item is here a place in the text with the operation or
+-- block that was created for it.
 use Rattle.std.specs.Prelude.{◌≡◌, ℕ, List}
 use Rattle.irtext_graph.specs.declared.arena.Ptr.{Ptr}
 use Rattle.irtext_graph.specs.declared.object.BasicBlock.{BasicBlock}
@@ -27,7 +28,7 @@ module _ (path : ℕ → Path) (items : List (ℕ × Object)) where
   IsSiteOf u (AtOperand p i) = (n : ℕ) × (u ≡ operand (path n) i) × Among (n, TheOperation p) items
   IsSiteOf u (AtSuccessor p i) = (n : ℕ) × (u ≡ successor (path n) i) × Among (n, TheOperation p) items
 
-  -- all that was made so far is of these items
+  -- everything that was created so far belongs to these items
   pub record AreOf (known : Known) : Type 0 where
     pub values_of : (q : Place) (v : Value) → Among (q, v) known.values → IsValueOf q v
     pub blocks_of : (q : Place) (b : Ptr BasicBlock) → Among (q, b) known.blocks → IsBlockOf q b

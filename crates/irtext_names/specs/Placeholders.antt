@@ -1,4 +1,4 @@
--- Placeholders: the values and the blocks that early uses hold, and what making and replacing them does to a graph.
+-- Placeholders: the values and the blocks that forward references refer to, and what creating and replacing them does to a graph.
 use Rattle.std.specs.Prelude.{◌≡◌, ◌≤◌, ℕ, List, [], ◌∷◌, Option, Some, None}
 use Rattle.std.specs.Option.{option_map}
 use Rattle.irtext_graph.specs.declared.arena.Ptr.{Ptr}
@@ -21,7 +21,7 @@ use Rattle.irtext_scopes.specs.declared.scopes.Entry.TheVariants.{Pending}
 use Rattle.irtext_scopes.specs.Scopes.{Scope, innermost, in_innermost, find, mentioned, defined, placeholder_of, value_of}
 
 module _ {O B T : Type 0} where
-  -- a result of an operation that has no data, or a block that stands nowhere
+  -- a result of an operation that has no data, or a detached block
   abbrev pub IsBlank : GraphView (Option O) B T → Defined → Type 0
   IsBlank g (OfValue (Result p i)) = option_map (λ c. c.data_of) (operation_at g p) ≡ Some None
   IsBlank g (OfValue (Argument b i)) = ⊥
@@ -31,7 +31,7 @@ module _ {O B T : Type 0} where
   abbrev pub DefinesOnly : GraphView (Option O) B T → Defined → Type 0
   DefinesOnly g d = (x : Defined) → IsDefined g x → owner x ≡ owner d → x ≡ d
 
-  -- d is all that its object defines, which is blank, stands nowhere and holds nothing
+  -- d is blank, and its object defines nothing else, is detached and has no children
   pub record IsPlaceholder (g : GraphView (Option O) B T) (d : Defined) : Type 0 where
     pub stands : IsDefined g d
     pub blank : IsBlank g d
@@ -49,19 +49,19 @@ module _ {O B T : Type 0} where
   abbrev pub MakesLabel : B → GraphView (Option O) B T → GraphView (Option O) B T → Ptr BasicBlock → Type 0
   MakesLabel data_of old new b = MakesBlock old new b data_of []
 
-  -- each use of d became a use of e, and then the object of d went, in which nothing stood
+  -- each use of d became a use of e, and then the object of d, which had nothing nested in it, was erased
   pub record Settles (old new : GraphView (Option O) B T) (d e : Defined) : Type 0 where
     pub between : GraphView (Option O) B T
     pub replaces : Replaces old between d e
     pub only : (q : Object) → IsInside between (owner d) q → q ≡ owner d
     pub takes_out : Erases between new (owner d)
 
-  -- e settles d, where there is one; all is as it was where there is none
+  -- e replaces the placeholder d, if there is one; otherwise the graph is unchanged
   abbrev pub SettlesIfAny : GraphView (Option O) B T → GraphView (Option O) B T → Option Defined → Defined → Type 0
   SettlesIfAny old new None e = new ≡ old
   SettlesIfAny old new (Some d) e = Settles old new d e
 
-  -- each object stands as it stood, whatever was made in between and went again
+  -- each object is unchanged, whatever was created in between and removed again
   pub record StandsAsBefore (old new : GraphView (Option O) B T) : Type 0 where
     pub operations : (p : Ptr Operation) → get new.operations p ≡ get old.operations p
     pub blocks : (p : Ptr BasicBlock) → get new.blocks p ≡ get old.blocks p
@@ -71,13 +71,13 @@ module _ {O B T : Type 0} where
     pub first_place : new.first_place ≡ old.first_place
 
   module _ {V : Type 0} where
-    -- a name that is known gives what it stands for and changes nothing, and a new one comes to wait with a placeholder that is made
+    -- a known name gives what it refers to and changes nothing; a new name gets a placeholder, which is created, and waits with it
     pub record Uses (Makes : GraphView (Option O) B T → GraphView (Option O) B T → V → Type 0) (scopes scopes' : List (Scope V))
         (old new : GraphView (Option O) B T) (name : ℕ) (v : V) : Type 0 where
       pub known : (e : Entry V) → find name (innermost scopes) ≡ Some e → (v ≡ value_of e) × (scopes' ≡ scopes) × (new ≡ old)
       pub unknown : find name (innermost scopes) ≡ None → (scopes' ≡ in_innermost (mentioned name (Pending v)) scopes) × Makes old new v
 
-    -- the name has its definition, which settles the placeholder that waited for it
+    -- the name has its definition, which replaces the placeholder of the name, if it had one
     pub record Defines (of : V → Defined) (scopes scopes' : List (Scope V)) (old new : GraphView (Option O) B T) (name : ℕ) (v : V) : Type 0 where
       pub scopes_are : scopes' ≡ in_innermost (defined name v) scopes
       pub settles : SettlesIfAny old new (option_map of (placeholder_of (find name (innermost scopes)))) (of v)

@@ -1,4 +1,4 @@
--- Between functions: what names that are used or defined one after another come to, over the names and the graph of a reading.
+-- Between functions: what using or defining a list of names does to the names and the graph of a parse.
 use Rattle.std.specs.Prelude.{◌≡◌, ◌<◌, ◌⊎◌, ℕ, suc, List, [], ◌∷◌, ◌++◌, length, map, Option, Some, slice_get}
 use Rattle.irtext_base.specs.Text.{Text}
 use Rattle.irtext_graph.specs.declared.arena.Ptr.{Ptr}
@@ -23,40 +23,41 @@ use Rattle.irtext_grammar.specs.Names.History.{act, State, going, failed, run}
 use Rattle.irtext_names.specs.Linked.{Known, StandsAt}
 use Rattle.irtext_names.specs.Tied.{IsNoPlaceholder}
 
--- the names of a text have these numbers in the table of a reading
+-- the names of a text have these numbers in the parser's table
 abbrev pub AreNamed : List Text → List ℕ → List (Name ℕ) → Type 0
 AreNamed table [] [] = Unit {0}
 AreNamed table [] (w ∷ ws) = ⊥
 AreNamed table (n ∷ ns) [] = ⊥
 AreNamed table (n ∷ ns) (w ∷ ws) = (slice_get table n ≡ Some w.text) × AreNamed table ns ws
 
--- each of these is a number of a table with so many names
+-- each of these is a number of a table with this many names
 abbrev pub AreKnown : ℕ → List ℕ → Type 0
 AreKnown count [] = Unit {0}
 AreKnown count (n ∷ ns) = (n < count) × AreKnown count ns
 
--- names are used by the users from i on
+-- uses of the names, by the users from index i on
 abbrev pub uses_from : (Word → User → Act) → (ℕ → User) → ℕ → List (Name ℕ) → List Act
 uses_from uses user i [] = []
 uses_from uses user i (w ∷ ws) = uses (word_of w) (user i) ∷ uses_from uses user (suc i) ws
 
--- these are in the hands of the users from i on
+-- uses in hand: the users from index i on refer to these
 abbrev pub in_hand_from : {X : Type 0} → (X → Defined) → (ℕ → User) → ℕ → List X → List (User × Defined)
 in_hand_from of user i [] = []
 in_hand_from of user i (x ∷ xs) = (user i, of x) ∷ in_hand_from of user (suc i) xs
 
 module _ {O B T : Type 0} where
-  -- wherever the machine stands with what was, these acts take it to where it stands with what is, and these uses are in hand besides
+  -- if the old names and graph agree with a state of the machine, these acts take it to a state that the new ones agree with, with these
+  -- uses more in hand
   pub record TakesUses (acts : List Act) (old new : NameTracker Value (Ptr BasicBlock)) (g k : GraphView (Option O) B T) (more : List (User × Defined)) : Type 0 where
     pub so : (known : Known) (held : List (User × Defined)) (st : State) → StandsAt old g known held st
         → (next : State) × (run (going st) (map act acts) ≡ going next) × StandsAt new k known (held ++ more) next
 
-  -- what there was is there, and so are these
+  -- what was live is live, and so are these
   pub record AreThere {X : Type 0} (of : X → Defined) (g k : GraphView (Option O) B T) (more : List X) : Type 0 where
     pub still : (d : Defined) → IsDefined g d → IsDefined k d
     pub each : (x : X) → Among x more → IsDefined k (of x)
 
-  -- names of these numbers were used one after another, by any users in a row, and stand for these
+  -- names with these numbers were used one after another, by any users in a row, and refer to these
   pub record UsesRow {X : Type 0} (of : X → Defined) (uses : Word → User → Act) (numbers : List ℕ) (old new : NameTracker Value (Ptr BasicBlock)) (g k : GraphView (Option O) B T) (more : List X) : Type 0 where
     pub count : length more ≡ length numbers
     pub there : AreThere of g k more
@@ -64,40 +65,40 @@ module _ {O B T : Type 0} where
 
 -- ---- definitions
 
--- the results of the operation at a path from i on, one for each of these, and what they were made into
+-- the results of the operation at a path, from i on, one for each element, with the values that were created for them
 abbrev pub made_results : {X : Type 0} → Path → Ptr Operation → ℕ → List X → List (Place × Value)
 made_results p op i [] = []
 made_results p op i (x ∷ xs) = (result p i, Result op i) ∷ made_results p op (suc i) xs
 
--- what is made holds all of these
+-- all of these have been created
 abbrev pub AreMadeIn : List (Place × Value) → Known → Type 0
 AreMadeIn [] known = Unit {0}
 AreMadeIn (m ∷ ms) known = Among m known.values × AreMadeIn ms known
 
 module _ {O B T : Type 0} where
-  -- an operation has so many results, and no name waits with one of them
+  -- an operation has this many results, and no name waits with one of them as its placeholder
   abbrev pub AreReady : Ptr Operation → ℕ → List (Scope Value) → GraphView (Option O) B T → Type 0
   AreReady op count scopes g = (i : ℕ) → i < count → IsDefined g (OfValue (Result op i)) × IsNoPlaceholder scopes (Result op i)
 
-  -- wherever the machine stands with what was, nothing is in hand, and the results of the operation at the path are made into those of op, the definitions of
-  -- names of these numbers take it to where it stands with what is
+  -- if the old names and graph agree with a state of the machine, nothing is in hand, and the results of op were created for those of the
+  -- operation at the path, the definitions of names with these numbers take the machine to a state that the new ones agree with
   pub record DefinesResults (op : Ptr Operation) (numbers : List ℕ) (old new : NameTracker Value (Ptr BasicBlock)) (g k : GraphView (Option O) B T) : Type 0 where
     pub so : (ws : List (Name ℕ)) → AreNamed old.names numbers ws → (p : Path) (known : Known) (st : State) → AreMadeIn (made_results p op 0 numbers) known → StandsAt old g known [] st
         → (next : State) × (run (going st) (map act (result_definitions p 0 ws)) ≡ going next) × StandsAt new k known [] next
 
-  -- wherever it stands so, the definitions of names of these numbers fail at the name of this index, which its scope defines already
+  -- in such a state, the definitions of names with these numbers fail at the name with this index, which its scope defines already
   pub record FailsResults (op : Ptr Operation) (numbers : List ℕ) (index : ℕ) (names : NameTracker Value (Ptr BasicBlock)) (g : GraphView (Option O) B T) : Type 0 where
     pub so : (ws : List (Name ℕ)) → AreNamed names.names numbers ws → (p : Path) (known : Known) (st : State) → AreMadeIn (made_results p op 0 numbers) known → StandsAt names g known [] st
         → (w : Name ℕ) × (slice_get ws index ≡ Some w) × (run (going st) (map act (result_definitions p 0 ws)) ≡ failed (record { cause = MultipleDefinitions w.text; at = Some w.place }))
 
--- ---- an operation that is made
+-- ---- an operation that is created
 
--- the uses of users in a row, at the places of an operation
+-- users in a row, each with its site at an operation
 abbrev pub sites_from : {X : Type 0} → (ℕ → User) → (ℕ → Site) → ℕ → List X → List (User × Site)
 sites_from user site i [] = []
 sites_from user site i (x ∷ xs) = (user i, site i) ∷ sites_from user site (suc i) xs
 
--- what is made, and besides it the operation at a path with operands, successors and results in a row
+-- what was created so far, and in addition the operation at a path with its operands, successors and results
 abbrev pub with_operation : {X : Type 0} → Path → Ptr Operation → List Value → List (Ptr BasicBlock) → List X → Known → Known
 with_operation p op operands successors results known = record {
   values = known.values ++ made_results p op 0 results;
@@ -105,7 +106,7 @@ with_operation p op operands successors results known = record {
   sites = known.sites ++ (sites_from (operand p) (AtOperand op) 0 operands ++ sites_from (successor p) (AtSuccessor op) 0 successors);
 }
 
--- what is in hand is in the hands of the operation at a path, as its operands and successors
+-- each use in hand is that of an operand or a successor of the operation at this path
 pub record AreHeldBy (p : Path) (operands : List Value) (successors : List (Ptr BasicBlock)) (held : List (User × Defined)) : Type 0 where
   pub so : (u : User) (d : Defined) → Among (u, d) held → ((i : ℕ) × (v : Value) × (u ≡ operand p i) × (d ≡ OfValue v) × (slice_get operands i ≡ Some v))
       ⊎ ((i : ℕ) × (b : Ptr BasicBlock) × (u ≡ successor p i) × (d ≡ OfBlock b) × (slice_get successors i ≡ Some b))

@@ -1,4 +1,4 @@
--- What ties names that wait to the placeholders of a graph.
+-- How names that wait for a definition are tied to the placeholders of a graph.
 use Rattle.std.specs.Prelude.{◌≡◌, ℕ, zero, suc, List, [], ◌∷◌, Option, Some, None}
 use Rattle.irtext_graph.specs.declared.arena.Ptr.{Ptr}
 use Rattle.irtext_graph.specs.declared.object.BasicBlock.{BasicBlock}
@@ -14,26 +14,26 @@ use Rattle.irtext_scopes.specs.declared.scopes.Entry.TheVariants.{Pending}
 use Rattle.irtext_scopes.specs.Scopes.{Scope, find, value_of}
 use Rattle.irtext_names.specs.Placeholders.{IsBlank, IsPlaceholder}
 
--- what a name stands for in the scope that is so many scopes out
+-- what a name refers to in the scope with this number, counted from the innermost one
 abbrev pub entry_at : {V : Type 0} → ℕ → ℕ → List (Scope V) → Option (Entry V)
 entry_at k n [] = None
 entry_at zero n (s ∷ ss) = find n s
 entry_at (suc k) n (s ∷ ss) = entry_at k n ss
 
--- no name waits with this in the place of its definition
+-- no name waits with this as its placeholder
 abbrev pub IsNoPlaceholder : {V : Type 0} → List (Scope V) → V → Type 0
 IsNoPlaceholder scopes v = (k n : ℕ) → entry_at k n scopes ≡ Some (Pending v) → ⊥
 
 module _ {O B T V : Type 0} where
-  -- what names stand for is there, each name that waits has a placeholder, and what it has no other name stands for
+  -- what names refer to is live, each waiting name has a placeholder, and no other name refers to that placeholder
   pub record Tied (of : V → Defined) (scopes : List (Scope V)) (g : GraphView (Option O) B T) : Type 0 where
     pub there : (k n : ℕ) (e : Entry V) → entry_at k n scopes ≡ Some e → IsDefined g (of (value_of e))
     pub held : (k n : ℕ) (h : V) → entry_at k n scopes ≡ Some (Pending h) → IsPlaceholder g (of h)
     pub alone : (k n j m : ℕ) (e : Entry V) (h : V) → entry_at k n scopes ≡ Some e → entry_at j m scopes ≡ Some (Pending h) → value_of e ≡ h
         → (k ≡ j) × (n ≡ m)
 
-  -- of what was made when m objects had been made, or later: names wait with nothing older, and all that is blank waits for a name, but
-  -- for what is one's own
+  -- of the objects that were created after the first m: only these are placeholders of waiting names, and each of them that is blank
+  -- waits for a name, except those in `own`
   pub record Waiting (m : ℕ) (own : List V) (of : V → Defined) (scopes : List (Scope V)) (g : GraphView (Option O) B T) : Type 0 where
     pub late : (k n : ℕ) (h : V) → entry_at k n scopes ≡ Some (Pending h) → IsNew m g (owner (of h))
     pub known : (v : V) → IsDefined g (of v) → IsBlank g (of v) → IsNew m g (owner (of v)) → (Among v own → ⊥)
@@ -45,14 +45,14 @@ module _ {O B T : Type 0} where
     pub value_ties : Tied OfValue values g
     pub label_ties : Tied OfBlock labels g
 
-  -- of what was made since m: names wait with nothing older; each operation without data has a result that waits for a name, and each
-  -- block that stands nowhere waits for a label, but for those blocks that are one's own
+  -- of the objects that were created after the first m: only these are placeholders of waiting names; each operation without data has a
+  -- result that waits for a name, and each detached block waits for a label, except the blocks in `own`
   pub record AreWaiting (m : ℕ) (own : List (Ptr BasicBlock)) (values : List (Scope Value)) (labels : List (Scope (Ptr BasicBlock)))
       (g : GraphView (Option O) B T) : Type 0 where
     pub value_waits : Waiting m [] OfValue values g
     pub label_waits : Waiting m own OfBlock labels g
 
-  -- of what was made since m, each operation has its data, and each block stands somewhere or is one's own
+  -- of the objects that were created after the first m, each operation has its data, and each block has a parent or is in `own`
   pub record NoneIsLeft (m : ℕ) (own : List (Ptr BasicBlock)) (g : GraphView (Option O) B T) : Type 0 where
     pub values : (v : Value) → IsDefined g (OfValue v) → IsBlank g (OfValue v) → IsNew m g (owner (OfValue v)) → ⊥
     pub labels : (b : Ptr BasicBlock) → IsDefined g (OfBlock b) → IsBlank g (OfBlock b) → IsNew m g (owner (OfBlock b))

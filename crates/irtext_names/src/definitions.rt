@@ -17,15 +17,17 @@ use irtext_graph::object::{BasicBlock, Operation, Value};
 use irtext_scopes::scopes::DefineFault;
 use irtext_scopes::tracker::NameTracker;
 
-/// Why names were not defined, and which of them was the first that was not: how many stand before it.
+/// Why names were not defined: the fault of the first name that failed, and the index of this name in the list, from 0.
 #[derive(Clone, Copy, Debug)]
 pub struct UndefinedName {
     pub fault: DefineFault,
     pub index: usize,
 }
 
-/// Defines names as the results of an operation, one after another, from the first result on, a scope of values being open. The first
-/// name that its scope defines already is refused, and memory may be refused; those before it are defined then.
+/// Defines names as the results of an operation, one after another, from result 0 on. The operation must have a result for each name, and
+/// a scope of values must be open. Each result replaces the placeholder of its name, if the name was used before. Fails with
+/// `MultipleDefinitions` at the first name that its scope defines already, and with `Memory` if an allocation fails; the names before
+/// that one are defined then.
 pub fn process_parsed_ssa_defs<N: Named, O: Drop, B: Drop, T: Drop>(
     names: &mut NameTracker<Value, Ptr<BasicBlock>>,
     graph: &mut Graph<Option<O>, B, Option<T>>,

@@ -1,4 +1,4 @@
-//! Labels of blocks, used and defined.
+//! Uses and definitions of labels of blocks.
 ghost use Rattle.std.specs.Prelude.{◌≡◌, ◌<◌, ◌≤◌, ◌↔◌, ℕ, List, length, slice_get, true, None, Some, Err, OnOk, OnErr, IfOk};
 ghost use Rattle.irtext_graph.specs.Back.{IsClosedBelow};
 ghost use Rattle.irtext_graph.specs.Graph.{KeepsOlder, Stands};
@@ -24,9 +24,9 @@ use irtext_scopes::scopes::DefineFault;
 use irtext_scopes::tracker::NameTracker;
 use std::alloc::AllocError;
 
-/// The block that a label stands for where it is used, a region being open: its definition, or the placeholder that waits for it. A label
-/// that is new in its region gets a placeholder, a block with this data that has no arguments and stands nowhere. Where memory is
-/// refused, or a counter is full, the scopes are as they were, and each object stands as it did.
+/// Returns the block that a label refers to where it is used: its definition, or the placeholder that waits for it. A region must be
+/// open. A label that is new in its region gets a placeholder: a detached block with this data and without arguments. Fails if an
+/// allocation fails or a counter is full; then the scopes and each object of the graph are unchanged.
 pub fn block_opd<O: Drop, B: Drop, T: Drop>(
     names: &mut NameTracker<Value, Ptr<BasicBlock>>,
     graph: &mut Graph<Option<O>, B, Option<T>>,
@@ -60,9 +60,9 @@ pub fn block_opd<O: Drop, B: Drop, T: Drop>(
     Ok(block)
 }
 
-/// Defines a label, a region being open. The block takes the place of the placeholder in all uses, if the label was used before, and the
-/// placeholder goes. A label that its region defines already is refused, and memory may be for a label that is new in it: then nothing
-/// changes.
+/// Defines a label as this block. A region must be open. If the label was used before, the block replaces the placeholder in all uses,
+/// and the placeholder is erased. Fails with `MultipleDefinitions` if the region defines the label already, and with `Memory` if an
+/// allocation fails, which can happen only for a label that is new in the region. On an error the scopes and the graph are unchanged.
 pub fn block_def<O: Drop, B: Drop, T: Drop>(
     names: &mut NameTracker<Value, Ptr<BasicBlock>>,
     graph: &mut Graph<Option<O>, B, Option<T>>,

@@ -1,5 +1,5 @@
-//! Names over a graph: a forward reference to a name holds a placeholder, and the definition takes its place in all uses; and what the
-//! parser of an operation does with names, in a row.
+//! Names over a graph: a forward reference to a name refers to a placeholder, and the definition replaces the placeholder in all uses.
+//! Also the lists of names that the parser of an operation uses and defines.
 #![tactic(auto)]
 
 pub mod definitions;

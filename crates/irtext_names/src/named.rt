@@ -1,13 +1,13 @@
-//! What has a name's number.
+//! Names by their numbers.
 
-/// A name that was read: it has a number among the names of the reading.
+/// A name that was parsed. It has a number in the parser's table of names.
 pub trait Named {
     ghost use Rattle.std.specs.Prelude.{◌≡◌, ℕ};
 
     // the number of the name
     ghost numbered: { Self → ℕ };
 
-    /// The number of the name.
+    /// Returns the number of the name.
     fn number(&self) -> usize
         ensures { result ≡ numbered self.now };
 }

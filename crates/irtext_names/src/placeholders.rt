@@ -1,4 +1,4 @@
-//! A definition takes the place of a placeholder.
+//! Replacing a placeholder by the definition.
 ghost use Rattle.std.specs.Prelude.{◌≡◌, ◌≢◌, ℕ};
 ghost use Rattle.irtext_graph.specs.Back.{IsClosedBelow};
 ghost use Rattle.irtext_graph.specs.Erasing.{owner};
@@ -9,7 +9,7 @@ ghost use Rattle.irtext_names.specs.Placeholders.{IsPlaceholder, Settles};
 use irtext_graph::graph::Graph;
 use irtext_graph::object::{Defined, Object, Value};
 
-/// The object that a value is of, or the block.
+/// Returns the object that owns a value, which is an operation or a block. A block owns itself.
 fn owner_of(d: Defined) -> Object
     ensures { result ≡ owner d }
 {
@@ -20,8 +20,8 @@ fn owner_of(d: Defined) -> Object
     }
 }
 
-/// Puts e into the place of the placeholder d in all its uses, and takes the placeholder out. It takes no memory, and as long as there
-/// are uses of d.
+/// Replaces the placeholder `d` by `e` in all its uses, and erases the placeholder. Allocates nothing. The time is proportional to the
+/// number of uses of `d`.
 pub(crate) fn settle<O: Drop, B: Drop, T: Drop>(
     graph: &mut Graph<Option<O>, B, Option<T>>,
     d: Defined,

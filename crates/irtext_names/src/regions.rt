@@ -1,5 +1,5 @@
-//! Regions, entered and left: the graph stays as it is, and so does what ties the names that wait to it. Each call is a step of the
-//! machine that reads acts.
+//! Entering and leaving regions. The graph is unchanged, and waiting names stay tied to their placeholders. Each call is a step of the
+//! machine that processes events (`Names.History`).
 ghost use Rattle.std.specs.Prelude.{◌≡◌, ◌<◌, ◌↔◌, ℕ, List, [], ◌∷◌, length, slice_get, false, Some, None, Err, OnOk, OnErr, IfSome, IfNone};
 ghost use Rattle.irtext_base.specs.Text.{Text};
 ghost use Rattle.irtext_grammar.specs.Names.History as history;
@@ -19,7 +19,8 @@ use irtext_graph::object::{BasicBlock, Value};
 use irtext_scopes::tracker::{EnterFault, NameTracker};
 use std::alloc::Global;
 
-/// No name is known, and no region is open: nothing waits, and of what will be made from now on nothing is blank yet. It takes no memory.
+/// Returns a tracker without names and with no region open, for a parse over this graph that begins now: no name waits for a definition,
+/// and no object has been created for this parse. Allocates nothing.
 pub fn no_names<O: Drop, B: Drop, T: Drop>(
     alloc: Global,
     graph: &Graph<Option<O>, B, Option<T>>,
@@ -35,8 +36,9 @@ pub fn no_names<O: Drop, B: Drop, T: Drop>(
     NameTracker::new(alloc)
 }
 
-/// Enters a region: labels get a scope of their own, and values get one where the region's operation is isolated. A region that is not
-/// isolated is refused where no scope of values is open. Where it is refused, or memory is, nothing changes.
+/// Enters a region: opens a scope of labels, and one of values if the region's operation is isolated. Fails with
+/// `TopLevelOpRegionNotIsolatedFromAbove` if the operation is not isolated and no scope of values is open, and with `Memory` if an
+/// allocation fails. On an error the scopes are unchanged.
 pub fn enter_region<O: Drop, B: Drop, T: Drop>(
     names: &mut NameTracker<Value, Ptr<BasicBlock>>,
     graph: &Graph<Option<O>, B, Option<T>>,
@@ -61,9 +63,10 @@ pub fn enter_region<O: Drop, B: Drop, T: Drop>(
     names.enter_region(isolated)
 }
 
-/// Leaves a region, and answers the first name that it leaves without a definition: of its values, where its operation is isolated, and
-/// then of its labels, each in the order in which they were first mentioned. Its scopes are closed whatever the answer. Where there is
-/// none, no placeholder of the region is left, and none at all where no scope is open any more. It takes no memory.
+/// Leaves a region: closes its scope of values, if the region's operation is isolated, and its scope of labels. Returns the number of the
+/// first name without a definition: of the values that are closed, then of the labels, each in the order of first mention. The scopes are
+/// closed also in this case. If it returns `None`, no placeholder of the region is left, and none at all if no scope is open any more.
+/// Allocates nothing.
 pub fn exit_region<O: Drop, B: Drop, T: Drop>(
     names: &mut NameTracker<Value, Ptr<BasicBlock>>,
     graph: &Graph<Option<O>, B, Option<T>>,

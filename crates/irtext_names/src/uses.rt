@@ -20,8 +20,8 @@ use irtext_graph::object::{BasicBlock, Value};
 use irtext_scopes::tracker::NameTracker;
 use std::alloc::AllocError;
 
-/// Puts the values that names stand for behind those that are there, one after another, a scope of values being open. Where memory is
-/// refused, or a counter is full, some of the names may have been used.
+/// Appends the values that names refer to to `values`, in order. A scope of values must be open. A name that is new in its scope gets a
+/// placeholder. Fails if an allocation fails or a counter is full; some of the names may have been used then.
 pub fn ssa_opds<N: Named, O: Drop, B: Drop, T: Drop>(
     names: &mut NameTracker<Value, Ptr<BasicBlock>>,
     graph: &mut Graph<Option<O>, B, Option<T>>,
@@ -47,8 +47,8 @@ pub fn ssa_opds<N: Named, O: Drop, B: Drop, T: Drop>(
     Ok(())
 }
 
-/// Puts the blocks that labels stand for behind those that are there, one after another, a region being open. Where memory is refused,
-/// or a counter is full, some of the labels may have been used.
+/// Appends the blocks that labels refer to to `blocks`, in order. A region must be open. A label that is new in its region gets a
+/// placeholder. Fails if an allocation fails or a counter is full; some of the labels may have been used then.
 pub fn block_opds<N: Named, O: Drop, A: Drop, T: Drop>(
     names: &mut NameTracker<Value, Ptr<BasicBlock>>,
     graph: &mut Graph<Option<O>, BlockData<A>, Option<T>>,

@@ -1,4 +1,4 @@
-//! Names of values, used and defined.
+//! Uses and definitions of names of values.
 ghost use Rattle.std.specs.Prelude.{◌≡◌, ◌<◌, ◌≤◌, ◌↔◌, ℕ, List, length, slice_get, true, None, Some, Err, OnOk, OnErr, IfOk};
 ghost use Rattle.irtext_graph.specs.Back.{IsClosedBelow};
 ghost use Rattle.irtext_graph.specs.Graph.{KeepsOlder};
@@ -24,9 +24,9 @@ use irtext_scopes::scopes::DefineFault;
 use irtext_scopes::tracker::NameTracker;
 use std::alloc::AllocError;
 
-/// The value that a name stands for where it is used, a scope of values being open: its definition, or the placeholder that waits for
-/// it. A name that is new in its scope gets a placeholder, the result of an operation without data that stands nowhere. Where memory is
-/// refused, or a counter is full, the scopes are as they were, and each object stands as it did.
+/// Returns the value that a name refers to where it is used: its definition, or the placeholder that waits for it. A scope of values must
+/// be open. A name that is new in its scope gets a placeholder: the result of a detached operation without data. Fails if an allocation
+/// fails or a counter is full; then the scopes and each object of the graph are unchanged.
 pub fn ssa_opd<O: Drop, B: Drop, T: Drop>(
     names: &mut NameTracker<Value, Ptr<BasicBlock>>,
     graph: &mut Graph<Option<O>, B, Option<T>>,
@@ -59,9 +59,9 @@ pub fn ssa_opd<O: Drop, B: Drop, T: Drop>(
     Ok(value)
 }
 
-/// Defines the name of a value, a scope of values being open. The definition takes the place of the placeholder in all uses, if the name
-/// was used before, and the placeholder goes. A name that its scope defines already is refused, and memory may be for a name that is new
-/// in it: then nothing changes.
+/// Defines a name as this value. A scope of values must be open. If the name was used before, the value replaces the placeholder in all
+/// uses, and the placeholder is erased. Fails with `MultipleDefinitions` if the scope defines the name already, and with `Memory` if an
+/// allocation fails, which can happen only for a name that is new in the scope. On an error the scopes and the graph are unchanged.
 pub fn ssa_def<O: Drop, B: Drop, T: Drop>(
     names: &mut NameTracker<Value, Ptr<BasicBlock>>,
     graph: &mut Graph<Option<O>, B, Option<T>>,

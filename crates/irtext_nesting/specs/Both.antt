@@ -1,8 +1,8 @@
--- Between functions: two things that items do as nested text is read, side by side; and what is done seen in another way.
+-- Between functions: two sets of actions side by side; and the result of a parse with its state seen by a function.
 use Rattle.std.specs.Prelude.{◌≡◌}
 use Rattle.irtext_nesting.specs.Reached.{Reached, Came, Stuck, Doing}
 
--- what two do, each to its own
+-- the actions of both, each on its own state
 abbrev pub both : {T A S U : Type 0} → Doing T A S → Doing T A U → Doing T A (S × U)
 both d e = record {
   uses = λ place id parts s. (d.uses place id parts s.0, e.uses place id parts s.1);
@@ -14,13 +14,13 @@ both d e = record {
   heads = λ head s. (d.heads head s.0, e.heads head s.1);
 }
 
--- what was reached, with what had been done as `see` shows it
+-- the result of a parse, with its state seen by `see`
 abbrev pub seen_as : {X S U : Type 0} → (S → U) → Reached X S → Reached X U
 seen_as see (Came x s rest) = Came x (see s) rest
 seen_as see (Stuck s cause place) = Stuck (see s) cause place
 
--- One reading came to its end or is stuck exactly where each of two others is, with the same value and rest, or the same cause and place,
--- and had done what both had done.
+-- One parse ended or is stuck exactly where each of two others did, with the same value and rest, or the same cause and place, and its
+-- state is the pair of theirs.
 pub record AreBeside {X S U : Type 0} (first : Reached X S) (second : Reached X U) (pair : Reached X (S × U)) : Type 0 where
   pub left : seen_as (λ s. s.0) pair ≡ first
   pub right : seen_as (λ s. s.1) pair ≡ second

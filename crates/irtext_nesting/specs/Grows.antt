@@ -1,4 +1,4 @@
--- Between functions: what comes to a context as an item of nested text is read, as what is open sees it.
+-- Between functions: what is added to a context as an operation, block or region of nested text is parsed, seen from what is open.
 use Rattle.std.specs.Prelude.{◌≡◌, ℕ, [], ◌∷◌, ◌++◌, Some, IsSome}
 use Rattle.std.specs.Option.{option_map}
 use Rattle.irtext_base.specs.declared.location.Location.{Location}
@@ -25,29 +25,29 @@ abbrev pub with_last_operation : {T A : Type 0} → Ptr Operation → BlockView 
 with_last_operation p view = record view { operations = view.operations ++ p ∷ [] }
 
 module _ {T A : Type 0} (old new : ContextView T A) where
-  -- a region without blocks came under a new pointer
+  -- a region without blocks was created under a new pointer
   pub record RegionCame (r : Ptr Region) : Type 0 where
     pub is_new : IsThere old (TheRegion r) → ⊥
     pub view : RegionView
     pub is : region new r ≡ Some view
     pub blocks : view.blocks ≡ []
 
-  -- an operation has one more region, the last, and is else as it was
+  -- an operation has one more region, the last, and is otherwise unchanged
   pub record OperationGains (p : Ptr Operation) (r : Ptr Region) : Type 0 where
     pub gains : operation new p ≡ option_map (with_last_region r) (operation old p)
     pub uses : UsesAsMany old.graph new.graph p
 
-  -- a region has one more block, the last, and is else as it was
+  -- a region has one more block, the last, and is otherwise unchanged
   pub record RegionGains (r : Ptr Region) (b : Ptr BasicBlock) : Type 0 where
     pub gains : region new r ≡ option_map (with_last_block b) (region old r)
 
-  -- a block has one more operation, the last, and is else as it was
+  -- a block has one more operation, the last, and is otherwise unchanged
   pub record BlockGains (b : Ptr BasicBlock) (p : Ptr Operation) : Type 0 where
     pub gains : block new b ≡ option_map (with_last_operation p) (block old b)
     pub stays : parent new.graph (TheBlock b) ≡ parent old.graph (TheBlock b)
 
   module _ (IsLocation : ℕ → Location A → Type 0) where
-    -- an operation of this own, without regions, came under a new pointer
+    -- an operation with this data, without regions, was created under a new pointer
     pub record OperationCame (p : Ptr Operation) (own : OwnSoFar T A) : Type 0 where
       pub is_new : IsThere old (TheOperation p) → ⊥
       pub view : OperationView T A
@@ -56,7 +56,7 @@ module _ {T A : Type 0} (old new : ContextView T A) where
       pub uses : HasUses new p own
       pub regions : view.regions ≡ []
 
-    -- a block of this header, without operations, came under a new pointer, and stands in a region
+    -- a block with this header, without operations, was created under a new pointer, and has a parent
     pub record BlockCame (b : Ptr BasicBlock) (h : Head ℕ T A) : Type 0 where
       pub is_new : IsThere old (TheBlock b) → ⊥
       pub view : BlockView T A
@@ -65,7 +65,7 @@ module _ {T A : Type 0} (old new : ContextView T A) where
       pub operations : view.operations ≡ []
       pub inside : IsSome (parent new.graph (TheBlock b))
 
-    -- an operation has this own now, and the regions that it had
+    -- an operation has this data now, and the regions that it had
     pub record OwnBecame (p : Ptr Operation) (own : OwnSoFar T A) : Type 0 where
       pub view : OperationView T A
       pub is : operation new p ≡ Some view

@@ -1,5 +1,5 @@
--- Between functions: what a text is to the readers of an operation's own parts and of a block's header: all but what nests, with each
--- fault's cause and place. A place is the number of characters from it to the end of the text.
+-- Between functions: what a text is to the parsers of an operation's own parts and of a block's header, without what is nested in them,
+-- with the cause and place of each fault. A place is the number of characters from it to the end of the text.
 use Rattle.std.specs.Prelude.{ℕ, Bool, true, false, List, [], ◌∷◌, length, map, Option, Some, None, codes}
 use Rattle.irtext_base.specs.Text.{Text, begins}
 use Rattle.irtext_base.specs.Reading.{the}
@@ -21,7 +21,7 @@ use Rattle.irtext_outcomes.specs.Readers.Marker.{marker, starts_with}
 use Rattle.irtext_outcomes.specs.Readers.Operations.{registered_behind}
 use Rattle.irtext_outcomes.specs.Readers.Parts.{behind}
 
--- what was read of a text, with the place where it stands
+-- what was parsed from a text, with the place of this text
 abbrev pub placed : {X : Type 0} → (ℕ → X → Name ℕ) → Text → Outcome X → Outcome (Name ℕ)
 placed name text o = mapped (name (length text)) o
 
@@ -33,11 +33,11 @@ name_of place text = record { place = place; text = text }
 abbrev pub name_at : Reader (Name ℕ)
 name_at text = placed name_of text (identifier_at text)
 
--- a block's label, which stands at its `^`
+-- a block's label; its place is that of the `^`
 abbrev pub label_at : Reader (Name ℕ)
 label_at text = placed name_of text ((word (codes "^") ▷ identifier_at) text)
 
--- a symbol's name, which stands at its `@`
+-- a symbol's name; its place is that of the `@`
 abbrev pub symbol_at : Reader (Name ℕ)
 symbol_at text = placed name_of text ((word (codes "@") ▷ identifier_at) text)
 
@@ -45,22 +45,22 @@ symbol_at text = placed name_of text ((word (codes "@") ▷ identifier_at) text)
 abbrev pub mark_at : Reader (Mark ℕ)
 mark_at text = mapped (λ i. record { place = length text; index = i }) (index_at text)
 
--- a mark, where one stands
+-- a mark if `!` comes next; otherwise none
 abbrev pub mark_if_at : Reader (Option (Mark ℕ))
 mark_if_at = either (begins (the 33)) (mark_at ⇒ Some) (nothing None)
 
--- a name that was read where no scope is open: it is bad where it stands
+-- a name where no scope is open: it is bad at its beginning
 abbrev pub outside : Outcome (Name ℕ) → Outcome (Name ℕ)
 outside (Read n taken rest) = Bad (NoActiveScope n.text) []
 outside (Missing cause) = Missing cause
 outside (Bad cause upto) = Bad cause upto
 
--- a name that is used, inside of some region or outside of each
+-- a name that is used, inside a region or outside of every region
 abbrev pub used_at : Bool → Reader (Name ℕ)
 used_at true text = name_at text
 used_at false text = outside (name_at text)
 
--- `^` and a label that is used, which stands at its name
+-- `^` and a label that is used; its place is that of the name
 abbrev pub target_at : Bool → Reader (Name ℕ)
 target_at inside = word (codes "^") ▷ used_at inside
 
@@ -69,15 +69,15 @@ module _ {A : Type 0} (attr : Text → Outcome (AttrView A)) where
   abbrev pub pair_at : Reader (Name ℕ × Attribute A)
   pair_at = name_at ▶ λ key. spaced_at (codes ":") ▷ attribute_at attr ⇒ λ a. (key, a)
 
-  -- entries between brackets, with `,` between them; which keys may have which attributes is not looked at
+  -- entries in brackets, with `,` between; which keys may have which attributes is not tested
   unfoldable pub dictionary_at : Reader (List (Name ℕ × Attribute A))
   dictionary_at text = (word (codes "[") ▷ space_at ▷ separated_at 44 pair_at ◁ word (codes "]")) text
 
-  -- the marker of an attribute that the section has, or an attribute
+  -- the marker of an outlined attribute, or an attribute
   abbrev pub outlined_or_at : Reader (Option (Attribute A))
   outlined_or_at = either (starts_with marker) (word marker ⇒ λ _. None) (attribute_at attr ⇒ Some)
 
--- One step of a format: a directive that is no region, a list of types, one region, or all that follow.
+-- One step of a format: a directive other than a region, a list of types, one region, or all that follow.
 pub data Step : Type 0 where
   flat : Directive → Step
   types : Step
@@ -90,7 +90,7 @@ step_of (format.region i) = one i
 step_of format.regions = all
 step_of d = flat d
 
--- the steps of the canonical text
+-- the steps of the canonical form
 abbrev pub canonical_steps : List Step
 canonical_steps = flat (format.word (codes "(")) ∷ flat format.operands ∷ flat (format.word (codes ")")) ∷ flat (format.word (codes "["))
     ∷ flat format.successors ∷ flat (format.word (codes "]")) ∷ flat format.dictionary ∷ flat (format.word (codes ":"))
@@ -103,7 +103,7 @@ abbrev pub steps_of : Format → List Step
 steps_of format.canonical = canonical_steps
 steps_of (format.custom ds) = map step_of ds
 
--- the steps in front of the first region
+-- the steps before the first region
 abbrev pub front_steps : List Step → List Step
 front_steps [] = []
 front_steps (one i ∷ ss) = []
@@ -118,7 +118,7 @@ region_steps (all ∷ ss) = all ∷ ss
 region_steps (s ∷ ss) = region_steps ss
 
 module _ {T A : Type 0} (types_at : Text → Outcome T) (attr : Text → Outcome (AttrView A)) where
-  -- what a directive that is no region reads, inside of some region or outside of each
+  -- what a directive other than a region parses, inside a region or outside of every region
   abbrev pub directive_at : Bool → Directive → Reader (Piece ℕ T A)
   directive_at inside (format.word s) = word s ⇒ λ _. tree.word s
   directive_at inside (format.operand i) = used_at inside ⇒ tree.operand i
@@ -131,7 +131,7 @@ module _ {T A : Type 0} (types_at : Text → Outcome T) (attr : Text → Outcome
   directive_at inside format.header = symbol_at ⇒ tree.header
   directive_at inside _ = λ text. Missing (Unexpected (first_of text) AnOperation)
 
-  -- what a step reads that is no region
+  -- what a step other than a region parses
   abbrev pub piece_at : Bool → Step → Reader (Piece ℕ T A)
   piece_at inside (flat d) = directive_at inside d
   piece_at inside types = separated_at 44 types_at ⇒ tree.types
@@ -141,7 +141,7 @@ module _ {T A : Type 0} (types_at : Text → Outcome T) (attr : Text → Outcome
   abbrev pub argument_at : Reader (Name ℕ × T)
   argument_at = name_at ▶ λ n. spaced_at (codes ":") ▷ types_at ⇒ λ t. (n, t)
 
-  -- a block's dictionary, where one stands
+  -- a block's dictionary if `[` comes next; otherwise none
   abbrev pub dictionary_if_at : Reader (Option (List (Name ℕ × Attribute A)))
   dictionary_if_at = either (begins (the 91)) (dictionary_at attr ⇒ Some) (nothing None)
 
@@ -151,21 +151,21 @@ module _ {T A : Type 0} (types_at : Text → Outcome T) (attr : Text → Outcome
       ▷ dictionary_if_at ▶ λ attributes. space_at ▷ mark_if_at ▶ λ mark. space_at ▷ word (codes ":")
       ⇒ λ _. record { label = label; arguments = arguments; attributes = attributes; mark = mark }
 
--- names with `,` between them, and `=`
+-- names with `,` between, and `=`
 abbrev pub results_at : Reader (List (Name ℕ))
 results_at = separated_at 44 name_at ◁ word (codes "=")
 
--- the names of results, where a whole list of names and `=` stand; else none
+-- the names of results if a whole list of names and `=` comes next; otherwise none
 abbrev pub named : Outcome (List (Name ℕ)) → Text → Outcome (List (Name ℕ))
 named (Read ns taken rest) text = Read ns taken rest
 named (Missing cause) text = Read [] [] text
 named (Bad cause upto) text = Read [] [] text
 
--- what stands in front of an operation's id: white space, and the names of its results, where they stand, with white space behind
+-- what precedes an operation's id: white space, the names of its results, if there are any, and white space
 abbrev pub lead_at : Reader (List (Name ℕ))
 lead_at = space_at ▷ (λ text. named (results_at text) text) ◁ space_at
 
--- a lead that was read, and a registered operation's id behind it
+-- a lead that was parsed, and a registered operation's id after it
 abbrev pub led_by : List (Text × Table) → Outcome (List (Name ℕ)) → Outcome (List (Name ℕ) × Id)
 led_by dialects (Read ns lead rest) = mapped (λ id. (ns, id)) (registered_behind dialects lead (behind lead (id_at rest)))
 led_by dialects (Missing cause) = Missing cause

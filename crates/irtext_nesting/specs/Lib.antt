@@ -1,4 +1,4 @@
--- What the readers of nested text answer, in reading order: one item's own parts, and then what nests
+-- What the parsers of nested text return, in reading order: the own parts of one operation or block, and then what is nested in it
 pub mod Agrees
 pub mod Both
 pub mod Building

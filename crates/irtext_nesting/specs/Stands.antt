@@ -1,5 +1,5 @@
--- Between functions: what a context holds of what was read so far: each operation and each block that is whole with its own, in their
--- places, and what is open. Of operands and successors their number alone is told here: the machine of names says which they are.
+-- Between functions: what a context contains of what was parsed so far: each complete operation and block with its data, at its place,
+-- and what is open. Of operands and successors only the number is stated here: the machine of names says which they are.
 use Rattle.std.specs.Prelude.{◌≡◌, ◌⊎◌, ℕ, List, [], ◌∷◌, ◌++◌, length, map, Option, Some, None, IsSome, ⊤}
 use Rattle.irtext_base.specs.Text.{Text}
 use Rattle.irtext_base.specs.Format.{Id}
@@ -23,7 +23,7 @@ use Rattle.irtext_grammar.specs.Graphs.Build.{put_all, read_names, plain_entry, 
 use Rattle.irtext_grammar.specs.Names.Acts.{result_types, entries_if}
 use Rattle.irtext_nesting.specs.Building.{Building, Unfinished, operation_so_far, region_so_far, but_its_mark}
 
--- an operation's own: its place, its id, how many operands and successors it has, the types of its results, and its attributes
+-- an operation's own data: its place, its id, how many operands and successors it has, the types of its results, and its attributes
 pub record OwnSoFar (T A : Type 0) : Type 0 where
   pub place : ℕ
   pub id : Id
@@ -33,7 +33,7 @@ pub record OwnSoFar (T A : Type 0) : Type 0 where
   pub entries : List (Text × Attribute A)
 
 module _ {T A : Type 0} where
-  -- the own of an operation that was read
+  -- the own data of an operation that was parsed
   abbrev pub own_of : Op ℕ T A → OwnSoFar T A
   own_of o = record {
     place = o.place;
@@ -44,12 +44,12 @@ module _ {T A : Type 0} where
     entries = put_all [] (inline_entries o ++ read_names (map (λ n. n.text) o.names));
   }
 
-  -- the attributes of a block that was read
+  -- the attributes of a block that was parsed
   abbrev pub head_entries : Head ℕ T A → List (Text × Attribute A)
   head_entries h = put_all [] (map plain_entry (entries_if h.attributes) ++ read_names (map (λ a. a.0.text) h.arguments))
 
   module _ (IsLocation : ℕ → Location A → Type 0) where
-    -- an operation of a context has this own
+    -- an operation of a context has this data
     pub record HasOwn (view : OperationView T A) (own : OwnSoFar T A) : Type 0 where
       pub id : id_of view.id ≡ own.id
       pub types : view.result_types ≡ known own.types
@@ -63,7 +63,7 @@ module _ {T A : Type 0} where
       pub entries : entries_of view.attributes ≡ head_entries h
       pub location : IsLocation h.label.place view.loc
 
-  -- an operation of a context has as many operands and successors as this own
+  -- an operation of a context has as many operands and successors as this data
   pub record HasUses (c : ContextView T A) (p : Ptr Operation) (own : OwnSoFar T A) : Type 0 where
     pub operands_are : length (operands c.graph p) ≡ own.operands
     pub successors_are : length (successors c.graph p) ≡ own.successors
@@ -71,65 +71,65 @@ module _ {T A : Type 0} where
   module _ (IsLocation : Object → ℕ → Location A → Type 0) where
     module _ (c : ContextView T A) (whole : List Object) where
       abbrev mutual
-        -- these regions hold what was read, and each is whole
+        -- these regions contain what was parsed, and each is complete
         pub RegionsHold : List (Ptr Region) → Regions (Op ℕ T A) (Head ℕ T A) (Brace ℕ) → Type 0
         RegionsHold [] no_regions = ⊤
         RegionsHold (r ∷ rs) (forest.region brace bs more) =
             Among (TheRegion r) whole × ((view : RegionView) × (region c r ≡ Some view) × BlocksHold view.blocks bs) × RegionsHold rs more
         RegionsHold _ _ = ⊥
 
-        -- so do these blocks
+        -- the same of these blocks
         pub BlocksHold : List (Ptr BasicBlock) → Blocks (Op ℕ T A) (Head ℕ T A) (Brace ℕ) → Type 0
         BlocksHold [] no_blocks = ⊤
         BlocksHold (b ∷ bs) (forest.block h os more) =
             Among (TheBlock b) whole × ((view : BlockView T A) × (block c b ≡ Some view) × HasHead (IsLocation (TheBlock b)) view h × OperationsHold view.operations os) × BlocksHold bs more
         BlocksHold _ _ = ⊥
 
-        -- and these operations
+        -- the same of these operations
         pub OperationsHold : List (Ptr Operation) → Operations (Op ℕ T A) (Head ℕ T A) (Brace ℕ) → Type 0
         OperationsHold [] no_operations = ⊤
         OperationsHold (p ∷ ps) (forest.operation o rs more) =
             Among (TheOperation p) whole × ((view : OperationView T A) × (operation c p ≡ Some view) × HasOwn (IsLocation (TheOperation p)) view (own_of o) × HasUses c p (own_of o) × RegionsHold view.regions rs) × OperationsHold ps more
         OperationsHold _ _ = ⊥
 
--- What is open, as a context has it: an operation, with its own so far; one that waits for its mark; a region, with its last block,
--- where one is open.
+-- What is open, in a context: an operation, with its data so far; one that waits for its mark; a region, with its last block, if that is
+-- open.
 pub data OpenAt (T A : Type 0) : Type 0 where
   operation_under : Ptr Operation → OwnSoFar T A → OpenAt T A
   ended_under : Ptr Operation → OpenAt T A
   region_under : Ptr Region → Option (Ptr BasicBlock) → OpenAt T A
 
--- the region that is this object, where it is one
+-- the region that is this object, if it is one
 abbrev pub region_in : Option Object → List (Ptr Region)
 region_in (Some (TheRegion r)) = r ∷ []
 region_in _ = []
 
--- the operation that is this object, where it is one
+-- the operation that is this object, if it is one
 abbrev pub operation_in : Option Object → List (Ptr Operation)
 operation_in (Some (TheOperation p)) = p ∷ []
 operation_in _ = []
 
 module _ {T A : Type 0} where
-  -- one that is open, as it stands in others
+  -- the object of an open frame, as a child in the next outer one
   abbrev pub as_inner : OpenAt T A → Option Object
   as_inner (operation_under p own) = Some (TheOperation p)
   as_inner (ended_under p) = Some (TheOperation p)
   as_inner (region_under r last) = Some (TheRegion r)
 
-  -- the objects of one that is open
+  -- the objects of an open frame
   abbrev pub objects_under : OpenAt T A → List Object
   objects_under (operation_under p own) = TheOperation p ∷ []
   objects_under (ended_under p) = TheOperation p ∷ []
   objects_under (region_under r None) = TheRegion r ∷ []
   objects_under (region_under r (Some b)) = TheBlock b ∷ TheRegion r ∷ []
 
-  -- the objects of all that is open, the innermost first
+  -- the objects of all open frames, the innermost first
   abbrev pub open_objects : List (OpenAt T A) → List Object
   open_objects [] = []
   open_objects (at ∷ ats) = objects_under at ++ open_objects ats
 
   module _ (IsLocation : Object → ℕ → Location A → Type 0) (c : ContextView T A) (whole : List Object) where
-    -- An operation that is open has its own so far, and its regions; the one that is open in it comes last.
+    -- An open operation has its data so far, and its regions; the one that is open in it comes last.
     pub record OperationIsOpen (p : Ptr Operation) (own : OwnSoFar T A) (rs : Regions (Op ℕ T A) (Head ℕ T A) (Brace ℕ)) (inner : Option Object) : Type 0 where
       pub view : OperationView T A
       pub is : operation c p ≡ Some view
@@ -139,7 +139,7 @@ module _ {T A : Type 0} where
       pub regions : view.regions ≡ done ++ region_in inner
       pub hold : RegionsHold IsLocation c whole done rs
 
-    -- A region that is open has its blocks that are whole, and behind them these.
+    -- An open region has its complete blocks, and after them these.
     pub record RegionIsOpen (r : Ptr Region) (bs : Blocks (Op ℕ T A) (Head ℕ T A) (Brace ℕ)) (last : List (Ptr BasicBlock)) : Type 0 where
       pub view : RegionView
       pub is : region c r ≡ Some view
@@ -147,7 +147,7 @@ module _ {T A : Type 0} where
       pub blocks : view.blocks ≡ done ++ last
       pub hold : BlocksHold IsLocation c whole done bs
 
-    -- A block that is open has its header, and its operations; the one that is open in it comes last.
+    -- An open block has its header, and its operations; the one that is open in it comes last.
     pub record BlockIsOpen (b : Ptr BasicBlock) (h : Head ℕ T A) (os : Operations (Op ℕ T A) (Head ℕ T A) (Brace ℕ)) (inner : Option Object) : Type 0 where
       pub view : BlockView T A
       pub is : block c b ≡ Some view
@@ -156,7 +156,7 @@ module _ {T A : Type 0} where
       pub operations : view.operations ≡ done ++ operation_in inner
       pub hold : OperationsHold IsLocation c whole done os
 
-    -- one that is open is what was read of it, and what is open in it comes last
+    -- an open frame is what was parsed of it, and what is open in it comes last
     abbrev pub IsOpenAt : OpenAt T A → Unfinished T A → Option Object → Type 0
     IsOpenAt (operation_under p own) (operation_so_far at id rs) inner = (own.place ≡ at) × (own.id ≡ id) × OperationIsOpen p own rs inner
     IsOpenAt (ended_under p) (but_its_mark o rs) inner = (inner ≡ None) × OperationIsOpen p (own_of o) rs None
@@ -164,32 +164,32 @@ module _ {T A : Type 0} where
     IsOpenAt (region_under r (Some b)) (region_so_far bs (Some last)) inner = RegionIsOpen r bs (b ∷ []) × BlockIsOpen b last.0 last.1 inner
     IsOpenAt _ _ inner = ⊥
 
-    -- all that is open is what was read of it, the innermost first
+    -- all open frames are what was parsed of them, the innermost first
     abbrev pub AreOpenAt : List (OpenAt T A) → List (Unfinished T A) → Option Object → Type 0
     AreOpenAt [] [] inner = ⊤
     AreOpenAt (at ∷ ats) (u ∷ us) inner = IsOpenAt at u inner × AreOpenAt ats us (as_inner at)
     AreOpenAt _ _ inner = ⊥
 
-    -- the tree stands under the pointer, once it is whole
+    -- the tree is under the pointer, once it is complete
     abbrev pub TreeHolds : Option (Ptr Operation) → Option (Tree ℕ T A) → Type 0
     TreeHolds None None = ⊤
     TreeHolds (Some p) (Some t) = OperationsHold IsLocation c whole (p ∷ []) (forest.operation t.own t.regions no_operations)
     TreeHolds _ _ = ⊥
 
-  -- an object is there: an operation that is no placeholder, a block that stands in a region, or a region
+  -- an object is present: an operation that is no placeholder, a block with a parent, or a region
   abbrev pub IsThere : ContextView T A → Object → Type 0
   IsThere c (TheOperation p) = IsSome (operation c p)
   IsThere c (TheBlock b) = IsSome (block c b) × IsSome (parent c.graph (TheBlock b))
   IsThere c (TheRegion r) = IsSome (region c r)
 
--- no object is among those behind it
+-- no object occurs twice
 abbrev pub AreApart : List Object → Type 0
 AreApart [] = ⊤
 AreApart (o ∷ os) = (Among o os → ⊥) × AreApart os
 
 module _ {T A : Type 0} (IsLocation : Object → ℕ → Location A → Type 0) where
-  -- The context holds what was read so far: what is whole, what is open under these pointers, and the tree under its pointer. Each of
-  -- these objects is there; what is open is none of what is whole, and no two of it are one.
+  -- The context contains what was parsed so far: what is complete, what is open under these pointers, and the tree under its pointer.
+  -- Each of these objects is present; no open object is complete, and none of them occurs twice.
   pub record HoldsSoFar (c : ContextView T A) (whole : List Object) (ats : List (OpenAt T A)) (root : Option (Ptr Operation)) (b : Building T A) : Type 0 where
     pub are_open : AreOpenAt IsLocation c whole ats b.unfinished None
     pub tree : TreeHolds IsLocation c whole root b.tree
@@ -204,14 +204,14 @@ pub record UsesAsMany {O B T : Type 0} (g k : GraphView O B T) (p : Ptr Operatio
   pub as_many_successors : length (successors k p) ≡ length (successors g p)
 
 module _ {T A : Type 0} where
-  -- an object is as it was: its data, the types of its results or arguments, how many operands and successors it has, and what stands in
-  -- it; a block and a region also stand where they stood
+  -- an object is unchanged: its data, the types of its results or arguments, how many operands and successors it has, and its children;
+  -- the parents of blocks and regions are unchanged, too
   abbrev pub IsAsItWas : ContextView T A → ContextView T A → Object → Type 0
   IsAsItWas old new (TheOperation p) = (operation new p ≡ operation old p) × UsesAsMany old.graph new.graph p
   IsAsItWas old new (TheBlock b) = (block new b ≡ block old b) × (parent new.graph (TheBlock b) ≡ parent old.graph (TheBlock b))
   IsAsItWas old new (TheRegion r) = region new r ≡ region old r
 
-  -- whatever was there is as it was, but for these objects, and whatever is there was there, but for these
+  -- every object that was present is unchanged, except these, and every object that is present was present, or is one of these
   pub record Spares (but : List Object) (old new : ContextView T A) : Type 0 where
     pub spared : (o : Object) → IsThere old o → (Among o but → ⊥) → IsAsItWas old new o
     pub brought : (o : Object) → IsThere new o → IsThere old o ⊎ Among o but

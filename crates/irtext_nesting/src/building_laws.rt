@@ -1,5 +1,5 @@
-//! The laws of building while nested text is read, over definitions alone: what is built is the tree, and two things that items do can
-//! be done side by side.
+//! Laws of building a tree while nested text is parsed, over definitions alone: what is built is the tree, and two sets of actions can be
+//! performed side by side.
 ghost use Rattle.std.specs.Prelude.{◌≡◌, ℕ, Bool, List, Option, true};
 ghost use Rattle.irtext_base.specs.Text.{Text};
 ghost use Rattle.irtext_base.specs.Format.{Id};
@@ -16,9 +16,10 @@ ghost use Rattle.irtext_nesting.specs.Building.{Building, building, nothing_open
 
 use irtext_base::text::{AttrText, IrText};
 
-/// What structure is built while nested text is read is the tree that the text reads as. Where each registered format reads uniquely,
-/// what the reader of an operation, with all that nests in it, builds from nothing is a tree that the grammar reads. And each tree that
-/// the grammar reads is what is built from nothing, up to the same rest; where something is open, it comes last there.
+/// The tree that is built while nested text is parsed is the tree that the text parses as. If each registered format meets all its
+/// conditions, then what the parser of an operation, with everything nested in it, builds from nothing is a tree of the grammar. Each
+/// tree of the grammar is built from nothing, up to the same rest; if something is open, the tree is added there as the last one. The
+/// actions of the tree, performed from nothing, build the same.
 pub fn what_is_built_is_the_tree<T: IrText<A>, A: AttrText>()
     ensures read { (dialects : List (Text × Table)) (text rest : Text) (b : Building T A) → ((id : Id) → IsAccepted dialects id) →
         operation_at dialects T.reading (attr_at A.reading) (building (format_of dialects)) true text nothing_open ≡ Came tt b rest →
@@ -35,9 +36,9 @@ pub fn what_is_built_is_the_tree<T: IrText<A>, A: AttrText>()
         do_tree (isolated dialects) (building (format_of dialects)) x nothing_open ≡ finished x }
 {}
 
-/// Two things that items do as nested text is read can be done side by side: a tree does both, and a reading comes to its end, or is
-/// stuck at a fault of the text, exactly where that with each of the two is, with the same rest or cause and place; so it is of a
-/// reading told from what is open.
+/// Two sets of actions on what is parsed can be performed side by side. The actions of a tree are then those of both. A parse ends, or is
+/// stuck at a fault of the text, exactly where that with each of the two does, with the same rest or the same cause and place. This also
+/// holds of the rest of a parse, given what is open.
 pub fn two_doings_stand_beside<T: IrText<A>, A: AttrText, U, V>()
     ensures tree { (isolated : Id → Bool) (d : Doing T A U) (e : Doing T A V) (x : Tree ℕ T A) (s : U) (t : V) →
         do_tree isolated (both d e) x (s, t) ≡ (do_tree isolated d x s, do_tree isolated e x t) }

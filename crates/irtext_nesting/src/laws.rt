@@ -1,5 +1,5 @@
-//! The laws of nested reading, over definitions alone: what is read is the grammar's tree, and what is done beside it is what the tree
-//! does.
+//! Laws of nested parsing, over definitions alone: what is parsed is a tree of the grammar, and the actions that are performed are those
+//! of the tree.
 ghost use Rattle.std.specs.Prelude.{◌≡◌, ℕ, List, true};
 ghost use Rattle.irtext_base.specs.Text.{Text};
 ghost use Rattle.irtext_base.specs.Format.{Id};
@@ -18,9 +18,9 @@ ghost use Rattle.irtext_nesting.specs.Reached.{Came, Doing, do_tree, operation_a
 
 use irtext_base::text::{AttrText, IrText};
 
-/// Whatever items do as they are read: where each registered format reads uniquely, what an operation's reader reads of a text inside of
-/// a region, with all that nests in it, the grammar reads as a tree, and what was done is what the tree does. And what the grammar reads
-/// as a tree the reader reads, up to the same rest, and does what the tree does.
+/// For any actions, and if each registered format meets all its conditions: what the parser of an operation, with everything nested in
+/// it, parses of a text inside a region, the grammar parses as a tree, and the actions performed are those of the tree. And what the
+/// grammar parses as a tree, the parser parses up to the same rest, and performs the actions of the tree.
 pub fn nested_text_is_a_tree<T: IrText<A>, A: AttrText, U>()
     ensures read { (dialects : List (Text × Table)) (does : Doing T A U) (text rest : Text) (s t : U) →
         ((id : Id) → IsAccepted dialects id) →
@@ -32,9 +32,9 @@ pub fn nested_text_is_a_tree<T: IrText<A>, A: AttrText, U>()
         operation_at dialects T.reading (attr_at A.reading) does true text s ≡ Came tt (do_tree (isolated dialects) does x s) rest }
 {}
 
-/// What names are used for and defined as while nested text is read, act by act, is what the two passes over the tree say of it: each
-/// item of a text that reads as a tree has a place of its own, and with the items named by their places the reader comes to what the
-/// machine comes to that reads the script of the tree.
+/// What is done with names while nested text is parsed, act by act, is what the two passes over the tree say: each operation and block of
+/// a text that parses as a tree has a place of its own, and with operations and blocks named by their places the parser has the same
+/// outcome as the machine that processes the script of the tree.
 pub fn names_run_the_machine<T: IrText<A>, A: AttrText>()
     ensures { (dialects : List (Text × Table)) (x : Tree ℕ T A) (text rest : Text) →
         reads (language (texts_of T.reading T.written) (texts_of A.reading A.written) (format_of dialects)) x text rest →

@@ -1,6 +1,6 @@
-//! What a text is to the parsers of operations, blocks and regions, however deep, with what its items do as they are parsed: what they do
-//! with names, and what they build; and what a text is to the parsers of the section behind a root. Definitions, proofs, and the laws that
-//! these end in.
+//! What a text is to the parsers of operations, blocks and regions, at any depth, with the actions that are performed as they are parsed:
+//! what these do with names, and what they build; and what a text is to the parsers of the section after a root. Definitions, proofs, and
+//! the laws that follow.
 #![tactic(auto)]
 
 pub mod building_laws;

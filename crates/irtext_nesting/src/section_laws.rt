@@ -1,4 +1,5 @@
-//! The law of sections, over definitions alone: what their reader answers is what the grammar reads, and what it refuses is refused.
+//! The law of sections, over definitions alone: what their parser returns is what the grammar parses, and what it rejects does not
+//! resolve.
 ghost use Rattle.std.specs.Prelude.{◌≡◌, ℕ, List, []};
 ghost use Rattle.irtext_base.specs.Text.{Text};
 ghost use Rattle.irtext_base.specs.Answers.{Read};
@@ -15,9 +16,9 @@ ghost use Rattle.irtext_nesting.specs.Readers.{section_at};
 
 use irtext_base::text::{AttrText, IrText};
 
-/// Behind a root with any marks, whatever may stand in the entry of each: what the section's reader answers the grammar reads as a
-/// section, and nothing is refused of it; and what the grammar reads as a section is answered, up to the same rest, or it is bad at the
-/// place of the first thing that is refused of it, with that cause.
+/// After a root with any marks, and by any rules of what is allowed in the entry of each: what the parser of sections returns, the
+/// grammar parses as a section, and it has no failure. And what the grammar parses as a section is returned, up to the same rest, or it
+/// is bad at the place of its first failure, with the failure's cause.
 pub fn section_text_is_a_section<T: IrText<A>, A: AttrText>()
     ensures read { (dialects : List (Text × Table)) (marks : List ℕ) (rules : ℕ → Rule A) (es : List (Entry ℕ A (Written A))) (text taken rest : Text) →
         section_at (attr_at A.reading) marks rules text ≡ Read es taken rest →

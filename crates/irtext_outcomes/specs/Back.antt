@@ -1,4 +1,5 @@
--- For callers: roots whose printed text is read back, and what is promised of each that is read of it.
+-- For callers: roots whose printed text is parsed back, and what is promised of each root that is parsed from it. Fillings are the given
+-- names, labels and positions that the text adds where the root has none.
 use Rattle.std.specs.Prelude.{◌≡◌, ◌<◌, ◌^◌, ℕ, Bool, true, List, [], length, Option, Some}
 use Rattle.irtext_base.specs.Answers.{Outcome}
 use Rattle.irtext_base.specs.Format.{Id}
@@ -24,16 +25,16 @@ use Rattle.irtext_outcomes.specs.Uses.{SameUses}
 
 module _ {T A : Type 0} (C : Printing T A) (isolated : Id → Bool) where
   -- A closed root: it has no result, operand or successor, and is isolated or has no region; inside it each operand is a value of the
-  -- same isolated scope, and each successor a block of the same region; its operations fit their formats; and no label stands in the
-  -- dictionary of a block.
+  -- same isolated scope, and each successor a block of the same region; its operations fit their formats; and no block has a label in its
+  -- dictionary.
   pub record ClosedRoot (g : Graph T A) : Type 0 where
     pub closed : Closed C isolated g
     pub fits : Fit C isolated g
     pub unlabelled : HoldsNoLabels g
 
-  -- The same in words that say nothing of names: the root has no result, operand or successor; it is isolated, or has no region; each
-  -- operand inside is a value that its isolated scope defines, and each successor a block that its region defines; operations fit; and no
-  -- label stands in the dictionary of a block.
+  -- The same without names: the root has no result, operand or successor; it is isolated, or has no region; each operand inside is a
+  -- value that its isolated scope defines, and each successor a block that its region defines; operations fit their formats; and no block
+  -- has a label in its dictionary.
   pub record StandsAlone (g : Graph T A) : Type 0 where
     pub results : g.own.results ≡ []
     pub operands : g.own.operands ≡ []
@@ -44,15 +45,15 @@ module _ {T A : Type 0} (C : Printing T A) (isolated : Id → Bool) where
     pub unlabelled : HoldsNoLabels g
 
 module _ {T A : Type 0} (types : Texts T) (owns : Texts A) (attr : Text → Outcome (AttrView A)) (C : Printing T A) (isolated : Id → Bool) where
-  -- The text is that of a root under a limit, and a number counts its characters. The root keeps what its parts' types keep, and its
-  -- operations fit their formats.
+  -- The text is that of a root under a limit, with fewer than 2 ^ 64 characters. The root has the properties that the types of its parts
+  -- ensure, and its operations fit their formats.
   pub record IsTextOf (g : Graph T A) (width indentation : ℕ) (limit : Limit) (t : Text) : Type 0 where
     pub kept : KeptRoot attr owns.written C isolated g
     pub fits : Fit C isolated g
     pub is : t ≡ text (unplaced types owns C.format_of) C g indentation width limit
     pub few : length t < 2 ^ 64
 
-  -- A text reads as a tree and the entries of its section, up to this rest; nothing of it is refused; and what it builds is held.
+  -- A text parses as a tree and the entries of its section, with this rest; they resolve; and `held` is what they build.
   pub record ReadsAs (first : ℕ → Written A) (t rest : Text) (held : Option (Built T A (Written A))) : Type 0 where
     pub tree : Tree ℕ T A
     pub entries : List (Entry ℕ A (Written A))
@@ -60,7 +61,7 @@ module _ {T A : Type 0} (types : Texts T) (owns : Texts A) (attr : Text → Outc
     pub resolves : failures_of isolated tree entries ≡ []
     pub builds : held ≡ Some (build isolated first entries tree)
 
-  -- What is held is equal to the root up to fillings, uses inside as sets too; and only white space is left of the text.
+  -- `held` is equal to the root up to fillings, with the same uses inside; and only white space is left of the text.
   pub record HeldBack (g : Graph T A) (rest : Text) (held : Option (Built T A (Written A))) : Type 0 where
     pub built : Built T A (Written A)
     pub is : held ≡ Some built
@@ -68,7 +69,7 @@ module _ {T A : Type 0} (types : Texts T) (owns : Texts A) (attr : Text → Outc
     pub uses : SameUses (stood C isolated g) built
     pub ends : after_space rest ≡ []
 
-  -- The same where nothing was filled in but positions.
+  -- The same, with nothing filled in but positions.
   pub record HeldWhole (g : Graph T A) (rest : Text) (held : Option (Built T A (Written A))) : Type 0 where
     pub built : Built T A (Written A)
     pub is : held ≡ Some built

@@ -1,4 +1,4 @@
--- What a caller is told of a root, and what a text reads as, over the texts, faults and streams of the base
+-- What is promised of a root, and what a text parses as, over the texts, faults and streams of `irtext_base`
 pub mod Back
 pub mod ContextParts
 pub mod Promises

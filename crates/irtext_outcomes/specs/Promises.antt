@@ -1,4 +1,4 @@
--- What a caller is told of a root and of its section.
+-- What is promised of a root and of its section.
 pub mod Supported
 pub mod Root
 pub mod PrintedBack

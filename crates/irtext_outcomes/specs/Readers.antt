@@ -1,4 +1,4 @@
--- What a text is to a reader, with cause and place of each fault, and what a reader changes.
+-- What a text is to a parser, with the cause and place of each fault, and what a parser changes.
 pub mod NewPaths
 pub mod Positions
 pub mod Locations

@@ -1,4 +1,4 @@
--- For callers: what every root of a context has by the types of its parts, which is what the laws of the round trip ask of it beside being
+-- For callers: what the types of a context's parts ensure of every root. The laws of the round trip require this of a root besides being
 -- closed.
 use Rattle.std.specs.Prelude.{◌≡◌, ℕ, Bool, true, not, List, Some, ⊤}
 use Rattle.std.specs.List.{list_all}
@@ -18,7 +18,7 @@ use Rattle.irtext_grammar.specs.Spelling.Spellable.{IsIdentifier}
 use Rattle.irtext_outcomes.specs.Promises.PrintedBack.{locations}
 use Rattle.irtext_outcomes.specs.Promises.Supported.{location_standing}
 
--- no label stands in the dictionary
+-- the dictionary has no label
 abbrev pub HasNoLabel : {A : Type 0} → List (Text × Attribute A) → Type 0
 HasNoLabel es = list_all (λ e. not (same_text e.0 block_label_key)) es ≡ true
 
@@ -26,9 +26,9 @@ HasNoLabel es = list_all (λ e. not (same_text e.0 block_label_key)) es ≡ true
 abbrev pub HoldsNoLabels : {T A : Type 0} → Graph T A → Type 0
 HoldsNoLabels g = AllRegions (λ o. ⊤) (λ h. HasNoLabel h.attributes) (λ r. ⊤) g.regions
 
--- What the types of a context's parts keep of a root: the names that are given to values, the labels of blocks, its ids, its keys and the
--- names in its attributes are identifiers; its numbers and places are those that counters give; its dictionaries keep the reserved keys,
--- where no block's has a label; its locations can be read back, and its keys differ; and no value and no block of it is another.
+-- What the types of a context's parts ensure of a root: given names, labels of blocks, ids, keys and the names in attributes are
+-- identifiers; numbers, places and generations are below 2 ^ 64; dictionaries follow the rule of the reserved keys, if no block's has a
+-- label; locations are parsed back, and the keys of a dictionary are distinct; and values and blocks are distinct.
 pub record KeptRoot {T A : Type 0} (attr : Text → Outcome (AttrView A)) (text_of : A → Text) (C : Printing T A) (isolated : Id → Bool) (g : Graph T A) : Type 0 where
   pub given : (v : ℕ) (n : Text) → C.given v ≡ Some n → IsIdentifier n
   pub label : (b : ℕ × ℕ) (n : Text) → C.label b ≡ Some n → IsIdentifier n

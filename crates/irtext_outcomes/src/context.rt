@@ -1,5 +1,5 @@
-//! What a context keeps, whatever was done with it. Each call looks at what stands there, whose types say these things of each value;
-//! it takes no memory, does not recurse over what nests, and changes nothing.
+//! Properties that every context has, because the types of its parts ensure them. The functions here have no effect: each looks at the
+//! parts, so that the checker knows the properties of their values. They allocate nothing and do not recurse over nested regions.
 ghost use Rattle.std.specs.Prelude.{◌≡◌, ◌<◌, ◌^◌, ℕ, Some, IsSome, IfSome, length};
 ghost use Rattle.irtext_base.specs.Own.{texts_of};
 ghost use Rattle.irtext_context.specs.Context.{OperationView, BlockView, operation, block};
@@ -20,7 +20,7 @@ use irtext_context::base::{BasicBlock, BlockAccess, Context, Operation, Operatio
 use irtext_graph::graph::Graph;
 use irtext_graph::held::HasGraph;
 
-/// An operation holds what its parts' types keep.
+/// The parts of an operation have the properties that their types ensure.
 fn operation_kept<T: IrText<A>, A: AttrText>(ctx: &Context<T, A>, op: Ptr<Operation>)
     requires live { IsSome (operation ctx.now op) }
     ensures kept { (view : OperationView T A) → operation ctx.now op ≡ Some view → IsKept ctx.now view }
@@ -34,7 +34,7 @@ fn operation_kept<T: IrText<A>, A: AttrText>(ctx: &Context<T, A>, op: Ptr<Operat
     location_kept(op.loc(ctx), ctx);
 }
 
-/// So does what stands at a place for operations, where it is no placeholder.
+/// The same of the operation at a place of the arena, if there is one and it is no placeholder.
 fn operation_kept_at<T: IrText<A>, A: AttrText>(ctx: &Context<T, A>, place: u32)
     ensures { KeepsOperationAt ctx.now place }
 {
@@ -45,7 +45,7 @@ fn operation_kept_at<T: IrText<A>, A: AttrText>(ctx: &Context<T, A>, place: u32)
     }
 }
 
-/// So do all operations of a context.
+/// The same of all operations of a context.
 fn operations_kept<T: IrText<A>, A: AttrText>(ctx: &Context<T, A>)
     ensures { (place : ℕ) → place < length ctx.now.graph.operations.cells → KeepsOperationAt ctx.now place }
 {
@@ -55,7 +55,7 @@ fn operations_kept<T: IrText<A>, A: AttrText>(ctx: &Context<T, A>)
     }
 }
 
-/// A block holds what its parts' types keep.
+/// The parts of a block have the properties that their types ensure.
 fn block_kept<T: IrText<A>, A: AttrText>(ctx: &Context<T, A>, at: Ptr<BasicBlock>)
     requires live { IsSome (block ctx.now at) }
     ensures kept { (view : BlockView T A) → block ctx.now at ≡ Some view → IsKeptBlock ctx.now view }
@@ -67,7 +67,7 @@ fn block_kept<T: IrText<A>, A: AttrText>(ctx: &Context<T, A>, at: Ptr<BasicBlock
     location_kept(at.loc(ctx), ctx);
 }
 
-/// A pointer's place and generation fit 32 bits.
+/// The place and the generation of a pointer fit 32 bits.
 fn pointer_kept(at: Ptr<BasicBlock>)
     ensures place { at.index < 2 ^ 32 }
     ensures generation { at.generation < 2 ^ 32 }
@@ -76,7 +76,7 @@ fn pointer_kept(at: Ptr<BasicBlock>)
     let _generation = at.generation();
 }
 
-/// So does what stands at a place for blocks.
+/// The same of the block at a place of the arena, if there is one.
 fn block_kept_at<T: IrText<A>, A: AttrText>(ctx: &Context<T, A>, place: u32)
     ensures { KeepsBlockAt ctx.now place }
 {
@@ -88,7 +88,7 @@ fn block_kept_at<T: IrText<A>, A: AttrText>(ctx: &Context<T, A>, place: u32)
     }
 }
 
-/// So do all blocks of a context.
+/// The same of all blocks of a context.
 fn blocks_kept<T: IrText<A>, A: AttrText>(ctx: &Context<T, A>)
     ensures { (place : ℕ) → place < length ctx.now.graph.blocks.cells → KeepsBlockAt ctx.now place }
 {
@@ -98,7 +98,7 @@ fn blocks_kept<T: IrText<A>, A: AttrText>(ctx: &Context<T, A>)
     }
 }
 
-/// The counters of a graph fit their types, its objects nest, what is used is there, and no two values have one number.
+/// The counters of a graph fit their types, parents and children agree, what is used is live, and no two values have the same number.
 fn counters_kept<O: Drop, B: Drop, T: Drop>(graph: &Graph<O, B, T>)
     ensures { KeepsCounters graph.now }
 {
@@ -108,7 +108,7 @@ fn counters_kept<O: Drop, B: Drop, T: Drop>(graph: &Graph<O, B, T>)
     graph.keeps_nesting();
 }
 
-/// What a context keeps of all that stands in it.
+/// All properties that the types of its parts ensure of a context.
 fn all_kept<T: IrText<A>, A: AttrText>(ctx: &Context<T, A>)
     ensures { KeepsAll ctx.now }
 {
@@ -117,9 +117,10 @@ fn all_kept<T: IrText<A>, A: AttrText>(ctx: &Context<T, A>)
     blocks_kept(ctx);
 }
 
-/// Every root of a context has, by the types of its parts, what the laws of the round trip ask of it beside being closed: its names are
-/// identifiers, its numbers and places fit, its locations can be read, its dictionaries keep the reserved keys, and no value and no block
-/// of it is another; and what the context keeps besides. It goes through all places of the context, and takes no memory.
+/// Ensures that every root of a context has what the laws of the round trip require besides being closed: its names are identifiers, its
+/// numbers and places fit, its locations can be parsed back, its dictionaries follow the rule of the reserved keys, and its values and
+/// blocks are distinct. Also ensures the other properties of `KeepsAll`. Visits all places of the arenas for operations and blocks;
+/// allocates nothing.
 pub fn keeps_parts<T: IrText<A>, A: AttrText>(ctx: &Context<T, A>)
     ensures all { KeepsAll ctx.now }
     ensures kept { (p : Ptr Operation) (g : seen.Graph T A) → seen_root A.written ctx.now p ≡ Some g →

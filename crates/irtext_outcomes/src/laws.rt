@@ -1,5 +1,5 @@
-//! Laws of the round trip: whatever is read of the printed text of a closed root is equal to it up to fillings, and nothing that goes
-//! by the text refuses it.
+//! Laws of the round trip: whatever is parsed from the printed text of a closed root is equal to it up to fillings, and no error that
+//! depends on the text can occur. Fillings are the given names, labels and positions that the text adds where the root has none.
 ghost use Rattle.std.specs.Prelude.{◌≡◌, ◌<◌, ◌^◌, ℕ, Bool, List, [], Option, None, true, length};
 ghost use Rattle.std.specs.Str.{IsUtf8, chars, encode_utf8_all};
 ghost use Rattle.irtext_base.specs.Format.{Id};
@@ -25,9 +25,9 @@ ghost use Rattle.irtext_outcomes.specs.Back.{ClosedRoot, HeldBack, HeldWhole, Is
 
 use irtext_base::text::{AttrText, IrText};
 
-/// Whatever is read of the printed text of a closed root of a context, and held then, is equal to it up to fillings, uses inside as
-/// sets too, and all was read but white space. And something is read of it that resolves, so nothing that goes by the text refuses it: a
-/// refusal says of whatever the text reads as that it does not resolve.
+/// Whatever is parsed from the printed text of a closed root of a context, and built (`held`), is equal to the root up to fillings, with
+/// the same uses inside, and only white space is left of the text. Also, the text does parse as a root that resolves. So no error that
+/// depends on the text can occur: such an error means that whatever the text parses as does not resolve.
 pub fn closed_root_comes_back<T: IrText<A>, A: AttrText>()
     ensures builds { (C : Printing T A) (isolated : Id → Bool) (first : ℕ → Written A) (g : Graph T A) (width n : ℕ) (t rest : List ℕ)
         (held : Option (Built T A (Written A))) →
@@ -46,8 +46,8 @@ pub fn closed_root_comes_back<T: IrText<A>, A: AttrText>()
         reads_root (language types owns C.format_of) (location_standing (attr_at A.reading)) tree entries t rest × (failures_of isolated tree entries ≡ []) }
 {}
 
-/// Where each block of the root has a label, and all that has results or arguments holds given names, nothing is filled in but a
-/// position in place of an unknown location.
+/// If each block of the root has a label, and each operation with results and each block with arguments has given names, nothing is
+/// filled in but a position for each unknown location.
 pub fn named_root_is_held<T: IrText<A>, A: AttrText>()
     ensures { (C : Printing T A) (isolated : Id → Bool) (first : ℕ → Written A) (g : Graph T A) (width n : ℕ) (t rest : List ℕ)
         (held : Option (Built T A (Written A))) →
@@ -59,7 +59,7 @@ pub fn named_root_is_held<T: IrText<A>, A: AttrText>()
         HeldWhole types owns (attr_at A.reading) C isolated g rest held }
 {}
 
-/// The text of a root that was printed under a limit reads as nothing where a region was left out.
+/// The text of a root that was printed with a limit does not parse if a region was elided.
 pub fn limited_root_is_refused<T: IrText<A>, A: AttrText>()
     ensures { (C : Printing T A) (isolated : Id → Bool) (g : Graph T A) (width n : ℕ) (limit : Limit) (t rest : List ℕ)
         (tree : Tree ℕ T A) (entries : List (Entry ℕ A (Written A))) →
@@ -69,7 +69,8 @@ pub fn limited_root_is_refused<T: IrText<A>, A: AttrText>()
         reads_root (language types owns C.format_of) (location_standing (attr_at A.reading)) tree entries t rest → ⊥ }
 {}
 
-/// The bytes of a text in memory that encode the printed text of a root are a text of it.
+/// If fewer than 2 ^ 64 bytes in memory encode the printed text of a root that meets `KeptRoot` and fits its formats, their characters
+/// are a text of the root (`IsTextOf`).
 pub fn bytes_are_text<T: IrText<A>, A: AttrText>()
     ensures { (C : Printing T A) (isolated : Id → Bool) (g : Graph T A) (width n : ℕ) (limit : Limit) (bytes : List ℕ) →
         let types = texts_of T.reading T.written in
@@ -79,9 +80,9 @@ pub fn bytes_are_text<T: IrText<A>, A: AttrText>()
         IsTextOf types owns (attr_at A.reading) C isolated g width n limit (chars bytes) }
 {}
 
-/// A root that stands for what was read and resolved is closed where its operations fit; its blocks have labels, and all that has
-/// results or arguments holds given names. So what is read of its printed text is equal to it with a position where a location was
-/// unknown, and with nothing else filled in.
+/// A root that represents what was parsed and resolved is closed if its operations fit their formats and no two of its values or blocks
+/// are the same; its blocks have labels, and everything that has results or arguments has given names. So what is parsed from its printed
+/// text is equal to it, except that unknown locations have become positions.
 pub fn read_root_is_closed<T: IrText<A>, A: AttrText>()
     ensures closed { (C : Printing T A) (isolated : Id → Bool) (before : ℕ → Written A) (tree : Tree ℕ T A) (entries : List (Entry ℕ A (Written A)))
         (source rest : List ℕ) (g : Graph T A) →
@@ -102,7 +103,7 @@ pub fn read_root_is_closed<T: IrText<A>, A: AttrText>()
         HeldWhole types owns (attr_at A.reading) C isolated g rest held }
 {}
 
-/// A root that stands alone is closed, where no value and no block of it is another, as in every context.
+/// A root that satisfies `StandsAlone` is closed if no two of its values or blocks are the same, as in every context.
 pub fn root_alone_is_closed<T, A>()
     ensures { (C : Printing T A) (isolated : Id → Bool) (g : Graph T A) → StandsAlone C isolated g → Distinct C isolated g → ClosedRoot C isolated g }
 {}

@@ -1,5 +1,6 @@
-//! What the parts of operations and blocks keep, for callers that prove that what is printed of them is read back. The calls look at
-//! each part, whose type says these things of each value; they take no memory and change nothing.
+//! Properties that the types of the parts of operations and blocks ensure, for callers that prove that their printed text is parsed back.
+//! The functions have no effect: each looks at the parts, so that the checker knows the properties of their values. They allocate
+//! nothing.
 ghost use Rattle.std.specs.Prelude.{IfSome, FitsSigned, map, option_copied};
 ghost use Rattle.std.specs.Int.{w32};
 ghost use Rattle.std.specs.Str.{IsUtf8};
@@ -20,7 +21,7 @@ use irtext_base::text::{AttrText, IrText};
 use irtext_context::base::Context;
 use irtext_dict::base::AttributeDict;
 
-/// An identifier is the text of one.
+/// The text of an `Identifier` is an identifier.
 fn identifier_kept(name: &Identifier)
     ensures { IsIdentifier name.now }
 {
@@ -73,7 +74,7 @@ pub(crate) fn entries_kept<A: AttrText>(attributes: &AttributeDict<A>)
     }
 }
 
-/// A number fits its type.
+/// The number fits 32 bits with a sign.
 fn number_fits(number: &i32)
     ensures { FitsSigned w32 number.now }
 {
@@ -87,7 +88,7 @@ fn position_fits(pos: &SourcePosition)
     number_fits(&pos.column);
 }
 
-/// The path of a source, if the context keeps one, is UTF-8.
+/// The path of a source, if the context has it, is UTF-8.
 fn source_kept<T: IrText<A>, A: AttrText>(src: Source, ctx: &Context<T, A>)
     ensures { IfSome (path_of ctx.now.paths src) IsUtf8 }
 {
@@ -98,8 +99,8 @@ fn source_kept<T: IrText<A>, A: AttrText>(src: Source, ctx: &Context<T, A>)
     }
 }
 
-/// A location's paths and names are UTF-8, its numbers fit, and the names in its attributes are identifiers. It takes as much of the
-/// machine's stack as locations stand inside one another in places that aren't the last of what stands in a location.
+/// The paths and names in a location are UTF-8, its lines and columns fit, and the names in its attributes are identifiers. Recurses into
+/// the locations nested in it, except into the last one at each level, so it uses stack for each level of nesting in other positions.
 #[cycle(kept)]
 pub(crate) fn location_kept<T: IrText<A>, A: AttrText>(location: &Location<A>, ctx: &Context<T, A>)
     ensures fits { AllFit (location_over ctx.now.paths location.now) }
@@ -153,7 +154,7 @@ pub(crate) fn id_kept(id: &OpId)
     identifier_kept(&id.name);
 }
 
-/// A label is an identifier, where there is one.
+/// A label, if there is one, is an identifier.
 pub(crate) fn label_kept(label: Option<&Identifier>)
     ensures { IsGiven (option_copied label.entry) }
 {

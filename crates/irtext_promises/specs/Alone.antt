@@ -1,4 +1,4 @@
--- For callers: what reading a region alone promises, as the last of an operation, and what reading a block outside of each region does.
+-- For callers: what parsing a single region promises, as the last of an operation, and what parsing a block outside of every region does.
 use Rattle.std.specs.Prelude.{◌≡◌, ◌⊎◌, ℕ, true, length, List, [], ◌∷◌, Option, Some, None, IsSome, ⊤}
 use Rattle.std.specs.Option.{option_map}
 use Rattle.irtext_base.specs.Text.{Text}
@@ -53,16 +53,16 @@ use Rattle.irtext_promises.specs.Promises.{IsFirst}
 abbrev pub pointers_in : {T A : Type 0} → ContextView T A → Ptr Region → PtrRegions
 pointers_in c r = regions_by c.graph (within c.graph (length c.graph.operations.cells)) (r ∷ [])
 
--- what stands in a region, with places as in the one region of a root
+-- the contents of a region, with places as in the one region of a root
 abbrev pub held_region : {T A : Type 0} → ContextView T A → Ptr Region → forest.Regions (BuiltOp T A (Written A)) (BuiltBlock T A (Written A)) ⊤
 held_region c r = held_regions c (placed_regions [] 0 (pointers_in c r)) (pointers_in c r)
 
--- what the reading of a region of an isolated operation does with names, where its brace stands at this place
+-- what parsing a region of an isolated operation does with names; its brace is at this place
 abbrev pub region_alone : {T A : Type 0} → List (Text × Table) → ℕ → Blocks (Op ℕ T A) (Head ℕ T A) (Brace ℕ) → Script Text ℕ
 region_alone dialects place bs = script.within true place (blocks_script (isolated dialects) (0 ∷ []) 0 bs) done
 
--- The region came last into the operation, and only it and what stands in it is new: each object that stood stands as it stood, but the
--- operation, which has one region more, and nothing else uses what stood than before.
+-- The region is the last one of the operation, and only it and what is nested in it is new: each older object is unchanged, except the
+-- operation, which has one more region, and what is older has no new uses.
 pub record OnlyNewIn {T A : Type 0} (op : Ptr Operation) (r : Ptr Region) (old new : ContextView T A) : Type 0 where
   pub live : (q : Object) → Stands new.graph q → Stands old.graph q ⊎ IsInside new.graph (TheRegion r) q
   pub is_new : (q : Object) → IsInside new.graph (TheRegion r) q → Stands old.graph q → ⊥
@@ -75,9 +75,9 @@ pub record OnlyNewIn {T A : Type 0} (op : Ptr Operation) (r : Ptr Region) (old n
   pub dialects : new.dialects ≡ old.dialects
 
 module _ {T A U : Type 0} (types : Texts T) (owns : Texts A) where
-  -- A region stood where the stream stood: the text reads by the context's dialects as these blocks in braces, up to where the stream
-  -- stands now, and they resolve. What they build stands in the region, which is the last of its operation, only that is new, and its
-  -- marks are noted.
+  -- A region was parsed at the position of the stream: with the context's dialects, the text up to the new position parses as these
+  -- blocks in braces, and they resolve. What they build is in the region, which is the last one of its operation, nothing else is new,
+  -- and the marks of the blocks are recorded.
   pub record BuildsRegion (op : Ptr Operation) (r : Ptr Region) (old new : StateStream T A U) : Type 0 where
     pub blocks : Blocks (Op ℕ T A) (Head ℕ T A) (Brace ℕ)
     pub reads : grammar.region_read (supported old.state.ctx.now.dialects types owns) (shown (length old.stream.rest)) (grammar.block_readings (supported old.state.ctx.now.dialects types owns) blocks) old.stream.rest new.stream.rest
@@ -87,15 +87,15 @@ module _ {T A U : Type 0} (types : Texts T) (owns : Texts A) where
     pub marks : indices_of (marks_of new.state) ≡ (facts same_text (region_alone old.state.ctx.now.dialects (length old.stream.rest) blocks)).marks
     pub only : OnlyNewIn op r old.state.ctx.now new.state.ctx.now
 
--- where a region that is not isolated is refused: at the place of its operation, where that is a place of a source, and else at the first
--- line and column
+-- the position of the error for a region that is not isolated: that of its operation's location, if this is a position in a source;
+-- otherwise line 1, column 1
 abbrev pub IsOutermost : {A : Type 0} → Location A → SourcePosition → Type 0
 IsOutermost (SrcPos source at) pos = pos ≡ at
 IsOutermost _ pos = IsAt pos.line pos.column []
 
 module _ {T A : Type 0} (types : Texts T) (owns : Texts A) (dialects : List (Text × Table)) where
-  -- The operation isn't isolated, and the fault says so, where the operation stands; or it is, and the fault is the first failure of
-  -- whatever blocks in braces the text reads as.
+  -- The operation isn't isolated, and the fault says so, at the operation's position; or it is, and the fault is the first failure of
+  -- whatever blocks in braces the text parses as.
   pub data RefusesRegion (iso : Option (Location A)) (old : StreamView) (fault : ParseFault A) : Type 0 where
     not_isolated : (loc : Location A) → iso ≡ Some loc → fault_of fault.cause ≡ causes.NotIsolated → IsOutermost loc fault.pos → RefusesRegion iso old fault
     first : iso ≡ None → ((blocks : Blocks (Op ℕ T A) (Head ℕ T A) (Brace ℕ)) (rest : Text)
@@ -104,6 +104,6 @@ module _ {T A : Type 0} (types : Texts T) (owns : Texts A) (dialects : List (Tex
 
 -- ---- a block
 module _ {T A : Type 0} (types_at : Text → Outcome T) (attr : Text → Outcome (AttrView A)) where
-  -- Outside of each region a block is refused: the fault is the first failure of whatever header the text reads as.
+  -- Outside of every region a block is rejected: the fault is the first failure of whatever header the text parses as.
   pub record RefusesBlock (old : StreamView) (fault : ParseFault A) : Type 0 where
     pub first : (head : Head ℕ T A) (taken rest : Text) → head_at types_at attr old.rest ≡ Read head taken rest → IsFirst (whole old) (failures same_text no_scope (does_all (header_acts [] head) done)) fault

@@ -1,4 +1,5 @@
--- Between functions: a forest of pointers that is that of a tree whose items have what entries of a section give them besides.
+-- Between functions: a forest of pointers that corresponds to a tree whose items also have what the entries of a section give them. An
+-- item is an operation or a block that carries a mark.
 use Rattle.std.specs.Prelude.{◌≡◌, ℕ, true, List, [], Some, is_some, unwrap_or, map, ⊤}
 use Rattle.irtext_base.specs.Faults.{id_of}
 use Rattle.irtext_base.specs.Paths.{Written}
@@ -17,7 +18,7 @@ use Rattle.irtext_nesting.specs.Stands.{own_of, head_entries, HasUses}
 use Rattle.irtext_promises.specs.Held.{PtrRegions, PtrBlocks, PtrOperations}
 
 module _ {T A : Type 0} (c : ContextView T A) (first : ℕ → Written A) (es : List (Entry ℕ A (Written A))) where
-  -- an operation has its own, with what the entry of its mark gives it
+  -- the operation under the pointer has the data of the tree's, and what the entry of its mark gives it
   pub record OperationHas (p : Ptr Operation) (o : Op ℕ T A) : Type 0 where
     pub view : OperationView T A
     pub is : operation c p ≡ Some view
@@ -27,7 +28,7 @@ module _ {T A : Type 0} (c : ContextView T A) (first : ℕ → Written A) (es : 
     pub entries : entries_of view.attributes ≡ with_content (own_of o).entries (content es o.mark)
     pub location : location_over c.paths view.loc ≡ located (first o.place) (content es o.mark)
 
-  -- a block has its own, with what the entry of its mark gives it
+  -- the block under the pointer has the data of the tree's, and what the entry of its mark gives it
   pub record BlockHas (b : Ptr BasicBlock) (h : Head ℕ T A) : Type 0 where
     pub view : BlockView T A
     pub is : block c b ≡ Some view
@@ -38,24 +39,24 @@ module _ {T A : Type 0} (c : ContextView T A) (first : ℕ → Written A) (es : 
     pub location : location_over c.paths view.loc ≡ located (first h.label.place) (content es h.mark)
 
   abbrev mutual
-    -- the forest of pointers is that of these regions, with what the entries give
+    -- the forest of pointers corresponds to these regions, with what the entries give
     pub RegionsHave : PtrRegions → Regions (Op ℕ T A) (Head ℕ T A) (Brace ℕ) → Type 0
     RegionsHave no_regions no_regions = ⊤
     RegionsHave (forest.region r bs rs) (forest.region brace hs more) = BlocksHave bs hs × RegionsHave rs more
     RegionsHave _ _ = ⊥
 
-    -- of these blocks
+    -- the same of these blocks
     pub BlocksHave : PtrBlocks → Blocks (Op ℕ T A) (Head ℕ T A) (Brace ℕ) → Type 0
     BlocksHave no_blocks no_blocks = ⊤
     BlocksHave (forest.block b ps bs) (forest.block h os more) = BlockHas b h × OperationsHave ps os × BlocksHave bs more
     BlocksHave _ _ = ⊥
 
-    -- of these operations
+    -- the same of these operations
     pub OperationsHave : PtrOperations → Operations (Op ℕ T A) (Head ℕ T A) (Brace ℕ) → Type 0
     OperationsHave no_operations no_operations = ⊤
     OperationsHave (forest.operation p rs ps) (forest.operation o more os) = OperationHas p o × RegionsHave rs more × OperationsHave ps os
     OperationsHave _ _ = ⊥
 
-  -- of this tree
+  -- the same of this tree
   abbrev pub RootHas : Root (Ptr Operation) (Ptr BasicBlock) (Ptr Region) → Tree ℕ T A → Type 0
   RootHas ps t = OperationHas ps.own t.own × RegionsHave ps.regions t.regions

@@ -1,4 +1,5 @@
--- Between functions: what a reader of an operation with all that nests in it leaves, as the promise of it is made from.
+-- Between functions: the state after an operation was parsed with everything nested in it, from which its promise is derived. An item is
+-- here an operation or a block with its place in the text.
 use Rattle.std.specs.Prelude.{◌≡◌, ℕ, true, List, [], Some}
 use Rattle.irtext_base.specs.Text.{Text}
 use Rattle.irtext_base.specs.Answers.{Outcome}
@@ -30,8 +31,8 @@ use Rattle.irtext_names.specs.Tied.{NoneIsLeft}
 use Rattle.irtext_promises.specs.OnlyNew.{BlanksDefine}
 
 module _ {T A : Type 0} (types_at : Text → Outcome T) (attr : Text → Outcome (AttrView A)) (dialects : List (Text × Table)) where
-  -- The machine of names came through the text, the items of these places being named by these paths, and what was made for these items
-  -- stands where the machine stands, with nothing in hand; these indices are marked.
+  -- The machine of names has processed the text, with the items of these places named by these paths. What was created for these items
+  -- agrees with the state of the machine, with nothing in hand; these indices are marked.
   pub record StandsBehind (items : Made) (marks : List ℕ) (c : ContextView T A) (text rest : Text) (path : ℕ → Path) : Type 0 where
     pub names : NameTracker Value (Ptr BasicBlock)
     pub known : Known
@@ -41,8 +42,8 @@ module _ {T A : Type 0} (types_at : Text → Outcome T) (attr : Text → Outcome
     pub marked : state.marks ≡ marks
     pub came : operation_at dialects types_at attr (naming (format_of dialects) path) true text (going start) ≡ Came tt (going state) rest
 
-  -- A tree was built of the text, it stands under the pointer, with each item at its place, nothing is open and nothing else came; and
-  -- whatever paths items are named by, the machine of names came through.
+  -- A tree was built of the text. It is under the pointer, with each item at its place; nothing is open, and nothing else was created.
+  -- Whatever paths name the items, the machine of names has processed the text.
   pub record LeavesTree (IsLocation : ℕ → Location A → Type 0) (op : Ptr Operation) (marks : List ℕ) (old new : ContextView T A) (text rest : Text) : Type 0 where
     pub tree : Tree ℕ T A
     pub built : operation_at dialects types_at attr (building (format_of dialects)) true text nothing_open ≡ Came tt (finished tree) rest
@@ -51,8 +52,8 @@ module _ {T A : Type 0} (types_at : Text → Outcome T) (attr : Text → Outcome
     pub held : HoldsMade IsLocation old new items whole [] (Some op) (finished tree)
     pub machine : (path : ℕ → Path) → StandsBehind items marks new text rest path
 
--- What was made since is closed: what is older than the mark stands as it stood, all that stood was older, no placeholder is left; and
--- both graphs are forests.
+-- What was created since is closed: objects that are older than the mark are unchanged, all earlier objects are older than it, no
+-- placeholder is left, and both graphs are forests.
 pub record LeavesClosed {T A : Type 0} (old new : ContextView T A) : Type 0 where
   pub mark : ℕ
   pub older : AllOlder mark old.graph

@@ -1,4 +1,4 @@
--- For callers: that only an operation and all that stands in it came to a context.
+-- For callers: in a context only an operation and everything nested in it is new.
 use Rattle.std.specs.Prelude.{◌≡◌, ◌⊎◌, ℕ, None, IsSome}
 use Rattle.irtext_base.specs.Paths.{KeepsPaths}
 use Rattle.irtext_context.specs.Context.{ContextView, operation}
@@ -16,8 +16,8 @@ use Rattle.irtext_graph.specs.Graph.{Stands, IsInside, IsNew}
 use Rattle.irtext_graph.specs.Store.{get}
 use Rattle.irtext_graph.specs.Used.{IsDefined, IsUse}
 
--- Whatever stands stood before, or is the operation or inside it; none of what is inside stood before. Each object that stood stands as it
--- stood, and nothing else uses what stood than before. Each path stays under its key, and the dialects are the same.
+-- Each live object was live before, or is the operation or nested in it; nothing in the operation was live before. Each older object is
+-- unchanged, and has no new uses. Each path keeps its key, and the dialects are the same.
 pub record OnlyNew {T A : Type 0} (op : Ptr Operation) (old new : ContextView T A) : Type 0 where
   pub live : (q : Object) → Stands new.graph q → Stands old.graph q ⊎ IsInside new.graph (TheOperation op) q
   pub is_new : (q : Object) → IsInside new.graph (TheOperation op) q → Stands old.graph q → ⊥
@@ -28,6 +28,6 @@ pub record OnlyNew {T A : Type 0} (op : Ptr Operation) (old new : ContextView T 
   pub paths : KeepsPaths old.paths new.paths
   pub dialects : new.dialects ≡ old.dialects
 
--- of what was made since a mark, each operation without data has a result, as the placeholders of values have
+-- of the objects that were created after the first m, each operation without data has a result, as the placeholders of values do
 abbrev pub BlanksDefine : {T A : Type 0} → ℕ → ContextView T A → Type 0
 BlanksDefine m c = (p : Ptr Operation) → IsSome (get c.graph.operations p) → operation c p ≡ None → IsNew m c.graph (TheOperation p) → (i : ℕ) × IsDefined c.graph (OfValue (Result p i))

@@ -1,5 +1,6 @@
--- Between functions: a forest of pointers that is that of a tree: each operation and each block has its own, its item is noted at its
--- place, and holds what stands in it there.
+-- Between functions: a forest of pointers that corresponds to a tree: each operation and each block has the data of the tree's, is
+-- recorded as the item of its place, and has the children that the tree has there. An item is here an operation or a block with its place
+-- in the text.
 use Rattle.std.specs.Prelude.{◌≡◌, ℕ, List, [], ◌∷◌, Some, ⊤}
 use Rattle.irtext_base.specs.declared.location.Location.{Location}
 use Rattle.irtext_context.specs.Context.{ContextView, OperationView, BlockView, RegionView, operation, block, region}
@@ -16,7 +17,7 @@ use Rattle.irtext_nesting.specs.Stands.{own_of, HasOwn, HasHead, HasUses}
 use Rattle.irtext_nesting.specs.Tracks.{Made}
 use Rattle.irtext_promises.specs.Held.{PtrRegions, PtrBlocks, PtrOperations}
 
--- the regions of a forest, its blocks and its operations, without what stands in them
+-- the pointers of a list of regions, of blocks or of operations, without what is nested in them
 abbrev pub region_ptrs : PtrRegions → List (Ptr Region)
 region_ptrs no_regions = []
 region_ptrs (forest.region r bs rs) = r ∷ region_ptrs rs
@@ -30,7 +31,7 @@ operation_ptrs no_operations = []
 operation_ptrs (forest.operation p rs os) = p ∷ operation_ptrs os
 
 module _ {T A : Type 0} (IsLocation : ℕ → Location A → Type 0) (c : ContextView T A) (items : Made) where
-  -- an operation with this own stands under the pointer, is the item of its place, and has these regions
+  -- the operation under the pointer has this data, is the item of its place, and has these regions
   pub record OperationAt (p : Ptr Operation) (o : Op ℕ T A) (rs : List (Ptr Region)) : Type 0 where
     pub view : OperationView T A
     pub is : operation c p ≡ Some view
@@ -39,7 +40,7 @@ module _ {T A : Type 0} (IsLocation : ℕ → Location A → Type 0) (c : Contex
     pub item : Among (o.place, TheOperation p) items
     pub inner : view.regions ≡ rs
 
-  -- a block with this header stands under the pointer, is the item of its place, and has these operations
+  -- the block under the pointer has this header, is the item of its place, and has these operations
   pub record BlockAt (b : Ptr BasicBlock) (h : Head ℕ T A) (ps : List (Ptr Operation)) : Type 0 where
     pub view : BlockView T A
     pub is : block c b ≡ Some view
@@ -47,31 +48,31 @@ module _ {T A : Type 0} (IsLocation : ℕ → Location A → Type 0) (c : Contex
     pub item : Among (h.label.place, TheBlock b) items
     pub inner : view.operations ≡ ps
 
-  -- a region stands under the pointer, and has these blocks
+  -- the region under the pointer has these blocks
   pub record RegionAt (r : Ptr Region) (bs : List (Ptr BasicBlock)) : Type 0 where
     pub view : RegionView
     pub is : region c r ≡ Some view
     pub inner : view.blocks ≡ bs
 
   abbrev mutual
-    -- the forest of pointers is that of these regions
+    -- the forest of pointers corresponds to these regions
     pub RegionsAre : PtrRegions → Regions (Op ℕ T A) (Head ℕ T A) (Brace ℕ) → Type 0
     RegionsAre no_regions no_regions = ⊤
     RegionsAre (forest.region r bs rs) (forest.region brace hs more) = RegionAt r (block_ptrs bs) × BlocksAre bs hs × RegionsAre rs more
     RegionsAre _ _ = ⊥
 
-    -- of these blocks
+    -- the same of these blocks
     pub BlocksAre : PtrBlocks → Blocks (Op ℕ T A) (Head ℕ T A) (Brace ℕ) → Type 0
     BlocksAre no_blocks no_blocks = ⊤
     BlocksAre (forest.block b ps bs) (forest.block h os more) = BlockAt b h (operation_ptrs ps) × OperationsAre ps os × BlocksAre bs more
     BlocksAre _ _ = ⊥
 
-    -- of these operations
+    -- the same of these operations
     pub OperationsAre : PtrOperations → Operations (Op ℕ T A) (Head ℕ T A) (Brace ℕ) → Type 0
     OperationsAre no_operations no_operations = ⊤
     OperationsAre (forest.operation p rs ps) (forest.operation o more os) = OperationAt p o (region_ptrs rs) × RegionsAre rs more × OperationsAre ps os
     OperationsAre _ _ = ⊥
 
-  -- of this tree
+  -- the same of this tree
   abbrev pub RootIs : Root (Ptr Operation) (Ptr BasicBlock) (Ptr Region) → Tree ℕ T A → Type 0
   RootIs ps t = OperationAt ps.own t.own (region_ptrs ps.regions) × RegionsAre ps.regions t.regions

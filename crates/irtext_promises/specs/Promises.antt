@@ -1,4 +1,4 @@
--- For callers: what reading an operation with all that nests in it promises, with the section of its marked items or without it.
+-- For callers: what parsing an operation with everything nested in it promises, with the section of its marks or without it.
 use Rattle.std.specs.Prelude.{◌≡◌, ℕ, Bool, true, cond, List, [], ◌∷◌, Some}
 use Rattle.irtext_base.specs.Text.{Text}
 use Rattle.irtext_base.specs.Own.{Texts}
@@ -37,7 +37,7 @@ use Rattle.irtext_promises.specs.Held.{held_root, IsWhole}
 use Rattle.irtext_promises.specs.OnlyNew.{OnlyNew}
 
 -- ---- faults
--- the cause that the readers answer for this failure
+-- the cause that parsers return for this failure
 abbrev pub IsCause : Cause Text → Fault → Type 0
 IsCause (script.ResultCount types names) cause = cause ≡ fault.ResultCount types names
 IsCause (script.NoActiveScope n) cause = cause ≡ fault.NoActiveScope n
@@ -50,7 +50,7 @@ IsCause (script.UnknownPrintOnce i) cause = cause ≡ fault.UnknownPrintOnce i
 IsCause (script.ReservedKey key) cause = cause ≡ fault.ReservedKey key
 
 module _ {A : Type 0} where
-  -- the fault is this failure: it has its cause, and is at its place of the text, or at the text's beginning where it has none
+  -- the fault is this failure: it has its cause, and is at its place of the text, or at the beginning of the text if it has no place
   abbrev pub IsOf : Text → Failure Text ℕ → ParseFault A → Type 0
   IsOf text f fault = IsCause f.cause (fault_of fault.cause) × IsPlace text f.at fault.pos
 
@@ -60,37 +60,36 @@ module _ {A : Type 0} where
   IsFirst text (f ∷ fs) fault = IsOf text f fault
 
 module _ {T A : Type 0} (types_at : Text → Outcome T) (attr : Text → Outcome (AttrView A)) (dialects : List (Text × Table)) where
-  -- The fault that a text has, where an operation must stand at the end of it: one of the text, and until then no name had failed; or the
-  -- failure of a name or a mark, and whatever the text is behind it. So which of the two comes first is a function of the text, also where
-  -- it reads as no tree.
+  -- The fault of a text in whose rest an operation is required: a fault of the text, and no name had failed before it; or the failure of
+  -- a name or a mark, whatever text follows. So the text determines which of the two comes first, even if it parses as no tree.
   pub data HasFault (text rest : Text) (fault : ParseFault A) : Type 0 where
     at_text : (cause : Fault) (place : ℕ) → fault_of fault.cause ≡ cause → StandsAt text place fault.pos
         → ((path : ℕ → Path) → (st : history.State) × (operation_at dialects types_at attr (naming (format_of dialects) path) true rest (going start) ≡ Stuck (going st) cause place)) → HasFault text rest fault
     by_names : (f : Failure Text ℕ) → IsOf text f fault → ((path : ℕ → Path) → EndsIn (failed f) (operation_at dialects types_at attr (naming (format_of dialects) path) true rest (going start))) → HasFault text rest fault
 
 module _ {T A : Type 0} (types : Texts T) (owns : Texts A) (types_at : Text → Outcome T) (attr : Text → Outcome (AttrView A)) (dialects : List (Text × Table)) where
-  -- Whatever the text reads as by these dialects, with no section behind it, does not resolve, and the fault is its first failure; and it
-  -- is the fault of the text where nothing reads.
+  -- Whatever the text parses as with these dialects, without a section after it, does not resolve, and the fault is its first failure;
+  -- and it is the fault of the text, even if nothing parses.
   pub record RefusesTree (old : StreamView) (fault : ParseFault A) : Type 0 where
     pub first : (tree : Tree ℕ T A) (rest : Text) → grammar.reads (supported dialects types owns) tree old.rest rest → IsFirst (whole old) (failures_of {X = Written A} (isolated dialects) tree []) fault
     pub at_fault : HasFault {T = T} types_at attr dialects (whole old) old.rest fault
 
-  -- Whatever the text reads as by these dialects, with its section, does not resolve, and the fault is its first failure.
+  -- Whatever the text parses as with these dialects, with its section, does not resolve, and the fault is its first failure.
   pub record RefusesRoot (old : StreamView) (fault : ParseFault A) : Type 0 where
     pub first : (tree : Tree ℕ T A) (entries : List (Entry ℕ A (Written A))) (rest : Text) → reads_root (supported dialects types owns) (location_standing attr) tree entries old.rest rest
         → IsFirst (whole old) (failures_of (isolated dialects) tree entries) fault
 
-  -- the one with its section, where that is looked for, or the other without it
+  -- the one with a section if the flag is true, otherwise the one without
   abbrev pub RefusesWith : Bool → StreamView → ParseFault A → Type 0
   RefusesWith look old fault = cond look (RefusesRoot old fault) (RefusesTree old fault)
 
--- the indices of the marks of a tree, in the order in which they are read
+-- the indices of the marks of a tree, in the order in which they are parsed
 abbrev pub tree_marks : {T A : Type 0} → List (Text × Table) → Tree ℕ T A → List ℕ
 tree_marks dialects tree = (facts (tree_script (isolated dialects) tree done)).marks
 
 module _ {T A U : Type 0} (types : Texts T) (owns : Texts A) (attr : Text → Outcome (AttrView A)) where
-  -- An operation stood where the stream stood: the text reads by the context's dialects as a tree, up to where the stream stands now, and
-  -- the tree alone resolves. What it alone builds stands under the answer, only that is new, and its marks are noted.
+  -- An operation was parsed at the position of the stream: with the context's dialects, the text up to the new position parses as a tree,
+  -- which resolves by itself. What the tree builds is under the returned pointer, nothing else is new, and its marks are recorded.
   pub record BuildsTree (op : Ptr Operation) (old new : StateStream T A U) : Type 0 where
     pub tree : Tree ℕ T A
     pub reads : grammar.reads (supported old.state.ctx.now.dialects types owns) tree old.stream.rest new.stream.rest
@@ -100,9 +99,9 @@ module _ {T A U : Type 0} (types : Texts T) (owns : Texts A) (attr : Text → Ou
     pub marks : indices_of (marks_of new.state) ≡ tree_marks old.state.ctx.now.dialects tree
     pub only : OnlyNew op old.state.ctx.now new.state.ctx.now
 
-  -- A root stood where the stream stood: the text reads by the context's dialects, with its section, as a tree, up to where the stream
-  -- stands now, and both resolve. What they build stands under the answer, with nothing that is no more than a placeholder, only that is
-  -- new, and no mark is noted.
+  -- A root was parsed at the position of the stream: with the context's dialects, the text up to the new position parses as a tree and
+  -- its section, and both resolve. What they build is under the returned pointer, without placeholders; nothing else is new, and no mark
+  -- is recorded.
   pub record BuildsRoot (op : Ptr Operation) (old new : StateStream T A U) : Type 0 where
     pub tree : Tree ℕ T A
     pub entries : List (Entry ℕ A (Written A))
@@ -114,6 +113,6 @@ module _ {T A U : Type 0} (types : Texts T) (owns : Texts A) (attr : Text → Ou
     pub fresh : marks_of new.state ≡ []
     pub only : OnlyNew op old.state.ctx.now new.state.ctx.now
 
-  -- the one with its section, where that is looked for, or the other without it
+  -- the one with a section if the flag is true, otherwise the one without
   abbrev pub BuildsWith : Bool → Ptr Operation → StateStream T A U → StateStream T A U → Type 0
   BuildsWith look op old new = cond look (BuildsRoot op old new) (BuildsTree op old new)

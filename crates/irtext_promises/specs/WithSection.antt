@@ -1,5 +1,4 @@
--- Between functions: what the section behind a root comes to: what is wrong in it alone, and a context in which the data of items changed
--- and nothing else.
+-- Between functions: what the section after a root adds: its own failures, and a context in which only data of objects changed.
 use Rattle.std.specs.Prelude.{◌≡◌, ℕ, List, [], None, length}
 use Rattle.irtext_base.specs.Text.{Text}
 use Rattle.irtext_base.specs.Format.{same_text}
@@ -17,16 +16,15 @@ use Rattle.irtext_grammar.specs.Names.Acts.{Rule, section_acts}
 use Rattle.irtext_grammar.specs.Names.Scopes.{Scopes, failures}
 use Rattle.irtext_grammar.specs.Names.Script.{Failure, does_all, done}
 
--- behind a root no scope is open, and these indices are marked
+-- the scopes after a root: no scope is open, and these indices are marked
 abbrev pub behind : List ℕ → Scopes Text
 behind marks = record { values = None; labels = None; marks = marks; entries = [] }
 
--- what is wrong in a section behind these marks, by these rules
+-- the failures of a section after these marks, by these rules
 abbrev pub refused : {P A X : Type 0} → List ℕ → (ℕ → Rule A) → List (Entry P A X) → List (Failure Text P)
 refused marks rules es = failures same_text (behind marks) (does_all (section_acts rules es) done)
 
--- Data of objects changed, and nothing else: there are as many places for operations, what stands in what is the same, and so is what uses
--- what.
+-- Only data of objects changed: there are as many places for operations, the nesting is the same, and so are the uses.
 pub record SameShape {O B T : Type 0} (g k : GraphView O B T) : Type 0 where
   pub places : length k.operations.cells ≡ length g.operations.cells
   pub same_regions : (p : Ptr Operation) → regions k p ≡ regions g p

@@ -1,4 +1,5 @@
-//! The law of the two calls: what is read of the printed text of a closed root is equal to it.
+//! The law of the two calls: what is parsed from the printed text of a closed root is equal to it up to fillings. Fillings are the given
+//! names, labels and positions that the text adds where the root has none.
 ghost use Rattle.std.specs.Prelude.{◌≡◌, ℕ, List, None, Option, Some};
 ghost use Rattle.std.specs.Str.{chars};
 ghost use Rattle.irtext_base.specs.Answers.{Outcome};
@@ -31,11 +32,11 @@ use irtext_base::text::{AttrText, IrText};
 use irtext_context::base::Context;
 use irtext_outcomes::context::keeps_parts;
 
-/// What is printed of a closed root of a context, its section too, without a limit that leaves regions out, is read back from its bytes in
-/// any context with the same dialects: each root that is answered is equal to it up to fillings, uses inside too, and all was read but
-/// white space; where each block has a label and all that has results or arguments holds given names, nothing is filled in but positions;
-/// and it is no text that is refused. That a root keeps what is asked of it is what `keeps_parts` ensures, and that it fits its formats is
-/// what printing does.
+/// What is printed of a closed root of a context, with its section and without a limit that elides regions, is parsed back from its bytes
+/// in any context with the same dialects. Each root that is returned is equal to the printed one up to fillings, with the same uses
+/// inside, and only white space is left of the text. If each block has a label, and each operation with results and each block with
+/// arguments has given names, nothing is filled in but positions. And it is no text that is rejected (`RefusesRoot`). `keeps_parts`
+/// ensures what is required here of the parts of a root, and printing ensures that the root fits its formats.
 pub fn printed_root_comes_back<T: IrText<A>, A: AttrText, U>()
     ensures builds { (ctx : ContextView T A) (p : Ptr Operation) (g : Graph T A) (width n : ℕ) (bytes : List ℕ) →
         let types = texts_of T.reading T.written in
@@ -61,9 +62,9 @@ pub fn printed_root_comes_back<T: IrText<A>, A: AttrText, U>()
         RefusesRoot types owns types_at (attr_at A.reading) old.state.ctx.now.dialects old.stream fault → ⊥ }
 {}
 
-/// A root that was read, and is printed in the context that holds it, is a closed root with a label at each block and given names where
-/// there are results or arguments; what printing sees of it stands for what is held, each number for the place of what it means. So it comes
-/// back whole: with a position where its location was unknown, and with nothing else filled in.
+/// A root that was parsed, and is printed in the context that contains it, is closed, each of its blocks has a label, and each operation
+/// with results and each block with arguments has given names. What printing sees of it represents what the context holds, each number
+/// for the place of its definition. So it comes back whole: unknown locations become positions, and nothing else is filled in.
 pub fn read_root_comes_back<T: IrText<A>, A: AttrText, U, V>()
     ensures closed { (p : Ptr Operation) (before after : StateStream T A U) (g : Graph T A) (width n : ℕ) (limit : Limit) (bytes : List ℕ) →
         let types = texts_of T.reading T.written in
@@ -92,7 +93,7 @@ pub fn read_root_comes_back<T: IrText<A>, A: AttrText, U, V>()
         BuildsRoot types owns (attr_at A.reading) q old new → StandsWhole types owns (attr_at A.reading) C ctx.dialects g q new }
 {}
 
-/// What is printed of a root under a limit by which a region was left out is no root to the reader: nothing is read of it.
+/// What is printed of a root under a limit that elides a region is not the text of a root: the parser builds nothing from it.
 pub fn limited_root_is_refused<T: IrText<A>, A: AttrText, U>()
     ensures { (ctx : ContextView T A) (p : Ptr Operation) (g : Graph T A) (width n : ℕ) (limit : Limit) (bytes : List ℕ) →
         let types = texts_of T.reading T.written in
@@ -103,8 +104,8 @@ pub fn limited_root_is_refused<T: IrText<A>, A: AttrText, U>()
         BuildsRoot types owns (attr_at A.reading) q old new → ⊥ }
 {}
 
-/// The names under which the values and the blocks of a context are printed are all different: what has one name is one value, or one
-/// block, and no value has a block's.
+/// The names under which the values and the blocks of a context are printed are distinct: two values with the same name are the same
+/// value, two blocks with the same name are the same block, and no value has the name of a block.
 pub fn printed_names_differ<T: IrText<A>, A: AttrText>(ctx: &Context<T, A>)
     ensures values { (v w : Value) (name : List ℕ) → value_name ctx.now v ≡ Some name → value_name ctx.now w ≡ Some name → v ≡ w }
     ensures blocks { (b c : Ptr BasicBlock) (name : List ℕ) → block_name ctx.now b ≡ Some name → block_name ctx.now c ≡ Some name → b ≡ c }

@@ -1,5 +1,5 @@
-//! What a context holds under an operation that was parsed, with all that nests in it, what a caller is told of it, and the laws that tie
-//! printing to parsing over what the two calls promise.
+//! What a context contains under an operation that was parsed, with everything nested in it, what is promised of it, and the laws that
+//! tie printing to parsing, over the promises of the two calls.
 #![tactic(auto)]
 
 pub mod laws;

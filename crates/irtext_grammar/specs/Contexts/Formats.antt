@@ -1,4 +1,4 @@
--- For callers: what a context's dialects say of operations, as the grammar and printing ask it.
+-- For callers: what the dialects of a context say of operations, in the form that the grammar and printing use.
 use Rattle.std.specs.Prelude.{Bool, false, List, Option, Some, None, IfSome}
 use Rattle.std.specs.Option.{option_map}
 use Rattle.irtext_base.specs.Text.{Text}
@@ -7,7 +7,7 @@ use Rattle.irtext_context.specs.Dialects.{Table}
 use Rattle.irtext_context.specs.DialectTable.{registered}
 use Rattle.irtext_base.specs.declared.base.identifier.OpId.{OpId}
 
--- the id, as the code has it
+-- the id, in the type of the code
 abbrev pub op_id : Id → OpId
 op_id id = record { dialect = id.dialect; name = id.name }
 
@@ -19,6 +19,6 @@ format_of dialects id = option_map (λ known. known.format) (registered dialects
 abbrev pub isolated : List (Text × Table) → Id → Bool
 isolated dialects id = elim (registered dialects (op_id id)) [ Some known ↦ known.isolated | None ↦ false ]
 
--- the format of an operation, if it has one, reads uniquely
+-- the format of an operation, if it has one, meets all its conditions
 abbrev pub IsAccepted : List (Text × Table) → Id → Type 0
 IsAccepted dialects id = IfSome (format_of dialects id) Accepted

@@ -1,4 +1,4 @@
--- For callers: what stands under an operation of a context, however deep: its pointers, and what printing sees of it.
+-- For callers: everything nested in an operation of a context: its pointers, and what printing sees of it.
 use Rattle.std.specs.Prelude.{ℕ, Bool, zero, suc, ◌+◌, ◌-◌, cond, ◌==◌, List, [], ◌∷◌, ◌++◌, length, map, flat_map, filter_map, slice_get, Option, Some, None, ⊤}
 use Rattle.std.specs.Map.{lookup}
 use Rattle.std.specs.Option.{option_map, option_and_then}
@@ -30,7 +30,7 @@ use Rattle.irtext_grammar.specs.Spelling.Locations.{known_text}
 -- ---- pointers
 
 module _ {O B T : Type 0} (g : GraphView O B T) where
-  -- operations, each with what stands in it
+  -- operations, each with its regions
   abbrev pub operations_by : (Ptr Operation → Regions (Ptr Operation) (Ptr BasicBlock) (Ptr Region)) → List (Ptr Operation) → Operations (Ptr Operation) (Ptr BasicBlock) (Ptr Region)
   operations_by inside [] = no_operations
   operations_by inside (p ∷ ps) = forest.operation p (inside p) (operations_by inside ps)
@@ -45,34 +45,34 @@ module _ {O B T : Type 0} (g : GraphView O B T) where
   regions_by inside [] = no_regions
   regions_by inside (r ∷ rs) = region r (blocks_by inside (blocks g r)) (regions_by inside rs)
 
-  -- what stands in an operation, so many operations deep
+  -- the regions of an operation, down to this many levels of operations
   abbrev pub within : ℕ → Ptr Operation → Regions (Ptr Operation) (Ptr BasicBlock) (Ptr Region)
   within zero p = no_regions
   within (suc n) p = regions_by (within n) (regions g p)
 
-  -- an operation and all that stands in it: no way down is longer than there are places for operations
+  -- an operation with everything nested in it: the nesting is no deeper than the number of cells for operations
   abbrev pub pointers : Ptr Operation → Root (Ptr Operation) (Ptr BasicBlock) (Ptr Region)
   pointers p = record { own = p; regions = within (suc (length g.operations.cells)) p }
 
 -- ---- values
 
--- a value: its number, its type where that is known, and the name that is given to it, where one is
+-- a value: its number, its type if that is known, and its given name if it has one
 pub record NamedValue (T : Type 0) : Type 0 where
   pub number : ℕ
   pub of_type : Option T
   pub given : Option Text
 
 module _ {A : Type 0} where
-  -- the names that an attribute holds for the results of an operation or the arguments of a block
+  -- the names that an attribute has for the results of an operation or the arguments of a block
   abbrev pub names_in : AttrObj A → Option (List (Option Text))
   names_in (GivenNames names) = Some names.items
   names_in _ = None
 
-  -- the name that is given to the value of an index, where one is
+  -- the name that an attribute gives to the value with this index, if it does
   abbrev pub name_in : ℕ → AttrObj A → Option Text
   name_in i attr = option_and_then (λ names. option_and_then (λ name. name) (slice_get names i)) (names_in attr)
 
-  -- the name that the attributes of its operation or block give to the value of an index, where they do
+  -- the name that the attributes of an operation or a block give to the value with this index, if they do
   abbrev pub given_at : ℕ → List (Text × AttrObj A) → Option Text
   given_at i attributes = option_and_then (name_in i) (lookup (bytes_eq given_names_key) attributes)
 
@@ -86,17 +86,17 @@ module _ {A : Type 0} where
   named_from attributes i [] = []
   named_from attributes i (v ∷ vs) = record { number = v.number; of_type = v.of_type; given = given_at i attributes } ∷ named_from attributes (suc i) vs
 
--- what an object gives, where one stands
+-- what a function returns for an object; nothing if there is no object
 abbrev pub standing : {X Y : Type 0} → (Entry X → List Y) → Option (Entry X) → List Y
 standing f None = []
 standing f (Some e) = f e
 
--- the value of this number
+-- the value with this number
 abbrev pub numbered_as : {T : Type 0} → ℕ → List (NamedValue T) → Option (NamedValue T)
 numbered_as n [] = None
 numbered_as n (v ∷ vs) = cond (v.number == n) (Some v) (numbered_as n vs)
 
--- a value's number and its type, where that is known
+-- a value's number and its type, if that is known
 abbrev pub typed_number : {T : Type 0} → Typed (Option T) → Option (ℕ × T)
 typed_number v = option_map (λ t. (v.number, t)) v.of_type
 
@@ -109,38 +109,38 @@ module _ {T A : Type 0} where
   abbrev pub named_arguments : Entry (Node Region Operation (BlockContent (BlockData A) (Option T))) → List (NamedValue T)
   named_arguments e = named_from e.content.content.data_of.attributes 0 e.content.content.arguments
 
-  -- the values of a context: results of operations, also of placeholders, and arguments of blocks
+  -- the values of a context: results of operations, placeholders included, and arguments of blocks
   abbrev pub values_of : ContextView T A → List (NamedValue T)
   values_of ctx = flat_map (λ c. standing named_results c.object) ctx.graph.operations.cells ++ flat_map (λ c. standing named_arguments c.object) ctx.graph.blocks.cells
 
-  -- the name that is given to the value of this number, where one is
+  -- the given name of the value with this number, if it has one
   abbrev pub given_to : ContextView T A → ℕ → Option Text
   given_to ctx n = option_and_then (λ v. v.given) (numbered_as n (values_of ctx))
 
-  -- the type of the value of this number, where it is known
+  -- the type of the value with this number, if it is known
   abbrev pub type_of : ContextView T A → ℕ → Option T
   type_of ctx n = option_and_then (λ v. v.of_type) (numbered_as n (values_of ctx))
 
-  -- the label of the block of this place and this generation, where it has one
+  -- the label of the block with this place and this generation, if it has one
   abbrev pub label_of : ContextView T A → ℕ × ℕ → Option Text
   label_of ctx at = option_and_then (λ b. b.label) (block ctx (record { index = at.0 - ctx.graph.first_place; generation = at.1; of = record {} }))
 
-  -- what printing asks of this context, and of the attributes of the caller
+  -- what printing asks of this context, and of the caller's attributes
   abbrev pub printing_over : ContextView T A → (A → Bool) → (A → Bool) → (A → A → Bool) → Printing T A
   printing_over ctx outlined once same = record { given = given_to ctx; label = label_of ctx; type_of = type_of ctx; own_outlined = outlined; own_once = once; same_own = same; format_of = format_of ctx.dialects }
 
   -- ---- what printing sees
 
-  -- the number of a value, where it is there
+  -- the number of a value, if it is live
   abbrev pub number_of : ContextView T A → Value → Option ℕ
   number_of ctx v = option_map (λ t. t.number) (value_at ctx.graph v)
 
-  -- the place and the generation by which a block is printed
+  -- the place and the generation under which a block is printed
   abbrev pub place_of : ContextView T A → Ptr BasicBlock → ℕ × ℕ
   place_of ctx b = (ctx.graph.first_place + b.index, b.generation)
 
   module _ (written : A → Text) (ctx : ContextView T A) where
-    -- an operation's own as printing sees it
+    -- an operation as printing sees it, without its regions
     abbrev pub seen_operation : Ptr Operation → OperationView T A → GraphOp T A
     seen_operation p op = record {
       id = id_of op.id;
@@ -151,7 +151,7 @@ module _ {T A : Type 0} where
       location = known_text written ctx.paths op.loc;
     }
 
-    -- a block's own as printing sees it
+    -- a block as printing sees it, without its operations
     abbrev pub seen_block : Ptr BasicBlock → BlockView T A → GraphBlock T A
     seen_block b view = record {
       place = place_of ctx b;
@@ -160,7 +160,7 @@ module _ {T A : Type 0} where
       location = known_text written ctx.paths view.loc;
     }
 
-    -- the same of what stands under a pointer
+    -- the operation under a pointer as printing sees it, if there is one
     abbrev pub seen_own : Ptr Operation → Option (GraphOp T A)
     seen_own p = option_map (seen_operation p) (operation ctx p)
 
@@ -169,7 +169,7 @@ module _ {T A : Type 0} where
     seen_head b = option_map (seen_block b) (block ctx b)
 
     abbrev mutual
-      -- regions of pointers as printing sees them: what isn't there is left out
+      -- regions of pointers as printing sees them; operations and blocks that are not live are left out
       pub seen_regions : Regions (Ptr Operation) (Ptr BasicBlock) (Ptr Region) → Regions (GraphOp T A) (GraphBlock T A) ⊤
       seen_regions no_regions = no_regions
       seen_regions (region r bs rs) = region tt (seen_blocks bs) (seen_regions rs)
@@ -184,6 +184,6 @@ module _ {T A : Type 0} where
       seen_operations no_operations = no_operations
       seen_operations (forest.operation p rs os) = elim (operation ctx p) [ Some op ↦ forest.operation (seen_operation p op) (seen_regions rs) (seen_operations os) | None ↦ seen_operations os ]
 
-    -- what printing sees under a pointer
+    -- what printing sees under a pointer, if there is an operation
     abbrev pub seen_root : Ptr Operation → Option (Graph T A)
     seen_root p = option_map (λ op. record { own = seen_operation p op; regions = seen_regions (pointers ctx.graph p).regions }) (operation ctx p)

@@ -1,4 +1,4 @@
--- For callers: a tree without its places.
+-- For callers: a tree without the places that its nodes keep.
 use Rattle.std.specs.Prelude.{map, Option, ⊤, option_map}
 use Rattle.irtext_grammar.specs.Grammar.Forest.{Regions, no_regions, region, Blocks, no_blocks, block, Operations, no_operations, operation}
 use Rattle.irtext_grammar.specs.Grammar.Tree as tree
@@ -16,7 +16,7 @@ bare_mark m = record { place = tt; index = m.index }
 abbrev pub bare_entry : {P A : Type 0} → Name P × Attribute A → Name ⊤ × Attribute A
 bare_entry e = (bare_name e.0, e.1)
 
--- what a directive read, without places
+-- a piece without places
 abbrev pub bare_piece : {P T A : Type 0} → Piece P T A → Piece ⊤ T A
 bare_piece (tree.word s) = tree.word s
 bare_piece (tree.operand i n) = tree.operand i (bare_name n)
@@ -54,11 +54,11 @@ module _ {P T A : Type 0} where
   bare_body (tree.custom ps) = tree.custom (map bare_part ps)
   bare_body (tree.canonical ns ls es xs ys) = tree.canonical (map bare_name ns) (map bare_name ls) (map bare_entry es) xs ys
 
-  -- an operation's own, without places
+  -- the own data of an operation, without places
   abbrev pub bare_op : Op P T A → Op ⊤ T A
   bare_op o = record { place = tt; names = map bare_name o.names; id = o.id; body = bare_body o.body; mark = bare_mark_if o.mark }
 
-  -- a block's own, without places
+  -- the own data of a block, without places
   abbrev pub bare_head : Head P T A → Head ⊤ T A
   bare_head h = record { label = bare_name h.label; arguments = map bare_argument h.arguments; attributes = option_map (map bare_entry) h.attributes; mark = bare_mark_if h.mark }
 
@@ -78,6 +78,6 @@ module _ {P T A : Type 0} where
     bare_operations no_operations = no_operations
     bare_operations (operation o rs os) = operation (bare_op o) (bare_regions rs) (bare_operations os)
 
-  -- the same tree, but for its places
+  -- the tree without its places
   abbrev pub bare : Tree P T A → Tree ⊤ T A
   bare t = record { own = bare_op t.own; regions = bare_regions t.regions }

@@ -1,4 +1,4 @@
--- For callers: each item of a graph finds its own entry in the section behind a tree.
+-- For callers: the section after a tree has the entry of each operation and each block of a graph.
 use Rattle.std.specs.Prelude.{◌≡◌, List, Option, option_map, ⊤}
 use Rattle.irtext_base.specs.Text.{Text}
 use Rattle.irtext_grammar.specs.Grammar.Forest.{MatchRoots}
@@ -8,19 +8,19 @@ use Rattle.irtext_grammar.specs.Grammar.Section.{Entry}
 use Rattle.irtext_grammar.specs.Graphs.Build.{content}
 use Rattle.irtext_grammar.specs.Spelling.SectionEntries.{own_content}
 
--- what a mark's entry has, with another thing for its location
+-- the contents of an entry, with its location mapped
 abbrev pub as_text : {A X Y : Type 0} → (X → Y) → Option X × List (Text × Attribute A) → Option Y × List (Text × Attribute A)
 as_text text c = (option_map text c.0, c.1)
 
 module _ {P T A X : Type 0} (C : Printing T A) (text : X → Text) (es : List (Entry P A X)) where
-  -- an operation's mark leads to its location and its outlined attributes, and where it has none of them there is no mark
+  -- the entry of the operation's mark has its location and its outlined attributes; if there are none of these, there is no entry
   abbrev pub OpContent : GraphOp T A → Op P T A → Type 0
   OpContent o x = option_map (as_text text) (content es x.mark) ≡ own_content C o.location (op_outlined C o)
 
-  -- the same of a block
+  -- the same of a block, with its label
   abbrev pub BlockContent : GraphBlock T A → Head P T A → Type 0
   BlockContent h x = option_map (as_text text) (content es x.mark) ≡ own_content C h.location (block_outlined C h)
 
-  -- the same of all items of a graph and of a tree with the same places
+  -- the same of all operations and blocks of a graph and a tree of the same shape
   abbrev pub Contents : Graph T A → Tree P T A → Type 0
   Contents g t = MatchRoots OpContent BlockContent (λ r s. ⊤) g t

@@ -1,4 +1,5 @@
--- For callers: graphs whose names, ids and keys are identifiers, as the types of the arenas keep them, with fewer marks than a number can count.
+-- For callers: graphs whose names, ids and keys are identifiers, as the types of the arenas ensure, and that have fewer than 2 ^ 64
+-- marks.
 use Rattle.std.specs.Prelude.{◌≡◌, ℕ, ◌+◌, ◌<◌, ◌^◌, Some, None, ⊤}
 use Rattle.irtext_base.specs.Text.{Text}
 use Rattle.irtext_grammar.specs.Grammar.Forest.{AllRegions}
@@ -11,7 +12,7 @@ abbrev pub EntryHasIdentifiers : {A : Type 0} → Text × Attribute A → Type 0
 EntryHasIdentifiers e = IsIdentifier e.0 × IsSpellableAttribute e.1
 
 module _ {T A : Type 0} (C : Printing T A) where
-  -- the names in an operation are identifiers
+  -- the id of an operation and the names in its dictionary are identifiers
   pub record OpHasIdentifiers (o : GraphOp T A) : Type 0 where
     pub dialect : IsIdentifier o.id.dialect
     pub name : IsIdentifier o.id.name

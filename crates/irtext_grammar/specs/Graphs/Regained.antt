@@ -1,4 +1,4 @@
--- For callers: roots in which all that can have a name has one, and roots that come back with nothing filled in but positions.
+-- For callers: roots in which everything that can have a name has one, and roots that come back with nothing filled in but positions.
 use Rattle.std.specs.Prelude.{◌≡◌, ℕ, Bool, true, ◌⊎◌, List, [], Some, None, is_some, ⊤}
 use Rattle.std.specs.List.{list_all}
 use Rattle.irtext_base.specs.Text.{Text, after_space}
@@ -14,7 +14,7 @@ use Rattle.irtext_grammar.specs.Names.Acts.{failures_of}
 use Rattle.irtext_grammar.specs.Graphs.Build.{BuiltOp, BuiltBlock, Built, build}
 use Rattle.irtext_grammar.specs.Graphs.Same.{StoodOp, StoodBlock, stood, Locations, SameShape, SameBlockShape, SameLocation}
 
--- given names stand in the dictionary, where there is something to name
+-- the dictionary has an attribute under the key of given names, unless there is nothing to name
 abbrev pub HoldsNames : {Y A : Type 0} → List Y → List (Text × Attribute A) → Type 0
 HoldsNames things es = (things ≡ []) ⊎ (is_some (lookup given_names_key es) ≡ true)
 
@@ -27,7 +27,7 @@ module _ {T A : Type 0} (C : Printing T A) where
   abbrev pub BlockNamed : GraphBlock T A → Type 0
   BlockNamed h = (is_some (C.label h.place) ≡ true) × HoldsNames h.arguments h.attributes
 
-  -- each block of a root has a label, and all that has results or arguments holds given names
+  -- each block of a root has a label, and each operation with results and each block with arguments has given names
   abbrev pub Named : Graph T A → Type 0
   Named g = OpNamed g.own × AllRegions OpNamed BlockNamed (λ r. ⊤) g.regions
 
@@ -36,7 +36,7 @@ abbrev pub EqualDictionary : {A : Type 0} → List (Text × Attribute A) → Lis
 EqualDictionary es fs = (key : Text) → lookup key fs ≡ lookup key es
 
 module _ {T A X : Type 0} (L : Locations X) where
-  -- an operation and what was built of it are equal, but that a position stands where the location was unknown
+  -- an operation and what was built of it are equal, except that an unknown location has become a position
   pub record EqualOp (a : StoodOp T A) (b : BuiltOp T A X) : Type 0 where
     pub shape : SameShape a b
     pub operands_there : list_all is_some b.operands ≡ true
@@ -44,19 +44,20 @@ module _ {T A X : Type 0} (L : Locations X) where
     pub dictionary : EqualDictionary a.attributes b.attributes
     pub location : SameLocation L a.location b.location
 
-  -- the same of a block: its label too
+  -- the same of a block, with its label
   pub record EqualBlock (a : StoodBlock T A) (b : BuiltBlock T A X) : Type 0 where
     pub shape : SameBlockShape a b
     pub label : a.label ≡ Some b.label
     pub dictionary : EqualDictionary a.attributes b.attributes
     pub location : SameLocation L a.location b.location
 
-  -- equal, but that positions stand where locations were unknown
+  -- the roots are equal, except that unknown locations have become positions
   abbrev pub UpToPositions : Root (StoodOp T A) (StoodBlock T A) ⊤ → Built T A X → Type 0
   UpToPositions a b = MatchRoots EqualOp EqualBlock (λ r s. ⊤) a b
 
 module _ {T A X : Type 0} (types : Texts T) (owns : Texts A) (location_at : Text → Standing X) (K : Locations X) (first : ℕ → X) (C : Printing T A) (isolated : Id → Bool) where
-  -- what a root, the width and the indentation come back as, where nothing is filled in but positions
+  -- The printed text of the root, at this width and indentation, parses as a tree and a section that resolve, with only white space left.
+  -- What they build is equal to the root, except that unknown locations have become positions.
   abbrev pub ComesBackWhole : Graph T A → ℕ → ℕ → Type 0
   ComesBackWhole g width n = (t : Tree ℕ T A) × (es : List (Entry ℕ A X)) × (u : Text)
       × reads_root (language types owns C.format_of) location_at t es (text (unplaced types owns C.format_of) C g n width None) u × (after_space u ≡ [])

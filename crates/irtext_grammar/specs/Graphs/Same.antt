@@ -1,4 +1,5 @@
--- For callers: a graph with places for its numbers, and when two are equal up to fillings.
+-- For callers: a graph with places instead of numbers, and when two graphs are equal up to fillings: given names, labels and positions
+-- that the text adds where the graph has none.
 use Rattle.std.specs.Prelude.{◌≡◌, ℕ, suc, ◌<◌, ◌^◌, Bool, true, cond, ◌⊎◌, List, [], ◌∷◌, map, Option, Some, None, is_some, ⊤}
 use Rattle.std.specs.List.{list_all}
 use Rattle.irtext_base.specs.Text.{Text}
@@ -13,7 +14,7 @@ use Rattle.irtext_grammar.specs.Names.Scopes.{Fact, facts}
 use Rattle.irtext_grammar.specs.Graphs.Build.{BuiltOp, BuiltBlock, Built}
 use Rattle.irtext_grammar.specs.Graphs.Closed.{Thing, a_value, a_block, same_thing, printed, graph_blocks}
 
--- an operation of a graph, with places for its numbers
+-- an operation of a graph; its operands and successors are the places of their definitions, if they have one
 pub record StoodOp (T A : Type 0) : Type 0 where
   pub id : Id
   pub result_types : List T
@@ -33,7 +34,7 @@ pub record StoodBlock (T A : Type 0) : Type 0 where
   pub location : Option Text
 
 module _ {T A : Type 0} (C : Printing T A) (isolated : Id → Bool) where
-  -- an operation's own, where v and l are the whole scopes round it
+  -- the operation, without its regions; v and l are the facts of the whole scopes around it
   abbrev pub stood_op : List (Fact Thing) → List (Fact Thing) → GraphOp T A → StoodOp T A
   stood_op v l o = record {
     id = o.id;
@@ -45,7 +46,7 @@ module _ {T A : Type 0} (C : Printing T A) (isolated : Id → Bool) where
     location = o.location;
   }
 
-  -- a block's own
+  -- the block, without its operations
   abbrev pub stood_block : GraphBlock T A → StoodBlock T A
   stood_block h = record {
     label = C.label h.place;
@@ -57,83 +58,83 @@ module _ {T A : Type 0} (C : Printing T A) (isolated : Id → Bool) where
   }
 
   abbrev mutual
-    -- regions, where j is the place of the first
+    -- regions; j is the index of the first
     pub stood_regions : List (Fact Thing) → Path → ℕ → Bool → Regions (GraphOp T A) (GraphBlock T A) ⊤ → Regions (StoodOp T A) (StoodBlock T A) ⊤
     stood_regions v p j iso no_regions = no_regions
     stood_regions v p j iso (region r bs rs) =
         region tt (stood_blocks (cond iso (facts same_thing (graph_blocks C isolated (j ∷ p) 0 bs)).values v) (facts same_thing (graph_blocks C isolated (j ∷ p) 0 bs)).labels (j ∷ p) 0 bs)
         (stood_regions v p (suc j) iso rs)
 
-    -- blocks, where k is the place of the first
+    -- blocks; k is the index of the first
     pub stood_blocks : List (Fact Thing) → List (Fact Thing) → Path → ℕ → Blocks (GraphOp T A) (GraphBlock T A) ⊤ → Blocks (StoodOp T A) (StoodBlock T A) ⊤
     stood_blocks v l p k no_blocks = no_blocks
     stood_blocks v l p k (block h os bs) = block (stood_block h) (stood_operations v l (k ∷ p) 0 os) (stood_blocks v l p (suc k) bs)
 
-    -- operations, where i is the place of the first
+    -- operations; i is the index of the first
     pub stood_operations : List (Fact Thing) → List (Fact Thing) → Path → ℕ → Operations (GraphOp T A) (GraphBlock T A) ⊤ → Operations (StoodOp T A) (StoodBlock T A) ⊤
     stood_operations v l p i no_operations = no_operations
     stood_operations v l p i (operation o rs os) =
         operation (stood_op v l o) (stood_regions v (i ∷ p) 0 (isolated o.id) rs) (stood_operations v l p (suc i) os)
 
-  -- each number replaced by the place where it is defined, looked up in the scope round its use
+  -- the graph with each number replaced by the place of its definition, which is looked up in the scope around the use
   abbrev pub stood : Graph T A → Root (StoodOp T A) (StoodBlock T A) ⊤
   stood g = record { own = stood_op [] [] g.own; regions = stood_regions [] [] 0 (isolated g.own.id) g.regions }
 
-  -- numbers and places are those that the counters give
+  -- the operation's numbers, places and generations are below 2 ^ 64
   pub record SmallOp (o : GraphOp T A) : Type 0 where
     pub results : Each (λ (r : ℕ × T). r.0 < 2 ^ 64) o.results
     pub operands : Each (λ v. v < 2 ^ 64) o.operands
     pub successors : Each (λ (b : ℕ × ℕ). (b.0 < 2 ^ 64) × (b.1 < 2 ^ 64)) o.successors
 
-  -- a block's place and its arguments' numbers are those that the counters give
+  -- a block's place and generation, and the numbers of its arguments, are below 2 ^ 64
   pub record SmallBlock (h : GraphBlock T A) : Type 0 where
     pub place : (h.place.0 < 2 ^ 64) × (h.place.1 < 2 ^ 64)
     pub arguments : Each (λ (r : ℕ × T). r.0 < 2 ^ 64) h.arguments
 
-  -- the same of all in the regions
+  -- the same of everything in the regions
   abbrev pub SmallRegions : Regions (GraphOp T A) (GraphBlock T A) ⊤ → Type 0
   SmallRegions = AllRegions SmallOp SmallBlock (λ r. ⊤)
 
-  -- the same of a root and all inside
+  -- the same of a root and everything nested in it
   abbrev pub SmallGraph : Graph T A → Type 0
   SmallGraph g = SmallOp g.own × SmallRegions g.regions
 
--- each operand and each successor of the operation has a place: the scopes round it define it
+-- each operand and each successor of the operation has a definition in the scopes around it
 abbrev pub OpFound : {T A : Type 0} → StoodOp T A → Type 0
 OpFound o = (list_all is_some o.operands ≡ true) × (list_all is_some o.successors ≡ true)
 
--- the same of a root and all inside
+-- the same of a root and everything nested in it
 abbrev pub Found : {T A : Type 0} → Root (StoodOp T A) (StoodBlock T A) ⊤ → Type 0
 Found r = OpFound r.own × AllRegions OpFound (λ h. ⊤) (λ r. ⊤) r.regions
 
--- what a location's text is, and which are positions
+-- the text of a location, and whether it is a position
 pub record Locations (X : Type 0) : Type 0 where
   pub text : X → Text
   pub is_position : X → Bool
 
 module _ {T A X : Type 0} where
-  -- ids, types, operands and successors
+  -- ids, result types, operands and successors are equal
   pub record SameShape (a : StoodOp T A) (b : BuiltOp T A X) : Type 0 where
     pub id : a.id ≡ b.id
     pub result_types : a.result_types ≡ b.result_types
     pub operands : a.operands ≡ b.operands
     pub successors : a.successors ≡ b.successors
 
-  -- types of arguments
+  -- types of arguments are equal
   pub record SameBlockShape (a : StoodBlock T A) (b : BuiltBlock T A X) : Type 0 where
     pub argument_types : a.argument_types ≡ b.argument_types
 
--- Dictionaries as maps; given names stand, with the printed names, where they did not and there are some.
+-- Dictionaries are equal as maps, but given names may be filled in: the printed names, if there were none and there is something to name.
 abbrev pub SameDictionary : {A : Type 0} → List Text → List (Text × Attribute A) → List (Text × Attribute A) → Type 0
 SameDictionary names es fs = (key : Text) → (lookup key fs ≡ lookup key es)
     ⊎ ((key ≡ given_names_key) × (lookup key es ≡ None) × (names ≡ [] → ⊥) × (lookup key fs ≡ Some (given_names (map Some names))))
 
--- a position stands where the location was unknown
+-- the location has the same text; if it was unknown, it has become a position
 abbrev pub SameLocation : {X : Type 0} → Locations X → Option Text → X → Type 0
 SameLocation L None x = L.is_position x ≡ true
 SameLocation L (Some l) x = L.text x ≡ l
 
--- the label, where there was one, else the printed name
+-- the label is unchanged; if there was none, it is the printed name
 abbrev pub SameLabel : Text → Option Text → Text → Type 0
 SameLabel name None l = l ≡ name
 SameLabel name (Some k) l = l ≡ k
@@ -154,10 +155,10 @@ module _ {T A X : Type 0} (L : Locations X) where
     pub dictionary : SameDictionary a.argument_names a.attributes b.attributes
     pub location : SameLocation L a.location b.location
 
-  -- equal up to fillings: the same places, and what stands at one place matches
+  -- equal up to fillings: the same shape, and the data at each node are equal up to fillings
   abbrev pub UpToFillings : Root (StoodOp T A) (StoodBlock T A) ⊤ → Built T A X → Type 0
   UpToFillings a b = MatchRoots SameOp SameBlock (λ r s. ⊤) a b
 
--- the same, of shapes alone
+-- the same of shapes alone: dictionaries, labels and locations may differ
 abbrev pub SameShapes : {T A X : Type 0} → Root (StoodOp T A) (StoodBlock T A) ⊤ → Built T A X → Type 0
 SameShapes a b = MatchRoots SameShape SameBlockShape (λ r s. ⊤) a b

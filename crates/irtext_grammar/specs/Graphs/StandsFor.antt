@@ -1,4 +1,5 @@
--- For callers: roots of the arenas that stand for what a tree builds: numbers and places are any, each for one thing.
+-- For callers: roots of the arenas that represent what a tree builds. The numbers of values and the places of blocks are any, but
+-- distinct.
 use Rattle.std.specs.Prelude.{◌≡◌, Bool, true, List, [], ◌∷◌, ◌++◌, Some, ⊤}
 use Rattle.irtext_base.specs.Format.{distinct, Id}
 use Rattle.irtext_grammar.specs.Grammar.Forest.{Root, MatchRoots}
@@ -14,28 +15,28 @@ made_by (define_value w p) = w.name ∷ []
 made_by (define_label w p) = w.name ∷ []
 made_by _ = []
 
--- all that a script defines, however deep
+-- everything that a script defines, at any depth
 abbrev pub made : {N P : Type 0} → Script N P → List N
 made done = []
 made (does a k) = made_by a ++ made k
 made (within iso p body k) = made body ++ made k
 
--- no two values of a root have one number, and no two blocks one place
+-- no two values of a root have the same number, and no two blocks the same place and generation
 abbrev pub Distinct : {T A : Type 0} → Printing T A → (Id → Bool) → Graph T A → Type 0
 Distinct C isolated g = distinct same_thing (made (graph_script C isolated g)) ≡ true
 
 module _ {T A X : Type 0} where
-  -- an operation stands for one that was built: links, types and attributes
+  -- an operation represents one that was built: links, types and attributes are equal
   pub record StandsForOp (a : StoodOp T A) (b : BuiltOp T A X) : Type 0 where
     pub shape : SameShape a b
     pub attributes : a.attributes ≡ b.attributes
 
-  -- a block does: its label too
+  -- the same of a block, with its label
   pub record StandsForBlock (a : StoodBlock T A) (b : BuiltBlock T A X) : Type 0 where
     pub shape : SameBlockShape a b
     pub label : a.label ≡ Some b.label
     pub attributes : a.attributes ≡ b.attributes
 
-  -- a root stands for one that was built, wherever it is in the arenas
+  -- a root represents one that was built, wherever it is in the arenas
   abbrev pub StandsFor : Root (StoodOp T A) (StoodBlock T A) ⊤ → Built T A X → Type 0
   StandsFor a b = MatchRoots StandsForOp StandsForBlock (λ r s. ⊤) a b

@@ -1,4 +1,4 @@
--- For callers: what a failure of a label is said of: what a scope knows of the label, and that one act is what fails.
+-- For callers: the words for failures of labels: that a scope defines a label, and that one act fails or passes.
 use Rattle.std.specs.Prelude.{◌≡◌, List, ◌∷◌}
 use Rattle.irtext_base.specs.Text.{Text}
 use Rattle.irtext_grammar.specs.Names.Script.{Place, does}
@@ -6,14 +6,14 @@ use Rattle.irtext_grammar.specs.Names.Scopes.{defines, fact_of, ◌⊳◌}
 use Rattle.irtext_grammar.specs.Names.TextScopes.{Act, Fact, Failure, Scopes, Script, failures}
 use Rattle.irtext_grammar.specs.Names.Placeholders.{In}
 
--- the name has a definition among the facts of a scope
+-- the facts of a scope contain a definition of the name
 abbrev pub IsDefined : Text → List Fact → Type 0
 IsDefined name scope = (place : Place) × In (defines name place) scope
 
--- the act fails by this failure alone, before all that fails behind it
+-- the act fails with exactly this failure, which comes before the failures of all that follows the act
 abbrev pub Fails : Scopes → Act → Failure → Type 0
 Fails scopes act failure = (behind : Script) → failures scopes (does act behind) ≡ failure ∷ failures (scopes ⊳ fact_of act) behind
 
--- the act fails by nothing, and what fails is what fails behind it
+-- the act does not fail: the failures are those of what follows it
 abbrev pub Passes : Scopes → Act → Type 0
 Passes scopes act = (behind : Script) → failures scopes (does act behind) ≡ failures (scopes ⊳ fact_of act) behind

@@ -1,4 +1,4 @@
--- For callers: which roots resolve with their sections, property by property.
+-- For callers: which roots resolve with their sections, property by property. An item is an operation or a block that carries a mark.
 use Rattle.std.specs.Prelude.{◌≡◌, ℕ, Bool, true, cond, ◌==◌, List, [], ◌∷◌, ◌++◌, map, flat_map, length, is_some, ⊤}
 use Rattle.irtext_base.specs.Text.{Text}
 use Rattle.irtext_base.specs.Format.{Id, same_text, has, distinct}
@@ -14,11 +14,11 @@ use Rattle.irtext_grammar.specs.Spelling.Writable.{has_region}
 abbrev pub texts : {P : Type 0} → List (Name P) → List Text
 texts ns = map (λ n. n.text) ns
 
--- each entry of a dictionary may stand there
+-- each entry of a dictionary is allowed by the rule
 abbrev pub KeysKept : {P A : Type 0} → Rule A → List (Name P × Attribute A) → Type 0
 KeysKept rule es = Each (λ e. rule e.0.text e.1 ≡ true) es
 
--- what is defined and what is used where names have one meaning
+-- the names that are defined and those that are used in one scope
 pub record Scope : Type 0 where
   pub defined : List Text
   pub used : List Text
@@ -41,22 +41,22 @@ module _ {P A X : Type 0} where
   abbrev pub indices : List (Entry P A X) → List ℕ
   indices = flat_map (λ e. elim e [ of_item m x pairs ↦ m.index ∷ [] | of_once m a ↦ [] ])
 
-  -- a reference names an attribute that is written once
+  -- a reference refers to a print-once attribute
   abbrev pub is_known : List (Entry P A X) → Name P × Item P A → Bool
   is_known es (n, direct a) = true
   is_known es (n, reference m) = is_some (shared_attribute m.index es)
 
-  -- the attribute may stand under its key, itself or by its reference
+  -- the attribute, or the one that its reference refers to, is allowed under its key
   abbrev pub is_kept : Rule A → List (Entry P A X) → Name P × Item P A → Bool
   is_kept rule es (n, direct a) = rule n.text a
   is_kept rule es (n, reference m) = keeps_if rule n.text (shared_attribute m.index es)
 
-  -- what the entry of an item gives may stand there
+  -- the attributes in the entry of an item are allowed by the rule of its mark
   abbrev pub EntryKept : (ℕ → Rule A) → List (Entry P A X) → Entry P A X → Type 0
   EntryKept rules es (of_item m x pairs) = Each (λ i. is_kept (rules m.index) es i ≡ true) pairs
   EntryKept rules es (of_once m a) = ⊤
 
-  -- each entry is of a mark, no mark has two, and references and reserved keys are right
+  -- each entry belongs to a mark, no mark has two entries, each reference is known, and each attribute is allowed under its key
   pub record SectionResolves (rules : ℕ → Rule A) (marks : List ℕ) (es : List (Entry P A X)) : Type 0 where
     pub one_each : distinct ◌==◌ (indices es) ≡ true
     pub marked : Each (λ i. has ◌==◌ i marks ≡ true) (indices es)
@@ -64,24 +64,24 @@ module _ {P A X : Type 0} where
     pub kept : Each (EntryKept rules es) es
 
 -- ---- the root
--- the values of an isolated operation's region are its own; those of another belong to the scope round it
+-- what a region passes to the scope around it: nothing if its operation is isolated, otherwise all (values)
 abbrev pub shared : {X : Type 0} → Bool → List X → List X
 shared isolation xs = cond isolation [] xs
 
--- the blocks of a region are its own
+-- a region passes nothing to the scope around it (labels)
 abbrev pub kept_inside : {X : Type 0} → Bool → List X → List X
 kept_inside isolation xs = []
 
--- marks belong to the whole root
+-- a region passes everything on (marks)
 abbrev pub everywhere : {X : Type 0} → Bool → List X → List X
 everywhere isolation xs = xs
 
 module _ {P T A : Type 0} where
-  -- the values that an operation uses
+  -- the names of the values that an operation uses
   abbrev pub used_values : Op P T A → List Text
   used_values o = texts (views (λ p. elim p [ tree.operand i n ↦ n ∷ [] | tree.operands ns ↦ ns | _ ↦ [] ]) (parts_of o.body))
 
-  -- the blocks that an operation names
+  -- the labels that an operation uses
   abbrev pub used_labels : Op P T A → List Text
   used_labels o = texts (views (λ p. elim p [ tree.successor i n ↦ n ∷ [] | tree.successors ns ↦ ns | _ ↦ [] ]) (parts_of o.body))
 
@@ -89,20 +89,20 @@ module _ {P T A : Type 0} where
   abbrev pub CountsAgree : Op P T A → Type 0
   CountsAgree o = (length (result_types o.body) == length o.names) ≡ true
 
-  -- the reserved keys of an operation's dictionary have given names
+  -- under the key of given names, the operation's dictionary has only given names
   abbrev pub OpKeysKept : Op P T A → Type 0
   OpKeysKept o = KeysKept may_hold (views (λ p. elim p [ tree.dictionary es ↦ es | _ ↦ [] ]) (parts_of o.body))
 
-  -- a block's dictionary has no label, and its reserved keys have given names
+  -- a block's dictionary has no label, and under the key of given names only given names
   abbrev pub HeadKeysKept : Head P T A → Type 0
   HeadKeysKept h = KeysKept block_may_hold (entries_if h.attributes)
 
   module _ (isolated : Id → Bool) where
-    -- What the operations and the blocks of a forest have, the inner before the outer; `outward` is what a region says of
-    -- what is inside, where its operation is isolated or is not.
+    -- What the operations and the blocks of a forest have: that of an operation comes after that of its regions, that of a block before
+    -- that of its operations. `outward` is what a region passes on of its contents, given whether its operation is isolated.
     module _ {X : Type 0} (of_op : Op P T A → List X) (of_head : Head P T A → List X) (outward : Bool → List X → List X) where
       abbrev mutual
-        -- of regions, where this says whether their operation is isolated
+        -- of regions; the flag says whether their operation is isolated
         pub all_in_regions : Bool → Regions (Op P T A) (Head P T A) (Brace P) → List X
         all_in_regions isolation no_regions = []
         all_in_regions isolation (region brace bs rs) = outward isolation (all_in_blocks bs) ++ all_in_regions isolation rs
@@ -117,14 +117,14 @@ module _ {P T A : Type 0} where
         all_in_operations no_operations = []
         all_in_operations (operation o rs os) = (all_in_regions (isolated o.id) rs ++ of_op o) ++ all_in_operations os
 
-    -- the scope of a region's values
+    -- the scope of the values of a region
     abbrev pub values_of : Blocks (Op P T A) (Head P T A) (Brace P) → Scope
     values_of bs = record {
       defined = all_in_blocks (λ o. texts o.names) (λ h. texts (map (λ a. a.0) h.arguments)) shared bs;
       used = all_in_blocks used_values (λ h. []) shared bs;
     }
 
-    -- the scope of its blocks' labels
+    -- the scope of the labels of a region
     abbrev pub labels_of : Blocks (Op P T A) (Head P T A) (Brace P) → Scope
     labels_of bs = record {
       defined = all_in_blocks (λ o. []) (λ h. h.label.text ∷ []) kept_inside bs;
@@ -132,7 +132,7 @@ module _ {P T A : Type 0} where
     }
 
     abbrev mutual
-      -- The scopes of regions: each has one of labels, and one of values where its operation is isolated.
+      -- The scopes of regions: each region has one of labels, and one of values if its operation is isolated.
       pub scopes_in_regions : Bool → Regions (Op P T A) (Head P T A) (Brace P) → List Scope
       scopes_in_regions isolation no_regions = []
       scopes_in_regions isolation (region brace bs rs) = labels_of bs ∷ (cond isolation (values_of bs ∷ []) [] ++ (scopes_in_blocks bs ++ scopes_in_regions isolation rs))
@@ -155,7 +155,7 @@ module _ {P T A : Type 0} where
     abbrev pub marks_of : Tree P T A → List ℕ
     marks_of t = all_in_regions (λ o. marked_as o.mark) (λ h. marked_as h.mark) everywhere (isolated t.own.id) t.regions ++ marked_as t.own.mark
 
-    -- What a root and its section must be like to be built.
+    -- What a root and its section must satisfy to be built.
     pub record Resolves {X : Type 0} (t : Tree P T A) (es : List (Entry P A X)) : Type 0 where
       pub counts : CountsAgree t.own × AllRegions CountsAgree (λ h. ⊤) (λ r. ⊤) t.regions
       pub keys : OpKeysKept t.own × AllRegions OpKeysKept HeadKeysKept (λ r. ⊤) t.regions

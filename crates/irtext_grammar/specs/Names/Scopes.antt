@@ -1,5 +1,5 @@
--- For callers: which definition each name of a script means, and which names are wrong, in two passes: the first collects what each scope
--- uses and defines, the second looks names up in whole scopes. `eq` tests whether two names are one.
+-- For callers: which definition each name of a script refers to, and which names are wrong, in two passes. The first collects what each
+-- scope uses and defines, the second looks names up in whole scopes. `eq` tests whether two names are equal.
 use Rattle.std.specs.Prelude.{ℕ, Bool, true, false, cond, not, ◌&&◌, List, [], ◌∷◌, ◌++◌, Option, Some, None, is_some, nat_eq}
 use Rattle.irtext_grammar.specs.Names.Script.{Place, User, Word, Failure, Act, use_value, use_label, define_value, define_label, mark, entry, claim, Script, done, does, within, NoActiveScope, UnresolvedReference, MultipleDefinitions, DuplicateIndex, UnknownIndex, NotIsolated, Cause}
 
@@ -22,7 +22,7 @@ abbrev pub is_among : ℕ → List ℕ → Bool
 is_among n [] = false
 is_among n (m ∷ ms) = cond (nat_eq m n) true (is_among n ms)
 
--- what a script says to the scopes round it, in reading order, and what the scopes inside it bind
+-- what a script contributes to the scopes around it, in its order, and the uses that are bound in the scopes inside it
 pub record Facts (N : Type 0) : Type 0 where
   pub values : List (Fact N)
   pub labels : List (Fact N)
@@ -30,16 +30,16 @@ pub record Facts (N : Type 0) : Type 0 where
   pub entries : List ℕ
   pub bound : List (User × Place)
 
--- it says nothing
+-- no facts
 abbrev pub nothing : {N : Type 0} → Facts N
 nothing = record { values = []; labels = []; marks = []; entries = []; bound = [] }
 
--- what the one says, and behind it the other
+-- the facts of the one, and then those of the other
 infixr 5 ◌⊕◌
 abbrev pub ◌⊕◌ : {N : Type 0} → Facts N → Facts N → Facts N
 f ⊕ g = record { values = f.values ++ g.values; labels = f.labels ++ g.labels; marks = f.marks ++ g.marks; entries = f.entries ++ g.entries; bound = f.bound ++ g.bound }
 
--- what one act says
+-- the facts of one act
 abbrev pub fact_of : {N P : Type 0} → Act N P → Facts N
 fact_of (use_value w u) = record nothing { values = uses w.name u ∷ [] }
 fact_of (use_label w u) = record nothing { labels = uses w.name u ∷ [] }
@@ -49,7 +49,7 @@ fact_of (mark i p) = record nothing { marks = i ∷ [] }
 fact_of (entry i p) = record nothing { entries = i ∷ [] }
 fact_of (claim b x) = nothing
 
--- the scopes round a place, each with its facts before that place; marks and entries are of the whole root
+-- the scopes around a point of the script, each with its facts up to that point; marks and entries are those of the whole root up to it
 pub record Scopes (N : Type 0) : Type 0 where
   pub values : Option (List (Fact N))
   pub labels : Option (List (Fact N))
@@ -66,12 +66,12 @@ infixl 5 ◌⊳◌
 abbrev pub ◌⊳◌ : {N : Type 0} → Scopes N → Facts N → Scopes N
 s ⊳ f = record { values = and_then s.values f.values; labels = and_then s.labels f.labels; marks = s.marks ++ f.marks; entries = s.entries ++ f.entries }
 
--- a name is used where no scope of its kind is open
+-- the failure of a name if no scope of its kind is open
 abbrev pub outside : {N P : Type 0} → Option (List (Fact N)) → Word N P → List (Failure N P)
 outside None w = fail (NoActiveScope w.name) w.at
 outside (Some fs) w = []
 
--- a region needs a name scope: its own, or one round it
+-- the failure of a region if it has no scope of values, neither its own nor one around it
 abbrev pub not_isolated : {N P : Type 0} → Bool → Option (List (Fact N)) → List (Failure N P)
 not_isolated true o = []
 not_isolated false None = record { cause = NotIsolated; at = None } ∷ []
@@ -87,41 +87,42 @@ abbrev pub no_scope : {N : Type 0} → Scopes N
 no_scope = record { values = None; labels = None; marks = []; entries = [] }
 
 module _ {N : Type 0} (eq : N → N → Bool) where
-  -- what a scope with these facts has under a name: its first definition
+  -- the first definition of a name among the facts of a scope
   abbrev pub lookup : N → List (Fact N) → Option Place
   lookup n [] = None
   lookup n (uses m u ∷ fs) = lookup n fs
   lookup n (defines m p ∷ fs) = cond (eq m n) (Some p) (lookup n fs)
 
-  -- each use among the facts with what the whole scope has under its name
+  -- each use among the facts whose name the whole scope defines, with that definition
   abbrev pub bound_in : List (Fact N) → List (Fact N) → List (User × Place)
   bound_in all [] = []
   bound_in all (uses n u ∷ fs) = link u (lookup n all) ++ bound_in all fs
   bound_in all (defines n p ∷ fs) = bound_in all fs
 
-  -- each use among the facts whose name the whole scope does not define
+  -- the failures of the uses among the facts whose name the whole scope does not define
   abbrev pub unresolved : {P : Type 0} → P → List (Fact N) → List (Fact N) → List (Failure N P)
   unresolved a all [] = []
   unresolved a all (uses n u ∷ fs) = cond (is_some (lookup n all)) [] (fail (UnresolvedReference n) a) ++ unresolved a all fs
   unresolved a all (defines n p ∷ fs) = unresolved a all fs
 
-  -- what a region says outward: nothing of its labels; nothing of its values where its operation is isolated
+  -- what a region contributes to the scopes around it: no labels, and no values if its operation is isolated; uses in the scopes that end
+  -- with it are bound
   abbrev pub outward : Bool → Facts N → Facts N
   outward true f = record { values = []; labels = []; marks = f.marks; entries = f.entries; bound = f.bound ++ (bound_in f.values f.values ++ bound_in f.labels f.labels) }
   outward false f = record { values = f.values; labels = []; marks = f.marks; entries = f.entries; bound = f.bound ++ bound_in f.labels f.labels }
 
-  -- what a script says to the scopes round it: the first pass
+  -- what a script contributes to the scopes around it: the first pass
   abbrev pub facts : {P : Type 0} → Script N P → Facts N
   facts done = nothing
   facts (does a k) = fact_of a ⊕ facts k
   facts (within iso p body k) = outward iso (facts body) ⊕ facts k
 
-  -- a definition fails outside of every scope, and where its name is defined already
+  -- a definition fails if no scope is open, or if its name is defined already
   abbrev pub defined_before : {P : Type 0} → Option (List (Fact N)) → Word N P → List (Failure N P)
   defined_before None w = fail (NoActiveScope w.name) w.at
   defined_before (Some fs) w = cond (is_some (lookup w.name fs)) (fail (MultipleDefinitions w.name) w.at) []
 
-  -- what is wrong with one act
+  -- the failures of one act
   abbrev pub act_failures : {P : Type 0} → Scopes N → Act N P → List (Failure N P)
   act_failures s (use_value w u) = outside s.values w
   act_failures s (use_label w u) = outside s.labels w
@@ -131,25 +132,25 @@ module _ {N : Type 0} (eq : N → N → Bool) where
   act_failures s (entry i p) = cond (is_among i s.marks && not (is_among i s.entries)) [] (record { cause = UnknownIndex i; at = Some p } ∷ [])
   act_failures s (claim b x) = cond b [] (x ∷ [])
 
-  -- what the scopes that end with a region leave unresolved: values first, then labels
+  -- the failures of the names that are unresolved in the scopes that end with a region: values first, then labels
   abbrev pub left_open : {P : Type 0} → P → Bool → Facts N → List (Failure N P)
   left_open a true f = unresolved a f.values f.values ++ unresolved a f.labels f.labels
   left_open a false f = unresolved a f.labels f.labels
 
-  -- what is wrong with a script, in reading order: the second pass
+  -- the failures of a script, in its order: the second pass
   abbrev pub failures : {P : Type 0} → Scopes N → Script N P → List (Failure N P)
   failures s done = []
   failures s (does a k) = act_failures s a ++ failures (s ⊳ fact_of a) k
   failures s (within iso p body k) =
       (not_isolated iso s.values ++ (failures (inside iso s) body ++ left_open p iso (facts body))) ++ failures (s ⊳ outward iso (facts body)) k
 
-  -- what the use means, where v and l are the whole scopes round it
+  -- the definition that a use refers to; v and l are the facts of the whole scopes around it
   abbrev pub bound_by : {P : Type 0} → List (Fact N) → List (Fact N) → Act N P → List (User × Place)
   bound_by v l (use_value w u) = link u (lookup w.name v)
   bound_by v l (use_label w u) = link u (lookup w.name l)
   bound_by v l _ = []
 
-  -- what each use of a script means
+  -- the definition that each use of a script refers to
   abbrev pub bound : {P : Type 0} → List (Fact N) → List (Fact N) → Script N P → List (User × Place)
   bound v l done = []
   bound v l (does a k) = bound_by v l a ++ bound v l k

@@ -1,13 +1,13 @@
--- For callers: what the reading of a text does with names, one act after another, with regions inside one another. N is what a name is, and
--- P where it stands.
+-- For callers: what parsing a text does with names, one act after another, with regions nested in one another. N is the type of names,
+-- and P the type of their places in the text. An item is an operation or a block that carries a mark.
 use Rattle.std.specs.Prelude.{ℕ, Bool, List, [], ◌∷◌, Option, option_map}
 use Rattle.irtext_base.specs.Text.{Text}
 
--- A place in a tree: the numbers of the regions, blocks and operations that lead to it, the innermost first.
+-- The path to a node of a tree: the indices of the regions, blocks and operations that lead to it, the innermost first.
 abbrev pub Path : Type 0
 Path = List ℕ
 
--- what a name can stand for
+-- what a name can refer to
 pub data Place : Type 0 where
   result : Path → ℕ → Place
   argument : Path → ℕ → Place
@@ -18,33 +18,33 @@ pub data User : Type 0 where
   operand : Path → ℕ → User
   successor : Path → ℕ → User
 
--- a name, where it stands
+-- a name, with its place in the text
 pub record Word (N P : Type 0) : Type 0 where
   pub name : N
   pub at : P
 
--- why a text is refused that reads: with the counts, the name, the index or the key that it speaks of
+-- why a text is rejected although it parses: with the counts, the name, the index or the key in question
 pub data Cause (N : Type 0) : Type 0 where
-  -- an operation has so many results, and so many names for them
+  -- an operation has this many result types, and this many names for results
   ResultCount : ℕ → ℕ → Cause N
-  -- the name stands outside of every scope of its kind
+  -- no scope of its kind is open where the name is used or defined
   NoActiveScope : N → Cause N
-  -- no definition of the name is in its scope
+  -- the name has no definition in its scope
   UnresolvedReference : N → Cause N
-  -- a second definition of the name is in its scope
+  -- the name has a second definition in its scope
   MultipleDefinitions : N → Cause N
-  -- a region has no scope of values, neither its own nor one round it
+  -- a region has no scope of values, neither its own nor one around it
   NotIsolated : Cause N
-  -- two items have marks of this index
+  -- two items have marks with this index
   DuplicateIndex : ℕ → Cause N
-  -- an entry has an index that no item's mark has, or that an entry before it has
+  -- an entry has an index that no item's mark has, or that an earlier entry has
   UnknownIndex : ℕ → Cause N
-  -- a reference has an index that no attribute written once has
+  -- a reference has an index that no print-once attribute has
   UnknownPrintOnce : ℕ → Cause N
-  -- the key is reserved, and the attribute may not stand under it there
+  -- the key is reserved, and the attribute is not allowed under it there
   ReservedKey : Text → Cause N
 
--- a refusal, with the place where it is reported, if it has one of its own
+-- a failure, with the place where it is reported, if it has one of its own
 pub record Failure (N P : Type 0) : Type 0 where
   pub cause : Cause N
   pub at : Option P
@@ -58,22 +58,22 @@ pub data Act (N P : Type 0) : Type 0 where
   -- an item's mark, and an entry for a mark
   mark : ℕ → P → Act N P
   entry : ℕ → P → Act N P
-  -- the failure, where the test does not hold
+  -- fails with this failure, unless the test holds
   claim : Bool → Failure N P → Act N P
 
--- acts, one after another, and regions with scripts of their own
+-- acts, one after another, and regions, which have scripts of their own
 pub data Script (N P : Type 0) : Type 0 where
   done : Script N P
   does : Act N P → Script N P → Script N P
-  -- a region: whether its operation is isolated, where its brace stands, what is done inside, and then
+  -- a region: whether its operation is isolated, the place of its brace, the script inside it, and the rest
   within : Bool → P → Script N P → Script N P → Script N P
 
--- the acts, and then
+-- the acts, and then the rest
 abbrev pub does_all : {N P : Type 0} → List (Act N P) → Script N P → Script N P
 does_all [] k = k
 does_all (a ∷ rest) k = does a (does_all rest k)
 
--- another script, with each name and each place replaced
+-- a script with each name and each place mapped
 module _ {N P M Q : Type 0} (f : N → M) (h : P → Q) where
   -- the name and its place, mapped
   abbrev pub word_as : Word N P → Word M Q
@@ -111,7 +111,7 @@ module _ {N P M Q : Type 0} (f : N → M) (h : P → Q) where
   script_as (does a k) = does (act_as a) (script_as k)
   script_as (within iso p body k) = within iso (h p) (script_as body) (script_as k)
 
--- the acts of one script, and behind them those of the other
+-- the acts of one script, and then those of the other
 abbrev pub follow : {N P : Type 0} → Script N P → Script N P → Script N P
 follow done y = y
 follow (does a k) y = does a (follow k y)

@@ -9,7 +9,7 @@ use Rattle.irtext_base.specs.declared.location.Location.{Location, Unknown}
 use Rattle.irtext_grammar.specs.Spelling.AttrText.{attr_text}
 use Rattle.irtext_grammar.specs.Spelling.Spell.{joined, comma}
 
--- the path of a file between quotation marks, or memory
+-- the path of a file in quotation marks, or `<in-memory>`
 abbrev pub source_text : Option (List ℕ) → Text
 source_text None = codes "<in-memory>"
 source_text (Some path) = quoted (chars path)
@@ -29,16 +29,16 @@ module _ {A : Type 0} (written : A → Text) where
     written_text (call_site callee caller) = codes "callsite(" ++ (written_text callee ++ (codes " at " ++ (written_text caller ++ codes ")")))
     written_text unknown = codes "?"
 
-    -- the texts of locations in a row
+    -- the texts of a list of locations
     pub row_texts : LocationsOf (Option (List ℕ)) A → List Text
     row_texts no_location = []
     row_texts (location l ls) = written_text l ∷ row_texts ls
 
-  -- the text of a location where a context keeps these paths; a file whose path isn't among them is written as memory
+  -- the text of a location in a context that keeps these paths; a file whose path isn't among them is printed as `<in-memory>`
   abbrev pub location_text : List (List ℕ) → Location A → Text
   location_text paths l = written_text (written_with paths (location_view l))
 
-  -- the text of a location that is known
+  -- the text of a location, unless it is unknown
   abbrev pub known_text : List (List ℕ) → Location A → Option Text
   known_text paths Unknown = None
   known_text paths l = Some (location_text paths l)

@@ -1,4 +1,4 @@
--- For callers: the text of a tree, at an indentation, with the width of one more.
+-- For callers: the printed text of a tree. The indentation, and the width of one more level, are in spaces.
 use Rattle.std.specs.Prelude.{ℕ, ◌+◌, Bool, cond, ◌==◌, List, [], ◌∷◌, ◌++◌, map, replicate, Option, Some, None, codes, decimal}
 use Rattle.irtext_base.specs.Text.{Text, begins}
 use Rattle.irtext_base.specs.Format.{has, Id}
@@ -7,12 +7,12 @@ use Rattle.irtext_grammar.specs.Grammar.Tree as tree
 use Rattle.irtext_grammar.specs.Grammar.Tree.{Name, Mark, Attribute, given_names, ident, own, Piece, Part, Body, Op, Head, Brace, shown, elided, Tree}
 use Rattle.irtext_base.specs.Own.{Language}
 
--- each text, with a text before it
+-- each text, after the text `between`
 abbrev pub joined_from : Text → List Text → Text
 joined_from between [] = []
 joined_from between (t ∷ ts) = between ++ (t ++ joined_from between ts)
 
--- with a text between
+-- the texts, with the text `between` between them
 abbrev pub joined : Text → List Text → Text
 joined between [] = []
 joined between (t ∷ ts) = t ++ joined_from between ts
@@ -21,16 +21,16 @@ joined between (t ∷ ts) = t ++ joined_from between ts
 abbrev pub comma : Text
 comma = codes ", "
 
--- a newline and as many spaces as the indentation
+-- a newline and the spaces of the indentation
 abbrev pub newline : ℕ → Text
 newline n = 10 ∷ replicate n 32
 
--- a given name, or `?` where there is none
+-- a given name, or `?` if there is none
 abbrev pub or_question : Option Text → Text
 or_question None = codes "?"
 or_question (Some n) = n
 
--- no space stands before a word that begins with one of these
+-- no space is printed before a word that begins with one of these
 abbrev pub joins_left : ℕ → Bool
 joins_left c = has ◌==◌ c (codes ",:;)]>")
 
@@ -39,7 +39,7 @@ module _ {P T A : Type 0} (L : Language P T A) where
   abbrev pub label : Name P → Text
   label n = codes "^" ++ n.text
 
-  -- a mark behind a space, if there is one
+  -- a mark after a space, if there is one
   abbrev pub mark_if : Option (Mark P) → Text
   mark_if None = []
   mark_if (Some m) = codes " !" ++ decimal m.index
@@ -54,20 +54,20 @@ module _ {P T A : Type 0} (L : Language P T A) where
   abbrev pub entry : Name P × Attribute A → Text
   entry e = e.0.text ++ (codes ": " ++ attribute e.1)
 
-  -- entries between brackets
+  -- entries in brackets
   abbrev pub dictionary : List (Name P × Attribute A) → Text
   dictionary es = codes "[" ++ (joined comma (map entry es) ++ codes "]")
 
-  -- a dictionary behind a space, if there is one
+  -- a dictionary after a space, if there is one
   abbrev pub dictionary_if : Option (List (Name P × Attribute A)) → Text
   dictionary_if None = []
   dictionary_if (Some es) = codes " " ++ dictionary es
 
-  -- an argument and its type
+  -- an argument, `:`, and its type
   abbrev pub argument : Name P × T → Text
   argument a = a.0.text ++ (codes ": " ++ L.types.written a.1)
 
-  -- what a directive writes, where it is no region
+  -- what a directive prints, unless it is a region
   abbrev pub piece : Piece P T A → Text
   piece (tree.word s) = s
   piece (tree.operand i n) = n.text
@@ -81,12 +81,12 @@ module _ {P T A : Type 0} (L : Language P T A) where
   piece (tree.header n) = codes "@" ++ n.text
   piece (tree.types ts) = joined comma (map L.types.written ts)
 
-  -- a space, but not before a word that joins what stands before it
+  -- the space before a piece: none before a word that joins what precedes it
   abbrev pub space : Piece P T A → Text
   space (tree.word s) = cond (begins joins_left s) [] (codes " ")
   space _ = codes " "
 
-  -- the parts, with the texts of the regions, in their order
+  -- the parts; the texts of the regions are used in order
   abbrev pub parts : List (Part P T A) → List Text → Text
   parts [] rs = []
   parts (tree.piece p ∷ ps) rs = space p ++ (piece p ++ parts ps rs)
@@ -94,7 +94,7 @@ module _ {P T A : Type 0} (L : Language P T A) where
   parts (tree.region i ∷ ps) (r ∷ rs) = codes " " ++ (r ++ parts ps rs)
   parts (tree.regions ∷ ps) rs = codes " " ++ (joined [] rs ++ parts ps [])
 
-  -- what stands behind the id; the canonical text has all its attributes in its dictionary
+  -- the text after the id; in the canonical form all attributes are in the dictionary
   abbrev pub body : Body P T A → List Text → Text
   body (tree.custom ps) rs = parts ps rs
   body (tree.canonical names labels entries operand_types result_types) rs = codes " (" ++ (joined comma (map (λ n. n.text) names)
@@ -110,7 +110,7 @@ module _ {P T A : Type 0} (L : Language P T A) where
   abbrev pub id : Id → Text
   id i = i.dialect ++ (codes "." ++ i.name)
 
-  -- without its mark
+  -- an operation without its mark, with the texts of its regions
   abbrev pub concrete : Op P T A → List Text → Text
   concrete op regions = results op.names ++ (id op.id ++ body op.body regions)
 
@@ -145,6 +145,6 @@ module _ {P T A : Type 0} (L : Language P T A) where
       operation_texts n no_operations = []
       operation_texts n (operation op regions operations) = operation_text op (region_texts n regions) ∷ operation_texts n operations
 
-    -- the text of an operation and all inside, without a section
+    -- the text of an operation with everything nested in it, without a section
     abbrev pub spelled : ℕ → Tree P T A → Text
     spelled n t = operation_text t.own (region_texts n t.regions)

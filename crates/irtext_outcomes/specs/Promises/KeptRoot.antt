@@ -1,4 +1,4 @@
--- For callers: what a root holds so that its text is read back.
+-- For callers: what the types of an operation's parts ensure, so that its text is parsed back.
 use Rattle.std.specs.Prelude.{IfSome, List, ℕ, Option, ⊤}
 use Rattle.irtext_context.specs.Context.{ContextView, OperationView}
 use Rattle.irtext_base.specs.Faults.{id_of}
@@ -15,7 +15,7 @@ use Rattle.irtext_outcomes.specs.Promises.LocationsBack.{AllFit}
 
 module _ {A : Type 0} where
   abbrev mutual
-    -- this holds of each attribute in the location
+    -- the property holds of each attribute in the location
     pub AllHold : (AttrView A → Type 0) → Written A → Type 0
     AllHold P (src_pos s at) = ⊤
     AllHold P (fused metadata ls) = IfSome metadata P × RowHold P ls
@@ -23,14 +23,14 @@ module _ {A : Type 0} where
     AllHold P (call_site callee caller) = AllHold P callee × AllHold P caller
     AllHold P unknown = ⊤
 
-    -- the same of each location in a row
+    -- the same of each location in a list
     pub RowHold : (AttrView A → Type 0) → LocationsOf (Option (List ℕ)) A → Type 0
     RowHold P no_location = ⊤
     RowHold P (location l ls) = AllHold P l × RowHold P ls
 
--- What the types of an operation's parts keep: its id and its keys are identifiers, and so are the names in its attributes; its keys
--- differ, and the reserved one has given names; the paths and names in its location are UTF-8, the lines and columns there fit, and
--- the names in the attributes there are identifiers; and its format, if it has one, reads uniquely.
+-- What the types of an operation's parts ensure: its id and its keys are identifiers, and so are the names in its attributes; its keys
+-- are distinct, and under the key of given names there are only given names; the paths and names in its location are UTF-8, the lines and
+-- columns there fit, and the names in the attributes there are identifiers; and its format, if it has one, meets all its conditions.
 pub record IsKept {T A : Type 0} (ctx : ContextView T A) (op : OperationView T A) : Type 0 where
   pub dialect : IsIdentifier op.id.dialect
   pub name : IsIdentifier op.id.name

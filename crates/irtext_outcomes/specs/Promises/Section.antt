@@ -1,4 +1,5 @@
--- For callers: the indices of marks, what a reader takes of the stream and which faults it gives, and what an entry gives over a context's paths.
+-- For callers: the indices of marks, what a parser consumes of the stream and which faults it returns, and what an entry gives, with the
+-- paths of a context.
 use Rattle.std.specs.Prelude.{◌≡◌, ℕ, ◌⊎◌, Bool, true, false, Option, Some, None, List, [], ◌∷◌, ◌++◌, map}
 use Rattle.std.specs.Option.{option_map}
 use Rattle.irtext_base.specs.Text.{Text}
@@ -17,42 +18,42 @@ use Rattle.irtext_outcomes.specs.Readers.Streams.{itself, replaced}
 abbrev pub indices_of : {X : Type 0} → List (ℕ × X) → List ℕ
 indices_of marks = map (λ m. m.0) marks
 
--- the stream took some characters, and has failed exactly where it had
+-- some characters were consumed, and whether the stream has failed is unchanged
 pub record Moves (old new : StreamView) : Type 0 where
   pub taken : Text
   pub takes : Takes itself replaced taken new.rest old new
 
--- the fault has this cause, is committed or not, and stands behind these characters
+-- the fault has this cause, is committed or not, and is at the place after these characters
 pub record FaultAt {A : Type 0} (committed : Bool) (cause : Fault) (upto : Text) (old : StreamView) (fault : ParseFault A) : Type 0 where
   pub because : fault_of fault.cause ≡ cause
   pub flag : fault.committed ≡ committed
   pub place : IsAt fault.pos.line fault.pos.column (old.passed ++ upto)
 
--- memory was refused, for which a fault is always committed
+-- an allocation failed; this fault is always committed
 pub record IsStarved {A : Type 0} (fault : ParseFault A) : Type 0 where
   pub because : fault_of fault.cause ≡ Memory
   pub flag : fault.committed ≡ true
 
--- memory was refused, or else the fault is one that is allowed there, committed or not
+-- an allocation failed, or the fault is one of those that are allowed, committed or not
 abbrev pub Faults : {A : Type 0} → Bool → (Fault → Text → Type 0) → StreamView → ParseFault A → Type 0
 Faults committed Allowed old fault = IsStarved fault ⊎ ((cause : Fault) × (upto : Text) × Allowed cause upto × FaultAt committed cause upto old fault)
 
 module _ {A : Type 0} where
-  -- whether the paths of the files of what an entry gives are among so many
+  -- whether the keys of the files in what an entry gives are below this count
   abbrev pub known_given : ℕ → Option (Location A) → Bool
   known_given count None = true
   known_given count (Some l) = known_location count l
 
-  -- what an entry gives, as its text says it over these paths
+  -- the location that an entry gives, in the form of its text, with these paths
   abbrev pub given_over : List (List ℕ) → Option (Location A) → Option (Written A)
   given_over paths l = option_map (location_over paths) l
 
-  -- the paths once those of what an entry gives are kept
+  -- the paths, once those of what an entry gives are kept
   abbrev pub given_kept : List (List ℕ) → Option (Written A) → List (List ℕ)
   given_kept paths None = paths
   given_kept paths (Some l) = all_kept paths l
 
--- whether a mark is noted
+-- whether some mark is recorded
 abbrev pub is_noted : {X : Type 0} → List X → Bool
 is_noted [] = false
 is_noted (m ∷ ms) = true

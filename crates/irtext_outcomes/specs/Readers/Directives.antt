@@ -1,4 +1,4 @@
--- Between functions: what a text is to the reader of an attribute, as a tree has it.
+-- Between functions: what a text is to the parser of an attribute, in the form that trees use.
 use Rattle.irtext_base.specs.Text.{Text}
 use Rattle.irtext_base.specs.Answers.{Outcome}
 use Rattle.irtext_base.specs.Locations.{AttrView}

@@ -1,4 +1,6 @@
--- Between functions: what an id behind a lead reads as, where its operation must be registered in a context's dialects, with the cause and the place of each fault.
+-- Between functions: what the text of an id after a lead is to the parser, if the operation must be registered in a context's dialects,
+-- with the cause and place of each fault. A lead is what precedes the id of an operation: white space and the names of results. It may be
+-- empty.
 use Rattle.std.specs.Prelude.{cond, is_some, List, [], ◌++◌, ◌≡◌, true, false, Result, Ok, Err}
 use Rattle.irtext_base.specs.Text.{Text}
 use Rattle.irtext_base.specs.Format.{Id}
@@ -14,7 +16,8 @@ use Rattle.irtext_base.specs.declared.base.identifier.OpId.{OpId}
 use Rattle.irtext_base.specs.declared.parsable.fault.ParseFault.{ParseFault}
 use Rattle.irtext_stream.specs.declared.position.Place.{Place}
 
--- an id that stands behind a lead, where its operation is registered: a fault of the dialect stands at the id, one of the name at the lead
+-- an id after a lead, if its operation is registered; the fault of an unknown dialect is at the id, that of an unknown operation at the
+-- lead
 abbrev pub registered_behind : List (Text × Table) → Text → Outcome Id → Outcome Id
 registered_behind dialects lead (Read id taken rest) = cond (is_some (dialect_of dialects id.dialect))
     (cond (is_some (table.registered dialects (op_id id))) (Read id taken rest) (Bad (UnregisteredOp id) [])) (Bad (UnregisteredDialect id.dialect) lead)
@@ -22,14 +25,14 @@ registered_behind dialects lead (Missing cause) = Missing cause
 registered_behind dialects lead (Bad cause upto) = Bad cause upto
 
 module _ {S A : Type 0} (view : S → StreamView) (at : S → StreamView → S) where
-  -- a committed fault of this cause at an earlier place of the text, and the stream has failed
+  -- a committed fault with this cause at an earlier place of the text, and the stream has failed
   pub record RefusesAt (cause : Fault) (place : Place) (old : S) (fault : ParseFault A) (new : S) : Type 0 where
     pub because : fault_of fault.cause ≡ cause
     pub committed : fault.committed ≡ true
     pub position : (passed rest : Text) → passed ++ rest ≡ (view old).passed ++ (view old).rest → StandsBehind place passed → IsAt fault.pos.line fault.pos.column passed
     pub left : new ≡ at old (after_failure (view old))
 
-  -- The id is answered where its operation is registered: else its dialect is unknown at one place, or its name at another.
+  -- The id is returned if its operation is registered; otherwise its dialect is unknown, at one place, or its name, at another.
   abbrev pub Registers : List (Text × Table) → Place → Place → OpId → S → Result OpId (ParseFault A) → S → Type 0
   Registers dialects start place id old (Ok i) new = (is_some (dialect_of dialects id.dialect) ≡ true) × (is_some (registered dialects id) ≡ true) × (i ≡ id) × (new ≡ old)
   Registers dialects start place id old (Err fault) new =

@@ -1,4 +1,5 @@
--- For callers: what an index and a symbol read as, and what stands behind a lead.
+-- For callers: a text without its first character, and what follows a lead. A lead is what precedes the id of an operation: white space
+-- and the names of results. It may be empty.
 use Rattle.std.specs.Prelude.{Bool, true, false, [], ◌∷◌}
 use Rattle.irtext_base.specs.Text.{Text}
 use Rattle.irtext_base.specs.Answers.{Outcome, prefixed}
@@ -9,12 +10,12 @@ abbrev pub without_first : Text → Text
 without_first [] = []
 without_first (c ∷ text) = text
 
--- what stands behind a lead, seen from before it: a missing thing is bad where there is a lead
+-- the outcome of what follows a lead, seen from before it: a missing thing is bad if the lead is not empty
 abbrev pub behind : {X : Type 0} → Text → Outcome X → Outcome X
 behind [] o = o
 behind (c ∷ lead) o = prefixed (c ∷ lead) o
 
--- whether there is a lead
+-- whether the lead is not empty
 abbrev pub is_led : Text → Bool
 is_led [] = false
 is_led (c ∷ lead) = true

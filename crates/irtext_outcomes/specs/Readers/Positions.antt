@@ -1,4 +1,4 @@
--- For callers: what a text reads as, where a line and a column stand, with each fault's cause and place.
+-- For callers: what a text is to the parser of a line and a column, with the cause and place of each fault.
 use Rattle.std.specs.Prelude.{ℤ, codes}
 use Rattle.irtext_base.specs.Text.{Text}
 use Rattle.irtext_base.specs.Answers.{Outcome}

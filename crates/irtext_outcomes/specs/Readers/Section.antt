@@ -1,4 +1,4 @@
--- For callers: what a text reads as, where the location of a section's entry may stand.
+-- For callers: what a text is to the parser of the location in a section's entry.
 use Rattle.std.specs.Prelude.{Option, Some, None, codes}
 use Rattle.irtext_base.specs.Text.{Text, begins}
 use Rattle.irtext_base.specs.Reading.{the}
@@ -11,7 +11,7 @@ use Rattle.irtext_read.specs.Tokens.{word}
 use Rattle.irtext_read.specs.Infix.{nothing, either, ◌▷◌, ◌▶◌, ◌⇒◌}
 
 module _ {A : Type 0} (attr : Text → Outcome (AttrView A)) where
-  -- an entry's location, where one stands
+  -- the location of an entry if `@` comes next; otherwise none
   abbrev pub entry_location_at : Text → Outcome (Option (Written A))
   entry_location_at = either (begins (the 64))
       (word (codes "@[") ▷ space_at ▷ location_at attr ▶ λ l. spaced_at (codes "]") ▷ word (codes ",") ▷ space_at ⇒ λ _. Some l)
