@@ -16,7 +16,7 @@ type Names = NameTracker<Value, Ptr<BasicBlock>>;
 
 type Measured = Graph<Option<u32>, u32, Option<u8>>;
 
-/// What is done for each name. `Skip`: nothing, so that the cost of the loops can be subtracted. `Mention`: it is looked up. `Make`,
+/// What is done for each name. `Skip`: nothing, so that the cost of the loops can be subtracted. `Mention`: it is interned. `Make`,
 /// `MakeBlock`: an operation or a block is created. `Define`, `DefineLabel`: the same, and the name is defined as its result or as the
 /// block. `Use`, `UseLabel`: it is used as a value or a label. `UseBy`: an operation is created that uses it as a value.
 #[derive(Clone, Copy)]
@@ -48,7 +48,7 @@ pub fn call_of(word: &str) -> Option<Call> {
     }
 }
 
-/// Looks up a name.
+/// Interns a name.
 fn mention(names: &mut Names, graph: &Measured, text: &str) -> bool
     requires { AreTied names.old.values names.old.labels graph.now }
     ensures { AreTied names.new.values names.new.labels graph.now }
@@ -57,7 +57,8 @@ fn mention(names: &mut Names, graph: &Measured, text: &str) -> bool
     names.intern(text).is_ok()
 }
 
-/// Creates an operation with one result, and checks that the result is live, as every caller does who defines a name as it.
+/// Creates an operation with one result, and checks that the result is live, as a caller has to before it defines a name as that
+/// result.
 fn make(names: &Names, graph: &mut Measured) -> bool
     requires { AreTied names.now.values names.now.labels graph.old }
     ensures { AreTied names.now.values names.now.labels graph.new }

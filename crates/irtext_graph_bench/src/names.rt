@@ -30,7 +30,7 @@ fn define_all(tracker: &mut Measured, texts: &[String]) -> Result<bool, AllocErr
     Ok(tracker.exit_region(true).is_none() && all)
 }
 
-/// Looks up so many names, each for the first time.
+/// Interns so many names, each for the first time.
 pub fn new_names(alloc: Global, size: usize) -> Result<bool, AllocError> {
     let texts = texts(alloc, size)?;
     let mut tracker: Measured = NameTracker::new(alloc);

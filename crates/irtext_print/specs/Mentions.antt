@@ -7,7 +7,7 @@ use Rattle.irtext_base.specs.Format.{has}
 use Rattle.irtext_grammar.specs.Grammar.Tree.{Attribute, own}
 use Rattle.irtext_grammar.specs.Graphs.Graph.{Printing, Entry}
 
--- what printing asks of the caller's attributes alone
+-- what printing needs to know of the caller's attributes alone
 abbrev pub asking : {A : Type 0} → (A → Bool) → (A → A → Bool) → Printing ⊤ A
 asking once same = record { given = λ v. None; label = λ b. None; type_of = λ v. None; own_outlined = λ a. true; own_once = once; same_own = same; format_of = λ id. None }
 

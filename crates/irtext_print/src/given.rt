@@ -18,8 +18,11 @@ use irtext_dict::base::attributes::Iter;
 /// What the section contains for an item.
 #[derive_where(Clone, Copy)]
 pub struct Given<'c, A> {
+    /// The item's location, which the entry contains if it is known.
     pub location: &'c Location<A>,
+    /// The label of a block; `None` for an operation.
     pub label: Option<&'c Identifier>,
+    /// All attributes of the item. The entry contains the outlined ones.
     pub attributes: &'c AttributeDict<A>,
 }
 

@@ -52,7 +52,7 @@ module _ {T A : Type 0} (types : ir_text.Ghosts T A) (owns : ir_text.Ghosts A A)
   abbrev pub language_of : Language ⊤ T A
   language_of = language_in types owns ctx
 
-  -- what printing asks of the context and of the caller's attributes
+  -- what printing needs to know of the context and of the caller's attributes
   abbrev pub printing_of : Printing T A
   printing_of = printing_over ctx attributes.outlined attributes.print_once same
 

@@ -32,21 +32,22 @@ use std::fmt::Display;
 #[non_exhaustive]
 #[derive(Clone, Copy)]
 pub enum FitFault<'c> {
-    /// The operation is not registered with a dialect of the context.
+    /// The operation is not registered with a dialect of the context. Text: `The operation is not registered`.
     NotRegistered,
-    /// The number of the operation's operands; the format prints another number.
+    /// The number of the operation's operands; the format prints another number. Text: `The format does not write 2 operands`.
     OperandCount(usize),
-    /// The number of the operation's successors; the format prints another number.
+    /// The number of the operation's successors; the format prints another number. Text: `The format does not write 2 successors`.
     SuccessorCount(usize),
-    /// The number of the operation's results with known types; the format prints another number of types.
+    /// The number of the operation's results with known types; the format prints another. Text: `The format does not write 2 result
+    /// types`.
     ResultCount(usize),
-    /// The number of the operation's regions; the format prints another number.
+    /// The number of the operation's regions; the format prints another number. Text: `The format does not write 2 regions`.
     RegionCount(usize),
-    /// A directive prints the attribute under this key, and the operation has none.
+    /// A directive prints the attribute under this key, and the operation has none. Text: `The operation has no attribute k`.
     MissingAttribute(&'c Identifier),
-    /// A directive prints the symbol's name, and the operation has none.
+    /// A directive prints the symbol's name, and the operation has none. Text: `The operation has no symbol`.
     NoSymbol,
-    /// Neither a directive nor the section prints the operation's attribute under this key.
+    /// Neither a directive nor the section prints this attribute. Text: `The format does not write the attribute k`.
     UnwrittenAttribute(&'c Identifier),
 }
 

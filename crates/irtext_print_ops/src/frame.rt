@@ -10,6 +10,7 @@ use irtext_print::printable::{Refusal, RegionPrintDepthLimit};
 /// An operation whose results and id were printed.
 #[derive(Clone, Copy)]
 pub struct OperationFrame<'c> {
+    /// The operation.
     pub op: Ptr<Operation>,
     /// The directives of its format, if it has some. They were looked up when it was begun.
     pub directives: Option<&'c [Directive]>,
@@ -30,6 +31,7 @@ pub struct OperationFrame<'c> {
 /// A region whose opening brace was printed.
 #[derive(Clone, Copy)]
 pub struct RegionFrame {
+    /// The region.
     pub region: Ptr<Region>,
     /// The index of the block that is printed next.
     pub block: usize,
@@ -44,6 +46,7 @@ pub struct RegionFrame {
 /// A block whose head was printed.
 #[derive(Clone, Copy)]
 pub struct BlockFrame {
+    /// The block.
     pub block: Ptr<BasicBlock>,
     /// The index of the operation that is printed next.
     pub operation: usize,
@@ -58,8 +61,11 @@ pub struct BlockFrame {
 /// A frame of what is open.
 #[derive(Clone, Copy)]
 pub enum Frame<'c> {
+    /// An operation, up to its mark.
     Operation(OperationFrame<'c>),
+    /// A region, up to its closing brace.
     Region(RegionFrame),
+    /// A block, up to its last operation.
     Block(BlockFrame),
 }
 

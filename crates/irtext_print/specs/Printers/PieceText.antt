@@ -9,7 +9,7 @@ use Rattle.irtext_grammar.specs.Graphs.Graph.{Printing, lookup, outlined, inline
 use Rattle.irtext_grammar.specs.Spelling.Spell.{joins_left, attribute, joined, comma}
 use Rattle.irtext_grammar.specs.Grammar.Tree.{Attribute, ident, given_names, own}
 
--- what printing asks of the caller's attributes if it is only whether one is outlined
+-- what printing needs to know of the caller's attributes if it is only whether one is outlined
 abbrev pub outlining : {A : Type 0} → (A → Bool) → Printing ⊤ A
 outlining outlined = record { given = λ v. None; label = λ b. None; type_of = λ v. None; own_outlined = outlined; own_once = λ a. false; same_own = λ a b. false; format_of = λ id. None }
 

@@ -1,5 +1,5 @@
--- For callers: what printing asks of operations and of formats: what the caller's types mean, how deep regions are printed, and whether
--- directives print all regions and only keys that exist.
+-- For callers: words for the printing of operations: what the caller's types mean, how deep regions are printed, and whether directives
+-- print all regions and only keys that exist.
 use Rattle.std.specs.Prelude.{ℕ, Bool, true, false, cond, not, ◌||◌, ◌==◌, nat_lt, List, length, Some, None, is_some, ⊤}
 use Rattle.std.specs.List.{list_all}
 use Rattle.irtext_base.specs.Text.{Text}

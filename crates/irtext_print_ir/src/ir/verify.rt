@@ -11,8 +11,7 @@ use std::fmt::Display;
 pub enum BasicBlockVerifyErr {
     /// The block has no terminator. Text: `Basic block "b" is missing a terminator`.
     MissingTerminator(String),
-    /// A terminator of the block is not its last operation. Text: `Basic block "b" has a terminator that is not the last operation in
-    /// the block`.
+    /// A terminator is not last. Text: `Basic block "b" has a terminator that is not the last operation in the block`.
     TerminatorNotLast(String),
     /// The block is in no operation. Text: `Basic block "b" has no parent operation`.
     NoParent(String),

@@ -21,13 +21,14 @@ use irtext_state::parsable::StateStream;
 
 /// Parsing of operations, and an operation as a printable value.
 pub trait OperationText {
-    /// Parses an operation with everything nested in it and, if it has a mark, the section that follows it. The text after that is not
-    /// looked at, so one stream may contain several such operations, one after the other.
+    /// Parses an operation with everything nested in it. If a mark is recorded then (of this operation, of something nested in it, or
+    /// from an earlier call), the section of the recorded marks has to follow; it is parsed too. The text after that is not looked at,
+    /// so one stream may contain several such operations, one after the other.
     ///
     /// The operation's location is the position where it begins, unless its entry in the section gives another.
     ///
-    /// An error holds its cause and its position: line and column, both from 1, in characters. If nothing was parsed, the error is
-    /// uncommitted and the stream is unchanged. Otherwise it is committed: the stream has failed, and each later call on it returns a
+    /// An error holds its cause and its position: line and column, both from 1, in characters. An uncommitted error means that nothing
+    /// was parsed; the stream is unchanged. After a committed error the stream has failed, and each later call on it returns a
     /// committed error with the cause `StreamFailed`. After any error, including out of memory, all objects of the context, the
     /// recorded marks, the source and the caller's data are unchanged; the context may hold more file paths than before.
     ///

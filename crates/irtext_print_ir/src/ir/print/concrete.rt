@@ -37,6 +37,7 @@ pub fn print_concrete<T: IrText<A>, A: AttrText, U>(
 /// live. [`print_concrete`] prints the same, and returns why it failed.
 #[derive(Clone, Copy, Debug, PartialEq, Eq)]
 pub struct OpObj {
+    /// The operation.
     pub op: Ptr<Operation>,
 }
 
