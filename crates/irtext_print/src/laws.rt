@@ -1,4 +1,4 @@
-//! Laws of the section.
+//! Laws of the section: the indices of its entries, and its text.
 ghost use Rattle.std.specs.Prelude.{◌≡◌, ◌+◌, ◌++◌, ◌∷◌, List, Option, Some, length, map, flat_map, codes};
 ghost use Rattle.irtext_base.specs.Format.{Format, Id};
 ghost use Rattle.irtext_base.specs.Own.{texts_of, unplaced};

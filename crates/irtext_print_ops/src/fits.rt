@@ -38,8 +38,7 @@ pub enum FitFault<'c> {
     OperandCount(usize),
     /// The number of the operation's successors; the format prints another number. Text: `The format does not write 2 successors`.
     SuccessorCount(usize),
-    /// The number of the operation's results with known types; the format prints another. Text: `The format does not write 2 result
-    /// types`.
+    /// The number of results with known types; the format prints another number. Text: `The format does not write 2 result types`.
     ResultCount(usize),
     /// The number of the operation's regions; the format prints another number. Text: `The format does not write 2 regions`.
     RegionCount(usize),

@@ -14,7 +14,7 @@ const ACCEPTED: &[(&[u8], &[u8])] = &[
         b"builtin.module @m { ^a(): test.br ^b ^b(): test.br ^a }",
         b"builtin.module @m \n{\n  ^a_block1v1() !0:\n    test.br ^b_block3v1 !1\n\n  ^b_block3v1() !2:\n    test.br ^a_block1v1 !3\n} !4\n\noutlined_attributes:\n!0 = @[<in-memory>: line: 1, column: 21], [builtin_block_label = builtin.identifier a]\n!1 = @[<in-memory>: line: 1, column: 27], []\n!2 = @[<in-memory>: line: 1, column: 38], [builtin_block_label = builtin.identifier b]\n!3 = @[<in-memory>: line: 1, column: 44], []\n!4 = @[<in-memory>: line: 1, column: 1], []\n",
     ),
-    // a definition in a nested region that is shared
+    // a definition in a nested region that is not isolated
     (
         b"builtin.module @m { ^a(): test.use x; test.scope { ^c(): x = test.make: builtin.integer si64 } }",
         b"builtin.module @m \n{\n  ^a_block1v1() !0:\n    test.use x_v1 !1;\n    test.scope \n    {\n      ^c_block2v1() !2:\n        x_v1 = test.make: builtin.integer si64 !3\n    } !4\n} !5\n\noutlined_attributes:\n!0 = @[<in-memory>: line: 1, column: 21], [builtin_block_label = builtin.identifier a]\n!1 = @[<in-memory>: line: 1, column: 27], []\n!2 = @[<in-memory>: line: 1, column: 52], [builtin_block_label = builtin.identifier c]\n!3 = @[<in-memory>: line: 1, column: 58], [builtin_given_names = builtin.given_names [x]]\n!4 = @[<in-memory>: line: 1, column: 39], []\n!5 = @[<in-memory>: line: 1, column: 1], []\n",
